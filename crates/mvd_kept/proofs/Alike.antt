@@ -4,7 +4,7 @@ use Rattle.mvd_keys.specs.Writes.{Stands, Write}
 use Rattle.mvd_rows.specs.Answers.{find_answer, range_answer, row_answer, rows_answer}
 use Rattle.mvd_rows.specs.Visible.{visible_in}
 use Rattle.mvd_wire.specs.declared.request.Request.{Request}
-use Rattle.mvd_wire.specs.declared.request.Request.TheVariants.{Get, Put, Delete, Find, Row, Rows, Node, Bucket, Push, Range, Bye}
+use Rattle.mvd_wire.specs.declared.request.Request.TheVariants.{Get, Put, Delete, Find, Row, Rows, Node, Bucket, Push, Range, Keys, Conflicts, Hello, Bye}
 use Rattle.mvd_kept.specs.Answer.{answer, is_question, places_reply, row_reply, rows_reply, states_of}
 use Rattle.mvd_kept.specs.Config.{ConfigValue}
 use Rattle.mvd_kept.specs.FromStates.{after_from, answer_from}
@@ -22,6 +22,9 @@ from_states a b m (Row view term) same asks = ap (λ d. row_reply (row_answer d 
 from_states a b m (Rows view after) same asks = ap (λ d. rows_reply (rows_answer d (visible_in m) view after)) same
 from_states a b m (Node path) same asks = refl
 from_states a b m (Bucket path after) same asks = refl
+from_states a b m (Keys prefix after) same asks = refl
+from_states a b m (Conflicts after) same asks = refl
+from_states a b m (Hello token) same asks = cc
 from_states a b m Bye same asks = cc
 
 pub from_writes : (a b : ConfigValue) (known : List Write) (request : Request) → a.defs ≡ b.defs → is_question request ≡ true → answer a known request ≡ answer b known request
@@ -51,4 +54,7 @@ still config m (Row view term) asks = refl
 still config m (Rows view after) asks = refl
 still config m (Node path) asks = refl
 still config m (Bucket path after) asks = refl
+still config m (Keys prefix after) asks = refl
+still config m (Conflicts after) asks = refl
+still config m (Hello token) asks = cc
 still config m Bye asks = cc

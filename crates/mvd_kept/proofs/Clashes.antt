@@ -14,9 +14,9 @@ use Rattle.mvd_rows.specs.Answers.{find_answer, range_answer, row_answer, rows_a
 use Rattle.mvd_rows.specs.Visible.{visible_in}
 use Rattle.mvd_tree.specs.Page.{is_more_after_page, page_of}
 use Rattle.mvd_wire.specs.declared.request.Request.{Request}
-use Rattle.mvd_wire.specs.declared.request.Request.TheVariants.{Get, Put, Delete, Find, Row, Rows, Node, Bucket, Push, Range, Bye}
+use Rattle.mvd_wire.specs.declared.request.Request.TheVariants.{Get, Put, Delete, Find, Row, Rows, Node, Bucket, Push, Range, Keys, Conflicts, Hello, Bye}
 use Rattle.mvd_wire.specs.declared.reply.Reply.{Reply}
-use Rattle.mvd_wire.specs.declared.reply.Reply.TheVariants.{Written, Done, Keys, Refused}
+use Rattle.mvd_wire.specs.declared.reply.Reply.TheVariants.{Written, Done, Keys as KeysTold, Refused}
 use Rattle.mvd_kept.specs.Answer.{digests, is_too_large, places_reply, row_reply, rows_reply}
 use Rattle.mvd_kept.specs.Config.{ConfigValue}
 use Rattle.mvd_kept.specs.FromStates.{IsClash, answer_from, put_from}
@@ -60,10 +60,13 @@ module _ (r : Refusal) (exhausted : r ≢ Exhausted) (large : r ≢ StateTooLarg
   refuses_not config m (Rows name after) P push e = absurd (rows_not (rows_answer config.defs (visible_in m) name after) (rows_refuses config.defs (visible_in m) name after r view) e)
   refuses_not config m (Node at) P push e = cc
   refuses_not config m (Bucket at after) P push e =
-      absurd (elim (length at == 3) as (λ b. IsNot (if b then Keys (page_of (digests m) at after) (is_more_after_page (digests m) at after) else Refused BadPath)) [
+      absurd (elim (length at == 3) as (λ b. IsNot (if b then KeysTold (page_of (digests m) at after) (is_more_after_page (digests m) at after) else Refused BadPath)) [
         | true ↦ λ e. cc
         | false ↦ λ e. path (sym (refusal_is BadPath r e))
       ] e)
+  refuses_not config m (Keys prefix after) P push e = cc
+  refuses_not config m (Conflicts after) P push e = cc
+  refuses_not config m (Hello token) P push e = cc
   refuses_not config m Bye P push e = cc
 
 -- a clash is told of a push alone, of a state that clashes with the key's

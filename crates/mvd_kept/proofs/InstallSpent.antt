@@ -224,9 +224,15 @@ costs_then p q r s t u n m k a b c looks rows updates first second = record {
     both : (x y z a p m : ℕ) → a + p ≤ m → y ≤ x + a → z ≤ y + p → z ≤ x + m
     both x y z a p m h e f = omega arith
 
--- what so many changes and so many siblings take of states and rows, where a sibling takes so much
+-- what so many changes and so many siblings take of states and rows, where a sibling takes so much, and a change an update more
 abbrev pub PartCosts : Definitions → ℕ → ℕ → Work → Work → Type 0
-PartCosts defs changes moved = Costs changes (moved * looks_each defs) (moved * updates_each defs) 0 0
+PartCosts defs changes moved = Costs changes (moved * looks_each defs) (moved * updates_each defs + changes) 0 0
+
+with_both : (x y z p s q : ℕ) → x + y ≤ z → q ≡ p + s → (x + p) + (y + s) ≤ z + q
+with_both x y z p s q few is = omega arith
+
+with_first : (x y z p s q : ℕ) → x + y ≤ z → q ≡ p + s → (x + p) + y ≤ z + q
+with_first x y z p s q few is = omega arith
 
 module _ (defs : Definitions) (states now : States) (group : List Prepared) (prepared : Prepared) (x y z : Work) where
   one_then : now ≡ with_group states group → PartCosts defs (changes_in group) (moved_in states group) x y → PartCosts defs (is_change prepared) (moved_of now prepared) y z
@@ -236,7 +242,7 @@ module _ (defs : Definitions) (states now : States) (group : List Prepared) (pre
       let moved = moved_more states group prepared ∙ ap (λ m. moved_in states group + moved_of m prepared) (sym is) in
       costs_then _ _ _ _ _ _ _ _ _ x y z (omega (arith, changes))
       (one_more_each (moved_in states group) (moved_of now prepared) (moved_of now prepared) (moved_in states (group ++ prepared ∷ [])) (looks_each defs) (looks_each defs) (omega arith) refl moved)
-      (one_more_each (moved_in states group) (moved_of now prepared) (moved_of now prepared) (moved_in states (group ++ prepared ∷ [])) (updates_each defs) (updates_each defs) (omega arith) refl moved)
+      (with_both _ _ _ _ _ _ (one_more_each (moved_in states group) (moved_of now prepared) (moved_of now prepared) (moved_in states (group ++ prepared ∷ [])) (updates_each defs) (updates_each defs) (omega arith) refl moved) changes)
       first second
 
   none_then : PartCosts defs (changes_in group) (moved_in states group) x y → PartCosts defs (changes_in (group ++ prepared ∷ [])) (moved_in states (group ++ prepared ∷ [])) x y
@@ -245,7 +251,7 @@ module _ (defs : Definitions) (states now : States) (group : List Prepared) (pre
       let moved = moved_more states group prepared in
       costs_then _ _ _ 0 (0 * looks_each defs) (0 * updates_each defs) _ _ _ x y y (omega (arith, changes))
       (one_more_each (moved_in states group) 0 (moved_of (with_group states group) prepared) (moved_in states (group ++ prepared ∷ [])) (looks_each defs) (looks_each defs) (omega arith) refl moved)
-      (one_more_each (moved_in states group) 0 (moved_of (with_group states group) prepared) (moved_in states (group ++ prepared ∷ [])) (updates_each defs) (updates_each defs) (omega arith) refl moved)
+      (with_first _ _ _ _ _ _ (one_more_each (moved_in states group) 0 (moved_of (with_group states group) prepared) (moved_in states (group ++ prepared ∷ [])) (updates_each defs) (updates_each defs) (omega arith) refl moved) changes)
       first (free 0 (0 * looks_each defs) (0 * updates_each defs) 0 0 y)
 
   -- one more, where it is put in, or the site was broken before
@@ -262,7 +268,7 @@ pub installs_take : (site : SiteValue) (group : List Prepared) (held : KeyDigest
     → TreeCosts held group a.hashed b.hashed → PartCosts site.config.defs (changes_in group) (moved_in site.states group) b c → InstallCosts site group a c
 installs_take site group held a b c is same_looks same_rows tree rest = record {
   on_states = subst (λ n. RoseBy (changes_in group) n c.looks) same_looks rest.on_states;
-  on_rows = subst (λ m. Within (moved_in site.states group * updates_each site.config.defs) (moved_in site.states group * looks_each site.config.defs) m c.rows) same_rows rest.on_rows;
+  on_rows = subst (λ m. Within (moved_in site.states group * updates_each site.config.defs + changes_in group) (moved_in site.states group * looks_each site.config.defs) m c.rows) same_rows rest.on_rows;
   hashes =
       let all : changed_all held (digests_in group) ≡ digests (with_group site.states group) = ap (λ m. changed_all m (digests_in group)) is ∙ digests_with site.states group in
       let keys = ap (λ m. keys_touched m (digests_in group)) all in

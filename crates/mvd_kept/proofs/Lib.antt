@@ -21,3 +21,4 @@ pub mod SideBySide
 pub mod Spent
 pub mod Steps
 pub mod Texts
+pub mod Walked

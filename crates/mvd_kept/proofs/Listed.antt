@@ -1,14 +1,15 @@
--- What indexes and views tell is not too long, and is refused only for want of an index, a view or memory.
+-- What is told of indexes, views and keys is not too long, and is refused only for want of an index, a view or memory.
 use Rattle.std.proofs.Common.{◌≡◌, ◌≢◌, ℕ, ℤ, zero, suc, ◌≤◌, Bool, true, false, cond, if◌then◌else◌, List, [], ◌∷◌, ◌++◌, take, length, map, ◌&&◌, Option, Some, None, IfSome, Result, Ok, Err, refl, sym, ap, ◌∙◌, subst, arith}
 use Rattle.std.specs.Prelude.{filter, filter_map, flat_map, option_map, option_and_then}
 use Rattle.std.proofs.lemmas.Bool.{leb-true}
-use Rattle.std.proofs.lemmas.List.{length-take}
+use Rattle.std.proofs.lemmas.List.{length-map, length-take}
+use Rattle.std.proofs.lemmas.List.Sums.{count_by-le-length, length-filter}
 use Rattle.std.proofs.lemmas.List.Concat.{flat_map-cons}
 use Rattle.std.specs.List.{AllByRecursion}
 use Rattle.std.specs.declared.cmp.Ordering.{Ordering}
 use Rattle.std.specs.Ordering.{eq_by_cmp}
 use Rattle.std.specs.Cmp.{Equal-is, IsTotalOrder}
-use Rattle.std.specs.FinMap.{IsAntisymmetric, entries, find, from_entries, get, get-from_entries, keys}
+use Rattle.std.specs.FinMap.{IsAntisymmetric, entries, find, from_entries, get, get-from_entries, keys, len, len-entries}
 use Rattle.serde_json.specs.Data.{Data, null, boolean, number, string, array, object}
 use Rattle.serde_json.specs.Find.{as_i64}
 use Rattle.mvd_docs.specs.Document.{member_of, term_of}
@@ -29,6 +30,7 @@ use Rattle.mvd_keys.proofs.PlaceOrder.{place_antisymmetric, place_total}
 use Rattle.mvd_rows.specs.Answers.{find_answer, group_of, groups_in, is_after, is_after_place, is_after_term, is_between, page_of, place_at, place_of, places_in, range_answer, row_answer, row_of_view, rows_answer, rows_of_view, shown, view_in, view_named}
 use Rattle.mvd_rows.specs.Defs.{Definitions, has_index}
 use Rattle.mvd_rows.specs.Marks.{spots_exact, spots_total}
+use Rattle.mvd_rows.specs.Siblings.{begins_with, conflicts_answer, conflicts_in, is_after_key, is_conflict, keys_answer, sibling_count, sibling_counts}
 use Rattle.mvd_rows.specs.Views.{row_of}
 use Rattle.mvd_rows.specs.Visible.{Visible, siblings_at, spot, visible_in}
 use Rattle.mvd_rows.specs.declared.definitions.ViewDef.{ViewDef}
@@ -218,6 +220,40 @@ rows_page defs visible name after page more is =
       | Some v ↦ λ e. page_is_short (λ r. IsShortTerm r.0) (λ r. is_after_term after r.0) (view_in v visible) page more (short_shown v visible (groups_in v.group visible) (groups_are_short v.group visible)) (ok_is _ _ e)
       | None ↦ λ e. cc
     ] is
+
+-- ---- keys
+
+abbrev IsOfKey : Key × ℕ → Type 0
+IsOfKey c = is_key c.0 ≡ true
+
+counts_of_keys : (es : List (Key × State)) → AllByRecursion (λ (e : Key × State). is_key e.0 ≡ true) es → AllByRecursion IsOfKey (map sibling_count es)
+counts_of_keys [] all = tt
+counts_of_keys (e ∷ es) all = (all.0, counts_of_keys es all.1)
+
+counted_keys : (states : States) → AreHeld states → AllByRecursion IsOfKey (sibling_counts states)
+unfolding sibling_counts
+counted_keys states kept = counts_of_keys (entries states) (held_keys states kept (entries states) (got_each key_total states))
+
+conflicting_keys : (states : States) → AreHeld states → AllByRecursion IsOfKey (conflicts_in states)
+unfolding conflicts_in
+conflicting_keys states kept = each_kept IsOfKey (λ c. is_conflict c.1) (sibling_counts states) (counted_keys states kept)
+
+pub keys_page : (states : States) (prefix : List ℕ) (after : Option Key) (page : List (Key × ℕ)) (more : Bool) → AreHeld states → keys_answer states prefix after ≡ (page, more) → IsShortPage IsOfKey page
+keys_page states prefix after page more kept is =
+    page_is_short IsOfKey (λ c. begins_with prefix c.0 && is_after_key after c.0) (sibling_counts states) page more (counted_keys states kept) is
+
+pub conflicts_page : (states : States) (after : Option Key) (page : List (Key × ℕ)) (more : Bool) → AreHeld states → conflicts_answer states after ≡ (page, more) → IsShortPage IsOfKey page
+conflicts_page states after page more kept is = page_is_short IsOfKey (λ c. is_after_key after c.0) (conflicts_in states) page more (conflicting_keys states kept) is
+
+-- no more keys are in conflict than are held
+pub few_conflicts : (states : States) → length (conflicts_in states) ≤ len states
+unfolding conflicts_in sibling_counts
+few_conflicts states =
+    let few = count_by-le-length (λ (c : Key × ℕ). is_conflict c.1) (sibling_counts states) in
+    let kept = length-filter (λ (c : Key × ℕ). is_conflict c.1) (sibling_counts states) in
+    let all = length-map (entries states) sibling_count in
+    let held = len-entries states in
+    omega (arith, few, kept, all, held)
 
 -- ---- refusals
 

@@ -54,21 +54,29 @@ siblings_part es i = sum_by-take-le (λ (e : Entry). len e.1.siblings) es i
 pub one_more_each : (a d k t n u : ℕ) → d ≤ k → n ≡ u → t ≡ a + k → a * u + d * n ≤ t * u
 one_more_each a d k t n u few same total = rw (total, same) (let each : d * u ≤ k * u = mul-le-mul_right u few in grind (arith, each))
 
+-- and one more of each
+with_one : (x y z i : ℕ) → x + y ≤ z → (x + i) + (y + 1) ≤ z + (i + 1)
+with_one x y z i few = omega arith
+
 -- the rows of one key more
 pub rows_next : (es : List Entry) (i : ℕ) (e : Entry) (s : State) (d defs : Definitions) (x y z : Meter) → i < length es → e ≡ get_or es i e → s ≡ empty_state → d ≡ defs
-    → Within (all_siblings (take i es) * updates_each defs) (all_siblings (take i es) * looks_each defs) x y
-    → Within (differing s e.1 * updates_each d) (differing s e.1 * looks_each d) y z
-    → Within (all_siblings (take (i + 1) es) * updates_each defs) (all_siblings (take (i + 1) es) * looks_each defs) x z
+    → Within (all_siblings (take i es) * updates_each defs + i) (all_siblings (take i es) * looks_each defs) x y
+    → Within (differing s e.1 * updates_each d + 1) (differing s e.1 * looks_each d) y z
+    → Within (all_siblings (take (i + 1) es) * updates_each defs + (i + 1)) (all_siblings (take (i + 1) es) * looks_each defs) x z
 rows_next es i e s d defs x y z low is none same first second =
     let few : differing s e.1 ≤ len e.1.siblings = subst (λ t. differing t e.1 ≤ len e.1.siblings) (sym none) (all_come e.1) in
     let more = siblings_more es i e low is in
-    within_then _ _ _ _ _ _ x y z (one_more_each _ _ (len e.1.siblings) _ _ _ few (ap updates_each same) more) (one_more_each _ _ (len e.1.siblings) _ _ _ few (ap looks_each same) more) first second
+    within_then _ _ _ _ _ _ x y z (with_one _ _ _ i (one_more_each _ _ (len e.1.siblings) _ _ _ few (ap updates_each same) more)) (one_more_each _ _ (len e.1.siblings) _ _ _ few (ap looks_each same) more) first second
 
 -- the rows of some keys cost no more than those of all
-pub rows_part : (es : List Entry) (i : ℕ) (defs : Definitions) (x y : Meter)
-    → Within (all_siblings (take i es) * updates_each defs) (all_siblings (take i es) * looks_each defs) x y
-    → Within (all_siblings es * updates_each defs) (all_siblings es * looks_each defs) x y
-rows_part es i defs x y within = within_less _ _ _ _ x y (mul-le-mul_right (updates_each defs) (siblings_part es i)) (mul-le-mul_right (looks_each defs) (siblings_part es i)) within
+pub rows_part : (es : List Entry) (i : ℕ) (defs : Definitions) (x y : Meter) → i ≤ length es
+    → Within (all_siblings (take i es) * updates_each defs + i) (all_siblings (take i es) * looks_each defs) x y
+    → Within (all_siblings es * updates_each defs + length es) (all_siblings es * looks_each defs) x y
+rows_part es i defs x y few within =
+    within_less _ _ _ _ x y (no_more _ _ _ _ (mul-le-mul_right (updates_each defs) (siblings_part es i)) few) (mul-le-mul_right (looks_each defs) (siblings_part es i)) within
+  where
+    no_more : (a b c d : ℕ) → a ≤ b → c ≤ d → a + c ≤ b + d
+    no_more a b c d first second = omega arith
 
 equals : (a b : ℕ) → a ≡ b → a ≤ b
 equals a b same = omega (arith, same)
@@ -78,7 +86,7 @@ pub opened_costs : (es digested kept : List Entry) (ds : List (Key × List ℕ))
     → digested ≡ es → kept ≡ es → ds ≡ key_digests digested → d ≡ config.defs
     → Hashes (length digested) (all_bytes digested) old.hashed mid
     → Hashes (length ds + 4369) (key_bytes ds + 32 * length ds + 174720) mid last
-    → Within (all_siblings kept * updates_each d) (all_siblings kept * looks_each d) old.rows rows
+    → Within (all_siblings kept * updates_each d + length kept) (all_siblings kept * looks_each d) old.rows rows
     → OpenCosts config es old (record { looks = old.looks; rows = rows; hashed = last })
 opened_costs es digested kept ds d config old mid last rows first second are same digests tree within =
     let many : length ds ≡ length es = ap length are ∙ length-map digested _ ∙ ap length first in
@@ -88,7 +96,7 @@ opened_costs es digested kept ds d config old mid last rows first second are sam
     record {
       on_states = (free 0 0 0 0 0 old).on_states;
       on_rows = within_less _ _ _ _ old.rows rows
-          (equals _ _ (λ i. all_siblings (second i) * updates_each (same i)))
+          (equals _ _ (λ i. all_siblings (second i) * updates_each (same i) + length (second i)))
           (equals _ _ (λ i. all_siblings (second i) * looks_each (same i))) within;
       hashes = hashes_then _ _ _ _ _ _ old.hashed mid last (omega (arith, many, few)) (omega (arith, many, keys, texts)) digests tree;
     }

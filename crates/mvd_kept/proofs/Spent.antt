@@ -23,7 +23,7 @@ use Rattle.mvd_tree.proofs.Counts.{hashes_then}
 use Rattle.mvd_tree.proofs.Held.{digests_of-insert}
 use Rattle.mvd_tree.proofs.Wholly.{one_touched}
 use Rattle.mvd_wire.specs.declared.request.Request.{Request}
-use Rattle.mvd_wire.specs.declared.request.Request.TheVariants.{Get, Put, Delete, Find, Row, Rows, Node, Bucket, Push, Range, Bye}
+use Rattle.mvd_wire.specs.declared.request.Request.TheVariants.{Get, Put, Delete, Find, Row, Rows, Node, Bucket, Push, Range, Keys, Conflicts, Hello, Bye}
 use Rattle.mvd_wire.specs.declared.reply.Reply.{Reply}
 use Rattle.mvd_wire.specs.declared.reply.Reply.TheVariants.{Refused}
 use Rattle.mvd_kept.specs.Answer.{digests, spelled}
@@ -68,11 +68,18 @@ free_request (Rows view after) prepared work = free _ _ _ _ _ work
 free_request (Row view term) prepared work = free _ _ _ _ _ work
 free_request (Node path) prepared work = free _ _ _ _ _ work
 free_request (Bucket path after) prepared work = free _ _ _ _ _ work
+free_request (Keys prefix after) prepared work = free _ _ _ _ _ work
+free_request (Conflicts after) prepared work = free _ _ _ _ _ work
+free_request (Hello token) prepared work = free _ _ _ _ _ work
 free_request Bye prepared work = free _ _ _ _ _ work
 
 -- looks at held states alone
-pub looked : (work : Work) (looks : ℕ) → RoseBy 1 work.looks looks → Costs 1 0 0 0 0 work (record { looks = looks; rows = work.rows; hashed = work.hashed })
-looked work looks rose = record { on_states = rose; on_rows = (free 0 0 0 0 0 work).on_rows; hashes = (free 0 0 0 0 0 work).hashes }
+pub looked : (work : Work) (looks n : ℕ) → RoseBy n work.looks looks → Costs n 0 0 0 0 work (record { looks = looks; rows = work.rows; hashed = work.hashed })
+looked work looks n rose = record { on_states = rose; on_rows = (free 0 0 0 0 0 work).on_rows; hashes = (free 0 0 0 0 0 work).hashes }
+
+-- a page of keys that is refused was refused memory
+pub refused_keys : (refusal : Refusal) (old new : ℕ) → refusal ≡ Memory → RoseBy 1002 old new → RoseBy (page_looks (Refused refusal)) old new
+refused_keys refusal old new is rose = subst (λ r. RoseBy (page_looks (Refused r)) old new) (sym is) rose
 
 -- looks at kept rows alone
 pub paged : (work : Work) (rows : Meter) (n : ℕ) → Within 0 n work.rows rows → Costs 0 n 0 0 0 work (record { looks = work.looks; rows = rows; hashed = work.hashed })
@@ -114,15 +121,15 @@ pub put_in_costs : (config : ConfigValue) (states : States) (broken : Bool) (tre
     → TreeCosts tree (Change change ∷ []) old.hashed then
     → new.hashed ≡ then
     → RoseBy 1 old.looks new.looks
-    → Within (differing (state_at states k) t * updates_each (definitions_of rows)) (differing (state_at states k) t * looks_each (definitions_of rows)) old.rows new.rows
+    → Within (differing (state_at states k) t * updates_each (definitions_of rows) + 1) (differing (state_at states k) t * looks_each (definitions_of rows)) old.rows new.rows
     → ChangeCosts 0 (record { config = config; states = states; broken = broken }) change.key change.state old new
 put_in_costs config states broken tree rows change k t old new then keeps whole one same took hashed rose within =
     let defs = (keeps.listed whole).defs in
     let moved : differing (state_at states k) t ≡ differing (state_at states change.key) change.state = λ i. differing (state_at states (one i)) (same i) in
     record {
       on_states = rose;
-      on_rows = subst (λ p. Within p (differing (state_at states change.key) change.state * looks_each config.defs) old.rows new.rows) (λ i. moved i * updates_each (defs i))
-          (subst (λ p. Within (differing (state_at states k) t * updates_each (definitions_of rows)) p old.rows new.rows) (λ i. moved i * looks_each (defs i)) within);
+      on_rows = subst (λ p. Within p (differing (state_at states change.key) change.state * looks_each config.defs) old.rows new.rows) (λ i. moved i * updates_each (defs i) + 1)
+          (subst (λ p. Within (differing (state_at states k) t * updates_each (definitions_of rows) + 1) p old.rows new.rows) (λ i. moved i * looks_each (defs i)) within);
       hashes = subst (Hashes 6 (length (spelled change.key change.state) + length change.key + 32 * keys_beside (digests (insert states change.key change.state)) change.key + 1536) old.hashed) (sym hashed)
           (tree_took states tree change old.hashed then (keeps.digested whole) took);
     }
@@ -132,7 +139,7 @@ pub not_put_in_costs : (config : ConfigValue) (states : States) (broken : Bool) 
     → KeepsKeys config states tree rows broken → broken ≡ false → TreeCosts tree (Change change ∷ []) work.hashed then
     → ChangeCosts 0 (record { config = config; states = states; broken = broken }) change.key change.state work (with_hashed work then)
 not_put_in_costs config states broken tree rows change work then keeps whole took =
-    let none = free 1 (differing (state_at states change.key) change.state * looks_each config.defs) (differing (state_at states change.key) change.state * updates_each config.defs) 0 0 work in
+    let none = free 1 (differing (state_at states change.key) change.state * looks_each config.defs) (differing (state_at states change.key) change.state * updates_each config.defs + 1) 0 0 work in
     record { on_states = none.on_states; on_rows = none.on_rows; hashes = tree_took states tree change work.hashed then (keeps.digested whole) took }
 
 -- one look, and then other work
@@ -176,6 +183,9 @@ refused_costs site (Rows view after) refusal old new costs = costs
 refused_costs site (Row view term) refusal old new costs = costs
 refused_costs site (Node path) refusal old new costs = costs
 refused_costs site (Bucket path after) refusal old new costs = costs
+refused_costs site (Keys prefix after) refusal old new costs = costs
+refused_costs site (Conflicts after) refusal old new costs = costs
+refused_costs site (Hello token) refusal old new costs = costs
 refused_costs site Bye refusal old new costs = costs
 
 pub told_costs : (site : SiteValue) (request : Request) (reply : Reply) (old new : Work) → PrepareCosts request (Ok (Answer reply)) old new → AnswerCosts site request reply old new
@@ -189,6 +199,9 @@ told_costs site (Rows view after) reply old new costs = costs
 told_costs site (Row view term) reply old new costs = costs
 told_costs site (Node path) reply old new costs = costs
 told_costs site (Bucket path after) reply old new costs = costs
+told_costs site (Keys prefix after) reply old new costs = costs
+told_costs site (Conflicts after) reply old new costs = costs
+told_costs site (Hello token) reply old new costs = costs
 told_costs site Bye reply old new costs = costs
 
 -- a change that was put in, or broke the site, takes a look and what it costs
@@ -218,4 +231,7 @@ changed_costs site (Rows view after) change reply old mid new prepared look cost
 changed_costs site (Row view term) change reply old mid new prepared look costs = absurd (none_some _ prepared.leaves)
 changed_costs site (Node path) change reply old mid new prepared look costs = absurd (none_some _ prepared.leaves)
 changed_costs site (Bucket path after) change reply old mid new prepared look costs = absurd (none_some _ prepared.leaves)
+changed_costs site (Keys prefix after) change reply old mid new prepared look costs = absurd (none_some _ prepared.leaves)
+changed_costs site (Conflicts after) change reply old mid new prepared look costs = absurd (none_some _ prepared.leaves)
+changed_costs site (Hello token) change reply old mid new prepared look costs = absurd (none_some _ prepared.leaves)
 changed_costs site Bye change reply old mid new prepared look costs = absurd (none_some _ prepared.leaves)

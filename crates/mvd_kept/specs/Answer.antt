@@ -18,15 +18,16 @@ use Rattle.mvd_docs.specs.declared.term.Term.{Term}
 use Rattle.mvd_keys.specs.declared.places.Place.{Place}
 use Rattle.mvd_rows.specs.Answers.{find_answer, range_answer, row_answer, rows_answer}
 use Rattle.mvd_rows.specs.Changes.{state_in}
+use Rattle.mvd_rows.specs.Siblings.{conflicts_answer, keys_answer}
 use Rattle.mvd_rows.specs.Visible.{visible_in}
 use Rattle.mvd_tree.specs.HashTree.{KeyDigests, node_digest}
 use Rattle.mvd_tree.specs.Page.{children_digests, is_more_after_page, page_of}
 use Rattle.mvd_tree.specs.States.{digests_of}
 use Rattle.mvd_wire.specs.Codecs.{key as spelled_key, spell_state, state_limit}
 use Rattle.mvd_wire.specs.declared.request.Request.{Request}
-use Rattle.mvd_wire.specs.declared.request.Request.TheVariants.{Get, Put, Delete, Find, Row, Rows, Node, Bucket, Push, Range, Bye}
+use Rattle.mvd_wire.specs.declared.request.Request.TheVariants.{Get, Put, Delete, Find, Row, Rows, Node, Bucket, Push, Range, Keys, Conflicts, Hello, Bye}
 use Rattle.mvd_wire.specs.declared.reply.Reply.{Reply}
-use Rattle.mvd_wire.specs.declared.reply.Reply.TheVariants.{State as Shown, Written, Done, Places, Row as RowTold, Rows as RowsTold, Digests as Told, Keys, Refused}
+use Rattle.mvd_wire.specs.declared.reply.Reply.TheVariants.{State as Shown, Written, Done, Places, Row as RowTold, Rows as RowsTold, Digests as Told, Keys as KeysTold, Counts, Refused}
 use Rattle.mvd_wire.specs.declared.reply.Digests.{Digests}
 use Rattle.mvd_kept.specs.Config.{ConfigValue}
 
@@ -73,7 +74,7 @@ node_digests held path = record { own = node_digest held path; children = if nat
 
 -- a page of a bucket's keys, after a key if one is given
 abbrev pub bucket_answer : KeyDigests → List ℕ → Option Key → Reply
-bucket_answer held path after = if length path == 3 then Keys (page_of held path after) (is_more_after_page held path after) else Refused BadPath
+bucket_answer held path after = if length path == 3 then KeysTold (page_of held path after) (is_more_after_page held path after) else Refused BadPath
 
 -- ---- indexes and views
 
@@ -91,6 +92,12 @@ row_reply (Err refusal) = Refused refusal
 abbrev pub rows_reply : Result (List (Term × ℕ × ℤ × Option (ℤ × ℤ)) × Bool) Refusal → Reply
 rows_reply (Ok page) = RowsTold page.0 page.1
 rows_reply (Err refusal) = Refused refusal
+
+-- ---- the keys
+
+-- a page of keys with their numbers of siblings
+abbrev pub counts_reply : List (Key × ℕ) × Bool → Reply
+counts_reply page = Counts page.0 page.1
 
 -- ---- all requests, from the states of the keys
 
@@ -122,9 +129,12 @@ answer_from config states (Row view term) = row_reply (row_answer config.defs (v
 answer_from config states (Rows view after) = rows_reply (rows_answer config.defs (visible_in states) view after)
 answer_from config states (Node path) = Told (node_digests (digests states) path)
 answer_from config states (Bucket path after) = bucket_answer (digests states) path after
+answer_from config states (Keys prefix after) = counts_reply (keys_answer states prefix after)
+answer_from config states (Conflicts after) = counts_reply (conflicts_answer states after)
+answer_from config states (Hello token) = Done
 answer_from config states Bye = Done
 
--- the request only asks: for the state of a key, for places, for rows of a view, or for digests of the hash tree
+-- the request only asks: for the state of a key, for places, for rows of a view, for digests of the hash tree, or for keys
 abbrev pub is_question : Request → Bool
 is_question (Get key) = true
 is_question (Find field term after) = true
@@ -133,6 +143,8 @@ is_question (Row view term) = true
 is_question (Rows view after) = true
 is_question (Node path) = true
 is_question (Bucket path after) = true
+is_question (Keys prefix after) = true
+is_question (Conflicts after) = true
 is_question request = false
 
 -- a key, and the state that it has after the request, where the reply accepts one

@@ -118,13 +118,14 @@ TreeCosts held group =
     Hashes (2 * changes_in group + count_touched 0 changes + inner_touched changes)
     (bytes_in group + changed_bytes changes + 32 * keys_touched (changed_all held changes) changes + 512 * inner_touched changes)
 
--- What it takes to put in a group: for each change a look at the key's old state and two computations, of the key with its state
--- and of the key's path; for each sibling that comes or goes what each index and view cost; and one computation of each
--- bucket with the path of a changed key, and of each node above one, however many of the keys stand there
+-- What it takes to put in a group: for each change a look at the key's old state, an update of the keys in conflict, and two
+-- computations, of the key with its state and of the key's path; for each sibling that comes or goes what each index and view
+-- cost; and one computation of each bucket with the path of a changed key, and of each node above one, however many of the
+-- keys stand there
 abbrev pub InstallCosts : SiteValue → List Prepared → Work → Work → Type 0
 InstallCosts site group =
     let moved = moved_in site.states group in
     let changes = digests_in group in
-    Costs (changes_in group) (moved * looks_each site.config.defs) (moved * updates_each site.config.defs)
+    Costs (changes_in group) (moved * looks_each site.config.defs) (moved * updates_each site.config.defs + changes_in group)
     (2 * changes_in group + count_touched 0 changes + inner_touched changes)
     (bytes_in group + changed_bytes changes + 32 * keys_touched (digests (with_group site.states group)) changes + 512 * inner_touched changes)

@@ -8,4 +8,5 @@ pub mod Held
 pub mod Known
 pub mod Prepared
 pub mod Sites
+pub mod Walk
 pub mod Installs

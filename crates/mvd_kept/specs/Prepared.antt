@@ -8,7 +8,7 @@ use Rattle.mvd_keys.specs.State.{State, join_answer}
 use Rattle.mvd_keys.specs.Writes.{Key, Stands, Write, is_empty, state}
 use Rattle.mvd_wire.specs.Replies.{CanBeSent}
 use Rattle.mvd_wire.specs.declared.request.Request.{Request}
-use Rattle.mvd_wire.specs.declared.request.Request.TheVariants.{Push, Node, Row, Bye}
+use Rattle.mvd_wire.specs.declared.request.Request.TheVariants.{Push, Node, Row, Hello, Bye}
 use Rattle.mvd_wire.specs.declared.reply.Reply.{Reply}
 use Rattle.mvd_wire.specs.declared.reply.Reply.TheVariants.{Refused}
 use Rattle.mvd_kept.specs.Answer.{answer, change_of}
@@ -82,10 +82,11 @@ abbrev pub IsReady : SiteValue → Prepared → Type 0
 IsReady site (Answer reply) = IsPlain reply
 IsReady site (Change change) = (has_no_room site.config site.states change.key ≡ false) × IsHeldState change.state
 
--- the request takes no memory: it asks for the digests of a node or for the row of a group, ends a connection, or pushes what the key's state holds already
+-- the request takes no memory: it asks for the digests of a node or for the row of a group, says who asks, ends a connection, or pushes what the key's state holds already
 abbrev pub IsFrugal : States → Request → Type 0
 IsFrugal states (Node path) = ⊤
 IsFrugal states (Row view term) = ⊤
+IsFrugal states (Hello token) = ⊤
 IsFrugal states Bye = ⊤
 IsFrugal states (Push key pushed) = join_answer (state_at states key) pushed ≡ Ok (state_at states key)
 IsFrugal states request = ⊥

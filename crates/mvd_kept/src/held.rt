@@ -1,25 +1,38 @@
 //! The key states that a site holds, and the only way to them.
-ghost use Rattle.std.specs.Prelude.{◌≡◌, ◌*◌, IfErr, IfSome, OnErr, OnOk};
+ghost use Rattle.std.specs.Prelude.{◌≡◌, ◌+◌, ◌*◌, IfErr, IfOk, IfSome, Ok, OnErr, OnOk, length};
+ghost use Rattle.std.specs.Bound.{bound_map};
+ghost use Rattle.std.specs.declared.ops.Bound.TheVariants.{Unbounded};
+ghost use Rattle.std.specs.BTreeMap as tree;
+ghost use Rattle.std.specs.BTreeMap.Range.{entries_between};
+ghost use Rattle.std.specs.Map.Iter.{TakesFirst, deref_pair};
 ghost use Rattle.std.specs.Option.{option_copied};
 ghost use Rattle.std.specs.FinMap as map;
 ghost use Rattle.mvd_count.specs.Counted.{RoseBy, counted};
-ghost use Rattle.mvd_dots.specs.declared.refusals.Refusal.TheVariants.{Broken};
+ghost use Rattle.mvd_dots.specs.Answer.{IsAnswer};
+ghost use Rattle.mvd_dots.specs.declared.refusals.Refusal.TheVariants.{Broken, Memory};
+ghost use Rattle.mvd_keys.specs.Key.{key_cmp};
 ghost use Rattle.mvd_rows.specs.Changes.{IsRoomy, differing, looks_each, updates_each};
 ghost use Rattle.mvd_rows.specs.Counted.{Within};
 ghost use Rattle.mvd_rows.specs.Defs.{Definitions};
+ghost use Rattle.mvd_rows.specs.Siblings.{begins_with, keys_answer};
 ghost use Rattle.mvd_rows.specs.Stands.{IsRowsOf, definitions_of};
 ghost use Rattle.mvd_kept.specs.Held.{AreHeld, IsHeldState, IsKept, IsSpelled, States, state_at};
+ghost use Rattle.mvd_kept.specs.Walk.{first_of, is_at_prefix, start_of};
 
 use crate::work::{HeldLook, Work};
 use mvd_count::Count;
 use mvd_dots::Refusal;
 use mvd_keys::{Key, KeyState};
 use mvd_rows::Rows;
+use mvd_wire::{PAGE_LIMIT, Prefix};
 use std::alloc::{AllocError, Global};
 use std::collections::BTreeMap;
+use std::collections::btree_map::Range;
 use std::marker::Model;
+use std::ops::Bound;
 
-/// The states of the keys that are held. Each look-up of a key is a look, and adds one to a count that is handed in.
+/// The states of the keys that are held. Each look-up of a key is a look, and so is each that a walk takes: it adds one to
+/// a count that is handed in.
 #[derive(Drop)]
 pub struct Held {
     states: BTreeMap<Key, KeyState>,
@@ -74,6 +87,40 @@ impl Held {
         self.states.len()
     }
 
+    /// A page of at most 1,000 of the keys that begin with a prefix, those after a key if one is given, with their numbers
+    /// of siblings, and whether more follow. It takes as many looks as the page has keys, and two more.
+    pub fn keys(
+        &self,
+        alloc: Global,
+        prefix: &Prefix,
+        after: Option<&Key>,
+        looks: &mut Count<HeldLook>,
+    ) -> Result<(Vec<(Key, u32)>, bool), Refusal>
+        ensures page { IfOk result (λ page.
+            keys_answer self.now prefix.now (option_copied after.entry) ≡ (page.0.items, page.1)) }
+        ensures only { IfErr result (λ refusal. refusal ≡ Memory) }
+        ensures looked { RoseBy 1002 looks.old looks.new }
+        ensures given { IfOk result (λ page. RoseBy (length page.0.items + 2) looks.old looks.new) }
+    {
+        let first = first_key(alloc, prefix, after)?;
+        let mut walk = walk_from(&self.states, start(&first, after), looks);
+        let mut page = Vec::new(alloc);
+        for _taken in 0..PAGE_LIMIT {
+            let Some((key, state)) = walk.next(looks) else {
+                return Ok((page, false));
+            };
+            if !begins(key, prefix) {
+                return Ok((page, false));
+            }
+            page.push((key.copy(alloc)?, state.siblings().len() as u32))?;
+        }
+        let more = match walk.next(looks) {
+            Some((key, _)) => begins(key, prefix),
+            None => false,
+        };
+        Ok((page, more))
+    }
+
     /// Puts in the state of a key.
     pub fn insert(&mut self, key: Key, state: KeyState) -> Result<(), AllocError>
         requires held { IsHeldState state }
@@ -110,7 +157,7 @@ impl Held {
         ensures err { OnErr result (self.new ≡ self.old) }
         ensures looked { RoseBy 1 work.old.looks work.new.looks }
         ensures rows { let moved = differing (state_at self.old key) state in let defs = definitions_of rows.old in
-            Within (moved * updates_each defs) (moved * looks_each defs) work.old.rows work.new.rows }
+            Within (moved * updates_each defs + 1) (moved * looks_each defs) work.old.rows work.new.rows }
         ensures hashed { work.new.hashed ≡ work.old.hashed }
     {
         self.change_rows(alloc, rows, &key, &state, work)?;
@@ -138,7 +185,7 @@ impl Held {
         ensures looked { RoseBy 1 work.old.looks work.new.looks }
         ensures rows { let moved = differing (state_at self.now key.now) state.now in
             let defs = definitions_of rows.old in
-            Within (moved * updates_each defs) (moved * looks_each defs) work.old.rows work.new.rows }
+            Within (moved * updates_each defs + 1) (moved * looks_each defs) work.old.rows work.new.rows }
         ensures hashed { work.new.hashed ≡ work.old.hashed }
     {
         let empty = KeyState::empty(alloc);
@@ -147,4 +194,76 @@ impl Held {
             None => rows.change(key, &empty, state, &mut work.rows),
         }
     }
+}
+
+/// Held keys with their states, taken one by one. Each is a look.
+#[derive(Drop)]
+struct Walk<'a> {
+    rest: Range<'a, Key, KeyState>,
+}
+
+impl<'a> Walk<'a> {
+    fn next(&mut self, count: &mut Count<HeldLook>) -> Option<(&'a Key, &'a KeyState)>
+        ensures item { TakesFirst deref_pair self.old.rest result self.new.rest }
+        ensures exact { count.new ≡ counted count.old 1 }
+        ensures looked { RoseBy 1 count.old count.new }
+    {
+        count.add(1);
+        self.rest.next()
+    }
+}
+
+/// A walk from there on. To find where it begins is a look.
+fn walk_from<'a>(
+    states: &'a BTreeMap<Key, KeyState>,
+    start: Bound<&Key>,
+    count: &mut Count<HeldLook>,
+) -> Walk<'a>
+    ensures rest { result.rest ≡
+        entries_between key_cmp (bound_map (λ x. x.now) start.entry) Unbounded states.now.entries }
+    ensures ordered { tree.IsOrdered key_cmp states.now }
+    ensures exact { count.new ≡ counted count.old 1 }
+    ensures looked { RoseBy 1 count.old count.new }
+{
+    count.add(1);
+    Walk {
+        rest: states.range((start, Bound::Unbounded)),
+    }
+}
+
+/// Where a walk begins: at the first key, or else after the other.
+fn start<'a>(first: &'a Option<Key>, after: Option<&'a Key>) -> Bound<&'a Key>
+    ensures { bound_map (λ x. x.now) result ≡ start_of first.now (option_copied after.entry) }
+{
+    match (first, after) {
+        (Some(first), _) => Bound::Included(first),
+        (None, Some(after)) => Bound::Excluded(after),
+        (None, None) => Bound::Unbounded,
+    }
+}
+
+/// The prefix as a key, if a walk begins there.
+fn first_key(alloc: Global, prefix: &Prefix, after: Option<&Key>) -> Result<Option<Key>, Refusal>
+    ensures { IsAnswer result (Ok (first_of prefix.now (option_copied after.entry))) }
+{
+    if !is_at_prefix(prefix, after) {
+        return Ok(None);
+    }
+    Ok(Some(Key::read(alloc, prefix.text())?))
+}
+
+/// Whether a walk begins at the prefix itself.
+fn is_at_prefix(prefix: &Prefix, after: Option<&Key>) -> bool
+    ensures { result ≡ is_at_prefix prefix.now (option_copied after.entry) }
+{
+    match after {
+        Some(after) => after.text() < prefix.text(),
+        None => !prefix.text().is_empty(),
+    }
+}
+
+fn begins(key: &Key, prefix: &Prefix) -> bool
+    ensures { result ≡ begins_with prefix.now key.now }
+{
+    key.text().as_bytes().starts_with(prefix.text().as_bytes())
 }

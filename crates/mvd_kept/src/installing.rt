@@ -114,7 +114,8 @@ fn put_change(
     ensures few { map.len states.new ≤ config.now.max_keys }
     ensures err { OnErr result (states.new ≡ states.old) }
     ensures costs { let moved = differing (state_at states.old change.key) change.state in
-        Costs 1 (moved * looks_each config.now.defs) (moved * updates_each config.now.defs) 0 0 work.old work.new }
+        Costs 1 (moved * looks_each config.now.defs) (moved * updates_each config.now.defs + 1) 0 0
+        work.old work.new }
 {
     // Here it is known that there are few keys, and few siblings of each.
     let _most = config.max_keys();
@@ -144,8 +145,8 @@ fn put_one(
     ensures stand { broken.new ≡ false → IsRowsOf rows.new config.now.defs states.new }
     ensures digested { broken.new ≡ false → (is_digested ≡ true) ⊎ (is_change prepared ≡ 0) }
     ensures costs { broken.old ≡ false → let moved = moved_of states.old prepared in
-        Costs (is_change prepared)
-        (moved * looks_each config.now.defs) (moved * updates_each config.now.defs) 0 0 work.old work.new }
+        Costs (is_change prepared) (moved * looks_each config.now.defs)
+        (moved * updates_each config.now.defs + is_change prepared) 0 0 work.old work.new }
     ensures idle { broken.old ≡ true → work.new ≡ work.old }
 {
     if *broken {
@@ -195,8 +196,8 @@ fn put_all(
     ensures stand { result ≡ false → IsRowsOf rows.new config.now.defs states.new }
     ensures digested { result ≡ false → (is_digested ≡ true) ⊎ (changes_in group.items ≡ 0) }
     ensures costs { let moved = moved_in states.old group.items in
-        Costs (changes_in group.items)
-        (moved * looks_each config.now.defs) (moved * updates_each config.now.defs) 0 0 work.old work.new }
+        Costs (changes_in group.items) (moved * looks_each config.now.defs)
+        (moved * updates_each config.now.defs + changes_in group.items) 0 0 work.old work.new }
     ensures idle { was_broken ≡ true → work.new ≡ work.old }
 {
     let mut broken = was_broken;

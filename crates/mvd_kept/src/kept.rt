@@ -98,8 +98,9 @@ impl Kept {
         self.broken
     }
 
-    /// What a request comes to, with at most one look at a held key state, and as many looks at kept rows as its page
-    /// has entries, and two more. Nothing is changed yet, and several changes may be prepared side by side.
+    /// What a request comes to, with at most one look at a held key state, or as many looks as its page has entries, and
+    /// two more: of keys at held states, and else at kept rows. Nothing is changed yet, and several changes may be
+    /// prepared side by side.
     pub fn prepare(&self, request: &Request, work: &mut Work) -> Result<Prepared, Refusal>
         ensures answer { PreparesAt self.now request.now result }
         ensures states { PreparesFromStates self.now request.now result }
@@ -107,7 +108,7 @@ impl Kept {
         ensures valid { IfOk result (λ _. IsValidRequest request.now) }
         ensures broken { self.now.broken ≡ true → result ≡ Err Broken }
         ensures whole { IfErr result (λ refusal. refusal ≡ Broken → self.now.broken ≡ true) }
-        // A question of a node or of a row, Bye, and a push of what is held already take no memory.
+        // A question of a node or of a row, Hello, Bye, and a push of what is held already take no memory.
         ensures frugal { IsFrugal self.now.states request.now → IfErr result (λ refusal. refusal ≢ Memory) }
         ensures costs { PrepareCosts request.now result work.old work.new }
         ensures idle { self.now.broken ≡ true → work.new ≡ work.old }
@@ -142,6 +143,11 @@ impl Kept {
             Request::Rows(view, after) => self.prepare_rows(view, after, &mut work.rows),
             Request::Node(path) => self.prepare_node(path),
             Request::Bucket(path, after) => self.prepare_bucket(path, after.as_ref()),
+            Request::Keys(prefix, after) => {
+                self.prepare_keys(prefix, after.as_ref(), &mut work.looks)
+            }
+            Request::Conflicts(after) => self.prepare_conflicts(after.as_ref(), &mut work.rows),
+            Request::Hello(_) => Ok(Prepared::Answer(Reply::Done)),
             Request::Bye => Ok(Prepared::Answer(Reply::Done)),
         }
     }

@@ -1,5 +1,5 @@
 //! The rows of the indexes and views, as a site is opened.
-ghost use Rattle.std.specs.Prelude.{◌≡◌, ◌≤◌, ◌*◌, IfErr, IfOk, IsTrue, length};
+ghost use Rattle.std.specs.Prelude.{◌≡◌, ◌≤◌, ◌+◌, ◌*◌, IfErr, IfOk, IsTrue, length};
 ghost use Rattle.std.specs.List.{AllByRecursion};
 ghost use Rattle.std.specs.FinMap.{from_entries, is_sorted};
 ghost use Rattle.mvd_dots.specs.declared.refusals.Refusal.TheVariants.{Memory};
@@ -27,7 +27,8 @@ pub fn rows_of(
     requires few { length states.now ≤ 1000000 }
     ensures rows { IfOk result (λ rows. IsRowsOf rows defs.now (from_entries states.now)) }
     ensures only { IfErr result (λ refusal. refusal ≡ Memory) }
-    ensures counts { Within (all_siblings states.now * updates_each defs.now)
+    // The keys in conflict take one update more of each key.
+    ensures counts { Within (all_siblings states.now * updates_each defs.now + length states.now)
         (all_siblings states.now * looks_each defs.now) meter.old meter.new }
 {
     let empty = KeyState::empty(alloc);

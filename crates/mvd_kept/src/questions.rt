@@ -1,26 +1,31 @@
-//! Questions to the hash tree, the indexes and the views: they change nothing, look at no held state and hash
-//! nothing, since they are handed the counts of kept rows alone.
-ghost use Rattle.std.specs.Prelude.{◌≡◌, ◌≢◌, false, length, IfErr, IfOk, Ok, Err};
+//! Questions to the hash tree, the indexes, the views and the keys: they change nothing and hash nothing, and but for
+//! the page of keys they look at no held state, since they are handed no count of that.
+ghost use Rattle.std.specs.Prelude.{◌≡◌, ◌≢◌, ◌≤◌, false, length, IfErr, IfOk, Ok, Err};
 ghost use Rattle.std.specs.Option.{option_copied};
+ghost use Rattle.mvd_count.specs.Counted.{RoseBy};
 ghost use Rattle.mvd_dots.specs.Answer.{IsAnswer};
 ghost use Rattle.mvd_dots.specs.declared.refusals.Refusal.TheVariants.{Broken, Memory};
 ghost use Rattle.mvd_rows.specs.Answers.{find_answer, range_answer, row_answer, rows_answer};
 ghost use Rattle.mvd_rows.specs.Counted.{Within};
+ghost use Rattle.mvd_rows.specs.Siblings.{conflicts_answer, conflicts_in, keys_answer};
 ghost use Rattle.mvd_rows.specs.Visible.{visible_in};
 ghost use Rattle.mvd_tree.specs.Page.{is_more_after_page, page_of};
 ghost use Rattle.mvd_wire.specs.declared.reply.Reply.TheVariants.{Digests as Told};
-ghost use Rattle.mvd_kept.specs.Answer.{bucket_answer, digests, node_digests, places_reply, row_reply, rows_reply};
+ghost use Rattle.mvd_kept.specs.Answer.{bucket_answer, counts_reply, digests, node_digests};
+ghost use Rattle.mvd_kept.specs.Answer.{places_reply, row_reply, rows_reply};
 ghost use Rattle.mvd_kept.specs.Costs.{prepared_looks};
 ghost use Rattle.mvd_kept.specs.FromStates.{bucket_refusal, unless_broken};
 ghost use Rattle.mvd_kept.specs.Prepared.{IsReady, PreparesReply};
 
 use crate::kept::Kept;
 use crate::prepared::Prepared;
+use crate::work::HeldLook;
+use mvd_count::Count;
 use mvd_docs::{Field, Term, ViewName};
 use mvd_dots::{Dot, Refusal};
 use mvd_keys::{Key, Path, Place};
 use mvd_rows::Meter;
-use mvd_wire::{Digests, Items, Reply, RowValue};
+use mvd_wire::{Digests, Items, Prefix, Reply, RowValue};
 use std::alloc::Global;
 
 impl Kept {
@@ -58,6 +63,20 @@ impl Kept {
             return Err(Refusal::Broken);
         }
         self.tree.bucket(path, after)
+    }
+
+    /// How many keys are in conflict, 0 where it is broken. It looks at no held state and at no kept row.
+    pub fn conflict_count(&self) -> u32
+        ensures count { result ≡ unless_broken self.now.broken 0 (length (conflicts_in self.now.states)) }
+        ensures room { result ≤ self.now.config.max_keys }
+    {
+        if self.broken {
+            return 0;
+        }
+        let most = self.config.max_keys();
+        let count = self.rows.conflict_count();
+        prove!(count <= most as usize);
+        count as u32
     }
 
     pub(crate) fn prepare_node(&self, path: &Path) -> Result<Prepared, Refusal>
@@ -170,6 +189,42 @@ impl Kept {
         let after = copy_term(self.alloc, after)?;
         let (rows, is_more) = self.rows.rows(view, after, meter)?;
         Ok(Prepared::Answer(Reply::Rows(Items::new(rows), is_more)))
+    }
+
+    /// A page of the keys that begin with a prefix.
+    pub(crate) fn prepare_keys(
+        &self,
+        prefix: &Prefix,
+        after: Option<&Key>,
+        looks: &mut Count<HeldLook>,
+    ) -> Result<Prepared, Refusal>
+        ensures answer { PreparesReply
+            (counts_reply (keys_answer self.now.states prefix.now (option_copied after.entry))) result }
+        ensures ready { IfOk result (IsReady self.now) }
+        ensures whole { IfErr result (λ refusal. refusal ≢ Broken) }
+        ensures looked { RoseBy (prepared_looks result) looks.old looks.new }
+    {
+        self.states.stands();
+        let (keys, is_more) = self.states.keys(self.alloc, prefix, after, looks)?;
+        Ok(Prepared::Answer(Reply::Counts(Items::new(keys), is_more)))
+    }
+
+    /// A page of the keys in conflict.
+    pub(crate) fn prepare_conflicts(
+        &self,
+        after: Option<&Key>,
+        meter: &mut Meter,
+    ) -> Result<Prepared, Refusal>
+        requires { self.now.broken ≡ false }
+        ensures answer { PreparesReply
+            (counts_reply (conflicts_answer self.now.states (option_copied after.entry))) result }
+        ensures ready { IfOk result (IsReady self.now) }
+        ensures whole { IfErr result (λ refusal. refusal ≢ Broken) }
+        ensures looks { Within 0 (prepared_looks result) meter.old meter.new }
+    {
+        self.states.stands();
+        let (keys, is_more) = self.rows.conflicts(after, meter)?;
+        Ok(Prepared::Answer(Reply::Counts(Items::new(keys), is_more)))
     }
 }
 

@@ -6,8 +6,8 @@ use Rattle.std.specs.declared.alloc.Global.{Global}
 use Rattle.std.specs.declared.vec.Vec.{Vec}
 use Rattle.mvd_dots.specs.declared.refusals.Refusal.{Refusal}
 use Rattle.mvd_dots.specs.declared.refusals.Refusal.TheVariants.{BadBody, BadDefs, BadKind, BadPath, Broken, DotClash}
-use Rattle.mvd_dots.specs.declared.refusals.Refusal.TheVariants.{FrameTooLong, Full, Memory, ReadFailed, StateTooLarge}
-use Rattle.mvd_dots.specs.declared.refusals.Refusal.TheVariants.{TooManyRequests, Truncated, WriteFailed}
+use Rattle.mvd_dots.specs.declared.refusals.Refusal.TheVariants.{FrameTooLong, Full, Memory, NotAdmitted, ReadFailed}
+use Rattle.mvd_dots.specs.declared.refusals.Refusal.TheVariants.{StateTooLarge, TooManyRequests, Truncated, WriteFailed}
 use Rattle.mvd_keys.specs.State.{State, clashes, join}
 use Rattle.mvd_keys.specs.Writes.{Key}
 use Rattle.mvd_tree.specs.HashTree.{KeyDigests, node_digest}
@@ -214,6 +214,7 @@ leaves_open ReadFailed = true
 leaves_open WriteFailed = true
 leaves_open TooManyRequests = true
 leaves_open BadDefs = true
+leaves_open NotAdmitted = true
 leaves_open refusal = false
 
 abbrev pub IsLeftOpen : Refusal → Type 0

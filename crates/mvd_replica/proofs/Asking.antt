@@ -10,7 +10,7 @@ use Rattle.mvd_keys.specs.State.{after_delete, after_put}
 use Rattle.mvd_rows.specs.Answers.{find_answer, range_answer, row_answer, rows_answer}
 use Rattle.mvd_rows.specs.Visible.{visible_in}
 use Rattle.mvd_wire.specs.declared.request.Request.{Request}
-use Rattle.mvd_wire.specs.declared.request.Request.TheVariants.{Get, Put, Delete, Find, Row, Rows, Node, Bucket, Push, Range, Bye}
+use Rattle.mvd_wire.specs.declared.request.Request.TheVariants.{Get, Put, Delete, Find, Row, Rows, Node, Bucket, Push, Range, Keys, Conflicts, Hello, Bye}
 use Rattle.mvd_wire.specs.declared.reply.Reply.{Reply}
 use Rattle.mvd_wire.specs.declared.reply.Reply.TheVariants.{Written, Done, Refused}
 use Rattle.mvd_site.specs.Answer.{places_reply, row_reply, rows_reply}
@@ -36,6 +36,9 @@ refused_is (Row view term) refusal = tt
 refused_is (Rows view after) refusal = tt
 refused_is (Node path) refusal = tt
 refused_is (Bucket path after) refusal = tt
+refused_is (Keys prefix after) refusal = tt
+refused_is (Conflicts after) refusal = tt
+refused_is (Hello token) refusal = tt
 refused_is Bye refusal = tt
 
 written : (config : ConfigValue) (m : States) (key : _) (seen : _) (document : _) (dot : Option DotValue) → IsWritten (put_from config m key seen document dot)
@@ -66,6 +69,9 @@ answer_is config m (Row view term) = is_row (row_answer config.defs (visible_in 
 answer_is config m (Rows view after) = are_rows (rows_answer config.defs (visible_in m) view after)
 answer_is config m (Node path) = tt
 answer_is config m (Bucket path after) = tt
+answer_is config m (Keys prefix after) = tt
+answer_is config m (Conflicts after) = tt
+answer_is config m (Hello token) = tt
 answer_is config m Bye = tt
 
 refusal_is_reply : (request : Request) (told : Reply) (refusal : Refusal) → told ≡ Refused refusal → IsReplyTo request told

@@ -15,7 +15,7 @@ use Rattle.mvd_keys.specs.Writes.{Key, is_empty}
 use Rattle.mvd_keys.proofs.KeyOrder.{key_total}
 use Rattle.mvd_keys.proofs.StatesOfWrites.{key_apart}
 use Rattle.mvd_wire.specs.declared.request.Request.{Request}
-use Rattle.mvd_wire.specs.declared.request.Request.TheVariants.{Get, Put, Delete, Push, Bye}
+use Rattle.mvd_wire.specs.declared.request.Request.TheVariants.{Get, Put, Delete, Push, Hello, Bye}
 use Rattle.mvd_wire.specs.declared.reply.Reply.{Reply}
 use Rattle.mvd_wire.specs.declared.reply.Reply.TheVariants.{State as Shown, Done, Refused, Written}
 use Rattle.mvd_site.specs.Answer.{is_too_large}
@@ -76,6 +76,7 @@ module _ (config : ConfigValue) (m : States) (key : Key) (s : Keyed) (few : map_
   answer_elsewhere (Put own seen document) apart = answer_put config m (insert m key s) own (found_elsewhere own apart) (room_elsewhere own) seen document
   answer_elsewhere (Delete own seen) apart = answer_delete config m (insert m key s) own (found_elsewhere own apart) (room_elsewhere own) seen
   answer_elsewhere (Push own pushed) apart = answer_push config m (insert m key s) own (found_elsewhere own apart) (room_elsewhere own) pushed
+  answer_elsewhere (Hello token) apart = refl
   answer_elsewhere Bye apart = refl
   answer_elsewhere request apart = absurd apart
 
@@ -105,6 +106,7 @@ frugal_elsewhere config m key s few (Put own seen document) apart frugal = absur
 frugal_elsewhere config m key s few (Delete own seen) apart frugal = absurd frugal
 frugal_elsewhere config m key s few (Push own pushed) apart frugal =
     subst (λ t. join_answer t pushed ≡ Ok t) (same_state m (insert m key s) own (found_elsewhere config m key s few own apart)) frugal
+frugal_elsewhere config m key s few (Hello token) apart frugal = tt
 frugal_elsewhere config m key s few Bye apart frugal = tt
 frugal_elsewhere config m key s few request apart frugal = absurd apart
 

@@ -6,7 +6,7 @@ use Rattle.mvd_dots.specs.declared.refusals.Refusal.TheVariants.{Broken, Memory,
 use Rattle.mvd_keys.specs.State.{State as Keyed, join}
 use Rattle.mvd_keys.specs.Writes.{Key, Write}
 use Rattle.mvd_wire.specs.declared.request.Request.{Request}
-use Rattle.mvd_wire.specs.declared.request.Request.TheVariants.{Bye, Node, Push, Row}
+use Rattle.mvd_wire.specs.declared.request.Request.TheVariants.{Bye, Hello, Node, Push, Row}
 use Rattle.mvd_wire.specs.declared.reply.Reply.{Reply}
 use Rattle.mvd_wire.specs.declared.reply.Reply.TheVariants.{Done, Refused}
 use Rattle.mvd_wire.specs.Replies.{CanBeSent}
@@ -162,6 +162,7 @@ no_change config m (Push key pushed) change frugal comes =
     comes.differs (is.1 ∙ sym (join_ok (state_at m key) pushed (state_at m key) frugal).1 ∙ ap (state_at m) (sym is.0))
 no_change config m (Node path) change frugal comes = let bad : ◌≡◌ {A = Option (Key × Keyed)} None (Some (change.key, change.state)) = comes.leaves in absurd cc
 no_change config m (Row view term) change frugal comes = let bad : ◌≡◌ {A = Option (Key × Keyed)} None (Some (change.key, change.state)) = comes.leaves in absurd cc
+no_change config m (Hello token) change frugal comes = let bad : ◌≡◌ {A = Option (Key × Keyed)} None (Some (change.key, change.state)) = comes.leaves in absurd cc
 no_change config m Bye change frugal comes = let bad : ◌≡◌ {A = Option (Key × Keyed)} None (Some (change.key, change.state)) = comes.leaves in absurd cc
 no_change config m request change frugal comes = absurd frugal
 

@@ -1,10 +1,11 @@
 -- What a program asks of a replica by a call of its own, as the request that it is and the reply that its result stands for.
-use Rattle.std.specs.Prelude.{◌≡◌, ◌⊎◌, ⊤, false, Result, Ok, Err}
+use Rattle.std.specs.Prelude.{◌≡◌, ◌⊎◌, ⊤, ℕ, Bool, List, false, Result, Ok, Err}
 use Rattle.mvd_dots.specs.Dot.{DotValue}
 use Rattle.mvd_dots.specs.declared.refusals.Refusal.{Refusal}
 use Rattle.mvd_dots.specs.declared.refusals.Refusal.TheVariants.{Broken, Memory}
+use Rattle.mvd_keys.specs.Writes.{Key}
 use Rattle.mvd_wire.specs.declared.request.Request.{Request}
-use Rattle.mvd_wire.specs.declared.request.Request.TheVariants.{Put, Delete, Find, Row, Rows, Range}
+use Rattle.mvd_wire.specs.declared.request.Request.TheVariants.{Put, Delete, Find, Row, Rows, Range, Keys, Conflicts}
 use Rattle.mvd_wire.specs.declared.reply.Reply.{Reply}
 use Rattle.mvd_wire.specs.declared.reply.Reply.TheVariants as reply
 use Rattle.mvd_wire.specs.declared.reply.RowValue.{RowValue}
@@ -33,6 +34,11 @@ abbrev pub row_told : Result RowValue Refusal → Reply
 row_told (Ok row) = reply.Row row
 row_told (Err refusal) = reply.Refused refusal
 
+-- the reply to a question of keys that came to this
+abbrev pub counts_told : Result (List (Key × ℕ) × Bool) Refusal → Reply
+counts_told (Ok page) = reply.Counts page.0 page.1
+counts_told (Err refusal) = reply.Refused refusal
+
 -- ---- replies of a kind, or a refusal
 
 abbrev pub IsWritten : Reply → Type 0
@@ -60,7 +66,12 @@ AreRows (reply.Rows rows more) = ⊤
 AreRows (reply.Refused refusal) = ⊤
 AreRows told = ⊥
 
--- the reply is of the kind that a put, a delete or a question of an index or a view asks for
+abbrev pub AreCounts : Reply → Type 0
+AreCounts (reply.Counts keys more) = ⊤
+AreCounts (reply.Refused refusal) = ⊤
+AreCounts told = ⊥
+
+-- the reply is of the kind that a put, a delete or a question of an index, a view or keys asks for
 abbrev pub IsReplyTo : Request → Reply → Type 0
 IsReplyTo (Put key seen document) told = IsWritten told
 IsReplyTo (Delete key seen) told = IsDone told
@@ -68,4 +79,6 @@ IsReplyTo (Find field term after) told = ArePlaces told
 IsReplyTo (Range field from to after) told = ArePlaces told
 IsReplyTo (Row view term) told = IsRow told
 IsReplyTo (Rows view after) told = AreRows told
+IsReplyTo (Keys prefix after) told = AreCounts told
+IsReplyTo (Conflicts after) told = AreCounts told
 IsReplyTo request told = ⊤

@@ -7,7 +7,7 @@ use Rattle.mvd_keys.specs.State.{State}
 use Rattle.mvd_keys.specs.Writes.{Key, Write}
 use Rattle.mvd_wire.specs.Codecs.{spell_state}
 use Rattle.mvd_wire.specs.declared.request.Request.{Request}
-use Rattle.mvd_wire.specs.declared.request.Request.TheVariants.{Get, Put, Delete, Push, Bye}
+use Rattle.mvd_wire.specs.declared.request.Request.TheVariants.{Get, Put, Delete, Push, Hello, Bye}
 use Rattle.mvd_wire.specs.declared.reply.Reply.{Reply}
 use Rattle.mvd_wire.specs.declared.reply.Reply.TheVariants.{Refused}
 use Rattle.mvd_wire.specs.Replies.{CanBeSent}
@@ -30,6 +30,7 @@ IsElsewhere key (Get own) = own ≢ key
 IsElsewhere key (Put own seen document) = own ≢ key
 IsElsewhere key (Delete own seen) = own ≢ key
 IsElsewhere key (Push own pushed) = own ≢ key
+IsElsewhere key (Hello token) = ⊤
 IsElsewhere key Bye = ⊤
 IsElsewhere key request = ⊥
 

@@ -1,12 +1,13 @@
 //! The calls of a program: each gives what it asks for, or the refusal.
 ghost use Rattle.std.specs.Prelude.{◌≡◌, ◌≢◌, true};
 ghost use Rattle.mvd_wire.specs.declared.request.Request.TheVariants.{Put, Delete, Find, Range, Row, Rows};
+ghost use Rattle.mvd_wire.specs.declared.request.Request.TheVariants.{Keys, Conflicts};
 ghost use Rattle.mvd_site.specs.Answer.{is_question, places_reply, rows_reply};
 ghost use Rattle.mvd_site.specs.FromStates.{push_reply};
 ghost use Rattle.mvd_site.specs.Prepared.{IsFrugal};
 ghost use Rattle.mvd_wire.specs.declared.reply.Reply.TheVariants.{Refused};
-ghost use Rattle.mvd_replica.specs.Asks.{ArePlaces, AreRows, IsDone, IsReplyTo, IsRow, IsWritten};
-ghost use Rattle.mvd_replica.specs.Asks.{TellsAnswer, put_reply, question_told, row_told};
+ghost use Rattle.mvd_replica.specs.Asks.{AreCounts, ArePlaces, AreRows, IsDone, IsReplyTo, IsRow, IsWritten};
+ghost use Rattle.mvd_replica.specs.Asks.{TellsAnswer, counts_told, put_reply, question_told, row_told};
 ghost use Rattle.mvd_replica.specs.Commits.{Answers};
 ghost use Rattle.mvd_replica.specs.ReplicaCalls.{ReplicaAnswers, TellsRoot};
 ghost use Rattle.mvd_replica.specs.Replicas.{site_of};
@@ -17,7 +18,7 @@ use mvd_dots::{Context, Dot, Refusal};
 use mvd_keys::{Key, Path, Place};
 use mvd_peer::Endpoint;
 use mvd_site::Prepared;
-use mvd_wire::{Items, Reply, Request, RowValue};
+use mvd_wire::{Items, Prefix, Reply, Request, RowValue};
 use sqlite::Alter;
 
 /// The rows of a view: of each its term, how many siblings it has, the sum of their numbers, and the
@@ -106,6 +107,31 @@ impl<S: Alter> Replica<S> {
         let reply = self.look_up(&request);
         spend(request);
         rows_in(reply)
+    }
+
+    /// The keys that begin with a prefix, with their numbers of siblings: at most 1,000, those after a key if one is
+    /// given, and whether more follow. A deleted key has no sibling.
+    pub fn keys(
+        &self,
+        prefix: Prefix,
+        after: Option<Key>,
+    ) -> Result<(Items<(Key, u32)>, bool), Refusal>
+        ensures { TellsAnswer (site_of self.now) (Keys prefix after) (counts_told result) }
+    {
+        let request = Request::Keys(prefix, after);
+        let reply = self.look_up(&request);
+        spend(request);
+        counts_in(reply)
+    }
+
+    /// The keys in conflict, those with two siblings or more, with their numbers of siblings: a page, as `keys` gives it.
+    pub fn conflicts(&self, after: Option<Key>) -> Result<(Items<(Key, u32)>, bool), Refusal>
+        ensures { TellsAnswer (site_of self.now) (Conflicts after) (counts_told result) }
+    {
+        let request = Request::Conflicts(after);
+        let reply = self.look_up(&request);
+        spend(request);
+        counts_in(reply)
     }
 
     /// The digest of the root of the hash tree: replicas with the same states have the same.
@@ -203,6 +229,18 @@ fn rows_in(reply: Reply) -> Result<(ViewRows, bool), Refusal>
 {
     match reply {
         Reply::Rows(rows, more) => Ok((rows, more)),
+        Reply::Refused(refusal) => Err(refusal),
+        _ => unreachable!(),
+    }
+}
+
+/// A page of keys with their numbers of siblings.
+fn counts_in(reply: Reply) -> Result<(Items<(Key, u32)>, bool), Refusal>
+    requires { AreCounts reply }
+    ensures { counts_told result ≡ reply }
+{
+    match reply {
+        Reply::Counts(keys, more) => Ok((keys, more)),
         Reply::Refused(refusal) => Err(refusal),
         _ => unreachable!(),
     }

@@ -35,7 +35,7 @@ fn sees(request: &Request, key: &Key) -> bool
         Request::Put(own, ..) => *own == *key,
         Request::Delete(own, _) => *own == *key,
         Request::Push(own, _) => *own == *key,
-        Request::Bye => false,
+        Request::Hello(_) | Request::Bye => false,
         _ => true,
     }
 }

@@ -1,10 +1,12 @@
 //! A site whose states are stored before a reply says so.
-ghost use Rattle.std.specs.Prelude.{◌≡◌, ◌≤◌, Ok, MatchResult, false};
+ghost use Rattle.std.specs.Prelude.{◌≡◌, ◌≤◌, Ok, MatchResult, false, length};
 ghost use Rattle.std.specs.Option.{option_copied};
 ghost use Rattle.std.specs.FinMap as map;
 ghost use Rattle.mvd_dots.specs.Answer.{IsAnswer};
+ghost use Rattle.mvd_rows.specs.Siblings.{conflicts_in};
 ghost use Rattle.mvd_wire.specs.declared.request.Request.TheVariants.{Push};
 ghost use Rattle.mvd_wire.specs.declared.reply.Reply.TheVariants.{Refused};
+ghost use Rattle.mvd_site.specs.FromStates.{unless_broken};
 ghost use Rattle.mvd_site.specs.Held.{AreHeld};
 ghost use Rattle.mvd_site.specs.Prepared.{is_refusal};
 ghost use Rattle.sqlite.specs.State.{IsLive};
@@ -88,6 +90,15 @@ impl<S: Alter> Replica<S> {
         ensures room { result ≤ (site_of self.now).config.max_keys }
     {
         self.site.key_count()
+    }
+
+    /// How many keys are in conflict, 0 where it is broken. It takes no walk.
+    pub fn conflict_count(&self) -> u32
+        ensures count { let site = site_of self.now in
+            result ≡ unless_broken site.broken 0 (length (conflicts_in site.states)) }
+        ensures room { result ≤ (site_of self.now).config.max_keys }
+    {
+        self.site.conflict_count()
     }
 
     /// How many commits of changes were made since it was opened; it stays at the greatest number.

@@ -6,6 +6,7 @@ pub mod Ends
 pub mod Going
 pub mod Grouped
 pub mod Held
+pub mod InConflict
 pub mod InOrder
 pub mod InRows
 pub mod Least

@@ -6,6 +6,7 @@ pub mod Defs
 pub mod Marks
 pub mod Names
 pub mod Pages
+pub mod Siblings
 pub mod Stands
 pub mod Views
 pub mod Visible

@@ -42,10 +42,10 @@ is_past start place = is_lt (mark_cmp start (mark_of place))
 
 -- ---- rows
 
--- where a walk of rows begins
-abbrev pub start_of : Option Term → Bound Term
+-- where a walk begins, after a term or a key or of all
+abbrev pub start_of : {K : Type 0} → Option K → Bound K
 start_of None = Unbounded
-start_of (Some term) = Excluded term
+start_of (Some at) = Excluded at
 
 abbrev pub shown_entry : Term × Row → Term × ℕ × ℤ × Option (ℤ × ℤ)
 shown_entry e = shown e.0 e.1

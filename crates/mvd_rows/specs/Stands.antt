@@ -6,7 +6,9 @@ use Rattle.mvd_keys.specs.Key.{key_cmp}
 use Rattle.mvd_keys.specs.Writes.{Key}
 use Rattle.mvd_rows.specs.Changes.{IsRoomy, state_in}
 use Rattle.mvd_rows.specs.Defs.{Definitions}
+use Rattle.mvd_rows.specs.Siblings.{is_conflict}
 use Rattle.mvd_rows.specs.declared.changes.Rows.{Rows}
+use Rattle.mvd_rows.specs.declared.conflicts.Conflicts.{Conflicts}
 use Rattle.mvd_rows.specs.declared.definitions.ViewDef.{ViewDef}
 use Rattle.std.specs.BTreeMap as tree
 use Rattle.std.specs.BTreeMap.{BTreeMap}
@@ -90,6 +92,14 @@ pub record AreRowsOf (indexes : List Index) (views : List View) (visible : Visib
   pub places : All (λ index. IsIndexOf index visible) indexes
   pub rows : All (λ view. IsViewOf view visible) views
 
+-- a number of siblings, where they are in conflict
+abbrev pub if_conflict : ℕ → Option ℕ
+if_conflict count = if is_conflict count then Some count else None
+
+-- the keys with two siblings or more, each with their number
+pub record AreConflictsOf (conflicts : Conflicts) (states : FinMap key_cmp State) : Type 0 where
+  pub at : (key : Key) → tree.get key_cmp conflicts.keys.map key ≡ if_conflict (len (state_in states key).siblings)
+
 abbrev pub definition_of : View → ViewDef
 definition_of view = record { name = view.name; group = view.group; sum = view.sum }
 
@@ -101,6 +111,7 @@ definitions_of rows = record { indexes = map (λ index. index.field) rows.indexe
 pub record IsRowsOf (kept : Rows) (definitions : Definitions) (states : FinMap key_cmp State) : Type 0 where
   pub defs : definitions_of kept ≡ definitions
   pub rows : AreRowsOf kept.indexes.items kept.views.items (visible_in states)
+  pub conflicts : AreConflictsOf kept.conflicts states
 
 -- rows that stand for what is visible
 abbrev pub StandFor : Rows → Visible → Type 0

@@ -1,8 +1,9 @@
-//! The questions to the rows: a page of an index, a row, and a page of a view.
-ghost use Rattle.std.specs.Prelude.{◌≡◌, ◌≢◌, ◌+◌, Ok, Err, IfOk, IfErr, length};
+//! The questions to the rows: a page of an index, a row, a page of a view, and a page of the keys in conflict.
+ghost use Rattle.std.specs.Prelude.{◌≡◌, ◌≢◌, ◌+◌, Ok, Err, IfOk, IfErr, length, option_copied};
 ghost use Rattle.mvd_dots.specs.declared.refusals.Refusal.TheVariants.{Memory};
 ghost use Rattle.mvd_rows.specs.Answers.{find_answer, range_answer, row_answer, rows_answer};
 ghost use Rattle.mvd_rows.specs.Counted.{Within};
+ghost use Rattle.mvd_rows.specs.Siblings.{conflicts_answer, conflicts_in};
 ghost use Rattle.mvd_rows.specs.Stands.{IfRowsOf};
 ghost use Rattle.mvd_rows.specs.Visible.{visible_in};
 
@@ -113,5 +114,28 @@ impl Rows {
             return Err(Refusal::NoView);
         };
         view.page(self.alloc, &after, meter)
+    }
+
+    /// The first thousand keys in conflict, rising, strictly after a key, each with the number of its siblings, and
+    /// whether more are left: by no update and at most as many looks as the page has keys, and two more.
+    pub fn conflicts(
+        &self,
+        after: Option<&Key>,
+        meter: &mut Meter,
+    ) -> Result<(Vec<(Key, u32)>, bool), Refusal>
+        ensures found { IfOk result (λ page. IfRowsOf self.now (λ _ states.
+            conflicts_answer states (option_copied after.entry) ≡ (page.0.items, page.1))) }
+        ensures memory { IfErr result (λ refusal. refusal ≡ Memory) }
+        ensures counts { Within 0 1002 meter.old meter.new }
+        ensures given { IfOk result (λ page. Within 0 (length page.0.items + 2) meter.old meter.new) }
+    {
+        self.conflicts.page(self.alloc, after, meter)
+    }
+
+    /// How many keys are in conflict, without a walk.
+    pub fn conflict_count(&self) -> usize
+        ensures { IfRowsOf self.now (λ _ states. result ≡ length (conflicts_in states)) }
+    {
+        self.conflicts.count()
     }
 }

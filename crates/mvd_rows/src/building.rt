@@ -3,9 +3,10 @@ ghost use Rattle.std.specs.Prelude.{◌≡◌, IfOk, IfErr, map};
 ghost use Rattle.std.specs.FinMap.{empty};
 ghost use Rattle.std.specs.List.{All};
 ghost use Rattle.mvd_dots.specs.declared.refusals.Refusal.TheVariants.{Memory};
-ghost use Rattle.mvd_rows.specs.Stands.{IsIndexOf, IsRowsOf, IsViewOf, definition_of};
+ghost use Rattle.mvd_rows.specs.Stands.{AreConflictsOf, IsIndexOf, IsRowsOf, IsViewOf, definition_of};
 
 use crate::changes::Rows;
+use crate::conflicts::Conflicts;
 use crate::definitions::{Defs, ViewDef};
 use crate::index::Index;
 use crate::ordered_map::Kept;
@@ -41,6 +42,17 @@ impl View {
             tallies: Tallies {
                 kept: Kept::new(alloc),
             },
+        }
+    }
+}
+
+impl Conflicts {
+    #[tactic(auto, using(crate::proofs::InConflict::no_conflicts))]
+    fn new(alloc: Global) -> Conflicts
+        ensures { AreConflictsOf result empty }
+    {
+        Conflicts {
+            keys: Kept::new(alloc),
         }
     }
 }
@@ -82,6 +94,7 @@ impl Rows {
             alloc,
             indexes,
             views,
+            conflicts: Conflicts::new(alloc),
         })
     }
 }

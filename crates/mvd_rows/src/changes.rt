@@ -11,6 +11,7 @@ ghost use Rattle.mvd_rows.specs.Stands.{HasRoomFor, IfRowsOf, IsRowsOf, IsSmall,
 ghost use Rattle.mvd_rows.specs.Visible.{Visible};
 
 use crate::among::is_among;
+use crate::conflicts::Conflicts;
 use crate::index::Index;
 use crate::loops::{change_places, change_rows};
 use crate::marks::Spot;
@@ -22,14 +23,16 @@ use mvd_dots::Refusal;
 use mvd_keys::{Key, KeyState, Sibling};
 use std::alloc::Global;
 
-/// The places of each index and the rows of each view. They stand for a map of key states: every answer is the one that
-/// computing afresh from those states would give. Each call adds the work that it took to the counts handed in: how
-/// many entries of the kept rows were put in, taken out or altered, and how many looks were made at them.
+/// The places of each index, the rows of each view and the keys in conflict. They stand for a map of key states: every
+/// answer is the one that computing afresh from those states would give. Each call adds the work that it took to the
+/// counts handed in: how many entries of the kept rows were put in, taken out or altered, and how many looks were made
+/// at them.
 #[derive(Drop)]
 pub struct Rows {
     pub(crate) alloc: Global,
     pub(crate) indexes: Vec<Index>,
     pub(crate) views: Vec<View>,
+    pub(crate) conflicts: Conflicts,
 }
 
 impl Rows {
@@ -47,6 +50,7 @@ impl Rows {
             map.get visible spot.now ≡ before way document.now →
             StandFor self.new (moved way visible spot.now document.now)) }
         ensures defs { OnOk result (definitions_of self.new ≡ definitions_of self.old) }
+        ensures conflicts { self.new.conflicts ≡ self.old.conflicts }
         ensures indexes { length self.new.indexes.items ≡ length self.old.indexes.items }
         ensures views { length self.new.views.items ≡ length self.old.views.items }
         ensures memory { IfErr result (λ refusal. refusal ≡ Memory) }
@@ -78,6 +82,7 @@ impl Rows {
             StandFor self.new (moved_all way visible key.now
             (not_among (pairs_of others.now) (pairs_of siblings.now)))) }
         ensures defs { OnOk result (definitions_of self.new ≡ definitions_of self.old) }
+        ensures conflicts { self.new.conflicts ≡ self.old.conflicts }
         ensures indexes { length self.new.indexes.items ≡ length self.old.indexes.items }
         ensures views { length self.new.views.items ≡ length self.old.views.items }
         ensures memory { IfErr result (λ refusal. refusal ≡ Memory) }
@@ -116,6 +121,7 @@ impl Rows {
             (taken_out visible key.now (not_among (pairs_of new.now) (pairs_of old.now)))
             key.now (not_among (pairs_of old.now) (pairs_of new.now)))) }
         ensures defs { OnOk result (definitions_of self.new ≡ definitions_of self.old) }
+        ensures conflicts { self.new.conflicts ≡ self.old.conflicts }
         ensures memory { IfErr result (λ refusal. refusal ≡ Memory) }
         ensures counts { let moved = length (not_among (pairs_of new.now) (pairs_of old.now)) +
             length (not_among (pairs_of old.now) (pairs_of new.now)) in
@@ -134,7 +140,8 @@ impl Rows {
     /// map with the new state there. The map has at most `2^20` keys, and each state at most `2^17` siblings. The one
     /// refusal is `Broken`, for want of memory: after it the rows stand for nothing. For each sibling that stands in
     /// one of the two states alone it makes at most one update for each index and two for each view, and at most four
-    /// looks for each view; one that stands in both is not touched and costs none.
+    /// looks for each view; one that stands in both is not touched and costs none. The keys in conflict take at most
+    /// one update more, and no look.
     pub fn change(
         &mut self,
         key: &Key,
@@ -146,14 +153,17 @@ impl Rows {
         ensures stands { OnOk result (IfRowsOf self.old (λ defs states. state_in states key.now ≡ old.now →
             IsRowsOf self.new defs (insert states key.now new.now))) }
         ensures broken { IfErr result (λ refusal. refusal ≡ Broken) }
-        ensures differing { WithinUpdates (differing old.now new.now * updates_each (definitions_of self.old))
+        ensures differing { WithinUpdates (differing old.now new.now * updates_each (definitions_of self.old) + 1)
             meter.old meter.new }
-        ensures looks { Within (differing old.now new.now * updates_each (definitions_of self.old))
+        ensures looks { Within (differing old.now new.now * updates_each (definitions_of self.old) + 1)
             (differing old.now new.now * looks_each (definitions_of self.old)) meter.old meter.new }
         ensures most { WithinUpdates
-            ((len old.now.siblings + len new.now.siblings) * updates_each (definitions_of self.old))
+            ((len old.now.siblings + len new.now.siblings) * updates_each (definitions_of self.old) + 1)
             meter.old meter.new }
     {
+        let Ok(()) = self.conflicts.change(self.alloc, key, old, new, meter) else {
+            return Err(Refusal::Broken);
+        };
         match self.replace(key, old.siblings(), new.siblings(), meter) {
             Ok(()) => Ok(()),
             Err(_) => Err(Refusal::Broken),

@@ -5,6 +5,7 @@ mod among;
 mod answering;
 mod building;
 mod changes;
+mod conflicts;
 mod definitions;
 mod index;
 pub mod laws;

@@ -14,7 +14,7 @@ use std::collections::BTreeMap;
 use std::collections::btree_map::Range;
 use std::ops::Bound;
 
-/// An ordered map each of whose calls counts what it does.
+/// An ordered map each of whose calls counts what it does: which entries it changes, and which it looks at.
 #[derive(Drop)]
 pub struct Kept<K: Ord, V> {
     map: BTreeMap<K, V>,
@@ -35,6 +35,14 @@ impl<K: Ord + Drop, V: Drop> Kept<K, V> {
     {
         meter.count_look();
         self.map.get(key)
+    }
+
+    /// How many entries there are. It looks at none of them.
+    pub fn len(&self) -> usize
+        ensures entries { result ≡ tree.btree_map_len self.now.map }
+        ensures ordered { tree.IsOrdered K.cmp self.now.map }
+    {
+        self.map.len()
     }
 
     /// Puts an entry in, or alters the one that is there.

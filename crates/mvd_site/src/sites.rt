@@ -9,6 +9,7 @@ ghost use Rattle.mvd_dots.specs.declared.refusals.Refusal.TheVariants.{Broken, D
 ghost use Rattle.mvd_keys.specs.Key.{key_cmp};
 ghost use Rattle.mvd_keys.specs.State.{IsValid, clashes};
 ghost use Rattle.mvd_keys.specs.Writes.{Write, Stands};
+ghost use Rattle.mvd_rows.specs.Siblings.{conflicts_in};
 ghost use Rattle.mvd_tree.specs.Page.{is_more_after_page, page_of};
 ghost use Rattle.mvd_wire.specs.declared.request.Request.TheVariants.{Push};
 ghost use Rattle.mvd_kept.specs.Answer.{digests, node_digests};
@@ -105,6 +106,14 @@ impl Site {
         self.kept.key_count()
     }
 
+    /// How many keys are in conflict, 0 where it is broken. It looks at no held state and at no kept row.
+    pub fn conflict_count(&self) -> u32
+        ensures count { result ≡ unless_broken self.now.broken 0 (length (conflicts_in self.now.states)) }
+        ensures room { result ≤ self.now.config.max_keys }
+    {
+        self.kept.conflict_count()
+    }
+
     /// Whether an install was refused memory: the site then answers `Broken` to everything.
     pub fn is_broken(&self) -> bool
         ensures { result ≡ self.now.broken }
@@ -146,7 +155,7 @@ impl Site {
         ensures valid { IfOk result (λ _. IsValidRequest request.now) }
         ensures broken { self.now.broken ≡ true → result ≡ Err Broken }
         ensures whole { IfErr result (λ refusal. refusal ≡ Broken → self.now.broken ≡ true) }
-        // A question of a node or of a row, Bye, and a push of what is held already take no memory.
+        // A question of a node or of a row, Hello, Bye, and a push of what is held already take no memory.
         ensures frugal { IsFrugal self.now.states request.now → IfErr result (λ refusal. refusal ≢ Memory) }
     {
         self.kept.prepare(request, &mut begun())

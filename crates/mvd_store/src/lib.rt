@@ -13,5 +13,5 @@ pub use mvd_replica::{Ended, FRAMES_MAX, FileFault, Replica, ViewRows, open_file
 pub use mvd_rows::Defs;
 pub use mvd_site::Config;
 pub use mvd_sync::{Left, Report, Side, SyncFault, sync};
-pub use mvd_wire::{Items, RowValue};
+pub use mvd_wire::{Items, Prefix, RowValue};
 pub use sqlite::{Alter, Connection, MemStore, Unknown};

@@ -220,6 +220,10 @@ fn is_question(request: &Request) -> bool
 {
     !matches!(
         request,
-        Request::Put(..) | Request::Delete(..) | Request::Push(..) | Request::Bye
+        Request::Put(..)
+            | Request::Delete(..)
+            | Request::Push(..)
+            | Request::Hello(_)
+            | Request::Bye
     )
 }

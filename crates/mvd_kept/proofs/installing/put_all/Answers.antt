@@ -19,7 +19,7 @@ loop-prepared-init c = record {
   few = c.requires.few;
   stand = c.requires.stand;
   digested = λ _. inr refl;
-  costs = free 0 (0 * looks_each c.args.config.now.defs) (0 * updates_each c.args.config.now.defs) 0 0 c.args.work.now;
+  costs = free 0 (0 * looks_each c.args.config.now.defs) (0 * updates_each c.args.config.now.defs + 0) 0 0 c.args.work.now;
   idle = λ _. refl;
 }
 

@@ -67,7 +67,8 @@ loop-entry-preserved c =
 
 pub returns-then-is_err-clause-counts : goal.returns-then-is_err-clause-counts
 returns-then-is_err-clause-counts c =
-    rows_part c.args.states.now (c.loop-entry.entry-index + 1) c.args.defs.now _ _
+    let low = c.loop-entry-test.true in
+    rows_part c.args.states.now (c.loop-entry.entry-index + 1) c.args.defs.now _ _ (omega (arith, low))
     (rows_next c.args.states.now c.loop-entry.entry-index c.entry-item.result c.empty-empty.result _ c.args.defs.now
     c.args.meter.now c.loop-entry.meter c.change.new.meter
     c.loop-entry-test.true c.entry-item.is c.empty-empty.ensures c.loop-entry.invariant.rows.defs
@@ -75,4 +76,4 @@ returns-then-is_err-clause-counts c =
 
 pub returns-clause-counts : goal.returns-clause-counts
 returns-clause-counts c =
-    rows_part c.args.states.now c.loop-entry.entry-index c.args.defs.now _ _ c.loop-entry.invariant.counts
+    rows_part c.args.states.now c.loop-entry.entry-index c.args.defs.now _ _ c.loop-entry.auto.entry-index-end c.loop-entry.invariant.counts

@@ -1,4 +1,4 @@
-use Rattle.std.proofs.Common.{take, ◌*◌}
+use Rattle.std.proofs.Common.{take, ◌+◌, ◌*◌}
 use Rattle.std.specs.FinMap.{from_entries}
 use Rattle.mvd_rows.specs.Changes.{looks_each, updates_each}
 use Rattle.mvd_rows.specs.Counted.{Within}
@@ -10,5 +10,5 @@ use Rattle.mvd_kept.proofs.listing.rows_of.Given as goal
 abbrev pub invariant-loop-entry : goal.invariant-loop-entry
 invariant-loop-entry l = record {
   rows : IsRowsOf l.rows l.defs (from_entries (take l.entry-index l.states));
-  counts : Within (all_siblings (take l.entry-index l.states) * updates_each l.defs) (all_siblings (take l.entry-index l.states) * looks_each l.defs) l.fn.meter l.meter;
+  counts : Within (all_siblings (take l.entry-index l.states) * updates_each l.defs + l.entry-index) (all_siblings (take l.entry-index l.states) * looks_each l.defs) l.fn.meter l.meter;
 }

@@ -1,6 +1,7 @@
 use Rattle.std.proofs.Common.{Ok, refl, ap, sym, subst}
 use Rattle.mvd_wire.specs.declared.reply.Reply.TheVariants.{Done}
-use Rattle.mvd_kept.specs.Answer.{bucket_answer, digests}
+use Rattle.mvd_kept.specs.Answer.{bucket_answer, counts_reply, digests}
+use Rattle.mvd_rows.specs.Siblings.{conflicts_answer, keys_answer}
 use Rattle.mvd_kept.specs.Prepared.{PreparesAnswerFrom, PreparesFrom, PreparesReply}
 use Rattle.mvd_kept.specs.Costs.{PrepareCosts, prepared_looks}
 use Rattle.mvd_kept.specs.declared.prepared.Prepared.TheVariants.{Answer}
@@ -103,13 +104,13 @@ pub returns-in-Get-clause-costs : goal.returns-in-Get-clause-costs
 returns-in-Get-clause-costs c =
     subst (λ r. PrepareCosts r c.prepare_get.result c.args.work.now
     (record { looks = c.prepare_get.new.looks; rows = c.args.work.now.rows; hashed = c.args.work.now.hashed }))
-    (sym c.in-Get.is) (looked c.args.work.now c.prepare_get.new.looks c.prepare_get.ensures.looked)
+    (sym c.in-Get.is) (looked c.args.work.now c.prepare_get.new.looks 1 c.prepare_get.ensures.looked)
 
 pub returns-in-Put-clause-costs : goal.returns-in-Put-clause-costs
 returns-in-Put-clause-costs c =
     subst (λ r. PrepareCosts r c.prepare_put.result c.args.work.now
     (record { looks = c.prepare_put.new.looks; rows = c.args.work.now.rows; hashed = c.args.work.now.hashed }))
-    (sym c.in-Put.is) (looked c.args.work.now c.prepare_put.new.looks c.prepare_put.ensures.looked)
+    (sym c.in-Put.is) (looked c.args.work.now c.prepare_put.new.looks 1 c.prepare_put.ensures.looked)
 
 pub returns-in-Delete-clause-costs : goal.returns-in-Delete-clause-costs
 returns-in-Delete-clause-costs c =
@@ -118,13 +119,13 @@ returns-in-Delete-clause-costs c =
       looks = c.prepare_delete.new.looks;
       rows = c.args.work.now.rows;
       hashed = c.args.work.now.hashed;
-    })) (sym c.in-Delete.is) (looked c.args.work.now c.prepare_delete.new.looks c.prepare_delete.ensures.looked)
+    })) (sym c.in-Delete.is) (looked c.args.work.now c.prepare_delete.new.looks 1 c.prepare_delete.ensures.looked)
 
 pub returns-in-Push-clause-costs : goal.returns-in-Push-clause-costs
 returns-in-Push-clause-costs c =
     subst (λ r. PrepareCosts r c.prepare_push.result c.args.work.now
     (record { looks = c.prepare_push.new.looks; rows = c.args.work.now.rows; hashed = c.args.work.now.hashed }))
-    (sym c.in-Push.is) (looked c.args.work.now c.prepare_push.new.looks c.prepare_push.ensures.looked)
+    (sym c.in-Push.is) (looked c.args.work.now c.prepare_push.new.looks 1 c.prepare_push.ensures.looked)
 
 pub returns-in-Find-clause-costs : goal.returns-in-Find-clause-costs
 returns-in-Find-clause-costs c =
@@ -166,3 +167,55 @@ returns-in-Bucket-clause-costs c = free_request c.args.request.now _ c.args.work
 
 pub returns-in-Bye-clause-costs : goal.returns-in-Bye-clause-costs
 returns-in-Bye-clause-costs c = free_request c.args.request.now _ c.args.work.now
+
+pub returns-in-Keys-clause-states : goal.returns-in-Keys-clause-states
+returns-in-Keys-clause-states c =
+    asked c.args.self.now c.args.request.now _ c.prepare_keys.result c.in-Keys.is (λ reply. refl)
+    (subst (λ r. PreparesReply r c.prepare_keys.result)
+    (ap (λ o. counts_reply (keys_answer c.args.self.now.states c.in-Keys.prefix o)) c.as_ref-in-Keys.ensures.value)
+    c.prepare_keys.ensures.answer)
+
+pub returns-in-Conflicts-clause-states : goal.returns-in-Conflicts-clause-states
+returns-in-Conflicts-clause-states c =
+    asked c.args.self.now c.args.request.now _ c.prepare_conflicts.result c.in-Conflicts.is (λ reply. refl)
+    (subst (λ r. PreparesReply r c.prepare_conflicts.result)
+    (ap (λ o. counts_reply (conflicts_answer c.args.self.now.states o)) c.as_ref-in-Conflicts.ensures.value)
+    c.prepare_conflicts.ensures.answer)
+
+pub returns-in-Hello-clause-states : goal.returns-in-Hello-clause-states
+returns-in-Hello-clause-states c = λ whole.
+    subst (λ r. PreparesAnswerFrom c.args.self.now.config c.args.self.now.states r Done) (sym c.in-Hello.is)
+    (record { answers = refl; still = tt; after = refl })
+
+pub returns-in-Keys-clause-answer : goal.returns-in-Keys-clause-answer
+returns-in-Keys-clause-answer c = known_at c.args.self.now c.args.request.now _ (returns-in-Keys-clause-states c)
+
+pub returns-in-Conflicts-clause-answer : goal.returns-in-Conflicts-clause-answer
+returns-in-Conflicts-clause-answer c =
+    known_at c.args.self.now c.args.request.now _ (returns-in-Conflicts-clause-states c)
+
+pub returns-in-Hello-clause-answer : goal.returns-in-Hello-clause-answer
+returns-in-Hello-clause-answer c =
+    known_at c.args.self.now c.args.request.now (Ok (Answer Done)) (returns-in-Hello-clause-states c)
+
+pub returns-in-Keys-clause-costs : goal.returns-in-Keys-clause-costs
+returns-in-Keys-clause-costs c =
+    subst (λ r. PrepareCosts r c.prepare_keys.result c.args.work.now
+    (record { looks = c.prepare_keys.new.looks; rows = c.args.work.now.rows; hashed = c.args.work.now.hashed }))
+    (sym c.in-Keys.is)
+    (looked c.args.work.now c.prepare_keys.new.looks (prepared_looks c.prepare_keys.result)
+    c.prepare_keys.ensures.looked)
+
+pub returns-in-Conflicts-clause-costs : goal.returns-in-Conflicts-clause-costs
+returns-in-Conflicts-clause-costs c =
+    subst (λ r. PrepareCosts r c.prepare_conflicts.result c.args.work.now
+    (record {
+      looks = c.args.work.now.looks;
+      rows = c.prepare_conflicts.new.meter;
+      hashed = c.args.work.now.hashed;
+    })) (sym c.in-Conflicts.is)
+    (paged c.args.work.now c.prepare_conflicts.new.meter (prepared_looks c.prepare_conflicts.result)
+    c.prepare_conflicts.ensures.looks)
+
+pub returns-in-Hello-clause-costs : goal.returns-in-Hello-clause-costs
+returns-in-Hello-clause-costs c = free_request c.args.request.now _ c.args.work.now

@@ -17,7 +17,7 @@ returns-in-Err c =
     let whole : old.broken ≡ false = sym c.if-is_broken.ensures in
     let answers : AnswersFrom old old (Push key pushed) (push_reply result) = answers_from_refusal old (Push key pushed) c.in-Err.refusal (λ _. c.in-Err.ensures.answer) in
     let facts : PushFacts old old key pushed result = push_facts old old key pushed result whole answers in
-    record { answer = answers; joined = facts.joined; agreed = facts.agreed; clash = facts.clash; unchanged = facts.unchanged; told = facts.told; stays = λ broken. absurd (not_broken old.broken whole broken); valid = tt; idle = λ broken. absurd (not_broken old.broken whole broken); costs = one_look old (Push key pushed) _ _ (looked c.args.work.now c.prepare_push.new.looks c.prepare_push.ensures.looked) }
+    record { answer = answers; joined = facts.joined; agreed = facts.agreed; clash = facts.clash; unchanged = facts.unchanged; told = facts.told; stays = λ broken. absurd (not_broken old.broken whole broken); valid = tt; idle = λ broken. absurd (not_broken old.broken whole broken); costs = one_look old (Push key pushed) _ _ (looked c.args.work.now c.prepare_push.new.looks 1 c.prepare_push.ensures.looked) }
 
 pub returns-in-Ok-Answer : goal.returns-in-Ok-Answer
 returns-in-Ok-Answer c =
@@ -30,7 +30,7 @@ returns-in-Ok-Answer c =
     let answers : AnswersFrom old old (Push key pushed) (push_reply result) =
     pushed_still old key pushed c.in-Ok-Answer.field-0-0 (tt {0}) ready.accepts (λ _. subst (λ p. PreparesFrom old.config old.states (Push key pushed) (Ok p)) c.in-Ok-Answer.field-0-is c.in-Ok-Answer.ensures.answer) in
     let facts : PushFacts old old key pushed result = push_facts old old key pushed result whole answers in
-    record { answer = answers; joined = facts.joined; agreed = facts.agreed; clash = facts.clash; unchanged = facts.unchanged; told = facts.told; stays = λ broken. absurd (not_broken old.broken whole broken); valid = c.in-Ok-Answer.ensures.valid; idle = λ broken. absurd (not_broken old.broken whole broken); costs = one_look old (Push key pushed) _ _ (looked c.args.work.now c.prepare_push.new.looks c.prepare_push.ensures.looked) }
+    record { answer = answers; joined = facts.joined; agreed = facts.agreed; clash = facts.clash; unchanged = facts.unchanged; told = facts.told; stays = λ broken. absurd (not_broken old.broken whole broken); valid = c.in-Ok-Answer.ensures.valid; idle = λ broken. absurd (not_broken old.broken whole broken); costs = one_look old (Push key pushed) _ _ (looked c.args.work.now c.prepare_push.new.looks 1 c.prepare_push.ensures.looked) }
 
 pub returns : goal.returns
 returns c =
@@ -54,5 +54,5 @@ returns c =
       stays = λ broken. absurd (not_broken old.broken whole broken);
       valid = on_ok result c.in-Ok-Change.ensures.valid;
       idle = λ broken. absurd (not_broken old.broken whole broken);
-      costs = wrote old (Push key pushed) c.in-Ok-Change.change _ _ _ prepared (looked c.args.work.now c.prepare_push.new.looks c.prepare_push.ensures.looked) c.install.ensures.costs;
+      costs = wrote old (Push key pushed) c.in-Ok-Change.change _ _ _ prepared (looked c.args.work.now c.prepare_push.new.looks 1 c.prepare_push.ensures.looked) c.install.ensures.costs;
     }

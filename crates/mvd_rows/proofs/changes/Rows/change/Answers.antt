@@ -26,39 +26,39 @@ replace-requires-clause-room c =
       ),
     )
 
-pub returns-in-Ok-clause-stands : goal.returns-in-Ok-clause-stands
-returns-in-Ok-clause-stands c = λ defs states stands is.
-    stands_after _ _ defs states c.args.key.now c.args.old.now c.args.new.now _ _ c.siblings.ensures.entries
-    c.siblings-2.ensures.entries stands is c.in-Ok.ensures.defs c.in-Ok.ensures.rows
+pub returns-in-Ok-replace-clause-stands : goal.returns-in-Ok-replace-clause-stands
+returns-in-Ok-replace-clause-stands c = λ defs states stands is.
+    stands_after c.args.self.now c.change.new.self _ defs states c.args.key.now c.args.old.now c.args.new.now _ _ c.siblings.ensures.entries
+    c.siblings-2.ensures.entries stands is c.in-Ok-replace.ensures.defs c.in-Ok-replace.ensures.rows c.replace.ensures.conflicts (c.in-Ok.ensures.keys states)
 
-pub returns-in-Ok-clause-differing : goal.returns-in-Ok-clause-differing
-returns-in-Ok-clause-differing c = differ_updates c.args.old.now c.args.new.now _ _ _ _
-    (differ_within c.args.old.now c.args.new.now _ _ c.args.self.now _ _ c.siblings.ensures.entries
-    c.siblings-2.ensures.entries c.replace.ensures.counts)
+pub returns-in-Ok-replace-clause-differing : goal.returns-in-Ok-replace-clause-differing
+returns-in-Ok-replace-clause-differing c =
+    differ_updates _ _ _ _ (differ_within c.args.old.now c.args.new.now _ _ c.args.self.now _ _ _ c.siblings.ensures.entries
+    c.siblings-2.ensures.entries c.change.ensures.counts c.replace.ensures.counts)
 
-pub returns-in-Ok-clause-looks : goal.returns-in-Ok-clause-looks
-returns-in-Ok-clause-looks c =
-    differ_within c.args.old.now c.args.new.now _ _ c.args.self.now _ _ c.siblings.ensures.entries
-    c.siblings-2.ensures.entries c.replace.ensures.counts
+pub returns-in-Ok-replace-clause-looks : goal.returns-in-Ok-replace-clause-looks
+returns-in-Ok-replace-clause-looks c =
+    differ_within c.args.old.now c.args.new.now _ _ c.args.self.now _ _ _ c.siblings.ensures.entries
+    c.siblings-2.ensures.entries c.change.ensures.counts c.replace.ensures.counts
 
-pub returns-in-Ok-clause-most : goal.returns-in-Ok-clause-most
-returns-in-Ok-clause-most c =
+pub returns-in-Ok-replace-clause-most : goal.returns-in-Ok-replace-clause-most
+returns-in-Ok-replace-clause-most c =
     most_updates c.args.old.now c.args.new.now (updates_each (definitions_of c.args.self.now)) _ _ _
-    (differ_within c.args.old.now c.args.new.now _ _ c.args.self.now _ _ c.siblings.ensures.entries
-    c.siblings-2.ensures.entries c.replace.ensures.counts)
+    (differ_within c.args.old.now c.args.new.now _ _ c.args.self.now _ _ _ c.siblings.ensures.entries
+    c.siblings-2.ensures.entries c.change.ensures.counts c.replace.ensures.counts)
 
 pub returns-in-Err-clause-differing : goal.returns-in-Err-clause-differing
-returns-in-Err-clause-differing c = differ_updates c.args.old.now c.args.new.now _ _ _ _
-    (differ_within c.args.old.now c.args.new.now _ _ c.args.self.now _ _ c.siblings.ensures.entries
-    c.siblings-2.ensures.entries c.replace.ensures.counts)
+returns-in-Err-clause-differing c =
+    differ_updates _ _ _ _ (differ_within c.args.old.now c.args.new.now _ _ c.args.self.now _ _ _ c.siblings.ensures.entries
+    c.siblings-2.ensures.entries c.change.ensures.counts c.replace.ensures.counts)
 
 pub returns-in-Err-clause-looks : goal.returns-in-Err-clause-looks
 returns-in-Err-clause-looks c =
-    differ_within c.args.old.now c.args.new.now _ _ c.args.self.now _ _ c.siblings.ensures.entries
-    c.siblings-2.ensures.entries c.replace.ensures.counts
+    differ_within c.args.old.now c.args.new.now _ _ c.args.self.now _ _ _ c.siblings.ensures.entries
+    c.siblings-2.ensures.entries c.change.ensures.counts c.replace.ensures.counts
 
 pub returns-in-Err-clause-most : goal.returns-in-Err-clause-most
 returns-in-Err-clause-most c =
     most_updates c.args.old.now c.args.new.now (updates_each (definitions_of c.args.self.now)) _ _ _
-    (differ_within c.args.old.now c.args.new.now _ _ c.args.self.now _ _ c.siblings.ensures.entries
-    c.siblings-2.ensures.entries c.replace.ensures.counts)
+    (differ_within c.args.old.now c.args.new.now _ _ c.args.self.now _ _ _ c.siblings.ensures.entries
+    c.siblings-2.ensures.entries c.change.ensures.counts c.replace.ensures.counts)

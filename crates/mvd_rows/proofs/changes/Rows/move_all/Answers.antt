@@ -23,6 +23,7 @@ loop-sibling-init c = record {
   defs = refl;
   indexes = refl;
   views = refl;
+  conflicts = refl;
   counts = spent_starts _ _ _ _;
 }
 
@@ -81,6 +82,7 @@ loop-sibling-preserved c =
             defs = ap definitions_of w.self-is ∙ w.in_ok-move_one.ensures.defs ∙ c.loop-sibling.invariant.defs;
             indexes = ap (λ (s : Rows). length s.indexes.items) w.self-is ∙ w.move_one.ensures.indexes ∙ c.loop-sibling.invariant.indexes;
             views = ap (λ (s : Rows). length s.views.items) w.self-is ∙ w.move_one.ensures.views ∙ c.loop-sibling.invariant.views;
+            conflicts = ap (λ (s : Rows). s.conflicts) w.self-is ∙ w.move_one.ensures.conflicts ∙ c.loop-sibling.invariant.conflicts;
             counts = subst (Spent _ _ _ _ _) (sym w.meter-is) (spent_one _ _ _ _ _ _ _ _ (one_counted others x rest apart) spent
                 (each_is _ _ _ _ _ _ c.loop-sibling.invariant.indexes c.loop-sibling.invariant.views w.move_one.ensures.counts));
           }
@@ -93,6 +95,7 @@ loop-sibling-preserved c =
             defs = ap definitions_of w.self-is ∙ c.loop-sibling.invariant.defs;
             indexes = ap (λ (s : Rows). length s.indexes.items) w.self-is ∙ c.loop-sibling.invariant.indexes;
             views = ap (λ (s : Rows). length s.views.items) w.self-is ∙ c.loop-sibling.invariant.views;
+            conflicts = ap (λ (s : Rows). s.conflicts) w.self-is ∙ c.loop-sibling.invariant.conflicts;
             counts = subst (Spent _ _ _ _ _) (sym w.meter-is) (spent_same _ _ _ _ _ _ _ (none_counted others x rest stays) spent);
           }
     ]

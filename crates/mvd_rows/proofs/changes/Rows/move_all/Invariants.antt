@@ -18,6 +18,7 @@ invariant-loop-sibling l = record {
   defs : definitions_of l.self ≡ definitions_of l.fn.self;
   indexes : length l.self.indexes.items ≡ length l.fn.self.indexes.items;
   views : length l.self.views.items ≡ length l.fn.self.views.items;
+  conflicts : l.self.conflicts ≡ l.fn.self.conflicts;
   counts : Spent (length (not_among (pairs_of l.others) (pairs_of (drop l.sibling-index l.siblings)))) (length (not_among (pairs_of l.others) (pairs_of l.siblings)))
       (length l.fn.self.indexes.items + 2 * length l.fn.self.views.items) (4 * length l.fn.self.views.items) l.fn.meter l.meter;
 }

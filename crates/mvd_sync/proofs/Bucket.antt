@@ -25,7 +25,7 @@ use Rattle.mvd_sync.proofs.Gone.{Gone, IsPast, counted_fill, counted_more, gone_
 use Rattle.mvd_sync.proofs.Joined.{joins_some}
 use Rattle.mvd_sync.proofs.Keys.{Each-weaker, or_left}
 use Rattle.mvd_sync.proofs.Nexts.{goes_from, goes_further, goes_still, still_next, untouched}
-use Rattle.mvd_sync.proofs.Positions.{ExchangesBy, FillEndsBy, FillsBothBy, FindsBy, GoesBy, GoesOnBy, GoesThroughBy, SettlesAllBy, SettlesBy, SoFarBy}
+use Rattle.mvd_sync.proofs.Positions.{ExchangesBy, FillEndsBy, FillsBothBy, FindsBy, GoesBy, GoesOnBy, GoesThroughBy, ReadsEndBy, SettlesAllBy, SettlesBy, SoFarBy}
 
 -- ---- a key is settled
 
@@ -283,6 +283,28 @@ module _ {L P : Type 0} (l : SideOf L) (p : SideOf P) (path : List ℕ) (first s
               goes_on = here.goes_on;
               fewer = let n = here.fewer in (omega (arith, n.0, calm.0), omega (arith, n.1, calm.1));
             };
+          };
+    }
+
+    -- the walk stops without a question
+    pub over_stops : (left2 : Questions) (fault : SyncFault) → ReadsEndBy l p (λ asked. asked ≤ 0) left1 local1 local1 peer1 peer1 fault
+        → GoesThroughBy {A = Unit {0}} l p (λ a b. ArePages (digests a) (path ∷ []) (first ∷ []) × ArePages (digests b) (path ∷ []) (second ∷ [])) (path ∷ []) 0 left left2 local local1 peer peer1 before at (Err fault)
+    unfolding goes_on goes_of_end
+    over_stops left2 fault r = record {
+      goes = goes_on l p on on' left left1 left2 local local1 local1 peer peer1 peer1 before at at (tt {0}) (Err fault) over.goes (goes_of_end l p (λ asked. asked ≤ 0) left1 left2 local1 local1 peer1 peer1 at fault r);
+      meets = λ t u distinct long a b done so counts next elsewhere told.
+          let here = over.meets t u a b done so counts next elsewhere told.0.0 told.1.0 in
+          let few = r.few in
+          record {
+            found = here.found;
+            below = below_one path here.upto here.found here.gone.below;
+            all = tt;
+            next = here.gone.next;
+            pages_local = here.pages_local;
+            pages_peer = here.pages_peer;
+            pages = (one_held a path (1000 * here.pages_local) here.gone.first.many, one_held b path (1000 * here.pages_peer) here.gone.second.many);
+            few = let n = here.fewer in (omega (arith, n.0, few.0), omega (arith, n.1, few.1));
+            ends = joins_some (l.most_keys local) (p.most_keys peer) a b (l.states local1) (p.states peer1) before.number (l.is_faithful local1) (p.is_faithful peer1) (done ++ here.goes_on.now) here.goes_on.so_far;
           };
     }
 

@@ -1,6 +1,6 @@
 -- A walk that came to an end by a side, after questions to both.
-use Rattle.std.proofs.Common.{◌≡◌, ℕ, ◌+◌, ◌-◌, ◌≤◌, List, ◌++◌, length, take, drop, sym, ap, ◌∙◌, arith, append_assoc, length-append}
-use Rattle.std.proofs.lemmas.List.{length-drop, length-take, take-append-drop, take_all}
+use Rattle.std.proofs.Common.{◌≡◌, ℕ, ◌+◌, ◌≤◌, List, ◌++◌, length, take, ap, arith, length-append}
+use Rattle.std.proofs.lemmas.List.{length-take}
 use Rattle.mvd_dots.specs.declared.refusals.Refusal.{Refusal}
 use Rattle.mvd_dots.specs.declared.refusals.Refusal.TheVariants.{Memory}
 use Rattle.mvd_sync.specs.Questions.{ComesToEnd, Keeps, with_left}
@@ -65,9 +65,3 @@ window_fits paths done rest n e =
     let b = length-append done rest in
     let c = length-take n rest in
     omega (arith, a, b, c)
-
-pub window_moves : {X : Type 0} (paths done rest : List X) (n : ℕ) → paths ≡ done ++ rest → paths ≡ (done ++ take n rest) ++ take (length rest - n) (drop n rest)
-window_moves paths done rest n e =
-    let c = length-drop n rest in
-    e ∙ ap (λ xs. done ++ xs) (sym (take-append-drop n rest)) ∙ sym (append_assoc done (take n rest) (drop n rest))
-    ∙ ap (λ xs. (done ++ take n rest) ++ xs) (sym (take_all (length rest - n) (drop n rest) (omega (arith, c))))

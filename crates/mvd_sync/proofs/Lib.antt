@@ -2,6 +2,7 @@ pub mod Positions
 pub mod Keys
 pub mod Below
 pub mod Nodes
+pub mod Opening
 pub mod Descents
 pub mod Pages
 pub mod Rest
@@ -16,11 +17,14 @@ pub mod Nexts
 pub mod Gone
 pub mod Bucket
 pub mod Through
+pub mod Walked
+pub mod WalkedOn
 pub mod HeldFew
 pub mod Walks
 pub mod Descending
 pub mod Answering
 pub mod ToldPages
+pub mod Paging
 pub mod Window
 pub mod Counting
 pub mod Carrying

@@ -266,7 +266,6 @@ module _ {L P : Type 0} (l : SideOf L) (p : SideOf P)
       (all_few x2 second left3 local3 peer3 e3 (Ok x3) third)
 
 -- buckets by the names that a session has for them
-pub over_at : {L P A : Type 0} (l : SideOf L) (p : SideOf P) (qs ps : List (List ℕ)) (left left' : Questions) (local local' : L) (peer peer' : P) (e f after : Exchanging) (result : Result A SyncFault) → qs ≡ ps → e ≡ f
-    → GoesOverBy l p qs (length qs) left left' local local' peer peer' e after result → GoesOverBy l p ps (length ps) left left' local local' peer peer' f after result
-over_at l p qs ps left left' local local' peer peer' e f after result same start h =
-    subst (λ x. GoesOverBy l p ps (length ps) left left' local local' peer peer' x after result) start (subst (λ xs. GoesOverBy l p xs (length xs) left left' local local' peer peer' e after result) same h)
+pub over_at : {L P A : Type 0} (l : SideOf L) (p : SideOf P) (ps : List (List ℕ)) (left left' : Questions) (local local' : L) (peer peer' : P) (e f after : Exchanging) (result : Result A SyncFault) → e ≡ f
+    → GoesOverBy l p ps (length ps) left left' local local' peer peer' e after result → GoesOverBy l p ps (length ps) left left' local local' peer peer' f after result
+over_at l p ps left left' local local' peer peer' e f after result start h = subst (λ x. GoesOverBy l p ps (length ps) left left' local local' peer peer' x after result) start h

@@ -1,5 +1,5 @@
 -- Buckets after buckets.
-use Rattle.std.proofs.Common.{◌≡◌, ◌≢◌, inl, inr, ℕ, zero, suc, ◌+◌, ◌<◌, ◌≤◌, true, false, ◌||◌, List, [], ◌∷◌, ◌++◌, get_or, length, refl, sym, ap, subst, ◌∙◌, arith, None, Option, length-append, append_assoc, true≢false}
+use Rattle.std.proofs.Common.{◌≡◌, ◌≢◌, inl, inr, ℕ, ◌+◌, ◌≤◌, true, false, ◌||◌, List, [], ◌∷◌, ◌++◌, length, refl, sym, ap, subst, ◌∙◌, arith, None, Option, length-append, append_assoc, true≢false}
 use Rattle.std.specs.Prelude.{IsTrue, Result, Ok, Err, MatchResult}
 use Rattle.std.specs.FinMap.{get}
 use Rattle.std.specs.Ordering.{nat_cmp, eq_by_cmp}
@@ -9,9 +9,9 @@ use Rattle.std.proofs.lemmas.List.Folds.{list_any-append}
 use Rattle.mvd_keys.specs.Writes.{Key}
 use Rattle.mvd_site.specs.Answer.{digests}
 use Rattle.mvd_site.specs.Held.{States}
-use Rattle.mvd_tree.specs.HashTree.{KeyDigests, is_under, path_of_key}
+use Rattle.mvd_tree.specs.HashTree.{is_under, path_of_key}
 use Rattle.mvd_sync.specs.Questions.{with_left}
-use Rattle.mvd_sync.specs.Answers.{IsPageOf, ListingValue}
+use Rattle.mvd_sync.specs.Answers.{ListingValue}
 use Rattle.mvd_sync.specs.Buckets.{AreElsewhere, ArePages, held_in}
 use Rattle.mvd_sync.specs.Exchanges.{AreNext, Done, Exchanging, keys_done, keys_next}
 use Rattle.mvd_sync.specs.Nodes.{has_below}
@@ -328,14 +328,6 @@ module _ {L P : Type 0} (l : SideOf L) (p : SideOf P)
           ends = joins_some (l.most_keys local) (p.most_keys peer) a b (l.states local') (p.states peer') before.number (l.is_faithful local') (p.is_faithful peer') done here;
         };
   }
-
--- ---- one bucket of several
-
-pub page_at : (held : KeyDigests) (paths : List (List ℕ)) (pages : List ListingValue) (i : ℕ) (path : List ℕ) (page : ListingValue) → ArePages held paths pages → i < length paths → path ≡ get_or paths i path → page ≡ get_or pages i page → ArePages held (path ∷ []) (page ∷ [])
-page_at held [] pages i path page h low e f = absurd (omega (arith, low))
-page_at held (q ∷ paths) [] i path page h low e f = absurd h
-page_at held (q ∷ paths) (x ∷ pages) zero path page h low e f = (subst (λ x. IsPageOf held path None x.0 x.1) (sym f) (subst (λ q. IsPageOf held q None x.0 x.1) (sym e) h.0), tt)
-page_at held (q ∷ paths) (x ∷ pages) (suc i) path page h low e f = page_at held paths pages i path page h.1 (omega (arith, low)) e f
 
 -- ---- cut off by a fault
 

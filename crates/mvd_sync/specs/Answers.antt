@@ -1,7 +1,8 @@
 -- What a session has of a side's pages.
 use Rattle.std.specs.declared.cmp.Ordering.{Ordering}
 use Rattle.std.specs.declared.cmp.Ordering.TheVariants.{Less, Greater}
-use Rattle.std.specs.Prelude.{IsTrue, ◌↔◌, ◌≢◌, ◌≡◌, ℕ, Bool, true, false, List, [], ◌∷◌, ◌++◌, Option, Some, None}
+use Rattle.std.specs.Prelude.{IsTrue, ◌↔◌, ◌≢◌, ◌≡◌, ◌==◌, ◌&&◌, ℕ, Bool, true, false, List, [], ◌∷◌, ◌++◌, length}
+use Rattle.std.specs.Prelude.{Option, Some, None}
 use Rattle.std.specs.FinMap.{entries}
 use Rattle.mvd_keys.specs.Key.{key_cmp}
 use Rattle.mvd_keys.specs.Writes.{Key}
@@ -17,6 +18,10 @@ PageEntry = Key × List ℕ
 -- what is left of a page, and whether the bucket goes on after it
 abbrev pub ListingValue : Type 0
 ListingValue = List PageEntry × Bool
+
+-- whether no entry is left, and the bucket goes on
+abbrev pub is_spent : ListingValue → Bool
+is_spent listing = (length listing.0 == 0) && listing.1
 
 -- the keys of a page strictly rise, from after a key on
 abbrev pub Rises : Option (List ℕ) → List PageEntry → Type 0

@@ -8,6 +8,7 @@ pub mod Questions
 pub mod Made
 pub mod Exchanges
 pub mod Buckets
+pub mod Walking
 pub mod Meetings
 pub mod Carries
 pub mod OneTurn

@@ -1,6 +1,6 @@
 -- Questions to a side, of which no more are made than are left.
 use Rattle.std.specs.Prelude.{◌≡◌, ◌≢◌, ◌<◌, ◌≤◌, ◌+◌, ℕ, false, true, List, [], length, sum_by, take, ◌^◌}
-use Rattle.std.specs.Prelude.{Option, Result, Ok, Err}
+use Rattle.std.specs.Prelude.{Option, None, Result, Ok, Err}
 use Rattle.mvd_dots.specs.declared.refusals.Refusal.{Refusal}
 use Rattle.mvd_dots.specs.declared.refusals.Refusal.TheVariants.{Broken}
 use Rattle.mvd_keys.specs.State.{State}
@@ -11,7 +11,7 @@ use Rattle.mvd_wire.specs.Codecs.{spell_state}
 use Rattle.mvd_site.specs.Answer.{digests}
 use Rattle.mvd_sync.specs.Answers.{IsPage, IsPageOf, ListingValue}
 use Rattle.mvd_sync.specs.Faults.{Blames}
-use Rattle.mvd_peer.specs.Sides.{SideOf, is_of_key, is_of_question}
+use Rattle.mvd_peer.specs.Sides.{HasAnswered, SideOf, is_of_key, is_of_question}
 use Rattle.mvd_peer.specs.Windows.{ForEach, Pushes, PushesFirst}
 use Rattle.mvd_sync.specs.declared.asking.Node.{Node}
 
@@ -82,15 +82,14 @@ pub record TakesInFirst {S : Type 0} (s : SideOf S) (pairs : List (Key × State)
 
 -- ---- a listing
 
--- A page of a bucket after a key was asked for
-pub record Fetches {S : Type 0} (s : SideOf S) (path : List ℕ) (after : Option Key) (listing : ListingValue)
-    (old new : OneAsking S) : Type 0 where
-  pub spent : old.left ≡ new.left + 1
-  pub follows : s.follows 1 old.at new.at
-  pub page : IsPage after listing.0 listing.1
-  pub short : length listing.0 < 2 ^ 64
-  pub kept : s.is_faithful old.at → Keeps s old.at new.at
-  pub right : s.is_faithful old.at → IsPageOf (digests (s.states old.at)) path after listing.0 listing.1
+-- the pages of buckets that were asked for were told, each in form
+abbrev pub TellsPages : {S : Type 0} → SideOf S → List (List ℕ × Option Key) → List ListingValue
+    → (old new : OneAsking S) → Type 0
+TellsPages s asked pages old new =
+    AllAnswered s (λ q page. IsPage None page.0 page.1 × (length page.0 < 2 ^ 64)
+    × HasAnswered s.follows s.can_answer old.at new.at)
+    (AnswersEach s (λ q page. IsPageOf (digests (s.states old.at)) q.0 q.1 page.0 page.1) asked pages old.at new.at)
+    asked pages old new
 
 -- A listing of the keys of a bucket after a key was filled, by a question more where it had come to its end and there
 -- are more

@@ -3,10 +3,9 @@ ghost use Rattle.std.specs.Prelude.{◌≡◌, ◌+◌, ◌-◌, ◌<◌, ◌≤
 ghost use Rattle.std.specs.Prelude.{◌⊎◌, ◌++◌, All, Contains, Some, None, min};
 ghost use Rattle.mvd_site.specs.Answer.{digests};
 ghost use Rattle.mvd_site.specs.Held.{state_at};
-ghost use Rattle.mvd_sync.specs.Answers.{IsPage, IsPageOf};
 ghost use Rattle.mvd_sync.specs.Made.{ReadsAll};
 ghost use Rattle.mvd_sync.specs.Questions.{AllAnswered, AnswersEach, ComesToEnd, IsInner, IsOfKey, IsWindow};
-ghost use Rattle.mvd_sync.specs.Questions.{Keeps, Takes, with_left, push_bytes};
+ghost use Rattle.mvd_sync.specs.Questions.{Keeps, Takes, TellsPages, with_left, push_bytes};
 ghost use Rattle.mvd_peer.specs.PushedStates.{Each};
 ghost use Rattle.mvd_peer.specs.PeerSides.{side_of};
 ghost use Rattle.mvd_peer.specs.Sides.{HasAnswered, is_of_key};
@@ -48,14 +47,6 @@ pub fn are_all(taken: usize, wanted: usize) -> Result<(), Refusal>
         return Err(Refusal::TooManyRequests);
     }
     Ok(())
-}
-
-/// Takes one question, if one is left.
-pub fn take_one(left: &mut u64) -> Result<(), Refusal>
-    ensures taken { OnOk result (left.old ≡ left.new + 1) }
-    ensures none { IfErr result (λ refusal. (refusal ≡ Refusal.TooManyRequests) × (left.old ≡ 0) × (left.new ≡ 0)) }
-{
-    are_all(take(left, 1), 1)
 }
 
 /// A node above the buckets.
@@ -124,7 +115,7 @@ pub fn ask_nodes<P: Peer>(
     read_all(side.alloc(), told, taken, paths.len())
 }
 
-/// The first pages of buckets; keys that do not rise, or more without a key, are 33.
+/// Pages of buckets; keys that do not rise, or more without a key, are 33.
 pub fn ask_pages<P: Peer>(
     side: &mut P,
     left: &mut u64,
@@ -133,11 +124,7 @@ pub fn ask_pages<P: Peer>(
     requires { Each (λ q. length q.0 ≡ 3) asked.now }
     ensures told { let s = side_of P.Peer in
         IfOk result
-        (λ pages. AllAnswered s (λ q page. IsPage None page.0 page.1 × (length page.0 < 2 ^ 64)
-        × HasAnswered P.follows P.can_answer side.old side.new)
-        (AnswersEach s (λ q page. IsPageOf (digests (P.states side.old)) q.0 q.1 page.0 page.1)
-        asked.now pages.items side.old side.new)
-        asked.now pages.items (with_left side.old left.old) (with_left side.new left.new)) }
+        (λ pages. TellsPages s asked.now pages.items (with_left side.old left.old) (with_left side.new left.new)) }
     ensures ended { let s = side_of P.Peer in
         IfErr result
         (ComesToEnd s (Keeps s side.old side.new) (length asked.now) (with_left side.old left.old) side.new) }

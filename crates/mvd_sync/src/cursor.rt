@@ -2,17 +2,14 @@
 ghost use Rattle.std.specs.Prelude.{◌≡◌, ◌+◌, ◌-◌, ◌*◌, [], ◌∷◌, length, IfOk, IfErr, IfSome, IfNone, OnSome};
 ghost use Rattle.std.specs.Prelude.{None, ◌<◌, ◌^◌, OnOk, OnErr, MatchOption, option_copied, true, IsTrue, ◌↔◌};
 ghost use Rattle.mvd_tree.specs.Page.{is_after};
-ghost use Rattle.mvd_sync.specs.Answers.{IsPage, Rises, TakesLesser, order_of_first};
-ghost use Rattle.mvd_sync.specs.Questions.{ComesToEnd, Fetches, Fills, Keeps, with_left};
-ghost use Rattle.mvd_peer.specs.PeerSides.{side_of};
+ghost use Rattle.mvd_sync.specs.Answers.{IsPage, Rises, StartsAfter, TakesLesser, is_spent, order_of_first};
 ghost use Rattle.mvd_peer.specs.Sides.{two};
 
-use crate::asking::take_one;
 use crate::levels::is_same;
 use crate::made::Made;
 use mvd_dots::Refusal;
-use mvd_keys::{Key, Path};
-use mvd_peer::{Page, Peer};
+use mvd_keys::Key;
+use mvd_peer::Page;
 use std::cmp::Ordering;
 use std::marker::Model;
 
@@ -51,11 +48,11 @@ fn comes_after(last: Option<&Key>, key: &Key) -> bool
     }
 }
 
-/// Whether the keys of a page strictly rise from a key on.
-fn rises(after: Option<&Key>, page: &[(Key, [u8; 32])]) -> bool
-    ensures { IsTrue result ↔ Rises (option_copied after.entry) page.now }
+/// Whether the keys of a page strictly rise.
+fn rises(page: &[(Key, [u8; 32])]) -> bool
+    ensures { IsTrue result ↔ Rises None page.now }
 {
-    let mut last = after;
+    let mut last = None;
     for (key, _) in page {
         if !comes_after(last, key) {
             return false;
@@ -66,16 +63,16 @@ fn rises(after: Option<&Key>, page: &[(Key, [u8; 32])]) -> bool
 }
 
 impl Listing {
-    /// A page that comes after a key. Keys that do not rise, or more without a key, are 33.
-    pub fn of_page(after: Option<&Key>, page: Page) -> Result<Self, Refusal>
+    /// A page. Keys that do not rise, or more without a key, are 33.
+    pub fn of_page(page: Page) -> Result<Self, Refusal>
         ensures page { IfOk result (λ listing. listing ≡ (page.0.items, page.1)) }
-        ensures rises { IfOk result (λ listing. IsPage (option_copied after.entry) listing.0 listing.1) }
+        ensures rises { IfOk result (λ listing. IsPage None listing.0 listing.1) }
         ensures bad { IfErr result (λ refusal. (refusal ≡ Refusal.BadBody)
-            × (IsPage (option_copied after.entry) page.0.items page.1 → ⊥)) }
+            × (IsPage None page.0.items page.1 → ⊥)) }
         ensures length { IfOk result (λ page. length page.0 < 2 ^ 64) }
     {
         let (mut page, more) = page;
-        if !rises(after, page.as_slice()) {
+        if !rises(page.as_slice()) {
             return Err(Refusal::BadBody);
         }
         if more && page.is_empty() {
@@ -85,64 +82,20 @@ impl Listing {
         Ok(Listing { page, more })
     }
 
-    /// The page of a bucket that comes after a key. Keys that do not rise, or more without a key, are 33.
-    fn fetch<P: Peer>(
-        side: &mut P,
-        left: &mut u64,
-        path: &Path,
-        after: Option<&Key>,
-    ) -> Result<Self, Refusal>
-        requires { length path.now ≡ 3 }
-        ensures told { let s = side_of P.Peer in
-            IfOk result
-            (λ listing. Fetches s path.now (option_copied after.entry) listing
-            (with_left side.old left.old) (with_left side.new left.new)) }
-        ensures ended { let s = side_of P.Peer in
-            IfErr result (ComesToEnd s (Keeps s side.old side.new) 1 (with_left side.old left.old) side.new) }
-    {
-        match take_one(left) {
-            Ok(()) => {}
-            Err(refusal) => return Err(refusal),
-        }
-        match side.bucket(path, after) {
-            Ok(page) => Listing::of_page(after, page),
-            Err(refusal) => Err(refusal),
-        }
-    }
-
     /// Whether no entry is left, and the bucket goes on.
-    fn is_spent(&self) -> bool
-        ensures { IsTrue result ↔ ((self.now.0 ≡ []) × (self.now.1 ≡ true)) }
+    pub fn is_spent(&self) -> bool
+        ensures { result ≡ is_spent self.now }
     {
         self.page.is_empty() && self.more
     }
 
-    /// Makes sure that an entry is there, unless none is left.
-    pub fn fill<P: Peer>(
-        &mut self,
-        side: &mut P,
-        left: &mut u64,
-        path: &Path,
-        after: Option<&Key>,
-    ) -> Result<(), Refusal>
-        requires { length path.now ≡ 3 }
-        ensures filled { let s = side_of P.Peer in
-            OnOk result
-            (Fills s path.now (option_copied after.entry) self.old self.new
-            (with_left side.old left.old) (with_left side.new left.new)) }
-        ensures ended { let s = side_of P.Peer in
-            IfErr result (ComesToEnd s (Keeps s side.old side.new) 1 (with_left side.old left.old) side.new) }
-        ensures needed { OnErr result ((self.old.0 ≡ []) × (self.old.1 ≡ true)) }
+    /// Whether its first entry, if one is there, comes after a key.
+    pub fn starts_after(&self, key: &Key) -> bool
+        ensures { IsTrue result ↔ StartsAfter key.now self.now.0 }
     {
-        if !self.is_spent() {
-            return Ok(());
-        }
-        match Listing::fetch(side, left, path, after) {
-            Ok(listing) => {
-                *self = listing;
-                Ok(())
-            }
-            Err(refusal) => Err(refusal),
+        match self.page.last() {
+            Some((first, _)) => key.cmp(first).is_lt(),
+            None => true,
         }
     }
 
@@ -175,7 +128,7 @@ impl Made<Page> for Listing {
     ghost is_none = { λ page. IsPage None page.0.items page.1 → ⊥ };
 
     fn made(answer: Page) -> Result<Self, Refusal> {
-        Listing::of_page(None, answer)
+        Listing::of_page(answer)
     }
 }
 

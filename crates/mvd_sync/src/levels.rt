@@ -93,7 +93,7 @@ fn root(alloc: Global) -> Result<Vec<Path>, Refusal>
 }
 
 /// The first of these nodes, at most so many as are asked for at once.
-fn first_of(rest: &[Path]) -> &[Path]
+pub fn first_of(rest: &[Path]) -> &[Path]
     ensures { result.now ≡ take 64 rest.now }
 {
     if rest.len() <= WINDOW {

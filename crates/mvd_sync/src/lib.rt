@@ -12,6 +12,7 @@ mod old;
 pub mod report;
 pub mod session;
 mod turn;
+mod walking;
 
 pub use report::{Left, Report, Side, SyncFault};
 pub use session::{MOST_QUESTIONS, sync, sync_within};

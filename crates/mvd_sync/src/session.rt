@@ -39,7 +39,7 @@ pub fn sync_within<L: Peer, P: Peer>(
         Err(fault) => return Err(fault),
     };
     let mut exchanging = Exchange::new(alloc, number);
-    match exchange_buckets(alloc, local, peer, &mut left, &paths, &mut exchanging) {
+    match exchange_buckets(alloc, local, peer, &mut left, paths, &mut exchanging) {
         Ok(()) => {}
         Err(fault) => return Err(fault),
     }

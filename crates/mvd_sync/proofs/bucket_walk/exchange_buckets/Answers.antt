@@ -1,65 +1,144 @@
-use Rattle.std.proofs.Common.{◌≡◌, ℕ, List, ◌+◌, [], ◌++◌, length, take, drop, refl, sym, ap, subst, ◌∙◌, length-append, append_assoc, append-nil}
-use Rattle.std.specs.Prelude.{Ok, Err}
-use Rattle.std.specs.Cmp.{unsigned_Decides}
-use Rattle.std.proofs.lemmas.List.{take-append-drop}
-use Rattle.mvd_site.specs.Held.{States}
-use Rattle.mvd_peer.specs.PushedStates.{Each}
+use Rattle.std.proofs.Common.{Some, None, sym, subst, arith}
 use Rattle.mvd_peer.specs.PeerSides.{side_of}
-use Rattle.mvd_sync.proofs.Descents.{Each-right, Each-take}
-use Rattle.mvd_sync.proofs.Fails.{window_moves}
-use Rattle.mvd_sync.proofs.Pages.{no_entries}
-use Rattle.mvd_sync.proofs.Through.{through_cut, through_none, through_on}
-use Rattle.mvd_sync.proofs.Positions.{GoesThroughBy}
+use Rattle.mvd_peer.specs.Sides.{two}
+use Rattle.mvd_sync.specs.Exchanges.{moment}
+use Rattle.mvd_sync.specs.Session.{asking}
+use Rattle.mvd_sync.proofs.Walked.{Walked, found_ends, found_settles, later_at, quiet_if, walk_amid, walk_begins, walk_done, walk_goes, walk_never, walk_stops}
+use Rattle.mvd_sync.proofs.WalkedOn.{asks_deep, asks_some, told_less, walk_ends, walk_told}
 use Rattle.mvd_sync.proofs.bucket_walk.exchange_buckets.Goals as goal
-
-pub loop-rest-init : goal.loop-rest-init
-loop-rest-init g c =
-    let l = side_of g.L.Peer in
-    let p = side_of g.P.Peer in
-    ([], refl, through_none l p (λ a b. Unit {0}) g.met.L.Peer.follows_self g.met.P.Peer.follows_self c.args.left.now c.args.local.now c.args.peer.now c.args.exchange.now)
 
 pub returns-in-Err : goal.returns-in-Err
 returns-in-Err g c =
     let l = side_of g.L.Peer in
     let p = side_of g.P.Peer in
-    let at = c.loop-rest.invariant in
-    let done = at.0 in
-    let n = c.min-count.result in
-    let window = take n c.loop-rest.rest.now in
-    let Told : States → States → Type 0 = λ a b. Unit {0} in
-    let more = through_on l p g.met.L.Peer.follows_on g.met.P.Peer.follows_on g.met.L.Peer.most_stays g.met.P.Peer.most_stays Told Told (λ a b told. told) done window (length done) (length window) c.args.left.now c.loop-rest.left c.exchange_window.new.left c.args.local.now c.loop-rest.local c.exchange_window.new.local c.args.peer.now c.loop-rest.peer c.exchange_window.new.peer c.args.exchange.now c.loop-rest.exchange c.exchange_window.new.exchange (Err c.in-Err.fault) at.2 c.in-Err.ensures in
-    let later = drop n c.loop-rest.rest.now in
-    let all : (done ++ window) ++ later ≡ c.args.paths.now = append_assoc done window later ∙ ap (λ xs. done ++ xs) (take-append-drop n c.loop-rest.rest.now) ∙ sym at.1 in
-    let long : (length done + length window) + length later ≡ length c.args.paths.now = ap (λ k. k + length later) (sym (length-append done window)) ∙ sym (length-append (done ++ window) later) ∙ ap length all in
-    subst (λ k. GoesThroughBy {A = Unit {0}} l p Told c.args.paths.now k c.args.left.now c.exchange_window.new.left c.args.local.now c.exchange_window.new.local c.args.peer.now c.exchange_window.new.peer c.args.exchange.now c.exchange_window.new.exchange (Err c.in-Err.fault)) long
-    (subst (λ qs. GoesThroughBy {A = Unit {0}} l p Told qs ((length done + length window) + length later) c.args.left.now c.exchange_window.new.left c.args.local.now c.exchange_window.new.local c.args.peer.now c.exchange_window.new.peer c.args.exchange.now c.exchange_window.new.exchange (Err c.in-Err.fault)) all
-    (through_cut l p Told (done ++ window) later (length done + length window) (length later) c.args.left.now c.exchange_window.new.left c.args.local.now c.exchange_window.new.local c.args.peer.now c.exchange_window.new.peer c.args.exchange.now c.exchange_window.new.exchange c.in-Err.fault more))
+    walk_never l p g.met.L.Peer.follows_on g.met.P.Peer.follows_on g.met.L.Peer.most_stays g.met.P.Peer.most_stays g.met.L.Peer.follows_self g.met.P.Peer.follows_self c.args.paths.items (moment c.args.local.now c.args.peer.now c.args.left.now c.args.exchange.now) c.in-Err.refusal c.in-Err.ensures.memory
 
-pub loop-rest-preserved : goal.loop-rest-preserved
-loop-rest-preserved g c =
+pub loop-walk-init : goal.loop-walk-init
+loop-walk-init g c =
     let l = side_of g.L.Peer in
     let p = side_of g.P.Peer in
-    let at = c.loop-rest.invariant in
-    let done = at.0 in
-    let n = c.min-count.result in
-    let window = take n c.loop-rest.rest.now in
-    let Told : States → States → Type 0 = λ a b. Unit {0} in
-    let more = through_on l p g.met.L.Peer.follows_on g.met.P.Peer.follows_on g.met.L.Peer.most_stays g.met.P.Peer.most_stays Told Told (λ a b told. told) done window (length done) (length window) c.args.left.now c.loop-rest.left c.exchange_window.new.left c.args.local.now c.loop-rest.local c.exchange_window.new.local c.args.peer.now c.loop-rest.peer c.exchange_window.new.peer c.args.exchange.now c.loop-rest.exchange c.exchange_window.new.exchange (Ok (tt {0})) at.2 c.in-Ok.ensures in (
-      done ++ window,
-      window_moves c.args.paths.now done c.loop-rest.rest.now n at.1,
-      subst (λ k. GoesThroughBy l p Told (done ++ window) k c.args.left.now c.exchange_window.new.left c.args.local.now c.exchange_window.new.local c.args.peer.now c.exchange_window.new.peer c.args.exchange.now c.exchange_window.new.exchange (Ok (tt {0}))) (sym (length-append done window)) more,
-    )
+    let now = moment c.args.local.now c.args.peer.now c.args.left.now c.args.exchange.now in
+    subst (Walked l p c.args.paths.items now now) (sym c.in-Ok.ensures.begins)
+    (walk_begins l p g.met.L.Peer.follows_on g.met.P.Peer.follows_on g.met.L.Peer.most_stays g.met.P.Peer.most_stays g.met.L.Peer.follows_self g.met.P.Peer.follows_self c.args.paths.items now)
+
+pub tell-requires-clause-local_deep : goal.tell-requires-clause-local_deep
+tell-requires-clause-local_deep g c =
+    let l = side_of g.L.Peer in
+    let p = side_of g.P.Peer in
+    (asks_deep l p c.args.paths.items (moment c.args.local.now c.args.peer.now c.args.left.now c.args.exchange.now) (moment c.loop-walk.local c.loop-walk.peer c.loop-walk.left c.loop-walk.exchange) c.loop-walk.walk c.requires.deep c.loop-walk.invariant).0
+
+pub tell-requires-clause-peer_deep : goal.tell-requires-clause-peer_deep
+tell-requires-clause-peer_deep g c =
+    let l = side_of g.L.Peer in
+    let p = side_of g.P.Peer in
+    (asks_deep l p c.args.paths.items (moment c.args.local.now c.args.peer.now c.args.left.now c.args.exchange.now) (moment c.loop-walk.local c.loop-walk.peer c.loop-walk.left c.loop-walk.exchange) c.loop-walk.walk c.requires.deep c.loop-walk.invariant).1
+
+pub loop-walk-smaller-in-Ok-settle : goal.loop-walk-smaller-in-Ok-settle
+loop-walk-smaller-in-Ok-settle g c =
+    let l = side_of g.L.Peer in
+    let p = side_of g.P.Peer in
+    let begin = moment c.args.local.now c.args.peer.now c.args.left.now c.args.exchange.now in
+    let now = moment c.loop-walk.local c.loop-walk.peer c.loop-walk.left c.loop-walk.exchange in
+    let told = rw c.in-Ok-Some.field-0-is at c.in-Ok-Some.ensures.told in
+    let some = asks_some l p c.args.paths.items begin now c.loop-walk.walk c.requires.deep c.loop-walk.invariant (c.asks.ensures.0 c.if-asks.true) in
+    let spent = c.in-Ok-settle.ensures.goes.spent in
+    told_less l p c.loop-walk.walk (Some c.in-Ok-Some.entry) c.tell.new.walk now.now (asking c.tell.new.local c.tell.new.peer c.tell.new.left) c.settle.new.left told some (omega (arith, spent))
+
+pub loop-walk-preserved-in-Ok-settle : goal.loop-walk-preserved-in-Ok-settle
+loop-walk-preserved-in-Ok-settle g c =
+    let l = side_of g.L.Peer in
+    let p = side_of g.P.Peer in
+    let begin = moment c.args.local.now c.args.peer.now c.args.left.now c.args.exchange.now in
+    let now = moment c.loop-walk.local c.loop-walk.peer c.loop-walk.left c.loop-walk.exchange in
+    let told = rw c.in-Ok-Some.field-0-is at c.in-Ok-Some.ensures.told in
+    let asked = asking c.tell.new.local c.tell.new.peer c.tell.new.left in
+    let found = walk_told l p g.met.L.Peer.follows_on g.met.P.Peer.follows_on g.met.L.Peer.most_stays g.met.P.Peer.most_stays g.met.L.Peer.follows_self g.met.P.Peer.follows_self c.args.paths.items begin now c.loop-walk.walk told.mine told.theirs asked (Some c.in-Ok-Some.entry) c.tell.new.walk c.loop-walk.invariant told.pages told.is in
+    found_settles l p g.met.L.Peer.follows_on g.met.P.Peer.follows_on g.met.L.Peer.most_stays g.met.P.Peer.most_stays g.met.L.Peer.follows_self g.met.P.Peer.follows_self c.args.paths.items begin (later_at l p now asked) (moment c.settle.new.local c.settle.new.peer c.settle.new.left c.settle.new.exchange) c.in-Ok-Some.entry c.tell.new.walk found c.in-Ok-settle.ensures
+
+pub returns-in-Err-settle : goal.returns-in-Err-settle
+returns-in-Err-settle g c =
+    let l = side_of g.L.Peer in
+    let p = side_of g.P.Peer in
+    let begin = moment c.args.local.now c.args.peer.now c.args.left.now c.args.exchange.now in
+    let now = moment c.loop-walk.local c.loop-walk.peer c.loop-walk.left c.loop-walk.exchange in
+    let told = rw c.in-Ok-Some.field-0-is at c.in-Ok-Some.ensures.told in
+    let asked = asking c.tell.new.local c.tell.new.peer c.tell.new.left in
+    let found = walk_told l p g.met.L.Peer.follows_on g.met.P.Peer.follows_on g.met.L.Peer.most_stays g.met.P.Peer.most_stays g.met.L.Peer.follows_self g.met.P.Peer.follows_self c.args.paths.items begin now c.loop-walk.walk told.mine told.theirs asked (Some c.in-Ok-Some.entry) c.tell.new.walk c.loop-walk.invariant told.pages told.is in
+    found_ends l p g.met.L.Peer.follows_on g.met.P.Peer.follows_on g.met.L.Peer.most_stays g.met.P.Peer.most_stays g.met.L.Peer.follows_self g.met.P.Peer.follows_self c.args.paths.items begin (later_at l p now asked) (moment c.settle.new.local c.settle.new.peer c.settle.new.left c.settle.new.exchange) c.in-Ok-Some.entry c.tell.new.walk c.in-Err-settle.fault found c.in-Err-settle.ensures
+
+pub loop-walk-smaller-in-Ok-None : goal.loop-walk-smaller-in-Ok-None
+loop-walk-smaller-in-Ok-None g c =
+    let l = side_of g.L.Peer in
+    let p = side_of g.P.Peer in
+    let begin = moment c.args.local.now c.args.peer.now c.args.left.now c.args.exchange.now in
+    let now = moment c.loop-walk.local c.loop-walk.peer c.loop-walk.left c.loop-walk.exchange in
+    let told = rw c.in-Ok-None.field-0-is at c.in-Ok-None.ensures.told in
+    let some = asks_some l p c.args.paths.items begin now c.loop-walk.walk c.requires.deep c.loop-walk.invariant (c.asks.ensures.0 c.if-asks.true) in
+    told_less l p c.loop-walk.walk None c.tell.new.walk now.now (asking c.tell.new.local c.tell.new.peer c.tell.new.left) c.tell.new.left told some (omega arith)
+
+pub loop-walk-preserved-in-Ok-None : goal.loop-walk-preserved-in-Ok-None
+loop-walk-preserved-in-Ok-None g c =
+    let l = side_of g.L.Peer in
+    let p = side_of g.P.Peer in
+    let begin = moment c.args.local.now c.args.peer.now c.args.left.now c.args.exchange.now in
+    let now = moment c.loop-walk.local c.loop-walk.peer c.loop-walk.left c.loop-walk.exchange in
+    let told = rw c.in-Ok-None.field-0-is at c.in-Ok-None.ensures.told in
+    let asked = asking c.tell.new.local c.tell.new.peer c.tell.new.left in
+    walk_told l p g.met.L.Peer.follows_on g.met.P.Peer.follows_on g.met.L.Peer.most_stays g.met.P.Peer.most_stays g.met.L.Peer.follows_self g.met.P.Peer.follows_self c.args.paths.items begin now c.loop-walk.walk told.mine told.theirs asked None c.tell.new.walk c.loop-walk.invariant told.pages told.is
+
+pub returns-in-Err-tell : goal.returns-in-Err-tell
+returns-in-Err-tell g c =
+    let l = side_of g.L.Peer in
+    let p = side_of g.P.Peer in
+    let begin = moment c.args.local.now c.args.peer.now c.args.left.now c.args.exchange.now in
+    let now = moment c.loop-walk.local c.loop-walk.peer c.loop-walk.left c.loop-walk.exchange in
+    walk_ends l p g.met.L.Peer.follows_on g.met.P.Peer.follows_on g.met.L.Peer.most_stays g.met.P.Peer.most_stays g.met.L.Peer.follows_self g.met.P.Peer.follows_self c.args.paths.items begin now c.loop-walk.walk (two c.tell.new.local c.tell.new.peer) c.tell.new.left c.in-Err-tell.fault c.loop-walk.invariant (c.asks.ensures.0 c.if-asks.true) c.in-Err-tell.ensures.ended
+
+pub loop-walk-preserved-in-Ok-settle-2 : goal.loop-walk-preserved-in-Ok-settle-2
+loop-walk-preserved-in-Ok-settle-2 g c =
+    let l = side_of g.L.Peer in
+    let p = side_of g.P.Peer in
+    let begin = moment c.args.local.now c.args.peer.now c.args.left.now c.args.exchange.now in
+    let now = moment c.loop-walk.local c.loop-walk.peer c.loop-walk.left c.loop-walk.exchange in
+    let amid = walk_amid l p g.met.L.Peer.follows_on g.met.P.Peer.follows_on g.met.L.Peer.most_stays g.met.P.Peer.most_stays g.met.L.Peer.follows_self g.met.P.Peer.follows_self c.args.paths.items begin now c.loop-walk.walk c.loop-walk.invariant (λ end. let t = c.is_done.ensures.1 end in let f = c.loop-walk-test.true in absurd (cc)) (quiet_if c.asks.result _ c.asks.ensures c.if-asks.false) in
+    let goes = rw c.in-Ok-Some-next.field-0-is at c.in-Ok-Some-next.ensures.goes in
+    let found = walk_goes l p g.met.L.Peer.follows_on g.met.P.Peer.follows_on g.met.L.Peer.most_stays g.met.P.Peer.most_stays g.met.L.Peer.follows_self g.met.P.Peer.follows_self c.args.paths.items begin now c.loop-walk.walk (Some c.in-Ok-Some-next.entry) c.next.new.self c.loop-walk.invariant amid.1 goes in
+    found_settles l p g.met.L.Peer.follows_on g.met.P.Peer.follows_on g.met.L.Peer.most_stays g.met.P.Peer.most_stays g.met.L.Peer.follows_self g.met.P.Peer.follows_self c.args.paths.items begin now (moment c.settle-in-Ok-Some-next.new.local c.settle-in-Ok-Some-next.new.peer c.settle-in-Ok-Some-next.new.left c.settle-in-Ok-Some-next.new.exchange) c.in-Ok-Some-next.entry c.next.new.self found c.in-Ok-settle-2.ensures
+
+pub returns-in-Err-settle-2 : goal.returns-in-Err-settle-2
+returns-in-Err-settle-2 g c =
+    let l = side_of g.L.Peer in
+    let p = side_of g.P.Peer in
+    let begin = moment c.args.local.now c.args.peer.now c.args.left.now c.args.exchange.now in
+    let now = moment c.loop-walk.local c.loop-walk.peer c.loop-walk.left c.loop-walk.exchange in
+    let amid = walk_amid l p g.met.L.Peer.follows_on g.met.P.Peer.follows_on g.met.L.Peer.most_stays g.met.P.Peer.most_stays g.met.L.Peer.follows_self g.met.P.Peer.follows_self c.args.paths.items begin now c.loop-walk.walk c.loop-walk.invariant (λ end. let t = c.is_done.ensures.1 end in let f = c.loop-walk-test.true in absurd (cc)) (quiet_if c.asks.result _ c.asks.ensures c.if-asks.false) in
+    let goes = rw c.in-Ok-Some-next.field-0-is at c.in-Ok-Some-next.ensures.goes in
+    let found = walk_goes l p g.met.L.Peer.follows_on g.met.P.Peer.follows_on g.met.L.Peer.most_stays g.met.P.Peer.most_stays g.met.L.Peer.follows_self g.met.P.Peer.follows_self c.args.paths.items begin now c.loop-walk.walk (Some c.in-Ok-Some-next.entry) c.next.new.self c.loop-walk.invariant amid.1 goes in
+    found_ends l p g.met.L.Peer.follows_on g.met.P.Peer.follows_on g.met.L.Peer.most_stays g.met.P.Peer.most_stays g.met.L.Peer.follows_self g.met.P.Peer.follows_self c.args.paths.items begin now (moment c.settle-in-Ok-Some-next.new.local c.settle-in-Ok-Some-next.new.peer c.settle-in-Ok-Some-next.new.left c.settle-in-Ok-Some-next.new.exchange) c.in-Ok-Some-next.entry c.next.new.self c.in-Err-settle-2.fault found c.in-Err-settle-2.ensures
+
+pub loop-walk-preserved : goal.loop-walk-preserved
+loop-walk-preserved g c =
+    let l = side_of g.L.Peer in
+    let p = side_of g.P.Peer in
+    let begin = moment c.args.local.now c.args.peer.now c.args.left.now c.args.exchange.now in
+    let now = moment c.loop-walk.local c.loop-walk.peer c.loop-walk.left c.loop-walk.exchange in
+    let amid = walk_amid l p g.met.L.Peer.follows_on g.met.P.Peer.follows_on g.met.L.Peer.most_stays g.met.P.Peer.most_stays g.met.L.Peer.follows_self g.met.P.Peer.follows_self c.args.paths.items begin now c.loop-walk.walk c.loop-walk.invariant (λ end. let t = c.is_done.ensures.1 end in let f = c.loop-walk-test.true in absurd (cc)) (quiet_if c.asks.result _ c.asks.ensures c.if-asks.false) in
+    let goes = rw c.in-Ok-None-next.field-0-is at c.in-Ok-None-next.ensures.goes in
+    walk_goes l p g.met.L.Peer.follows_on g.met.P.Peer.follows_on g.met.L.Peer.most_stays g.met.P.Peer.most_stays g.met.L.Peer.follows_self g.met.P.Peer.follows_self c.args.paths.items begin now c.loop-walk.walk None c.next.new.self c.loop-walk.invariant amid.1 goes
+
+pub returns-in-Err-next : goal.returns-in-Err-next
+returns-in-Err-next g c =
+    let l = side_of g.L.Peer in
+    let p = side_of g.P.Peer in
+    let begin = moment c.args.local.now c.args.peer.now c.args.left.now c.args.exchange.now in
+    let now = moment c.loop-walk.local c.loop-walk.peer c.loop-walk.left c.loop-walk.exchange in
+    let amid = walk_amid l p g.met.L.Peer.follows_on g.met.P.Peer.follows_on g.met.L.Peer.most_stays g.met.P.Peer.most_stays g.met.L.Peer.follows_self g.met.P.Peer.follows_self c.args.paths.items begin now c.loop-walk.walk c.loop-walk.invariant (λ end. let t = c.is_done.ensures.1 end in let f = c.loop-walk-test.true in absurd (cc)) (quiet_if c.asks.result _ c.asks.ensures c.if-asks.false) in
+    walk_stops l p g.met.L.Peer.follows_on g.met.P.Peer.follows_on g.met.L.Peer.most_stays g.met.P.Peer.most_stays g.met.L.Peer.follows_self g.met.P.Peer.follows_self c.args.paths.items begin now c.loop-walk.walk c.loop-walk.left c.in-Err-next.refusal c.loop-walk.invariant amid.0 amid.1 c.in-Err-next.ensures.memory
 
 pub returns : goal.returns
 returns g c =
     let l = side_of g.L.Peer in
     let p = side_of g.P.Peer in
-    let at = c.loop-rest.invariant in
-    let none = no_entries c.loop-rest.rest.now ((unsigned_Decides (length c.loop-rest.rest.now) 0).0 (sym c.is_empty.ensures ∙ c.loop-rest-test.false)) in
-    let all : c.args.paths.now ≡ at.0 = at.1 ∙ ap (λ xs. at.0 ++ xs) none ∙ append-nil at.0 in
-    subst (λ xs. GoesThroughBy l p (λ a b. Unit {0}) xs (length xs) c.args.left.now c.loop-rest.left c.args.local.now c.loop-rest.local c.args.peer.now c.loop-rest.peer c.args.exchange.now c.loop-rest.exchange (Ok (tt {0}))) (sym all) at.2
-
-pub exchange_window-requires-clause-deep : goal.exchange_window-requires-clause-deep
-exchange_window-requires-clause-deep g c =
-    let at = c.loop-rest.invariant in
-    Each-take (λ path. length path ≡ 3) c.min-count.result c.loop-rest.rest.now (Each-right (λ path. length path ≡ 3) at.0 c.loop-rest.rest.now (subst (Each (λ (path : List ℕ). length path ≡ 3)) at.1 c.requires.deep))
+    let begin = moment c.args.local.now c.args.peer.now c.args.left.now c.args.exchange.now in
+    let now = moment c.loop-walk.local c.loop-walk.peer c.loop-walk.left c.loop-walk.exchange in
+    walk_done l p g.met.L.Peer.follows_on g.met.P.Peer.follows_on g.met.L.Peer.most_stays g.met.P.Peer.most_stays g.met.L.Peer.follows_self g.met.P.Peer.follows_self c.args.paths.items begin now c.loop-walk.walk c.loop-walk.invariant (c.is_done.ensures.0 c.loop-walk-test.false)

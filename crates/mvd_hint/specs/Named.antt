@@ -8,5 +8,6 @@ use Rattle.mvd_hint.specs.declared.hint.Hint.TheVariants as hint
 abbrev pub NamesServer : SocketAddr → Hint → Type 0
 NamesServer address (hint.NoPeer named) = named ≡ address
 NamesServer address (hint.Refused named) = named ≡ address
+NamesServer address (hint.NotAdmitted named) = named ≡ address
 NamesServer address (hint.Broken named) = named ≡ address
 NamesServer address _ = ⊥

@@ -2,7 +2,7 @@
 ghost use Rattle.std.specs.Prelude.{◌≡◌, ◌≢◌, ◌<◌, ◌≤◌, ℕ, IsSomeAnd, None, Some};
 ghost use Rattle.mvd_hint.specs.Named.{NamesServer};
 ghost use Rattle.mvd_dots.specs.Refusal.{number_of};
-ghost use Rattle.mvd_dots.specs.declared.refusals.Refusal.TheVariants.{BadBody, BadKind, Damaged, DotClash, FrameTooLong, Full, Memory, ReadFailed, SiteMismatch, Store};
+ghost use Rattle.mvd_dots.specs.declared.refusals.Refusal.TheVariants.{BadBody, BadKind, Damaged, DotClash, FrameTooLong, Full, Memory, NotAdmitted, ReadFailed, SiteMismatch, Store};
 ghost use Rattle.mvd_input.specs.declared.fault.Fault.TheVariants.{Stopped};
 ghost use Rattle.mvd_input.specs.declared.fault.Fault.TheVariants as faults;
 
@@ -29,6 +29,10 @@ pub enum Hint<'a> {
     NoDefs(&'a str),
     #[error("{0}: a line is `index F` or `view V G S`, each but once, and at most 16 of either")]
     BadDefs(&'a str),
+    #[error("{0} cannot be read: --token-file names a file whose first line is a token")]
+    NoToken(&'a str),
+    #[error("{0}: the first line is the token, 16 to 256 printed characters of ASCII without a space")]
+    BadToken(&'a str),
     #[error("{0} is in use: end the program that has it open, or ask that one through its port")]
     InUse(&'a str),
     #[error("{0} is no database of mvd, or damaged: name another file, or a copy of this one")]
@@ -59,6 +63,8 @@ pub enum Hint<'a> {
     Refused(SocketAddr),
     #[error("{0} does not answer as mvd does: name another --address and --port, or bring both to one version")]
     NoPeer(SocketAddr),
+    #[error("the server at {0} asks for a token, or for another one: name the file with its token by --token-file")]
+    NotAdmitted(SocketAddr),
     #[error("two files wrote under one site's number: docs/USING.md tells what not to do with a copy")]
     Clash,
     #[error("all other keys were exchanged; docs/USING.md tells what to do about a key that is refused")]
@@ -152,6 +158,28 @@ impl<'a> Stop<'a> {
         Stop { fault, hint }
     }
 
+    /// The file with a token is at fault.
+    pub fn in_token_file(file: &'a str, fault: Fault) -> Stop<'a>
+        ensures fault { result.fault ≡ fault }
+        ensures unread { fault ≡ Stopped ReadFailed → result.hint ≡ Some (Hint.NoToken file.entry) }
+        ensures long { fault ≡ Stopped FrameTooLong → result.hint ≡ Some Hint.TooLong }
+    {
+        let hint = match fault {
+            Fault::Stopped(Refusal::ReadFailed) => Some(Hint::NoToken(file)),
+            Fault::Stopped(Refusal::FrameTooLong) => Some(Hint::TooLong),
+            Fault::Stopped(_) | Fault::Line(_) => None,
+        };
+        Stop { fault, hint }
+    }
+
+    /// The first line of the file with a token is none.
+    pub fn no_token(file: &'a str) -> Stop<'a>
+        ensures fault { result.fault ≡ Stopped ReadFailed }
+        ensures hint { result.hint ≡ Some (Hint.BadToken file.entry) }
+    {
+        Stop::new(Refusal::ReadFailed, Hint::BadToken(file))
+    }
+
     /// A file cannot be opened as a database, or not be closed.
     pub fn in_file(file: &'a str, error: sqlite::Error) -> Stop<'a>
         ensures { result.fault ≡ Stopped Store }
@@ -234,7 +262,7 @@ impl<'a> Stop<'a> {
         }
     }
 
-    /// The server at an address refuses, or the connection with it breaks. Memory may have been refused at either end
+    /// The server at an address refuses, or does not let this in, or the connection with it breaks. Memory may have been refused at either end
     /// of it, so then no hint names one.
     pub fn at_server(address: SocketAddr, refusal: Refusal) -> Stop<'a>
         ensures fault { result.fault ≡ Stopped refusal }
@@ -245,8 +273,9 @@ impl<'a> Stop<'a> {
         ensures body { refusal ≡ BadBody → result.hint ≡ Some (Hint.NoPeer address) }
         ensures own { refusal ≢ DotClash → refusal ≢ Memory → number_of refusal < 30 →
             result.hint ≡ Some (Hint.Refused address) }
-        ensures broken { refusal ≢ FrameTooLong → refusal ≢ BadKind → refusal ≢ BadBody → 30 ≤ number_of refusal →
-            result.hint ≡ Some (Hint.Broken address) }
+        ensures token { refusal ≡ NotAdmitted → result.hint ≡ Some (Hint.NotAdmitted address) }
+        ensures broken { refusal ≢ FrameTooLong → refusal ≢ BadKind → refusal ≢ BadBody → refusal ≢ NotAdmitted →
+            30 ≤ number_of refusal → result.hint ≡ Some (Hint.Broken address) }
         // The hint names the address, but for that of a clash.
         ensures named { refusal ≢ DotClash → refusal ≢ Memory → IsSomeAnd result.hint (NamesServer address) }
     {
@@ -254,6 +283,7 @@ impl<'a> Stop<'a> {
             Refusal::Memory => return Stop::from(refusal),
             Refusal::DotClash => Hint::Clash,
             Refusal::FrameTooLong | Refusal::BadKind | Refusal::BadBody => Hint::NoPeer(address),
+            Refusal::NotAdmitted => Hint::NotAdmitted(address),
             _ if refusal.number() < 30 => Hint::Refused(address),
             _ => Hint::Broken(address),
         };

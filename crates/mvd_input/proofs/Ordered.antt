@@ -57,86 +57,86 @@ Meets rows = ((address : SocketAddr) × IsAddressOf rows address) × ((idle : �
 pub serve_meets : (rows : List Row) (order : Order) → IsOrderOf (codes "serve") rows order → Meets rows
 serve_meets rows Sim h = differ _ _ h refl
 serve_meets rows (Loop _) h = differ _ _ h.0 refl
-serve_meets rows (Serve _ _ address _ idle _ _) h = ((address, h.3), (idle, h.5))
-serve_meets rows (Shell _ _) h = differ _ _ h.0 refl
-serve_meets rows (RemoteShell _ _) h = differ _ _ h.0 refl
-serve_meets rows (Sync _ _ _ _ _) h = differ _ _ h.0 refl
-serve_meets rows (Meet _ _ _ _ _) h = differ _ _ h.0 refl
+serve_meets rows (Serve _ _ address _ idle _ _ _) h = ((address, h.3), (idle, h.5))
+serve_meets rows (Shell _ _ _) h = differ _ _ h.0 refl
+serve_meets rows (RemoteShell _ _ _) h = differ _ _ h.0 refl
+serve_meets rows (Sync _ _ _ _ _ _) h = differ _ _ h.0 refl
+serve_meets rows (Meet _ _ _ _ _ _) h = differ _ _ h.0 refl
 
 pub serve_clients : (rows : List Row) (order : Order) → IsOrderOf (codes "serve") rows order → (clients : ℕ) × IsClients rows clients
 serve_clients rows Sim h = differ _ _ h refl
 serve_clients rows (Loop _) h = differ _ _ h.0 refl
-serve_clients rows (Serve _ _ _ _ _ _ clients) h = (clients, h.7)
-serve_clients rows (Shell _ _) h = differ _ _ h.0 refl
-serve_clients rows (RemoteShell _ _) h = differ _ _ h.0 refl
-serve_clients rows (Sync _ _ _ _ _) h = differ _ _ h.0 refl
-serve_clients rows (Meet _ _ _ _ _) h = differ _ _ h.0 refl
+serve_clients rows (Serve _ _ _ _ _ _ clients _) h = (clients, h.7)
+serve_clients rows (Shell _ _ _) h = differ _ _ h.0 refl
+serve_clients rows (RemoteShell _ _ _) h = differ _ _ h.0 refl
+serve_clients rows (Sync _ _ _ _ _ _) h = differ _ _ h.0 refl
+serve_clients rows (Meet _ _ _ _ _ _) h = differ _ _ h.0 refl
 
 pub sync_meets : (rows : List Row) (order : Order) → IsOrderOf (codes "sync") rows order → Meets rows
 sync_meets rows Sim h = differ _ _ h refl
 sync_meets rows (Loop _) h = differ _ _ h.0 refl
-sync_meets rows (Serve _ _ _ _ _ _ _) h = differ _ _ h.0 refl
-sync_meets rows (Shell _ _) h = differ _ _ h.0 refl
-sync_meets rows (RemoteShell _ _) h = differ _ _ h.0 refl
-sync_meets rows (Sync _ _ address idle _) h = ((address, h.3), (idle, h.4))
-sync_meets rows (Meet address _ _ idle _) h = ((address, h.3), (idle, h.5))
+sync_meets rows (Serve _ _ _ _ _ _ _ _) h = differ _ _ h.0 refl
+sync_meets rows (Shell _ _ _) h = differ _ _ h.0 refl
+sync_meets rows (RemoteShell _ _ _) h = differ _ _ h.0 refl
+sync_meets rows (Sync _ _ address idle _ _) h = ((address, h.3), (idle, h.4))
+sync_meets rows (Meet address _ _ idle _ _) h = ((address, h.3), (idle, h.5))
 
 pub remote_meets : (rows : List Row) → first_of (codes "db") rows ≡ None → (order : Order) → IsOrderOf (codes "shell") rows order → Meets rows
 remote_meets rows e Sim h = differ _ _ h refl
 remote_meets rows e (Loop _) h = differ _ _ h.0 refl
-remote_meets rows e (Serve _ _ _ _ _ _ _) h = differ _ _ h.0 refl
-remote_meets rows e (Shell _ _) h = absurd (cc (h.1, e))
-remote_meets rows e (RemoteShell address idle) h = ((address, h.2), (idle, h.3))
-remote_meets rows e (Sync _ _ _ _ _) h = differ _ _ h.0 refl
-remote_meets rows e (Meet _ _ _ _ _) h = differ _ _ h.0 refl
+remote_meets rows e (Serve _ _ _ _ _ _ _ _) h = differ _ _ h.0 refl
+remote_meets rows e (Shell _ _ _) h = absurd (cc (h.1, e))
+remote_meets rows e (RemoteShell address idle _) h = ((address, h.2), (idle, h.3))
+remote_meets rows e (Sync _ _ _ _ _ _) h = differ _ _ h.0 refl
+remote_meets rows e (Meet _ _ _ _ _ _) h = differ _ _ h.0 refl
 
 -- nor is a shell that names both a database and a server, or a server and how a site is set up
 pub no_server_beside : (rows : List Row) (db : Text) → first_of (codes "db") rows ≡ Some db → names_server rows ≡ true → (order : Order) → IsOrderOf (codes "shell") rows order → ⊥
 no_server_beside rows db e named Sim h = differ _ _ h refl
 no_server_beside rows db e named (Loop _) h = differ _ _ h.0 refl
-no_server_beside rows db e named (Serve _ _ _ _ _ _ _) h = differ _ _ h.0 refl
-no_server_beside rows db e named (Shell _ _) h = cc (h.3, named)
-no_server_beside rows db e named (RemoteShell _ _) h = cc (h.1, e)
-no_server_beside rows db e named (Sync _ _ _ _ _) h = differ _ _ h.0 refl
-no_server_beside rows db e named (Meet _ _ _ _ _) h = differ _ _ h.0 refl
+no_server_beside rows db e named (Serve _ _ _ _ _ _ _ _) h = differ _ _ h.0 refl
+no_server_beside rows db e named (Shell _ _ _) h = cc (h.3, named)
+no_server_beside rows db e named (RemoteShell _ _ _) h = cc (h.1, e)
+no_server_beside rows db e named (Sync _ _ _ _ _ _) h = differ _ _ h.0 refl
+no_server_beside rows db e named (Meet _ _ _ _ _ _) h = differ _ _ h.0 refl
 
 pub no_setup_beside : (rows : List Row) → first_of (codes "db") rows ≡ None → sets_up rows ≡ true → (order : Order) → IsOrderOf (codes "shell") rows order → ⊥
 no_setup_beside rows e set Sim h = differ _ _ h refl
 no_setup_beside rows e set (Loop _) h = differ _ _ h.0 refl
-no_setup_beside rows e set (Serve _ _ _ _ _ _ _) h = differ _ _ h.0 refl
-no_setup_beside rows e set (Shell _ _) h = cc (h.1, e)
-no_setup_beside rows e set (RemoteShell _ _) h = cc (h.4, set)
-no_setup_beside rows e set (Sync _ _ _ _ _) h = differ _ _ h.0 refl
-no_setup_beside rows e set (Meet _ _ _ _ _) h = differ _ _ h.0 refl
+no_setup_beside rows e set (Serve _ _ _ _ _ _ _ _) h = differ _ _ h.0 refl
+no_setup_beside rows e set (Shell _ _ _) h = cc (h.1, e)
+no_setup_beside rows e set (RemoteShell _ _ _) h = cc (h.4, set)
+no_setup_beside rows e set (Sync _ _ _ _ _ _) h = differ _ _ h.0 refl
+no_setup_beside rows e set (Meet _ _ _ _ _ _) h = differ _ _ h.0 refl
 
 -- nor is a session that names both a database and servers, or more than one round without them
 pub no_file_beside : (rows : List Row) (list : Text) → first_of (codes "with") rows ≡ Some list → has_file rows ≡ true → (order : Order) → IsOrderOf (codes "sync") rows order → ⊥
 no_file_beside rows list e named Sim h = differ _ _ h refl
 no_file_beside rows list e named (Loop _) h = differ _ _ h.0 refl
-no_file_beside rows list e named (Serve _ _ _ _ _ _ _) h = differ _ _ h.0 refl
-no_file_beside rows list e named (Shell _ _) h = differ _ _ h.0 refl
-no_file_beside rows list e named (RemoteShell _ _) h = differ _ _ h.0 refl
-no_file_beside rows list e named (Sync _ _ _ _ _) h = cc (h.6, e)
-no_file_beside rows list e named (Meet _ _ _ _ _) h = cc (h.7, named)
+no_file_beside rows list e named (Serve _ _ _ _ _ _ _ _) h = differ _ _ h.0 refl
+no_file_beside rows list e named (Shell _ _ _) h = differ _ _ h.0 refl
+no_file_beside rows list e named (RemoteShell _ _ _) h = differ _ _ h.0 refl
+no_file_beside rows list e named (Sync _ _ _ _ _ _) h = cc (h.6, e)
+no_file_beside rows list e named (Meet _ _ _ _ _ _) h = cc (h.7, named)
 
 pub no_rounds_beside : (rows : List Row) → first_of (codes "with") rows ≡ None → is_repeated rows ≡ true → (order : Order) → IsOrderOf (codes "sync") rows order → ⊥
 no_rounds_beside rows e named Sim h = differ _ _ h refl
 no_rounds_beside rows e named (Loop _) h = differ _ _ h.0 refl
-no_rounds_beside rows e named (Serve _ _ _ _ _ _ _) h = differ _ _ h.0 refl
-no_rounds_beside rows e named (Shell _ _) h = differ _ _ h.0 refl
-no_rounds_beside rows e named (RemoteShell _ _) h = differ _ _ h.0 refl
-no_rounds_beside rows e named (Sync _ _ _ _ _) h = cc (h.7, named)
-no_rounds_beside rows e named (Meet _ _ _ _ _) h = cc (h.1, e)
+no_rounds_beside rows e named (Serve _ _ _ _ _ _ _ _) h = differ _ _ h.0 refl
+no_rounds_beside rows e named (Shell _ _ _) h = differ _ _ h.0 refl
+no_rounds_beside rows e named (RemoteShell _ _ _) h = differ _ _ h.0 refl
+no_rounds_beside rows e named (Sync _ _ _ _ _ _) h = cc (h.7, named)
+no_rounds_beside rows e named (Meet _ _ _ _ _ _) h = cc (h.1, e)
 
 -- nor one with what is no list
 pub no_list : (rows : List Row) (list : Text) → first_of (codes "with") rows ≡ Some list → (IsAddressList list → ⊥) → (order : Order) → IsOrderOf (codes "sync") rows order → ⊥
 no_list rows list e none Sim h = differ _ _ h refl
 no_list rows list e none (Loop _) h = differ _ _ h.0 refl
-no_list rows list e none (Serve _ _ _ _ _ _ _) h = differ _ _ h.0 refl
-no_list rows list e none (Shell _ _) h = differ _ _ h.0 refl
-no_list rows list e none (RemoteShell _ _) h = differ _ _ h.0 refl
-no_list rows list e none (Sync _ _ _ _ _) h = cc (h.6, e)
-no_list rows list e none (Meet _ with _ _ _) h = let same : with.now ≡ list = cc (h.1, e) in none (subst IsAddressList same h.2)
+no_list rows list e none (Serve _ _ _ _ _ _ _ _) h = differ _ _ h.0 refl
+no_list rows list e none (Shell _ _ _) h = differ _ _ h.0 refl
+no_list rows list e none (RemoteShell _ _ _) h = differ _ _ h.0 refl
+no_list rows list e none (Sync _ _ _ _ _ _) h = cc (h.6, e)
+no_list rows list e none (Meet _ with _ _ _ _) h = let same : with.now ≡ list = cc (h.1, e) in none (subst IsAddressList same h.2)
 
 -- how often servers meet again tells how many rounds there are
 pub repeat_times : (rows : List Row) (repeat : Option Repeat) → IsRepeatOf rows repeat → (times : Option ℕ) × IsTimes rows times
@@ -147,21 +147,21 @@ repeat_times rows (Some repeat) h = (repeat.times, h.1)
 pub meet_repeats : (rows : List Row) (list : Text) → first_of (codes "with") rows ≡ Some list → (order : Order) → IsOrderOf (codes "sync") rows order → (repeat : Option Repeat) × IsRepeatOf rows repeat
 meet_repeats rows list e Sim h = differ _ _ h refl
 meet_repeats rows list e (Loop _) h = differ _ _ h.0 refl
-meet_repeats rows list e (Serve _ _ _ _ _ _ _) h = differ _ _ h.0 refl
-meet_repeats rows list e (Shell _ _) h = differ _ _ h.0 refl
-meet_repeats rows list e (RemoteShell _ _) h = differ _ _ h.0 refl
-meet_repeats rows list e (Sync _ _ _ _ _) h = absurd (cc (h.6, e))
-meet_repeats rows list e (Meet _ _ repeat _ _) h = (repeat, h.4)
+meet_repeats rows list e (Serve _ _ _ _ _ _ _ _) h = differ _ _ h.0 refl
+meet_repeats rows list e (Shell _ _ _) h = differ _ _ h.0 refl
+meet_repeats rows list e (RemoteShell _ _ _) h = differ _ _ h.0 refl
+meet_repeats rows list e (Sync _ _ _ _ _ _) h = absurd (cc (h.6, e))
+meet_repeats rows list e (Meet _ _ repeat _ _ _) h = (repeat, h.4)
 
 pub sync_sets_up : (rows : List Row) → first_of (codes "with") rows ≡ None → (order : Order) → IsOrderOf (codes "sync") rows order
     → ((db : Bor (List ℕ)) × IsDbOf rows db) × ((setup : Setup) × IsSetupOf rows setup)
 sync_sets_up rows e Sim h = differ _ _ h refl
 sync_sets_up rows e (Loop _) h = differ _ _ h.0 refl
-sync_sets_up rows e (Serve _ _ _ _ _ _ _) h = differ _ _ h.0 refl
-sync_sets_up rows e (Shell _ _) h = differ _ _ h.0 refl
-sync_sets_up rows e (RemoteShell _ _) h = differ _ _ h.0 refl
-sync_sets_up rows e (Sync db setup _ _ _) h = ((db, h.1), (setup, h.2))
-sync_sets_up rows e (Meet _ _ _ _ _) h = absurd (cc (h.1, e))
+sync_sets_up rows e (Serve _ _ _ _ _ _ _ _) h = differ _ _ h.0 refl
+sync_sets_up rows e (Shell _ _ _) h = differ _ _ h.0 refl
+sync_sets_up rows e (RemoteShell _ _ _) h = differ _ _ h.0 refl
+sync_sets_up rows e (Sync db setup _ _ _ _) h = ((db, h.1), (setup, h.2))
+sync_sets_up rows e (Meet _ _ _ _ _ _) h = absurd (cc (h.1, e))
 
 -- ---- where a value came from
 

@@ -6,7 +6,7 @@ use Rattle.std.proofs.lemmas.List.{get_or-take, length-take-le}
 use Rattle.std.proofs.lemmas.List.Elements.{All-from_get_or}
 use Rattle.std.proofs.lemmas.List.Folds.{list_any_none}
 use Rattle.std.proofs.lemmas.List.Sums.{fails_before_first}
-use Rattle.mvd_input.specs.Lines.{IsWord, spaced}
+use Rattle.mvd_input.specs.Lines.{IsWord, spaced, with_rest}
 
 abbrev first_space : List ℕ → ℕ
 first_space text = position_or_len (λ byte. byte == 32) text
@@ -61,3 +61,10 @@ one_parting text a b c d one first other second = parting a b c d first second (
 pub spaced_is_no_word : (a b : List ℕ) → IsWord (spaced a b) → ⊥
 spaced_is_no_word [] b word = no_space 32 b word refl
 spaced_is_no_word (x ∷ a) b word = spaced_is_no_word a b (tail x (spaced a b) word).1
+
+-- nor into a word and what stands behind it, where something does
+pub one_resting : (a c : List ℕ) (b d : Option (List ℕ)) → with_rest a b ≡ with_rest c d → IsWord a → IsWord c → (a ≡ c) × (b ≡ d)
+one_resting a c None None same first second = (same, refl)
+one_resting a c None (Some d) same first second = absurd (spaced_is_no_word c d (subst IsWord same first))
+one_resting a c (Some b) None same first second = absurd (spaced_is_no_word a b (subst IsWord (sym same) second))
+one_resting a c (Some b) (Some d) same first second = let one = parting a b c d first second same in (one.0, ap Some one.1)

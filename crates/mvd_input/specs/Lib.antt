@@ -4,4 +4,5 @@ pub mod Ends
 pub mod Hexadecimal
 pub mod Lines
 pub mod Orders
+pub mod Tokens
 pub mod Words

@@ -58,11 +58,11 @@ IsRounds repeat = (1 ≤ repeat.every) × (repeat.every ≤ 3600) × ForSome rep
 abbrev pub IsInRange : Order → Type 0
 IsInRange Sim = ⊤
 IsInRange (Loop setup) = IsSetUp setup
-IsInRange (Serve _ setup address conns idle http clients) = IsSetUp setup × HasPort address × AreConnections conns × IsIdle idle × IsPort http × AreClients clients
-IsInRange (Shell _ setup) = IsSetUp setup
-IsInRange (RemoteShell address idle) = HasPort address × IsIdle idle
-IsInRange (Sync _ setup address idle _) = IsSetUp setup × HasPort address × IsIdle idle
-IsInRange (Meet address with repeat idle _) = HasPort address × IsAddressList with.now × ForSome repeat IsRounds × IsIdle idle
+IsInRange (Serve _ setup address conns idle http clients _) = IsSetUp setup × HasPort address × AreConnections conns × IsIdle idle × IsPort http × AreClients clients
+IsInRange (Shell _ setup _) = IsSetUp setup
+IsInRange (RemoteShell address idle _) = HasPort address × IsIdle idle
+IsInRange (Sync _ setup address idle _ _) = IsSetUp setup × HasPort address × IsIdle idle
+IsInRange (Meet address with repeat idle _ _) = HasPort address × IsAddressList with.now × ForSome repeat IsRounds × IsIdle idle
 
 -- ---- the order that the words are
 
@@ -146,6 +146,10 @@ IsRepeatOf rows (Some repeat) = Gives rows (codes "every") repeat.every × IsTim
 abbrev pub IsSeconds : List Row → ℕ → Type 0
 IsSeconds rows seconds = Gives rows (codes "idle") seconds
 
+-- the file with the token, where it is told
+abbrev pub IsTokenFile : List Row → Option (Bor (List ℕ)) → Type 0
+IsTokenFile rows file = first_of (codes "token-file") rows ≡ option_map (λ text. text.now) file
+
 -- how many clients are served at once
 abbrev pub IsClients : List Row → ℕ → Type 0
 IsClients rows clients = Gives rows (codes "clients") clients
@@ -180,17 +184,20 @@ is_repeated rows = is_given rows (codes "every") || is_given rows (codes "times"
 abbrev pub IsOrderOf : List ℕ → List Row → Order → Type 0
 IsOrderOf name rows Sim = name ≡ codes "sim"
 IsOrderOf name rows (Loop setup) = (name ≡ codes "loop") × IsSetupOf rows setup
-IsOrderOf name rows (Serve db setup address conns idle http clients) = (name ≡ codes "serve") × IsDbOf rows db
+IsOrderOf name rows (Serve db setup address conns idle http clients token_file) = (name ≡ codes "serve") × IsDbOf rows db
     × IsSetupOf rows setup × IsAddressOf rows address × IsConns rows conns × IsSeconds rows idle × IsHttp rows http × IsClients rows clients
-IsOrderOf name rows (Shell db setup) = (name ≡ codes "shell") × IsDbOf rows db × IsSetupOf rows setup × (names_server rows ≡ false)
-IsOrderOf name rows (RemoteShell address idle) = (name ≡ codes "shell") × (first_of (codes "db") rows ≡ None) × IsAddressOf rows address
-    × IsSeconds rows idle × (sets_up rows ≡ false)
-IsOrderOf name rows (Sync db setup address idle verbose) = (name ≡ codes "sync") × IsDbOf rows db
+    × IsTokenFile rows token_file
+IsOrderOf name rows (Shell db setup token_file) = (name ≡ codes "shell") × IsDbOf rows db × IsSetupOf rows setup × (names_server rows ≡ false)
+    × IsTokenFile rows token_file
+IsOrderOf name rows (RemoteShell address idle token_file) = (name ≡ codes "shell") × (first_of (codes "db") rows ≡ None)
+    × IsAddressOf rows address × IsSeconds rows idle × (sets_up rows ≡ false) × IsTokenFile rows token_file
+IsOrderOf name rows (Sync db setup address idle verbose token_file) = (name ≡ codes "sync") × IsDbOf rows db
     × IsSetupOf rows setup × IsAddressOf rows address × IsSeconds rows idle × (IsTrue verbose ↔ (first_of (codes "verbose") rows ≡ Some (codes "true")))
-    × (first_of (codes "with") rows ≡ None) × (is_repeated rows ≡ false)
-IsOrderOf name rows (Meet address with repeat idle verbose) = (name ≡ codes "sync") × (first_of (codes "with") rows ≡ Some with.now)
+    × (first_of (codes "with") rows ≡ None) × (is_repeated rows ≡ false) × IsTokenFile rows token_file
+IsOrderOf name rows (Meet address with repeat idle verbose token_file) = (name ≡ codes "sync") × (first_of (codes "with") rows ≡ Some with.now)
     × IsAddressList with.now × IsAddressOf rows address × IsRepeatOf rows repeat × IsSeconds rows idle
     × (IsTrue verbose ↔ (first_of (codes "verbose") rows ≡ Some (codes "true"))) × (has_file rows ≡ false)
+    × IsTokenFile rows token_file
 
 -- the order in its ranges, or why there is none
 abbrev pub ReadsOptions : List ℕ → List Row → Result Order Unread → Type 0

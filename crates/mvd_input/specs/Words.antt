@@ -72,6 +72,9 @@ idle seconds = by_default seconds (number_option (codes "idle"))
 abbrev pub verbose : Rule
 verbose = flag (codes "verbose")
 
+abbrev pub token_file : Rule
+token_file = text_option (codes "token-file")
+
 -- those with which a command begins on a database that meets a peer
 abbrev pub database : List Rule
 database = needed db ∷ needed site ∷ defs ∷ max_keys ∷ address ∷ []
@@ -90,15 +93,15 @@ loop_words = leaf (codes "loop") (needed site ∷ defs ∷ max_keys ∷ [])
 
 abbrev pub serve_words : App
 serve_words = leaf (codes "serve")
-    (database ++ needed port ∷ http ∷ conns ∷ idle (codes "300") ∷ clients ∷ [])
+    (database ++ needed port ∷ http ∷ conns ∷ idle (codes "300") ∷ clients ∷ token_file ∷ [])
 
 abbrev pub shell_words : App
 shell_words = leaf (codes "shell")
-    (db ∷ site ∷ defs ∷ max_keys ∷ port ∷ address ∷ idle (codes "60") ∷ [])
+    (db ∷ site ∷ defs ∷ max_keys ∷ port ∷ address ∷ idle (codes "60") ∷ token_file ∷ [])
 
 abbrev pub sync_words : App
 sync_words = leaf (codes "sync")
-    (db ∷ site ∷ defs ∷ max_keys ∷ address ∷ needed port ∷ with ∷ every ∷ times ∷ idle (codes "60") ∷ verbose ∷ [])
+    (db ∷ site ∷ defs ∷ max_keys ∷ address ∷ needed port ∷ with ∷ every ∷ times ∷ idle (codes "60") ∷ verbose ∷ token_file ∷ [])
 
 -- the program: a command has to be given, and `--version` may be
 unfoldable pub program : App

@@ -1,6 +1,6 @@
 //! The lines of a script, and those that are typed.
-ghost use Rattle.std.specs.Prelude.{◌≡◌, ◌↔◌, IfNone, IfSome, IsTrue, codes};
-ghost use Rattle.mvd_input.specs.Lines.{IsAsked, IsAt, IsCommand, IsLine, IsNoAsk, IsNoAt, IsNoCommand, IsNoLine, IsNoNumber, IsNoView, IsNotTyped, IsNumber, IsPadded, IsTyped, IsView, IsWord, spaced};
+ghost use Rattle.std.specs.Prelude.{◌≡◌, ◌↔◌, IfNone, IfSome, IsTrue, None, Some, codes};
+ghost use Rattle.mvd_input.specs.Lines.{IsAsked, IsAt, IsCommand, IsLine, IsNoAsk, IsNoAt, IsNoCommand, IsNoLine, IsNoNumber, IsNoTypedAsk, IsNoView, IsNotTyped, IsNumber, IsPadded, IsTyped, IsTypedAsk, IsView, IsWord, spaced};
 
 /// A line of a script, as it is written.
 #[derive(Clone, Copy)]
@@ -78,6 +78,12 @@ pub enum Ask<'a> {
     Rows {
         view: &'a str,
     },
+    /// `keys`, or `keys PREFIX` of a prefix that is not empty, page after page
+    Keys {
+        prefix: Option<&'a str>,
+    },
+    /// `conflicts`, page after page
+    Conflicts,
 }
 
 /// The line that a text is, if it is one.
@@ -117,10 +123,18 @@ pub fn typed_of(text: &str) -> Option<Typed<'_>>
     match text {
         "help" => Some(Typed::Help),
         "root" => Some(Typed::Ask(ROOT)),
-        _ => {
-            let (name, rest) = parted(text)?;
-            Some(Typed::Ask(ask_of(name, rest)?))
-        }
+        _ => Some(Typed::Ask(typed_ask(text)?)),
+    }
+}
+
+/// What is asked by a typed line, which is a word, or a word with more behind it.
+fn typed_ask(text: &str) -> Option<Ask<'_>>
+    ensures found { IfSome result (λ ask. IsTypedAsk ask text.now) }
+    ensures none { IfNone result (IsNoTypedAsk text.now) }
+{
+    match parted(text) {
+        Some((name, rest)) => ask_of(name, rest),
+        None => ask_alone(text),
     }
 }
 
@@ -132,8 +146,10 @@ fn at_of<'a>(name: &str, rest: &'a str) -> Option<(u64, Command<'a>)>
     ensures found { IfSome result (λ at. IsAt at.0 at.1 name.now rest.now) }
     ensures none { IfNone result (IsNoAt name.now rest.now) }
 {
-    let (site, rest) = parted(rest)?;
-    Some((number_of(site)?, command_of(name, rest)?))
+    match parted(rest) {
+        Some((site, rest)) => Some((number_of(site)?, command_of(name, rest)?)),
+        None => Some((number_of(rest)?, Command::Ask(ask_alone(name)?))),
+    }
 }
 
 fn view_of(rest: &str) -> Option<View<'_>>
@@ -147,8 +163,8 @@ fn view_of(rest: &str) -> Option<View<'_>>
 
 /// The command of a name, with what stands behind the site.
 fn command_of<'a>(name: &str, rest: &'a str) -> Option<Command<'a>>
-    ensures found { IfSome result (λ command. IsCommand command name.now rest.now) }
-    ensures none { IfNone result (IsNoCommand name.now rest.now) }
+    ensures found { IfSome result (λ command. IsCommand command name.now (Some rest.now)) }
+    ensures none { IfNone result (IsNoCommand name.now (Some rest.now)) }
 {
     match name {
         "send" => Some(Command::Send { key: last(rest)? }),
@@ -162,10 +178,22 @@ fn command_of<'a>(name: &str, rest: &'a str) -> Option<Command<'a>>
     }
 }
 
+/// What is asked by a name alone.
+fn ask_alone(name: &str) -> Option<Ask<'static>>
+    ensures found { IfSome result (λ ask. IsAsked ask name.now None) }
+    ensures none { IfNone result (IsNoAsk name.now None) }
+{
+    match name {
+        "keys" => Some(Ask::Keys { prefix: None }),
+        "conflicts" => Some(Ask::Conflicts),
+        _ => None,
+    }
+}
+
 /// What is asked by a name, with what stands behind it.
 fn ask_of<'a>(name: &str, rest: &'a str) -> Option<Ask<'a>>
-    ensures found { IfSome result (λ ask. IsAsked ask name.now rest.now) }
-    ensures none { IfNone result (IsNoAsk name.now rest.now) }
+    ensures found { IfSome result (λ ask. IsAsked ask name.now (Some rest.now)) }
+    ensures none { IfNone result (IsNoAsk name.now (Some rest.now)) }
 {
     match parted(rest) {
         Some((first, behind)) => ask_of_parts(name, first, behind),
@@ -175,21 +203,35 @@ fn ask_of<'a>(name: &str, rest: &'a str) -> Option<Ask<'a>>
 
 /// What is asked by a name, with one word behind it.
 fn ask_of_word<'a>(name: &str, word: &'a str) -> Option<Ask<'a>>
-    ensures found { IsWord word.now → IfSome result (λ ask. IsAsked ask name.now word.now) }
-    ensures none { IsWord word.now → IfNone result (IsNoAsk name.now word.now) }
+    ensures found { IsWord word.now → IfSome result (λ ask. IsAsked ask name.now (Some word.now)) }
+    ensures none { IsWord word.now → IfNone result (IsNoAsk name.now (Some word.now)) }
 {
     match name {
         "get" => Some(Ask::Get { key: word }),
         "node" => Some(Ask::Node { path: word }),
         "rows" => Some(Ask::Rows { view: word }),
+        "keys" => keys_of(word),
         _ => None,
     }
 }
 
+/// The keys that begin with a prefix, which is not empty.
+fn keys_of(prefix: &str) -> Option<Ask<'_>>
+    ensures found { IsWord prefix.now → IfSome result (λ ask. IsAsked ask (codes "keys") (Some prefix.now)) }
+    ensures none { IfNone result (IsNoAsk (codes "keys") (Some prefix.now)) }
+{
+    if prefix.is_empty() {
+        return None;
+    }
+    Some(Ask::Keys {
+        prefix: Some(prefix),
+    })
+}
+
 /// What is asked by a name, with a word behind it and more behind that.
 fn ask_of_parts<'a>(name: &str, first: &'a str, behind: &'a str) -> Option<Ask<'a>>
-    ensures found { IsWord first.now → IfSome result (λ ask. IsAsked ask name.now (spaced first.now behind.now)) }
-    ensures none { IsWord first.now → IfNone result (IsNoAsk name.now (spaced first.now behind.now)) }
+    ensures found { IsWord first.now → IfSome result (λ ask. IsAsked ask name.now (Some (spaced first.now behind.now))) }
+    ensures none { IsWord first.now → IfNone result (IsNoAsk name.now (Some (spaced first.now behind.now))) }
 {
     match name {
         "put" => put_of(first, behind),
@@ -212,8 +254,8 @@ fn ask_of_parts<'a>(name: &str, first: &'a str, behind: &'a str) -> Option<Ask<'
 
 /// A delete of a key, whose context ends the line.
 fn delete_of<'a>(key: &'a str, rest: &'a str) -> Option<Ask<'a>>
-    ensures found { IsWord key.now → IfSome result (λ ask. IsAsked ask (codes "del") (spaced key.now rest.now)) }
-    ensures none { IsWord key.now → IfNone result (IsNoAsk (codes "del") (spaced key.now rest.now)) }
+    ensures found { IsWord key.now → IfSome result (λ ask. IsAsked ask (codes "del") (Some (spaced key.now rest.now))) }
+    ensures none { IsWord key.now → IfNone result (IsNoAsk (codes "del") (Some (spaced key.now rest.now))) }
 {
     Some(Ask::Delete {
         key,
@@ -223,8 +265,8 @@ fn delete_of<'a>(key: &'a str, rest: &'a str) -> Option<Ask<'a>>
 
 /// A put at a key, whose document is the rest of the line.
 fn put_of<'a>(key: &'a str, rest: &'a str) -> Option<Ask<'a>>
-    ensures found { IsWord key.now → IfSome result (λ ask. IsAsked ask (codes "put") (spaced key.now rest.now)) }
-    ensures none { IsWord key.now → IfNone result (IsNoAsk (codes "put") (spaced key.now rest.now)) }
+    ensures found { IsWord key.now → IfSome result (λ ask. IsAsked ask (codes "put") (Some (spaced key.now rest.now))) }
+    ensures none { IsWord key.now → IfNone result (IsNoAsk (codes "put") (Some (spaced key.now rest.now))) }
 {
     let (context, document) = parted(rest)?;
     Some(Ask::Put {

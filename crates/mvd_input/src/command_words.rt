@@ -8,7 +8,7 @@ use clap::{Arg, ArgAction, Command, value_parser};
 use std::alloc::{AllocError, Global};
 
 /// What `--version` tells behind the program's name.
-const VERSION: &str = "0.1.0, format version 2";
+const VERSION: &str = "0.2.0, format version 2";
 
 /// What stands at the end of the help.
 const FIRST: &str = "\
@@ -39,8 +39,8 @@ const SHELL: &str =
     "Answers the lines of standard input, each at once, on a database or through a server. The line `help` lists what may be asked.";
 
 const SHELL_USAGE: &str = "\
-mvd shell --db <FILE> --site <N> [--defs <FILE>] [--max-keys <N>]
-       mvd shell --port <P> [--address <IP>] [--idle <S>]";
+mvd shell --db <FILE> --site <N> [--defs <FILE>] [--max-keys <N>] [--token-file <FILE>]
+       mvd shell --port <P> [--address <IP>] [--idle <S>] [--token-file <FILE>]";
 
 const SHELL_PORT: &str = "The port of a server, 1 to 65535, in place of a database.";
 
@@ -49,12 +49,24 @@ const SYNC: &str =
                     one of them held before. It prints how many keys differed, and the digest of all that is held then.";
 
 const SYNC_USAGE: &str = "\
-mvd sync --db <FILE> --site <N> --port <P> [--defs <FILE>] [--max-keys <N>] [--address <IP>] [--idle <S>] [--verbose]
-       mvd sync --port <P> --with <LIST> [--every <S>] [--times <N>] [--address <IP>] [--idle <S>] [--verbose]";
+mvd sync --db <FILE> --site <N> --port <P> [--defs <FILE>] [--max-keys <N>] [--address <IP>] [--idle <S>] \
+                          [--verbose] [--token-file <FILE>]
+       mvd sync --port <P> --with <LIST> [--every <S>] [--times <N>] [--address <IP>] [--idle <S>] [--verbose] \
+                          [--token-file <FILE>]";
 
 const WITH: &str =
     "The servers that meet the one at the port, in place of a database: 1 to 16 items with commas between them, each a port \
                     at the same IP address, or an address with its port, as 192.0.2.1:7007 or [::1]:7007.";
+
+const SERVED_TOKEN: &str =
+    "Only who shows the token is served: the first line of this file, 16 to 256 printed characters of ASCII without a space.";
+
+const TOKEN: &str =
+    "The token that the server wants: the first line of this file, 16 to 256 printed characters of ASCII without a space.";
+
+const SHELL_TOKEN: &str =
+    "The token that a server wants, which is shown to it alone: the first line of this file, 16 to 256 printed characters of \
+                           ASCII without a space.";
 
 /// The program's command, with one command below it for each order.
 pub fn command<'a>(alloc: Global) -> Result<Command<'a>, AllocError>
@@ -128,6 +140,7 @@ fn serve_command<'a>(alloc: Global) -> Result<Command<'a>, AllocError>
         conns(alloc),
         idle(alloc, SERVED_IDLE, "300"),
         clients(alloc),
+        token_file(alloc, SERVED_TOKEN),
     ]?;
     named(
         alloc,
@@ -149,6 +162,7 @@ fn shell_command<'a>(alloc: Global) -> Result<Command<'a>, AllocError>
         port(alloc, SHELL_PORT).required(false),
         address(alloc),
         idle(alloc, IDLE, "60"),
+        token_file(alloc, SHELL_TOKEN),
     ]?;
     named(
         alloc,
@@ -175,6 +189,7 @@ fn sync_command<'a>(alloc: Global) -> Result<Command<'a>, AllocError>
         times(alloc),
         idle(alloc, IDLE, "60"),
         verbose(alloc),
+        token_file(alloc, TOKEN),
     ]?;
     named(
         alloc,
@@ -212,7 +227,7 @@ fn address<'a>(alloc: Global) -> Arg<'a>
         alloc,
         "address",
         "IP",
-        "The IP address of the server. Nothing is encrypted, and nobody is asked who they are: put it behind a tunnel.",
+        "The IP address of the server. Nothing is encrypted, not even a token: put it behind a tunnel.",
     )
     .default_value("127.0.0.1")
 }
@@ -333,6 +348,12 @@ fn verbose<'a>(alloc: Global) -> Arg<'a>
         .long("verbose")
         .action(ArgAction::SetTrue)
         .help("Tell on standard error, after each thousand states, how many came or went so far.")
+}
+
+fn token_file<'a>(alloc: Global, help: &'a str) -> Arg<'a>
+    ensures { rule_of result ≡ spec.token_file }
+{
+    text(alloc, "token-file", "FILE", help)
 }
 
 /// An option whose value is a text.

@@ -11,6 +11,7 @@ mod hexadecimal;
 mod input;
 mod options;
 mod order;
+mod token_files;
 
 pub use addresses::addresses_of;
 pub use command::{Ask, Command, Line, Typed, View, line_of, typed_of};
@@ -20,3 +21,4 @@ pub use hexadecimal::{BYTES_MAX, HEX_MAX, first_line, hex_bytes};
 pub use input::{read_input, tell, write_out};
 pub use options::Repeat;
 pub use order::{MOST_KEYS, Order, OrderFault, Setup, order_of};
+pub use token_files::{TOKEN_FILE_MAX, token_line};

@@ -2,7 +2,7 @@
 ghost use Rattle.std.specs.Prelude.{◌≡◌, ◌≤◌, IfErr, IfOk, IfSome, false, option_map};
 ghost use Rattle.std.specs.Option.{option_map_or};
 ghost use Rattle.clap.specs.Words.{first_of};
-ghost use Rattle.mvd_input.specs.Orders.{AreClients, HasPort, IsAddressOf, IsClients, IsConns, IsDbOf, IsHttp, IsIdle, IsIpOf, IsPort, IsRepeatOf, IsRounds, IsSeconds, IsTimes, IsUnread, ReadsGiven, ReadsNumber, is_given, is_word, options_of};
+ghost use Rattle.mvd_input.specs.Orders.{AreClients, HasPort, IsAddressOf, IsClients, IsConns, IsDbOf, IsHttp, IsIdle, IsIpOf, IsPort, IsRepeatOf, IsRounds, IsSeconds, IsTimes, IsTokenFile, IsUnread, ReadsGiven, ReadsNumber, is_given, is_word, options_of};
 
 use crate::command::number_of;
 use clap::ArgMatches;
@@ -80,6 +80,13 @@ pub(crate) fn db_in<'a>(matches: &ArgMatches<'a>) -> Result<&'a str, Unread>
         Some(db) => Ok(db),
         None => Err(Unread::Text("the option '--db <FILE>' is missing")),
     }
+}
+
+/// The file with the token, where it is given.
+pub(crate) fn token_file_in<'a>(matches: &ArgMatches<'a>) -> Option<&'a str>
+    ensures { IsTokenFile (options_of matches.now) result }
+{
+    text_in(matches, "token-file")
 }
 
 /// The number of an option, where it is given: `Range` where it is 0 or too great.

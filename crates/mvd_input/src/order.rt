@@ -9,7 +9,7 @@ use crate::addresses::is_address_list;
 use crate::command_words::{command, command_of};
 use crate::options::{
     Repeat, Unread, address_in, clients_in, conns_in, db_in, given_in, http_in, idle_in, is_given,
-    repeat_in, text_in,
+    repeat_in, text_in, token_file_in,
 };
 use clap::error::ErrorKind;
 use clap::{ArgMatches, Command, Error};
@@ -43,7 +43,8 @@ pub struct Setup<'a> {
 }
 
 /// What a command line asks for. Numbers are in their ranges: those of a site as told there, a port at least 1,
-/// `conns` 1 to 1,000, `idle` 1 to 86,400 seconds, the port `http` at least 1, and `clients` 1 to 10,000.
+/// `conns` 1 to 1,000, `idle` 1 to 86,400 seconds, the port `http` at least 1, and `clients` 1 to 10,000. The first line
+/// of a `token_file` is the token that a server asks for, or that it is shown.
 #[derive(Clone, Copy, PartialEq, Eq)]
 pub enum Order<'a> {
     /// Run a script from standard input.
@@ -59,16 +60,19 @@ pub enum Order<'a> {
         idle: u32,
         http: Option<u16>,
         clients: u32,
+        token_file: Option<&'a str>,
     },
     /// Answer the lines of standard input on a database.
     Shell {
         db: &'a str,
         setup: Setup<'a>,
+        token_file: Option<&'a str>,
     },
     /// Answer the lines of standard input through a server.
     RemoteShell {
         address: SocketAddr,
         idle: u32,
+        token_file: Option<&'a str>,
     },
     /// Run a session of a database with a server.
     Sync {
@@ -77,6 +81,7 @@ pub enum Order<'a> {
         address: SocketAddr,
         idle: u32,
         verbose: bool,
+        token_file: Option<&'a str>,
     },
     /// Run sessions between a server and each of a list, which `addresses_of` reads.
     Meet {
@@ -85,6 +90,7 @@ pub enum Order<'a> {
         repeat: Option<Repeat>,
         idle: u32,
         verbose: bool,
+        token_file: Option<&'a str>,
     },
 }
 
@@ -175,6 +181,7 @@ fn serve_of<'a>(matches: &ArgMatches<'a>) -> Result<Order<'a>, Unread>
         http: http_in(matches)?,
         clients: clients_in(matches)?,
         address: address_in(matches)?,
+        token_file: token_file_in(matches),
     })
 }
 
@@ -192,6 +199,7 @@ fn sync_of<'a>(matches: &ArgMatches<'a>) -> Result<Order<'a>, Unread>
             address: address_in(matches)?,
             idle: idle_in(matches)?,
             verbose: is_verbose(matches),
+            token_file: token_file_in(matches),
         }),
     }
 }
@@ -209,6 +217,7 @@ fn meet_of<'a>(matches: &ArgMatches<'a>, with: &'a str) -> Result<Order<'a>, Unr
         idle: idle_in(matches)?,
         verbose: is_verbose(matches),
         address: address_in(matches)?,
+        token_file: token_file_in(matches),
     })
 }
 
@@ -228,10 +237,12 @@ fn shell_of<'a>(matches: &ArgMatches<'a>) -> Result<Order<'a>, Unread>
         Some(db) => Ok(Order::Shell {
             db,
             setup: setup_in(matches)?,
+            token_file: token_file_in(matches),
         }),
         None => Ok(Order::RemoteShell {
             address: address_in(matches)?,
             idle: idle_in(matches)?,
+            token_file: token_file_in(matches),
         }),
     }
 }

@@ -240,6 +240,8 @@ module _ {A : Type 0} (Answers : A → A → Request → Reply → Type 0) where
   is_question (ask.Find field term) request is not_put not_delete = (refl, is)
   is_question (ask.Range field terms) request is not_put not_delete = (refl, is)
   is_question (ask.Rows view) request is not_put not_delete = (refl, is)
+  is_question (ask.Keys prefix) request is not_put not_delete = (refl, is)
+  is_question ask.Conflicts request is not_put not_delete = (refl, is)
 
   pub asks_question : (old : A) (a : Ask) (request : Result Request Refusal) → IsAnswer request (question a) → ((key context document : Bor (List ℕ)) → a ≡ ask.Put key context document → ⊥) → ((key context : Bor (List ℕ)) → a ≡ ask.Delete key context → ⊥) → AsksFirst Answers old old a request
   asks_question old a request is not_put not_delete = record { exchanges = []; answered = answered_none old; read = is_question a request is not_put not_delete }

@@ -1,5 +1,6 @@
 -- The requests that the texts of a line are (docs/FORMATS.md, Script), read from left to right: the first refusal decides.
 use Rattle.std.specs.Prelude.{ℕ, ◌≡◌, ◌≢◌, ◌-◌, ◌⊎◌, ◌&&◌, nat_le, if◌then◌else◌, true, List, [], ◌∷◌, codes, length, map, Option, Some, None, option_map, Result, Ok, Err}
+use Rattle.std.specs.Borrow.{Bor}
 use Rattle.std.specs.List.{slice_get}
 use Rattle.std.specs.Str.{bytes_eq}
 use Rattle.mvd_dots.specs.Answer.{IsAnswer, IsReading}
@@ -16,12 +17,13 @@ use Rattle.mvd_keys.specs.Key.{key_of_text}
 use Rattle.mvd_keys.specs.Path.{path_of}
 use Rattle.mvd_keys.specs.Writes.{Key}
 use Rattle.mvd_keys.specs.declared.places.Place.{Place}
+use Rattle.mvd_wire.specs.Prefix.{prefix_of_text}
 use Rattle.mvd_input.specs.declared.command.Ask.{Ask}
 use Rattle.mvd_input.specs.declared.command.Ask.TheVariants as ask
 use Rattle.mvd_wire.specs.declared.reply.Reply.{Reply}
 use Rattle.mvd_wire.specs.declared.reply.Reply.TheVariants as reply
 use Rattle.mvd_wire.specs.declared.request.Request.{Request}
-use Rattle.mvd_wire.specs.declared.request.Request.TheVariants.{Get, Put, Delete, Find, Row, Rows, Node, Range}
+use Rattle.mvd_wire.specs.declared.request.Request.TheVariants.{Get, Put, Delete, Find, Row, Rows, Node, Range, Keys, Conflicts}
 
 -- a request, and the reply to it
 pub record Exchange : Type 0 where
@@ -48,6 +50,14 @@ row_asked view term = then_read (view_name_of view) (λ v. then_read (term_of_js
 abbrev pub rows_asked : List ℕ → Option Term → Result Request Refusal
 rows_asked view after = then_read (view_name_of view) (λ v. Ok (Rows v after))
 
+-- keys with how many siblings each has, behind a key: those that begin with a prefix, or all where there is none
+abbrev pub prefix_text : Option (Bor (List ℕ)) → List ℕ
+prefix_text None = []
+prefix_text (Some text) = text.now
+
+abbrev pub keys_asked : Option (Bor (List ℕ)) → Option Key → Result Request Refusal
+keys_asked prefix after = then_read (prefix_of_text (prefix_text prefix)) (λ p. Ok (Keys p after))
+
 -- the value of a lower-case hexadecimal digit, and of no other byte one that a path may have
 abbrev pub digit_in : ℕ → ℕ
 digit_in byte = if nat_le 48 byte && nat_le byte 57 then byte - 48 else (if nat_le 97 byte && nat_le byte 102 then byte - 87 else 255)
@@ -67,6 +77,8 @@ question (ask.Node path) = then_read (path_in path.now) (λ p. Ok (Node p))
 question (ask.Find field term) = find_asked field.now term.now None
 question (ask.Range field terms) = range_asked field.now terms.now None
 question (ask.Rows view) = rows_asked view.now None
+question (ask.Keys prefix) = keys_asked prefix None
+question ask.Conflicts = Ok (Conflicts None)
 
 -- ---- writes
 
@@ -110,6 +122,8 @@ IsRequestOf (ask.Node path) exchanges request = IsQuestionOf (ask.Node path) exc
 IsRequestOf (ask.Find field term) exchanges request = IsQuestionOf (ask.Find field term) exchanges request
 IsRequestOf (ask.Range field terms) exchanges request = IsQuestionOf (ask.Range field terms) exchanges request
 IsRequestOf (ask.Rows view) exchanges request = IsQuestionOf (ask.Rows view) exchanges request
+IsRequestOf (ask.Keys prefix) exchanges request = IsQuestionOf (ask.Keys prefix) exchanges request
+IsRequestOf ask.Conflicts exchanges request = IsQuestionOf ask.Conflicts exchanges request
 
 -- ---- pages
 
@@ -133,8 +147,14 @@ abbrev pub next_rows : Ask → Option Term → Result (Option Request) Refusal
 next_rows (ask.Rows view) last = behind last (λ term. rows_asked view.now (Some term))
 next_rows _ last = Ok None
 
+abbrev pub next_counts : Ask → Option Key → Result (Option Request) Refusal
+next_counts (ask.Keys prefix) last = behind last (λ key. keys_asked prefix (Some key))
+next_counts ask.Conflicts last = behind last (λ key. Ok (Conflicts (Some key)))
+next_counts _ last = Ok None
+
 -- the next page of a list, where more is left behind this one
 abbrev pub next_asked : Ask → Reply → Result (Option Request) Refusal
 next_asked asked (reply.Places places true) = next_places asked (last_of places)
 next_asked asked (reply.Rows rows true) = next_rows asked (option_map (λ row. row.0) (last_of rows))
+next_asked asked (reply.Counts counts true) = next_counts asked (option_map (λ entry. entry.0) (last_of counts))
 next_asked asked told = Ok None

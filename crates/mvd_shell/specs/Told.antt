@@ -2,7 +2,7 @@
 use Rattle.std.specs.Prelude.{ℕ, Bool, true, false, List, Result}
 use Rattle.mvd_dots.specs.declared.refusals.Refusal.{Refusal}
 use Rattle.mvd_input.specs.declared.command.Ask.{Ask}
-use Rattle.mvd_input.specs.declared.command.Ask.TheVariants.{Put, Delete, Get, Row, Node, Find, Range, Rows}
+use Rattle.mvd_input.specs.declared.command.Ask.TheVariants.{Put, Delete, Get, Row, Node, Find, Range, Rows, Keys, Conflicts}
 use Rattle.mvd_print.specs.Text.{reply_text}
 use Rattle.mvd_wire.specs.declared.reply.Reply.{Reply}
 
@@ -16,6 +16,8 @@ tells_terms (Node _) = false
 tells_terms (Find _ _) = false
 tells_terms (Range _ _) = true
 tells_terms (Rows _) = false
+tells_terms (Keys _) = false
+tells_terms Conflicts = false
 
 -- the text of a reply to what was asked
 abbrev pub answer_text : Ask → Reply → Result (List ℕ) Refusal

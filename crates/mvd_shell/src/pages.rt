@@ -1,13 +1,13 @@
 //! Lists, asked for page after page.
 ghost use Rattle.std.specs.Prelude.{Some};
 ghost use Rattle.mvd_dots.specs.Answer.{IsAnswer};
-ghost use Rattle.mvd_shell.specs.Asked.{next_asked, next_places, next_rows};
+ghost use Rattle.mvd_shell.specs.Asked.{next_asked, next_counts, next_places, next_rows};
 
-use crate::text_requests::{find_of, range_of, rows_of};
+use crate::text_requests::{find_of, keys_of, range_of, rows_of};
 use mvd_docs::Term;
 use mvd_dots::Refusal;
 use mvd_input::Ask;
-use mvd_keys::Place;
+use mvd_keys::{Key, Place};
 use mvd_wire::{Reply, Request};
 use std::alloc::Global;
 
@@ -22,6 +22,10 @@ pub fn next_page(alloc: Global, ask: Ask<'_>, reply: &Reply) -> Result<Option<Re
         },
         Reply::Rows(rows, true) => match rows.as_slice().last() {
             Some(row) => after_row(alloc, ask, &row.0),
+            None => Ok(None),
+        },
+        Reply::Counts(counts, true) => match counts.as_slice().last() {
+            Some(count) => after_key(alloc, ask, &count.0),
             None => Ok(None),
         },
         _ => Ok(None),
@@ -51,6 +55,22 @@ fn after_row(alloc: Global, ask: Ask<'_>, term: &Term) -> Result<Option<Request>
         Ask::Rows { view } => {
             let after = term.copy(alloc)?;
             Ok(Some(rows_of(alloc, view, Some(after))?))
+        }
+        _ => Ok(None),
+    }
+}
+
+fn after_key(alloc: Global, ask: Ask<'_>, key: &Key) -> Result<Option<Request>, Refusal>
+    ensures { IsAnswer result (next_counts ask.entry (Some key.now)) }
+{
+    match ask {
+        Ask::Keys { prefix } => {
+            let after = key.copy(alloc)?;
+            Ok(Some(keys_of(alloc, prefix, Some(after))?))
+        }
+        Ask::Conflicts => {
+            let after = key.copy(alloc)?;
+            Ok(Some(Request::Conflicts(Some(after))))
         }
         _ => Ok(None),
     }

@@ -25,6 +25,9 @@ find F TERM     the keys whose documents have TERM at the indexed field F
 range F PAIR    those from one term to another; PAIR is a JSON array of the two
 row V TERM      of the row of TERM in the view V: count, sum, least and greatest
 rows V          all rows of the view V
+keys            all keys that are held, each with how many siblings it has: 0 where it is deleted
+keys PREFIX     those that begin with PREFIX
+conflicts       those with more than one sibling
 root            the digest of all that is held
 node PATH       the digest of a node of the hash tree; PATH is - or 1 to 3 digits
 CTX is - where nothing was read, @ for all that `get K` shows now, or a context.

@@ -1,7 +1,7 @@
 //! The requests that texts are.
 ghost use Rattle.std.specs.Prelude.{◌≡◌, ◌↔◌, IsTrue, List, codes};
 ghost use Rattle.mvd_dots.specs.Answer.{IsAnswer};
-ghost use Rattle.mvd_shell.specs.Asked.{Exchange, IsWriteOf, Sees, delete_of, digit_in, find_asked, path_in, put_of, question, range_asked, row_asked, rows_asked, shown as shown_by};
+ghost use Rattle.mvd_shell.specs.Asked.{Exchange, IsWriteOf, Sees, delete_of, digit_in, find_asked, keys_asked, path_in, put_of, question, range_asked, row_asked, rows_asked, shown as shown_by};
 ghost use Rattle.mvd_shell.specs.Talk.{Answered, AsksFirst};
 
 use mvd_docs::{Document, Field, Term, ViewName};
@@ -9,7 +9,7 @@ use mvd_dots::{Context, Dot, Refusal};
 use mvd_input::Ask;
 use mvd_keys::{Key, Path, Place};
 use mvd_peer::Endpoint;
-use mvd_wire::{Reply, Request};
+use mvd_wire::{Prefix, Reply, Request};
 use std::alloc::Global;
 
 /// The request that the texts are, for its first page where it asks for a list. They are read from left to right.
@@ -43,6 +43,8 @@ fn question_of(alloc: Global, ask: Ask<'_>) -> Result<Request, Refusal>
         Ask::Find { field, term } => find_of(alloc, field, term, None),
         Ask::Range { field, terms } => range_of(alloc, field, terms, None),
         Ask::Rows { view } => rows_of(alloc, view, None),
+        Ask::Keys { prefix } => keys_of(alloc, prefix, None),
+        Ask::Conflicts => Ok(Request::Conflicts(None)),
     }
 }
 
@@ -184,6 +186,14 @@ pub fn rows_of(alloc: Global, view: &str, after: Option<Term>) -> Result<Request
     ensures { IsAnswer result (rows_asked view.now after) }
 {
     Ok(Request::Rows(ViewName::read(alloc, view)?, after))
+}
+
+/// The keys that begin with a prefix, or all where there is none, after one of them.
+pub fn keys_of(alloc: Global, prefix: Option<&str>, after: Option<Key>) -> Result<Request, Refusal>
+    ensures { IsAnswer result (keys_asked prefix.entry after) }
+{
+    let prefix = Prefix::read(alloc, prefix.unwrap_or(""))?;
+    Ok(Request::Keys(prefix, after))
 }
 
 /// The path of a text: `-`, or 1 to 3 lower-case hexadecimal digits.

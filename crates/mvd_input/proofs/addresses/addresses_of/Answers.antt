@@ -1,6 +1,6 @@
-use Rattle.std.proofs.Common.{Some, None, Option, Bor, List, ℕ, ap, subst, sym}
+use Rattle.std.proofs.Common.{Some, None, Option, Bor, List, ℕ, subst, sym}
 use Rattle.std.specs.Option.{option_copied}
-use Rattle.mvd_input.proofs.Addressed.{Finding, begins_finding, finds_all, finds_more, next_item}
+use Rattle.mvd_input.proofs.Addressed.{Finding, begins_finding, finds_all, finds_more}
 use Rattle.mvd_input.proofs.addresses.addresses_of.Goals as goal
 
 pub loop-rest-init : goal.loop-rest-init

@@ -1,3 +1,6 @@
 pub mod Texts
 pub mod Steps
 pub mod Telling
+pub mod Counting
+pub mod Lines
+pub mod LineLengths

@@ -5,7 +5,7 @@ use Rattle.std.specs.FinSet as set
 use Rattle.mvd_dots.specs.Context.{DotSet}
 use Rattle.mvd_dots.specs.Dot.{DotValue}
 use Rattle.mvd_dots.specs.declared.refusals.Refusal.{Refusal}
-use Rattle.mvd_dots.specs.declared.refusals.Refusal.TheVariants.{BadKey, BadContext, BadDocument, NotObject, BadNumber, DocumentTooLong, NotCanonical, Exhausted, StateTooLarge, Full, DotClash, NoIndex, NoView, BadPath, BadTerm, Memory, Store, Broken, BadBody, BadKind}
+use Rattle.mvd_dots.specs.declared.refusals.Refusal.TheVariants.{BadKey, BadContext, BadDocument, NotObject, BadNumber, DocumentTooLong, NotCanonical, Exhausted, StateTooLarge, Full, DotClash, NoIndex, NoView, BadPath, BadTerm, Memory, Store, Broken, BadBody, BadKind, NotAdmitted}
 use Rattle.mvd_docs.specs.declared.term.Term.{Term}
 use Rattle.mvd_keys.specs.State.{State}
 use Rattle.mvd_keys.specs.Writes.{Key}
@@ -14,7 +14,7 @@ use Rattle.mvd_wire.specs.declared.reply.Reply.{Reply}
 use Rattle.mvd_wire.specs.declared.reply.Reply.TheVariants as reply
 use Rattle.mvd_wire.specs.declared.request.Request.{Request}
 use Rattle.mvd_wire.specs.declared.request.Request.TheVariants.{Get, Put, Row}
-use Rattle.mvd_http.specs.Json.{state_text, written_text, places_text, rows_text, keys_text, row_text, node_text, refused_text}
+use Rattle.mvd_http.specs.Json.{state_text, written_text, places_text, rows_text, keys_text, counts_text, live_text, row_text, node_text, refused_text}
 
 -- a status and a body
 pub record Told : Type 0 where
@@ -38,6 +38,7 @@ refused_status NotCanonical = 400
 refused_status BadPath = 400
 refused_status BadTerm = 400
 refused_status BadBody = 400
+refused_status NotAdmitted = 401
 refused_status NoIndex = 404
 refused_status NoView = 404
 refused_status Exhausted = 409
@@ -93,7 +94,13 @@ reply_told request (reply.Row row) = row_told (term_asked request) row
 reply_told request (reply.Rows rows more) = Ok (ok_told (rows_text rows more))
 reply_told request (reply.Digests digests) = Ok (ok_told (node_text digests.own digests.children))
 reply_told request (reply.Keys keys more) = Ok (ok_told (keys_text keys more))
+reply_told request (reply.Counts keys more) = Ok (ok_told (counts_text keys more))
 reply_told request (reply.Refused refusal) = Err refusal
+
+-- the same, where keys without a sibling are left out
+abbrev pub live_told : Request → Reply → Result Told Refusal
+live_told request (reply.Counts keys more) = Ok (ok_told (live_text keys more))
+live_told request reply = reply_told request reply
 
 -- ---- what is told
 

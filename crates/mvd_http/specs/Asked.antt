@@ -4,13 +4,14 @@ use Rattle.std.specs.Prelude.{ℕ, ◌-◌, ◌==◌, ◌^◌, ◌≡◌, ◌&&�
 use Rattle.std.specs.FinSet as set
 use Rattle.std.specs.Char.{is_ascii_digit}
 use Rattle.std.specs.List.{list_all}
-use Rattle.std.specs.Str.{bytes_eq, is_utf8}
+use Rattle.std.specs.Str.{bytes_eq}
 use Rattle.std.specs.Str.Parse.{digits_value}
+use Rattle.hex.specs.Hex.{decode_sized}
+use Rattle.hex.specs.declared.error.FromHexError.{FromHexError}
 use Rattle.percent_encoding.specs.Percent.{percent_decode}
-use Rattle.mvd_dots.specs.Answer.{IsAnswer, IsReading}
+use Rattle.mvd_dots.specs.Answer.{IsAnswer}
 use Rattle.mvd_dots.specs.Context.{DotSet}
 use Rattle.mvd_dots.specs.Dot.{DotValue}
-use Rattle.mvd_dots.specs.Text.{IsTextOf}
 use Rattle.mvd_dots.specs.declared.refusals.Refusal.{Refusal}
 use Rattle.mvd_dots.specs.declared.refusals.Refusal.TheVariants.{BadBody, BadContext, BadDocument, BadKey, BadTerm, NoIndex, NoView}
 use Rattle.mvd_docs.specs.Document.{document_of}
@@ -21,18 +22,17 @@ use Rattle.mvd_keys.specs.Key.{key_of_text}
 use Rattle.mvd_keys.specs.Path.{path_of}
 use Rattle.mvd_keys.specs.Writes.{Key}
 use Rattle.mvd_keys.specs.declared.places.Place.{Place}
-use Rattle.mvd_wire.specs.declared.request.Request.TheVariants.{Get, Put, Delete, Row, Rows, Node, Bucket, Range}
+use Rattle.mvd_wire.specs.Prefix.{prefix_of_text}
+use Rattle.mvd_wire.specs.declared.request.Request.{Request}
+use Rattle.mvd_wire.specs.declared.request.Request.TheVariants.{Get, Put, Delete, Row, Rows, Node, Bucket, Range, Keys, Conflicts}
 use Rattle.mvd_http.specs.declared.question.Question.{Question}
-use Rattle.mvd_http.specs.declared.question.Question.TheVariants.{Page, Root, Metrics, Ask, Nowhere, NotAllowed}
-use Rattle.mvd_http.specs.declared.question.Methods.TheVariants.{OfKey, OfList}
+use Rattle.mvd_http.specs.declared.question.Question.TheVariants.{Page, Root, Metrics, Ask, Live, Changes, Nowhere, NotAllowed}
+use Rattle.mvd_http.specs.declared.question.Methods.TheVariants.{OfKey, OfKeys, OfList}
 use Rattle.mvd_http.specs.declared.question.Verb.{Verb}
 use Rattle.mvd_http.specs.declared.question.Verb.TheVariants as verb
 use Rattle.mvd_http.specs.Paths.{before, behind, given, read_part, read_text, without, without_end}
-
--- what is made of a value, or the refusal in its place
-abbrev pub then_read : {A B : Type 0} → Result A Refusal → (A → Result B Refusal) → Result B Refusal
-then_read (Ok value) read = read value
-then_read (Err refusal) read = Err refusal
+use Rattle.mvd_http.specs.Posted.{IsMany}
+use Rattle.mvd_http.specs.Seen.{IsWrite, then_read}
 
 -- a refusal in place of another
 abbrev pub else_refused : {A : Type 0} → Refusal → Result A Refusal → Result A Refusal
@@ -43,6 +43,10 @@ else_refused refusal (Err other) = Err refusal
 
 abbrev pub key_in : List ℕ → Result Key Refusal
 key_in text = read_part key_of_text BadKey text
+
+-- the empty prefix is one
+abbrev pub prefix_in : List ℕ → Result (List ℕ) Refusal
+prefix_in text = read_part prefix_of_text BadKey text
 
 -- a text that names no field has no index, and one that names no view is none
 abbrev pub field_in : List ℕ → Result (List ℕ) Refusal
@@ -92,6 +96,25 @@ place_of_text text = then_read (dot_in (before 32 text)) (λ dot. place_with dot
 abbrev pub place_in : List ℕ → Result Place Refusal
 place_in text = place_of_text (percent_decode text)
 
+-- ---- a root, and how long to wait
+
+abbrev pub root_of : Result (List ℕ) FromHexError → Result (List ℕ) Refusal
+root_of (Ok bytes) = Ok bytes
+root_of (Err fault) = Err BadBody
+
+-- the 32 bytes of 64 hexadecimal digits
+abbrev pub root_in : List ℕ → Result (List ℕ) Refusal
+root_in text = root_of (decode_sized (percent_decode text) 32)
+
+-- at most 60 seconds
+abbrev pub wait_of : Option ℕ → Result ℕ Refusal
+wait_of None = Err BadBody
+wait_of (Some seconds) = if nat_le seconds 60 then Ok seconds else Err BadBody
+
+abbrev pub wait_in : List ℕ → Result ℕ Refusal
+wait_in [] = Ok 0
+wait_in (b ∷ bs) = wait_of (number_in (percent_decode (b ∷ bs)))
+
 -- ---- lists
 
 -- `is` stands for both bounds
@@ -137,8 +160,29 @@ under path query =
     then then_read (if_given key_in (given (codes "after=") query)) (λ after. Ok (Ask (Bucket path after)))
     else Ok (Ask (Node path))
 
+abbrev pub tree_asked : List ℕ → Result Question Refusal
+tree_asked query = then_read (path_in (given (codes "path=") query)) (λ path. under path query)
+
+-- `live=1` leaves out keys without a sibling
+abbrev pub keys_as : Bool → Request → Question
+keys_as true request = Live request
+keys_as false request = Ask request
+
+abbrev pub is_live : List ℕ → Bool
+is_live query = bytes_eq (given (codes "live=") query) (codes "1")
+
 abbrev pub keys_asked : List ℕ → Result Question Refusal
-keys_asked query = then_read (path_in (given (codes "path=") query)) (λ path. under path query)
+keys_asked query =
+    then_read (prefix_in (given (codes "prefix=") query)) (λ prefix.
+    then_read (if_given key_in (given (codes "after=") query)) (λ after. Ok (keys_as (is_live query) (Keys prefix after))))
+
+abbrev pub conflicts_asked : List ℕ → Result Question Refusal
+conflicts_asked query = then_read (if_given key_in (given (codes "after=") query)) (λ after. Ok (Ask (Conflicts after)))
+
+abbrev pub changes_asked : List ℕ → Result Question Refusal
+changes_asked query =
+    then_read (if_given root_in (given (codes "since=") query)) (λ since.
+    then_read (wait_in (given (codes "wait=") query)) (λ wait. Ok (Changes since wait)))
 
 abbrev pub named_view : Option (List ℕ) → List ℕ → Result Question Refusal
 named_view None query = Ok Nowhere
@@ -148,35 +192,20 @@ abbrev pub named_list : Option (List ℕ) → List ℕ → List ℕ → Result Q
 named_list None path query = named_view (without (codes "/views/") path) query
 named_list (Some field) path query = index_asked field query
 
+-- what changes, and what is told of the keys
+abbrev pub told_asked : List ℕ → List ℕ → Result Question Refusal
+told_asked path query =
+    if bytes_eq path (codes "/conflicts") then conflicts_asked query else (
+    if bytes_eq path (codes "/changes") then changes_asked query else (
+    if bytes_eq path (codes "/tree") then tree_asked query else named_list (without (codes "/index/") path) path query))
+
 abbrev pub list_asked : List ℕ → List ℕ → Result Question Refusal
 list_asked path query =
     if bytes_eq path (codes "/") then Ok Page else (
     if bytes_eq path (codes "/root") then Ok Root else (
-    if bytes_eq path (codes "/metrics") then Ok Metrics else (
-    if bytes_eq path (codes "/keys") then keys_asked query else named_list (without (codes "/index/") path) path query)))
+    if bytes_eq path (codes "/metrics") then Ok Metrics else told_asked path query))
 
 -- ---- keys
-
--- the context that the author of a write saw: that of the field, and where it is absent the empty one, or none
-abbrev pub IsContext : Bool → List ℕ → Result DotSet Refusal → Type 0
-IsContext true text seen = IsReading (λ dots. IsTextOf dots text) BadContext seen
-IsContext false text seen = seen ≡ Err BadContext
-
-abbrev pub IsSeen : Result DotSet Refusal → Option (List ℕ) → Result DotSet Refusal → Type 0
-IsSeen absent None seen = seen ≡ absent
-IsSeen absent (Some text) seen = IsContext (is_utf8 text) text seen
-
-abbrev pub After : {A B : Type 0} → Result A Refusal → (A → Result B Refusal → Type 0) → Result B Refusal → Type 0
-After (Ok value) Is result = Is value result
-After (Err refusal) Is result = result ≡ Err refusal
-
-abbrev pub IsMade : Result DotSet Refusal → Option (List ℕ) → (DotSet → Result Question Refusal) → Result Question Refusal → Type 0
-IsMade absent context make result =
-    (seen : Result DotSet Refusal) × IsSeen absent context seen × After seen (λ dots made. IsAnswer made (make dots)) result
-
-abbrev pub IsWrite : Result DotSet Refusal → List ℕ → Option (List ℕ) → (Key → DotSet → Result Question Refusal) → Result Question Refusal → Type 0
-IsWrite absent key context make result =
-    (read : Result Key Refusal) × IsAnswer read (key_in key) × After read (λ k made. IsMade absent context (make k) made) result
 
 abbrev pub put_of : List ℕ → Key → DotSet → Result Question Refusal
 put_of body key seen = then_read (read_text document_of BadDocument body) (λ document. Ok (Ask (Put key seen document)))
@@ -186,9 +215,18 @@ delete_of key seen = Ok (Ask (Delete key seen))
 
 abbrev pub IsOfKey : Verb → List ℕ → Option (List ℕ) → List ℕ → Result Question Refusal → Type 0
 IsOfKey verb.Read key context body result = IsAnswer result (then_read (key_in key) (λ k. Ok (Ask (Get k))))
-IsOfKey verb.Put key context body result = IsWrite (Ok set.empty) key context (put_of body) result
-IsOfKey verb.Delete key context body result = IsWrite (Err BadContext) key context delete_of result
+IsOfKey verb.Put key context body result = IsWrite (Ok set.empty) (key_in key) context (put_of body) result
+IsOfKey verb.Delete key context body result = IsWrite (Err BadContext) (key_in key) context delete_of result
+IsOfKey verb.Post key context body result = result ≡ Ok (NotAllowed OfKey)
 IsOfKey verb.Other key context body result = result ≡ Ok (NotAllowed OfKey)
+
+-- all keys: their list, or many writes
+abbrev pub IsOfKeys : Verb → List ℕ → List ℕ → Result Question Refusal → Type 0
+IsOfKeys verb.Read query body result = IsAnswer result (keys_asked query)
+IsOfKeys verb.Post query body result = IsMany body result
+IsOfKeys verb.Put query body result = result ≡ Ok (NotAllowed OfKeys)
+IsOfKeys verb.Delete query body result = result ≡ Ok (NotAllowed OfKeys)
+IsOfKeys verb.Other query body result = result ≡ Ok (NotAllowed OfKeys)
 
 -- ---- requests
 
@@ -198,14 +236,19 @@ verb_of method =
     if bytes_eq method (codes "GET") then verb.Read else (
     if bytes_eq method (codes "HEAD") then verb.Read else (
     if bytes_eq method (codes "PUT") then verb.Put else (
-    if bytes_eq method (codes "DELETE") then verb.Delete else verb.Other)))
+    if bytes_eq method (codes "DELETE") then verb.Delete else (
+    if bytes_eq method (codes "POST") then verb.Post else verb.Other))))
 
 abbrev pub read_only : Verb → List ℕ → List ℕ → Result Question Refusal
 read_only verb.Read path query = list_asked path query
 read_only _ path query = Ok (NotAllowed OfList)
 
+abbrev pub IsOfServer : Bool → Verb → List ℕ → List ℕ → List ℕ → Result Question Refusal → Type 0
+IsOfServer true verb path query body result = IsOfKeys verb query body result
+IsOfServer false verb path query body result = IsAnswer result (read_only verb path query)
+
 abbrev pub IsAsked : Option (List ℕ) → Verb → List ℕ → List ℕ → Option (List ℕ) → List ℕ → Result Question Refusal → Type 0
-IsAsked None verb path query context body result = IsAnswer result (read_only verb path query)
+IsAsked None verb path query context body result = IsOfServer (bytes_eq path (codes "/keys")) verb path query body result
 IsAsked (Some key) verb path query context body result = IsOfKey verb key context body result
 
 -- a request of this method, target, field `Mvd-Context` and body asks this

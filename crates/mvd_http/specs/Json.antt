@@ -1,5 +1,5 @@
 -- The JSON that replies are told in (RFC 8259), this repository's own form.
-use Rattle.std.specs.Prelude.{ℕ, ℤ, ◌-◌, ◌++◌, Bool, true, false, List, [], ◌∷◌, codes, length, Option, Some, None, option_map}
+use Rattle.std.specs.Prelude.{ℕ, ℤ, ◌-◌, ◌++◌, nat_lt, Bool, true, false, List, [], ◌∷◌, codes, length, filter, Option, Some, None, option_map}
 use Rattle.std.specs.Fmt.{decimal, signed_decimal}
 use Rattle.std.specs.List.{flat_map, slice_get}
 use Rattle.std.specs.FinMap.{entries}
@@ -11,10 +11,13 @@ use Rattle.mvd_dots.specs.Dot.{DotValue}
 use Rattle.mvd_dots.specs.Text.{text_of}
 use Rattle.mvd_dots.specs.Refusal.{number_of, name_of}
 use Rattle.mvd_dots.specs.declared.refusals.Refusal.{Refusal}
+use Rattle.mvd_dots.specs.declared.refusals.Refusal.TheVariants.{BadKind}
 use Rattle.mvd_docs.specs.declared.term.Term.{Term}
 use Rattle.mvd_keys.specs.State.{State, Text}
 use Rattle.mvd_keys.specs.Writes.{Key}
 use Rattle.mvd_keys.specs.declared.places.Place.{Place}
+use Rattle.mvd_wire.specs.declared.reply.Reply.{Reply}
+use Rattle.mvd_wire.specs.declared.reply.Reply.TheVariants as reply
 use Rattle.mvd_print.specs.Text.{dot_text, term_text}
 
 -- a text as a JSON string
@@ -26,6 +29,10 @@ quoted text = compact_text (string text)
 -- what goes before each entry but the first
 abbrev pub led : {X : Type 0} → (X → List ℕ) → X → List ℕ
 led text x = codes "," ++ text x
+
+abbrev pub led_if : {X : Type 0} → Bool → (X → List ℕ) → X → List ℕ
+led_if true text x = text x
+led_if false text x = led text x
 
 abbrev pub commaed : {X : Type 0} → (X → List ℕ) → List X → List ℕ
 commaed text [] = []
@@ -80,6 +87,13 @@ key_digest_text entry = codes "{\"key\":" ++ (quoted entry.0 ++ (codes ",\"diges
 abbrev pub key_mark : Key × List ℕ → List ℕ
 key_mark entry = entry.0
 
+-- a key with the number of its siblings
+abbrev pub key_count_text : Key × ℕ → List ℕ
+key_count_text entry = codes "{\"key\":" ++ (quoted entry.0 ++ (codes ",\"siblings\":" ++ (decimal entry.1 ++ codes "}")))
+
+abbrev pub count_mark : Key × ℕ → List ℕ
+count_mark entry = entry.0
+
 -- ---- whole bodies
 
 abbrev pub siblings_text : List (DotValue × Text) → List ℕ
@@ -106,6 +120,17 @@ rows_text rows more = page_text (codes "{\"rows\":[") view_row_text row_mark row
 abbrev pub keys_text : List (Key × List ℕ) → Bool → List ℕ
 keys_text keys more = page_text (codes "{\"keys\":[") key_digest_text key_mark keys more
 
+abbrev pub counts_text : List (Key × ℕ) → Bool → List ℕ
+counts_text keys more = page_text (codes "{\"keys\":[") key_count_text count_mark keys more
+
+-- the same without the keys that have no sibling; the next page begins where it would
+abbrev pub live_of : List (Key × ℕ) → List (Key × ℕ)
+live_of keys = filter (λ entry. nat_lt 0 entry.1) keys
+
+abbrev pub live_text : List (Key × ℕ) → Bool → List ℕ
+live_text keys more =
+    codes "{\"keys\":[" ++ (commaed key_count_text (live_of keys) ++ (codes "]" ++ (next_text (next_of count_mark more keys) ++ codes "}")))
+
 abbrev pub children_text : Option (List (List ℕ)) → List ℕ
 children_text None = []
 children_text (Some children) = codes ",\"children\":[" ++ (commaed digest_text children ++ codes "]")
@@ -113,9 +138,33 @@ children_text (Some children) = codes ",\"children\":[" ++ (commaed digest_text 
 abbrev pub node_text : List ℕ → Option (List (List ℕ)) → List ℕ
 node_text own children = codes "{\"digest\":" ++ (digest_text own ++ (children_text children ++ codes "}"))
 
-abbrev pub root_text : List ℕ → ℕ → ℕ → List ℕ
-root_text digest keys site =
-    codes "{\"root\":" ++ (digest_text digest ++ (codes ",\"keys\":" ++ (decimal keys ++ (codes ",\"site\":" ++ (decimal site ++ codes "}")))))
+abbrev pub root_text : List ℕ → ℕ → ℕ → ℕ → List ℕ
+root_text digest keys conflicts site =
+    codes "{\"root\":" ++ (digest_text digest ++ (codes ",\"keys\":" ++ (decimal keys ++ (codes ",\"conflicts\":" ++ (decimal conflicts ++ (codes ",\"site\":" ++ (decimal site ++ codes "}")))))))
+
+abbrev pub truth_text : Bool → List ℕ
+truth_text true = codes "true"
+truth_text false = codes "false"
+
+-- the keys that changed, and the root now; or that all is to be read anew
+abbrev pub changes_text : List ℕ → List Key → Bool → List ℕ
+changes_text root keys resync =
+    codes "{\"root\":" ++ (digest_text root ++ (codes ",\"keys\":[" ++ (commaed quoted keys ++ (codes "],\"resync\":" ++ (truth_text resync ++ codes "}")))))
 
 abbrev pub refused_text : Refusal → List ℕ
 refused_text refusal = codes "{\"refused\":" ++ (decimal (number_of refusal) ++ (codes ",\"name\":\"" ++ (name_of refusal ++ codes "\"}")))
+
+-- ---- the lines that many writes are told in, each with its line feed (10)
+
+abbrev pub written_line : DotValue → List ℕ
+written_line dot = codes "{\"dot\":\"" ++ (dot_text dot ++ codes "\"}")
+
+-- the reply of one write: its dot, or nothing, or its refusal
+abbrev pub write_text : Reply → List ℕ
+write_text (reply.Written dot) = written_line dot
+write_text reply.Done = codes "{}"
+write_text (reply.Refused refusal) = refused_text refusal
+write_text _ = refused_text BadKind
+
+abbrev pub line_text : Reply → List ℕ
+line_text reply = write_text reply ++ 10 ∷ []

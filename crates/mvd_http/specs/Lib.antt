@@ -1,6 +1,10 @@
 pub mod Paths
+pub mod Seen
+pub mod Posted
 pub mod Asked
 pub mod Json
 pub mod Answers
+pub mod Faults
 pub mod Guard
 pub mod Fields
+pub mod Room

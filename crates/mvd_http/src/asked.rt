@@ -1,22 +1,21 @@
 //! What a request asks.
 ghost use Rattle.std.specs.Prelude.{◌≡◌, codes, option_copied, Ok, Err};
 ghost use Rattle.std.specs.FinSet as set;
-ghost use Rattle.std.specs.Str.{is_utf8};
+ghost use Rattle.std.specs.Str.{bytes_eq, is_utf8};
 ghost use Rattle.mvd_dots.specs.Answer.{IsAnswer};
 ghost use Rattle.mvd_dots.specs.declared.refusals.Refusal.TheVariants.{BadContext};
 ghost use Rattle.mvd_http.specs.declared.question.Question.TheVariants.{Ask};
 ghost use Rattle.mvd_wire.specs.declared.request.Request.TheVariants.{Get};
-ghost use Rattle.mvd_http.specs.Asked.{then_read, key_in as key_read, IsAsked, IsContext, IsOfKey, IsQuestion, IsSeen, IsWrite, bound as bound_given, delete_of as deletes, index_asked, keys_asked, list_asked, named_list as list_named, put_of as puts, read_only, row_asked, row_or, rows_asked, under, verb_of as verb_read, view_asked};
-ghost use Rattle.mvd_http.specs.Paths.{without as left_behind};
+ghost use Rattle.mvd_http.specs.Asked.{key_in as key_read, IsAsked, IsOfKey, IsOfKeys, IsOfServer, IsQuestion, delete_of as deletes, put_of as puts, read_only as only_read, verb_of as verb_read};
+ghost use Rattle.mvd_http.specs.Seen.{IsContext, IsSeen, IsWrite, then_read};
 
-use crate::place::place_if_given;
+use crate::lists_asked::{keys_of, list_of};
+use crate::posted::many_of;
 use crate::question::{Methods, Question, Verb};
-use crate::target::{before, behind, given, without, without_end};
-use crate::target_parts::{
-    document_in, field_in, key_if_given, key_in, path_in, term_if_given, term_in, view_in,
-};
+use crate::target::{before, behind, without};
+use crate::target_parts::{document_in, key_in};
 use mvd_dots::{Context, Refusal};
-use mvd_keys::{Key, Path};
+use mvd_keys::Key;
 use mvd_wire::Request;
 use std::alloc::Global;
 
@@ -35,7 +34,7 @@ pub fn question_of(
     let verb = verb_of(method);
     match without(path, b"/keys/") {
         Some(key) => of_key(alloc, verb, key, context, body),
-        None => of_server(alloc, verb, path, query),
+        None => of_server(alloc, verb, path, query, body),
     }
 }
 
@@ -50,6 +49,9 @@ fn verb_of(method: &[u8]) -> Verb
     }
     if method == b"DELETE".as_slice() {
         return Verb::Delete;
+    }
+    if method == b"POST".as_slice() {
+        return Verb::Post;
     }
     Verb::Other
 }
@@ -68,7 +70,7 @@ fn of_key(
         Verb::Read => get_of(alloc, key),
         Verb::Put => put_in(alloc, key, context, body),
         Verb::Delete => delete_in(alloc, key, context),
-        Verb::Other => Ok(Question::NotAllowed(Methods::OfKey)),
+        Verb::Post | Verb::Other => Ok(Question::NotAllowed(Methods::OfKey)),
     }
 }
 
@@ -85,7 +87,7 @@ fn put_in(
     context: Option<&[u8]>,
     body: &[u8],
 ) -> Result<Question, Refusal>
-    ensures { IsWrite (Ok set.empty) key.now (option_copied context.entry) (puts body.now) result }
+    ensures { IsWrite (Ok set.empty) (key_read key.now) (option_copied context.entry) (puts body.now) result }
 {
     match key_in(alloc, key) {
         Ok(key) => match seen_or_none(alloc, context) {
@@ -104,7 +106,7 @@ fn put_of(alloc: Global, key: Key, seen: Context, body: &[u8]) -> Result<Questio
 }
 
 fn delete_in(alloc: Global, key: &[u8], context: Option<&[u8]>) -> Result<Question, Refusal>
-    ensures { IsWrite (Err BadContext) key.now (option_copied context.entry) deletes result }
+    ensures { IsWrite (Err BadContext) (key_read key.now) (option_copied context.entry) deletes result }
 {
     match key_in(alloc, key) {
         Ok(key) => match seen(alloc, context) {
@@ -146,110 +148,37 @@ fn context_of(alloc: Global, text: &[u8]) -> Result<Context, Refusal>
 }
 
 /// What is asked by a path that names no key.
-fn of_server(alloc: Global, verb: Verb, path: &[u8], query: &[u8]) -> Result<Question, Refusal>
-    ensures { IsAnswer result (read_only verb path.now query.now) }
+fn of_server(
+    alloc: Global,
+    verb: Verb,
+    path: &[u8],
+    query: &[u8],
+    body: &[u8],
+) -> Result<Question, Refusal>
+    ensures { IsOfServer (bytes_eq path.now (codes "/keys")) verb path.now query.now body.now result }
+{
+    if path == b"/keys".as_slice() {
+        return of_keys(alloc, verb, query, body);
+    }
+    read_only(alloc, verb, path, query)
+}
+
+/// What is asked of all keys.
+fn of_keys(alloc: Global, verb: Verb, query: &[u8], body: &[u8]) -> Result<Question, Refusal>
+    ensures { IsOfKeys verb query.now body.now result }
+{
+    match verb {
+        Verb::Read => keys_of(alloc, query),
+        Verb::Post => many_of(alloc, body),
+        _ => Ok(Question::NotAllowed(Methods::OfKeys)),
+    }
+}
+
+fn read_only(alloc: Global, verb: Verb, path: &[u8], query: &[u8]) -> Result<Question, Refusal>
+    ensures { IsAnswer result (only_read verb path.now query.now) }
 {
     match verb {
         Verb::Read => list_of(alloc, path, query),
         _ => Ok(Question::NotAllowed(Methods::OfList)),
     }
-}
-
-fn list_of(alloc: Global, path: &[u8], query: &[u8]) -> Result<Question, Refusal>
-    ensures { IsAnswer result (list_asked path.now query.now) }
-{
-    if path == b"/".as_slice() {
-        return Ok(Question::Page);
-    }
-    if path == b"/root".as_slice() {
-        return Ok(Question::Root);
-    }
-    if path == b"/metrics".as_slice() {
-        return Ok(Question::Metrics);
-    }
-    if path == b"/keys".as_slice() {
-        return keys_of(alloc, query);
-    }
-    named_list(alloc, path, query)
-}
-
-/// A list of an index or a view.
-fn named_list(alloc: Global, path: &[u8], query: &[u8]) -> Result<Question, Refusal>
-    ensures { IsAnswer result (list_named (left_behind (codes "/index/") path.now) path.now query.now) }
-{
-    match without(path, b"/index/") {
-        Some(field) => index_of(alloc, field, query),
-        None => match without(path, b"/views/") {
-            Some(view) => view_of(alloc, view, query),
-            None => Ok(Question::Nowhere),
-        },
-    }
-}
-
-fn keys_of(alloc: Global, query: &[u8]) -> Result<Question, Refusal>
-    ensures { IsAnswer result (keys_asked query.now) }
-{
-    let path = path_in(alloc, given(query, b"path="))?;
-    keys_under(alloc, path, query)
-}
-
-/// The keys of a bucket, or a node.
-fn keys_under(alloc: Global, path: Path, query: &[u8]) -> Result<Question, Refusal>
-    ensures { IsAnswer result (under path query.now) }
-{
-    if path.digits().len() != 3 {
-        return Ok(Question::Ask(Request::Node(path)));
-    }
-    let after = key_if_given(alloc, given(query, b"after="))?;
-    Ok(Question::Ask(Request::Bucket(path, after)))
-}
-
-/// A bound of an index: `is` stands for both.
-fn bound<'a>(query: &'a [u8], name: &[u8]) -> &'a [u8]
-    ensures { result.now ≡ bound_given name.now query.now }
-{
-    let both = given(query, b"is=");
-    if both.is_empty() {
-        return given(query, name);
-    }
-    both
-}
-
-fn index_of(alloc: Global, field: &[u8], query: &[u8]) -> Result<Question, Refusal>
-    ensures { IsAnswer result (index_asked field.now query.now) }
-{
-    let field = field_in(alloc, field)?;
-    let low = term_in(alloc, bound(query, b"from="))?;
-    let high = term_in(alloc, bound(query, b"to="))?;
-    let after = place_if_given(alloc, given(query, b"after="))?;
-    Ok(Question::Ask(Request::Range(field, low, high, after)))
-}
-
-/// The rows of a view, or one of them.
-fn view_of(alloc: Global, view: &[u8], query: &[u8]) -> Result<Question, Refusal>
-    ensures { IsAnswer result (view_asked view.now query.now) }
-{
-    match without_end(view, b"/rows") {
-        Some(name) => rows_of(alloc, name, query),
-        None => match without_end(view, b"/row") {
-            Some(name) => row_of(alloc, name, query),
-            None => Ok(Question::Nowhere),
-        },
-    }
-}
-
-fn rows_of(alloc: Global, view: &[u8], query: &[u8]) -> Result<Question, Refusal>
-    ensures { IsAnswer result (rows_asked view.now query.now) }
-{
-    let view = view_in(alloc, view)?;
-    let after = term_if_given(alloc, given(query, b"after="))?;
-    Ok(Question::Ask(Request::Rows(view, after)))
-}
-
-fn row_of(alloc: Global, view: &[u8], query: &[u8]) -> Result<Question, Refusal>
-    ensures { IsAnswer result (row_asked view.now query.now) }
-{
-    let view = view_in(alloc, view)?;
-    let term = term_in(alloc, given(query, b"is="))?;
-    Ok(Question::Ask(Request::Row(view, term)))
 }

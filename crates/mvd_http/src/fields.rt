@@ -1,7 +1,7 @@
 //! The fields of a response.
 ghost use Rattle.std.specs.Prelude.{◌≡◌, ◌++◌, OnOk, string_bytes};
 ghost use Rattle.http_server.specs.Response.{IsBlank, IsResponse, fields_of};
-ghost use Rattle.mvd_http.specs.Fields.{allow_of, common, fields_for, names, type_of, typed};
+ghost use Rattle.mvd_http.specs.Fields.{allow_of, challenge_of, common, fields_for, guards, names, type_of, typed};
 
 use crate::question::Methods;
 use bytes::BufMut;
@@ -15,6 +15,8 @@ pub enum Content {
     /// There is none.
     Nothing,
     Json,
+    /// Lines of JSON.
+    Lines,
     Html,
     Plain,
 }
@@ -26,10 +28,12 @@ pub struct Answer {
     pub content: Content,
     /// The methods by which it is asked, where it was asked by another.
     pub allow: Option<Methods>,
+    /// Whether it says that a token is asked for.
+    pub asks_token: bool,
 }
 
 const POLICY: &str =
-    "default-src 'none'; script-src 'sha256-LNUu85jp2b3wmoB434AaDTx2n6YeTO3NZdB6Ub9HIjE='; style-src 'sha256-IISvvRT4ZVq+SDlSR8FbC/EG+ul+XtQ3pquGrbccBCI='; connect-src 'self'; img-src data:; base-uri 'none'; form-action 'none'; frame-ancestors 'none'; require-trusted-types-for 'script'; trusted-types 'none'";
+    "default-src 'none'; script-src 'sha256-nXMd8IG79t3hAaA/3wWO4vVZBf2YiCHzeCXr6YILBKg='; style-src 'sha256-GfXVPu/24CyMDZkrHnm/405USX81HQtD5DIfoaMqPsA='; connect-src 'self'; img-src data:; base-uri 'none'; form-action 'none'; frame-ancestors 'none'; require-trusted-types-for 'script'; trusted-types 'none'";
 
 /// Fills a response.
 pub fn fill(response: &mut Response, answer: Answer, body: &str) -> Result<(), AllocError>
@@ -39,6 +43,7 @@ pub fn fill(response: &mut Response, answer: Answer, body: &str) -> Result<(), A
     add_common(response)?;
     add_type(response, answer.content)?;
     add_allow(response, answer.allow)?;
+    add_challenge(response, answer.asks_token)?;
     response.status = answer.status;
     response.body.put_slice(body.as_bytes())?;
     Ok(())
@@ -49,12 +54,19 @@ fn add_common(response: &mut Response) -> Result<(), AllocError>
     ensures fields { OnOk result (fields_of response.new ≡ fields_of response.old ++ common) }
     ensures body { response.new.body ≡ response.old.body }
 {
+    let cache = HeaderName::from_static("cache-control");
+    response.add_header(cache, HeaderValue::from_static("no-store"))
+}
+
+/// The fields of the page alone: what it may load and run.
+fn add_guards(response: &mut Response) -> Result<(), AllocError>
+    ensures fields { OnOk result (fields_of response.new ≡ fields_of response.old ++ guards) }
+    ensures body { response.new.body ≡ response.old.body }
+{
     let policy = HeaderName::from_static("content-security-policy");
     response.add_header(policy, HeaderValue::from_static(POLICY))?;
     let options = HeaderName::from_static("x-content-type-options");
     response.add_header(options, HeaderValue::from_static("nosniff"))?;
-    let cache = HeaderName::from_static("cache-control");
-    response.add_header(cache, HeaderValue::from_static("no-store"))?;
     Ok(())
 }
 
@@ -65,6 +77,19 @@ fn add_typed(response: &mut Response, value: HeaderValue) -> Result<(), AllocErr
     response.add_header(HeaderName::from_static("content-type"), value)
 }
 
+/// The fields of the page, and its type.
+fn add_page(response: &mut Response) -> Result<(), AllocError>
+    ensures fields { OnOk result (fields_of response.new ≡ fields_of response.old ++ type_of Content.Html) }
+    ensures body { response.new.body ≡ response.old.body }
+{
+    add_guards(response)?;
+    add_typed(
+        response,
+        HeaderValue::from_static("text/html; charset=utf-8"),
+    )?;
+    Ok(())
+}
+
 /// The type of the body.
 fn add_type(response: &mut Response, content: Content) -> Result<(), AllocError>
     ensures fields { OnOk result (fields_of response.new ≡ fields_of response.old ++ type_of content) }
@@ -73,10 +98,8 @@ fn add_type(response: &mut Response, content: Content) -> Result<(), AllocError>
     match content {
         Content::Nothing => Ok(()),
         Content::Json => add_typed(response, HeaderValue::from_static("application/json")),
-        Content::Html => add_typed(
-            response,
-            HeaderValue::from_static("text/html; charset=utf-8"),
-        ),
+        Content::Lines => add_typed(response, HeaderValue::from_static("application/x-ndjson")),
+        Content::Html => add_page(response),
         Content::Plain => add_typed(
             response,
             HeaderValue::from_static("text/plain; charset=utf-8"),
@@ -90,6 +113,7 @@ fn names_of(methods: Methods) -> HeaderValue
 {
     match methods {
         Methods::OfList => HeaderValue::from_static("GET, HEAD"),
+        Methods::OfKeys => HeaderValue::from_static("GET, HEAD, POST"),
         Methods::OfKey => HeaderValue::from_static("GET, HEAD, PUT, DELETE"),
     }
 }
@@ -103,4 +127,16 @@ fn add_allow(response: &mut Response, allow: Option<Methods>) -> Result<(), Allo
         Some(methods) => response.add_header(HeaderName::from_static("allow"), names_of(methods)),
         None => Ok(()),
     }
+}
+
+/// That a token is asked for.
+fn add_challenge(response: &mut Response, asks_token: bool) -> Result<(), AllocError>
+    ensures fields { OnOk result (fields_of response.new ≡ fields_of response.old ++ challenge_of asks_token) }
+    ensures body { response.new.body ≡ response.old.body }
+{
+    if !asks_token {
+        return Ok(());
+    }
+    let name = HeaderName::from_static("www-authenticate");
+    response.add_header(name, HeaderValue::from_static("Bearer"))
 }

@@ -192,7 +192,7 @@ fn push_keys(alloc: Global, out: &mut String, keys: &[KeyDigest]) -> Result<(), 
 }
 
 /// The text to go on from.
-fn push_next(alloc: Global, out: &mut String, text: &str) -> Result<(), Refusal>
+pub fn push_next(alloc: Global, out: &mut String, text: &str) -> Result<(), Refusal>
     ensures text { OnOk result (string_bytes out.new ≡ string_bytes out.old ++ next_text (Some text.now)) }
     ensures memory { IsOkUnless result Refusal.Memory }
 {

@@ -2,20 +2,32 @@
 #![tactic(auto)]
 
 mod asked;
+mod count_lists;
 pub mod fields;
 mod guard;
+mod http_fault;
 mod json_lists;
 mod json_words;
+mod line_told;
+mod lists_asked;
+mod live_told;
 mod page;
 mod place;
+mod posted;
 pub mod question;
 mod responses;
+mod server_told;
+mod since;
 mod target;
 mod target_parts;
 
 pub use asked::question_of;
 pub use fields::{Answer, Content, fill};
 pub use guard::is_own;
+pub use http_fault::Fault;
+pub use line_told::{LINE_ROOM, push_line};
+pub use live_told::live_response_of;
 pub use page::PAGE;
 pub use question::{Methods, Question, Verb};
-pub use responses::{push_root, refused_response, refused_status, response_of};
+pub use responses::{refused_response, refused_status, response_of};
+pub use server_told::{push_changes, push_root};

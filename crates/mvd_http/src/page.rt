@@ -5,7 +5,7 @@ pub const PAGE: &str = r##"<!DOCTYPE html>
 <!--
 The page of mvd: keys and their siblings, lists, and writes, over the HTTP interface of one site.
 It is built into the program and loads nothing from elsewhere. The server must send it with this policy:
-Content-Security-Policy: default-src 'none'; script-src 'sha256-LNUu85jp2b3wmoB434AaDTx2n6YeTO3NZdB6Ub9HIjE='; style-src 'sha256-IISvvRT4ZVq+SDlSR8FbC/EG+ul+XtQ3pquGrbccBCI='; connect-src 'self'; img-src data:; base-uri 'none'; form-action 'none'; frame-ancestors 'none'; require-trusted-types-for 'script'; trusted-types 'none'
+Content-Security-Policy: default-src 'none'; script-src 'sha256-nXMd8IG79t3hAaA/3wWO4vVZBf2YiCHzeCXr6YILBKg='; style-src 'sha256-GfXVPu/24CyMDZkrHnm/405USX81HQtD5DIfoaMqPsA='; connect-src 'self'; img-src data:; base-uri 'none'; form-action 'none'; frame-ancestors 'none'; require-trusted-types-for 'script'; trusted-types 'none'
 tools/page.py stamp   writes the policy of this file's style and script into this comment.
 tools/page.py test    drives the page in a browser, under this policy.
 -->
@@ -107,13 +107,14 @@ tr.differs > th { color: var(--text); font-weight: 650; }
 .tag.new { color: var(--warn); } .tag.mine { color: var(--added); }
 td.none { color: var(--quiet); }
 .siblings td.none, .siblings tbody th { font-size: .875rem; }
+.siblings .take { display: block; min-height: 1.75rem; padding: 0 .5rem; margin-top: .25rem; font-size: .8125rem; }
+header .buttons { margin: 0; }
+#elsewhere .buttons, #next-row { margin-top: .5rem; }
 pre { margin: .4rem 0 0; white-space: pre-wrap; }
 summary { cursor: pointer; font-size: .875rem; color: var(--link); }
 form#editor { margin-top: 1.5rem; }
 #check { min-height: 1.5em; margin: .25rem 0 0; }
 #check.bad { color: var(--removed); } #check.good { color: var(--added); }
-.digits { display: grid; grid-template-columns: repeat(8, 1fr); gap: .3rem; margin: .75rem 0; }
-.digits button { padding: 0; min-height: 2.1rem; font-family: var(--mono); }
 #list .scroll { margin-top: .75rem; }
 .list td, .list th { padding: .35rem .6rem; overflow-wrap: anywhere; }
 .list .number { text-align: right; white-space: nowrap; font-variant-numeric: tabular-nums; }
@@ -141,6 +142,7 @@ dialog::backdrop { background: rgb(0 0 0 / .5); }
 <header>
   <h1>mvd</h1>
   <p class="quiet" id="site">Asking the site …</p>
+  <div class="buttons" id="work-row" hidden><button type="button" id="work"></button></div>
 </header>
 <main>
   <section aria-labelledby="key-title">
@@ -150,6 +152,9 @@ dialog::backdrop { background: rgb(0 0 0 / .5); }
       <button class="main">Look up</button>
     </form>
     <p class="outcome" id="outcome" role="status" aria-live="polite"></p>
+    <div class="buttons" id="next-row" hidden><button type="button" class="main" id="next">Next in conflict</button></div>
+    <div class="outcome warn" id="elsewhere" role="status" aria-live="polite" hidden><span id="elsewhere-text"></span>
+      <div class="buttons"><button type="button" id="again">Show it as it is now</button></div></div>
     <div id="state" hidden>
       <h3 id="state-title" tabindex="-1"></h3>
       <div class="facts">
@@ -177,12 +182,16 @@ dialog::backdrop { background: rgb(0 0 0 / .5); }
     <fieldset id="kind">
       <legend>What to list</legend>
       <label class="choice"><input type="radio" name="kind" value="keys" checked> Keys</label>
+      <label class="choice"><input type="radio" name="kind" value="conflicts"> In conflict</label>
       <label class="choice"><input type="radio" name="kind" value="index"> An index</label>
       <label class="choice"><input type="radio" name="kind" value="view"> A view</label>
     </fieldset>
     <form id="keys-form" class="fields">
-      <label>Path in the hash tree (0 to 3 of 0-9, a-f) <input id="path" pattern="[0-9a-f]{0,3}" maxlength="3"
-        autocomplete="off" autocapitalize="off" spellcheck="false"></label>
+      <label>Keys that begin with <input id="prefix" maxlength="128" autocomplete="off" autocapitalize="off" spellcheck="false"></label>
+      <label class="choice"><input type="checkbox" id="live" checked> Without deleted keys</label>
+      <button class="main">List</button>
+    </form>
+    <form id="conflicts-form" class="fields" hidden>
       <button class="main">List</button>
     </form>
     <form id="index-form" class="fields" hidden>
@@ -198,7 +207,6 @@ dialog::backdrop { background: rgb(0 0 0 / .5); }
       <button class="main">List</button>
     </form>
     <p class="outcome" id="listed" role="status" aria-live="polite"></p>
-    <div id="digits" class="digits" role="group" aria-label="Next digit of the path" hidden></div>
     <div class="scroll" id="rows" role="region" aria-label="What is listed" tabindex="0" hidden></div>
     <div class="buttons"><button type="button" id="more" hidden>More</button></div>
   </section>
@@ -209,6 +217,13 @@ dialog::backdrop { background: rgb(0 0 0 / .5); }
     <button type="button" id="sure-no" autofocus>Leave it</button>
     <button type="button" class="danger" id="sure-yes">Delete</button>
   </div>
+</dialog>
+<dialog id="door" aria-labelledby="door-text">
+  <form id="token-form" class="fields" method="dialog">
+    <p id="door-text">This site wants a token. It is kept for this tab alone.</p>
+    <label>Token <input id="token" type="password" required minlength="16" maxlength="256" autocomplete="off"></label>
+    <button class="main">Come in</button>
+  </form>
 </dialog>
 <script type="module">
 // JSON. Numbers keep their text: a whole number of 64 bits is more than a number of the browser holds.
@@ -426,7 +441,14 @@ const REFUSALS = {
   21: 'The site could not store it. Nothing was changed.',
   22: 'The site is broken until it is opened again. The write may have been kept.',
   33: 'The request has not the right form.',
+  36: 'As many clients are served as may be. Try again.',
+  38: 'The site wants a token, or another one.',
 };
+
+// A context longer than this goes in a line of POST /keys: the fields of a request have less room.
+const CONTEXT_LETTERS = 8000;
+
+let token = sessionStorage.getItem('mvd-token');
 
 class Refused extends Error {
   constructor(number, name) { super(`Refused, ${number} ${name}. ${REFUSALS[number] ?? ''}`.trim()); }
@@ -437,6 +459,7 @@ class NoAnswer extends Error {}
 /** One request. The value is the JSON of the response, or null. Throws Refused, NoAnswer, or an Error in words. */
 async function ask(method, path, { context, body } = {}) {
   const headers = {};
+  if (token !== null) headers.Authorization = `Bearer ${token}`;
   if (context !== undefined) headers['Mvd-Context'] = context;
   if (body !== undefined) headers['Content-Type'] = 'application/json';
   let response;
@@ -445,6 +468,7 @@ async function ask(method, path, { context, body } = {}) {
     response = await fetch(path, { method, headers, body, cache: 'no-store' });
     text = await response.text();
   } catch { throw new NoAnswer('The site did not answer.'); }
+  if (response.status === 401) askForToken();
   let value = null;
   try { value = text === '' ? null : readJson(text); } catch { /* not from the site: told below by its status */ }
   if (value instanceof Map && value.has('refused')) throw new Refused(value.get('refused').text, value.get('name'));
@@ -460,7 +484,7 @@ function part(name) {
 
 function query(given) {
   const present = Object.entries(given).filter(([, value]) => value !== undefined);
-  return `?${present.map(([name, value]) => `${name}=${encodeURIComponent(value)}`).join('&')}`;
+  return present.length === 0 ? '' : `?${present.map(([name, value]) => `${name}=${encodeURIComponent(value)}`).join('&')}`;
 }
 
 async function readKey(key) {
@@ -469,33 +493,26 @@ async function readKey(key) {
   return { key, context: value.get('context'), siblings };
 }
 
-async function putKey({ key, context }, body) {
-  return (await ask('PUT', `/keys/${part(key)}`, { context, body })).get('dot');
+/** A write as one line of POST /keys; without a document it deletes. */
+function postLine({ key, context }, document) {
+  const parts = [`"key":${JSON.stringify(key)}`, `"context":${JSON.stringify(context)}`, ...(document === undefined ? [] : [`"document":${document}`])];
+  return ask('POST', '/keys', { body: `{${parts.join(',')}}\n` });
 }
 
-function deleteKey({ key, context }) { return ask('DELETE', `/keys/${part(key)}`, { context }); }
-
-async function childrenOf(path) {
-  const children = (await ask('GET', `/keys${query({ path })}`)).get('children');
-  return children.map((digest) => !/^0*$/.test(digest));
+async function putKey(state, body) {
+  const { key, context } = state;
+  const sent = context.length > CONTEXT_LETTERS ? postLine(state, body) : ask('PUT', `/keys/${part(key)}`, { context, body });
+  return (await sent).get('dot');
 }
 
-async function* keysOfBucket(path) {
-  let after;
-  do {
-    const page = await ask('GET', `/keys${query({ path, after })}`);
-    yield* page.get('keys').map((entry) => entry.get('key'));
-    after = page.get('next');
-  } while (after !== undefined);
+async function deleteKey(state) {
+  const { key, context } = state;
+  await (context.length > CONTEXT_LETTERS ? postLine(state) : ask('DELETE', `/keys/${part(key)}`, { context }));
 }
 
-/** All keys under a path, bucket by bucket. */
-async function* keysUnder(path) {
-  if (path.length === 3) { yield* keysOfBucket(path); return; }
-  const held = await childrenOf(path);
-  for (const [digit, has] of held.entries()) {
-    if (has) yield* keysUnder(path + digit.toString(16));
-  }
+/** The first keys in conflict, behind a key if one is given. */
+async function inConflict(after) {
+  return (await ask('GET', `/conflicts${query({ after })}`)).get('keys').map((one) => one.get('key'));
 }
 
 // What differs between siblings, field by field.
@@ -507,18 +524,18 @@ function namesIn(values) {
   return [...names].sort(byBytes);
 }
 
-/** A row for each field with a value in some document: its path, and its text in each document, or undefined. */
-function* fieldsOf(values, path = '') {
+/** A row for each field with a value in some document: its path, the steps to it, and its text in each document, or undefined. */
+function* fieldsOf(values, path = '', steps = []) {
   const texts = values.map((value) => (value === undefined || isBranch(value) ? undefined : compact(value)));
-  if (texts.some((text) => text !== undefined)) yield { path: path || '(the document)', texts };
+  if (texts.some((text) => text !== undefined)) yield { path: path || '(the document)', steps, texts };
   for (const name of namesIn(values)) {
     const shownName = /^[^\s".[\]]+$/.test(name) ? name : JSON.stringify(name);
     yield* fieldsOf(values.map((value) => (value instanceof Map ? value.get(name) : undefined)),
-      path === '' ? shownName : `${path}.${shownName}`);
+      path === '' ? shownName : `${path}.${shownName}`, [...steps, name]);
   }
   const length = Math.max(0, ...values.map((value) => (Array.isArray(value) ? value.length : 0)));
   for (let i = 0; i < length; i += 1) {
-    yield* fieldsOf(values.map((value) => (Array.isArray(value) ? value[i] : undefined)), `${path}[${i}]`);
+    yield* fieldsOf(values.map((value) => (Array.isArray(value) ? value[i] : undefined)), `${path}[${i}]`, [...steps, i]);
   }
 }
 
@@ -526,6 +543,26 @@ function markOf(text, base) {
   if (text === base) return null;
   if (base === undefined) return 'added';
   return text === undefined ? 'removed' : 'other';
+}
+
+/** What stands at these steps, or undefined. */
+function valueAt(value, steps) {
+  return steps.reduce((of, step) => (of instanceof Map ? of.get(step) : Array.isArray(of) ? of[step] : undefined), value);
+}
+
+/** The value with this at these steps; with nothing there where it is undefined. */
+function withField(value, [step, ...rest], given) {
+  const below = valueAt(value, [step]);
+  if (given === undefined && below === undefined) return value;
+  const inner = rest.length === 0 ? given : withField(below, rest, given);
+  if (typeof step === 'string') {
+    const members = new Map(value instanceof Map ? value : []);
+    if (inner === undefined) members.delete(step); else members.set(step, inner);
+    return members;
+  }
+  const items = Array.isArray(value) ? [...value] : [];
+  if (inner === undefined) items.splice(step, 1); else items[Math.min(step, items.length)] = inner;
+  return items;
 }
 
 function differs(field) { return field.texts.some((text) => text !== field.texts[0]); }
@@ -560,9 +597,31 @@ function listed(dots) { return dots.length < 2 ? dots.join() : `${dots.slice(0, 
 let shown = null;
 let lookups = 0;
 let busy = false;
+// What the editor had before somebody typed.
+let begun = '';
+
+function isTyped() { return shown !== null && $('document').value !== begun; }
+
+/** Asks, and gives whether the answer is yes. */
+function isSure(words, yes) {
+  if ($('sure').open) return Promise.resolve(false);
+  $('sure-text').textContent = words;
+  $('sure-yes').textContent = yes;
+  $('sure').returnValue = '';
+  $('sure').showModal();
+  return new Promise((done) => {
+    $('sure').addEventListener('close', () => done($('sure').returnValue === 'yes'), { once: true });
+  });
+}
+
+/** Whether what was typed and not written may go. */
+async function mayDrop() {
+  return !isTyped() || isSure(`What you typed for ${shown.key} is not written.`, 'Drop it');
+}
 
 function show(state, { mine, seen } = {}) {
   shown = { ...state, base: 0, mine, seen };
+  $('elsewhere').hidden = true;
   $('state').hidden = false;
   $('state-title').textContent = `${state.key}: ${state.siblings.length === 0 ? 'no sibling' : amount(state.siblings.length, 'sibling')}`;
   $('context').textContent = state.context;
@@ -623,29 +682,71 @@ function baseChoice(one, place, base) {
 }
 
 function choicesOf(one, place, count) {
-  const editing = button('Edit', () => { edit(place); $('document').focus(); }, { 'aria-label': `Edit ${one.dot}` });
+  const unlessTyped = (action) => async () => { if (await mayDrop()) action(); };
+  const editing = button('Edit', unlessTyped(() => { edit(place); $('document').focus(); }), { 'aria-label': `Edit ${one.dot}` });
   if (count < 2) return [editing];
-  return [button('Pick', () => write(compact(one.document)), { 'aria-label': `Pick ${one.dot}`, class: 'main' }), editing];
+  return [button('Pick', unlessTyped(() => write(compact(one.document))), { 'aria-label': `Pick ${one.dot}`, class: 'main' }), editing];
 }
 
 function bodyOf(fields, siblings, base) {
   const rows = fields.map((field) => make('tr', { role: 'row', ...(differs(field) ? { class: 'differs' } : {}) },
     make('th', { role: 'rowheader', scope: 'row', class: 'mono' }, field.path),
-    ...field.texts.map((text) => cellOf(text, field.texts[base]))));
+    ...field.texts.map((text, place) => cellOf(text, field.texts[base], takeOf(field, place)))));
   const whole = make('tr', { role: 'row' }, make('th', { role: 'rowheader', scope: 'row' }, 'as JSON'),
     ...siblings.map((one) => make('td', { role: 'cell' }, make('details', {}, make('summary', {}, `${one.dot} as JSON`),
       make('pre', {}, spread(one.document))))));
   return make('tbody', { role: 'rowgroup' }, ...rows, whole);
 }
 
-function cellOf(text, base) {
+/** The button that takes a field of one sibling into the document in hand, where the siblings differ. */
+function takeOf(field, place) {
+  if (!differs(field) || field.steps.length === 0) return [];
+  const { dot } = shown.siblings[place];
+  return [button('Take', () => takeField(field, place), { class: 'take', 'aria-label': `Take ${field.path} of ${dot}` })];
+}
+
+function takeField({ path, steps }, place) {
+  const { dot, document } = shown.siblings[place];
+  let inHand;
+  try { inHand = readJson($('document').value); } catch (fault) {
+    if (!(fault instanceof JsonFault)) throw fault;
+  }
+  if (!(inHand instanceof Map)) {
+    tell($('outcome'), 'Not taken: what is typed below is no document.', 'bad');
+    return;
+  }
+  $('document').value = spread(withField(inHand, steps, valueAt(document, steps)));
+  checkTyped();
+  tell($('outcome'), `${path} of ${dot} is in the document below. It is not written yet.`);
+}
+
+function cellOf(text, base, take) {
   const mark = markOf(text, base);
   const words = { added: '+ added', removed: '− removed', other: '≠ other value' };
   const cell = make('td', { role: 'cell', class: mark ?? (text === undefined ? 'none' : 'same') });
   if (mark) cell.append(make('span', { class: 'mark' }, words[mark]));
   if (text !== undefined) cell.append(make('span', { class: 'mono value' }, text));
   else if (!mark) cell.append('not there');
+  cell.append(...take);
   return cell;
+}
+
+/** Shows a key, unless what was typed is to be kept. */
+async function turnTo(key) {
+  if (await mayDrop()) { lookUp(key); return; }
+  $('key').value = shown.key;
+  history.replaceState(null, '', addressOf(shown.key));
+}
+
+/** Goes to the next key in conflict behind the one that is shown, or to the first. */
+async function goToNext() {
+  try {
+    const behind = shown === null ? [] : await inConflict(shown.key);
+    const [key] = behind.length > 0 ? behind : await inConflict();
+    if (key === undefined) { tell($('outcome'), 'No key is in conflict.', 'good'); tellSite(); return; }
+    if (key === keyOfAddress()) turnTo(key);
+    else location.hash = addressOf(key);
+  } catch (fault) { tell($('outcome'), fault.message, 'bad'); }
 }
 
 async function lookUp(key) {
@@ -663,6 +764,7 @@ async function lookUp(key) {
     if (turn !== lookups) return;
     shown = null;
     $('state').hidden = true;
+    $('elsewhere').hidden = true;
     tell($('outcome'), fault.message, 'bad');
   }
 }
@@ -710,8 +812,9 @@ async function readAgain(before, turn, dot, describe) {
   show(after, { mine: dot ?? undefined, seen: before.siblings.map((one) => one.dot) });
   const [words, tone] = describe(after.siblings.map((one) => one.dot), dot);
   tell($('outcome'), words, tone);
-  $('state-title').focus();
-  tellSite();
+  await tellSite();
+  if (after.siblings.length > 1 || $('next-row').hidden) $('state-title').focus();
+  else $('next').focus();
 }
 
 function describeWrite(dots, dot) {
@@ -732,6 +835,7 @@ function describeDelete(dots) {
 function hold(is) {
   busy = is;
   for (const node of document.querySelectorAll('#siblings button, #write')) node.disabled = is;
+  $('document').readOnly = is;
   $('delete').disabled = is || shown === null || shown.siblings.length === 0;
 }
 
@@ -741,6 +845,7 @@ function edit(place) {
   const one = place === null ? null : shown.siblings[place];
   $('editor-title').textContent = one ? `Edit, from ${one.dot}` : 'Write a document';
   $('document').value = one ? spread(one.document) : '{\n  \n}';
+  begun = $('document').value;
   $('document').rows = Math.min(24, Math.max(8, $('document').value.split('\n').length + 1));
   $('meaning').textContent = meaningOf(shown);
   checkTyped();
@@ -768,15 +873,65 @@ function writeTyped(event) {
   $('document').focus();
 }
 
-function askToDelete() {
+async function askToDelete() {
   const dots = shown.siblings.map((one) => one.dot);
-  $('sure-text').textContent = `Delete ${shown.key}: ${dots.length === 1 ? 'the sibling' : 'the siblings'} ${listed(dots)}?`;
-  $('sure').showModal();
+  const typed = isTyped() ? ' What you typed is dropped.' : '';
+  const words = `Delete ${shown.key}: ${dots.length === 1 ? 'the sibling' : 'the siblings'} ${listed(dots)}?${typed}`;
+  if (await isSure(words, 'Delete')) remove();
+}
+
+// What changes elsewhere while the page is open.
+
+const WAIT_SECONDS = 50;
+const PAUSE = 5000;
+let following = 0;
+
+/** Asks the site for what changed, again and again. */
+async function follow() {
+  const mine = ++following;
+  let since;
+  while (mine === following) {
+    try {
+      const news = await ask('GET', `/changes${query({ since, wait: since === undefined ? undefined : WAIT_SECONDS })}`);
+      const isNew = since !== undefined && since !== news.get('root');
+      since = news.get('root');
+      if (isNew && mine === following) await hear(news);
+    } catch (fault) {
+      if (fault instanceof Refused) return;
+      await new Promise((done) => { setTimeout(done, PAUSE); });
+    }
+  }
+}
+
+function stateText({ context, siblings }) { return `${context} ${siblings.map((one) => one.dot).join()}`; }
+
+/** Tells where the key that is shown is among what changed, and another one now. */
+async function hear(news) {
+  tellSite();
+  const before = shown;
+  if (before === null || busy || !(news.get('resync') || news.get('keys').includes(before.key))) return;
+  const now = await readKey(before.key);
+  if (shown !== before || busy || stateText(now) === stateText(before)) return;
+  const dots = now.siblings.map((one) => one.dot);
+  $('elsewhere-text').textContent = `${before.key} changed elsewhere: ${dots.length === 0 ? 'it has no sibling now' : `it has ${listed(dots)} now`}.`;
+  $('elsewhere').hidden = false;
+}
+
+function askForToken() {
+  if (!$('door').open) $('door').showModal();
+}
+
+function comeIn() {
+  token = $('token').value;
+  sessionStorage.setItem('mvd-token', token);
+  $('token').value = '';
+  tellSite();
+  followAddress();
+  follow();
 }
 
 // Lists.
 
-const KEYS_OF_A_PAGE = 100;
 const AT_ONCE = 6;
 let list = null;
 
@@ -808,7 +963,8 @@ async function goOn() {
   }
 }
 
-function addRow(mine, { key, cells }) {
+function addRow(mine, { key, cells, siblings }) {
+  if (siblings !== undefined) mine.siblings.set(key, siblings);
   const nodes = cells.map((cell, place) => make('td', { class: mine.heads[place][1] }, cell));
   if (key !== undefined) {
     nodes.push(make('td', { class: 'number' }, mine.siblings.has(key) ? '' : '…'));
@@ -850,52 +1006,38 @@ function describeList(mine, more) {
   return `${keys} listed, ${several === 0 ? 'none' : several} with more than one sibling.${rest}`;
 }
 
-function keyLink(key) { return make('a', { href: `#key=${encodeURIComponent(key)}`, class: 'mono' }, key); }
+function addressOf(key) { return `#key=${encodeURIComponent(key)}`; }
+function keyLink(key) { return make('a', { href: addressOf(key), class: 'mono' }, key); }
 function termText(text) { return make('span', { class: 'mono' }, text); }
 
+function rowsOfKeys(page) {
+  return page.get('keys').map((one) => ({ key: one.get('key'), cells: [keyLink(one.get('key'))], siblings: Number(one.get('siblings').text) }));
+}
+
+const KEY_HEADS = [['Key', ''], ['Siblings', 'number']];
+
 async function listKeys() {
-  const path = $('path').value;
-  showDigits(path);
-  const keys = keysUnder(path);
-  let ahead = null;
-  await begin([['Key', ''], ['Siblings', 'number']], async () => {
-    const rows = [];
-    let one = ahead ?? await keys.next();
-    while (!one.done && rows.length < KEYS_OF_A_PAGE) {
-      rows.push({ key: one.value, cells: [keyLink(one.value)] });
-      one = await keys.next();
-    }
-    ahead = one;
-    return { rows, more: !one.done };
-  });
+  const prefix = $('prefix').value === '' ? undefined : $('prefix').value;
+  const live = $('live').checked ? 1 : undefined;
+  await begin(KEY_HEADS, paged((after) => ask('GET', `/keys${query({ prefix, live, after })}`), rowsOfKeys));
 }
 
-async function showDigits(path) {
-  $('digits').hidden = true;
-  try {
-    const held = path.length < 3 ? await childrenOf(path) : [];
-    if ($('path').value !== path || chosenKind() !== 'keys') return;
-    const digits = held.map((has, digit) => button(digit.toString(16), () => goTo(path + digit.toString(16)),
-      { 'aria-label': `Path ${path}${digit.toString(16)}`, ...(has ? {} : { disabled: '' }) }));
-    const up = path === '' ? [] : [button('↑', () => goTo(path.slice(0, -1)), { 'aria-label': 'Up, one digit less' })];
-    $('digits').replaceChildren(...up, ...digits);
-    $('digits').hidden = digits.length + up.length === 0;
-  } catch { /* the list itself tells why */ }
-}
-
-function goTo(path) {
-  $('path').value = path;
-  $('path').focus();
-  listKeys();
+async function listConflicts() {
+  await begin(KEY_HEADS, paged((after) => ask('GET', `/conflicts${query({ after })}`), rowsOfKeys));
 }
 
 /** A list whose pages come by `next`. `ask` takes what `after` is, `rowsOf` makes a page's rows. */
 function paged(request, rowsOf) {
   let after;
   return async () => {
-    const page = await request(after);
-    after = page.get('next');
-    return { rows: rowsOf(page), more: after !== undefined };
+    let rows;
+    // A page may be empty and still have a next one.
+    do {
+      const page = await request(after);
+      rows = rowsOf(page);
+      after = page.get('next');
+    } while (rows.length === 0 && after !== undefined);
+    return { rows, more: after !== undefined };
   };
 }
 
@@ -933,9 +1075,9 @@ async function listView() {
 function chosenKind() { return document.querySelector('input[name=kind]:checked').value; }
 
 function chooseKind() {
-  for (const kind of ['keys', 'index', 'view']) $(`${kind}-form`).hidden = kind !== chosenKind();
+  for (const kind of ['keys', 'conflicts', 'index', 'view']) $(`${kind}-form`).hidden = kind !== chosenKind();
   list = null;
-  for (const id of ['digits', 'rows', 'more']) $(id).hidden = true;
+  for (const id of ['rows', 'more']) $(id).hidden = true;
   tell($('listed'), '');
 }
 
@@ -958,14 +1100,14 @@ function keyOfAddress() {
 
 function followAddress() {
   const key = keyOfAddress();
-  if (key !== null) lookUp(key);
+  if (key !== null) turnTo(key);
 }
 
 function lookUpTyped(event) {
   event.preventDefault();
   const key = $('key').value;
-  if (key === keyOfAddress()) lookUp(key);
-  else location.hash = `key=${encodeURIComponent(key)}`;
+  if (key === keyOfAddress()) turnTo(key);
+  else location.hash = addressOf(key);
 }
 
 async function tellSite() {
@@ -973,6 +1115,9 @@ async function tellSite() {
     const root = await ask('GET', '/root');
     $('site').replaceChildren(`Site ${root.get('site').text}, ${amount(Number(root.get('keys').text), 'key')}, root `,
       make('code', { title: root.get('root') }, `${root.get('root').slice(0, 12)}…`));
+    const several = Number(root.get('conflicts').text);
+    $('work').textContent = `${amount(several, 'key')} in conflict: work through ${several === 1 ? 'it' : 'them'}`;
+    for (const id of ['work-row', 'next-row']) $(id).hidden = several === 0;
   } catch (fault) { $('site').textContent = fault.message; }
 }
 
@@ -983,17 +1128,23 @@ function start() {
   $('editor').addEventListener('submit', writeTyped);
   $('delete').addEventListener('click', askToDelete);
   $('sure-no').addEventListener('click', () => $('sure').close());
-  $('sure-yes').addEventListener('click', () => { $('sure').close(); remove(); });
+  $('sure-yes').addEventListener('click', () => $('sure').close('yes'));
+  $('token-form').addEventListener('submit', comeIn);
+  for (const id of ['work', 'next']) $(id).addEventListener('click', goToNext);
+  $('again').addEventListener('click', () => turnTo(shown.key));
   $('skip').addEventListener('click', (event) => { event.preventDefault(); $('key').focus(); });
   $('kind').addEventListener('change', chooseKind);
   $('more').addEventListener('click', goOn);
   onSubmit('keys-form', listKeys);
+  onSubmit('conflicts-form', listConflicts);
   onSubmit('index-form', listIndex);
   onSubmit('view-form', listView);
   for (const id of ['is', 'from', 'to', 'row']) $(id).addEventListener('input', checkTerm);
   window.addEventListener('hashchange', followAddress);
+  window.addEventListener('beforeunload', (event) => { if (isTyped()) event.preventDefault(); });
   tellSite();
   followAddress();
+  follow();
 }
 
 start();

@@ -32,7 +32,7 @@ fn value_of(digits: &[u8]) -> u64
 
 /// The number of at most 15 decimal digits.
 #[tactic(auto, using(crate::proofs::Texts::digits_all))]
-fn number_in(text: &[u8]) -> Option<u64>
+pub fn number_in(text: &[u8]) -> Option<u64>
     ensures { result ≡ number_read text.now }
 {
     if !are_digits(text) || text.is_empty() || text.len() > 15 {

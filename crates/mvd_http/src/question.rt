@@ -1,5 +1,6 @@
 //! What a request asks.
-use mvd_wire::Request;
+use mvd_dots::Refusal;
+use mvd_wire::{Items, Request};
 
 /// What is asked of the server.
 #[derive(Drop)]
@@ -12,6 +13,14 @@ pub enum Question {
     Metrics,
     /// The site is asked.
     Ask(Request),
+    /// The site is asked, and keys without a sibling are left out of what is told.
+    Live(Request),
+    /// The keys that changed since a root, if one is named. Where none did, the response may wait for so many seconds.
+    Changes(Option<[u8; 32]>, u32),
+    /// A list of writes: what each line asks, or why that write is refused.
+    Many(Items<Result<Request, Refusal>>),
+    /// A list of writes with too many lines.
+    TooManyLines,
     /// There is nothing of that name.
     Nowhere,
     /// There is, and it is asked by these methods alone.
@@ -23,7 +32,9 @@ pub enum Question {
 pub enum Methods {
     /// `GET` and `HEAD`
     OfList,
-    /// and `PUT` and `DELETE`
+    /// and `POST`
+    OfKeys,
+    /// `GET`, `HEAD`, `PUT` and `DELETE`
     OfKey,
 }
 
@@ -34,5 +45,6 @@ pub enum Verb {
     Read,
     Put,
     Delete,
+    Post,
     Other,
 }

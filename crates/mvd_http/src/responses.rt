@@ -1,12 +1,14 @@
 //! The response that a reply is: its status, and its body.
-ghost use Rattle.std.specs.Prelude.{◌≡◌, ◌++◌, Ok, OnOk, IfOk, IsOkUnless, option_copied, string_bytes};
+ghost use Rattle.std.specs.Prelude.{◌≡◌, ◌++◌, Ok, OnOk, IfOk, IsOkUnless, length, option_copied, string_bytes};
 ghost use Rattle.std.specs.List.{flat_map};
 ghost use Rattle.mvd_dots.specs.Text.{text_of};
 ghost use Rattle.mvd_dots.specs.declared.refusals.Refusal.TheVariants.{Memory};
 ghost use Rattle.mvd_http.specs.Answers.{IsTold, Pushes, Responds, found_status as status_found, is_stored as stored, key_asked as asked_key, ok_told, refused_status as status_of, refused_told, reply_told, row_told, seen_then as then_seen, state_told, term_asked as asked_term};
+ghost use Rattle.mvd_http.specs.Room.{Fills};
 ghost use Rattle.mvd_wire.specs.declared.reply.Reply.TheVariants.{Done};
-ghost use Rattle.mvd_http.specs.Json.{children_text, commaed, digest_text, led, keys_text, node_text, places_text, refused_text, root_text, rows_text, state_text, written_text};
+ghost use Rattle.mvd_http.specs.Json.{children_text, commaed, counts_text, digest_text, led, keys_text, node_text, places_text, refused_text, rows_text, state_text, written_text};
 
+use crate::count_lists::{KeyCount, push_counts_page};
 use crate::json_lists::{
     KeyDigest, ViewRow, push_keys_page, push_places_page, push_row, push_rows_page, push_siblings,
 };
@@ -32,6 +34,7 @@ pub fn refused_status(refusal: Refusal) -> u16
         | Refusal::BadPath
         | Refusal::BadTerm
         | Refusal::BadBody => 400,
+        Refusal::NotAdmitted => 401,
         Refusal::NoIndex | Refusal::NoView => 404,
         Refusal::Exhausted | Refusal::StateTooLarge | Refusal::Full | Refusal::DotClash => 409,
         Refusal::Memory | Refusal::Store | Refusal::Broken => 503,
@@ -39,8 +42,9 @@ pub fn refused_status(refusal: Refusal) -> u16
     }
 }
 
-fn push_refused(out: &mut String, refusal: Refusal) -> Result<(), AllocError>
-    ensures { OnOk result (string_bytes out.new ≡ string_bytes out.old ++ refused_text refusal) }
+pub fn push_refused(out: &mut String, refusal: Refusal) -> Result<(), AllocError>
+    ensures text { OnOk result (string_bytes out.new ≡ string_bytes out.old ++ refused_text refusal) }
+    ensures room { Fills result out.old (length (refused_text refusal)) out.new }
 {
     push_word(out, "{\"refused\":")?;
     push_number(out, u64::from(refusal.number()))?;
@@ -124,6 +128,7 @@ fn push_reply(
         Reply::Rows(rows, more) => push_rows_of(alloc, out, rows.as_slice(), *more),
         Reply::Digests(digests) => push_node(alloc, digests, out),
         Reply::Keys(keys, more) => push_keys_of(alloc, out, keys.as_slice(), *more),
+        Reply::Counts(keys, more) => push_counts_of(alloc, out, keys.as_slice(), *more),
         Reply::Refused(refusal) => Err(*refusal),
     }
 }
@@ -161,6 +166,18 @@ fn push_keys_of(
     ensures { Pushes (Ok (ok_told (keys_text keys.now more))) (string_bytes out.old) (string_bytes out.new) result }
 {
     push_keys_page(alloc, out, keys, more)?;
+    Ok(200)
+}
+
+fn push_counts_of(
+    alloc: Global,
+    out: &mut String,
+    keys: &[KeyCount],
+    more: bool,
+) -> Result<u16, Refusal>
+    ensures { Pushes (Ok (ok_told (counts_text keys.now more))) (string_bytes out.old) (string_bytes out.new) result }
+{
+    push_counts_page(alloc, out, keys, more)?;
     Ok(200)
 }
 
@@ -300,25 +317,4 @@ fn push_node(alloc: Global, digests: &Digests, out: &mut String) -> Result<u16, 
     push_children(alloc, out, &digests.children)?;
     push_word(out, "}")?;
     Ok(200)
-}
-
-/// The root of the hash tree, with the number of keys and the site, behind what `out` holds.
-pub fn push_root(
-    alloc: Global,
-    out: &mut String,
-    digest: [u8; 32],
-    keys: u64,
-    site: u32,
-) -> Result<(), Refusal>
-    ensures text { OnOk result (string_bytes out.new ≡ string_bytes out.old ++ root_text digest keys site) }
-    ensures memory { IsOkUnless result Refusal.Memory }
-{
-    push_word(out, "{\"root\":")?;
-    push_digest(alloc, out, digest)?;
-    push_word(out, ",\"keys\":")?;
-    push_number(out, keys)?;
-    push_word(out, ",\"site\":")?;
-    push_number(out, u64::from(site))?;
-    push_word(out, "}")?;
-    Ok(())
 }

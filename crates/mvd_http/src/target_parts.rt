@@ -8,12 +8,14 @@ ghost use Rattle.mvd_docs.specs.Name.{field_of, view_name_of};
 ghost use Rattle.mvd_docs.specs.Term.{term_of_json};
 ghost use Rattle.mvd_keys.specs.Key.{key_of_text};
 ghost use Rattle.mvd_keys.specs.Path.{path_of};
+ghost use Rattle.mvd_wire.specs.Prefix.{prefix_of_text};
 ghost use Rattle.mvd_http.specs.Paths.{read_text};
-ghost use Rattle.mvd_http.specs.Asked.{digit_in, else_refused, field_in as field_read, if_given, key_in as key_read, path_in as path_read, term_in as term_read, view_in as view_read};
+ghost use Rattle.mvd_http.specs.Asked.{digit_in, else_refused, field_in as field_read, if_given, key_in as key_read, path_in as path_read, prefix_in as prefix_read, term_in as term_read, view_in as view_read};
 
 use mvd_docs::{Document, Field, Term, ViewName};
 use mvd_dots::Refusal;
 use mvd_keys::{Key, Path};
+use mvd_wire::Prefix;
 use percent_encoding::percent_decode;
 use std::alloc::Global;
 
@@ -54,6 +56,16 @@ pub fn document_in(alloc: Global, bytes: &[u8]) -> Result<Document, Refusal>
     match str::from_utf8(bytes) {
         Ok(text) => Document::read(alloc, text),
         Err(_) => Err(Refusal::BadDocument),
+    }
+}
+
+#[tactic(auto, using(crate::proofs::Texts::is_text, crate::proofs::Texts::is_no_text), unfolding(crate::specs::Paths::read_text))]
+fn prefix_of(alloc: Global, bytes: &[u8]) -> Result<Prefix, Refusal>
+    ensures { IsAnswer result (read_text prefix_of_text BadKey bytes.now) }
+{
+    match str::from_utf8(bytes) {
+        Ok(text) => Prefix::read(alloc, text),
+        Err(_) => Err(Refusal::BadKey),
     }
 }
 
@@ -104,6 +116,13 @@ pub fn key_in(alloc: Global, part: &[u8]) -> Result<Key, Refusal>
 {
     let bytes = decoded(alloc, part)?;
     key_of(alloc, bytes.as_slice())
+}
+
+pub fn prefix_in(alloc: Global, part: &[u8]) -> Result<Prefix, Refusal>
+    ensures { IsAnswer result (prefix_read part.now) }
+{
+    let bytes = decoded(alloc, part)?;
+    prefix_of(alloc, bytes.as_slice())
 }
 
 pub fn field_in(alloc: Global, part: &[u8]) -> Result<Field, Refusal>

@@ -7,11 +7,14 @@ use Rattle.http_server.specs.History.{History, Rests, after_sent}
 use Rattle.http_server.specs.declared.state.Config.{Config}
 use Rattle.mvd_dots.specs.declared.refusals.Refusal.{Refusal}
 use Rattle.mvd_dots.specs.declared.refusals.Refusal.TheVariants.{Memory}
+use Rattle.http_server.specs.declared.state.State.{State}
 use Rattle.mvd_http.specs.declared.fields.Answer.{Answer}
+use Rattle.mvd_http.specs.declared.http_fault.Fault.{Fault}
 use Rattle.mvd_web.specs.Asked.{Keeps}
-use Rattle.mvd_web.specs.Response.{response_bytes}
+use Rattle.mvd_web.specs.Ends.{fault_in}
+use Rattle.mvd_web.specs.Response.{fault_bytes, response_bytes}
 use Rattle.mvd_web.specs.Steps.{Drops, Moves, PassesAll, PassesOn, Quiet, Reads, ReadsNone, ReadsOne, Settles}
-use Rattle.mvd_web.specs.Web.{LooksIf, MayRest, Queues, RespondsTo, Stays, Takes, TellsAll, WebValue, first_cause, is_closed, is_free, manner_of, stopped_by, unasked}
+use Rattle.mvd_web.specs.Web.{LooksIf, MayRest, Queues, RespondsTo, Stays, Takes, TellsAll, WebValue, first_cause, is_closed, is_free, manner_of, said_of, stopped_by, unasked, with_waits}
 use Rattle.mvd_web.specs.declared.taken.Asked.{Asked}
 use Rattle.mvd_web.specs.declared.desk.Desk.{Desk}
 use Rattle.mvd_web.specs.declared.response.Manner.{Manner}
@@ -70,18 +73,19 @@ may_rest : (told : List ℕ) (b c : WebValue) → Rests b.config b.heard → c.c
 may_rest [] b c rests same (true_now, heard) = (true_now, subst (λ h. Rests c.config h) (sym heard) (subst (λ f. Rests f b.heard) (sym same) rests))
 may_rest (x ∷ xs) b c rests same settles = settles
 
-tells : (told : List ℕ) (a b c : WebValue) → b.stopped ≡ a.stopped → Rests b.config b.heard → c.config ≡ b.config → PassesAll b told c → TellsAll a told c
-tells told a b c was rests same (inl (s, none, settles)) = inl (s ∙ was, none, may_rest told b c rests same settles)
-tells told a b c was rests same (inr s) = inr (s ∙ ap (λ o. first_cause o Memory) was)
+tells : (told queued : List ℕ) (a b c : WebValue) → b.stopped ≡ a.stopped → Rests b.config b.heard → c.config ≡ b.config → PassesAll b told queued c → TellsAll a told queued c
+tells told queued a b c was rests same (inl (s, none, settles, whole)) = inl (s ∙ was, none, may_rest told b c rests same settles, whole)
+tells told queued a b c was rests same (inr (s, part)) = inr (s ∙ ap (λ o. first_cause o Memory) was, part)
 
 pub takes_none : (a b c : WebValue) → IsTrue (is_free a) → ReadsNone a b → PassesOn b c → Takes a false c
 takes_none a b c free one two = subst (λ f. LooksIf f a c) (sym free) (record {
   calls = two.calls ∙ one.calls;
   asked = two.asked ∙ one.asked;
   told = two.told;
-  waits = rw (two.waits, one.quiet.waits) refl;
   sent = rw (two.sent, one.quiet.sent) refl;
-  tells = tells two.told a b c one.quiet.stopped one.rests two.stays.config two.ends;
+  queued = two.queued;
+  waits = rw (two.waits, one.quiet.waits) refl;
+  tells = tells two.told two.queued a b c one.quiet.stopped one.rests two.stays.config two.ends;
   stays = stays_then a b c one.quiet.stays two.stays;
 })
 
@@ -92,9 +96,23 @@ moves_then a b c one two = record {
   sent = rw (two.sent, one.sent) (simp append_assoc);
   waits = rw (two.waits, one.waits) (simp append_assoc);
   calls = two.calls ∙ one.calls;
+  state = two.state ∙ one.state;
   asked = two.asked ∙ one.asked;
   stopped = two.stopped ∙ one.stopped;
   rests = two.rests ∙ one.rests;
+  stays = stays_then a b c one.stays two.stays;
+}
+
+drops_then : (a b c : WebValue) → Drops a b → Drops b c → Drops a c
+drops_then a b c one two = record {
+  part = one.part ++ two.part;
+  split = rw (one.split, two.split) (simp append_assoc);
+  sent = rw (two.sent, one.sent) (simp append_assoc);
+  calls = two.calls ∙ one.calls;
+  state = two.state ∙ one.state;
+  asked = two.asked ∙ one.asked;
+  waits = two.waits ∙ one.waits;
+  stopped = two.stopped ∙ one.stopped;
   stays = stays_then a b c one.stays two.stays;
 }
 
@@ -115,14 +133,19 @@ none_waits : (xs : List ℕ) (b : Bool) → (IsTrue b ↔ (0 < length xs)) → b
 none_waits [] b h e = refl
 none_waits (x ∷ xs) b h e = absurd (cc (h.1 (omega arith), e))
 
+said_nothing : (fault : Option Fault) → [] ≡ said_of fault []
+said_nothing None = refl
+said_nothing (Some fault) = refl
+
 pub passes_nothing : (old : WebValue) (b : Bool) → (IsTrue b ↔ (0 < length old.heard.pending)) → b ≡ false → PassesOn old (record old { rests = true })
 passes_nothing old b h e = record {
   told = [];
   sent = sym (append-nil old.heard.sent);
+  queued = [];
   waits = sym (append-nil old.waits);
   calls = refl;
   asked = refl;
-  ends = inl (refl, none_waits old.heard.pending b h e, (refl, refl));
+  ends = inl (refl, none_waits old.heard.pending b h e, (refl, refl), said_nothing (fault_in old.heard.state));
   stays = record { config = refl; received = refl; ended = refl };
 }
 
@@ -134,14 +157,15 @@ pub on_ok : {T E : Type 0} (r : Result T E) (P : Type 0) → is_err r ≡ false 
 on_ok (Ok x) P e h = h
 on_ok (Err x) P e h = absurd (cc e)
 
-pub moved_all : (old mid : WebValue) → Moves (record old { rests = false }) mid → mid.heard.pending ≡ [] → 0 < length old.heard.pending → PassesOn old mid
-moved_all old mid m none some = record {
+pub moved_all : (old mid : WebValue) → Moves (record old { rests = false }) mid → mid.heard.pending ≡ [] → 0 < length old.heard.pending → fault_in old.heard.state ≡ None → PassesOn old mid
+moved_all old mid m none some well = record {
   told = m.part;
   sent = m.sent;
+  queued = m.part;
   waits = m.waits;
   calls = m.calls;
   asked = m.asked;
-  ends = inl (m.stopped, none, told_some m.part old.heard.pending old mid (m.split ∙ ap (λ l. m.part ++ l) none) some m.rests);
+  ends = inl (m.stopped, none, told_some m.part old.heard.pending old mid (m.split ∙ ap (λ l. m.part ++ l) none) some m.rests, sym (ap (λ s. said_of (fault_in s) m.part) m.state ∙ ap (λ f. said_of f m.part) well));
   stays = record { config = m.stays.config; received = m.stays.received; ended = m.stays.ended };
 }
 
@@ -149,12 +173,62 @@ pub moved_some : (old mid new : WebValue) → Moves (record old { rests = false 
 moved_some old mid new m e = subst (λ w. PassesOn old w) (sym e) (record {
   told = m.part;
   sent = m.sent;
+  queued = m.part;
   waits = m.waits;
   calls = m.calls;
   asked = m.asked;
-  ends = inr (ap (λ o. first_cause o Memory) m.stopped);
+  ends = inr (ap (λ o. first_cause o Memory) m.stopped, inl refl);
   stays = record { config = m.stays.config; received = m.stays.received; ended = m.stays.ended };
 })
+
+-- ---- a fault
+
+said_whole : (part pending : List ℕ) (state : State) (fault : Fault) → pending ≡ part ++ [] → 0 < length pending → fault_in state ≡ Some fault → fault_bytes fault ≡ said_of (fault_in state) part
+said_whole [] pending state fault e some is = let l : length pending ≡ 0 = ap length e in absurd (omega (arith, l, some))
+said_whole (b ∷ bs) pending state fault e some is = sym (ap (λ f. said_of f (b ∷ bs)) is)
+
+-- what was pending is dropped, and the response that names the fault is queued, or nothing
+pub told_fault : (old mid new : WebValue) (fault : Fault) → Drops old mid → mid.heard.pending ≡ [] → 0 < length old.heard.pending → fault_in old.heard.state ≡ Some fault → Queues mid (fault_bytes fault) new → PassesOn old new
+told_fault old mid new fault d none some is (inl e) =
+    let all = d.split ∙ ap (λ l. d.part ++ l) none in
+    let next : WebValue = with_waits mid (mid.waits ++ fault_bytes fault) in
+    subst (λ w. PassesOn old w) (sym e) (record {
+      told = d.part;
+      sent = d.sent;
+      queued = fault_bytes fault;
+      waits = ap (λ l. l ++ fault_bytes fault) d.waits;
+      calls = d.calls;
+      asked = d.asked;
+      ends = inl (d.stopped, none, told_some d.part old.heard.pending old next all some refl, said_whole d.part old.heard.pending mid.heard.state fault all some (ap fault_in d.state ∙ is));
+      stays = record { config = d.stays.config; received = d.stays.received; ended = d.stays.ended };
+    })
+told_fault old mid new fault d none some is (inr e) = subst (λ w. PassesOn old w) (sym e) (record {
+  told = d.part;
+  sent = d.sent;
+  queued = [];
+  waits = d.waits ∙ sym (append-nil old.waits);
+  calls = d.calls;
+  asked = d.asked;
+  ends = inr (ap (λ o. first_cause o Memory) d.stopped, inr refl);
+  stays = record { config = d.stays.config; received = d.stays.received; ended = d.stays.ended };
+})
+
+-- a piece of what was pending is handed out, and dropped
+pub drops_piece : (old mid : WebValue) (piece : List ℕ) (config : Config) (heard : History) → IsChunkOf piece mid.heard.pending → heard ≡ after_sent mid.heard (length piece)
+    → config ≡ mid.config → Drops old mid → Drops old (record mid { config = config; heard = heard })
+drops_piece old mid piece config heard chunk handed same d =
+    let next : WebValue = record mid { config = config; heard = heard } in
+    drops_then old mid next d (record {
+      part = piece;
+      split = sym (take-append-drop (length piece) mid.heard.pending) ∙ ap (λ l. l ++ drop (length piece) mid.heard.pending) chunk.front ∙ ap (λ (h : History). piece ++ h.pending) (sym handed);
+      sent = ap (λ (h : History). h.sent) handed ∙ ap (λ l. mid.heard.sent ++ l) chunk.front;
+      calls = ap (λ (h : History). h.calls) handed;
+      state = ap (λ (h : History). h.state) handed;
+      asked = refl;
+      waits = refl;
+      stopped = refl;
+      stays = record { config = same; received = ap (λ (h : History). h.received) handed; ended = ap (λ (h : History). h.ended) handed };
+    })
 
 -- a piece of what was pending is handed out, and queued
 pub moves_piece : (old mid : WebValue) (piece waits : List ℕ) (config : Config) (heard : History) → IsChunkOf piece mid.heard.pending → waits ≡ mid.waits ++ piece → heard ≡ after_sent mid.heard (length piece)
@@ -167,6 +241,7 @@ moves_piece old mid piece waits config heard chunk queued handed same m =
       sent = ap (λ (h : History). h.sent) handed ∙ ap (λ l. mid.heard.sent ++ l) chunk.front;
       waits = queued;
       calls = ap (λ (h : History). h.calls) handed;
+      state = ap (λ (h : History). h.state) handed;
       asked = refl;
       stopped = refl;
       rests = refl;

@@ -4,8 +4,10 @@ use Rattle.std.specs.Fmt.{decimal}
 use Rattle.http1.specs.Fields.{Header}
 use Rattle.http1.specs.Head.{response_text}
 use Rattle.http1_typed.specs.Parts.{reason_of}
+use Rattle.mvd_http.specs.Faults.{answer_of, text_of}
 use Rattle.mvd_http.specs.Fields.{fields_for}
 use Rattle.mvd_http.specs.declared.fields.Answer.{Answer}
+use Rattle.mvd_http.specs.declared.http_fault.Fault.{Fault}
 use Rattle.mvd_web.specs.declared.response.Manner.{Manner}
 
 -- whether another response may follow
@@ -36,3 +38,7 @@ has_no_body answer manner = manner.is_head || (answer.status == 204)
 abbrev pub response_bytes : Answer → List ℕ → Manner → List ℕ
 response_bytes answer body manner =
     head_bytes answer (length body) manner.is_last ++ body_sent (has_no_body answer manner) body
+
+-- the response to a request that is refused: no other follows
+abbrev pub fault_bytes : Fault → List ℕ
+fault_bytes fault = response_bytes (answer_of fault) (text_of fault) (record { is_last = true; is_head = false })

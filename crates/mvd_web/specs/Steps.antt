@@ -5,7 +5,7 @@ use Rattle.http_server.specs.History.{Rests}
 use Rattle.http_server.specs.Response.{IsResponse}
 use Rattle.mvd_dots.specs.declared.refusals.Refusal.TheVariants.{Memory}
 use Rattle.mvd_web.specs.Asked.{IsAskedBy}
-use Rattle.mvd_web.specs.Web.{Stays, WebValue, first_cause}
+use Rattle.mvd_web.specs.Web.{Stays, WebValue, first_cause, said}
 use Rattle.mvd_web.specs.declared.taken.Asked.{Asked}
 
 -- reading hands nothing out, and queues nothing
@@ -36,7 +36,11 @@ Reads old false new = ReadsNone old new
 
 -- what the kit's connection handed out is not queued
 pub record Drops (old new : WebValue) : Type 0 where
+  pub part : List ℕ
+  pub split : old.heard.pending ≡ part ++ new.heard.pending
+  pub sent : new.heard.sent ≡ old.heard.sent ++ part
   pub calls : new.heard.calls ≡ old.heard.calls
+  pub state : new.heard.state ≡ old.heard.state
   pub asked : new.asked ≡ old.asked
   pub waits : new.waits ≡ old.waits
   pub stopped : new.stopped ≡ old.stopped
@@ -49,6 +53,7 @@ pub record Moves (old new : WebValue) : Type 0 where
   pub sent : new.heard.sent ≡ old.heard.sent ++ part
   pub waits : new.waits ≡ old.waits ++ part
   pub calls : new.heard.calls ≡ old.heard.calls
+  pub state : new.heard.state ≡ old.heard.state
   pub asked : new.asked ≡ old.asked
   pub stopped : new.stopped ≡ old.stopped
   pub rests : new.rests ≡ old.rests
@@ -59,15 +64,17 @@ abbrev pub Settles : List ℕ → WebValue → WebValue → Type 0
 Settles [] old new = IsTrue new.rests × (new.heard ≡ old.heard)
 Settles (b ∷ bs) old new = new.rests ≡ false
 
-abbrev pub PassesAll : WebValue → List ℕ → WebValue → Type 0
-PassesAll old told new =
-    ((new.stopped ≡ old.stopped) × (new.heard.pending ≡ []) × Settles told old new) ⊎ (new.stopped ≡ first_cause old.stopped Memory)
+abbrev pub PassesAll : WebValue → List ℕ → List ℕ → WebValue → Type 0
+PassesAll old told queued new =
+    ((new.stopped ≡ old.stopped) × (new.heard.pending ≡ []) × Settles told old new × (queued ≡ said new told))
+    ⊎ ((new.stopped ≡ first_cause old.stopped Memory) × ((queued ≡ told) ⊎ (queued ≡ [])))
 
 pub record PassesOn (old new : WebValue) : Type 0 where
   pub told : List ℕ
   pub sent : new.heard.sent ≡ old.heard.sent ++ told
-  pub waits : new.waits ≡ old.waits ++ told
+  pub queued : List ℕ
+  pub waits : new.waits ≡ old.waits ++ queued
   pub calls : new.heard.calls ≡ old.heard.calls
   pub asked : new.asked ≡ old.asked
-  pub ends : PassesAll old told new
+  pub ends : PassesAll old told queued new
   pub stays : Stays old new

@@ -11,9 +11,10 @@ use Rattle.mvd_conn.specs.declared.ending.Ending.TheVariants.{Stopped}
 use Rattle.mvd_dots.specs.declared.refusals.Refusal.{Refusal}
 use Rattle.mvd_dots.specs.declared.refusals.Refusal.TheVariants.{Memory}
 use Rattle.mvd_http.specs.declared.fields.Answer.{Answer}
+use Rattle.mvd_http.specs.declared.http_fault.Fault.{Fault}
 use Rattle.mvd_web.specs.Asked.{IsAskedBy}
-use Rattle.mvd_web.specs.Ends.{ending_of}
-use Rattle.mvd_web.specs.Response.{response_bytes}
+use Rattle.mvd_web.specs.Ends.{ending_of, fault_in}
+use Rattle.mvd_web.specs.Response.{fault_bytes, response_bytes}
 use Rattle.mvd_web.specs.declared.taken.Asked.{Asked}
 use Rattle.mvd_web.specs.declared.response.Manner.{Manner}
 
@@ -126,19 +127,30 @@ abbrev pub MayRest : List ℕ → WebValue → Type 0
 MayRest [] new = IsTrue new.rests × Rests new.config new.heard
 MayRest (b ∷ bs) new = new.rests ≡ false
 
--- all that was to be told is told, or the connection is stopped for want of memory
-abbrev pub TellsAll : WebValue → List ℕ → WebValue → Type 0
-TellsAll old told new =
-    ((new.stopped ≡ old.stopped) × (new.heard.pending ≡ []) × MayRest told new) ⊎ (new.stopped ≡ first_cause old.stopped Memory)
+-- What is said for what the kit's connection handed out: just that, but for a request that it refuses the fault, with its body.
+abbrev pub said_of : Option Fault → List ℕ → List ℕ
+said_of None told = told
+said_of (Some fault) [] = []
+said_of (Some fault) (b ∷ bs) = fault_bytes fault
 
--- No request was read. What was queued is what the kit's connection handed out.
+abbrev pub said : WebValue → List ℕ → List ℕ
+said w told = said_of (fault_in w.heard.state) told
+
+-- all that was to be said is queued; or the connection is stopped for want of memory, and what was handed out is queued, or nothing
+abbrev pub TellsAll : WebValue → List ℕ → List ℕ → WebValue → Type 0
+TellsAll old told queued new =
+    ((new.stopped ≡ old.stopped) × (new.heard.pending ≡ []) × MayRest told new × (queued ≡ said new told))
+    ⊎ ((new.stopped ≡ first_cause old.stopped Memory) × ((queued ≡ told) ⊎ (queued ≡ [])))
+
+-- no request was read
 pub record TakesNone (old new : WebValue) : Type 0 where
   pub calls : new.heard.calls ≡ old.heard.calls
   pub asked : new.asked ≡ old.asked
   pub told : List ℕ
-  pub waits : new.waits ≡ old.waits ++ told
   pub sent : new.heard.sent ≡ old.heard.sent ++ told
-  pub tells : TellsAll old told new
+  pub queued : List ℕ
+  pub waits : new.waits ≡ old.waits ++ queued
+  pub tells : TellsAll old told queued new
   pub stays : Stays old new
 
 -- where no request may be taken, nothing is done

@@ -1,17 +1,17 @@
 //! One connection: from the bytes that came to the bytes that leave.
-ghost use Rattle.std.specs.Prelude.{◌≡◌, ◌<◌, ◌≤◌, ◌↔◌, [], length, true, IsTrue, OnOk, option_copied, option_map};
+ghost use Rattle.std.specs.Prelude.{◌≡◌, ◌<◌, ◌≤◌, ◌↔◌, [], length, true, Some, None, IsTrue, OnOk, option_copied, option_map};
 ghost use Rattle.mvd_web.specs.Response.{response_bytes};
 ghost use Rattle.mvd_web.specs.declared.taken.Asked.{Asked};
 
 use crate::desk::Desk;
 use crate::response::{Manner, push_response};
 use crate::taken::Asked;
-use crate::web_ending::ending_of;
+use crate::web_ending::{ending_of, fault_in};
 use bytes::BytesMut;
 use http_server::{Config, Connection, State};
 use mvd_conn::Ending;
 use mvd_dots::Refusal;
-use mvd_http::Answer;
+use mvd_http::{Answer, Fault};
 use std::alloc::{AllocError, Global};
 use std::hash::RandomState;
 
@@ -35,6 +35,7 @@ pub struct WebConnection {
 }
 
 impl WebConnection {
+    ghost use Rattle.mvd_web.specs.Ends.{fault_in as fault_told};
     ghost use Rattle.mvd_web.specs.Inside.{web_of};
     ghost use Rattle.mvd_web.specs.Web.{EndsInput, Feeds, IsNew, IsOver, Queues, RespondsTo, Takes, WantsInput, is_awake, is_closed, is_free as free_now, sent, stopped_by, unasked, web_ending};
     ghost use Rattle.mvd_web.specs.Steps.{Drops, Moves, PassesOn, Reads};
@@ -118,7 +119,7 @@ impl WebConnection {
     }
 
     /// Takes the next request, where no other waits for its answer. Whether one was taken. Where none was, what the
-    /// parser answers for itself is queued.
+    /// parser answers for itself is queued, and for a request that it refuses the response that names the fault.
     pub fn next(&mut self) -> bool
         ensures { Takes (web_of self.old) result (web_of self.new) }
     {
@@ -141,20 +142,46 @@ impl WebConnection {
         false
     }
 
-    /// Queues what the parser answers for itself, if anything.
+    /// Queues what is said where no request was read, if anything.
     fn pass_on(&mut self)
         ensures { PassesOn (web_of self.old) (web_of self.new) }
     {
         if self.parser.wants_write() {
-            self.move_all();
+            self.say();
         } else {
             self.rests = true;
         }
     }
 
+    /// Queues what the parser answers for itself; for a request that it refuses, the response that names the fault.
+    fn say(&mut self)
+        requires { 0 < length (web_of self.old).heard.pending }
+        ensures { PassesOn (web_of self.old) (web_of self.new) }
+    {
+        match fault_in(self.parser.state()) {
+            Some(fault) => self.tell(fault),
+            None => self.move_all(),
+        }
+    }
+
+    /// Queues the response that names a fault, in place of what the parser says.
+    fn tell(&mut self, fault: Fault)
+        requires waits { 0 < length (web_of self.old).heard.pending }
+        requires refused { fault_told (web_of self.old).heard.state ≡ Some fault }
+        ensures { PassesOn (web_of self.old) (web_of self.new) }
+    {
+        self.drop_pending();
+        let manner = Manner {
+            is_last: true,
+            is_head: false,
+        };
+        self.queue(fault.answer(), fault.body(), manner);
+    }
+
     /// Queues what the parser answers for itself. Where memory is refused, the connection stops.
     fn move_all(&mut self)
-        requires { 0 < length (web_of self.old).heard.pending }
+        requires waits { 0 < length (web_of self.old).heard.pending }
+        requires open { fault_told (web_of self.old).heard.state ≡ None }
         ensures { PassesOn (web_of self.old) (web_of self.new) }
     {
         self.rests = false;

@@ -1,9 +1,4 @@
-use Rattle.mvd_http.proofs.Steps.{items3}
 use Rattle.mvd_http.proofs.fields.add_common.Goals as goal
 
 pub returns-clause-fields : goal.returns-clause-fields
-returns-clause-fields c =
-    items3 _ _ _ _ _ _ _
-    (rw (c.from_static-policy.ensures, c.from_static.ensures) at c.in_ok-add_header.ensures.headers)
-    (rw (c.from_static-options.ensures, c.from_static-2.ensures) at c.in_ok-add_header-2.ensures.headers)
-    (rw (c.from_static-cache.ensures, c.from_static-3.ensures) at c.in_ok-add_header-3.ensures.headers)
+returns-clause-fields c = rw (c.from_static-cache.ensures, c.from_static.ensures) at c.add_header.ensures.headers

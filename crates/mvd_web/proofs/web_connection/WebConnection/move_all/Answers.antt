@@ -9,4 +9,4 @@ returns-then-is_err c = moved_some (web_of c.args.self.now) (web_of c.move_pendi
 pub returns-else-is_err : goal.returns-else-is_err
 returns-else-is_err c =
     moved_all (web_of c.args.self.now) (web_of c.move_pending.new.self) c.move_pending.ensures.moved
-    (on_ok c.move_pending.result _ (sym c.is_err.ensures.value ∙ c.if-is_err.false) c.move_pending.ensures.all) c.requires
+    (on_ok c.move_pending.result _ (sym c.is_err.ensures.value ∙ c.if-is_err.false) c.move_pending.ensures.all) c.requires.waits c.requires.open

@@ -1,0 +1,157 @@
+//! What a request asks of the server, or of a list of the site.
+ghost use Rattle.std.specs.Prelude.{◌≡◌, codes};
+ghost use Rattle.mvd_dots.specs.Answer.{IsAnswer};
+ghost use Rattle.mvd_http.specs.Asked.{bound as bound_given, changes_asked, conflicts_asked, index_asked, keys_asked, list_asked, named_list as list_named, row_asked, rows_asked, told_asked, tree_asked, under, view_asked};
+ghost use Rattle.mvd_http.specs.Paths.{without as left_behind};
+
+use crate::place::place_if_given;
+use crate::question::Question;
+use crate::since::{root_if_given, wait_in};
+use crate::target::{given, without, without_end};
+use crate::target_parts::{
+    field_in, key_if_given, path_in, prefix_in, term_if_given, term_in, view_in,
+};
+use mvd_dots::Refusal;
+use mvd_keys::Path;
+use mvd_wire::Request;
+use std::alloc::Global;
+
+pub fn list_of(alloc: Global, path: &[u8], query: &[u8]) -> Result<Question, Refusal>
+    ensures { IsAnswer result (list_asked path.now query.now) }
+{
+    if path == b"/".as_slice() {
+        return Ok(Question::Page);
+    }
+    if path == b"/root".as_slice() {
+        return Ok(Question::Root);
+    }
+    if path == b"/metrics".as_slice() {
+        return Ok(Question::Metrics);
+    }
+    told_of(alloc, path, query)
+}
+
+/// What is told of the keys and their changes.
+fn told_of(alloc: Global, path: &[u8], query: &[u8]) -> Result<Question, Refusal>
+    ensures { IsAnswer result (told_asked path.now query.now) }
+{
+    if path == b"/conflicts".as_slice() {
+        return conflicts_of(alloc, query);
+    }
+    if path == b"/changes".as_slice() {
+        return changes_of(alloc, query);
+    }
+    if path == b"/tree".as_slice() {
+        return tree_of(alloc, query);
+    }
+    named_list(alloc, path, query)
+}
+
+/// The keys that are held. Those without a sibling may be left out of what is told.
+pub fn keys_of(alloc: Global, query: &[u8]) -> Result<Question, Refusal>
+    ensures { IsAnswer result (keys_asked query.now) }
+{
+    let prefix = prefix_in(alloc, given(query, b"prefix="))?;
+    let after = key_if_given(alloc, given(query, b"after="))?;
+    let request = Request::Keys(prefix, after);
+    if given(query, b"live=") == b"1".as_slice() {
+        return Ok(Question::Live(request));
+    }
+    Ok(Question::Ask(request))
+}
+
+fn conflicts_of(alloc: Global, query: &[u8]) -> Result<Question, Refusal>
+    ensures { IsAnswer result (conflicts_asked query.now) }
+{
+    let after = key_if_given(alloc, given(query, b"after="))?;
+    Ok(Question::Ask(Request::Conflicts(after)))
+}
+
+fn changes_of(alloc: Global, query: &[u8]) -> Result<Question, Refusal>
+    ensures { IsAnswer result (changes_asked query.now) }
+{
+    let since = root_if_given(alloc, given(query, b"since="))?;
+    let wait = wait_in(alloc, given(query, b"wait="))?;
+    Ok(Question::Changes(since, wait))
+}
+
+/// A list of an index or a view.
+fn named_list(alloc: Global, path: &[u8], query: &[u8]) -> Result<Question, Refusal>
+    ensures { IsAnswer result (list_named (left_behind (codes "/index/") path.now) path.now query.now) }
+{
+    match without(path, b"/index/") {
+        Some(field) => index_of(alloc, field, query),
+        None => match without(path, b"/views/") {
+            Some(view) => view_of(alloc, view, query),
+            None => Ok(Question::Nowhere),
+        },
+    }
+}
+
+fn tree_of(alloc: Global, query: &[u8]) -> Result<Question, Refusal>
+    ensures { IsAnswer result (tree_asked query.now) }
+{
+    let path = path_in(alloc, given(query, b"path="))?;
+    keys_under(alloc, path, query)
+}
+
+/// The keys of a bucket, or a node.
+fn keys_under(alloc: Global, path: Path, query: &[u8]) -> Result<Question, Refusal>
+    ensures { IsAnswer result (under path query.now) }
+{
+    if path.digits().len() != 3 {
+        return Ok(Question::Ask(Request::Node(path)));
+    }
+    let after = key_if_given(alloc, given(query, b"after="))?;
+    Ok(Question::Ask(Request::Bucket(path, after)))
+}
+
+/// A bound of an index: `is` stands for both.
+fn bound<'a>(query: &'a [u8], name: &[u8]) -> &'a [u8]
+    ensures { result.now ≡ bound_given name.now query.now }
+{
+    let both = given(query, b"is=");
+    if both.is_empty() {
+        return given(query, name);
+    }
+    both
+}
+
+fn index_of(alloc: Global, field: &[u8], query: &[u8]) -> Result<Question, Refusal>
+    ensures { IsAnswer result (index_asked field.now query.now) }
+{
+    let field = field_in(alloc, field)?;
+    let low = term_in(alloc, bound(query, b"from="))?;
+    let high = term_in(alloc, bound(query, b"to="))?;
+    let after = place_if_given(alloc, given(query, b"after="))?;
+    Ok(Question::Ask(Request::Range(field, low, high, after)))
+}
+
+/// The rows of a view, or one of them.
+fn view_of(alloc: Global, view: &[u8], query: &[u8]) -> Result<Question, Refusal>
+    ensures { IsAnswer result (view_asked view.now query.now) }
+{
+    match without_end(view, b"/rows") {
+        Some(name) => rows_of(alloc, name, query),
+        None => match without_end(view, b"/row") {
+            Some(name) => row_of(alloc, name, query),
+            None => Ok(Question::Nowhere),
+        },
+    }
+}
+
+fn rows_of(alloc: Global, view: &[u8], query: &[u8]) -> Result<Question, Refusal>
+    ensures { IsAnswer result (rows_asked view.now query.now) }
+{
+    let view = view_in(alloc, view)?;
+    let after = term_if_given(alloc, given(query, b"after="))?;
+    Ok(Question::Ask(Request::Rows(view, after)))
+}
+
+fn row_of(alloc: Global, view: &[u8], query: &[u8]) -> Result<Question, Refusal>
+    ensures { IsAnswer result (row_asked view.now query.now) }
+{
+    let view = view_in(alloc, view)?;
+    let term = term_in(alloc, given(query, b"is="))?;
+    Ok(Question::Ask(Request::Row(view, term)))
+}

@@ -1,15 +1,18 @@
 -- The frames of one connection, taken one by one.
-use Rattle.std.proofs.Common.{◌≡◌, ◌⊎◌, inl, inr, ◌==◌, Bool, true, false, List, [], ◌∷◌, ◌++◌, map, Some, Result, Ok, cond, refl, sym, ap, ◌∙◌, subst, append_assoc, append-nil, ap₂}
+use Rattle.std.proofs.Common.{◌≡◌, ◌⊎◌, inl, inr, ◌==◌, Bool, true, false, List, [], ◌∷◌, ◌++◌, map, Some, Result, Ok, cond, Option, refl, sym, ap, ◌∙◌, subst, subst₂, append_assoc, append-nil, ap₂}
 use Rattle.std.proofs.lemmas.List.{map-append}
 use Rattle.mvd_dots.specs.declared.refusals.Refusal.{Refusal}
 use Rattle.mvd_wire.specs.declared.request.Request.{Request}
 use Rattle.mvd_wire.specs.Frames.{FrameValue}
+use Rattle.mvd_conn.specs.Guard.{IsShown}
+use Rattle.mvd_conn.specs.declared.guard.Guard.{Guard}
+use Rattle.mvd_conn.proofs.Guarded.{gives_shown}
 use Rattle.mvd_conn.specs.History.{Gives, History, Next, Over, Stops, Waits, after_next, due, is_held_up, next_of, over, released, stepped, stopped, taking}
 use Rattle.mvd_host.specs.Course.{NoneMoved, asked_by}
 use Rattle.mvd_host.specs.Taking.{IsIdle, TakesOn}
 
 pub none_moved : (h : History) → NoneMoved h h
-none_moved h = record { came = refl; source = refl; left = refl; failed = refl }
+none_moved h = record { came = refl; source = refl; left = refl; failed = refl; guard = refl }
 
 -- no frame was taken
 pub record Same (old new : History) : Type 0 where
@@ -18,10 +21,17 @@ pub record Same (old new : History) : Type 0 where
   pub moved : NoneMoved old new
 
 pub same : (old new : History) → Same old new → TakesOn [] [] old new
-same old new is = record { frames = []; taken = is.taken ∙ sym (append-nil old.taken); asked = refl; answers = is.answers; moved = is.moved }
+same old new is = record {
+  frames = [];
+  taken = is.taken ∙ sym (append-nil old.taken);
+  asked = refl;
+  answers = is.answers;
+  moved = is.moved;
+  shown = λ s. subst₂ (λ (g : Option Guard) (fs : List FrameValue). IsShown g fs) (sym is.moved.guard) (sym is.taken) s;
+}
 
 pub took_nothing : (h : History) → TakesOn [] [] h (released h)
-took_nothing h = same h (released h) (record { taken = refl; answers = refl; moved = record { came = refl; source = refl; left = refl; failed = refl } })
+took_nothing h = same h (released h) (record { taken = refl; answers = refl; moved = record { came = refl; source = refl; left = refl; failed = refl; guard = refl } })
 
 -- what a step that hands nothing out leaves
 not_true : {A : Type 0} (p q : A) → ◌≡◌ {A = Bool × A} (false, p) (true, q) → ⊥
@@ -31,12 +41,12 @@ stepped_same : (h : History) (n : Next) (k : History) → ◌≡◌ {A = Bool ×
 stepped_same h (Gives f rest) k e = absurd (not_true k (taking h f rest) e)
 stepped_same h Over k e =
     elim (due h == 0) as (λ b. k ≡ cond b (over h) h → Same h k) [
-      | true ↦ λ is. subst (Same h) (sym is) (record { taken = refl; answers = refl; moved = record { came = refl; source = refl; left = refl; failed = refl } })
+      | true ↦ λ is. subst (Same h) (sym is) (record { taken = refl; answers = refl; moved = record { came = refl; source = refl; left = refl; failed = refl; guard = refl } })
       | false ↦ λ is. subst (Same h) (sym is) (record { taken = refl; answers = refl; moved = none_moved h })
     ] (ap (λ (x : Bool × History). x.1) e)
 stepped_same h (Stops refusal) k e =
     elim (due h == 0) as (λ b. k ≡ cond b (stopped h refusal) h → Same h k) [
-      | true ↦ λ is. subst (Same h) (sym is) (record { taken = refl; answers = refl; moved = record { came = refl; source = refl; left = refl; failed = refl } })
+      | true ↦ λ is. subst (Same h) (sym is) (record { taken = refl; answers = refl; moved = record { came = refl; source = refl; left = refl; failed = refl; guard = refl } })
       | false ↦ λ is. subst (Same h) (sym is) (record { taken = refl; answers = refl; moved = none_moved h })
     ] (ap (λ (x : Bool × History). x.1) e)
 stepped_same h Waits k e = subst (Same h) (sym (ap (λ (x : Bool × History). x.1) e)) (record { taken = refl; answers = refl; moved = none_moved h })
@@ -45,7 +55,7 @@ pub took_none : (h k : History) → ◌≡◌ {A = Bool × History} (false, k) (
 took_none h k e =
     elim (is_held_up h) as (λ b. ◌≡◌ {A = Bool × History} (false, k) (cond b (false, released h) (stepped (released h) (next_of h))) → TakesOn [] [] h k) [
       | true ↦ λ is. subst (TakesOn [] [] h) (sym (ap (λ (x : Bool × History). x.1) is)) (took_nothing h)
-      | false ↦ λ is. let s : Same (released h) k = stepped_same (released h) (next_of h) k is in same h k (record { taken = s.taken; answers = s.answers; moved = record { came = s.moved.came; source = s.moved.source; left = s.moved.left; failed = s.moved.failed } })
+      | false ↦ λ is. let s : Same (released h) k = stepped_same (released h) (next_of h) k is in same h k (record { taken = s.taken; answers = s.answers; moved = record { came = s.moved.came; source = s.moved.source; left = s.moved.left; failed = s.moved.failed; guard = s.moved.guard } })
     ] e
 
 -- one frame was taken, and is in hand
@@ -55,26 +65,34 @@ pub record TookOne (old new : History) : Type 0 where
   pub taken : new.taken ≡ old.taken ++ frame ∷ []
   pub answers : new.answers ≡ old.answers
   pub moved : NoneMoved old new
+  pub shown : IsShown old.guard old.taken → IsShown new.guard new.taken
 
-stepped_one : (h : History) (n : Next) (k : History) → ◌≡◌ {A = Bool × History} (true, k) (stepped h n) → TookOne h k
-stepped_one h (Gives f rest) k e =
-    subst (TookOne h) (sym (ap (λ (x : Bool × History). x.1) e)) (record { frame = f; hand = refl; taken = refl; answers = refl; moved = record { came = refl; source = refl; left = refl; failed = refl } })
-stepped_one h Over k e = absurd (not_true _ k (sym e))
-stepped_one h (Stops refusal) k e = absurd (not_true _ k (sym e))
-stepped_one h Waits k e = absurd (not_true _ k (sym e))
+stepped_one : (h : History) (n : Next) (k : History) → next_of h ≡ n → ◌≡◌ {A = Bool × History} (true, k) (stepped h n) → TookOne h k
+stepped_one h (Gives f rest) k next e =
+    subst (TookOne h) (sym (ap (λ (x : Bool × History). x.1) e)) (record {
+      frame = f;
+      hand = refl;
+      taken = refl;
+      answers = refl;
+      moved = record { came = refl; source = refl; left = refl; failed = refl; guard = refl };
+      shown = gives_shown h f rest next;
+    })
+stepped_one h Over k next e = absurd (not_true _ k (sym e))
+stepped_one h (Stops refusal) k next e = absurd (not_true _ k (sym e))
+stepped_one h Waits k next e = absurd (not_true _ k (sym e))
 
 pub took_one : (h k : History) → ◌≡◌ {A = Bool × History} (true, k) (after_next h) → TookOne h k
 took_one h k e =
     elim (is_held_up h) as (λ b. ◌≡◌ {A = Bool × History} (true, k) (cond b (false, released h) (stepped (released h) (next_of h))) → TookOne h k) [
       | true ↦ λ is. absurd (not_true (released h) k (sym is))
-      | false ↦ λ is. let s : TookOne (released h) k = stepped_one (released h) (next_of h) k is in record { frame = s.frame; hand = s.hand; taken = s.taken; answers = s.answers; moved = record { came = s.moved.came; source = s.moved.source; left = s.moved.left; failed = s.moved.failed } }
+      | false ↦ λ is. let s : TookOne (released h) k = stepped_one (released h) (next_of h) k refl is in record { frame = s.frame; hand = s.hand; taken = s.taken; answers = s.answers; moved = record { came = s.moved.came; source = s.moved.source; left = s.moved.left; failed = s.moved.failed; guard = s.moved.guard }; shown = s.shown }
     ] e
 
 pub took_request : (old new : History) (one : TookOne old new) (r : Request) → asked_by one.frame ≡ Ok r → TakesOn (r ∷ []) [] old new
-took_request old new one r is = record { frames = one.frame ∷ []; taken = one.taken; asked = ap (λ a. a ∷ []) is; answers = one.answers; moved = one.moved }
+took_request old new one r is = record { frames = one.frame ∷ []; taken = one.taken; asked = ap (λ a. a ∷ []) is; answers = one.answers; moved = one.moved; shown = one.shown }
 
 pub took_fault : (old new : History) (one : TookOne old new) → TakesOn [] (one.frame ∷ []) old new
-took_fault old new one = record { frames = []; taken = one.taken; asked = refl; answers = one.answers; moved = one.moved }
+took_fault old new one = record { frames = []; taken = one.taken; asked = refl; answers = one.answers; moved = one.moved; shown = one.shown }
 
 -- requests, and then more frames
 pub takes_on : (old mid new : History) (rs more : List Request) (faulty : List FrameValue) → TakesOn rs [] old mid → TakesOn more faulty mid new → TakesOn (rs ++ more) faulty old new
@@ -84,7 +102,8 @@ takes_on old mid new rs more faulty one other = record {
       ∙ append_assoc old.taken one.frames (other.frames ++ faulty) ∙ ap (λ l. old.taken ++ l) (sym (append_assoc one.frames other.frames faulty));
   asked = map-append asked_by one.frames other.frames ∙ ap₂ (λ a b. a ++ b) one.asked other.asked ∙ sym (map-append (λ r. Ok r) rs more);
   answers = other.answers ∙ one.answers;
-  moved = record { came = other.moved.came ∙ one.moved.came; source = other.moved.source ∙ one.moved.source; left = other.moved.left ∙ one.moved.left; failed = other.moved.failed ∙ one.moved.failed };
+  moved = record { came = other.moved.came ∙ one.moved.came; source = other.moved.source ∙ one.moved.source; left = other.moved.left ∙ one.moved.left; failed = other.moved.failed ∙ one.moved.failed; guard = other.moved.guard ∙ one.moved.guard };
+  shown = λ s. other.shown (one.shown s);
 }
 
 idle_step : (h : History) (n : Next) (k : History) → ◌≡◌ {A = Bool × History} (false, k) (stepped (released h) n) → (k ≡ released h) ⊎ IsIdle k
@@ -124,5 +143,6 @@ then_none old mid new rs faulty one other = record {
   taken = other.taken ∙ ap (λ l. mid.taken ++ (l ++ [])) (no_frames other.frames other.asked) ∙ append-nil mid.taken ∙ one.taken;
   asked = one.asked;
   answers = other.answers ∙ one.answers;
-  moved = record { came = other.moved.came ∙ one.moved.came; source = other.moved.source ∙ one.moved.source; left = other.moved.left ∙ one.moved.left; failed = other.moved.failed ∙ one.moved.failed };
+  moved = record { came = other.moved.came ∙ one.moved.came; source = other.moved.source ∙ one.moved.source; left = other.moved.left ∙ one.moved.left; failed = other.moved.failed ∙ one.moved.failed; guard = other.moved.guard ∙ one.moved.guard };
+  shown = λ s. other.shown (one.shown s);
 }

@@ -4,6 +4,7 @@ use Rattle.std.proofs.lemmas.Bool.Decides.{nat_tests}
 use Rattle.std.specs.Ordering.{nat_cmp}
 use Rattle.std.specs.BTreeMap.{is_at}
 use Rattle.mvd_conn.specs.History.{History, new_history}
+use Rattle.mvd_conn.specs.declared.guard.Guard.{Guard}
 use Rattle.mvd_host.specs.Hosts.{AdmitsOne, AreKept, client_in, clients_most}
 
 -- a query finds just its number
@@ -23,11 +24,11 @@ came_in : (b : Bool) (h c : History) (o : Option History) (P : History → Type 
 came_in true h c o P here there e = let same : h ≡ c = cc in subst P same (here refl)
 came_in false h c o P here there e = there c e
 
-pub kept_inserted : (old new : List (ℕ × History)) (n : ℕ) → AreKept old n
-    → ((q : ℕ) → client_in new q ≡ cond (is_at (nat_cmp n) q) (Some new_history) (client_in old q)) → AreKept new (n + 1)
-kept_inserted old new n kept is = record {
-  given = λ q h found. came_in (is_at (nat_cmp n) q) new_history h (client_in old q) (λ _. q < n + 1) (λ at. grind (arith, nat_tests)) (λ x was. let below : q < n = kept.given q x was in omega arith) (sym (is q) ∙ found);
-  answered = λ q h found. came_in (is_at (nat_cmp n) q) new_history h (client_in old q) (λ (c : History). length c.answers ≡ length c.taken) (λ _. refl) (kept.answered q) (sym (is q) ∙ found);
+pub kept_inserted : (guard : Option Guard) (old new : List (ℕ × History)) (n : ℕ) → AreKept old n
+    → ((q : ℕ) → client_in new q ≡ cond (is_at (nat_cmp n) q) (Some (new_history guard)) (client_in old q)) → AreKept new (n + 1)
+kept_inserted guard old new n kept is = record {
+  given = λ q h found. came_in (is_at (nat_cmp n) q) (new_history guard) h (client_in old q) (λ _. q < n + 1) (λ at. grind (arith, nat_tests)) (λ x was. let below : q < n = kept.given q x was in omega arith) (sym (is q) ∙ found);
+  answered = λ q h found. came_in (is_at (nat_cmp n) q) (new_history guard) h (client_in old q) (λ (c : History). length c.answers ≡ length c.taken) (λ _. refl) (kept.answered q) (sym (is q) ∙ found);
 }
 
 went : (b : Bool) (o : Option History) (c : History) → cond b None o ≡ Some c → o ≡ Some c
@@ -49,10 +50,10 @@ none_above n (Some h) below = absurd (let no : n < n = below h refl in omega ari
 pub none_at : (clients : List (ℕ × History)) (n : ℕ) → AreKept clients n → client_in clients n ≡ None
 none_at clients n kept = none_above n (client_in clients n) (λ h found. kept.given n h found)
 
-pub admits : (old new : List (ℕ × History)) (n : ℕ) (h : History) → length old < clients_most → length new ≡ length old + 1 → h ≡ new_history
+pub admits : (guard : Option Guard) (old new : List (ℕ × History)) (n : ℕ) (h : History) → length old < clients_most → length new ≡ length old + 1 → h ≡ new_history guard
     → ((q : ℕ) → client_in new q ≡ cond (is_at (nat_cmp n) q) (Some h) (client_in old q))
-    → AdmitsOne (record { clients = old; admitted = n }) (record { clients = new; admitted = n + 1 }) n
-admits old new n h few more is_new is = record {
+    → AdmitsOne guard (record { clients = old; admitted = n }) (record { clients = new; admitted = n + 1 }) n
+admits guard old new n h few more is_new is = record {
   number = refl;
   next = refl;
   few = few;

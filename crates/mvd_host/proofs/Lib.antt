@@ -9,3 +9,7 @@ pub mod Serving
 pub mod RoundLemmas
 pub mod Runs
 pub mod Growths
+pub mod Feeding
+pub mod Listing
+pub mod Changing
+pub mod Remembering

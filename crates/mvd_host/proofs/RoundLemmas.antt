@@ -1,5 +1,5 @@
 -- A round, from the frames that were taken and the replies that were queued.
-use Rattle.std.proofs.Common.{◌≡◌, ℕ, ◌+◌, ◌≤◌, ◌<◌, ◌==◌, ◌≢◌, ◌⊎◌, inl, inr, Bool, true, false, true≢false, cond, List, [], ◌∷◌, ◌++◌, map, zip, length, slice_index, Option, Some, None, Result, Ok, Err, refl, sym, ap, ap₂, ◌∙◌, subst, arith}
+use Rattle.std.proofs.Common.{◌≡◌, ℕ, ◌+◌, ◌≤◌, ◌<◌, ◌==◌, ◌≢◌, ◌⊎◌, inl, inr, Bool, true, false, true≢false, cond, List, [], ◌∷◌, ◌++◌, map, zip, length, slice_index, Option, Some, None, Result, Ok, Err, refl, sym, ap, ap₂, ◌∙◌, subst, subst₂, arith}
 use Rattle.std.proofs.lemmas.List.{map-append, length-append, length-map}
 use Rattle.std.specs.List.{AllByRecursion}
 use Rattle.mvd_dots.specs.declared.refusals.Refusal.{Refusal}
@@ -9,6 +9,8 @@ use Rattle.mvd_wire.specs.declared.reply.Reply.{Reply}
 use Rattle.mvd_wire.specs.declared.reply.Reply.TheVariants.{Refused}
 use Rattle.mvd_wire.specs.Frames.{FrameValue}
 use Rattle.mvd_wire.specs.Replies.{CanBeSent}
+use Rattle.mvd_conn.specs.Guard.{IsShown}
+use Rattle.mvd_conn.specs.declared.guard.Guard.{Guard}
 use Rattle.mvd_conn.specs.History.{History}
 use Rattle.mvd_replica.specs.Turns.{Turn}
 use Rattle.mvd_host.specs.Hosts.{AreKept, IfClient, client_in}
@@ -130,7 +132,8 @@ course requests faulty first second h i k took asked faulted queued = record {
   queued = queued.queued;
   answers = queued.answers ∙ ap (λ l. l ++ queued.queued) took.answers;
   told = subst (λ l. AreQueued l queued.queued) (sym (map-append (λ (t : Turn). t.reply) first second)) queued.told;
-  moved = record { came = queued.moved.came ∙ took.moved.came; source = queued.moved.source ∙ took.moved.source; left = queued.moved.left ∙ took.moved.left; failed = queued.moved.failed ∙ took.moved.failed };
+  moved = record { came = queued.moved.came ∙ took.moved.came; source = queued.moved.source ∙ took.moved.source; left = queued.moved.left ∙ took.moved.left; failed = queued.moved.failed ∙ took.moved.failed; guard = queued.moved.guard ∙ took.moved.guard };
+  shown = λ s. subst₂ (λ (g : Option Guard) (fs : List FrameValue). IsShown g fs) (sym queued.moved.guard) (sym queued.taken) (took.shown s);
 }
 
 module _ (old mid between new : List (ℕ × History)) (taken : Taken) (all : TakesAll old mid taken) (ts : List (ℕ × Turn)) (asked : asks ts ≡ requested all.requests) where

@@ -1,16 +1,24 @@
 -- Rounds, and what comes between them, one after the other.
-use Rattle.std.proofs.Common.{◌≡◌, ℕ, ◌≤◌, ◌<◌, ◌==◌, Bool, true, false, cond, List, [], ◌∷◌, ◌++◌, map, Option, Some, None, refl, sym, ap, ap₂, ◌∙◌, subst, append-nil, append_assoc, arith}
+use Rattle.std.proofs.Common.{◌≡◌, ℕ, ◌≤◌, ◌<◌, ◌==◌, Bool, true, false, cond, List, [], ◌∷◌, ◌++◌, map, Option, Some, None, refl, sym, ap, ap₂, ◌∙◌, subst, subst₂, append-nil, append_assoc, Result, arith}
 use Rattle.std.proofs.lemmas.Bool.Decides.{nat_tests}
 use Rattle.std.proofs.lemmas.List.{map-append}
 use Rattle.std.specs.Ordering.{nat_cmp}
 use Rattle.std.specs.BTreeMap.{is_at}
+use Rattle.std.specs.List.{concat}
 use Rattle.std.specs.Map.{set_value}
-use Rattle.mvd_conn.specs.History.{History, new_history}
+use Rattle.mvd_conn.proofs.Hellos.{hello_asks}
+use Rattle.mvd_conn.specs.Guard.{IsShown}
+use Rattle.mvd_conn.specs.Stands.{IsLast, Stands}
+use Rattle.mvd_conn.specs.declared.guard.Guard.{Guard}
+use Rattle.mvd_conn.specs.History.{History, last_bytes, new_history}
+use Rattle.mvd_dots.specs.declared.refusals.Refusal.{Refusal}
+use Rattle.mvd_wire.specs.Frames.{FrameValue}
+use Rattle.mvd_wire.specs.declared.request.Request.{Request}
 use Rattle.mvd_replica.specs.Turns.{Turn}
 use Rattle.mvd_host.specs.Hosts.{AdmitsOne, HostValue, Leaves, altered, altered_if, client_in, client_of, new_host, with_client}
 use Rattle.mvd_host.specs.Course.{AreQueued, Both, asked_by, own}
 use Rattle.mvd_host.specs.Round.{Course, Round, turns_of}
-use Rattle.mvd_host.specs.Runs.{Call, Calls, Closes, Comes, Cuts, Feeds, Goes, Happening, May, Moment, OneList, Releases, Rounds, Runs, Sends, TellsOwn, after_call, after_one, after_run, side_of, turns_at, turns_in}
+use Rattle.mvd_host.specs.Runs.{Call, Calls, Closes, Comes, Cuts, Feeds, Goes, Happening, HasShown, May, Moment, OneList, Releases, Rounds, Runs, Sends, TellsOwn, after_call, after_one, after_run, side_of, turns_at, turns_in}
 use Rattle.mvd_host.proofs.Hosts.{at_is}
 use Rattle.mvd_host.proofs.Own.{own-append}
 use Rattle.mvd_host.proofs.Positions.{Serves}
@@ -90,10 +98,18 @@ call_answers (Closes source) h = refl
 call_answers (Sends count) h = refl
 call_answers Cuts h = refl
 
+call_guard : (call : Call) (h : History) → (after_call call h).guard ≡ h.guard
+call_guard (Feeds bytes) h = refl
+call_guard Releases h = refl
+call_guard (Closes source) h = refl
+call_guard (Sends count) h = refl
+call_guard Cuts h = refl
+
 tells_call : (turns : List Turn) (call : Call) (h : History) → TellsOwn turns h → TellsOwn turns (after_call call h)
 tells_call turns call h t = record {
   asked = ap (map asked_by) (call_taken call h) ∙ t.asked;
   told = subst (AreQueued (map (λ (t : Turn). t.reply) turns)) (sym (call_answers call h)) t.told;
+  shown = subst₂ (λ (g : Option Guard) (fs : List FrameValue). IsShown g fs) (sym (call_guard call h)) (sym (call_taken call h)) t.shown;
 }
 
 -- ---- what holds from round to round
@@ -115,27 +131,31 @@ begins f side empty = record {
   later = λ n above. refl;
 }
 
-tells_none : (turns : List Turn) (h : History) → turns ≡ [] → h ≡ new_history → TellsOwn turns h
-tells_none turns h none new = subst (λ l. TellsOwn l h) (sym none) (subst (TellsOwn []) (sym new) (record { asked = refl; told = tt }))
+tells_new : (guard : Option Guard) → TellsOwn [] (new_history guard)
+tells_new None = record { asked = refl; told = tt; shown = tt }
+tells_new (Some guard) = record { asked = refl; told = tt; shown = tt }
 
-came : {C : Type 0} (f : C → State) → (old : Moment C) (turns : List (ℕ × Turn)) (side : Moment C) (n : ℕ) (host : HostValue) → AdmitsOne side.host host n → SoFar f old turns side → SoFar f old turns (record side { host = host })
-came f old turns side n host one s = record {
+tells_none : (guard : Option Guard) (turns : List Turn) (h : History) → turns ≡ [] → h ≡ new_history guard → TellsOwn turns h
+tells_none guard turns h none new = subst (λ l. TellsOwn l h) (sym none) (subst (TellsOwn []) (sym new) (tells_new guard))
+
+came : {C : Type 0} (f : C → State) → (old : Moment C) (turns : List (ℕ × Turn)) (side : Moment C) (n : ℕ) (host : HostValue) (guard : Option Guard) → AdmitsOne guard side.host host n → SoFar f old turns side → SoFar f old turns (record side { host = host })
+came f old turns side n host guard one s = record {
   serves = s.serves;
   tells = λ q h found. on q h (q == n) refl (sym (one.clients q) ∙ found);
   given = λ q h found. given q h (q == n) refl (sym (one.clients q) ∙ found);
   later = λ q above. let next = one.next in s.later q (omega (arith, above, next));
 }
   where
-    on : (q : ℕ) (h : History) (b : Bool) → (q == n) ≡ b → cond (q == n) (Some new_history) (client_of side.host q) ≡ Some h → TellsOwn (own q turns) h
+    on : (q : ℕ) (h : History) (b : Bool) → (q == n) ≡ b → cond (q == n) (Some (new_history guard)) (client_of side.host q) ≡ Some h → TellsOwn (own q turns) h
     on q h true is found =
-        let some : ◌≡◌ {A = Option History} (Some new_history) (Some h) = sym (ap (λ b. cond b (Some new_history) (client_of side.host q)) is) ∙ found in
-        let eq : new_history ≡ h = cc in
+        let some : ◌≡◌ {A = Option History} (Some (new_history guard)) (Some h) = sym (ap (λ b. cond b (Some (new_history guard)) (client_of side.host q)) is) ∙ found in
+        let eq : new_history guard ≡ h = cc in
         let number = one.number in
         let same : q ≡ n = grind (arith, nat_tests, is) in
-        tells_none (own q turns) h (s.later q (omega (arith, number, same))) (sym eq)
-    on q h false is found = s.tells q h (sym (ap (λ b. cond b (Some new_history) (client_of side.host q)) is) ∙ found)
+        tells_none guard (own q turns) h (s.later q (omega (arith, number, same))) (sym eq)
+    on q h false is found = s.tells q h (sym (ap (λ b. cond b (Some (new_history guard)) (client_of side.host q)) is) ∙ found)
 
-    given : (q : ℕ) (h : History) (b : Bool) → (q == n) ≡ b → cond (q == n) (Some new_history) (client_of side.host q) ≡ Some h → q < host.admitted
+    given : (q : ℕ) (h : History) (b : Bool) → (q == n) ≡ b → cond (q == n) (Some (new_history guard)) (client_of side.host q) ≡ Some h → q < host.admitted
     given q h true is found =
         let number = one.number in
         let next = one.next in
@@ -143,7 +163,7 @@ came f old turns side n host one s = record {
         omega (arith, number, next, same)
     given q h false is found =
         let next = one.next in
-        let below : q < side.host.admitted = s.given q h (sym (ap (λ b. cond b (Some new_history) (client_of side.host q)) is) ∙ found) in
+        let below : q < side.host.admitted = s.given q h (sym (ap (λ b. cond b (Some (new_history guard)) (client_of side.host q)) is) ∙ found) in
         omega (arith, next, below)
 
 stayed : (b : Bool) (o : Option History) (h : History) → cond b None o ≡ Some h → o ≡ Some h
@@ -174,6 +194,7 @@ tells_on first second h k t c = record {
   told = subst (AreQueued (map (λ (t : Turn). t.reply) (first ++ second))) (sym c.answers)
       (subst (λ l. AreQueued l (h.answers ++ c.queued)) (sym (map-append (λ (t : Turn). t.reply) first second))
       (queued_on (map (λ t. t.reply) first) (map (λ t. t.reply) second) h.answers c.queued t.told c.told));
+  shown = c.shown t.shown;
 }
 
 none_given : (o : Option History) (n a : ℕ) → a ≤ n → ((h : History) → o ≡ Some h → n < a) → o ≡ None
@@ -196,7 +217,7 @@ answered f old turns side ready more new r s = record {
 }
 
 one_more : {C : Type 0} (f : C → State) → (old : Moment C) (turns : List (ℕ × Turn)) (side : Moment C) (x : Happening C) → May f side x → SoFar f old turns side → SoFar f old (turns ++ turns_at x) (after_one side x)
-one_more f old turns side (Comes n host) may s = subst (λ l. SoFar f old l (record side { host = host })) (sym (append-nil turns)) (came f old turns side n host may s)
+one_more f old turns side (Comes n host) may s = subst (λ l. SoFar f old l (record side { host = host })) (sym (append-nil turns)) (came f old turns side n host may.0 may.1 s)
 one_more f old turns side (Goes n host) may s = subst (λ l. SoFar f old l (record side { host = host })) (sym (append-nil turns)) (left f old turns side n host may s)
 one_more f old turns side (Calls n call) may s = subst (λ l. SoFar f old l (record side { host = altered side.host n (after_call call) })) (sym (append-nil turns)) (was_called f old turns side n call s)
 one_more f old turns side (Rounds ready more new) may s = answered f old turns side ready more new may s
@@ -221,12 +242,12 @@ record IsGone (n : ℕ) (host : HostValue) : Type 0 where
   none : client_of host n ≡ None
 
 gone_on : {C : Type 0} (f : C → State) → (n : ℕ) (side : Moment C) (x : Happening C) → May f side x → IsGone n side.host → (own n (turns_at x) ≡ []) × IsGone n (after_one side x).host
-gone_on f n side (Comes m host) may gone =
-    let number = may.number in
-    let next = may.next in
+gone_on f n side (Comes m host) (guard, one) gone =
+    let number = one.number in
+    let next = one.next in
     let given = gone.given in
     let apart : (n == m) ≡ false = grind (arith, nat_tests, number, given) in
-    (refl, record { given = omega (arith, next, given); none = may.clients n ∙ ap (λ b. cond b (Some new_history) (client_of side.host n)) apart ∙ gone.none })
+    (refl, record { given = omega (arith, next, given); none = one.clients n ∙ ap (λ b. cond b (Some (new_history guard)) (client_of side.host n)) apart ∙ gone.none })
 gone_on f n side (Goes m host) may gone =
     (refl, record { given = subst (λ a. n < a) (sym may.admitted) gone.given; none = may.clients n ∙ ap (λ o. cond (n == m) None o) gone.none ∙ either (n == m) })
   where
@@ -275,3 +296,31 @@ tells_gone f side before after n host h empty first second found =
     let all : own n (turns_in (before ++ Goes n host ∷ after)) ≡ own n (turns_in before) =
     ap (own n) (turns-append before (Goes n host ∷ after)) ∙ own-append n (turns_in before) (turns_in after) ∙ ap (λ l. own n (turns_in before) ++ l) nothing ∙ append-nil (own n (turns_in before)) in
     subst (λ l. TellsOwn l h) (sym all) (s.tells n h found)
+
+-- ---- a client that has to show a token
+
+first_asked : (a b : Result Request Refusal) (rest bs : List (Result Request Refusal)) → a ∷ rest ≡ b ∷ bs → b ≡ a
+first_asked a b rest bs e = cc
+
+none_asked : (b : Result Request Refusal) (bs : List (Result Request Refusal)) → [] ≡ b ∷ bs → ⊥
+none_asked b bs e = absurd cc
+
+shown_first : (guard : Option Guard) (taken : List FrameValue) (turns : List Turn) → map asked_by taken ≡ map (λ t. t.asked) turns → IsShown guard taken → HasShown guard turns
+shown_first None taken turns asked shown = tt
+shown_first (Some guard) taken [] asked shown = tt
+shown_first (Some guard) [] (t ∷ turns) asked shown = absurd (none_asked t.asked (map (λ t. t.asked) turns) asked)
+shown_first (Some guard) (f ∷ taken) (t ∷ turns) asked shown =
+    let hello = hello_asks guard f shown in
+    (hello.0, first_asked (asked_by f) t.asked (map asked_by taken) (map (λ t. t.asked) turns) asked ∙ hello.1, hello.2)
+
+-- it has no turn before it
+pub has_shown : (turns : List Turn) (h : History) → TellsOwn turns h → HasShown h.guard turns
+has_shown turns h own = shown_first h.guard h.taken turns own.asked own.shown
+
+no_answers : (answers : List (List ℕ)) → AreQueued [] answers → answers ≡ []
+no_answers [] told = refl
+no_answers (a ∷ answers) told = absurd told
+
+-- and before its first turn nothing was told it but its end
+pub told_end : (h : History) → TellsOwn [] h → Stands h → (h.left ++ h.waits ≡ last_bytes h.last) × IsLast h h.last
+told_end h own s = (sym s.output ∙ ap (λ (l : List (List ℕ)). concat l ++ last_bytes h.last) (no_answers h.answers own.told), s.last)

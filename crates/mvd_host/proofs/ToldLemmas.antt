@@ -47,7 +47,7 @@ on xs ys x y z p q = record {
   answers = q.answers ∙ ap (λ l. l ++ q.queued) p.answers ∙ append_assoc x.answers p.queued q.queued;
   told = queued_on xs ys p.queued q.queued p.told q.told;
   taken = q.taken ∙ p.taken;
-  moved = record { came = q.moved.came ∙ p.moved.came; source = q.moved.source ∙ p.moved.source; left = q.moved.left ∙ p.moved.left; failed = q.moved.failed ∙ p.moved.failed };
+  moved = record { came = q.moved.came ∙ p.moved.came; source = q.moved.source ∙ p.moved.source; left = q.moved.left ∙ p.moved.left; failed = q.moved.failed ∙ p.moved.failed; guard = q.moved.guard ∙ p.moved.guard };
   none = λ nothing. q.none (no_second xs ys nothing) ∙ p.none (no_first xs ys nothing);
 }
 

@@ -36,9 +36,10 @@ AreQueued [] (bytes ∷ rest) = ⊥
 AreQueued (reply ∷ replies) [] = ⊥
 AreQueued (reply ∷ replies) (bytes ∷ rest) = ((queued : Reply) × IsQueued reply queued × (bytes ≡ reply_bytes queued)) × AreQueued replies rest
 
--- no byte came or left, and neither side ended
+-- no byte came or left, neither side ended, and the guard is the same
 pub record NoneMoved (old new : History) : Type 0 where
   pub came : new.came ≡ old.came
   pub source : new.source ≡ old.source
   pub left : new.left ≡ old.left
   pub failed : new.failed ≡ old.failed
+  pub guard : new.guard ≡ old.guard

@@ -4,6 +4,7 @@ use Rattle.std.specs.Ordering.{nat_cmp}
 use Rattle.std.specs.BTreeMap.{is_at}
 use Rattle.std.specs.Map.{lookup, set_value, remove_entry}
 use Rattle.mvd_conn.specs.History.{History, new_history}
+use Rattle.mvd_conn.specs.declared.guard.Guard.{Guard}
 
 -- each client's number with its connection, and the next client's number
 pub record HostValue : Type 0 where
@@ -53,17 +54,17 @@ altered host n f = altered_if host n (client_of host n) f
 abbrev pub without : HostValue → ℕ → HostValue
 without host n = record host { clients = remove_entry (is_at (nat_cmp n)) host.clients }
 
--- a client comes, with a new connection and a number of its own; or there is no place for it
-pub record AdmitsOne (old new : HostValue) (n : ℕ) : Type 0 where
+-- a client comes, with a new connection, which may have a guard, and a number of its own; or there is no place for it
+pub record AdmitsOne (guard : Option Guard) (old new : HostValue) (n : ℕ) : Type 0 where
   pub number : n ≡ old.admitted
   pub next : new.admitted ≡ old.admitted + 1
   pub few : length old.clients < clients_most
   pub more : length new.clients ≡ length old.clients + 1
-  pub clients : (q : ℕ) → client_of new q ≡ (if q == n then Some new_history else client_of old q)
+  pub clients : (q : ℕ) → client_of new q ≡ (if q == n then Some (new_history guard) else client_of old q)
 
-abbrev pub Admits : HostValue → Option ℕ → HostValue → Type 0
-Admits old None new = (new ≡ old) × ((clients_most ≤ length old.clients) ⊎ (old.admitted ≡ admitted_most))
-Admits old (Some n) new = AdmitsOne old new n
+abbrev pub Admits : Option Guard → HostValue → Option ℕ → HostValue → Type 0
+Admits guard old None new = (new ≡ old) × ((clients_most ≤ length old.clients) ⊎ (old.admitted ≡ admitted_most))
+Admits guard old (Some n) new = AdmitsOne guard old new n
 
 -- a client goes, if there is such a one, and the others stay
 pub record Leaves (old : HostValue) (n : ℕ) (new : HostValue) : Type 0 where

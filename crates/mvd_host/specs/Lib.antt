@@ -6,3 +6,8 @@ pub mod Queueing
 pub mod Round
 pub mod Runs
 pub mod Grown
+pub mod Feeds
+pub mod Lists
+pub mod Remembered
+pub mod Gathered
+pub mod Noting

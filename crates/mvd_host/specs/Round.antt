@@ -3,6 +3,7 @@ use Rattle.std.specs.Prelude.{◌≡◌, ◌≢◌, ◌⊎◌, ◌<◌, Bool, �
 use Rattle.std.specs.List.{AllByRecursion}
 use Rattle.mvd_dots.specs.declared.refusals.Refusal.{Refusal}
 use Rattle.mvd_wire.specs.Frames.{FrameValue}
+use Rattle.mvd_conn.specs.Guard.{IsShown}
 use Rattle.mvd_conn.specs.History.{History}
 use Rattle.mvd_site.specs.Sites.{SiteValue}
 use Rattle.mvd_replica.specs.Turns.{Event, IsToldElse, Replies, StandsOn, TellsTurns, Turn}
@@ -44,7 +45,7 @@ pub record Serves (turns : List Turn) (old new : StoredSite) : Type 0 where
   pub follows : TurnsFollow turns old new
 
 -- The frames that were taken of a connection are those of these turns, in order, and the replies that were queued on it are theirs,
--- in order
+-- in order. Where there is a guard, the first frame of all shows the token
 pub record Course (turns : List Turn) (old new : History) : Type 0 where
   pub frames : List FrameValue
   pub taken : new.taken ≡ old.taken ++ frames
@@ -53,6 +54,7 @@ pub record Course (turns : List Turn) (old new : History) : Type 0 where
   pub answers : new.answers ≡ old.answers ++ queued
   pub told : AreQueued (map (λ t. t.reply) turns) queued
   pub moved : NoneMoved old new
+  pub shown : IsShown old.guard old.taken → IsShown new.guard new.taken
 
 -- A number that no client has, has no turn; nor has a client that is not ready, and that is as it was
 pub record Spares (ready : List ℕ) (turns : List (ℕ × Turn)) (old new : HostValue) : Type 0 where

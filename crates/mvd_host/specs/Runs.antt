@@ -1,12 +1,15 @@
 -- What happens to a host, one thing after the other: rounds, and what comes between them.
-use Rattle.std.specs.Prelude.{◌≡◌, ℕ, List, [], ◌∷◌, ◌++◌, map, Some, ⊤}
+use Rattle.std.specs.Prelude.{◌≡◌, ℕ, List, [], ◌∷◌, ◌++◌, map, Option, Some, None, Ok, ⊤}
 use Rattle.mvd_conn.specs.declared.ending.Source.{Source}
+use Rattle.mvd_conn.specs.Guard.{IsShown, IsTokenOf}
+use Rattle.mvd_conn.specs.declared.guard.Guard.{Guard}
 use Rattle.mvd_conn.specs.History.{History, closed, cut, fed, released, sent}
 use Rattle.mvd_site.specs.Sites.{SiteValue}
 use Rattle.mvd_replica.specs.Turns.{Turn}
 use Rattle.mvd_host.specs.Hosts.{AdmitsOne, HostValue, Leaves, altered, client_of}
 use Rattle.mvd_host.specs.Course.{AreQueued, asked_by, own}
 use Rattle.mvd_host.specs.Round.{Round, Serves, Side, stored_in, turns_of}
+use Rattle.mvd_wire.specs.declared.request.Request.TheVariants.{Hello}
 use Rattle.sqlite.specs.State.{State}
 
 -- a host, and the replica that answers its clients, with its connection
@@ -51,7 +54,7 @@ after_one side (Rounds ready turns new) = new
 
 -- a client comes and goes as the host lets it, and a round is one
 abbrev pub May : {C : Type 0} → (C → State) → Moment C → Happening C → Type 0
-May f side (Comes n host) = AdmitsOne side.host host n
+May f side (Comes n host) = (guard : Option Guard) × AdmitsOne guard side.host host n
 May f side (Goes n host) = Leaves side.host n host
 May f side (Calls n call) = ⊤
 May f side (Rounds ready turns new) = Round ready turns (side_of f side) (side_of f new)
@@ -77,10 +80,18 @@ Runs f side [] = ⊤
 Runs f side (x ∷ xs) = May f side x × Runs f (after_one side x) xs
 
 -- The frames that were taken of a client are those of these turns, in order, and what was queued for it are the frames of their
--- replies, in order
+-- replies, in order. Where there is a guard, the first frame shows the token
 pub record TellsOwn (turns : List Turn) (h : History) : Type 0 where
   pub asked : map asked_by h.taken ≡ map (λ t. t.asked) turns
   pub told : AreQueued (map (λ t. t.reply) turns) h.answers
+  pub shown : IsShown h.guard h.taken
+
+-- A client that has to show a token has no turn before a Hello with that token
+abbrev pub HasShown : Option Guard → List Turn → Type 0
+HasShown None turns = ⊤
+HasShown (Some guard) [] = ⊤
+HasShown (Some guard) (first ∷ turns) =
+    (token : List ℕ) × (first.asked ≡ Ok (Hello token)) × IsTokenOf guard token
 
 -- The turns of the list are those of one replica, and what each client asked and was told are its own turns
 pub record OneList (turns : List (ℕ × Turn)) (old new : Side) : Type 0 where

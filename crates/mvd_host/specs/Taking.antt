@@ -4,6 +4,7 @@ use Rattle.mvd_dots.specs.declared.refusals.Refusal.{Refusal}
 use Rattle.mvd_dots.specs.Answer.{IsAnswer}
 use Rattle.mvd_wire.specs.declared.request.Request.{Request}
 use Rattle.mvd_wire.specs.Frames.{FrameValue}
+use Rattle.mvd_conn.specs.Guard.{IsShown}
 use Rattle.mvd_conn.specs.History.{History, after_next}
 use Rattle.mvd_host.specs.Hosts.{IfClient, client_in}
 use Rattle.mvd_host.specs.Course.{Both, IsOut, NoneMoved, asked_by, own}
@@ -23,6 +24,7 @@ pub record TakesOn (requests : List Request) (faulty : List FrameValue) (old new
   pub asked : map asked_by frames ≡ map (λ r. Ok r) requests
   pub answers : new.answers ≡ old.answers
   pub moved : NoneMoved old new
+  pub shown : IsShown old.guard old.taken → IsShown new.guard new.taken
 
 -- nothing comes next
 abbrev pub IsIdle : History → Type 0

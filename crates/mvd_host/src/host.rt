@@ -6,7 +6,7 @@ ghost use Rattle.mvd_conn.specs.History.{WantsInput, closed, cut, ending_of, fed
 ghost use Rattle.mvd_conn.specs.Stands.{Stands};
 ghost use Rattle.mvd_conn.specs.declared.ending.Source.TheVariants as Source;
 
-use mvd_conn::{Connection, Ending};
+use mvd_conn::{Connection, Ending, Guard};
 use mvd_dots::Refusal;
 use std::alloc::Global;
 use std::collections::BTreeMap;
@@ -58,16 +58,17 @@ impl Host {
         self.clients.len()
     }
 
-    /// Admits a client, with a new connection, and gives its number. It is `None` where all places are taken.
-    pub fn admit(&mut self) -> Result<Option<u64>, Refusal>
-        ensures ok { IfOk result (λ number. Admits self.old number self.new) }
+    /// Admits a client, with a new connection, and gives its number. It is `None` where all places are taken. Where
+    /// there is a guard, nothing is taken of the client before it has shown the token.
+    pub fn admit(&mut self, guard: Option<Guard>) -> Result<Option<u64>, Refusal>
+        ensures ok { IfOk result (λ number. Admits guard self.old number self.new) }
         ensures err { IfErr result (λ e. (e ≡ Refusal.Memory) × (self.new ≡ self.old)) }
     {
         if self.clients.len() >= CLIENTS_MAX || self.admitted == u64::MAX {
             return Ok(None);
         }
         let number = self.admitted;
-        let connection = Connection::new(self.alloc)?;
+        let connection = Connection::new(self.alloc, guard)?;
         self.clients.insert(number, connection)?;
         self.admitted += 1;
         Ok(Some(number))

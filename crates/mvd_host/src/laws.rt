@@ -1,11 +1,13 @@
 //! Laws of many rounds, each as the contract of an empty function.
-ghost use Rattle.std.specs.Prelude.{◌≡◌, ◌∷◌, ◌++◌, ℕ, List, Some};
-ghost use Rattle.mvd_conn.specs.History.{History};
+ghost use Rattle.std.specs.Prelude.{◌≡◌, ◌∷◌, ◌++◌, [], ℕ, List, Some};
+ghost use Rattle.mvd_conn.specs.History.{History, last_bytes};
+ghost use Rattle.mvd_conn.specs.Stands.{IsLast, Stands};
 ghost use Rattle.mvd_host.specs.Course.{own};
 ghost use Rattle.mvd_host.specs.Grown.{Grows};
 ghost use Rattle.mvd_host.specs.Hosts.{HostValue, client_of, new_host};
 ghost use Rattle.mvd_host.specs.Round.{Round};
-ghost use Rattle.mvd_host.specs.Runs.{Goes, Happening, Moment, OneList, Runs, TellsOwn, after_run, side_of, turns_in};
+ghost use Rattle.mvd_host.specs.Runs.{Goes, Happening, HasShown, Moment, OneList, Runs};
+ghost use Rattle.mvd_host.specs.Runs.{TellsOwn, after_run, side_of, turns_in};
 ghost use Rattle.mvd_replica.specs.Turns.{Turn};
 ghost use Rattle.mvd_site.specs.Held.{AreHeld};
 ghost use Rattle.sqlite.specs.Held.{Held, state};
@@ -25,6 +27,14 @@ pub fn rounds_are_one_list<S: Alter>()
         Runs (state S.Store) (after_run start before) (Goes n host ∷ after) →
         client_of (after_run start before).host n ≡ Some h →
         TellsOwn (own n (turns_in (before ++ Goes n host ∷ after))) h }
+{}
+
+/// A client that has to show a token has no turn before a Hello with that token. Before its first turn nothing was told
+/// it but why its connection ended, which what came of it decides, and no site.
+pub fn none_before_the_token()
+    ensures shown { (turns : List Turn) (h : History) → TellsOwn turns h → HasShown h.guard turns }
+    ensures told { (h : History) → TellsOwn [] h → Stands h →
+        (h.left ++ h.waits ≡ last_bytes h.last) × IsLast h h.last }
 {}
 
 /// Whatever clients ask in a round, and whatever they push, each key's state afterwards includes its state before: what

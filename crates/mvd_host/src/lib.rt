@@ -2,12 +2,15 @@
 //! reply is queued on its own connection.
 #![tactic(auto)]
 
+mod feed;
 mod host;
 pub mod laws;
+mod noting;
 mod queueing;
 mod round;
 mod taking;
 mod tally;
 
+pub use feed::{Feed, TOLD_MAX};
 pub use host::{CLIENTS_MAX, Host};
 pub use tally::{KINDS, Tally};

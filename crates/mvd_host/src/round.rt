@@ -1,7 +1,10 @@
 //! One round: the frames that are held are answered together.
 ghost use Rattle.std.specs.Prelude.{◌≡◌, ℕ, List, Err, IfErr, Ok, cond};
+ghost use Rattle.mvd_replica.specs.Replicas.{site_of};
 ghost use Rattle.mvd_replica.specs.Turns.{Turn};
+ghost use Rattle.mvd_host.specs.Lists.{ListsOn};
 
+use crate::feed::Feed;
 use crate::host::Host;
 use crate::queueing::{queue_faults, queue_refused, queue_replies};
 use crate::taking::Taken;
@@ -14,26 +17,28 @@ impl Host {
     ghost use Rattle.mvd_host.specs.Round.{GoesForward, Round, side_of};
 
     /// Takes at most 1,024 frames of each ready client, answers them together, queues each reply on its own client's
-    /// connection, and counts what was done and refused. Gives whether there may be more to do at once: after `false`
-    /// no frame can be taken of a ready client now, and after `true` some was. It is refused where memory was for a
-    /// frame; what else was taken is answered.
+    /// connection, counts what was done and refused, and notes in the feed which keys may have changed. Gives whether
+    /// there may be more to do at once: after `false` no frame can be taken of a ready client now, and after `true` some
+    /// was. It is refused where memory was for a frame; what else was taken is answered.
     pub fn round<S: Alter>(
         &mut self,
         replica: &mut Replica<S>,
         ready: &[u64],
         tally: &mut Tally,
+        feed: &mut Feed,
     ) -> Result<bool, Refusal>
         ensures round { (turns : List (ℕ × Turn)) × Round ready.now turns
             (side_of self.old replica.old) (side_of self.new replica.new) ×
             GoesForward result ready.now turns self.new }
         ensures memory { IfErr result (λ refusal. refusal ≡ Refusal.Memory) }
+        ensures lists { ListsOn feed.old (site_of replica.old).states feed.new (site_of replica.new).states }
     {
         let mut taken = Taken::new(self.alloc);
         let refused = taken.take_all(self.alloc, &mut self.clients, ready);
         if taken.is_none() {
             return told(refused, false);
         }
-        match replica.answer_all(&taken.requests) {
+        match feed.answer(replica, &taken.requests) {
             Ok(replies) => {
                 queue_replies(&mut self.clients, &taken.clients, &replies);
                 tally.note_all(&taken.requests, &replies);

@@ -5,7 +5,7 @@ use mvd_dots::Refusal;
 use mvd_wire::{Reply, Request};
 
 /// As many kinds of requests there are.
-pub const KINDS: usize = 11;
+pub const KINDS: usize = 14;
 
 /// How many requests of each kind were done, and how many were refused.
 #[derive(Clone, Copy, Drop)]
@@ -52,7 +52,7 @@ impl Tally {
 
 /// The place of a request's kind, in the order of `Request`.
 fn kind_of(request: &Request) -> usize
-    ensures { result < 11 }
+    ensures { result < 14 }
 {
     match request {
         Request::Get(_) => 0,
@@ -65,6 +65,9 @@ fn kind_of(request: &Request) -> usize
         Request::Bucket(..) => 7,
         Request::Push(..) => 8,
         Request::Range(..) => 9,
-        Request::Bye => 10,
+        Request::Keys(..) => 10,
+        Request::Conflicts(_) => 11,
+        Request::Hello(_) => 12,
+        Request::Bye => 13,
     }
 }

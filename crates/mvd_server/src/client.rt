@@ -77,6 +77,11 @@ impl Client {
         self.writable = self.writable || fails || event.is_writable() || event.is_write_closed();
     }
 
+    /// Whether the system told that the peer sends no more.
+    pub fn has_left(&self) -> bool {
+        self.ends
+    }
+
     /// Reads once. Where less comes than there is room for, that was all: the system tells of what comes later.
     pub fn read(&mut self, piece: &mut Piece) -> Moved {
         let stream = &self.stream;

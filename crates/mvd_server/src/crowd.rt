@@ -59,7 +59,7 @@ impl Crowd {
         let piece = Piece::new(alloc)?;
         let told = String::with_capacity(alloc, PIECE)?;
         Ok(Crowd {
-            talks: Talks::new(alloc, keys),
+            talks: Talks::new(alloc, keys, terms.guard),
             counts: Counts::new(alloc),
             most: terms.conns.map_or(u64::MAX, u64::from),
             places: terms.clients as usize,
@@ -101,12 +101,23 @@ impl Crowd {
     pub fn round<S: Alter + Drop>(&mut self, replica: &mut Replica<S>, ready: &[u64]) -> bool
         ensures round { HasRound replica.old replica.new }
     {
-        self.talks.round(replica, ready, &mut self.counts)
+        self.talks.round(replica, ready, &mut self.counts, self.now)
+    }
+
+    /// Tells those that have waited for a change for long enough, and lists all that were told.
+    pub fn wake(&mut self, ready: &mut Vec<u64>) {
+        self.talks.end_waits(self.now, &mut self.counts);
+        for number in &self.talks.woken {
+            if let Some(client) = self.clients.get_mut(number) {
+                list(client, *number, ready);
+            }
+        }
+        self.talks.woken.clear();
     }
 
     /// When a client is to be looked after next.
     pub fn next_due(&self) -> Option<u64> {
-        self.timers.next_due()
+        earlier(self.timers.next_due(), self.talks.next_due())
     }
 
     /// Takes a client in. Where the system or memory refuses that, it ends at once; where all places are taken, it is told
@@ -270,6 +281,10 @@ impl Crowd {
     pub fn list_again(&mut self, number: u64, ready: &mut Vec<u64>) {
         if let Some(client) = self.clients.get_mut(&number) {
             client.listed = false;
+            // One that waits for a change may have left.
+            if client.has_left() {
+                self.talks.hurry(number);
+            }
             if is_busy(&self.talks, client, number) {
                 list(client, number, ready);
             }
@@ -291,7 +306,11 @@ impl Crowd {
         let Some(client) = self.clients.get_mut(&number) else {
             return;
         };
-        let due = client.deadline;
+        let due = if self.talks.is_parked(number) {
+            self.now.saturating_add(self.idle)
+        } else {
+            client.deadline
+        };
         if due > self.now && set_alarm(&mut self.timers, client, number, due) {
             return;
         }
@@ -315,6 +334,15 @@ impl Crowd {
         if let Some(client) = self.clients.remove(&number) {
             self.timers.remove(client.alarm, number);
         }
+    }
+}
+
+/// The earlier of two times.
+pub(crate) fn earlier(first: Option<u64>, second: Option<u64>) -> Option<u64> {
+    match (first, second) {
+        (Some(first), Some(second)) => Some(first.min(second)),
+        (Some(due), None) | (None, Some(due)) => Some(due),
+        (None, None) => None,
     }
 }
 

@@ -1,12 +1,20 @@
 //! From a request of HTTP to the frame that the host answers, and from its reply to the response.
+ghost use Rattle.std.specs.Prelude.{IsTrue, option_copied};
+ghost use Rattle.mvd_server.specs.Admitted.{AsksSite, MayAsk};
+
+use crate::batch::Batch;
+use crate::changes::push_since;
 use crate::metrics::{Counts, Now};
-use crate::talks::{feed, sent};
+use crate::replies::next_reply;
+use crate::talks::feed;
 use http::StatusCode;
+use mvd_conn::Guard;
 use mvd_dots::Refusal;
-use mvd_frames::{decode_reply, encode_request};
-use mvd_host::Host;
+use mvd_frames::encode_request;
+use mvd_host::{Feed, Host};
 use mvd_http::{
-    Answer, Content, Methods, PAGE, Question, push_root, refused_response, response_of,
+    Answer, Content, Fault, Methods, PAGE, Question, live_response_of, push_root, refused_response,
+    response_of,
 };
 use mvd_replica::Replica;
 use mvd_web::{Asked, WebConnection};
@@ -17,92 +25,152 @@ use std::alloc::Global;
 /// As many bytes of a frame are handed on at once.
 const PIECE: usize = 65_536;
 
-const UNNAMED: &str = "A request names one host, in one field Host.\n";
-
-const FOREIGN: &str =
-    "Requests of other origins are refused. Ask by an IP address or by localhost.\n";
-
-const NOWHERE: &str = "There is nothing of that name.\n";
-
-const NOT_ALLOWED: &str = "That can be asked, but not by this method.\n";
+const NOT_ADMITTED: &str = "{\"refused\":38,\"name\":\"NotAdmitted\"}";
 
 /// What is done about a request.
 #[derive(Drop)]
 enum Plan {
     /// This frame is answered by the host.
     Frame(Vec<u8>),
+    /// These writes are, one after the other.
+    Writes(Batch),
+    /// It is answered by what the server keeps, maybe after so many seconds.
+    Changes(Option<[u8; 32]>, u32),
     /// It is answered at once, by what the server keeps.
     Root,
     Metrics,
     /// It is answered at once, by this.
     Told(Answer, &'static str),
+    /// A token is asked for.
+    NotAdmitted,
     Refused(Refusal),
 }
 
-fn plan_of(alloc: Global, asked: &Asked) -> Plan {
+/// What is left of a request that was taken.
+#[derive(Drop)]
+pub(crate) enum Rest {
+    /// Its response was queued, or the host is asked.
+    Nothing,
+    /// The host is to be asked for these writes.
+    Writes(Batch),
+    /// It waits for a change of this root, for so many seconds.
+    Waits([u8; 32], u32),
+}
+
+fn plan_of(alloc: Global, guard: Option<&Guard>, asked: &Asked) -> Plan
+    // Nothing is asked of the site, or told of it, for whoever may not come in.
+    ensures { AsksSite result → MayAsk (option_copied guard.entry) asked.now }
+{
     if !asked.names_host {
-        return Plan::Told(plain(StatusCode::BAD_REQUEST), UNNAMED);
+        return fault(Fault::HostMissing, None);
     }
     if !asked.is_own {
-        return Plan::Told(plain(StatusCode::FORBIDDEN), FOREIGN);
+        return fault(Fault::ForeignOrigin, None);
+    }
+    if !may_ask(guard, asked) {
+        return kept_out(asked);
     }
     match &asked.question {
-        Ok(Question::Ask(request)) => match encode_request(alloc, request) {
-            Ok(frame) => Plan::Frame(frame),
-            Err(refusal) => Plan::Refused(refusal),
-        },
-        Ok(Question::Page) => Plan::Told(answer_of(StatusCode::OK, Content::Html), PAGE),
-        Ok(Question::Root) => Plan::Root,
-        Ok(Question::Metrics) => Plan::Metrics,
-        Ok(Question::Nowhere) => Plan::Told(plain(StatusCode::NOT_FOUND), NOWHERE),
-        Ok(Question::NotAllowed(methods)) => Plan::Told(not_allowed(*methods), NOT_ALLOWED),
+        Ok(question) => plan_for(alloc, question),
         Err(refusal) => Plan::Refused(*refusal),
     }
 }
 
-fn answer_of(status: StatusCode, content: Content) -> Answer {
+/// What is told to whoever may not come in: that a token is asked for, or that there was no memory for the one it has.
+fn kept_out(asked: &Asked) -> Plan
+    ensures { AsksSite result → ⊥ }
+{
+    match asked.question {
+        Err(Refusal::Memory) => Plan::Refused(Refusal::Memory),
+        _ => Plan::NotAdmitted,
+    }
+}
+
+/// Whether a request may be asked: where there is a guard, it shows the token, or it asks for the page.
+fn may_ask(guard: Option<&Guard>, asked: &Asked) -> bool
+    ensures { IsTrue result → MayAsk (option_copied guard.entry) asked.now }
+{
+    match (guard, &asked.token) {
+        (None, _) => true,
+        (Some(guard), Some(token)) if guard.admits(token.bytes()) => true,
+        _ => matches!(asked.question, Ok(Question::Page)),
+    }
+}
+
+/// What is done about a question of whoever may ask.
+fn plan_for(alloc: Global, question: &Question) -> Plan {
+    match question {
+        Question::Ask(request) | Question::Live(request) => match encode_request(alloc, request) {
+            Ok(frame) => Plan::Frame(frame),
+            Err(refusal) => Plan::Refused(refusal),
+        },
+        Question::Many(writes) => match Batch::new(alloc, writes.as_slice()) {
+            Ok(batch) => Plan::Writes(batch),
+            Err(refusal) => Plan::Refused(refusal),
+        },
+        Question::Changes(since, wait) => Plan::Changes(*since, *wait),
+        Question::Page => Plan::Told(answer_of(StatusCode::OK, Content::Html), PAGE),
+        Question::Root => Plan::Root,
+        Question::Metrics => Plan::Metrics,
+        Question::TooManyLines => fault(Fault::ContentTooLarge, None),
+        Question::Nowhere => fault(Fault::NotFound, None),
+        Question::NotAllowed(methods) => fault(Fault::MethodNotAllowed, Some(*methods)),
+    }
+}
+
+/// What is told of a fault of HTTP's own.
+fn fault(cause: Fault, allow: Option<Methods>) -> Plan
+    ensures { AsksSite result → ⊥ }
+{
+    let answer = Answer {
+        allow,
+        ..answer_of(cause.status(), Content::Json)
+    };
+    Plan::Told(answer, cause.body())
+}
+
+pub(crate) fn answer_of(status: StatusCode, content: Content) -> Answer {
     Answer {
         status,
         content,
         allow: None,
-    }
-}
-
-fn plain(status: StatusCode) -> Answer {
-    answer_of(status, Content::Plain)
-}
-
-fn not_allowed(methods: Methods) -> Answer {
-    Answer {
-        allow: Some(methods),
-        ..plain(StatusCode::METHOD_NOT_ALLOWED)
+        asks_token: false,
     }
 }
 
 /// Takes the next request of a client, where none waits for its answer. One that the site is asked goes to the host
-/// as a frame, and each other is answered.
+/// as a frame, and others are answered at once, or it is told what is left to do.
 pub(crate) fn ask<S: Alter + Drop>(
     alloc: Global,
+    guard: Option<&Guard>,
     host: &mut Host,
     web: &mut WebConnection,
     number: u64,
     replica: &Replica<S>,
+    changes: &Feed,
     counts: &mut Counts,
-) {
+) -> Rest {
     if !web.next() {
-        return;
+        return Rest::Nothing;
     }
     let plan = match web.asked() {
-        Some(asked) => plan_of(alloc, asked),
-        None => return,
+        Some(asked) => plan_of(alloc, guard, asked),
+        None => return Rest::Nothing,
     };
     match plan {
         Plan::Frame(frame) => hand_on(host, number, &frame),
+        Plan::Writes(batch) => return Rest::Writes(batch),
+        Plan::Changes(Some(root), wait) if wait > 0 && changes.root() == Some(root) => {
+            return Rest::Waits(root, wait);
+        }
+        Plan::Changes(since, _) => tell_changes(alloc, web, replica, changes, since, counts),
         Plan::Root => tell_root(alloc, web, replica, counts),
         Plan::Metrics => tell_metrics(alloc, web, host, replica, counts),
         Plan::Told(answer, body) => respond(web, counts, answer, body),
+        Plan::NotAdmitted => ask_token(web, counts),
         Plan::Refused(refusal) => refuse(alloc, web, counts, refusal),
     }
+    Rest::Nothing
 }
 
 /// Hands a frame to the host, piece by piece.
@@ -112,12 +180,26 @@ fn hand_on(host: &mut Host, number: u64, frame: &[u8]) {
     }
 }
 
-fn respond(web: &mut WebConnection, counts: &mut Counts, answer: Answer, body: &str) {
+pub(crate) fn respond(web: &mut WebConnection, counts: &mut Counts, answer: Answer, body: &str) {
     counts.note(answer.status.as_u16());
     web.respond(answer, body);
 }
 
-fn refuse(alloc: Global, web: &mut WebConnection, counts: &mut Counts, refusal: Refusal) {
+/// Tells that a token is asked for.
+fn ask_token(web: &mut WebConnection, counts: &mut Counts) {
+    let answer = Answer {
+        asks_token: true,
+        ..answer_of(StatusCode::UNAUTHORIZED, Content::Json)
+    };
+    respond(web, counts, answer, NOT_ADMITTED);
+}
+
+pub(crate) fn refuse(
+    alloc: Global,
+    web: &mut WebConnection,
+    counts: &mut Counts,
+    refusal: Refusal,
+) {
     let mut body = String::new(alloc);
     match refused_response(&mut body, refusal) {
         Ok(status) => respond_json(web, counts, status, body.as_str()),
@@ -142,10 +224,8 @@ fn tell_root<S: Alter + Drop>(
     counts: &mut Counts,
 ) {
     let mut body = String::new(alloc);
-    match push_root_of(alloc, replica, &mut body) {
-        Ok(()) => respond_json(web, counts, 200, body.as_str()),
-        Err(refusal) => refuse(alloc, web, counts, refusal),
-    }
+    let pushed = push_root_of(alloc, replica, &mut body);
+    tell_pushed(alloc, web, pushed, body.as_str(), counts);
 }
 
 fn push_root_of<S: Alter + Drop>(
@@ -155,7 +235,43 @@ fn push_root_of<S: Alter + Drop>(
 ) -> Result<(), Refusal> {
     let digest = replica.root()?;
     let keys = u64::from(replica.key_count());
-    push_root(alloc, body, digest, keys, replica.config().site())
+    let conflicts = u64::from(replica.conflict_count());
+    push_root(
+        alloc,
+        body,
+        digest,
+        keys,
+        conflicts,
+        replica.config().site(),
+    )
+}
+
+/// Tells what changed since a root.
+pub(crate) fn tell_changes<S: Alter + Drop>(
+    alloc: Global,
+    web: &mut WebConnection,
+    replica: &Replica<S>,
+    changes: &Feed,
+    since: Option<[u8; 32]>,
+    counts: &mut Counts,
+) {
+    let mut body = String::new(alloc);
+    let pushed = push_since(alloc, changes, replica, since, &mut body);
+    tell_pushed(alloc, web, pushed, body.as_str(), counts);
+}
+
+/// Tells a body that was put down, or why it was not.
+pub(crate) fn tell_pushed(
+    alloc: Global,
+    web: &mut WebConnection,
+    pushed: Result<(), Refusal>,
+    body: &str,
+    counts: &mut Counts,
+) {
+    match pushed {
+        Ok(()) => respond(web, counts, answer_of(StatusCode::OK, Content::Json), body),
+        Err(refusal) => refuse(alloc, web, counts, refusal),
+    }
 }
 
 fn tell_metrics<S: Alter + Drop>(
@@ -168,11 +284,17 @@ fn tell_metrics<S: Alter + Drop>(
     let mut body = String::new(alloc);
     let now = Now {
         keys: replica.key_count(),
+        conflicts: replica.conflict_count(),
         commits: replica.commits(),
         open: host.len(),
     };
     match counts.print(now, &mut body) {
-        Ok(()) => respond(web, counts, plain(StatusCode::OK), body.as_str()),
+        Ok(()) => respond(
+            web,
+            counts,
+            answer_of(StatusCode::OK, Content::Plain),
+            body.as_str(),
+        ),
         Err(refusal) => refuse(alloc, web, counts, refusal),
     }
 }
@@ -186,12 +308,30 @@ pub(crate) fn answer(
     number: u64,
     counts: &mut Counts,
 ) {
-    let (reply, count) = match host.waiting(number) {
-        Some(bytes) if !bytes.is_empty() => (reply_in(alloc, bytes), bytes.len()),
-        _ => return,
-    };
-    sent(host, number, count);
-    tell_reply(alloc, web, reply, counts);
+    if let Some(reply) = next_reply(alloc, host, number) {
+        tell_reply(alloc, web, reply, counts);
+    }
+}
+
+/// Queues the response to the writes of a client, once the host has answered all that it takes of them.
+pub(crate) fn answer_writes(
+    alloc: Global,
+    host: &mut Host,
+    web: &mut WebConnection,
+    batch: &mut Batch,
+    number: u64,
+    counts: &mut Counts,
+) {
+    match batch.take(alloc, host, number) {
+        Ok(true) => respond(
+            web,
+            counts,
+            answer_of(StatusCode::OK, Content::Lines),
+            batch.lines(),
+        ),
+        Ok(false) => {}
+        Err(refusal) => web.stop(refusal),
+    }
 }
 
 /// Queues the response to the request that waits, which is answered by this reply.
@@ -212,27 +352,6 @@ fn tell_reply(
     }
 }
 
-/// The reply that the frame in front of these bytes is, or why it cannot be read. A Written, a Done and a Refused are
-/// read without memory.
-fn reply_in(alloc: Global, bytes: &[u8]) -> Result<Reply, Refusal> {
-    match frame_in(bytes) {
-        Some((kind, payload)) => decode_reply(alloc, kind, payload),
-        None => Err(Refusal::Truncated),
-    }
-}
-
-/// The kind byte and the payload of the frame in front of these bytes.
-fn frame_in(bytes: &[u8]) -> Option<(u8, &[u8])> {
-    if bytes.len() < 4 {
-        return None;
-    }
-    let mut head = [0u8; 4];
-    head.copy_from_slice(&bytes[..4]);
-    let length = u32::from_be_bytes(head) as usize;
-    let (kind, payload) = bytes[4..].get(..length)?.split_first()?;
-    Some((*kind, payload))
-}
-
 /// Puts the body of a response into `body`, and gives its status. Of a change whose reply cannot be read nothing is
 /// told.
 fn put_body(
@@ -241,10 +360,13 @@ fn put_body(
     reply: Result<Reply, Refusal>,
     body: &mut String,
 ) -> Result<u16, Refusal> {
-    let Ok(Question::Ask(request)) = &asked.question else {
-        return Err(Refusal::BadKind);
+    let (request, is_live) = match &asked.question {
+        Ok(Question::Ask(request)) => (request, false),
+        Ok(Question::Live(request)) => (request, true),
+        _ => return Err(Refusal::BadKind),
     };
     match reply {
+        Ok(reply) if is_live => Ok(live_response_of(alloc, request, &reply, body)?),
         Ok(reply) => Ok(response_of(alloc, request, &reply, body)?),
         Err(refusal) if is_change(request) => Err(refusal),
         Err(refusal) => Ok(refused_response(body, refusal)?),

@@ -1,12 +1,16 @@
 //! A server of many clients at once, in frames and over HTTP.
 #![tactic(auto)]
 
+mod batch;
+mod changes;
 mod client;
 mod crowd;
 mod door;
 mod endings;
 mod gate;
 mod metrics;
+mod parked;
+mod replies;
 mod server;
 mod talks;
 mod timers;

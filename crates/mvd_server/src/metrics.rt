@@ -7,7 +7,20 @@ use std::fmt::Write as Print;
 
 /// The kinds of requests, as they are told, in the order of a tally.
 const NAMES: [&str; KINDS] = [
-    "get", "put", "delete", "find", "row", "rows", "node", "bucket", "push", "range", "bye",
+    "get",
+    "put",
+    "delete",
+    "find",
+    "row",
+    "rows",
+    "node",
+    "bucket",
+    "push",
+    "range",
+    "keys",
+    "conflicts",
+    "hello",
+    "bye",
 ];
 
 /// What a server has done since it started.
@@ -28,6 +41,7 @@ pub(crate) struct Counts {
 #[derive(Clone, Copy)]
 pub(crate) struct Now {
     pub keys: u32,
+    pub conflicts: u32,
     pub commits: u64,
     pub open: usize,
 }
@@ -56,6 +70,7 @@ impl Counts {
     /// Prints each count on a line.
     pub fn print(&self, now: Now, out: &mut String) -> Result<(), Refusal> {
         print_one(out, "mvd_keys", "gauge", u64::from(now.keys))?;
+        print_one(out, "mvd_conflicts", "gauge", u64::from(now.conflicts))?;
         print_one(out, "mvd_connections", "gauge", now.open as u64)?;
         self.print_connections(out)?;
         print_one(out, "mvd_rounds_total", "counter", self.rounds)?;

@@ -1,10 +1,11 @@
 //! A server of many clients at once, from one thread.
 ghost use Rattle.mvd_server.specs.Rounds.{IsServed};
 
-use crate::crowd::{Crowd, SPARE};
+use crate::crowd::{Crowd, SPARE, earlier};
 use crate::door::{Door, FRAMES, HTTP};
 use crate::talks::Kind;
 use mio::{Events, Poll};
+use mvd_conn::Guard;
 use mvd_dots::Refusal;
 use mvd_hint::Stop;
 use mvd_input::{Fault, tell};
@@ -24,13 +25,14 @@ use std::time::{Clock, Duration, Instant};
 const ROUNDS_MAX: usize = 64;
 
 /// What a server is asked for: the port for HTTP, if it serves that too, how many connections it serves in all, for how
-/// many seconds no byte need move on one, and how many clients it serves at once.
+/// many seconds no byte need move on one, how many clients it serves at once, and who may come in, if not everybody.
 #[derive(Clone, Copy)]
 pub struct Terms {
     pub http: Option<u16>,
     pub conns: Option<u32>,
     pub idle: u32,
     pub clients: u32,
+    pub guard: Option<Guard>,
 }
 
 /// The clients, the listeners, and those clients for which there may be something to do.
@@ -170,6 +172,7 @@ impl Server {
             self.wait(rt)?;
             self.take_in()?;
             self.answer(replica);
+            self.crowd.wake(&mut self.ready);
             self.give_out(writer)?;
         }
         Ok(())
@@ -290,15 +293,6 @@ fn web_address(address: SocketAddr, terms: Terms) -> Option<SocketAddr> {
     match terms.http {
         Some(port) => Some(SocketAddr::new(address.ip(), port)),
         None => None,
-    }
-}
-
-/// The earlier of two times.
-fn earlier(first: Option<u64>, second: Option<u64>) -> Option<u64> {
-    match (first, second) {
-        (Some(first), Some(second)) => Some(first.min(second)),
-        (Some(due), None) | (None, Some(due)) => Some(due),
-        (None, None) => None,
     }
 }
 

@@ -14,7 +14,7 @@ pub invariant_of-self-2 : goal.invariant_of-self-2
 invariant_of-self-2 c =
     let old = c.self.inside.clients.entries in
     let n = c.self.inside.admitted in
-    kept_inserted old c.insert.new.self.entries n c.self.invariant
+    kept_inserted c.args.guard old c.insert.new.self.entries n c.self.invariant
     (λ q. c.in_ok-insert.ensures.updates.0 q ∙ ap (λ (h : History). cond (is_at (nat_cmp n) q) (Some h) (client_in old q)) c.in_ok-connection.ensures.new)
 
 pub returns-clause-ok : goal.returns-clause-ok
@@ -25,5 +25,5 @@ returns-clause-ok c =
     let none : c.in_ok-insert.field-0 ≡ None = c.in_ok-insert.ensures.old ∙ none_at old n c.self.invariant in
     let more : length new ≡ length old + 1 = c.in_ok-insert.ensures.len ∙ ap (λ (o : Option History). length old + (if is_some o then 0 else 1)) none in
     let few : length old < 10000 = let len = c.len.ensures.len in let room = c.if-len-ge-CLIENTS_MAX.false in grind (arith, nat_tests) in
-    subst (λ (v : HostValue). AdmitsOne v (record { clients = new; admitted = n + 1 }) n) c.self.view_is
-    (admits old new n c.in_ok-connection.connection few more c.in_ok-connection.ensures.new c.in_ok-insert.ensures.updates.0)
+    subst (λ (v : HostValue). AdmitsOne c.args.guard v (record { clients = new; admitted = n + 1 }) n) c.self.view_is
+    (admits c.args.guard old new n c.in_ok-connection.connection few more c.in_ok-connection.ensures.new c.in_ok-insert.ensures.updates.0)

@@ -14,6 +14,7 @@ use Rattle.mvd_replica.specs.Turns.{Turn}
 use Rattle.mvd_host.specs.Hosts.{AreKept, HostValue}
 use Rattle.mvd_host.specs.Round.{GoesForward, Round}
 use Rattle.mvd_host.specs.Taking.{IsNone}
+use Rattle.mvd_host.proofs.Listing.{lists_still}
 use Rattle.mvd_host.proofs.ToldLemmas.{due_later, later_items, no_items}
 use Rattle.mvd_host.proofs.host.Host.round.Goals.{in-Ok, in-Err}
 use Rattle.mvd_host.proofs.host.Host.round.Goals as goal
@@ -23,7 +24,7 @@ queue_replies-requires-clause-due g c =
     let took = c.take_all-refused.ensures.took.0 in
     let all = took.all in
     let taken = c.take_all-refused.new.self in
-    let a = answers_all _ _ _ _ c.in-Ok.ensures.answers in
+    let a = answers_all _ _ _ _ c.in-Ok.ensures.answers.answers in
     let old = c.self.inside.clients.entries in
     let mid = c.take_all-refused.new.clients.entries in
     let ts = zip (map (λ (r : ℕ × Request). r.0) all.requests) a.turns in
@@ -46,7 +47,7 @@ queue_refused-requires g c =
 
 pub queue_replies-requires-clause-fits : goal.queue_replies-requires-clause-fits
 queue_replies-requires-clause-fits g c =
-    let a = answers_all _ _ _ _ c.in-Ok.ensures.answers in
+    let a = answers_all _ _ _ _ c.in-Ok.ensures.answers.answers in
     subst (λ (b : List Reply). AllByRecursion (λ (r : ℕ × Reply). CanBeSent r.1) (zip c.deref-in-Ok.result.now b)) (a.told ∙ sym c.deref-in-Ok-2.ensures.value) (zip_fits c.deref-in-Ok.result.now a.turns a.takes.fits)
 
 pub queue_faults-requires : goal.queue_faults-requires
@@ -56,15 +57,15 @@ queue_faults-requires g c =
     let taken = c.take_all-refused.new.self in
     let old = c.self.inside.clients.entries in
     let mid = c.take_all-refused.new.clients.entries in
-    let between = c.match-answer_all.self-inside.clients.entries in
-    let a : Answered all.requests mid between c.args.replica.now.site c.answer_all.new.self.site (state g.S.Store c.args.replica.now.records.conn) (state g.S.Store c.answer_all.new.self.records.conn) =
-    elim c.match-answer_all.branch [
-      | in-Ok w ↦ subst (λ (s : Inside). Answered all.requests mid s.clients.entries c.args.replica.now.site c.answer_all.new.self.site (state g.S.Store c.args.replica.now.records.conn) (state g.S.Store c.answer_all.new.self.records.conn)) (sym w.self-inside-is)
+    let between = c.match-answer.self-inside.clients.entries in
+    let a : Answered all.requests mid between c.args.replica.now.site c.answer.new.replica.site (state g.S.Store c.args.replica.now.records.conn) (state g.S.Store c.answer.new.replica.records.conn) =
+    elim c.match-answer.branch [
+      | in-Ok w ↦ subst (λ (s : Inside). Answered all.requests mid s.clients.entries c.args.replica.now.site c.answer.new.replica.site (state g.S.Store c.args.replica.now.records.conn) (state g.S.Store c.answer.new.replica.records.conn)) (sym w.self-inside-is)
           (answered_ok all.requests c.deref.result.now w.deref-in-Ok.result.now w.deref-in-Ok-2.result.now mid w.queue_replies.new.clients.entries _ _ _ _ (c.deref.ensures.value ∙ all.holds.requests_are) (w.deref-in-Ok.ensures.value ∙ all.holds.clients)
-          (subst (λ (l : List Reply). AnswersAll c.deref.result.now l _ _ _ _) (sym w.deref-in-Ok-2.ensures.value) (answers_all _ _ _ _ w.in-Ok.ensures.answers)) w.queue_replies.ensures.queues)
-      | in-Err w ↦ subst (λ (s : Inside). Answered all.requests mid s.clients.entries c.args.replica.now.site c.answer_all.new.self.site (state g.S.Store c.args.replica.now.records.conn) (state g.S.Store c.answer_all.new.self.records.conn)) (sym w.self-inside-is)
-          (subst (λ r. Answered all.requests mid w.queue_refused.new.clients.entries c.args.replica.now.site r.site (state g.S.Store c.args.replica.now.records.conn) (state g.S.Store r.records.conn)) (sym w.in-Err.ensures.memory.1)
-          (answered_err all.requests w.deref-in-Err.result.now w.in-Err.refusal mid w.queue_refused.new.clients.entries c.args.replica.now.site (state g.S.Store c.args.replica.now.records.conn) (w.deref-in-Err.ensures.value ∙ all.holds.clients) w.in-Err.ensures.memory.0 w.queue_refused.ensures.queues))
+          (subst (λ (l : List Reply). AnswersAll c.deref.result.now l _ _ _ _) (sym w.deref-in-Ok-2.ensures.value) (answers_all _ _ _ _ w.in-Ok.ensures.answers.answers)) w.queue_replies.ensures.queues)
+      | in-Err w ↦ subst (λ (s : Inside). Answered all.requests mid s.clients.entries c.args.replica.now.site c.answer.new.replica.site (state g.S.Store c.args.replica.now.records.conn) (state g.S.Store c.answer.new.replica.records.conn)) (sym w.self-inside-is)
+          (subst (λ r. Answered all.requests mid w.queue_refused.new.clients.entries c.args.replica.now.site r.site (state g.S.Store c.args.replica.now.records.conn) (state g.S.Store r.records.conn)) (sym w.in-Err.ensures.answers.memory.1)
+          (answered_err all.requests w.deref-in-Err.result.now w.in-Err.refusal mid w.queue_refused.new.clients.entries c.args.replica.now.site (state g.S.Store c.args.replica.now.records.conn) (w.deref-in-Err.ensures.value ∙ all.holds.clients) w.in-Err.ensures.answers.memory.0 w.queue_refused.ensures.queues))
     ] in
     record {
       due = subst (λ (l : List (ℕ × Refusal)). AreDue (refused_faults l) between) (sym c.deref-2.ensures.value)
@@ -114,26 +115,26 @@ invariant_of-self-2 g c =
     let taken = c.take_all-refused.new.self in
     let old = c.self.inside.clients.entries in
     let mid = c.take_all-refused.new.clients.entries in
-    let between = c.match-answer_all.self-inside.clients.entries in
-    let a : Answered all.requests mid between c.args.replica.now.site c.answer_all.new.self.site (state g.S.Store c.args.replica.now.records.conn) (state g.S.Store c.answer_all.new.self.records.conn) =
-    elim c.match-answer_all.branch [
-      | in-Ok w ↦ subst (λ (s : Inside). Answered all.requests mid s.clients.entries c.args.replica.now.site c.answer_all.new.self.site (state g.S.Store c.args.replica.now.records.conn) (state g.S.Store c.answer_all.new.self.records.conn)) (sym w.self-inside-is)
+    let between = c.match-answer.self-inside.clients.entries in
+    let a : Answered all.requests mid between c.args.replica.now.site c.answer.new.replica.site (state g.S.Store c.args.replica.now.records.conn) (state g.S.Store c.answer.new.replica.records.conn) =
+    elim c.match-answer.branch [
+      | in-Ok w ↦ subst (λ (s : Inside). Answered all.requests mid s.clients.entries c.args.replica.now.site c.answer.new.replica.site (state g.S.Store c.args.replica.now.records.conn) (state g.S.Store c.answer.new.replica.records.conn)) (sym w.self-inside-is)
           (answered_ok all.requests c.deref.result.now w.deref-in-Ok.result.now w.deref-in-Ok-2.result.now mid w.queue_replies.new.clients.entries _ _ _ _ (c.deref.ensures.value ∙ all.holds.requests_are) (w.deref-in-Ok.ensures.value ∙ all.holds.clients)
-          (subst (λ (l : List Reply). AnswersAll c.deref.result.now l _ _ _ _) (sym w.deref-in-Ok-2.ensures.value) (answers_all _ _ _ _ w.in-Ok.ensures.answers)) w.queue_replies.ensures.queues)
-      | in-Err w ↦ subst (λ (s : Inside). Answered all.requests mid s.clients.entries c.args.replica.now.site c.answer_all.new.self.site (state g.S.Store c.args.replica.now.records.conn) (state g.S.Store c.answer_all.new.self.records.conn)) (sym w.self-inside-is)
-          (subst (λ r. Answered all.requests mid w.queue_refused.new.clients.entries c.args.replica.now.site r.site (state g.S.Store c.args.replica.now.records.conn) (state g.S.Store r.records.conn)) (sym w.in-Err.ensures.memory.1)
-          (answered_err all.requests w.deref-in-Err.result.now w.in-Err.refusal mid w.queue_refused.new.clients.entries c.args.replica.now.site (state g.S.Store c.args.replica.now.records.conn) (w.deref-in-Err.ensures.value ∙ all.holds.clients) w.in-Err.ensures.memory.0 w.queue_refused.ensures.queues))
+          (subst (λ (l : List Reply). AnswersAll c.deref.result.now l _ _ _ _) (sym w.deref-in-Ok-2.ensures.value) (answers_all _ _ _ _ w.in-Ok.ensures.answers.answers)) w.queue_replies.ensures.queues)
+      | in-Err w ↦ subst (λ (s : Inside). Answered all.requests mid s.clients.entries c.args.replica.now.site c.answer.new.replica.site (state g.S.Store c.args.replica.now.records.conn) (state g.S.Store c.answer.new.replica.records.conn)) (sym w.self-inside-is)
+          (subst (λ r. Answered all.requests mid w.queue_refused.new.clients.entries c.args.replica.now.site r.site (state g.S.Store c.args.replica.now.records.conn) (state g.S.Store r.records.conn)) (sym w.in-Err.ensures.answers.memory.1)
+          (answered_err all.requests w.deref-in-Err.result.now w.in-Err.refusal mid w.queue_refused.new.clients.entries c.args.replica.now.site (state g.S.Store c.args.replica.now.records.conn) (w.deref-in-Err.ensures.value ∙ all.holds.clients) w.in-Err.ensures.answers.memory.0 w.queue_refused.ensures.queues))
     ] in
-    let admitted : c.match-answer_all.self-inside.admitted ≡ c.self.inside.admitted =
-    elim c.match-answer_all.branch [
+    let admitted : c.match-answer.self-inside.admitted ≡ c.self.inside.admitted =
+    elim c.match-answer.branch [
       | in-Ok w ↦ ap (λ (s : Inside). s.admitted) w.self-inside-is
       | in-Err w ↦ ap (λ (s : Inside). s.admitted) w.self-inside-is
     ] in
     let new = c.queue_faults.new.clients.entries in
     let site = c.args.replica.now.site in
-    let later = c.answer_all.new.self.site in
+    let later = c.answer.new.replica.site in
     let store = state g.S.Store c.args.replica.now.records.conn in
-    let after = state g.S.Store c.answer_all.new.self.records.conn in
+    let after = state g.S.Store c.answer.new.replica.records.conn in
     let faults = subst (λ (l : List (ℕ × Refusal)). Queues (refused_faults l) between new) c.deref-2.ensures.value c.queue_faults.ensures.queues in
     subst (λ n. AreKept new n) (sym admitted) (round_kept c.args.ready.now old mid between new taken took c.self.inside.admitted site later store after a faults c.self.invariant)
 
@@ -144,27 +145,30 @@ returns-clause-round g c =
     let taken = c.take_all-refused.new.self in
     let old = c.self.inside.clients.entries in
     let mid = c.take_all-refused.new.clients.entries in
-    let between = c.match-answer_all.self-inside.clients.entries in
-    let a : Answered all.requests mid between c.args.replica.now.site c.answer_all.new.self.site (state g.S.Store c.args.replica.now.records.conn) (state g.S.Store c.answer_all.new.self.records.conn) =
-    elim c.match-answer_all.branch [
-      | in-Ok w ↦ subst (λ (s : Inside). Answered all.requests mid s.clients.entries c.args.replica.now.site c.answer_all.new.self.site (state g.S.Store c.args.replica.now.records.conn) (state g.S.Store c.answer_all.new.self.records.conn)) (sym w.self-inside-is)
+    let between = c.match-answer.self-inside.clients.entries in
+    let a : Answered all.requests mid between c.args.replica.now.site c.answer.new.replica.site (state g.S.Store c.args.replica.now.records.conn) (state g.S.Store c.answer.new.replica.records.conn) =
+    elim c.match-answer.branch [
+      | in-Ok w ↦ subst (λ (s : Inside). Answered all.requests mid s.clients.entries c.args.replica.now.site c.answer.new.replica.site (state g.S.Store c.args.replica.now.records.conn) (state g.S.Store c.answer.new.replica.records.conn)) (sym w.self-inside-is)
           (answered_ok all.requests c.deref.result.now w.deref-in-Ok.result.now w.deref-in-Ok-2.result.now mid w.queue_replies.new.clients.entries _ _ _ _ (c.deref.ensures.value ∙ all.holds.requests_are) (w.deref-in-Ok.ensures.value ∙ all.holds.clients)
-          (subst (λ (l : List Reply). AnswersAll c.deref.result.now l _ _ _ _) (sym w.deref-in-Ok-2.ensures.value) (answers_all _ _ _ _ w.in-Ok.ensures.answers)) w.queue_replies.ensures.queues)
-      | in-Err w ↦ subst (λ (s : Inside). Answered all.requests mid s.clients.entries c.args.replica.now.site c.answer_all.new.self.site (state g.S.Store c.args.replica.now.records.conn) (state g.S.Store c.answer_all.new.self.records.conn)) (sym w.self-inside-is)
-          (subst (λ r. Answered all.requests mid w.queue_refused.new.clients.entries c.args.replica.now.site r.site (state g.S.Store c.args.replica.now.records.conn) (state g.S.Store r.records.conn)) (sym w.in-Err.ensures.memory.1)
-          (answered_err all.requests w.deref-in-Err.result.now w.in-Err.refusal mid w.queue_refused.new.clients.entries c.args.replica.now.site (state g.S.Store c.args.replica.now.records.conn) (w.deref-in-Err.ensures.value ∙ all.holds.clients) w.in-Err.ensures.memory.0 w.queue_refused.ensures.queues))
+          (subst (λ (l : List Reply). AnswersAll c.deref.result.now l _ _ _ _) (sym w.deref-in-Ok-2.ensures.value) (answers_all _ _ _ _ w.in-Ok.ensures.answers.answers)) w.queue_replies.ensures.queues)
+      | in-Err w ↦ subst (λ (s : Inside). Answered all.requests mid s.clients.entries c.args.replica.now.site c.answer.new.replica.site (state g.S.Store c.args.replica.now.records.conn) (state g.S.Store c.answer.new.replica.records.conn)) (sym w.self-inside-is)
+          (subst (λ r. Answered all.requests mid w.queue_refused.new.clients.entries c.args.replica.now.site r.site (state g.S.Store c.args.replica.now.records.conn) (state g.S.Store r.records.conn)) (sym w.in-Err.ensures.answers.memory.1)
+          (answered_err all.requests w.deref-in-Err.result.now w.in-Err.refusal mid w.queue_refused.new.clients.entries c.args.replica.now.site (state g.S.Store c.args.replica.now.records.conn) (w.deref-in-Err.ensures.value ∙ all.holds.clients) w.in-Err.ensures.answers.memory.0 w.queue_refused.ensures.queues))
     ] in
-    let admitted : c.match-answer_all.self-inside.admitted ≡ c.self.inside.admitted =
-    elim c.match-answer_all.branch [
+    let admitted : c.match-answer.self-inside.admitted ≡ c.self.inside.admitted =
+    elim c.match-answer.branch [
       | in-Ok w ↦ ap (λ (s : Inside). s.admitted) w.self-inside-is
       | in-Err w ↦ ap (λ (s : Inside). s.admitted) w.self-inside-is
     ] in
     let new = c.queue_faults.new.clients.entries in
     let site = c.args.replica.now.site in
-    let later = c.answer_all.new.self.site in
+    let later = c.answer.new.replica.site in
     let store = state g.S.Store c.args.replica.now.records.conn in
-    let after = state g.S.Store c.answer_all.new.self.records.conn in
+    let after = state g.S.Store c.answer.new.replica.records.conn in
     let faults = subst (λ (l : List (ℕ × Refusal)). Queues (refused_faults l) between new) c.deref-2.ensures.value c.queue_faults.ensures.queues in
     let some : ¬ IsNone taken = λ none. true≢false (sym (c.is_none.ensures.1 none) ∙ c.if-is_none.false) in
     subst₂ (λ (h : HostValue) (n : ℕ). (turns : List (ℕ × Turn)) × Round c.args.ready.now turns (record { host = h; site = site; store = store }) (record { host = record { clients = new; admitted = n }; site = later; store = after }) × GoesForward c.told-2.result c.args.ready.now turns (record { clients = new; admitted = n }))
     c.self.view_is (sym admitted) (round_of c.args.ready.now old mid between new taken took c.self.inside.admitted site later store after a faults some c.take_all-refused.result c.take_all-refused.ensures.took.1 c.told-2.result c.told-2.ensures.is)
+
+pub returns-then-is_none-clause-lists : goal.returns-then-is_none-clause-lists
+returns-then-is_none-clause-lists g c = lists_still c.args.feed.now c.args.replica.now.site.states

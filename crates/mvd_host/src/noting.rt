@@ -1,0 +1,95 @@
+//! Requests that are answered, and what a feed notes of them.
+ghost use Rattle.std.specs.Prelude.{◌≡◌, ◌<◌, ◌-◌, ◌^◌, IfOk, false, option_copied};
+ghost use Rattle.mvd_replica.specs.ReplicaCalls.{AnswersMany};
+ghost use Rattle.mvd_replica.specs.Replicas.{site_of};
+ghost use Rattle.mvd_site.specs.Held.{States};
+ghost use Rattle.mvd_host.specs.Lists.{ChangesAmong, ListsOn};
+ghost use Rattle.mvd_host.specs.Noting.{Notes, NotesChanges, key_asked as asked_key, keys_asked};
+
+use crate::feed::Feed;
+use mvd_dots::Refusal;
+use mvd_keys::Key;
+use mvd_replica::Replica;
+use mvd_wire::{Reply, Request};
+use sqlite::Alter;
+use std::alloc::Global;
+
+impl Feed {
+    /// Begins with the root now, where nothing is known.
+    pub fn start<S: Alter>(&mut self, replica: &Replica<S>)
+        ensures lists { ListsOn self.old (site_of replica.now).states self.new (site_of replica.now).states }
+    {
+        if self.root().is_some() {
+            return;
+        }
+        if let Ok(root) = replica.root() {
+            self.begin(root);
+        }
+    }
+
+    /// Has a replica answer requests, and notes what they may have changed.
+    pub(crate) fn answer<S: Alter>(
+        &mut self,
+        replica: &mut Replica<S>,
+        requests: &[Request],
+    ) -> Result<Vec<Reply>, Refusal>
+        ensures answers { AnswersMany replica.old requests.now result replica.new }
+        ensures notes { NotesChanges requests.now (site_of replica.old).states
+            (site_of replica.new).states self.old self.new }
+        ensures lists { ListsOn self.old (site_of replica.old).states self.new (site_of replica.new).states }
+    {
+        let commits = replica.commits();
+        let replies = replica.answer_all(requests)?;
+        if is_counted(commits, replica.commits()) {
+            self.follow(replica, requests);
+        }
+        Ok(replies)
+    }
+
+    /// Notes what these requests may have changed, and the root now.
+    fn follow<S: Alter>(&mut self, replica: &Replica<S>, requests: &[Request])
+        ensures notes { Notes requests.now (site_of replica.now).states self.old self.new }
+        ensures lists { (before : States) → ChangesAmong (keys_asked requests.now) before (site_of replica.now).states →
+            ListsOn self.old before self.new (site_of replica.now).states }
+    {
+        let Ok(root) = replica.root() else {
+            return self.forget();
+        };
+        match changed_keys(self.alloc, requests) {
+            Ok(keys) => {
+                let _ = self.note(keys, root);
+            }
+            Err(_) => self.begin(root),
+        }
+    }
+}
+
+/// Whether a commit may have been counted. The count stays at the greatest number.
+fn is_counted(before: u64, now: u64) -> bool
+    ensures { result ≡ false → (now ≡ before) × (before < 2 ^ 64 - 1) }
+{
+    now != before || before == u64::MAX
+}
+
+/// The key that a request asks to change.
+fn key_asked(request: &Request) -> Option<&Key>
+    ensures { option_copied result ≡ asked_key request.now }
+{
+    match request {
+        Request::Put(key, ..) | Request::Delete(key, _) | Request::Push(key, _) => Some(key),
+        _ => None,
+    }
+}
+
+/// The keys that requests ask to change.
+fn changed_keys(alloc: Global, requests: &[Request]) -> Result<Vec<Key>, Refusal>
+    ensures { IfOk result (λ keys. keys.items ≡ keys_asked requests.now) }
+{
+    let mut keys = Vec::new(alloc);
+    for request in requests {
+        if let Some(key) = key_asked(request) {
+            keys.push(key.copy(alloc)?)?;
+        }
+    }
+    Ok(keys)
+}

@@ -1,0 +1,110 @@
+//! Many writes of one request: their frames, as the host takes them, and a line for each, as its replies come.
+use crate::replies::next_reply;
+use crate::talks::feed;
+use mvd_conn::Ending;
+use mvd_dots::Refusal;
+use mvd_frames::encode_request;
+use mvd_host::Host;
+use mvd_http::{LINE_ROOM, push_line};
+use mvd_wire::{Reply, Request};
+use std::alloc::Global;
+
+/// As many bytes of frames are handed on at once.
+const PIECE: usize = 65_536;
+
+/// The writes of one request, and what is told of them. All memory that it takes is taken before the first of them is
+/// handed on.
+#[derive(Drop)]
+pub(crate) struct Batch {
+    /// The frames of all that are asked of the host, and how many of their bytes were handed on.
+    frames: Vec<u8>,
+    handed: usize,
+    /// For each write why it is refused at once, if it is.
+    refused: Vec<Option<Refusal>>,
+    /// The lines of so many of them.
+    told: usize,
+    lines: String,
+}
+
+impl Batch {
+    /// Each write, or why it is refused at once.
+    pub fn new(alloc: Global, writes: &[Result<Request, Refusal>]) -> Result<Batch, Refusal> {
+        let mut frames = Vec::new(alloc);
+        let mut refused = Vec::with_capacity(alloc, writes.len())?;
+        for write in writes {
+            refused.push(add_frame(alloc, write, &mut frames)?)?;
+        }
+        let lines = String::with_capacity(alloc, writes.len().saturating_mul(LINE_ROOM))?;
+        Ok(Batch {
+            frames,
+            handed: 0,
+            refused,
+            told: 0,
+            lines,
+        })
+    }
+
+    /// Hands on as many frames as the host takes.
+    pub fn hand_on(&mut self, host: &mut Host, number: u64) {
+        let rest = self.frames.get(self.handed..).unwrap_or(&[]);
+        for piece in rest.chunks(PIECE) {
+            if !host.wants_input(number) {
+                return;
+            }
+            feed(host, number, piece);
+            self.handed = self.handed.saturating_add(piece.len());
+        }
+    }
+
+    /// Puts down the lines of the replies that the host has. Whether all lines are there. What the host takes no more
+    /// was not done, and is told as refused.
+    pub fn take(&mut self, alloc: Global, host: &mut Host, number: u64) -> Result<bool, Refusal> {
+        for _left in self.told..self.refused.len() {
+            let reply = match self.refused.get(self.told) {
+                Some(Some(refusal)) => Reply::Refused(*refusal),
+                _ => match next_reply(alloc, host, number) {
+                    Some(reply) => reply?,
+                    None => match host.ending(number) {
+                        Some(ending) => Reply::Refused(refusal_of(ending)),
+                        None => return Ok(false),
+                    },
+                },
+            };
+            push_line(&mut self.lines, &reply)?;
+            self.told = self.told.saturating_add(1);
+        }
+        Ok(true)
+    }
+
+    pub fn lines(&self) -> &str {
+        self.lines.as_str()
+    }
+}
+
+/// Puts the frame of a write behind the others. It gives why there is none.
+fn add_frame(
+    alloc: Global,
+    write: &Result<Request, Refusal>,
+    frames: &mut Vec<u8>,
+) -> Result<Option<Refusal>, Refusal> {
+    let request = match write {
+        Ok(request) => request,
+        Err(refusal) => return Ok(Some(*refusal)),
+    };
+    match encode_request(alloc, request) {
+        Ok(frame) => {
+            frames.extend_from_slice(&frame)?;
+            Ok(None)
+        }
+        Err(Refusal::Memory) => Err(Refusal::Memory),
+        Err(refusal) => Ok(Some(refusal)),
+    }
+}
+
+/// Why the host takes nothing more.
+fn refusal_of(ending: Ending) -> Refusal {
+    match ending {
+        Ending::Stopped(refusal) => refusal,
+        Ending::Bye | Ending::End => Refusal::ReadFailed,
+    }
+}

@@ -1,9 +1,9 @@
 -- What a command is stopped with, and what comes back of its file.
-use Rattle.std.proofs.Common.{◌≡◌, ℕ, Bool, List, Option, Some, None, Result, Ok, Err, false, inr, refl, subst, sym, true, true≢false}
+use Rattle.std.proofs.Common.{◌≡◌, ℕ, Bool, List, Option, Some, None, Result, Ok, Err, false, inl, inr, refl, subst, sym, true, true≢false}
 use Rattle.std.specs.Prelude.{IfNone, IfSome, if◌then◌else◌}
 use Rattle.std.specs.Borrow.{Bor}
 use Rattle.std.specs.Result.{result_and}
-use Rattle.mvd_app.specs.Stored.{CannotEnd, ClosesOrNot, EndsAs, GivesBack, GivesNone, IsConfigFor, IsWithoutFile}
+use Rattle.mvd_app.specs.Stored.{CannotEnd, ClosesOrNot, EndsAs, Filed, GivesBack, GivesNone, IsConfigFor, IsWithoutFile, NamesFile}
 use Rattle.mvd_app.specs.declared.closing.Ran.{Ran}
 use Rattle.mvd_dots.specs.declared.refusals.Refusal.TheVariants.{Broken, Store}
 use Rattle.mvd_hint.specs.declared.hint.Stop.{Stop}
@@ -43,10 +43,12 @@ module _ (D : Type 0) (broken : Bool) (ended : Result (Unit {0}) Stop) where
   stops_same (Ok done) files is = is
   stops_same (Err other) files is = is
 
--- only a file of definitions stops a command before its own file is opened
-pub by_definitions : (defs : Option (Bor (List ℕ))) → (defs ≡ None → false ≡ true) → (file : Bor (List ℕ)) × (defs ≡ Some file)
-by_definitions (Some file) none = (file, refl)
-by_definitions None none = absurd (true≢false (sym (none refl)))
+-- only a file of definitions or with a token stops a command before its own file is opened
+pub by_files : (db : Bor (List ℕ)) (site max_keys : ℕ) (defs token : Option (Bor (List ℕ))) → (defs ≡ None → token ≡ None → false ≡ true) →
+    NamesFile (record { db = db; setup = record { site = site; max_keys = max_keys; defs = defs }; token = token })
+by_files db site max_keys (Some file) token none = inl (file, refl)
+by_files db site max_keys None (Some file) none = inr (file, refl)
+by_files db site max_keys None None none = absurd (true≢false (sym (none refl refl)))
 
 -- ---- what comes back
 
@@ -58,18 +60,18 @@ pub none_asked : {A : Type 0} (files : Option A) → IfNone files (Unit {0})
 none_asked (Some x) = tt
 none_asked None = tt
 
-module _ {D : Type 0} {g : disk.Ghosts D} {f : Ghosts (FileStore D g)} (image : Image) (db : Bor (List ℕ)) (setup : Setup) (config : ConfigValue)
-    (is : IsConfigFor setup config) (old new : Replica (FileStore D g) f) (opened : OpensAsSite image config (Ok old)) where
+module _ {D : Type 0} {g : disk.Ghosts D} {f : Ghosts (FileStore D g)} (image : Image) (filed : Filed) (config : ConfigValue)
+    (is : IsConfigFor filed.setup config) (old new : Replica (FileStore D g) f) (opened : OpensAsSite image config (Ok old)) where
   -- a site that was opened, worked on and closed: its file
   pub file_back : (files : Option (Files D)) → WorksOn (record { site = site_of old; store = file_of old }) (record { site = site_of new; store = file_of new }) →
-      ClosesOrNot new files → IfSome files (GivesBack g image (Some (db, setup)))
+      ClosesOrNot new files → IfSome files (GivesBack g image (Some filed))
   file_back (Some files) works ends = λ clean. subst (λ (n : ℕ). KeepsFile g image n files) is.site (
       leaves_file image config old new files opened.site opened.stands (λ sound. opened.opens sound.clean) works ends.0 (ends.1 clean))
   file_back None works ends = tt
 
   -- or nothing, since it is broken or cannot be closed
   pub no_file_back : (files : Option (Files D)) (worked ended : Result (Unit {0}) Stop) → WorksOn (stored_of old) (stored_of new) →
-      ClosesOrNot new files → EndsAs worked files (site_of new).broken ended → IfNone files (GivesNone f image (Some (db, setup)) ended)
+      ClosesOrNot new files → EndsAs worked files (site_of new).broken ended → IfNone files (GivesNone f image (Some filed) ended)
   no_file_back (Some files) worked ended works ends told = tt
   no_file_back None worked (Err stop) works ends told = inr (config, is, inr (record { old = old; new = new; opened = opened; works = works; ends = ends }))
   no_file_back None (Err stop) (Ok done) works ends told = absurd cc

@@ -38,12 +38,22 @@ site_without_keys config = record { config = config; states = no_states; broken 
 
 -- ---- what an order works on
 
--- the file that an order works on, with what the site in it is set up with
-abbrev pub file_in : Order → Option (Bor (List ℕ) × Setup)
-file_in (order.Serve db setup address conns idle http clients) = Some (db, setup)
-file_in (order.Shell db setup) = Some (db, setup)
-file_in (order.Sync db setup address idle verbose) = Some (db, setup)
+-- the file that an order works on, what the site in it is set up with, and the file with the command's token, if it names one
+pub record Filed : Type 0 where
+  pub db : Bor (List ℕ)
+  pub setup : Setup
+  pub token : Option (Bor (List ℕ))
+
+abbrev pub file_in : Order → Option Filed
+file_in (order.Serve db setup address conns idle http clients token) = Some (record { db = db; setup = setup; token = token })
+file_in (order.Shell db setup token) = Some (record { db = db; setup = setup; token = token })
+file_in (order.Sync db setup address idle verbose token) = Some (record { db = db; setup = setup; token = token })
 file_in _ = None
+
+-- it names a file that is read before the site's own: of definitions, or with a token
+abbrev pub NamesFile : Filed → Type 0
+NamesFile filed =
+    ((file : Bor (List ℕ)) × (filed.setup.defs ≡ Some file)) ⊎ ((file : Bor (List ℕ)) × (filed.token ≡ Some file))
 
 -- a site is set up so
 pub record IsConfigFor (setup : Setup) (config : ConfigValue) : Type 0 where
@@ -73,8 +83,8 @@ module _ {D : Type 0} {g : disk.Ghosts D} {f : Ghosts (FileStore D g)} where
 -- ---- what comes back
 
 -- the file of the order's site, as a run leaves it
-abbrev pub GivesBack : {D : Type 0} → disk.Ghosts D → Image → Option (Bor (List ℕ) × Setup) → Files D → Type 0
-GivesBack g image (Some (db, setup)) files = LeavesFile g image setup.site files
+abbrev pub GivesBack : {D : Type 0} → disk.Ghosts D → Image → Option Filed → Files D → Type 0
+GivesBack g image (Some filed) files = LeavesFile g image filed.setup.site files
 GivesBack g image None files = ⊥
 
 -- no file comes back
@@ -96,15 +106,15 @@ module _ {D : Type 0} {g : disk.Ghosts D} (f : Ghosts (FileStore D g)) where
     pub works : WorksOn (stored_of old) (stored_of new)
     pub ends : ((site_of new).broken ≡ true) ⊎ CannotClose new
 
-  -- WHY NO FILE COMES BACK of a command that works on one: a file of definitions stopped it, which the order names; or the site that
-  -- is set up so was not opened, or not closed
-  abbrev pub HasNoFile : Image → Bor (List ℕ) → Setup → Stop → Type 0
-  HasNoFile image db setup stop =
-      ((file : Bor (List ℕ)) × (setup.defs ≡ Some file)) ⊎
-      ((config : ConfigValue) × IsConfigFor setup config × (CannotOpen g image config db stop ⊎ CannotEnd image config))
+  -- WHY NO FILE COMES BACK of a command that works on one: a file of definitions or with a token stopped it, which the order names;
+  -- or the site that is set up so was not opened, or not closed
+  abbrev pub HasNoFile : Image → Filed → Stop → Type 0
+  HasNoFile image filed stop = NamesFile filed ⊎
+      ((config : ConfigValue) × IsConfigFor filed.setup config
+      × (CannotOpen g image config filed.db stop ⊎ CannotEnd image config))
 
   -- the order works on none; or the command is stopped, and this is why
-  abbrev pub GivesNone : Image → Option (Bor (List ℕ) × Setup) → Result (Unit {0}) Stop → Type 0
+  abbrev pub GivesNone : Image → Option Filed → Result (Unit {0}) Stop → Type 0
   GivesNone image None ended = ⊤
-  GivesNone image (Some (db, setup)) (Ok done) = ⊥
-  GivesNone image (Some (db, setup)) (Err stop) = HasNoFile image db setup stop
+  GivesNone image (Some filed) (Ok done) = ⊥
+  GivesNone image (Some filed) (Err stop) = HasNoFile image filed stop

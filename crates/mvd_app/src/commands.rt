@@ -1,6 +1,7 @@
 //! What a command line asks for, done: with standard input and output, files and sockets.
-ghost use Rattle.std.specs.Prelude.{◌≡◌, IfNone, IfOk, IfSome, IsOk, IsOkAnd, None, Ok, Some};
-ghost use Rattle.mvd_app.specs.Dialed.{HasMet, HasTalked, HasWorked, TellsWork};
+ghost use Rattle.std.specs.Prelude.{◌≡◌, IfNone, IfOk, IfSome, IsOk, IsOkAnd, List, None, Ok, Option, Some, option_copied};
+ghost use Rattle.std.specs.Prelude.{ℕ};
+ghost use Rattle.mvd_app.specs.Dialed.{HasMet, HasTalked, HasWorked, IsTokenOf, TellsWork};
 ghost use Rattle.mvd_app.specs.Stored.{FollowsAsked, GivesBack, GivesNone, IsConfigFor, IsWithoutFile, file_in};
 ghost use Rattle.mvd_input.specs.Addresses.{IsAddressList};
 ghost use Rattle.mvd_input.specs.Orders.{IsInRange, IsSetUp};
@@ -15,8 +16,10 @@ use crate::closing::{Ran, finish};
 use crate::looping::loop_run;
 use crate::opening::opened;
 use crate::output::Output;
+use crate::tokens::token_in;
 use crate::typed_lines::{answer_lines, input};
 use mvd_client::{Dial, MeetingTerms, meet_run, remote_shell_run, sync_told};
+use mvd_conn::Guard;
 use mvd_dots::Refusal;
 use mvd_hint::{Hint, Stop};
 use mvd_input::{DEFS_MAX, Fault, Order, Setup, read_defs, read_input};
@@ -25,6 +28,7 @@ use mvd_rows::Defs;
 use mvd_script::sim;
 use mvd_server::{Terms, serve_run};
 use mvd_site::Config;
+use mvd_wire::Token;
 use sqlite::{Alter, FileFrom, FileStore, Start};
 use sqlite_disk::Disk;
 use sqlite_trees::store::Store;
@@ -70,28 +74,38 @@ pub fn run<'a, S: Start, D: Dial>(
             idle,
             http,
             clients,
+            token_file,
         } => {
             let terms = Terms {
                 http,
                 conns,
                 idle,
                 clients,
+                guard: None,
             };
-            run_stored(rt, db, setup, Work::Serve(address, terms), start, dial)
+            let work = Work::Serve(address, terms);
+            run_stored(rt, db, setup, token_file, work, start, dial)
         }
-        Order::Shell { db, setup } => run_stored(rt, db, setup, Work::Shell, start, dial),
-        Order::RemoteShell { address, idle } => {
-            without_file(run_remote_shell(rt, dial, address, idle), start)
-        }
+        Order::Shell {
+            db,
+            setup,
+            token_file,
+        } => run_stored(rt, db, setup, token_file, Work::Shell, start, dial),
+        Order::RemoteShell {
+            address,
+            idle,
+            token_file,
+        } => without_file(run_remote_shell(rt, dial, address, idle, token_file), start),
         Order::Sync {
             db,
             setup,
             address,
             idle,
             verbose,
+            token_file,
         } => {
             let work = Work::Sync(address, idle, verbose);
-            run_stored(rt, db, setup, work, start, dial)
+            run_stored(rt, db, setup, token_file, work, start, dial)
         }
         Order::Meet {
             address,
@@ -99,13 +113,15 @@ pub fn run<'a, S: Start, D: Dial>(
             repeat,
             idle,
             verbose,
+            token_file,
         } => {
             let terms = MeetingTerms {
                 repeat,
                 idle,
+                token: None,
                 verbose,
             };
-            without_file(run_meeting(rt, address, with, terms), start)
+            without_file(run_meeting(rt, address, with, terms, token_file), start)
         }
     }
 }
@@ -140,26 +156,31 @@ fn run_loop<'a>(rt: &HostRuntime, setup: Setup<'a>) -> Result<(), Stop<'a>>
 }
 
 /// Opens the site that a file holds, which is made where it is missing, works on it, and closes it: what the log holds
-/// is copied into the file, and both are given back. It is proved for whatever stands in the file.
+/// is copied into the file, and both are given back. It is proved for whatever stands in the file. The definitions and
+/// the token are read first.
 fn run_stored<'a, S: Start, D: Dial>(
     rt: &HostRuntime,
     db: &'a str,
     setup: Setup<'a>,
+    token_file: Option<&'a str>,
     work: Work,
     start: S,
     dial: &D,
 ) -> Ran<'a, FileFrom<S>>
     requires { IsSetUp setup }
     ensures kept { IfSome result.files
-        (GivesBack ⟦<FileFrom<S> as Disk>⟧ (image_at S.Start) (Some (db.entry, setup.entry))) }
+        (GivesBack ⟦<FileFrom<S> as Disk>⟧ (image_at S.Start)
+        (Some (record { db = db.entry; setup = setup.entry; token = token_file.entry }))) }
     ensures given { IfNone result.files
-        (GivesNone ⟦<FileStore<FileFrom<S>> as Store>⟧ (image_at S.Start) (Some (db.entry, setup.entry)) result.ended) }
+        (GivesNone ⟦<FileStore<FileFrom<S>> as Store>⟧ (image_at S.Start)
+        (Some (record { db = db.entry; setup = setup.entry; token = token_file.entry })) result.ended) }
     ensures worked { IfOk result.ended (λ _. HasWorked ⟦<FileStore<FileFrom<S>> as Store>⟧ (image_at S.Start)
         setup.entry result.files
-        (λ old new. TellsWork D.Dialed.Line (D.gives dial.now) work old new (Ok tt))) }
+        (λ old new. (token : Option (List ℕ)) × IsTokenOf token_file.entry token ×
+        TellsWork D.Dialed.Line (D.gives dial.now) work token old new (Ok tt))) }
 {
-    let config = match config_in(rt, setup) {
-        Ok(config) => config,
+    let (config, token) = match read_first(rt, setup, token_file) {
+        Ok(read) => read,
         Err(stop) => {
             drop(start);
             return Ran {
@@ -170,13 +191,38 @@ fn run_stored<'a, S: Start, D: Dial>(
     };
     match opened(rt, db, config, start) {
         Ok(mut replica) => {
-            let worked = work_on(rt, &mut replica, work, dial);
+            let worked = work_on(rt, &mut replica, work, token.as_ref(), dial);
+            drop(token);
             finish(db, replica, worked)
         }
-        Err(stop) => Ran {
-            files: None,
-            ended: Err(stop),
-        },
+        Err(stop) => {
+            drop(token);
+            Ran {
+                files: None,
+                ended: Err(stop),
+            }
+        }
+    }
+}
+
+/// What a site is set up with, and the token of the command, each of which may stand in a file.
+fn read_first<'a>(
+    rt: &HostRuntime,
+    setup: Setup<'a>,
+    token_file: Option<&'a str>,
+) -> Result<(Config, Option<Token>), Stop<'a>>
+    requires { IsSetUp setup }
+    ensures read { IfOk result (λ read. IsConfigFor setup.entry read.0 × (token_file.entry ≡ None → read.1 ≡ None)) }
+    // It is stopped only by such a file.
+    ensures none { setup.entry.defs ≡ None → token_file.entry ≡ None → IsOk result }
+{
+    let config = config_in(rt, setup)?;
+    match token_in(rt, token_file) {
+        Ok(token) => Ok((config, token)),
+        Err(stop) => {
+            drop(config);
+            Err(stop)
+        }
     }
 }
 
@@ -185,15 +231,22 @@ fn work_on<'a, S: Alter + Drop, D: Dial>(
     rt: &HostRuntime,
     replica: &mut Replica<S>,
     work: Work,
+    token: Option<&Token>,
     dial: &D,
 ) -> Result<(), Stop<'a>>
     // The site keeps the writes known, and its records follow its states, however it ends.
     ensures works { WorksOn (stored_of replica.old) (stored_of replica.new) }
-    ensures tells { TellsWork D.Dialed.Line (D.gives dial.now) work replica.old replica.new result }
+    ensures tells { TellsWork D.Dialed.Line (D.gives dial.now) work (option_copied token.entry)
+        replica.old replica.new result }
 {
     let mut writer = Output::new(io::writer(rt));
     match work {
         Work::Serve(address, terms) => {
+            let guard = match token {
+                Some(token) => Some(Guard::of(token.bytes())),
+                None => None,
+            };
+            let terms = Terms { guard, ..terms };
             serve_run(rt, rt.alloc(), replica, address, terms, &mut writer)
         }
         Work::Shell => typed(rt, replica),
@@ -205,6 +258,7 @@ fn work_on<'a, S: Alter + Drop, D: Dial>(
                 replica,
                 address,
                 idle,
+                token,
                 verbose,
                 &mut writer,
                 &mut errors,
@@ -227,12 +281,22 @@ fn run_remote_shell<'a, D: Dial>(
     dial: &D,
     address: SocketAddr,
     idle: u32,
+    token_file: Option<&'a str>,
 ) -> Result<(), Stop<'a>>
-    ensures talked { IfOk result (λ _. HasTalked D.Dialed.Line (D.gives dial.now address) address) }
+    ensures talked { IfOk result (λ _. HasTalked D.Dialed.Line (D.gives dial.now address) address token_file.entry) }
 {
+    let token = token_in(rt, token_file)?;
     let mut reader = input(rt)?;
     let mut writer = Output::new(io::writer(rt));
-    remote_shell_run(dial, rt.alloc(), address, idle, &mut reader, &mut writer)
+    remote_shell_run(
+        dial,
+        rt.alloc(),
+        address,
+        idle,
+        token.as_ref(),
+        &mut reader,
+        &mut writer,
+    )
 }
 
 /// Runs sessions between servers.
@@ -240,10 +304,16 @@ fn run_meeting<'a>(
     rt: &HostRuntime,
     address: SocketAddr,
     with: &str,
-    terms: MeetingTerms,
+    terms: MeetingTerms<'_>,
+    token_file: Option<&'a str>,
 ) -> Result<(), Stop<'a>>
     requires { IsAddressList with.now }
 {
+    let token = token_in(rt, token_file)?;
+    let terms = MeetingTerms {
+        token: token.as_ref(),
+        ..terms
+    };
     meet_run(
         rt,
         rt.alloc(),

@@ -6,6 +6,7 @@ mod commands;
 mod looping;
 mod opening;
 mod output;
+mod tokens;
 mod typed_lines;
 
 pub use closing::Ran;

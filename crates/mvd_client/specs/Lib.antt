@@ -3,6 +3,7 @@ pub mod Questioned
 pub mod Reported
 pub mod Sent
 pub mod Stopped
+pub mod LetIn
 pub mod Synced
 pub mod SyncsAt
 pub mod Talked

@@ -80,9 +80,12 @@ module _ {S : Type 0} {g : Ghosts S} {L : Type 0} (line : LineGhosts L) (gives :
     met : (before after : Remote L) → gives (line_of before) → (told : Result Report SyncFault)
         → MeetsFar line.is_true line.far old new before after told → TellsAs address told result → MeetsAt old new result
 
+module _ {S : Type 0} {g : Ghosts S} {L W : Type 0} (line : LineGhosts L) (sides : Sides (Replica S g) W)
+    (over : W → Remote L) (gives : L → Type 0) (address : SocketAddr) where
   -- FROM THE ADDRESS TO WHAT IS PRINTED: what is told is of the session that ran
   pub record TellsSession (old new : Replica S g) (out out' : Option (List ℕ)) (result : Result (Unit {0}) Stop)
       : Type 0 where
     pub ran : Result Report Stop
-    pub meets : AreTrue line gives → IsTrueSite (site_of old) → MeetsAt old new ran
+    pub syncs : SyncsAt line sides over gives address old new ran
+    pub meets : AreTrue line gives → IsTrueSite (site_of old) → MeetsAt line gives address old new ran
     pub told : TellsRan (site_of new).states out out' ran result

@@ -1,7 +1,7 @@
 -- A shell over a line to a server.
-use Rattle.std.specs.Prelude.{◌≡◌, ℕ, IfErr, List, None, Option, Result, Ok, Err, OnOk}
+use Rattle.std.specs.Prelude.{◌≡◌, ℕ, List, None, Option, Result, Ok, Err}
 use Rattle.std.specs.declared.net.socket_addr.SocketAddr.{SocketAddr}
-use Rattle.mvd_client.specs.Stopped.{IsUndialed}
+use Rattle.mvd_client.specs.Stopped.{IsAtServer, IsUndialed}
 use Rattle.mvd_dots.specs.declared.refusals.Refusal.{Refusal}
 use Rattle.mvd_input.specs.declared.fault.Fault.{Fault}
 use Rattle.mvd_shell.specs.Shell.{At, Shells, at}
@@ -13,20 +13,31 @@ use Rattle.mvd_remote.specs.Remotes.{AsksOver, RepliesFar, bye_query}
 use Rattle.mvd_remote.specs.declared.line.Line.{Ghosts}
 use Rattle.mvd_remote.specs.declared.remote.Remote.{Remote}
 
--- a Bye was asked over the line, and nothing else
-abbrev pub SaysBye : {L : Type 0} → Ghosts L → Remote L → Remote L → Type 0
-SaysBye line old new = (told : Result (Unit {0}) Refusal) × AsksOver line bye_query old new told
+-- a Bye was asked over the line, and nothing else, and this was told
+abbrev pub SaysBye : {L : Type 0} → Ghosts L → Remote L → Remote L → Result (Unit {0}) Refusal → Type 0
+SaysBye line old new told = AsksOver line bye_query old new told
 
--- The lines are answered, and what they print is told, as a shell does; where the command ends well, all of them. Behind
--- them comes a Bye, and nothing else, which prints nothing; where the lines ended early, nothing comes
-pub record ShellsOver {A : Type 0} (Answers : A → A → Request → Reply → Type 0) (Byes : A → A → Type 0) (old new : At A)
+-- a command ends as the Bye behind its lines was told
+abbrev pub EndsWithBye : SocketAddr → Result (Unit {0}) Refusal → Result (Unit {0}) Stop → Type 0
+EndsWithBye address (Ok done) result = result ≡ Ok tt
+EndsWithBye address (Err refusal) result = (stop : Stop) × (result ≡ Err stop) × IsAtServer address refusal stop
+
+-- behind lines that were all told comes a Bye, and nothing else, which prints nothing, and the command ends as that is told;
+-- behind those that ended early nothing comes, and it is stopped with their fault
+abbrev pub EndsLines : {A : Type 0} → (A → A → Result (Unit {0}) Refusal → Type 0) → SocketAddr → Result (Unit {0}) Fault → A → A
+    → Result (Unit {0}) Stop → Type 0
+EndsLines Byes address (Ok done) last new result =
+    (bye : Result (Unit {0}) Refusal) × Byes last new bye × EndsWithBye address bye result
+EndsLines Byes address (Err fault) last new result = (new ≡ last) × (stop : Stop) × (result ≡ Err stop) × (stop.fault ≡ fault)
+
+-- The lines are answered, and what they print is told, as a shell does; and then they end so
+pub record ShellsOver {A : Type 0} (Answers : A → A → Request → Reply → Type 0)
+    (Byes : A → A → Result (Unit {0}) Refusal → Type 0) (address : SocketAddr) (old new : At A)
     (result : Result (Unit {0}) Stop) : Type 0 where
   pub last : A
   pub told : Result (Unit {0}) Fault
   pub shells : Shells Answers old (at last new.input new.out) told
-  pub whole : OnOk result (told ≡ Ok tt)
-  pub bye : OnOk told (Byes last new.asked)
-  pub none : IfErr told (λ _. new.asked ≡ last)
+  pub ends : EndsLines Byes address told last new.asked result
 
 -- A SHELL OVER WHAT AN ADDRESS LEADS TO, one of these lines. It leads to none, and nothing is read or printed; or it is a
 -- shell over one line, which nothing was asked before
@@ -35,5 +46,5 @@ pub data ShellsAt {L : Type 0} (line : Ghosts L) (gives : L → Type 0) (address
   nobody : (stop : Stop) → result ≡ Err stop → IsUndialed address stop → input' ≡ input → out' ≡ out
       → ShellsAt line gives address input out input' out' result
   ran : (fresh : L) → gives fresh → (before after : Remote L) → line_of before ≡ fresh → refused_of before ≡ None
-      → ShellsOver (RepliesFar line) (SaysBye line) (at before input out) (at after input' out') result
+      → ShellsOver (RepliesFar line) (SaysBye line) address (at before input out) (at after input' out') result
       → ShellsAt line gives address input out input' out' result

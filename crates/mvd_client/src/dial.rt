@@ -1,12 +1,14 @@
 //! What leads from an address to a line.
-ghost use Rattle.std.specs.Prelude.{IfOk};
+ghost use Rattle.std.specs.Prelude.{IfOk, option_copied};
 ghost use Rattle.std.specs.declared.net.socket_addr.SocketAddr.{SocketAddr};
+ghost use Rattle.mvd_client.specs.LetIn.{GivesIn, Shows};
 ghost use Rattle.mvd_client.specs.Stopped.{StopsUndialed};
 
 use crate::link::Link;
 use mvd_dots::Refusal;
 use mvd_hint::Stop;
-use mvd_remote::Line;
+use mvd_remote::{Line, Remote};
+use mvd_wire::Token;
 use std::alloc::Global;
 use std::io;
 use std::net::{Net, OpenStream, SocketAddr};
@@ -17,6 +19,8 @@ use std::time::Duration;
 pub enum DialFault {
     Unanswered(io::Error),
     Memory,
+    /// The token was shown, and that was told in place of Done.
+    Refused(Refusal),
 }
 
 /// What leads from an address to a line. What the lines of an address are is a premise of whoever names what dials, and
@@ -70,6 +74,42 @@ fn connected<N: Net>(rt: &N, address: SocketAddr, idle: u32) -> io::Result<N::St
     Ok(stream)
 }
 
+/// A line to what answers at an address, where it lets in whoever shows the token, if there is one. Nothing else went
+/// over it.
+pub(crate) fn let_in<D: Dial>(
+    dial: &D,
+    alloc: Global,
+    address: SocketAddr,
+    idle: u32,
+    token: Option<&Token>,
+) -> Result<D::Dialed, DialFault>
+    ensures { IfOk result (GivesIn D.Dialed.Line (D.gives dial.now address) (option_copied token.entry)) }
+{
+    let line = match dial.dial(alloc, address, idle) {
+        Ok(line) => line,
+        Err(fault) => return Err(fault),
+    };
+    let Some(token) = token else {
+        return Ok(line);
+    };
+    match shown(alloc, line, token) {
+        Ok(line) => Ok(line),
+        Err(refusal) => Err(DialFault::Refused(refusal)),
+    }
+}
+
+/// Shows a token over a line over which nothing went: a Hello, and nothing else. It gives the line, or what was told in
+/// place of Done.
+fn shown<L: Line>(alloc: Global, line: L, token: &Token) -> Result<L, Refusal>
+    ensures { Shows L.Line token.now line result }
+{
+    let mut remote = Remote::over(alloc, line);
+    match remote.hello(token) {
+        Ok(()) => Ok(remote.into_line()),
+        Err(refusal) => Err(refusal),
+    }
+}
+
 /// What a command is stopped with where an address leads to no line.
 pub(crate) fn undialed<'a>(address: SocketAddr, fault: DialFault) -> Stop<'a>
     ensures { StopsUndialed address fault result }
@@ -77,5 +117,6 @@ pub(crate) fn undialed<'a>(address: SocketAddr, fault: DialFault) -> Stop<'a>
     match fault {
         DialFault::Unanswered(error) => Stop::unanswered(address, error),
         DialFault::Memory => Stop::from(Refusal::Memory),
+        DialFault::Refused(refusal) => Stop::at_server(address, refusal),
     }
 }

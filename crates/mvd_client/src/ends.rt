@@ -1,7 +1,7 @@
 //! The servers that meet, the connections with them, and one session of two of them.
 ghost use Rattle.mvd_client.specs.Met.{IsFailureOf};
 
-use crate::dial::{Dial, Sockets, undialed};
+use crate::dial::{Sockets, let_in, undialed};
 use crate::link::Link;
 use crate::meeting::{Root, meet_over, root_over};
 use crate::progress::Watched;
@@ -11,6 +11,7 @@ use mvd_hint::Stop;
 use mvd_input::{Fault, Repeat};
 use mvd_remote::Remote;
 use mvd_sync::{Report, Side, SyncFault};
+use mvd_wire::Token;
 use std::alloc::Global;
 use std::fmt::Write as Print;
 use std::io::{Read, Write};
@@ -22,12 +23,13 @@ const MOST_FRAMES: u32 = 500_000;
 /// So often a session goes on over new connections, where a server takes no more frames of the old ones.
 const MOST_ANEW: u32 = 8;
 
-/// How servers meet: how often again, how many seconds a server may be silent, and whether it is told how far a session
-/// is.
+/// How servers meet: how often again, how many seconds a server may be silent, the token that is shown to each of them,
+/// and whether it is told how far a session is.
 #[derive(Clone, Copy)]
-pub struct MeetingTerms {
+pub struct MeetingTerms<'a> {
     pub repeat: Option<Repeat>,
     pub idle: u32,
+    pub token: Option<&'a Token>,
     pub verbose: bool,
 }
 
@@ -107,14 +109,14 @@ pub(crate) fn meet<'a, N: Net, E: Write>(
     alloc: Global,
     near: &mut End<N::Stream>,
     far: &mut End<N::Stream>,
-    terms: MeetingTerms,
+    terms: MeetingTerms<'_>,
     errors: &mut E,
 ) -> Result<Report, Failure<'a>> {
     for _anew in 0..MOST_ANEW {
         let is_near_kept = near.link.is_some();
         let is_far_kept = far.link.is_some();
         let told = told(errors, terms.verbose);
-        match session(rt, alloc, near, far, terms.idle, told) {
+        match session(rt, alloc, near, far, terms, told) {
             Err(failure) if is_spent(failure, near, far) => {}
             Err(failure) if is_near_kept && is_cut(failure, Side::Local) => {}
             Err(failure) if is_far_kept && is_cut(failure, Side::Peer) => {}
@@ -122,7 +124,7 @@ pub(crate) fn meet<'a, N: Net, E: Write>(
         }
     }
     let told = told(errors, terms.verbose);
-    session(rt, alloc, near, far, terms.idle, told)
+    session(rt, alloc, near, far, terms, told)
 }
 
 /// Whether the connection with this side was cut.
@@ -139,14 +141,18 @@ fn told<E: Write>(errors: &mut E, is_verbose: bool) -> Option<&mut E> {
     if is_verbose { Some(errors) } else { None }
 }
 
-/// Whether as many questions were asked as may be over one connection. A server that has no place says the same in its
-/// first frame: then there is nothing to go on with.
+/// Whether as many questions were asked as may be over one connection: the server says so, or cuts the connection where
+/// a window of questions is under way. A server that has no place says the same in its first frame: then there is
+/// nothing to go on with.
 fn is_spent<T: Read + Write + Drop>(failure: Failure<'_>, near: &End<T>, far: &End<T>) -> bool {
     let frames = match failure.side {
         Side::Local => near.frames,
         Side::Peer => far.frames,
     };
-    frames > 1 && matches!(failure.stop.fault, Fault::Stopped(Refusal::TooManyRequests))
+    match failure.stop.fault {
+        Fault::Stopped(Refusal::TooManyRequests) => frames > 1,
+        _ => frames >= MOST_FRAMES && is_cut(failure, failure.side),
+    }
 }
 
 /// A session over the connections that are open, or over new ones. After a fault neither is kept.
@@ -155,16 +161,16 @@ fn session<'a, N: Net, E: Write>(
     alloc: Global,
     near: &mut End<N::Stream>,
     far: &mut End<N::Stream>,
-    idle: u32,
+    terms: MeetingTerms<'_>,
     told: Option<&mut E>,
 ) -> Result<Report, Failure<'a>> {
     let side = Side::Local;
-    let near_link = match opened(rt, alloc, near, idle) {
+    let near_link = match opened(rt, alloc, near, terms) {
         Ok(link) => link,
         Err(stop) => return Err(Failure { side, stop }),
     };
     let side = Side::Peer;
-    let far_link = match opened(rt, alloc, far, idle) {
+    let far_link = match opened(rt, alloc, far, terms) {
         Ok(link) => link,
         Err(stop) => {
             near.link = Some(near_link);
@@ -196,7 +202,7 @@ fn opened<'a, N: Net>(
     rt: &N,
     alloc: Global,
     end: &mut End<N::Stream>,
-    idle: u32,
+    terms: MeetingTerms<'_>,
 ) -> Result<Link<N::Stream>, Stop<'a>> {
     if let Some(link) = end.link.take() {
         if link.frames < MOST_FRAMES {
@@ -204,7 +210,8 @@ fn opened<'a, N: Net>(
         }
         let _ = Remote::over(alloc, link).bye();
     }
-    match Sockets(rt).dial(alloc, end.address, idle) {
+    end.frames = 0;
+    match let_in(&Sockets(rt), alloc, end.address, terms.idle, terms.token) {
         Ok(link) => Ok(link),
         Err(fault) => Err(undialed(end.address, fault)),
     }

@@ -1,6 +1,7 @@
 //! The commands that meet a server: sessions of a stored site, and shells.
-ghost use Rattle.std.specs.Prelude.{◌≡◌, ◌≢◌, ◌≤◌, ◌+◌, ◌++◌, [], IsErr, OnOk, string_bytes};
+ghost use Rattle.std.specs.Prelude.{◌≡◌, ◌≢◌, ◌≤◌, ◌+◌, ◌++◌, [], IsErr, OnOk, option_copied, string_bytes};
 ghost use Rattle.std.specs.Io.KnownBytes.{Appends};
+ghost use Rattle.mvd_client.specs.LetIn.{GivesIn};
 ghost use Rattle.mvd_client.specs.Questioned.{AsksFew, questions};
 ghost use Rattle.mvd_client.specs.Reported.{Reports, StopsLeft, refused_text, root_of, session_text};
 ghost use Rattle.mvd_client.specs.Stopped.{StopsFaulted};
@@ -15,7 +16,7 @@ ghost use Rattle.mvd_shell.specs.Shell.{at};
 ghost use Rattle.mvd_remote.specs.Lines.{IsTrueRemote, far_of};
 ghost use Rattle.mvd_remote.specs.Remotes.{RepliesFar};
 
-use crate::dial::{Dial, undialed};
+use crate::dial::{Dial, let_in, undialed};
 use crate::progress::Watched;
 use http_server::Log;
 use mvd_dots::Refusal;
@@ -28,14 +29,15 @@ use mvd_remote::{Line, Remote};
 use mvd_replica::Replica;
 use mvd_shell::shell_run;
 use mvd_sync::{Left, Report, Side, SyncFault, sync};
+use mvd_wire::Token;
 use sqlite::Alter;
 use std::alloc::Global;
 use std::fmt::Write as Print;
 use std::io::{BufRead, Write};
 use std::net::SocketAddr;
 
-/// Runs a session with the server at an address, and says Bye. Where `told` is given, it is told how far the session
-/// is.
+/// Runs a session with the server at an address, to which the token is shown first, if there is one, and says Bye. Where
+/// `told` is given, it is told how far the session is.
 #[tactic(auto, using(crate::proofs::Syncing::pushed_none))]
 pub fn sync_run<'a, D: Dial, S: Alter + Drop, E: Write>(
     dial: &D,
@@ -43,19 +45,22 @@ pub fn sync_run<'a, D: Dial, S: Alter + Drop, E: Write>(
     replica: &mut Replica<S>,
     address: SocketAddr,
     idle: u32,
+    token: Option<&Token>,
     told: Option<&mut E>,
 ) -> Result<Report, Stop<'a>>
     // A session ran over a line that the address gives, and what is told is what came of it; or there is no line.
     ensures syncs { SyncsAt D.Dialed.Line
         (sides_of ⟦<Replica<S> as Peer>⟧ ⟦<Watched<'static, Remote<D::Dialed>, E> as Peer>⟧) (λ watched. watched.side)
-        (D.gives dial.now address) address replica.old replica.new result }
+        (GivesIn D.Dialed.Line (D.gives dial.now address) (option_copied token.entry)) address
+        replica.old replica.new result }
     // Where what the address leads to is true, and so is the site, the two meet.
     ensures meets { AreTrue D.Dialed.Line (D.gives dial.now address) → IsTrueSite (site_of replica.old) →
-        MeetsAt D.Dialed.Line (D.gives dial.now address) address replica.old replica.new result }
+        MeetsAt D.Dialed.Line (GivesIn D.Dialed.Line (D.gives dial.now address) (option_copied token.entry)) address
+        replica.old replica.new result }
     // However it ends, the site changed by pushes alone, and its records follow.
     ensures pushed { FollowsPushed replica.old replica.new }
 {
-    let line = match dial.dial(alloc, address, idle) {
+    let line = match let_in(dial, alloc, address, idle, token) {
         Ok(line) => line,
         Err(fault) => return Err(undialed(address, fault)),
     };
@@ -75,7 +80,7 @@ fn faulted<'a>(address: SocketAddr, fault: SyncFault) -> Stop<'a>
     }
 }
 
-/// Runs a session with the server at an address, says Bye, and tells of it; where `verbose`, also how far it is.
+/// Runs such a session, and tells of it; where `verbose`, also how far it is.
 #[tactic(auto, using(crate::proofs::Syncing::pushed_none))]
 pub fn sync_told<'a, D: Dial, S: Alter + Drop, W: Write, E: Write>(
     dial: &D,
@@ -83,17 +88,20 @@ pub fn sync_told<'a, D: Dial, S: Alter + Drop, W: Write, E: Write>(
     replica: &mut Replica<S>,
     address: SocketAddr,
     idle: u32,
+    token: Option<&Token>,
     verbose: bool,
     writer: &mut W,
     errors: &mut E,
 ) -> Result<(), Stop<'a>>
     // What is printed is what came of the session.
-    ensures tells { TellsSession D.Dialed.Line (D.gives dial.now address) address replica.old replica.new
-        (W.contents writer.old) (W.contents writer.new) result }
+    ensures tells { TellsSession D.Dialed.Line
+        (sides_of ⟦<Replica<S> as Peer>⟧ ⟦<Watched<'static, Remote<D::Dialed>, E> as Peer>⟧) (λ watched. watched.side)
+        (GivesIn D.Dialed.Line (D.gives dial.now address) (option_copied token.entry)) address
+        replica.old replica.new (W.contents writer.old) (W.contents writer.new) result }
     ensures pushed { FollowsPushed replica.old replica.new }
 {
     let told = if verbose { Some(&mut *errors) } else { None };
-    match sync_run(dial, alloc, replica, address, idle, told) {
+    match sync_run(dial, alloc, replica, address, idle, token, told) {
         Ok(report) => tell_report(alloc, replica, &report, writer, errors),
         Err(stop) => Err(stop),
     }
@@ -238,21 +246,24 @@ fn add_root<S: Alter + Drop>(
     Ok(print_root(alloc, digests.own, lines)?)
 }
 
-/// Answers the lines through the server at an address, and says Bye at their end. Where the connection was lost, each
+/// Answers the lines through the server at an address, to which the token is shown first, if there is one, and says Bye at
+/// their end. Where the connection was lost, each
 /// later line is refused so, and so is the Bye.
 pub fn remote_shell_run<'a, D: Dial, R: BufRead, W: Write>(
     dial: &D,
     alloc: Global,
     address: SocketAddr,
     idle: u32,
+    token: Option<&Token>,
     reader: &mut R,
     writer: &mut W,
 ) -> Result<(), Stop<'a>>
     // The shell is over a line that the address gives; or there is no line.
-    ensures shells { ShellsAt D.Dialed.Line (D.gives dial.now address) address
+    ensures shells { ShellsAt D.Dialed.Line
+        (GivesIn D.Dialed.Line (D.gives dial.now address) (option_copied token.entry)) address
         (R.remaining reader.old) (W.contents writer.old) (R.remaining reader.new) (W.contents writer.new) result }
 {
-    let line = match dial.dial(alloc, address, idle) {
+    let line = match let_in(dial, alloc, address, idle, token) {
         Ok(line) => line,
         Err(fault) => return Err(undialed(address, fault)),
     };
@@ -268,7 +279,7 @@ pub fn shell_over<'a, L: Line, R: BufRead, W: Write>(
     reader: &mut R,
     writer: &mut W,
 ) -> Result<(), Stop<'a>>
-    ensures shells { ShellsOver (RepliesFar L.Line) (SaysBye L.Line)
+    ensures shells { ShellsOver (RepliesFar L.Line) (SaysBye L.Line) address
         (at remote.old (R.remaining reader.old) (W.contents writer.old))
         (at remote.new (R.remaining reader.new) (W.contents writer.new)) result }
 {

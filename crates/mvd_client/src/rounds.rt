@@ -118,7 +118,7 @@ pub fn meet_run<'a, N: Net + Clock, W: Write, E: Write>(
     alloc: Global,
     address: SocketAddr,
     with: &str,
-    terms: MeetingTerms,
+    terms: MeetingTerms<'_>,
     writer: &mut W,
     errors: &mut E,
 ) -> Result<(), Stop<'a>>
@@ -145,7 +145,7 @@ fn meet_one<'a, N: Net, W: Write, E: Write>(
     alloc: Global,
     near: &mut End<N::Stream>,
     far: SocketAddr,
-    terms: MeetingTerms,
+    terms: MeetingTerms<'_>,
     writer: &mut W,
     errors: &mut E,
 ) -> Result<(), Stop<'a>> {
@@ -177,7 +177,7 @@ fn meet_each<'a, N: Net, W: Write, E: Write>(
     alloc: Global,
     near: &mut End<N::Stream>,
     addresses: &[SocketAddr],
-    terms: MeetingTerms,
+    terms: MeetingTerms<'_>,
     writer: &mut W,
     errors: &mut E,
 ) -> Result<(), Stop<'a>> {
@@ -216,7 +216,7 @@ fn meet_again<'a, N: Net + Clock, W: Write, E: Write>(
     near: &mut End<N::Stream>,
     addresses: &[SocketAddr],
     repeat: Repeat,
-    terms: MeetingTerms,
+    terms: MeetingTerms<'_>,
     writer: &mut W,
     errors: &mut E,
 ) -> Result<(), Stop<'a>> {
@@ -284,7 +284,7 @@ fn meet_partner<'a, N: Net, W: Write, E: Write>(
     near: &mut End<N::Stream>,
     partner: &mut Partner<N::Stream>,
     every: u32,
-    terms: MeetingTerms,
+    terms: MeetingTerms<'_>,
     writer: &mut W,
     errors: &mut E,
 ) -> Result<(), Stop<'a>> {

@@ -23,7 +23,7 @@ pub returns-in-RemoteShell : goal.returns-in-RemoteShell
 returns-in-RemoteShell g c = record {
   kept = none_back _ _ c.without_file-in-RemoteShell.result c.without_file-in-RemoteShell.ensures;
   given = rw c.in-RemoteShell.is (none_asked c.without_file-in-RemoteShell.result.files);
-  met = rw c.in-RemoteShell.is (subst (λ r. IfOk r (λ _. HasTalked g.D.Dialed.Line (g.D.Dial.gives c.args.dial.now c.in-RemoteShell.address) c.in-RemoteShell.address))
+  met = rw c.in-RemoteShell.is (subst (λ r. IfOk r (λ _. HasTalked g.D.Dialed.Line (g.D.Dial.gives c.args.dial.now c.in-RemoteShell.address) c.in-RemoteShell.address c.in-RemoteShell.token_file))
       (sym c.without_file-in-RemoteShell.ensures.ended) c.run_remote_shell.ensures.talked);
 }
 

@@ -2,8 +2,8 @@ use Rattle.mvd_app.proofs.Dialed.{told_so}
 use Rattle.mvd_app.proofs.Working.{asks_work, pushed_works, served_works}
 use Rattle.mvd_app.proofs.commands.work_on.Goals as goal
 
-pub returns-in-Serve : goal.returns-in-Serve
-returns-in-Serve g c = record {
+pub returns-after-token : goal.returns-after-token
+returns-after-token g c = record {
   works = served_works c.args.replica.now c.serve_run.new.replica c.serve_run.ensures.served;
   tells = rw c.in-Serve.is tt;
 }
@@ -17,5 +17,5 @@ returns-in-Shell g c = record {
 pub returns-in-Sync : goal.returns-in-Sync
 returns-in-Sync g c = record {
   works = pushed_works c.args.replica.now c.sync_told.new.replica c.sync_told.ensures.pushed;
-  tells = rw c.in-Sync.is (told_so _ (g.D.Dial.gives c.args.dial.now) _ _ _ _ _ _ c.new-writer.ensures c.sync_told.ensures.tells);
+  tells = rw c.in-Sync.is (told_so _ _ _ (g.D.Dial.gives c.args.dial.now) _ _ _ _ _ _ _ c.new-writer.ensures c.sync_told.ensures.tells);
 }

@@ -1,4 +1,4 @@
-use Rattle.std.proofs.Common.{refl}
+use Rattle.std.proofs.Common.{inl, inr, refl}
 use Rattle.mvd_client.proofs.peer_commands.shell_over.Goals as goal
 
 pub returns-in-Err : goal.returns-in-Err
@@ -7,9 +7,7 @@ returns-in-Err g c = record {
     last = c.shell_run.new.asked;
     told = c.shell_run.result;
     shells = c.shell_run.ensures.told;
-    whole = tt;
-    bye = rw c.in-Err.is tt;
-    none = rw c.in-Err.is refl;
+    ends = rw c.in-Err.is (refl, c.in_input.result, refl, c.in_input.ensures.fault);
   };
 }
 
@@ -19,9 +17,7 @@ returns-in-Ok-bye g c = record {
     last = c.shell_run.new.asked;
     told = c.shell_run.result;
     shells = c.shell_run.ensures.told;
-    whole = c.in-Ok.is;
-    bye = rw c.in-Ok.is (c.bye.result, c.bye.ensures.asked);
-    none = rw c.in-Ok.is tt;
+    ends = rw c.in-Ok.is (c.bye.result, c.bye.ensures.asked, rw c.in-Ok-bye.is refl);
   };
 }
 
@@ -31,8 +27,26 @@ returns-in-Err-bye g c = record {
     last = c.shell_run.new.asked;
     told = c.shell_run.result;
     shells = c.shell_run.ensures.told;
-    whole = tt;
-    bye = rw c.in-Ok.is (c.bye.result, c.bye.ensures.asked);
-    none = rw c.in-Ok.is tt;
+    ends = rw c.in-Ok.is (
+      c.bye.result,
+      c.bye.ensures.asked,
+      rw c.in-Err-bye.is (
+        c.at_server.result,
+        refl,
+        record {
+          fault = c.at_server.ensures.fault;
+          memory = c.at_server.ensures.memory;
+          clash = c.at_server.ensures.clash;
+          own = c.at_server.ensures.own;
+          no_peer = λ why. elim why [
+            | inl long ↦ c.at_server.ensures.long long
+            | inr (inl kind) ↦ c.at_server.ensures.kind kind
+            | inr (inr body) ↦ c.at_server.ensures.body body
+          ];
+          token = c.at_server.ensures.token;
+          broken = c.at_server.ensures.broken;
+        },
+      ),
+    );
   };
 }

@@ -1,6 +1,7 @@
 //! A session of a stored site with a site at hand, by what `mvd sync` calls.
-ghost use Rattle.std.specs.Prelude.{◌≡◌};
+ghost use Rattle.std.specs.Prelude.{◌≡◌, None};
 ghost use Rattle.std.specs.declared.net.socket_addr.SocketAddr.{SocketAddr};
+ghost use Rattle.mvd_client.specs.LetIn.{GivesIn};
 ghost use Rattle.mvd_client.specs.SyncsAt.{MeetsAt};
 ghost use Rattle.mvd_line_tests.specs.Serving.{IsAtHand};
 ghost use Rattle.mvd_replica.specs.Replicas.{site_of};
@@ -49,10 +50,10 @@ fn sync_at_hand<'a, S: Alter + Drop, E: Write>(
     address: SocketAddr,
     told: Option<&mut E>,
 ) -> Result<Report, Stop<'a>>
-    ensures { IsTrueSite (site_of replica.old) → MeetsAt ⟦<Served as Line>⟧ IsAtHand address
-        replica.old replica.new result }
+    ensures { IsTrueSite (site_of replica.old) → MeetsAt ⟦<Served as Line>⟧
+        (GivesIn ⟦<Served as Line>⟧ IsAtHand None) address replica.old replica.new result }
 {
-    sync_run(&AtHand, alloc, replica, address, 5, told)
+    sync_run(&AtHand, alloc, replica, address, 5, None, told)
 }
 
 /// How many keys a session with it exchanges, of a stored site that holds one.

@@ -112,7 +112,7 @@ fn round_of<S: Alter + Drop, T: Alter + Drop>(
     clients: &mut [Client],
     ready: [u64; 2],
 ) {
-    round(host, replica, &ready);
+    round(alloc, host, replica, &ready);
     for number in ready {
         if let Some(client) = clients.get_mut(number as usize) {
             ask(alloc, single, client);

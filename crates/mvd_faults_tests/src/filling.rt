@@ -62,9 +62,9 @@ fn waiting(host: &Host) -> (usize, usize) {
 }
 
 /// As many rounds as answer all that may be answered.
-fn rounds<S: Alter>(host: &mut Host, replica: &mut Replica<S>) {
+fn rounds<S: Alter>(alloc: Global, host: &mut Host, replica: &mut Replica<S>) {
     for _ in 0..GETS {
-        round(host, replica, &[0]);
+        round(alloc, host, replica, &[0]);
     }
 }
 
@@ -73,7 +73,7 @@ fn filled<S: Alter>(alloc: Global, replica: &mut Replica<S>, bytes: &[u8]) -> (u
     let mut host = Host::new(alloc);
     admit_all(&mut host, 1);
     feed(&mut host, 0, bytes);
-    round(&mut host, replica, &[0]);
+    round(alloc, &mut host, replica, &[0]);
     let told = waiting(&host);
     drop(host);
     (told.0, replica.commits())
@@ -87,7 +87,7 @@ fn pressed<S: Alter>(alloc: Global, replica: &mut Replica<S>) -> (usize, usize, 
     let put = put(alloc);
     for _ in 0..PUTS {
         feed(&mut host, 0, put.as_slice());
-        round(&mut host, replica, &[0]);
+        round(alloc, &mut host, replica, &[0]);
         drop_waiting(&mut host, 0);
     }
     drop(put);
@@ -97,7 +97,7 @@ fn pressed<S: Alter>(alloc: Global, replica: &mut Replica<S>) -> (usize, usize, 
     let mut most = (0, 0);
     let mut all = 0usize;
     for _ in 0..GETS {
-        rounds(&mut host, replica);
+        rounds(alloc, &mut host, replica);
         let now = waiting(&host);
         all = all.saturating_add(now.0);
         most = (now.0.max(most.0), now.1.max(most.1));

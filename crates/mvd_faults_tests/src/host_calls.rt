@@ -3,7 +3,7 @@ ghost use Rattle.std.specs.Prelude.{◌≤◌, length};
 ghost use Rattle.mvd_host.specs.Hosts.{IfClient, client_of};
 
 use super::replica_calls::{Bytes, ROOM};
-use mvd_host::{Host, Tally};
+use mvd_host::{Feed, Host, Tally};
 use mvd_replica::Replica;
 use sqlite::Alter;
 use std::alloc::Global;
@@ -14,7 +14,7 @@ use std::alloc::Global;
 pub fn admit_all(host: &mut Host, count: usize) {
     for _ in 0..=count {
         if host.len() < count {
-            let _ = host.admit();
+            let _ = host.admit(None);
         }
     }
 }
@@ -58,13 +58,14 @@ pub fn drop_waiting(host: &mut Host, client: u64) {
     host.sent(client, count);
 }
 
-pub fn round<S: Alter>(host: &mut Host, replica: &mut Replica<S>, ready: &[u64]) {
-    let _ = host.round(replica, ready, &mut Tally::new());
+pub fn round<S: Alter>(alloc: Global, host: &mut Host, replica: &mut Replica<S>, ready: &[u64]) {
+    let mut changes = Feed::new(alloc);
+    let _ = host.round(replica, ready, &mut Tally::new(), &mut changes);
 }
 
 /// Sends these frames, one of each of the first three clients, which are answered at once. It is done again where
 /// memory was refused.
-fn send<S: Alter>(host: &mut Host, replica: &mut Replica<S>, frames: &[&str]) {
+fn send<S: Alter>(alloc: Global, host: &mut Host, replica: &mut Replica<S>, frames: &[&str]) {
     for (client, frame) in (0..3u64).zip(frames) {
         let bytes = Bytes::of(&[frame]);
         if feed(host, client, bytes.bytes()) == 0 {
@@ -72,7 +73,7 @@ fn send<S: Alter>(host: &mut Host, replica: &mut Replica<S>, frames: &[&str]) {
         }
     }
     for _ in 0..2u32 {
-        round(host, replica, &[0, 1, 2]);
+        round(alloc, host, replica, &[0, 1, 2]);
     }
 }
 
@@ -83,7 +84,7 @@ pub fn told_by_three<S: Alter>(alloc: Global, replica: &mut Replica<S>, frames: 
     let mut host = Host::new(alloc);
     admit_all(&mut host, 3);
     for each in frames.chunks(3) {
-        send(&mut host, replica, each);
+        send(alloc, &mut host, replica, each);
     }
     for client in 0..3u64 {
         output.put(take(&mut host, client, ROOM).bytes());

@@ -30,3 +30,5 @@ mod stops;
 mod stream_ways;
 #[cfg(test)]
 mod streams;
+#[cfg(test)]
+mod tokens;

@@ -45,6 +45,24 @@ const KEY: &str = "\
 ff+255
 ";
 
+const PREFIX: &str = "\
+00
+00
+0161
+7f+127
+80+128
+81+129
+0120
+";
+
+const TOKEN: &str = "\
+0000
+0001+1
+0100+256
+0101+257
+ffff
+";
+
 const CONTEXT: &str = "\
 00000000
 00000000
@@ -168,6 +186,11 @@ const KINDS: &str = "\
 29 kcmvdvd
 2a nttz
 2a nttstkv
+2b az
+2b ask
+2c z
+2c sk
+2d h
 20 k
 a1 covd
 2f -
@@ -176,6 +199,8 @@ a1 covd
 fn forms_of(piece: u8) -> &'static str {
     match piece {
         b'k' => KEY,
+        b'a' => PREFIX,
+        b'h' => TOKEN,
         b'c' => CONTEXT,
         b'd' => DOCUMENT,
         b't' => TERM,

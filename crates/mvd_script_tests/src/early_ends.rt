@@ -43,6 +43,19 @@ const BAD_LINES: &[(&str, &str, u64)] = &[
     ("sites 2\nsync 1\n", "", 2),
     ("sites 2\nsync 1 2 \n", "", 2),
     ("sites 2\nsync 1 x\n", "", 2),
+    ("sites 1\nkeys 1 a\nkeys 1 \n", "none\n", 3),
+    ("sites 1\nkeys 1 a \n", "", 2),
+    ("sites 1\nkeys 1 a b\n", "", 2),
+    ("sites 1\nkeys\n", "", 2),
+    ("sites 1\nkeys \n", "", 2),
+    ("sites 1\nkeys a\n", "", 2),
+    ("sites 1\nkeys 01\n", "", 2),
+    ("keys 1\n", "", 1),
+    ("sites 1\nconflicts 1\nconflicts 1 a\n", "none\n", 3),
+    ("sites 1\nconflicts 1 \n", "", 2),
+    ("sites 1\nconflicts\n", "", 2),
+    ("sites 1\nget 1\n", "", 2),
+    ("sites 1\nrows 1\n", "", 2),
 ];
 
 /// Whether the bytes end as a script at the line of this number, and print this before.

@@ -10,6 +10,8 @@ mod list_scripts;
 #[cfg(test)]
 mod long;
 #[cfg(test)]
+mod order_lines;
+#[cfg(test)]
 mod orders;
 #[cfg(test)]
 mod random_scripts;
@@ -21,3 +23,5 @@ mod scripts;
 mod session_scripts;
 #[cfg(test)]
 mod text_scripts;
+#[cfg(test)]
+mod token_texts;

@@ -20,6 +20,8 @@ enum Long {
     Changes,
     /// So many keys, each in a group of its own, under one term of an index; and then these questions.
     Keys(u32, &'static str),
+    /// So many keys with two siblings each, and then these questions.
+    Conflicts(u32, &'static str),
 }
 
 /// Adds so many letters.
@@ -44,8 +46,17 @@ fn push_document(out: &mut String, letters: u32) -> Result<(), AllocError> {
     out.push_str("\"}\n")
 }
 
+/// Asks for the keys that begin with a prefix of so many letters.
+fn push_prefix(out: &mut String, letters: u32) -> Result<(), AllocError> {
+    out.push_str("keys 1 ")?;
+    push_letters(out, letters)?;
+    out.push_str("\n")
+}
+
 fn push_limits(out: &mut String) -> Result<(), AllocError> {
     out.push_str("sites 1\n")?;
+    push_prefix(out, 128)?;
+    push_prefix(out, 129)?;
     push_key(out, 128)?;
     push_key(out, 129)?;
     push_document(out, 65_528)?;
@@ -100,6 +111,14 @@ fn push_keys(out: &mut String, keys: u32, questions: &str) -> Result<(), AllocEr
     out.push_str(questions)
 }
 
+fn push_conflicts(out: &mut String, keys: u32, questions: &str) -> Result<(), AllocError> {
+    out.push_str("sites 1\n")?;
+    for key in 0..keys {
+        writeln!(out, "put 1 k{key} - {{}}\nput 1 k{key} - {{}}")?;
+    }
+    out.push_str(questions)
+}
+
 fn push_long(out: &mut String, long: Long) -> Result<(), AllocError> {
     match long {
         Long::Limits => push_limits(out),
@@ -108,6 +127,7 @@ fn push_long(out: &mut String, long: Long) -> Result<(), AllocError> {
         Long::Turns => push_turns(out),
         Long::Changes => push_changes(out),
         Long::Keys(keys, questions) => push_keys(out, keys, questions),
+        Long::Conflicts(keys, questions) => push_conflicts(out, keys, questions),
     }
 }
 
@@ -130,7 +150,8 @@ fn prints(alloc: Global, long: Long, count: usize, last: &str) -> Result<bool, F
     Ok(text.lines().count() == count && text.ends_with(last))
 }
 
-const AT_LIMITS: &str = "dot 1:1\nrefused 1 BadKey\ndot 1:1\nrefused 6 DocumentTooLong\n";
+const AT_LIMITS: &str =
+    "none\nrefused 1 BadKey\ndot 1:1\nrefused 1 BadKey\ndot 1:1\nrefused 6 DocumentTooLong\n";
 
 const OF_SIBLINGS: &str =
     "dot 1:1\ndot 1:2\ndot 1:3\ndot 1:4\ndot 1:5\ndot 1:6\ndot 1:7\ndot 1:8\ndot 1:9\ndot 1:10\ndot 1:11\n\
@@ -139,15 +160,27 @@ const OF_SIBLINGS: &str =
 const LAST_ROOT: &str = "fe63bf067988a1893dd1d0f58fc1698996b8a74d032d73a900e3f9580aa48087\n";
 
 /// Scripts, how many lines they print, and the last of these.
-const SCRIPTS: [(Long, usize, &str); 4] = [
-    (Long::Limits, 4, AT_LIMITS),
+const SCRIPTS: [(Long, usize, &str); 6] = [
+    (Long::Limits, 6, AT_LIMITS),
     (Long::Siblings, 18, OF_SIBLINGS),
     (Long::Comments(262_144, false), 0, ""),
-    // Lists of more than a page.
+    // Lists of more than a page, and of just one.
     (
-        Long::Keys(1_001, "find 1 n 1\nrows 1 v\nrange 1 n [1,1]\n"),
-        4_004,
-        "1 k999 1:1\n",
+        Long::Keys(
+            1_001,
+            "find 1 n 1\nrows 1 v\nrange 1 n [1,1]\nkeys 1\nkeys 1 k9\n",
+        ),
+        5_116,
+        "\nk998 1\nk999 1\n",
+    ),
+    (Long::Keys(1_000, "keys 1 k\n"), 2_000, "\nk998 1\nk999 1\n"),
+    (
+        Long::Conflicts(
+            1_001,
+            "conflicts 1\nput 1 k999 @ {}\nconflicts 1\nkeys 1 k99\n",
+        ),
+        4_015,
+        "\nk998 2\nk999 1\n",
     ),
 ];
 
@@ -176,8 +209,8 @@ fn digests_after_many_changes(rt: HostRuntime) -> Result<(), Fail> {
 
 #[test]
 fn lists_of_many_keys(rt: HostRuntime) -> Result<(), Fail> {
-    let long = Long::Keys(100_000, "find 1 n 1\nrows 1 v\nrow 1 v 7\n");
-    assert!(rt; prints(rt.alloc(), long, 300_001, "\n99999 1 1 1 1\n1 1 1 1\n")?);
+    let long = Long::Keys(100_000, "find 1 n 1\nrows 1 v\nkeys 1\nrow 1 v 7\n");
+    assert!(rt; prints(rt.alloc(), long, 400_001, "\nk99999 1\n1 1 1 1\n")?);
     Ok(())
 }
 

@@ -10,14 +10,15 @@ use std::test::Fail;
 /// behind it.
 const SCRIPT: &str =
     "sites 2\nindex n\nview v n n\nput 1 k - {\"n\":1}\nrange 1 n [0,9]\nsend 1 k\nrecv 2 1\n\
-    put 2 k @ {\"n\":2}\nfind 2 n 2\nrows 2 v\nput 1 m - {\"n\":3}\nrow 1 v 3\ndel 1 m 1:1\nroot 1\nsync 1 2\n\
-    get 2 k\n";
+    put 2 k @ {\"n\":2}\nfind 2 n 2\nrows 2 v\nput 1 m - {\"n\":3}\nrow 1 v 3\ndel 1 m 1:1\nroot 1\n\
+    put 2 j - {\"n\":4}\nput 2 j - {\"n\":5}\nconflicts 2\nkeys 2 k\nsync 1 2\nget 2 k\n";
 
 const HEAD_LINES: usize = 3;
 
 const PRINTED: &str =
     "dot 1:1\n1 k 1:1\nmessage 1\nok\ndot 2:1\nk 2:1\n2 1 2 2 2\ndot 1:1\n1 3 3 3\nok\n\
-    c9b4e8c078ef9a25f9ce5dbc2d930b395a2f082cf1debd9ea849997ea04723ec\nkeys 2\ncontext 1:1,2:1\n2:1 {\"n\":2}\n";
+    c9b4e8c078ef9a25f9ce5dbc2d930b395a2f082cf1debd9ea849997ea04723ec\ndot 2:1\ndot 2:2\nj 2\nk 1\n\
+    keys 3\ncontext 1:1,2:1\n2:1 {\"n\":2}\n";
 
 /// How a script ended.
 #[derive(Clone, Copy, PartialEq, Eq)]

@@ -1,5 +1,5 @@
 //! Scripts, and what they print.
-use crate::list_scripts::{INDEXES, VIEWS};
+use crate::list_scripts::{INDEXES, KEYS, VIEWS};
 use crate::session_scripts::{MEETINGS, REFUSALS};
 use crate::text_scripts::{CONTEXTS, DOCUMENTS, TERMS};
 use mvd_input::Fault;
@@ -194,7 +194,7 @@ const FORMS: &[Case] = &[
 #[test]
 fn scripts_print_what_is_told(rt: HostRuntime) -> Result<(), Fail> {
     let tables = [
-        BASICS, LIMITS, NODES, FORMS, CONTEXTS, DOCUMENTS, TERMS, INDEXES, VIEWS, MEETINGS,
+        BASICS, LIMITS, NODES, FORMS, CONTEXTS, DOCUMENTS, TERMS, INDEXES, VIEWS, KEYS, MEETINGS,
         REFUSALS,
     ];
     for cases in tables {

@@ -1,9 +1,12 @@
 //! A site, asked over HTTP.
 use crate::key_requests::{ESCAPES, REFUSALS, WRITES};
 use crate::list_requests::{LISTS, OTHERS};
+use crate::many_requests::{MANY, OTHER_LINES, REFUSED_LINES};
 use mvd_docs::{Field, ViewName};
 use mvd_dots::Refusal;
-use mvd_http::{Question, question_of, refused_response, response_of};
+use mvd_http::{
+    Fault, Question, live_response_of, push_line, question_of, refused_response, response_of,
+};
 use mvd_rows::Defs;
 use mvd_site::{Config, Site};
 use mvd_wire::{Reply, Request};
@@ -60,6 +63,49 @@ fn asked_of(
     Ok(response_of(alloc, request, &reply, out)?)
 }
 
+/// The same, without the keys that have no sibling.
+fn live_of(
+    alloc: Global,
+    site: &mut Site,
+    request: &Request,
+    out: &mut String,
+) -> Result<u16, Refusal> {
+    let reply = answered(site, request);
+    Ok(live_response_of(alloc, request, &reply, out)?)
+}
+
+/// Each write in turn.
+fn all_of(
+    site: &mut Site,
+    items: &[Result<Request, Refusal>],
+    out: &mut String,
+) -> Result<u16, Refusal> {
+    for item in items {
+        match item {
+            Ok(request) => push_line(out, &answered(site, request))?,
+            Err(refusal) => push_line(out, &Reply::Refused(*refusal))?,
+        }
+    }
+    Ok(200)
+}
+
+fn tell(out: &mut String, fault: Fault) -> Result<u16, Refusal> {
+    out.push_str(fault.body())?;
+    Ok(fault.status().as_u16())
+}
+
+/// The last byte of a root, and the seconds.
+fn tell_since(out: &mut String, since: Option<[u8; 32]>, wait: u32) -> Result<u16, Refusal> {
+    match since {
+        Some(root) => {
+            let last = root[31];
+            write!(out, "{last} {wait}")?;
+        }
+        None => write!(out, "None {wait}")?,
+    }
+    Ok(200)
+}
+
 fn told(
     alloc: Global,
     site: &mut Site,
@@ -68,8 +114,12 @@ fn told(
 ) -> Result<u16, Refusal> {
     match asked {
         Question::Ask(request) => asked_of(alloc, site, request, out),
-        Question::Nowhere => Ok(404),
-        Question::NotAllowed(_) => Ok(405),
+        Question::Live(request) => live_of(alloc, site, request, out),
+        Question::Many(items) => all_of(site, items.as_slice(), out),
+        Question::Changes(since, wait) => tell_since(out, *since, *wait),
+        Question::TooManyLines => tell(out, Fault::ContentTooLarge),
+        Question::Nowhere => tell(out, Fault::NotFound),
+        Question::NotAllowed(_) => tell(out, Fault::MethodNotAllowed),
         _ => Ok(200),
     }
 }
@@ -118,9 +168,41 @@ fn told_well(alloc: Global, rows: &[Row]) -> Result<usize, Refusal> {
 
 #[test]
 fn requests_are_told(rt: HostRuntime) -> Result<(), Fail> {
-    for rows in [WRITES, ESCAPES, REFUSALS, LISTS, OTHERS] {
+    for rows in [
+        WRITES,
+        ESCAPES,
+        REFUSALS,
+        LISTS,
+        OTHERS,
+        MANY,
+        REFUSED_LINES,
+        OTHER_LINES,
+    ] {
         let told = told_well(rt.alloc(), rows)?;
         assert!(rt; told == rows.len(), "{told}");
     }
+    Ok(())
+}
+
+/// A list of so many writes.
+fn lines(alloc: Global, count: usize) -> Result<String, Refusal> {
+    let mut body = String::new(alloc);
+    for _ in 0..count {
+        body.push_str("{\"key\":\"k\",\"context\":\"-\"}\n")?;
+    }
+    Ok(body)
+}
+
+/// Whether so many writes are too many.
+fn are_too_many(alloc: Global, count: usize) -> Result<bool, Refusal> {
+    let body = lines(alloc, count)?;
+    let asked = question_of(alloc, b"POST", b"/keys", None, body.as_bytes())?;
+    Ok(matches!(asked, Question::TooManyLines))
+}
+
+#[test]
+fn a_thousand_lines_are_the_most(rt: HostRuntime) -> Result<(), Fail> {
+    assert!(rt; !are_too_many(rt.alloc(), 1_000)?);
+    assert!(rt; are_too_many(rt.alloc(), 1_001)?);
     Ok(())
 }

@@ -132,6 +132,20 @@ pub const REFUSALS: &[Row] = &[
         400,
         "{\"refused\":5,\"name\":\"BadNumber\"}",
     ),
-    ("POST", "/keys/k", None, b"{}", 405, ""),
-    ("GET", "/nothing", None, b"", 404, ""),
+    (
+        "POST",
+        "/keys/k",
+        None,
+        b"{}",
+        405,
+        "{\"refused\":0,\"name\":\"MethodNotAllowed\"}",
+    ),
+    (
+        "GET",
+        "/nothing",
+        None,
+        b"",
+        404,
+        "{\"refused\":0,\"name\":\"NotFound\"}",
+    ),
 ];

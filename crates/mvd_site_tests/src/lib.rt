@@ -13,6 +13,8 @@ mod list_requests;
 #[cfg(test)]
 mod many_keys;
 #[cfg(test)]
+mod many_requests;
+#[cfg(test)]
 mod mistaken;
 #[cfg(test)]
 mod peers;

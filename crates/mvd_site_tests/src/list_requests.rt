@@ -114,13 +114,13 @@ pub const OTHERS: &[Row] = &[
     ),
     (
         "GET",
-        "/keys?path=A",
+        "/tree?path=A",
         None,
         b"",
         400,
         "{\"refused\":14,\"name\":\"BadPath\"}",
     ),
-    ("GET", "/keys?path=000", None, b"", 200, "{\"keys\":[]}"),
+    ("GET", "/tree?path=000", None, b"", 200, "{\"keys\":[]}"),
 ];
 
 /// A host and an origin, if a request names them, and whether they are the server's own.

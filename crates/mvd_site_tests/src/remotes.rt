@@ -10,7 +10,7 @@ use mvd_remote::{Duplex, Remote};
 use mvd_rows::Defs;
 use mvd_site::{Config, Site};
 use mvd_sync::SyncFault;
-use mvd_wire::Request;
+use mvd_wire::{Request, Token};
 use std::alloc::Global;
 
 /// A site at the other end that gives these bytes, and keeps what it is sent.
@@ -63,8 +63,24 @@ pub fn are_ended(local: &mut Counting) -> bool {
         && ends(local, &told, refused, Ok(()), 11)
 }
 
+/// Whether a Hello is refused as the reply says, and the next one is taken.
+fn is_let_in(remote: &mut Link, token: &Token) -> bool {
+    remote.hello(token) == Err(Refusal::NotAdmitted) && remote.hello(token) == Ok(())
+}
+
+/// Whether it is so, and just two Hellos went out.
+pub fn says_hello(alloc: Global) -> Result<bool, Refusal> {
+    let token = Token::read(alloc, b"ab")?;
+    let replies = [0, 0, 0, 2, 0xEE, 0x26, 0, 0, 0, 1, 0xA3];
+    let mut remote = Remote::new(alloc, replies.as_slice(), Vec::new(alloc));
+    let is_let_in = is_let_in(&mut remote, &token);
+    let (_, written) = remote.into_parts();
+    let hello = b"\0\0\0\x05\x2D\0\x02ab\0\0\0\x05\x2D\0\x02ab";
+    Ok(is_let_in && written.as_slice() == hello.as_slice())
+}
+
 /// A request of each kind, and the kind of its reply.
-const REQUESTS: [(u8, &[u8], u8); 11] = [
+const REQUESTS: [(u8, &[u8], u8); 14] = [
     (0x21, &[1, 0x6B], 0xA1),
     (0x22, &[1, 0x6B, 0, 0, 0, 0, 0, 0, 0, 2, b'{', b'}'], 0xA2),
     (0x23, &[1, 0x6B, 0, 0, 0, 0], 0xA3),
@@ -75,11 +91,14 @@ const REQUESTS: [(u8, &[u8], u8); 11] = [
     (0x28, &[3, 0, 0, 0, 0], 0xA8),
     (0x29, &[1, 0x6B, 0, 0, 0, 0, 0, 0], 0xA3),
     (0x2A, &[0, 1, b'a', 0, 0, 0], 0xA4),
+    (0x2B, &[0, 0], 0xA9),
+    (0x2C, &[0], 0xA9),
+    (0x2D, &[0, 0], 0xA3),
     (0x2F, &[], 0xA3),
 ];
 
 /// The kind of a reply and what follows it, which is zeros but for a dot, and how many of these there are.
-const REPLIES: [(u8, u8); 8] = [
+const REPLIES: [(u8, u8); 9] = [
     (0xA1, 6),
     (0xA2, 12),
     (0xA3, 0),
@@ -88,6 +107,7 @@ const REPLIES: [(u8, u8); 8] = [
     (0xA6, 3),
     (0xA7, 33),
     (0xA8, 3),
+    (0xA9, 3),
 ];
 
 fn frame_of(reply: (u8, u8)) -> [u8; 38] {

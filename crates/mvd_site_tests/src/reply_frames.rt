@@ -34,11 +34,12 @@ fn comes_back(alloc: Global, bytes: &[u8]) -> Result<bool, Refusal> {
     Ok(input.is_empty() && is_spelled(alloc, frame.kind, frame.payload.as_slice(), bytes)?)
 }
 
-/// Short replies, empty ones, a row of three siblings, the digest of a bucket, and places.
+/// Short replies, empty ones, a row of three siblings, the digest of a bucket, places, and keys with numbers.
 const REPLIES: &[&[u8]] = &[
     b"\0\0\0\x0D\xA2\0\0\0\x01\0\0\0\0\0\0\0\x01",
     b"\0\0\0\x01\xA3",
     b"\0\0\0\x02\xEE\x1E",
+    b"\0\0\0\x02\xEE\x26",
     b"\0\0\0\x07\xA1\0\0\0\0\0\0",
     b"\0\0\0\x04\xA6\x01\0\0",
     b"\0\0\0\x04\xA8\0\0\0",
@@ -47,7 +48,17 @@ const REPLIES: &[&[u8]] = &[
     b"\0\0\0\x19\xA4\0\0\x01\x04\0\x04Oslo\x01a\0\0\0\x01\0\0\0\0\0\0\0\x01",
     b"\0\0\0\x43\xA4\0\0\x03\x04\0\x04Oslo\x01a\0\0\0\x01\0\0\0\0\0\0\0\x01\
         \x04\0\x04Oslo\x01a\0\0\0\x01\0\0\0\0\0\0\0\x02\x04\0\x04Oslo\x01b\0\0\0\x01\0\0\0\0\0\0\0\x01",
+    b"\0\0\0\x04\xA9\0\0\0",
+    b"\0\0\0\x0A\xA9\0\0\x01\x01k\0\0\0\x01",
+    b"\0\0\0\x10\xA9\x01\0\x02\x01a\0\0\0\x02\x01b\xFF\xFF\xFF\xFF",
 ];
+
+/// A Hello with a token of 256 bytes, which none is longer than.
+fn longest_hello() -> [u8; 263] {
+    let mut frame = [0x7A; 263];
+    frame[..7].copy_from_slice(b"\0\0\x01\x03\x2D\x01\0");
+    frame
+}
 
 #[test]
 fn frames_come_back(rt: HostRuntime) -> Result<(), Fail> {
@@ -56,6 +67,7 @@ fn frames_come_back(rt: HostRuntime) -> Result<(), Fail> {
             assert!(rt; comes_back(rt.alloc(), frame)?);
         }
     }
+    assert!(rt; comes_back(rt.alloc(), &longest_hello())?);
     Ok(())
 }
 
@@ -121,7 +133,14 @@ fn page_fault(alloc: Global, count: u64) -> Result<u8, Refusal> {
 }
 
 /// A kind and a payload that are refused as 33.
-const REFUSED: [(u8, &[u8]); 3] = [(0xEE, &[18]), (0xA4, &[2, 0, 0]), (0xA4, &[0, 3, 0xE9])];
+const REFUSED: [(u8, &[u8]); 6] = [
+    (0xEE, &[18]),
+    (0xEE, &[39]),
+    (0xA4, &[2, 0, 0]),
+    (0xA4, &[0, 3, 0xE9]),
+    (0xA9, &[0, 3, 0xE9]),
+    (0xA9, &[0, 0, 1, 1, 0x6B, 0, 0, 0]),
+];
 
 #[test]
 fn other_frames_are_refused(rt: HostRuntime) -> Result<(), Fail> {

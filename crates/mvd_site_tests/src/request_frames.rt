@@ -11,7 +11,7 @@ pub fn is_request(alloc: Global, kind: u8, payload: &[u8], bytes: &[u8]) -> Resu
     Ok(frame?.as_slice() == bytes)
 }
 
-/// A get and two writes, a push and the end, finds, questions to views, and questions to the tree.
+/// A get and two writes, a push and the end, finds, questions to views and to the tree, questions for keys, and hellos.
 pub const REQUESTS: &[&[u8]] = &[
     b"\0\0\0\x03\x21\x01k",
     b"\0\0\0\x12\x22\x01k\0\0\0\0\0\0\0\x07{\"a\":1}",
@@ -28,10 +28,16 @@ pub const REQUESTS: &[&[u8]] = &[
     b"\0\0\0\x02\x27\0",
     b"\0\0\0\x05\x27\x03\0\x0F\x08",
     b"\0\0\0\x06\x28\x01\x02\x01\x01k",
+    b"\0\0\0\x03\x2B\0\0",
+    b"\0\0\0\x07\x2B\x02!~\x01\x01k",
+    b"\0\0\0\x02\x2C\0",
+    b"\0\0\0\x04\x2C\x01\x01k",
+    b"\0\0\0\x03\x2D\0\0",
+    b"\0\0\0\x05\x2D\0\x02\xFF\0",
 ];
 
 /// A kind and a payload, and the number with which they are refused.
-pub const REFUSED_REQUESTS: [(u8, &[u8], u8); 18] = [
+pub const REFUSED_REQUESTS: [(u8, &[u8], u8); 27] = [
     (
         0x22,
         b"\x01k\0\0\0\x01\0\0\0\x01\0\0\0\0\0\0\0\x01\0\0\0\x01\0\0\0\0\0\0\0\x02\0\0\0\x07{\"a\":1}",
@@ -75,6 +81,16 @@ pub const REFUSED_REQUESTS: [(u8, &[u8], u8); 18] = [
     (0x25, b"\x00\x01v\x05", 15),
     (0x25, b"\x00\x01v\x04\x02\x01", 15),
     (0x25, b"\x00\x01v\x04\x00\x01\xFF", 15),
+    (0x2B, b"\x81", 1),
+    (0x2B, b"\x01\x20\0", 1),
+    (0x2B, b"\x01\x7F\0", 1),
+    (0x2B, b"\x02a", 33),
+    (0x2B, b"\0", 33),
+    (0x2C, b"\x02", 33),
+    (0x2D, b"\0\x01", 33),
+    (0x2D, b"\0\0\0", 33),
+    // A token of 257 bytes.
+    (0x2D, &[1; 259], 33),
 ];
 
 /// The number with which a request is refused, or 0.

@@ -59,6 +59,30 @@ const APART: [Asked; 4] = [
     ),
 ];
 
+/// The keys of a site that holds none, then one, then one in conflict; and hellos.
+const KEYS: [Asked; 12] = [
+    (0x2B, b"\0\0", b"\0\0\0\x04\xA9\0\0\0"),
+    (0x2C, b"\0", b"\0\0\0\x04\xA9\0\0\0"),
+    (
+        0x22,
+        b"\x01k\0\0\0\0\0\0\0\x07{\"a\":1}",
+        b"\0\0\0\x0D\xA2\0\0\0\x03\0\0\0\0\0\0\0\x01",
+    ),
+    (0x2B, b"\0\0", b"\0\0\0\x0A\xA9\0\0\x01\x01k\0\0\0\x01"),
+    (0x2B, b"\x01l\0", b"\0\0\0\x04\xA9\0\0\0"),
+    (0x2B, b"\x01k\x01\x01k", b"\0\0\0\x04\xA9\0\0\0"),
+    (0x2C, b"\0", b"\0\0\0\x04\xA9\0\0\0"),
+    (
+        0x22,
+        b"\x01k\0\0\0\0\0\0\0\x02{}",
+        b"\0\0\0\x0D\xA2\0\0\0\x03\0\0\0\0\0\0\0\x02",
+    ),
+    (0x2C, b"\x01\x01a", b"\0\0\0\x0A\xA9\0\0\x01\x01k\0\0\0\x02"),
+    (0x2C, b"\x01\x01k", b"\0\0\0\x04\xA9\0\0\0"),
+    (0x2D, b"\0\0", b"\0\0\0\x01\xA3"),
+    (0x2D, b"\0\x02\xFF\0", b"\0\0\0\x01\xA3"),
+];
+
 fn requests_of(alloc: Global, asked: &[Asked]) -> Result<Vec<Request>, Refusal> {
     let mut requests = Vec::new(alloc);
     for (kind, payload, _) in asked {
@@ -142,6 +166,7 @@ fn prepares_two(alloc: Global) -> Result<bool, Refusal> {
 #[test]
 fn a_site_is_run(rt: HostRuntime) -> Result<(), Fail> {
     assert!(rt; talks(rt.alloc(), &TALK)? && talks(rt.alloc(), &APART)?);
+    assert!(rt; talks(rt.alloc(), &KEYS)?);
     assert!(rt; prepares_two(rt.alloc())?);
     Ok(())
 }

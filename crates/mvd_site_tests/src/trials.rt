@@ -1,11 +1,12 @@
 //! What is tried of two sites that hold no key.
 use crate::liars::{Lie, are_out_of_form, changes_nothing, refusals, stop};
-use crate::many_keys::ask_few;
+use crate::many_keys::{are_paged, ask_few};
 use crate::mistaken::takes_what_is_given;
 use crate::peers::Counting;
 use crate::refused_growth::session_of;
 use crate::remotes::{
-    are_ended, end_with_other_kinds, meets_over_a_line, take_their_kinds, windows_are_whole,
+    are_ended, end_with_other_kinds, meets_over_a_line, says_hello, take_their_kinds,
+    windows_are_whole,
 };
 use crate::two_sites::{are_asked, clash, tells_old};
 use mvd_dots::Refusal;
@@ -24,10 +25,12 @@ pub enum Trial {
     Stops,
     Mistaken,
     Links,
+    Hello,
     Kinds,
     Replies,
     Windows,
     Line,
+    Pages,
     Growth,
 }
 
@@ -44,6 +47,8 @@ fn holds_of(one: &mut Counting, two: &mut Counting, trial: Trial) -> Result<bool
         Trial::Stops => Ok(stop(one, two)),
         Trial::Mistaken => takes_what_is_given(one, two),
         Trial::Links => Ok(are_ended(one)),
+        Trial::Hello => says_hello(one.alloc),
+        Trial::Pages => are_paged(one),
         Trial::Kinds => Ok(end_with_other_kinds(one)),
         Trial::Replies => take_their_kinds(one.alloc),
         Trial::Windows => windows_are_whole(one.alloc),
@@ -69,7 +74,7 @@ pub fn holds(alloc: Global, number: u32, max_keys: u32, trial: Trial) -> Result<
 }
 
 /// What holds, with the number of the second site, and how many keys each site may have.
-const CASES: [(&str, u32, u32, Trial); 12] = [
+const CASES: [(&str, u32, u32, Trial); 14] = [
     ("so many questions and no more", 2, 10, Trial::Asked),
     ("states that clash are left", 1, 10, Trial::Clash),
     ("an old copy is told", 2, 10, Trial::Old),
@@ -105,6 +110,8 @@ const CASES: [(&str, u32, u32, Trial); 12] = [
         Trial::Kinds,
     ),
     ("a reply of every other kind is 32", 2, 10, Trial::Replies),
+    ("a token is shown, and may be refused", 2, 10, Trial::Hello),
+    ("keys come by the thousand", 2, 1_001, Trial::Pages),
     ("a window is read and written whole", 2, 10, Trial::Windows),
     ("a session over a line to a site", 2, 10, Trial::Line),
 ];

@@ -1,0 +1,247 @@
+//! Command lines, and what comes of each.
+
+/// What comes of a line: an order of this command, a number that is out of its range, or a refusal or a help that
+/// says this.
+#[derive(Clone, Copy)]
+pub enum Wanted {
+    Serve,
+    Sync,
+    MeetOnce,
+    Meet,
+    MeetCounted,
+    ServeToken,
+    SyncToken,
+    MeetToken,
+    ShellToken,
+    RemoteShellToken,
+    Loop,
+    Sim,
+    Shell,
+    RemoteShell,
+    Range,
+    Says(&'static str),
+}
+
+const BAD_ADDRESS: &str = "mvd serve --db f --site 1 --port 1 --address here";
+
+const SHELL: &str =
+    "Usage: mvd shell --db <FILE> --site <N> [--defs <FILE>] [--max-keys <N>] [--token-file <FILE>]\n       \
+    mvd shell --port <P>";
+
+pub const LINES: &[(&str, Wanted)] = &[
+    (
+        "mvd serve --db f --site 1 --port 1 --http 65535 --conns 1 --idle 1 --clients 10000",
+        Wanted::Serve,
+    ),
+    (
+        "mvd sync --db f --site 4294967295 --port 65535 --defs d --max-keys 1 --address 10.0.0.1 --idle 86400 --verbose",
+        Wanted::Sync,
+    ),
+    ("mvd sync --port 1 --with 2", Wanted::MeetOnce),
+    (
+        "mvd sync --port 1 --with 2,10.0.0.1:7007 --every 5",
+        Wanted::Meet,
+    ),
+    (
+        "mvd sync --port 1 --with [::1]:65535 --every 3600 --times 1000000 --idle 1 --verbose",
+        Wanted::MeetCounted,
+    ),
+    ("mvd loop --site 7", Wanted::Loop),
+    ("mvd sim", Wanted::Sim),
+    ("mvd shell --db f --site 2 --max-keys 9", Wanted::Shell),
+    ("mvd shell --port 7", Wanted::RemoteShell),
+    // With a file that holds a token.
+    (
+        "mvd serve --db f --site 1 --port 1 --token-file t",
+        Wanted::ServeToken,
+    ),
+    (
+        "mvd sync --db f --site 1 --port 1 --token-file t/u",
+        Wanted::SyncToken,
+    ),
+    (
+        "mvd sync --port 1 --with 2 --token-file t",
+        Wanted::MeetToken,
+    ),
+    (
+        "mvd shell --db f --site 2 --max-keys 9 --token-file=t",
+        Wanted::ShellToken,
+    ),
+    (
+        "mvd shell --port 7 --token-file t",
+        Wanted::RemoteShellToken,
+    ),
+    // Numbers out of their ranges.
+    (
+        "mvd serve --db f --site 0 --port 1 --conns 1",
+        Wanted::Range,
+    ),
+    ("mvd serve --db f --site 4294967296 --port 1", Wanted::Range),
+    ("mvd serve --db f --site 1 --port 0", Wanted::Range),
+    ("mvd serve --db f --site 1 --port 65536", Wanted::Range),
+    (
+        "mvd serve --db f --site 1 --port 1 --conns 0",
+        Wanted::Range,
+    ),
+    (
+        "mvd serve --db f --site 1 --port 1 --http 65536",
+        Wanted::Range,
+    ),
+    (
+        "mvd serve --db f --site 1 --port 1 --conns 1001",
+        Wanted::Range,
+    ),
+    ("mvd serve --db f --site 1 --port 1 --idle 0", Wanted::Range),
+    (
+        "mvd serve --db f --site 1 --port 1 --clients 0",
+        Wanted::Range,
+    ),
+    (
+        "mvd serve --db f --site 1 --port 1 --clients 10001",
+        Wanted::Range,
+    ),
+    (
+        "mvd sync --db f --site 1 --port 1 --idle 86401",
+        Wanted::Range,
+    ),
+    (
+        "mvd sync --db f --site 1 --port 1 --max-keys 0",
+        Wanted::Range,
+    ),
+    ("mvd sync --port 1 --with 2 --every 0", Wanted::Range),
+    ("mvd sync --port 1 --with 2 --every 3601", Wanted::Range),
+    (
+        "mvd sync --port 1 --with 2 --every 1 --times 0",
+        Wanted::Range,
+    ),
+    (
+        "mvd sync --port 1 --with 2 --every 1 --times 1000001",
+        Wanted::Range,
+    ),
+    ("mvd loop --site 1 --max-keys 1000001", Wanted::Range),
+    ("mvd shell --db f --site 0", Wanted::Range),
+    // Words that are refused, or ask for help.
+    ("mvd serve --db f --port 1 --conns 1", Wanted::Says("")),
+    ("mvd serve --db f --site x --port 1", Wanted::Says("")),
+    (
+        "mvd sync --db f --site 1 --port 1 --conns 1",
+        Wanted::Says(""),
+    ),
+    (
+        "mvd sync --db f --site 1 --port 1 --clients 2",
+        Wanted::Says(""),
+    ),
+    (
+        "mvd sync --db f --site 1 --port 1 --http 2",
+        Wanted::Says(""),
+    ),
+    (
+        "mvd sync --port 1",
+        Wanted::Says("'--db <FILE>' is missing"),
+    ),
+    (
+        "mvd sync --port 1 --with 0",
+        Wanted::Says("'--with <LIST>': it is no list"),
+    ),
+    ("mvd sync --port 1 --with 2,", Wanted::Says("it is no list")),
+    ("mvd sync --port 1 --with 02", Wanted::Says("it is no list")),
+    (
+        "mvd sync --port 1 --with a:1",
+        Wanted::Says("it is no list"),
+    ),
+    (
+        "mvd sync --port 1 --with 10.0.0.1:0",
+        Wanted::Says("it is no list"),
+    ),
+    (
+        "mvd sync --port 1 --with 1,2,3,4,5,6,7,8,9,10,11,12,13,14,15,16,17",
+        Wanted::Says("it is no list"),
+    ),
+    (
+        "mvd sync --port 1 --with 2 --db f",
+        Wanted::Says("'--db <FILE>' with its options, or '--with <LIST>'"),
+    ),
+    (
+        "mvd sync --port 1 --with 2 --site 1",
+        Wanted::Says("Usage: mvd sync --db <FILE>"),
+    ),
+    (
+        "mvd sync --db f --site 1 --port 1 --every 5",
+        Wanted::Says("go with '--with <LIST>'"),
+    ),
+    ("mvd sync --port 1 --every 5", Wanted::Says("")),
+    (
+        "mvd sync --port 1 --with 2 --times 5",
+        Wanted::Says("'--times <N>' goes with '--every <S>'"),
+    ),
+    (
+        "mvd serve --db f --site 1 --port 1 --token-file",
+        Wanted::Says("'--token-file <FILE>'"),
+    ),
+    (
+        "mvd serve --db f --site 1 --port 1 --token-file t --token-file t",
+        Wanted::Says("'--token-file <FILE>'"),
+    ),
+    (
+        "mvd sync --port 1 --with 2 --token-file",
+        Wanted::Says("'--token-file <FILE>'"),
+    ),
+    (
+        "mvd shell --port 7 --token-file t --token-file u",
+        Wanted::Says("'--token-file <FILE>'"),
+    ),
+    (
+        "mvd loop --site 1 --token-file t",
+        Wanted::Says("'--token-file'"),
+    ),
+    ("mvd sim --token-file t", Wanted::Says("'--token-file'")),
+    (
+        "mvd serve --help",
+        Wanted::Says("Only who shows the token is served"),
+    ),
+    (
+        "mvd sync --help",
+        Wanted::Says("The token that the server wants"),
+    ),
+    (
+        "mvd shell --help",
+        Wanted::Says("The token that a server wants"),
+    ),
+    ("mvd loop --site 1 --idle 1", Wanted::Says("")),
+    ("mvd loop --help", Wanted::Says("")),
+    ("mvd", Wanted::Says("")),
+    ("mvd shell --db f --site 1 --idle 1", Wanted::Says("")),
+    ("mvd shell --db f --site 1 --port 7", Wanted::Says("")),
+    (
+        "mvd shell --db f --site 1 --address 127.0.0.1",
+        Wanted::Says(""),
+    ),
+    ("mvd shell --port 7 --site 1", Wanted::Says("")),
+    ("mvd shell --port 7 --defs d", Wanted::Says("")),
+    ("mvd shell --port 7 --max-keys 1000000", Wanted::Says("")),
+    ("mvd shell --site 1", Wanted::Says("")),
+    (
+        BAD_ADDRESS,
+        Wanted::Says("'--address <IP>': it is no IP address"),
+    ),
+    (BAD_ADDRESS, Wanted::Says("Usage: mvd serve ")),
+    ("mvd loop --site +1", Wanted::Says("Usage: mvd loop ")),
+    (
+        "mvd sync --db f --site 01 --port 1",
+        Wanted::Says("Usage: mvd sync "),
+    ),
+    ("mvd shell", Wanted::Says(SHELL)),
+    (
+        "mvd shell",
+        Wanted::Says("'--db <FILE>' with '--site <N>', or '--port <P>', is missing"),
+    ),
+    (
+        "mvd shell --db f",
+        Wanted::Says("the option '--site <N>' is missing"),
+    ),
+    (
+        "mvd shell --db f --port 7",
+        Wanted::Says("a shell has '--db <FILE>' with its options, or '--port <P>'"),
+    ),
+    ("mvd shell --port 7 --address here", Wanted::Says(SHELL)),
+];

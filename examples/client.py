@@ -1,12 +1,14 @@
 #!/usr/bin/env python3
 """A client of `mvd serve`, with Python's standard library alone. docs/PROTOCOL.md tells how to write one.
 
-usage: client.py PORT get KEY | put KEY CONTEXT DOCUMENT | del KEY CONTEXT | find FIELD TERM
+usage: client.py PORT get KEY | put KEY CONTEXT DOCUMENT | del KEY CONTEXT | find FIELD TERM | keys [PREFIX] | conflicts
 
-CONTEXT is what `get` printed, or `-` where nothing was read. DOCUMENT and TERM are JSON.
+CONTEXT is what `get` printed, or `-` where nothing was read. DOCUMENT and TERM are JSON. `keys` and `conflicts` list keys, each with
+the number of its siblings. Where MVD_TOKEN is set it is shown first.
 """
 import io
 import json
+import os
 import socket
 import struct
 import sys
@@ -90,14 +92,42 @@ class Client:
                 after = b"\1" + bytes([length]) + key + struct.pack(">IQ", site, counter)
                 yield key.decode(), (site, counter)
 
+    def hello(self, token):
+        """Shows the token, as the first request of a connection."""
+        self.ask(0x2D, counted("H", token))
+
+    def counts(self, kind, prefix=b""):
+        """Pages of keys, each with the number of its siblings."""
+        after, more = b"\0", True
+        while more:
+            reply = self.ask(kind, prefix + after)
+            more, count = read(reply, "BH")
+            for _ in range(count):
+                key, siblings = read(reply, "{}sI".format(*read(reply, "B")))
+                after = b"\1" + bytes([len(key)]) + key
+                yield key.decode(), siblings
+
+    def keys(self, prefix=""):
+        """The keys that begin with a prefix: 0 siblings are a deleted key."""
+        return self.counts(0x2B, counted("B", prefix))
+
+    def conflicts(self):
+        """The keys with more than one sibling."""
+        return self.counts(0x2C)
+
     def bye(self):
         self.ask(0x2F)
         self.socket.close()
 
 
-def main(port, command, name, *rest):
+def main(port, command, name="", *rest):
     client = Client(int(port))
-    if command == "get":
+    if "MVD_TOKEN" in os.environ:
+        client.hello(os.environ["MVD_TOKEN"])
+    if command in ("keys", "conflicts"):
+        for key, siblings in client.keys(name) if command == "keys" else client.conflicts():
+            print(key, siblings)
+    elif command == "get":
         context, siblings = client.get(name)
         print("context", context.hex())
         for (site, counter), document in siblings:
@@ -116,7 +146,8 @@ def main(port, command, name, *rest):
 
 
 if __name__ == "__main__":
-    if len(sys.argv) != {"get": 4, "put": 6, "del": 5, "find": 5}.get("".join(sys.argv[2:3])):
+    wanted = {"get": (4,), "put": (6,), "del": (5,), "find": (5,), "keys": (3, 4), "conflicts": (3,)}
+    if len(sys.argv) not in wanted.get("".join(sys.argv[2:3]), ()):
         sys.exit(__doc__)
     try:
         main(*sys.argv[1:])

@@ -17,7 +17,7 @@ import time
 TICK = os.sysconf("SC_CLK_TCK")
 PAGE = os.sysconf("SC_PAGE_SIZE")
 # The parts of .ci/run behind the proofs, by their scripts.
-PARTS = {name: "users" for name in ("served.sh", "sessions.py", "web.py", "many.py", "first_hour.sh")} | {"faults.sh": "faults"}
+PARTS = {name: "users" for name in ("served.sh", "sessions.py", "web.py", "many.py", "admitted.py", "changes.py", "first_hour.sh")} | {"faults.sh": "faults"}
 
 
 def children(root):

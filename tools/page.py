@@ -121,7 +121,8 @@ def siblings_differ(browser, other):
     other.put("ada", {"address": {"street": "Kirkegata"}, "city": "Bergen", "days": 3})
     browser.look_up("ada", "2 siblings were written")
     browser.until("tells what differs", "#differences", "1 added, 1 removed, 1 other value")
-    cells = browser.run("return [...document.querySelectorAll('.siblings tbody tr')].map((row) => row.innerText.replace(/\\s+/g, ' '))")
+    cells = browser.run("""return [...document.querySelectorAll('.siblings tbody tr')].map((row) => [...row.cells].flatMap((cell) =>
+        [...cell.childNodes].filter((node) => node.className !== 'take').map((node) => node.textContent)).join(' '))""")
     for wanted in ("address.street not there + added \"Kirkegata\"", "city \"Oslo\" ≠ other value \"Bergen\"", "days 3 3",
                    "mail \"ada@a.example\" − removed"):
         is_so(f"marks {wanted}", wanted in cells)
@@ -192,10 +193,19 @@ def lists(browser, other):
     for number in range(120):
         other.put(f"k{number}", {"city": "Oslo" if number % 2 else "Rome", "days": number})
     other.put("k7", {"city": "Oslo"})
+    browser.set("#prefix", "k1")
     browser.press("#keys-form button")
-    browser.until("lists keys", "#listed", "100 keys listed")
-    browser.press("#more")
-    browser.until("lists more keys, and how many have siblings", "#listed", "122 keys listed, 1 with more than one sibling.")
+    browser.until("lists the keys that begin so", "#listed", "31 keys listed, none with more than one sibling.")
+    browser.set("#prefix", "")
+    browser.press("#keys-form button")
+    for _ in range(0 if "--url" in sys.argv else 2):
+        browser.until("lists more keys", "#listed", "There are more.")
+        browser.press("#more")
+        time.sleep(.2)
+    browser.until("lists keys, and how many have siblings", "#listed", "122 keys listed, 1 with more than one sibling.")
+    browser.press("#kind input[value=conflicts]")
+    browser.press("#conflicts-form button")
+    browser.until("lists the keys in conflict", "#listed", "1 key listed, 1 with more than one sibling.")
     browser.press("#kind input[value=index]")
     browser.set("#field", "city")
     browser.set("#is", '"Oslo"')
@@ -213,13 +223,62 @@ def lists(browser, other):
     browser.until("lists a view", "#rows", "\"Rome\"\t60\t3540\t0\t118")
 
 
+def merges(browser, other):
+    other.put("mia", {"city": "Oslo", "days": 3, "tags": ["a", "b"]})
+    other.put("mia", {"city": "Rome", "mail": "mia@a.example", "tags": ["a", "c"]})
+    browser.look_up("mia", "2 siblings were written")
+    browser.press("button[aria-label='Take mail of 1:2']")
+    browser.until("takes a field", "#outcome", "mail of 1:2 is in the document below.")
+    browser.press("button[aria-label='Take tags[1] of 1:2']")
+    browser.press("button[aria-label='Take days of 1:2']")
+    typed = json.loads(browser.run("return document.querySelector('#document').value"))
+    is_so("merges field by field", typed == {"city": "Oslo", "mail": "mia@a.example", "tags": ["a", "c"]}, typed)
+    browser.set("#key", "nobody")
+    browser.press("#look button")
+    browser.until("asks before it drops what was typed", "#sure", "What you typed for mia is not written.")
+    browser.press("#sure-no")
+    is_so("and keeps it", json.loads(browser.run("return document.querySelector('#document').value")) == typed)
+    browser.press("#write")
+    browser.until("writes what was merged", "#outcome", "It is the one sibling now.")
+    is_so("with just these fields", [one["document"] for one in other.get("mia")["siblings"]] == [typed])
+
+
+def follows(browser, other):
+    other.put("far", {"a": 1})
+    browser.look_up("far", "One sibling, 1:1.")
+    other.put("far", {"a": 2}, "1:1")
+    browser.until("tells that the key changed elsewhere", "#elsewhere", "far changed elsewhere: it has 1:2 now.")
+    browser.press("#again")
+    browser.until("and shows it as it is now", "#outcome", "One sibling, 1:2.")
+    other.put("near", {"a": 1})
+    time.sleep(.5)
+    is_so("and says nothing of another key", browser.run("return document.querySelector('#elsewhere').hidden"))
+
+
+def wants_a_token(browser, site):
+    site.token = "sixteen-letters!"
+    browser.driver.get(browser.url + "/#key=far")
+    browser.driver.refresh()
+    browser.until("asks for the token", "#door", "This site wants a token.")
+    browser.set("#token", site.token)
+    browser.press("#token-form button")
+    browser.until("and comes in with it", "#outcome", "One sibling, 1:2.")
+    site.token = None
+
+
 def by_keyboard(browser, other):
     from selenium.webdriver.common.keys import Keys
     browser.driver.get(browser.url + "/")
     other.put("kim", {"a": 1})
     other.put("kim", {"a": 2})
+    for key in ("kit", "kiv"):
+        other.put(key, {"a": 1})
+        other.put(key, {"a": 2})
     active = "const at = document.activeElement; return "
-    browser.keys(Keys.TAB, Keys.TAB)
+    browser.until("keyboard: counts the keys in conflict", "#work", "in conflict")
+    for _ in range(4):
+        if browser.run(active + "at.id") != "key":
+            browser.keys(Keys.TAB)
     browser.keys("kim", Keys.ENTER)
     browser.until("keyboard: looks up", "#outcome", "2 siblings")
 
@@ -236,6 +295,14 @@ def by_keyboard(browser, other):
     tab_to("Pick 1:2")
     browser.keys(Keys.ENTER)
     browser.until("keyboard: picks", "#outcome", "Written as 1:3.")
+    time.sleep(.5)
+    for key in ("kit", "kiv"):
+        browser.keys(Keys.ENTER)
+        browser.until(f"keyboard: goes to {key}, the next in conflict", "#state-title", f"{key}: 2 siblings")
+        tab_to("Pick 1:2")
+        browser.keys(Keys.ENTER)
+        browser.until(f"keyboard: resolves {key}", "#outcome", "Written as 1:3.")
+        time.sleep(.5)
     tab_to("Delete the key")
     browser.keys(Keys.ENTER, Keys.TAB, Keys.ENTER)
     browser.until("keyboard: deletes", "#outcome", "Deleted. The key has no sibling now.")
@@ -267,12 +334,16 @@ def test(folder, url):
             is_so("each write has just the context that was shown", contexts == wanted, contexts)
         shows_text(browser, other)
         lists(browser, other)
+        merges(browser, other)
+        follows(browser, other)
         loses_the_link(browser, other)
         by_keyboard(browser, other)
+        if asked is not None:
+            wants_a_token(browser, server.RequestHandlerClass.site)
         loaded = browser.run("return performance.getEntriesByType('resource').map((one) => one.name)")
         is_so("loads nothing from elsewhere", all(name.startswith((url, "data:")) for name in loaded))
         faults = [entry["message"] for entry in browser.driver.get_log("browser")
-                  if "status of 40" not in entry["message"] and "ERR_INTERNET_DISCONNECTED" not in entry["message"]]
+                  if "status of 4" not in entry["message"] and "ERR_INTERNET_DISCONNECTED" not in entry["message"]]
         is_so("the browser tells of no fault", not faults, "; ".join(faults))
     finally:
         browser.driver.quit()

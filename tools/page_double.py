@@ -2,8 +2,10 @@
 """A TEST DOUBLE of `mvd serve --http`: one site over a dictionary, for tools/page.py. It is not mvd.
 
 It answers the HTTP interface as docs/BEHAVIOUR.md describes the site: a multi-value register for each key, with dots and
-contexts; indexes, views, and the hash tree by walking over all keys. Nothing is stored. It serves the page at `/`.
+contexts; indexes, views, keys in conflict, and the hash tree by walking over all keys; changes by the root and the keys
+of each write. Nothing is stored. With a token it lets in whoever shows it. It serves the page at `/`.
 """
+import contextlib
 import functools
 import hashlib
 import json
@@ -14,7 +16,7 @@ from http.server import BaseHTTPRequestHandler, ThreadingHTTPServer
 from urllib.parse import parse_qs, unquote, urlsplit
 
 NAMES = {1: "BadKey", 2: "BadContext", 3: "BadDocument", 4: "NotObject", 5: "BadNumber", 6: "DocumentTooLong",
-         12: "NoIndex", 13: "NoView", 14: "BadPath", 15: "BadTerm", 33: "BadBody"}
+         12: "NoIndex", 13: "NoView", 14: "BadPath", 15: "BadTerm", 33: "BadBody", 38: "NotAdmitted"}
 ZERO = bytes(32)
 
 
@@ -134,7 +136,23 @@ class Site:
     def __init__(self, number, indexes, views, page):
         self.number, self.indexes, self.views, self.page = number, indexes, views, page
         self.states = {}
-        self.lock = threading.Lock()
+        # The root after each write, and the write's key; the first root is that of the empty site.
+        self.moments = [(ZERO.hex(), None)]
+        self.token = None
+        self.lock = threading.Condition()
+
+    def note(self, key):
+        root = self.node("").hex()
+        if root != self.moments[-1][0]:
+            self.moments.append((root, key))
+            self.lock.notify_all()
+
+    def changes(self, since, wait):
+        """The keys that changed since a root, each once, in the order of their last change; None for an unknown root."""
+        at = next((place for place, (root, _) in enumerate(self.moments) if root == since), None)
+        if at is not None and at + 1 == len(self.moments):
+            self.lock.wait_for(lambda: at + 1 < len(self.moments), wait)
+        return None if at is None else list(dict.fromkeys(key for _, key in self.moments[:at:-1]))[::-1]
 
     def state(self, key):
         return self.states.get(key, ({}, set()))
@@ -145,12 +163,18 @@ class Site:
         dot = (self.number, counter)
         kept = {one: value for one, value in siblings.items() if one not in context}
         self.states[key] = (kept | {dot: document}, seen | context | {dot})
+        self.note(key)
         return dot
 
     def delete(self, key, context):
         siblings, seen = self.state(key)
         if seen | context:
             self.states[key] = ({one: value for one, value in siblings.items() if one not in context}, seen | context)
+            self.note(key)
+
+    def counts(self, prefix="", least=0):
+        return [{"key": key, "siblings": len(self.states[key][0])} for key in sorted(self.states)
+                if key.startswith(prefix) and len(self.states[key][0]) >= least]
 
     def siblings(self):
         return [(key, dot, document) for key in sorted(self.states) for dot, document in sorted(self.states[key][0].items())]
@@ -233,8 +257,10 @@ class Double(BaseHTTPRequestHandler):
         if status != 204:
             self.send_header("Content-Type", kind)
             self.send_header("Content-Length", str(len(body)))
-        self.end_headers()
-        self.wfile.write(body)
+        # A page that is left does not take what it waited for.
+        with contextlib.suppress(BrokenPipeError, ConnectionResetError):
+            self.end_headers()
+            self.wfile.write(body)
 
     def handle_request(self):
         body = self.rfile.read(int(self.headers.get("Content-Length", 0)))
@@ -246,19 +272,30 @@ class Double(BaseHTTPRequestHandler):
             try:
                 self.route(parts, given, body)
             except Refused as refusal:
-                status = 404 if refusal.number in (12, 13) else 400
+                status = {12: 404, 13: 404, 38: 401}.get(refusal.number, 400)
                 self.reply(status, {"refused": refusal.number, "name": NAMES[refusal.number]})
 
-    do_GET = do_PUT = do_DELETE = handle_request
+    do_GET = do_PUT = do_POST = do_DELETE = handle_request
 
     def route(self, parts, given, body):
+        if self.site.token and parts != [""] and self.headers.get("Authorization") != f"Bearer {self.site.token}":
+            raise Refused(38)
         match self.command, parts:
             case "GET", [""]:
                 self.reply(200, text=self.site.page(), kind="text/html; charset=utf-8", headers=self.headers_of_page)
             case "GET", ["root"]:
-                keys = len(self.site.states)
-                self.reply(200, {"root": self.site.node("").hex(), "keys": keys, "site": self.site.number})
+                counts = {"keys": len(self.site.states), "conflicts": len(self.site.counts(least=2))}
+                self.reply(200, {"root": self.site.node("").hex(), **counts, "site": self.site.number})
             case "GET", ["keys"]:
+                self.reply(200, self.keys(self.site.counts(given.get("prefix", "")), given.get("after"), 1 if "live" in given else 0))
+            case "GET", ["conflicts"]:
+                self.reply(200, self.keys(self.site.counts(least=2), given.get("after"), 0))
+            case "POST", ["keys"]:
+                self.reply(200, text=b"".join(compact(self.line(one)).encode() + b"\n" for one in body.splitlines()))
+            case "GET", ["changes"]:
+                found = self.site.changes(given.get("since"), int(given.get("wait", "0")))
+                self.reply(200, {"root": self.site.node("").hex(), "keys": found or [], "resync": found is None})
+            case "GET", ["tree"]:
                 self.reply(200, self.node_or_bucket(given.get("path", ""), given.get("after")))
             case _, ["keys", key]:
                 self.of_key(read_key(key), body)
@@ -289,6 +326,21 @@ class Double(BaseHTTPRequestHandler):
         else:
             self.site.delete(key, read_context(context))
             self.reply(204)
+
+    def line(self, text):
+        """One write of POST /keys."""
+        asked = json.loads(text)
+        seen = read_context(asked.get("context", "-"))
+        if "document" not in asked:
+            self.site.delete(read_key(asked["key"]), seen)
+            return {}
+        return {"dot": dot_text(self.site.put(read_key(asked["key"]), seen, read_document(compact(asked["document"]).encode())))}
+
+    def keys(self, counts, after, least):
+        left = [one for one in counts if after is None or one["key"] > after]
+        page = left[:self.page_size]
+        more = {"next": page[-1]["key"]} if len(left) > self.page_size else {}
+        return {"keys": [one for one in page if one["siblings"] >= least], **more}
 
     def node_or_bucket(self, path, after):
         if not re.fullmatch("[0-9a-f]{0,3}", path):

@@ -30,6 +30,14 @@ PROGRAM = os.path.realpath(sys.argv[-1]) if len(sys.argv) == 2 + IS_SHORT else s
 SECONDS = float(os.environ.get("WEB_SECONDS", "3"))
 PATIENCE = 60
 DOCUMENT = {"city": "Oslo", "days": 3}
+# what is no request, or one that is too long: its status, and its name
+FAULTS = (
+    ("no HTTP", 400, b"BadRequest", b"\x00\x01\r\n\r\n"),
+    ("a body over 1 MiB", 413, b"ContentTooLarge", b"PUT /keys/k HTTP/1.1\r\nHost: localhost\r\nContent-Length: 1048577\r\n\r\n"),
+    ("a target that is too long", 414, b"UriTooLong", b"GET /" + b"k" * 20_000),
+    ("a field that is too long", 431, b"HeaderTooLarge", b"GET /root HTTP/1.1\r\nHost: localhost\r\nX: " + b"x" * 20_000),
+    ("another coding", 501, b"NotImplemented", b"PUT /keys/k HTTP/1.1\r\nHost: localhost\r\nTransfer-Encoding: gzip, chunked\r\n\r\n"),
+)
 # as many requests of one connection are answered
 MOST = 1_000_000
 
@@ -112,8 +120,8 @@ def check_rows(server):
     told("a part of an index", 200, '"key":"ada"', "GET", "/index/city?from=%22A%22&to=%22Z%22")
     told("the rows of a view", 200, '{"rows":[{"term":"Oslo","count":1,"sum":3,"least":3,"greatest":3}]}', "GET", "/views/visits/rows")
     told("a row of a view", 200, '"sum":3', "GET", "/views/visits/row?is=%22Oslo%22")
-    told("a node of the hash tree", 200, '"children":[', "GET", "/keys?path=")
-    told("the root", 200, '"keys":1,"site":1}', "GET", "/root")
+    told("a node of the hash tree", 200, '"children":[', "GET", "/tree?path=")
+    told("the root", 200, '"keys":1,"conflicts":0,"site":1}', "GET", "/root")
     told("counts", 200, "mvd_keys 1\n", "GET", "/metrics")
     told("counts of commits", 200, "mvd_commits_total 3\n", "GET", "/metrics")
     told("counts by kind and outcome", 200, 'mvd_requests_total{kind="put",outcome="done"} 3\n', "GET", "/metrics")
@@ -146,23 +154,27 @@ def check_refusals(server):
     told("no index", 404, '"refused":12', "GET", "/index/none?is=1")
     told("no view", 404, '"refused":13', "GET", "/views/none/rows")
     told("no term", 400, '"refused":15', "GET", "/index/city?is=x")
-    told("no path", 400, '"refused":14', "GET", "/keys?path=x")
-    told("nothing of that name", 404, "", "GET", "/none")
-    told("another method", 405, "", "POST", "/keys/k", "{}")
-    methods = [server.ask("POST", path)[2]["allow"] for path in ("/keys/k", "/root")]
-    wanted("which says those that do", methods == ["GET, HEAD, PUT, DELETE", "GET, HEAD"], methods)
-    told("another origin", 403, "", "GET", "/root", Origin="http://evil.example")
+    told("no path", 400, '"refused":14', "GET", "/tree?path=x")
+    told("nothing of that name", 404, '{"refused":0,"name":"NotFound"}', "GET", "/none")
+    told("another method", 405, '{"refused":0,"name":"MethodNotAllowed"}', "POST", "/keys/k", "{}")
+    methods = [server.ask("PATCH", path)[2]["allow"] for path in ("/keys/k", "/keys", "/root")]
+    wanted("which says those that do", methods == ["GET, HEAD, PUT, DELETE", "GET, HEAD, POST", "GET, HEAD"], methods)
+    told("another origin", 403, '{"refused":0,"name":"ForeignOrigin"}', "GET", "/root", Origin="http://evil.example")
     told("its own origin", 200, "", "GET", "/root", Origin=f"http://127.0.0.1:{server.http}")
     told("another name", 403, "", "GET", "/root", Host="evil.example")
     told("localhost", 200, "", "GET", "/root", Host="localhost:1")
-    wanted("a body over 1 MiB is 413", server.raw(
-        b"PUT /keys/k HTTP/1.1\r\nHost: localhost\r\nContent-Length: 1048577\r\n\r\n").startswith(b"HTTP/1.1 413"))
+    lines = '{"key":"k","context":"-"}\n' * 1001
+    told("1,001 lines are too many", 413, '{"refused":0,"name":"ContentTooLarge"}', "POST", "/keys", lines)
+    told("1,000 are not", 200, "{}\n" * 1000, "POST", "/keys", lines[:-len(lines) // 1001])
+    for what, status, name, sent in FAULTS:
+        got = server.raw(sent)
+        whole = got.startswith(b"HTTP/1.1 %d " % status) and got.endswith(b'\r\n\r\n{"refused":0,"name":"%s"}' % name)
+        wanted(f"{what} is {status}, and its body says so", whole and b"content-type: application/json" in got, got)
     for fields in b"", b"Host: localhost\r\nHost: localhost\r\n", b"Host: localhost\r\nHost: evil.example\r\n":
         got = server.raw(b"GET /root HTTP/1.1\r\n" + fields + b"Connection: close\r\n\r\n")
-        wanted(f"{fields.count(b'Host')} hosts are 400", got.startswith(b"HTTP/1.1 400"), got)
+        wanted(f"{fields.count(b'Host')} hosts are 400", got.startswith(b"HTTP/1.1 400") and got.endswith(b'"HostMissing"}'), got)
     got = server.raw(b"GET /root HTTP/1.0\r\n\r\n")
     wanted("HTTP/1.0 without a host is 403", got.startswith(b"HTTP/1.1 403"), got)
-    wanted("no HTTP is 400", server.raw(b"\x00\x01\r\n\r\n").startswith(b"HTTP/1.1 400"))
 
 
 def check_connections(server):
@@ -170,8 +182,9 @@ def check_connections(server):
     wanted("a connection is kept", all(server.ask("GET", "/root", client=client)[0] == 200 for _ in range(5)))
     whole, head = server.ask("GET", "/keys/big", client=client), server.ask("HEAD", "/keys/big", client=client)
     wanted("HEAD has no body", (head[0], head[1], head[2]["content-length"]) == (whole[0], "", str(len(whole[1]))), head[:2])
-    policy = head[2]["content-security-policy"]
-    wanted("each response has the policy", policy.startswith("default-src 'none'"), policy)
+    fields = [server.ask("GET", path)[2] for path in ("/", "/root")]
+    guards = [(page.get("content-security-policy", "")[:18], page.get("x-content-type-options")) for page in fields]
+    wanted("the page alone has the policy", guards == [("default-src 'none'", "nosniff"), ("", None)], guards)
     one = b"PUT /keys/p%d HTTP/1.1\r\nHost: localhost\r\nContent-Length: 2\r\n\r\n{}"
     got = server.raw(b"".join(one % n for n in range(100)))
     wanted("a hundred puts in one piece are answered in order", got.count(b"HTTP/1.1 201") == 100, got[:200])
@@ -208,7 +221,7 @@ def as_curl(server, path, words):
 
 
 def check_table(folder):
-    server = Server(folder, "--max-keys", "3", name="table.db")
+    server = Server(folder, "--max-keys", "4", name="table.db")
     try:
         count = 0
         for path, words, status, part in by_curl():

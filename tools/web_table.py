@@ -9,6 +9,10 @@ def delete(context=None):
     return ["-X", "DELETE", *(["-H", f"Mvd-Context: {context}"] if context else [])]
 
 
+def post(body):
+    return ["-X", "POST", "--data-binary", body]
+
+
 def by_curl():
     """The path of each request, the words of curl, the status, and a part of the body."""
     rome, last = '{"city":"Rome","days":2}', "1:281474976710655"
@@ -26,17 +30,31 @@ def by_curl():
     yield "/views/visits/row?is=%22Rome%22", [], 200, '"count":1'
     yield "/views/visits/row?is=null", [], 200, '"count":0'
     for path in "", "0", "00", "000", "fff":
-        yield f"/keys?path={path}", [], 200, '"keys":[' if len(path) == 3 else '"children":['
+        yield f"/tree?path={path}", [], 200, '"keys":[' if len(path) == 3 else '"children":['
+    yield "/keys", [], 200, '{"keys":[{"key":"t","siblings":1}]}'
+    yield "/keys?prefix=t&after=s&live=1", [], 200, '{"keys":[{"key":"t","siblings":1}]}'
+    yield "/keys?prefix=u", [], 200, '{"keys":[]}'
+    yield "/keys?path=000&prefix=%74", [], 200, '"key":"t"'
+    yield "/conflicts?after=a", [], 200, '{"keys":[]}'
+    yield "/changes", [], 200, '"keys":[],"resync":true}'
+    yield f"/changes?wait=0&since={'e' * 64}", [], 200, '"resync":true}'
+    lines = '{"key":"m","document":{}}\n{"key":"m","context":"1:1","document":{"a":1}}\r\n{"key":"m","context":"1:2"}\n'
+    yield "/keys", post(lines), 200, '{"dot":"1:1"}\n{"dot":"1:2"}\n{}'
+    yield "/keys?prefix=m", [], 200, '{"keys":[{"key":"m","siblings":0}]}'
+    yield "/keys?prefix=m&live=1", [], 200, '{"keys":[]}'
+    yield "/keys", post('{"key":" ","document":{}}\n{"key":"m","document":[]}'), 200, '{"refused":1,"name":"BadKey"}\n{"refused":4,"name":"NotObject"}'
     yield "/root", [], 200, '"site":1}'
     yield "/metrics", [], 200, 'mvd_requests_total{kind="put",outcome="done"}'
     yield "/", [], 200, "<!DOCTYPE html>"
-    for path in "/keys/t", "/root", "/metrics", "/", "/index/city?is=1", "/keys?path=":
-        yield path, ["-I"], 200, "content-security-policy: default-src 'none'"
+    for path in "/keys/t", "/keys", "/conflicts", "/changes", "/tree", "/root", "/metrics", "/", "/index/city?is=1":
+        yield path, ["-I"], 200, "cache-control: no-store"
+    yield "/", ["-I"], 200, "content-security-policy: default-src 'none'"
     # 1: a key
     for key in "%20", "k" * 129, "%C3%A9", "", "%00", "%ff":
         for words in [], put("{}"), delete("1:1"):
             yield f"/keys/{key}", words, 400, '{"refused":1,"name":"BadKey"}'
-    yield "/keys?path=000&after=%20", [], 400, '"refused":1'
+    for path in "/tree?path=000&after=%20", "/keys?prefix=%20", "/keys?after=%20", "/conflicts?after=%20":
+        yield path, [], 400, '{"refused":1,"name":"BadKey"}'
     # a bad escape stands for itself
     for key in "a%zz", "a%4", "a%":
         yield f"/keys/{key}", [], 404, f'"key":"{key}"'
@@ -64,18 +82,27 @@ def by_curl():
     for path in "/views/none/rows", "/views/none/row?is=1", "/views/%20/rows":
         yield path, [], 404, '{"refused":13,"name":"NoView"}'
     for path in "x", "0000", "A", "0%20":
-        yield f"/keys?path={path}", [], 400, '{"refused":14,"name":"BadPath"}'
+        yield f"/tree?path={path}", [], 400, '{"refused":14,"name":"BadPath"}'
     for path in "/index/city?is=x", "/index/city", "/index/city?from=1", "/views/visits/row", "/views/visits/rows?after=x", "/index/city?is=%7B%7D":
         yield path, [], 400, '{"refused":15,"name":"BadTerm"}'
     for after in "x", "0:1%20t%201", "1%20t%201", "1:x%20t%201":
         yield f"/index/city?is=1&after={after}", [], 400, '{"refused":33,"name":"BadBody"}'
+    for query in "since=0", "since=" + "0" * 63, "since=" + "g" * 64, "wait=61", "wait=x", "wait=-1":
+        yield f"/changes?{query}", [], 400, '{"refused":33,"name":"BadBody"}'
+    # of a list of writes with another line nothing is done
+    for line in "", "{}", "[]", '{"key":"n"}', '{"key":1,"document":{}}', '{"key":"n","document":{},"more":1}', '{"key":"n",', b'{"key":"\xff"}':
+        first = b'{"key":"n","document":{}}\n'
+        yield "/keys", post(first + (line if isinstance(line, bytes) else line.encode()) + b"\n"), 400, '{"refused":33,"name":"BadBody"}'
+    yield "/keys?prefix=n", [], 200, '{"keys":[]}'
     # what is not there, and what cannot be asked so
     for path in "/none", "/keysx", "/views/visits", "/views/visits/none", "/root/", "/index":
-        yield path, [], 404, "There is nothing of that name."
+        yield path, [], 404, '{"refused":0,"name":"NotFound"}'
     for method in "POST", "PATCH", "OPTIONS", "TRACE", "BREW":
-        yield "/keys/t", ["-X", method], 405, "not by this method"
+        yield "/keys/t", ["-X", method], 405, '{"refused":0,"name":"MethodNotAllowed"}'
     for method in "PUT", "POST", "DELETE":
-        for path in "/root", "/metrics", "/", "/keys?path=", "/index/city?is=1", "/views/visits/rows":
-            yield path, ["-X", method], 405, "not by this method"
+        for path in "/root", "/metrics", "/", "/tree", "/conflicts", "/changes", "/index/city?is=1", "/views/visits/rows":
+            yield path, ["-X", method], 405, '{"refused":0,"name":"MethodNotAllowed"}'
+    for method in "PUT", "DELETE":
+        yield "/keys", ["-X", method], 405, '{"refused":0,"name":"MethodNotAllowed"}'
     yield "/keys/t", delete("1:1"), 204, ""
     yield "/keys/t", [], 404, '"context":"1:1"'

@@ -1,0 +1,285 @@
+#!/usr/bin/env python3
+"""Tries who may come in: `mvd serve --token-file` as a process, asked in frames, over HTTP, by sessions and by shells.
+
+usage: tools/admitted.py PROGRAM
+
+PROGRAM is `mvd` as built. It tells what it tried, and ends with 1 at the first that is not as wanted:
+- frames: a Hello with the token first, and all is answered; with another, with half of it, with more than it, with none, or
+  with something else first, one Refused of 38 comes, and the end; the same in pieces of a byte;
+- a server without a token answers Hello whatever it says;
+- HTTP: the page needs no token, and each other path does; a request without it changes nothing, whatever else it asks;
+- sessions and shells say Hello with the token of their own file, also between servers; with another file, or none, they are
+  told 38 with a hint;
+- token files that are missing, too short, too long, or hold a space are told with a hint, and no database is made;
+- in nothing that a server or a client prints stands the token, nor in the metrics, nor in the file of the site.
+The files are made in TMPDIR (else /tmp).
+"""
+import atexit
+import http.client
+import os
+import socket
+import struct
+import subprocess
+import sys
+import tempfile
+
+PATIENCE = 60
+TOKEN = "sixteen-letters!"
+OTHER = "sixteen-letters?"
+DONE, REFUSED = b"\x00\x00\x00\x01\xa3", b"\x00\x00\x00\x02\xee\x26"
+UNTOLD = '{"refused":38,"name":"NotAdmitted"}'
+DOCUMENT = b'{"a":1}'
+
+
+def miss(what):
+    sys.exit(f"admitted: {what}")
+
+
+def frame(kind, payload=b""):
+    return struct.pack(">IB", len(payload) + 1, kind) + payload
+
+
+def hello(token):
+    return frame(0x2D, struct.pack(">H", len(token)) + token.encode())
+
+
+def key(name):
+    return bytes([len(name)]) + name.encode()
+
+
+GET = frame(0x21, key("k"))
+PUT = frame(0x22, key("k") + struct.pack(">I", 0) + struct.pack(">I", len(DOCUMENT)) + DOCUMENT)
+BYE = frame(0x2F)
+
+
+class Place:
+    """The program, and a folder with what it needs."""
+
+    def __init__(self, program, folder):
+        self.program, self.folder, self.said = program, folder, []
+
+    def path(self, name):
+        return os.path.join(self.folder, name)
+
+    def token_file(self, name, text):
+        with open(self.path(name), "w", encoding="ascii") as it:
+            it.write(text)
+        return self.path(name)
+
+    def run(self, *words, lines=None):
+        """What a command prints: its status, standard output and standard error."""
+        done = subprocess.run([self.program, *words], input=lines, text=True, capture_output=True, timeout=PATIENCE)
+        self.said += [done.stdout, done.stderr]
+        return done.returncode, done.stdout, done.stderr
+
+
+class Server:
+    """A server on a file, in frames and over HTTP."""
+
+    def __init__(self, place, name, site, *words):
+        self.place, self.port, self.http = place, free_port(), free_port()
+        self.base = ["--db", place.path(name), "--site", str(site)]
+        command = [place.program, "serve", *self.base, "--port", str(self.port), "--http", str(self.http), *words]
+        self.process = subprocess.Popen(command, text=True, stdout=subprocess.PIPE, stderr=subprocess.PIPE)
+        atexit.register(self.process.kill)
+        for _ in range(2):
+            if not self.process.stdout.readline().startswith("listening "):
+                miss(f"no server: {self.process.stderr.read()}")
+
+    def ends(self):
+        """Ends it, and notes what it printed."""
+        self.process.terminate()
+        out, err = self.process.communicate(timeout=PATIENCE)
+        self.place.said += [out, err]
+        return out
+
+    def told(self, sent, size=None):
+        """All that a client is told who sends this, in pieces of so many bytes, and then nothing more."""
+        with socket.create_connection(("127.0.0.1", self.port), timeout=PATIENCE) as peer:
+            peer.setsockopt(socket.IPPROTO_TCP, socket.TCP_NODELAY, 1)
+            try:
+                for at in range(0, len(sent), size or max(1, len(sent))):
+                    peer.sendall(sent[at:at + (size or len(sent))])
+                peer.shutdown(socket.SHUT_WR)
+            except OSError:
+                pass
+            came = b""
+            while piece := peer.recv(65_536):
+                came += piece
+            return came
+
+    def keeps_open(self, sent):
+        """Whether a client that sends this and stays is told Done, and not the end."""
+        with socket.create_connection(("127.0.0.1", self.port), timeout=PATIENCE) as peer:
+            peer.sendall(sent)
+            first = peer.recv(65_536)
+            peer.sendall(GET)
+            return first == DONE and peer.recv(65_536)[4:5] == b"\xa1"
+
+    def asked(self, method, path, token=None, body=None, fields=None):
+        """The status, the fields and the body of a response."""
+        line = http.client.HTTPConnection("127.0.0.1", self.http, timeout=PATIENCE)
+        fields = dict(fields or {})
+        if token is not None:
+            fields["Authorization"] = token
+        line.request(method, path, body, fields)
+        response = line.getresponse()
+        body = response.read().decode()
+        line.close()
+        self.place.said.append(body)
+        return response.status, dict((k.lower(), v) for k, v in response.getheaders()), body
+
+
+def free_port():
+    with socket.create_server(("127.0.0.1", 0)) as it:
+        return it.getsockname()[1]
+
+
+def in_frames(server):
+    for size in None, 1:
+        if server.told(hello(TOKEN) + PUT + GET + BYE, size)[:5] != DONE:
+            miss("the token was refused")
+    if not server.keeps_open(hello(TOKEN)):
+        miss("it did not go on behind a Hello")
+    if server.told(hello(TOKEN) + hello(OTHER) + BYE) != DONE * 3:
+        miss("a Hello behind the first one is not answered Done")
+    tries = [OTHER, TOKEN[:8], TOKEN[:-1], TOKEN + "!", "", TOKEN * 16, TOKEN[::-1], TOKEN.upper()]
+    for token in tries:
+        for size in None, 1:
+            if server.told(hello(token) + PUT + GET, size) != REFUSED:
+                miss(f"a Hello of {token!r} is not refused with 38")
+    odd = [frame(0x2D), frame(0x2D, b"\x00\x10" + TOKEN[:-1].encode()), frame(0x2D, b"\x00\x10" + TOKEN.encode() + b"!"),
+           frame(0x2D, TOKEN.encode()), frame(0x2C, hello(TOKEN)[5:])]
+    for first in [GET, PUT, BYE, frame(0x55), *odd]:
+        if server.told(first + hello(TOKEN) + GET) != REFUSED:
+            miss(f"{first!r} in front of the Hello is not refused with 38")
+    if server.told(b"") != b"":
+        miss("a client that sends nothing is told something")
+
+
+def over_http(server):
+    status, fields, body = server.asked("GET", "/")
+    if status != 200 or "html" not in fields["content-type"]:
+        miss("the page asks for a token")
+    bearer = f"Bearer {TOKEN}"
+    status, fields, body = server.asked("PUT", "/keys/web", bearer, DOCUMENT)
+    if status != 201:
+        miss(f"a put with the token was told {status}")
+    before = server.asked("GET", "/root", bearer)
+    if before[0] != 200:
+        miss(f"/root with the token was told {before[0]}")
+    wrong = [None, "", "Bearer", "Bearer ", TOKEN, f"Bearer {OTHER}", f"Bearer {TOKEN[:8]}", f"Bearer {TOKEN}!", f"Basic {TOKEN}", f"bearer{TOKEN}"]
+    asked = [("GET", "/keys/web", None), ("PUT", "/keys/web", DOCUMENT), ("DELETE", "/keys/web", None), ("GET", "/root", None),
+             ("GET", "/metrics", None), ("GET", "/index/a?is=1", None), ("GET", "/nowhere", None), ("POST", "/root", b"x")]
+    for token in wrong:
+        for method, path, sent in asked:
+            status, fields, body = server.asked(method, path, token, sent, {"Mvd-Context": "1:1"})
+            if (status, body, fields.get("www-authenticate")) != (401, UNTOLD, "Bearer"):
+                miss(f"{method} {path} with {token!r} was told {status} {fields} {body}")
+    if server.asked("GET", "/root", bearer)[2] != before[2]:
+        miss("a request without the token changed the site")
+    status, fields, metrics = server.asked("GET", "/metrics", bearer)
+    if status != 200 or TOKEN in metrics:
+        miss("the metrics are not as wanted")
+
+
+def fails(done, *texts):
+    """It ended with 1, and said this on standard error."""
+    if done[0] != 1 or not all(text in done[2] for text in texts):
+        miss(f"{texts} is wanted, and was {done}")
+
+
+def by_commands(place, server, other, right, wrong):
+    port, far = str(server.port), str(other.port)
+    hint = f"the server at 127.0.0.1:{port} asks for a token"
+    local = ["--db", place.path("local.db"), "--site", "3"]
+    done = place.run("sync", *local, "--port", port, "--token-file", right)
+    if done[0] != 0 or "keys " not in done[1]:
+        miss(f"a session with the token ended so: {done}")
+    for words in [], ["--token-file", wrong]:
+        fails(place.run("sync", *local, "--port", port, *words), "38 NotAdmitted", hint)
+        fails(place.run("sync", "--port", port, "--with", far, *words), "38 NotAdmitted", hint)
+        done = place.run("shell", "--port", port, *words, lines="get k\nput k - {}\n")
+        if "NotAdmitted" not in done[1] + done[2] or "1:" in done[1]:
+            miss(f"a shell without the token was told {done}")
+    done = place.run("sync", "--port", port, "--with", far, "--token-file", right)
+    if done[0] != 0 or "keys " not in done[1]:
+        miss(f"servers that ask for one token did not meet: {done}")
+    done = place.run("sync", "--port", port, "--with", f"{far},{far}", "--every", "1", "--times", "2", "--verbose", "--token-file", right)
+    if done[0] != 0 or done[1].count("keys ") != 4:
+        miss(f"servers that ask for one token did not meet again: {done}")
+    done = place.run("shell", "--port", port, "--token-file", right, lines="get web\n")
+    if done[0] != 0 or '{"a":1}' not in done[1]:
+        miss(f"a shell with the token was told {done}")
+
+
+def open_to_all(place, right):
+    server = Server(place, "open.db", 4)
+    for said in hello(""), hello(TOKEN), hello("x"):
+        if not server.keeps_open(said):
+            miss(f"a server without a token does not answer {said!r} with Done")
+    if server.told(GET + BYE)[4:5] != b"\xa1":
+        miss("a server without a token asks for a Hello")
+    if server.asked("GET", "/root")[0] != 200 or server.asked("GET", "/root", f"Bearer {OTHER}")[0] != 200:
+        miss("a server without a token asks for one over HTTP")
+    done = place.run("sync", "--db", place.path("local.db"), "--site", "3", "--port", str(server.port), "--token-file", right)
+    if done[0] != 0:
+        miss(f"a session with a token that nobody asks for ended so: {done}")
+    server.ends()
+
+
+def of_files(place):
+    bad = {"none": "", "short": "fifteen-letters\n", "long": "x" * 257, "spaced": "sixteen letters!\n", "tab": "sixteen\tletters\n", "second": "\n" + TOKEN}
+    for name, text in bad.items():
+        file = place.token_file(name, text)
+        words = ["serve", "--db", place.path("never.db"), "--site", "5", "--port", str(free_port()), "--token-file", file]
+        fails(place.run(*words), "34 ReadFailed", file)
+        fails(place.run("sync", "--db", place.path("never.db"), "--site", "5", "--port", "1", "--token-file", file), "34 ReadFailed", file)
+        fails(place.run("shell", "--port", "1", "--token-file", file), "34 ReadFailed", file)
+    fails(place.run("serve", "--db", place.path("never.db"), "--site", "5", "--port", "1", "--token-file", place.path("missing")), "34 ReadFailed", "missing")
+    if os.path.exists(place.path("never.db")):
+        miss("a database was made though the token file is none")
+    longest = place.token_file("longest", "~" * 256 + "\nmore\n")
+    server = Server(place, "longest.db", 6, "--token-file", longest)
+    if server.told(hello("~" * 256) + BYE) != DONE * 2 or server.told(hello("~" * 255) + BYE) != REFUSED:
+        miss("the longest token is not as wanted")
+    server.ends()
+
+
+def kept_secret(place):
+    for text in place.said:
+        if TOKEN in text:
+            miss(f"the token was printed: {text}")
+    for name in "guarded.db", "guarded.db-wal", "other.db", "local.db":
+        if os.path.exists(place.path(name)):
+            with open(place.path(name), "rb") as it:
+                if TOKEN.encode() in it.read():
+                    miss(f"the token stands in {name}")
+
+
+def main(program):
+    with tempfile.TemporaryDirectory() as folder:
+        place = Place(os.path.realpath(program), folder)
+        right, wrong = place.token_file("right", TOKEN + "\n"), place.token_file("wrong", OTHER)
+        server = Server(place, "guarded.db", 1, "--token-file", right)
+        other = Server(place, "other.db", 2, "--token-file", right)
+        in_frames(server)
+        print("admitted: frames with it, with another, with half of it, and without", flush=True)
+        over_http(server)
+        print("admitted: HTTP, with it and without", flush=True)
+        by_commands(place, server, other, right, wrong)
+        print("admitted: sessions, servers that meet, and shells", flush=True)
+        open_to_all(place, right)
+        print("admitted: a server that asks for none", flush=True)
+        of_files(place)
+        print("admitted: files that hold none, and the longest token", flush=True)
+        ended = server.ends().splitlines()
+        other.ends()
+        if not any(line.endswith(" 38 NotAdmitted") for line in ended):
+            miss("no connection is told to have ended with 38")
+        kept_secret(place)
+        print(f"admitted: it is in none of {len(place.said)} texts that were printed, and in no file of a site", flush=True)
+
+
+if __name__ == "__main__":
+    main(*sys.argv[1:]) if len(sys.argv) == 2 else sys.exit(__doc__)

@@ -1,0 +1,305 @@
+#!/usr/bin/env python3
+"""Runs `mvd serve --http` as a process and asks it for keys, for keys in conflict, for many writes at once, and for what changed.
+
+usage: tools/changes.py [--short] PROGRAM
+
+PROGRAM is `mvd` as built. With `--short`, beside other work, no time is asked for. It ends with 1 at the first answer that is not the one wanted, and else prints figures: how long those wait
+that wait for a change, and how long many writes take. The files are made in TMPDIR (else /tmp).
+"""
+import atexit
+import http.client
+import json
+import os
+import select
+import signal
+import socket
+import subprocess
+import sys
+import tempfile
+import time
+
+SHORT = sys.argv[1:2] == ["--short"]
+PROGRAM = os.path.realpath(sys.argv[-1]) if len(sys.argv) == 2 + SHORT else sys.exit(__doc__)
+PATIENCE = 60
+DOCUMENT = {"city": "Oslo", "days": 3}
+ZEROS = "0" * 64
+# as many wait for one change, and are told it within so many milliseconds
+READERS = 200
+TOLD_WITHIN = 5_000 if SHORT else 20
+# what is idle takes at most so many seconds of the processor
+IDLE = 5 if SHORT else 0.05
+
+
+def wanted(what, holds, seen=""):
+    print(f"{'ok ' if holds else 'NOT'} {what}" + ("" if holds else f": {seen}"), flush=True)
+    if not holds:
+        sys.exit(1)
+
+
+def free_ports():
+    with socket.create_server(("127.0.0.1", 0)) as one, socket.create_server(("127.0.0.1", 0)) as two:
+        return one.getsockname()[1], two.getsockname()[1]
+
+
+def line(**said):
+    return json.dumps(said)
+
+
+class Server:
+    def __init__(self, folder, *words, name="a.db"):
+        self.frames, self.http = free_ports()
+        self.process = subprocess.Popen(
+            [PROGRAM, "serve", "--db", os.path.join(folder, name), "--site", "1", "--port", str(self.frames), "--http", str(self.http),
+             *words], stdout=subprocess.PIPE, stderr=subprocess.DEVNULL)
+        atexit.register(self.process.kill)
+        lines = [self.process.stdout.readline() for _ in range(2)]
+        wanted("it listens at both ports", lines[1] == b"listening http://127.0.0.1:%d/\n" % self.http, lines)
+
+    def close(self):
+        self.process.send_signal(signal.SIGTERM)
+        self.process.communicate()
+
+    def ask(self, method, path, body=None, **fields):
+        client = http.client.HTTPConnection("127.0.0.1", self.http, timeout=PATIENCE)
+        named = {name.replace("_", "-"): value for name, value in fields.items()}
+        client.request(method, path, body if body is None or isinstance(body, (bytes, str)) else json.dumps(body), named)
+        response = client.getresponse()
+        text = response.read().decode()
+        client.close()
+        return response.status, text
+
+    def told(self, what, status, body, *words, **named):
+        got = self.ask(*words, **named)
+        wanted(what, got == (status, body), got)
+
+    def json(self, path):
+        status, text = self.ask("GET", path)
+        wanted(f"{path[:60]} is answered", status == 200, (status, text))
+        return json.loads(text)
+
+    def put(self, key, document=None, **fields):
+        status, text = self.ask("PUT", f"/keys/{key}", document or DOCUMENT, **fields)
+        wanted(f"a put of {key}", status == 201, (status, text))
+        return json.loads(text)["context"]
+
+    def post(self, lines):
+        return self.ask("POST", "/keys", "\n".join(lines))
+
+    def root(self):
+        return self.json("/root")["root"]
+
+    def metric(self, name):
+        lines = self.ask("GET", "/metrics")[1].splitlines()
+        return int(next(row.rsplit(" ", 1)[1] for row in lines if row.startswith(name + " ")))
+
+    def since(self, root, wait=None):
+        return self.json(f"/changes?since={root}" + ("" if wait is None else f"&wait={wait}"))
+
+    def processor(self):
+        """How many seconds of the processor it has had."""
+        with open(f"/proc/{self.process.pid}/stat") as file:
+            fields = file.read().rsplit(")", 1)[1].split()
+        return (int(fields[11]) + int(fields[12])) / os.sysconf("SC_CLK_TCK")
+
+
+class Reader:
+    """One that waits for a change."""
+
+    def __init__(self, server, root, wait):
+        self.socket = socket.create_connection(("127.0.0.1", server.http), PATIENCE)
+        self.socket.sendall(f"GET /changes?since={root}&wait={wait} HTTP/1.1\r\nhost: 127.0.0.1\r\n\r\n".encode())
+        self.came = b""
+
+    def body(self):
+        """The body of its answer, where all of it came."""
+        self.came += self.socket.recv(65536)
+        head, _, body = self.came.partition(b"\r\n\r\n")
+        length = next((int(row.split(b":")[1]) for row in head.lower().split(b"\r\n") if row.startswith(b"content-length")), None)
+        return json.loads(body) if length is not None and len(body) == length else None
+
+
+def check_lists(server):
+    told = server.told
+    told("no key", 200, '{"keys":[]}', "GET", "/keys")
+    for key in ("ada", "adele", "bob"):
+        server.put(key)
+    server.put("ada")
+    told("a delete is 204", 204, "", "DELETE", "/keys/adele", mvd_context="1:1")
+    told("all keys", 200, '{"keys":[{"key":"ada","siblings":2},{"key":"adele","siblings":0},{"key":"bob","siblings":1}]}', "GET", "/keys")
+    told("keys by prefix", 200, '{"keys":[{"key":"ada","siblings":2},{"key":"adele","siblings":0}]}', "GET", "/keys?prefix=ad")
+    told("keys after one", 200, '{"keys":[{"key":"bob","siblings":1}]}', "GET", "/keys?after=adele")
+    told("keys by prefix after one", 200, '{"keys":[{"key":"adele","siblings":0}]}', "GET", "/keys?prefix=ad&after=ada")
+    told("live keys", 200, '{"keys":[{"key":"ada","siblings":2}]}', "GET", "/keys?prefix=ad&live=1")
+    told("keys in conflict", 200, '{"keys":[{"key":"ada","siblings":2}]}', "GET", "/conflicts")
+    told("keys in conflict after one", 200, '{"keys":[]}', "GET", "/conflicts?after=ada")
+    told("a prefix that is none is 1", 400, '{"refused":1,"name":"BadKey"}', "GET", "/keys?prefix=%20")
+    root = server.json("/root")
+    wanted("the root tells of conflicts", (root["keys"], root["conflicts"], root["site"]) == (3, 1, 1), root)
+    wanted("so do the metrics", server.metric("mvd_conflicts") == 1)
+    tree = server.json("/tree?path=")
+    wanted("a node of the tree", tree["digest"] == root["root"] and len(tree["children"]) == 16, tree)
+    wanted("each of its children", all(server.json(f"/tree?path={digit:x}")["digest"] == tree["children"][digit] for digit in range(16)))
+
+
+def check_writes(server):
+    commits = server.metric("mvd_commits_total")
+    start = time.monotonic()
+    status, text = server.post([line(key=f"many{n:04}", document={"n": n}) for n in range(1000)])
+    took = time.monotonic() - start
+    commits = server.metric("mvd_commits_total") - commits
+    wanted("a thousand writes at once", (status, text) == (200, '{"dot":"1:1"}\n' * 1000), (status, text[:200]))
+    wanted("they share commits", commits <= 4, commits)
+    page = server.json("/keys?prefix=many&live=1")
+    wanted("all of them are there", len(page["keys"]) == 1000 and "next" not in page, len(page["keys"]))
+    status, text = server.post([
+        line(key="one", document={"a": 1}), line(key="one", context="1:1", document={"a": 2}), line(key="one", context="1:2"),
+        line(key="a b", document={}), line(key="two", context="x", document={}), line(key="two", document=[1]),
+        line(key="two", document={"a": 1.5}), line(key="two", document={"a": "x" * 65537}), line(key="three", document={})])
+    refused = ['{"refused":%d,"name":"%s"}' % it for it in ((1, "BadKey"), (2, "BadContext"), (4, "NotObject"), (5, "BadNumber"), (6, "DocumentTooLong"))]
+    wanted("refused lines stand in their places", (status, text.splitlines()) == (200, ['{"dot":"1:1"}', '{"dot":"1:2"}', '{}', *refused, '{"dot":"1:1"}']), text)
+    before = server.root()
+    for what, body in (("no object", "7"), ("no key", '{"document":{}}'), ("a word more", '{"key":"q","document":{},"x":1}'), ("no JSON", "{")):
+        status, text = server.post([line(key="q", document={}), body])
+        wanted(f"a line that is none is 400: {what}", status == 400, (status, text))
+    status, _ = server.post([line(key="q", document={})] * 1001)
+    wanted("a line too many is 413", status == 413, status)
+    status, _ = server.post([line(key="q", document={"a": "x" * 60000})] * 18)
+    wanted("a body over the limit is 413", status == 413, status)
+    wanted("nothing of them was done", server.root() == before)
+    status, text = server.post([line(key=f"long{n}", document={"a": "x" * 60000}) for n in range(17)])
+    wanted("long documents, in several pieces", (status, text) == (200, '{"dot":"1:1"}\n' * 17), (status, text[:200]))
+    status, text = server.post([line(key="a b", document={})] * 3)
+    wanted("lines that are all refused", (status, text) == (200, refused[0] + "\n" + (refused[0] + "\n") * 2), (status, text))
+    wanted("no line", server.post([]) == (200, ""), "")
+    return took * 1000, commits
+
+
+def check_full(folder):
+    server = Server(folder, "--max-keys", "2", name="full.db")
+    _, text = server.post([line(key=key, document={}) for key in ("a", "b", "c", "a")])
+    wanted("a key too many is 10 in its place", [json.loads(it).get("refused") for it in text.splitlines()] == [None, None, 10, None], text)
+    server.close()
+
+
+def check_changes(server):
+    told, root = server.told, server.root()
+    told("nothing changed", 200, '{"root":"%s","keys":[],"resync":false}' % root, "GET", f"/changes?since={root}")
+    told("without a root all is to be read", 200, '{"root":"%s","keys":[],"resync":true}' % root, "GET", "/changes")
+    told("so with one that is not known", 200, '{"root":"%s","keys":[],"resync":true}' % root, "GET", f"/changes?since={ZEROS}&wait=30")
+    told("a root that is none", 400, '{"refused":33,"name":"BadBody"}', "GET", "/changes?since=x")
+    for key in ("x1", 'x"2', "x1"):
+        server.put(key.replace('"', "%22"))
+    now = server.root()
+    told("what changed, each key once, in the order of its last change", 200,
+         json.dumps({"root": now, "keys": ['x"2', "x1"], "resync": False}, separators=(",", ":")), "GET", f"/changes?since={root}")
+    server.ask("GET", "/keys/x1")
+    server.ask("DELETE", "/keys/none", mvd_context="-")
+    wanted("a request that changes nothing is none", server.since(now) == {"root": now, "keys": [], "resync": False})
+    wanted("nor does it hide what changed", server.since(root)["keys"] == ['x"2', "x1"])
+    server.post([line(key=f"c{n}", document={"n": 1}) for n in range(1000)])
+    wanted("a thousand keys are told", server.since(now)["keys"] == [f"c{n}" for n in range(1000)])
+    server.put("c1000")
+    wanted("one more is too many", server.since(now)["resync"])
+    start = time.monotonic()
+    last = server.root()
+    told_none = server.since(last, 1)
+    took = time.monotonic() - start
+    wanted("it waits as long as it is asked to", told_none == {"root": last, "keys": [], "resync": False} and 0.9 < took < (30 if SHORT else 2), took)
+    wanted("61 seconds are too many", server.ask("GET", f"/changes?since={last}&wait=61")[0] == 400)
+    return last
+
+
+def check_restart(server, folder, last):
+    server.close()
+    server = Server(folder)
+    wanted("a server that starts knows the root of its file", server.since(last) == {"root": last, "keys": [], "resync": False})
+    server.put("after")
+    wanted("and lists from there on", server.since(last)["keys"] == ["after"])
+    return server
+
+
+def check_waiting(server):
+    root = server.root()
+    readers = [Reader(server, root, 50) for _ in range(READERS)]
+    time.sleep(1)
+    before = server.processor()
+    time.sleep(3)
+    used = server.processor() - before
+    wanted(f"{READERS} that wait take no processor", used < IDLE, used)
+    idle = [reader for reader in readers if select.select([reader.socket], [], [], 0)[0]]
+    wanted("none of them is told", not idle, len(idle))
+    poll = select.epoll()
+    by_number = {reader.socket.fileno(): reader for reader in readers}
+    for number in by_number:
+        poll.register(number, select.EPOLLIN)
+    writer = socket.create_connection(("127.0.0.1", server.http), PATIENCE)
+    body = json.dumps(DOCUMENT)
+    writer.sendall(f"PUT /keys/wake HTTP/1.1\r\nhost: 127.0.0.1\r\ncontent-length: {len(body)}\r\n\r\n{body}".encode())
+    writer.recv(65536)
+    start = time.monotonic()
+    times, told = [], []
+    while len(times) < READERS and time.monotonic() - start < PATIENCE:
+        for number, _ in poll.poll(1):
+            answer = by_number[number].body()
+            if answer:
+                times.append((time.monotonic() - start) * 1000)
+                told.append(answer)
+    now = server.root()
+    wanted(f"all {READERS} are told", len(told) == READERS and all(it == {"root": now, "keys": ["wake"], "resync": False} for it in told), told[:1])
+    times.sort()
+    wanted(f"within {TOLD_WITHIN} ms of the put's own reply", times[-1] < TOLD_WITHIN, times[-1])
+    for reader in readers:
+        reader.socket.close()
+    writer.close()
+    return times[len(times) // 2], times[-1]
+
+
+def comes_to(server, count):
+    """Whether the server comes to have so many connections, with the one that asks for their number."""
+    for _ in range(100):
+        if server.metric("mvd_connections") == count:
+            return True
+        time.sleep(0.1)
+    return False
+
+
+def check_leaving(server):
+    root = server.root()
+    readers = [Reader(server, root, 50) for _ in range(50)]
+    wanted("they wait", comes_to(server, 51), server.metric("mvd_connections"))
+    for reader in readers:
+        reader.socket.close()
+    wanted("those that leave are forgotten", comes_to(server, 1), server.metric("mvd_connections"))
+    before = server.processor()
+    time.sleep(1)
+    wanted("and take no processor", server.processor() - before < IDLE)
+
+
+def check_after_waiting(server):
+    """A connection is used again after its answer, and what was sent behind the question is answered, too."""
+    root = server.root()
+    with socket.create_connection(("127.0.0.1", server.http), PATIENCE) as peer:
+        question = f"GET /changes?since={root}&wait=1 HTTP/1.1\r\nhost: 127.0.0.1\r\n\r\n"
+        peer.sendall((question + "GET /keys/none HTTP/1.1\r\nhost: 127.0.0.1\r\nconnection: close\r\n\r\n").encode())
+        came = b"".join(iter(lambda: peer.recv(65536), b""))
+    wanted("what stands behind it is answered in its turn", came.count(b"HTTP/1.1 200") == 1 and came.count(b"HTTP/1.1 404") == 1, came)
+
+
+def main():
+    with tempfile.TemporaryDirectory(prefix="mvd-changes-") as folder:
+        server = Server(folder)
+        check_lists(server)
+        took, commits = check_writes(server)
+        check_full(folder)
+        last = check_changes(server)
+        server = check_restart(server, folder, last)
+        check_after_waiting(server)
+        check_leaving(server)
+        median, most = check_waiting(server)
+        server.close()
+    print(f"{READERS} that wait for a change are told it {median:.1f} ms after the put's own reply (median), the last {most:.1f} ms")
+    print(f"1,000 writes in one request take {took:.0f} ms and {commits} commits")
+
+
+if __name__ == "__main__":
+    main()

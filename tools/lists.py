@@ -52,6 +52,9 @@ class Server:
     def post(self, keys):
         keys = list(keys)
         for at in range(0, len(keys), LINES):
+            # a connection takes at most 1,000,000 requests of the site
+            if at % (100 * LINES) == 0:
+                self.link.close()
             body = "".join(f'{{"key":"{key}","document":{{"n":1}}}}\n' for key in keys[at:at + LINES])
             if b"refused" in self.ask("POST", "/keys", body):
                 sys.exit("a line was refused")

@@ -143,7 +143,7 @@ impl Feed {
 
     /// The first round after the first moment with this root.
     fn place_of(&self, root: &[u8; 32]) -> Option<usize>
-        ensures place { noted_since self.now root.now ≡ option_map (λ place. keys_in (drop place self.now.rounds)) result }
+        ensures place { noted_since self.now root.now ≡ option_map (λ at. keys_in (drop at self.now.rounds)) result }
         ensures within { IfSome result (λ place. place ≤ length self.now.rounds) }
     {
         match &self.start {

@@ -230,7 +230,7 @@ fn keys_of(prefix: &str) -> Option<Ask<'_>>
 
 /// What is asked by a name, with a word behind it and more behind that.
 fn ask_of_parts<'a>(name: &str, first: &'a str, behind: &'a str) -> Option<Ask<'a>>
-    ensures found { IsWord first.now → IfSome result (λ ask. IsAsked ask name.now (Some (spaced first.now behind.now))) }
+    ensures found { IsWord first.now → IfSome result (λ it. IsAsked it name.now (Some (spaced first.now behind.now))) }
     ensures none { IsWord first.now → IfNone result (IsNoAsk name.now (Some (spaced first.now behind.now))) }
 {
     match name {

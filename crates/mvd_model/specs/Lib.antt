@@ -1,0 +1,4 @@
+pub mod TheStore
+pub mod Handed
+pub mod Apart
+pub mod Alike

@@ -1,0 +1,4 @@
+//! The store as a state machine over sets of writes, and what holds of each of its behaviours.
+#![tactic(auto)]
+
+pub mod laws;

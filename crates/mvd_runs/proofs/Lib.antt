@@ -1,0 +1,7 @@
+pub mod Telling
+pub mod Filing
+pub mod Pushing
+pub mod PushTurns
+pub mod NewFiles
+pub mod Commands
+pub mod Working

@@ -1,0 +1,185 @@
+-- A push is a turn, and so is each of a window; and so a session is turns.
+use Rattle.std.proofs.Common.{◌≡◌, ◌≢◌, ◌∙◌, Bool, true, false, List, [], ◌∷◌, ◌++◌, map, Result, Ok, Err, refl, sym, ap, subst, inl, inr, true≢false}
+use Rattle.std.specs.List.{AllByRecursion}
+use Rattle.std.specs.Result.{IfErr, OnOk}
+use Rattle.mvd_dots.specs.declared.refusals.Refusal.{Refusal}
+use Rattle.mvd_dots.specs.declared.refusals.Refusal.TheVariants.{Broken, Memory}
+use Rattle.mvd_keys.specs.State.{IsValid, State as Keyed}
+use Rattle.mvd_keys.specs.Writes.{Key, writes_for}
+use Rattle.mvd_keys.proofs.Sets.{AreOf-writes_for, state-writes_for}
+use Rattle.mvd_wire.specs.declared.request.Request.{Request}
+use Rattle.mvd_wire.specs.declared.request.Request.TheVariants.{Push}
+use Rattle.mvd_wire.specs.declared.reply.Reply.{Reply}
+use Rattle.mvd_wire.specs.declared.reply.Reply.TheVariants.{Done, Refused}
+use Rattle.mvd_site.specs.FromStates.{push_reply}
+use Rattle.mvd_site.specs.Known.{IsValidRequest}
+use Rattle.mvd_site.specs.Sites.{SiteValue}
+use Rattle.mvd_site.proofs.Outcomes.{memory_or_not, refused_fits}
+use Rattle.mvd_site.proofs.Pushes.{refusal_is}
+use Rattle.mvd_peer.specs.PushedStates.{ComesByPushes, Each}
+use Rattle.mvd_replica.specs.Batch.{AnswersOneFrom, HoldsLost}
+use Rattle.mvd_replica.specs.Pushes.{push_of}
+use Rattle.mvd_replica.specs.Sides.{AnswersFromStored, HoldsBroken}
+use Rattle.mvd_replica.specs.Turns.{LeavesTurns, Turn}
+use Rattle.mvd_replica.proofs.Batched.{TakesTurns-append, TakesTurns-memory, TakesTurns-none}
+use Rattle.mvd_replica.proofs.Batching.{takes}
+use Rattle.mvd_replica.proofs.Positions.{AnswersAll, ReplicaFollows, SideFollows, TakesTurns, TurnsFollow, stored_site}
+use Rattle.mvd_replica.proofs.Pushed.{follows_pushes}
+use Rattle.sqlite.specs.Effect.{Database}
+use Rattle.sqlite.specs.State.{State}
+use Rattle.mvd_runs.specs.Files.{IsValidTurn}
+use Rattle.mvd_runs.specs.Sessions.{AsksPush, SideTakes, push_turn}
+
+pub lost_one : (request : Request) (reply : Reply) (site : SiteValue) (db : Database) → reply ≡ Refused Broken → HoldsBroken (λ asked. asked ≡ request) site db → HoldsLost (record { asked = Ok request; reply = reply } ∷ []) site db
+lost_one request reply site db told holds = record {
+  lost = record {
+    before = [];
+    broke = record { asked = Ok request; reply = reply };
+    later = [];
+    all = refl;
+    first = tt;
+    request = holds.request;
+    asked = (ap (λ (r : Request). Ok r) (sym holds.asked), told);
+    changes = holds.changes;
+    rest = [];
+    among = tt;
+  };
+  holds = holds.holds;
+}
+
+module _ (old new : SiteValue) (before after : State) (key : Key) (s : Keyed) where
+  breaks_told : (was : Bool) → old.broken ≡ was → (reply : Reply) → AnswersFromStored old new (Push key s) reply → (old.broken ≡ true → reply ≡ Refused Broken) → new.broken ≡ true → reply ≡ Refused Broken
+  breaks_told true was reply answers stays broken = stays was
+  breaks_told false was reply (inr store) stays broken = absurd (true≢false (sym broken ∙ ap (λ (x : SiteValue). x.broken) store.site ∙ was))
+  breaks_told false was reply (inl from) stays broken = elim (from was) [
+    | inl it ↦ absurd (true≢false (sym broken ∙ ap (λ (x : SiteValue). x.broken) it.site))
+    | inr (inl memory) ↦ absurd (true≢false (sym broken ∙ ap (λ (x : SiteValue). x.broken) memory.1 ∙ was))
+    | inr (inr broke) ↦ broke.0
+  ]
+
+  not_memory : (refusal : Refusal) → refusal ≢ Memory → Refused refusal ≢ Refused Memory
+  not_memory refusal other e = other (refusal_is refusal Memory e)
+
+  turn_follows : (reply : Reply) → (new.broken ≡ true → reply ≡ Refused Broken) → ReplicaFollows (λ asked. asked ≡ Push key s) old new before after → LeavesTurns (push_turn key s reply ∷ []) (stored_site old before) (stored_site new after) →
+      TurnsFollow (push_turn key s reply ∷ []) old new before after
+  turn_follows reply told follows leaves = record {
+    site = follows.site;
+    sound = follows.store.sound;
+    holds = follows.store.holds;
+    stays = follows.store.stays;
+    stored = λ sound holds whole broken. lost_one (Push key s) reply new after.committed (told broken) (follows.store.stored sound holds whole broken);
+    clean = follows.store.clean;
+    shut = follows.store.shut;
+    leaves = leaves;
+  }
+
+  -- want of memory leaves the site as it was
+  pub memory_turn : new ≡ old → ReplicaFollows (λ asked. asked ≡ Push key s) old new before after → LeavesTurns (push_turn key s (Refused Memory) ∷ []) (stored_site old before) (stored_site new after) → TurnsFollow (push_turn key s (Refused Memory) ∷ []) old new before after →
+      TakesTurns (push_turn key s (Refused Memory) ∷ []) old new before after
+  memory_turn same follows leaves turns =
+      let here : TakesTurns (push_turn key s (Refused Memory) ∷ []) old old before before = TakesTurns-memory old before (Ok (Push key s)) in
+      let there = subst (λ x. TakesTurns (push_turn key s (Refused Memory) ∷ []) old x before before) (sym same) here in
+      record {
+        replies = there.replies;
+        stands = there.stands;
+        config = there.config;
+        choice = there.choice;
+        fits = there.fits;
+        told = there.told;
+        breaks = there.breaks;
+        follows = turns;
+      }
+
+  pub done_turn : AnswersFromStored old new (Push key s) Done → (old.broken ≡ true → Done ≡ Refused Broken) → IsValid s → ReplicaFollows (λ asked. asked ≡ Push key s) old new before after →
+      LeavesTurns (push_turn key s Done ∷ []) (stored_site old before) (stored_site new after) → TakesTurns (push_turn key s Done ∷ []) old new before after
+  done_turn answers stays valid follows leaves =
+      let one : AnswersOneFrom old new (Push key s) Done = record {
+        whole = answers;
+        broken = λ was. absurd (let bad : Done ≡ Refused Broken = stays was in cc);
+        told = λ e. absurd (cc);
+        frugal = λ _ e. absurd (cc);
+        fits = refl;
+        choice = (writes_for key s, (AreOf-writes_for key s, state-writes_for key s valid));
+      } in
+      takes _ old new before after (new, one, refl) (turn_follows Done (breaks_told old.broken refl Done answers stays) follows leaves)
+
+  pub refused_turn : (refusal : Refusal) → AnswersFromStored old new (Push key s) (Refused refusal) → (old.broken ≡ true → (Refused refusal ≡ Refused Broken) × (new ≡ old)) → (refusal ≡ Broken → new.broken ≡ true) → (refusal ≢ Broken → new ≡ old) →
+      ReplicaFollows (λ asked. asked ≡ Push key s) old new before after → LeavesTurns (push_turn key s (Refused refusal) ∷ []) (stored_site old before) (stored_site new after) → TakesTurns (push_turn key s (Refused refusal) ∷ []) old new before after
+  refused_turn refusal answers stays told unchanged follows leaves = elim (memory_or_not refusal) [
+    | inl memory ↦
+        subst (λ r. TakesTurns (push_turn key s (Refused r) ∷ []) old new before after) (sym memory)
+        (memory_turn (unchanged (λ broken. let bad : Memory ≡ Broken = sym memory ∙ broken in absurd cc)) follows
+        (subst (λ r. LeavesTurns (push_turn key s (Refused r) ∷ []) (stored_site old before) (stored_site new after)) memory leaves)
+        (subst (λ r. TurnsFollow (push_turn key s (Refused r) ∷ []) old new before after) memory
+        (turn_follows (Refused refusal) (breaks_told old.broken refl (Refused refusal) answers (λ was. (stays was).0)) follows leaves)))
+    | inr other ↦
+        let one : AnswersOneFrom old new (Push key s) (Refused refusal) = record {
+          whole = answers;
+          broken = stays;
+          told = λ e. told (refusal_is refusal Broken e);
+          frugal = λ _. not_memory refusal other;
+          fits = refused_fits refusal;
+          choice = ([], refl);
+        } in
+        takes _ old new before after (new, one, refl) (turn_follows (Refused refusal) (breaks_told old.broken refl (Refused refusal) answers (λ was. (stays was).0)) follows leaves)
+  ]
+
+the_push : (key : Key) (s : Keyed) (request : Request) → ◌≡◌ {A = Result Request Refusal} (Ok (Push key s)) (Ok request) → request ≡ Push key s
+the_push key s request e = cc
+
+pub asks_push : (key : Key) (s : Keyed) (reply : Reply) → AllByRecursion AsksPush (push_turn key s reply ∷ [])
+asks_push key s reply = ((λ request is. (key, s, the_push key s request is)), tt)
+
+pub valid_push : (key : Key) (s : Keyed) (reply : Reply) → IsValid s → AllByRecursion IsValidTurn (push_turn key s reply ∷ [])
+valid_push key s reply valid = ((λ request is. subst IsValidRequest (sym (the_push key s request is)) valid), tt)
+
+-- ---- a session
+
+pub side_none : (site : SiteValue) (s : State) → SideTakes (stored_site site s) (stored_site site s)
+side_none site s = record { turns = []; pushes = tt; valid = tt; takes = TakesTurns-none site s }
+
+pub both : (P : Turn → Type 0) (first second : List Turn) → AllByRecursion P first → AllByRecursion P second → AllByRecursion P (first ++ second)
+both P [] second one other = other
+both P (turn ∷ first) second one other = (one.0, both P first second one.1 other)
+
+pub side_append : (old mid new : SiteValue) (before between after : State) → SideTakes (stored_site old before) (stored_site mid between) → SideTakes (stored_site mid between) (stored_site new after) → SideTakes (stored_site old before) (stored_site new after)
+side_append old mid new before between after p q = record {
+  turns = p.turns ++ q.turns;
+  pushes = both AsksPush p.turns q.turns p.pushes q.pushes;
+  valid = both IsValidTurn p.turns q.turns p.valid q.valid;
+  takes = TakesTurns-append p.turns q.turns old mid new before between after p.takes q.takes;
+}
+
+-- what is said of a session today follows from its turns, and from how its states came
+pub side_follows : (old new : SiteValue) (before after : State) → SideTakes (stored_site old before) (stored_site new after) → ComesByPushes (λ _ _. Unit {0}) old.states new.states → SideFollows old new before after
+side_follows old new before after it comes = follows_pushes it.turns old new before after it.pushes it.takes.follows comes
+
+-- a window of pushes
+pushes_asked : (pairs : List (Key × Keyed)) (turns : List Turn) → map (λ (t : Turn). t.asked) turns ≡ map (λ (request : Request). Ok request) (map push_of pairs) → Each (λ (p : Key × Keyed). IsValid p.1) pairs → AllByRecursion AsksPush turns × AllByRecursion IsValidTurn turns
+pushes_asked [] [] e valid = (tt, tt)
+pushes_asked [] (turn ∷ turns) e valid = absurd (cc)
+pushes_asked (p ∷ pairs) [] e valid = absurd (cc)
+pushes_asked (p ∷ pairs) (turn ∷ turns) e valid =
+    let all : ◌≡◌ {A = List (Result Request Refusal)} (turn.asked ∷ map (λ (t : Turn). t.asked) turns) (Ok (push_of p) ∷ map (λ (request : Request). Ok request) (map push_of pairs)) = e in
+    let first : turn.asked ≡ Ok (push_of p) = cc in
+    let rest : map (λ (t : Turn). t.asked) turns ≡ map (λ (request : Request). Ok request) (map push_of pairs) = cc in
+    let later = pushes_asked pairs turns rest valid.1 in (
+      (λ request is. (p.0, p.1, the_push p.0 p.1 request (sym first ∙ is)), later.0),
+      (λ request is. subst IsValidRequest (sym (the_push p.0 p.1 request (sym first ∙ is))) valid.0, later.1),
+    )
+
+pub side_window : (pairs : List (Key × Keyed)) (replies : List Reply) (old new : SiteValue) (before after : State) → Each (λ (p : Key × Keyed). IsValid p.1) pairs → AnswersAll (map push_of pairs) replies old new before after → SideTakes (stored_site old before) (stored_site new after)
+side_window pairs replies old new before after valid it =
+    let asked = pushes_asked pairs it.turns it.asked valid in
+    record { turns = it.turns; pushes = asked.0; valid = asked.1; takes = it.takes }
+
+-- ---- one push
+
+pub push_takes : (old new : SiteValue) (before after : State) (key : Key) (s : Keyed) (result : Result (Unit {0}) Refusal) → AnswersFromStored old new (Push key s) (push_reply result) →
+    (old.broken ≡ true → (result ≡ Err Broken) × (new ≡ old)) → IfErr result (λ refusal. refusal ≡ Broken → new.broken ≡ true) → IfErr result (λ refusal. refusal ≢ Broken → new ≡ old) → OnOk result (IsValid s) →
+    ReplicaFollows (λ asked. asked ≡ Push key s) old new before after → LeavesTurns (push_turn key s (push_reply result) ∷ []) (stored_site old before) (stored_site new after) →
+    TakesTurns (push_turn key s (push_reply result) ∷ []) old new before after
+push_takes old new before after key s (Ok done) answers stays told unchanged valid follows leaves =
+    done_turn old new before after key s answers (λ was. absurd (let bad : ◌≡◌ {A = Result (Unit {0}) Refusal} (Ok done) (Err Broken) = (stays was).0 in cc)) valid follows leaves
+push_takes old new before after key s (Err refusal) answers stays told unchanged valid follows leaves =
+    refused_turn old new before after key s refusal answers (λ was. (ap push_reply (stays was).0, (stays was).1)) told unchanged follows leaves

@@ -1,0 +1,28 @@
+-- A session as turns of the replica that it was held with.
+use Rattle.std.specs.Prelude.{◌≡◌, List, Ok}
+use Rattle.std.specs.List.{AllByRecursion}
+use Rattle.mvd_keys.specs.State.{State}
+use Rattle.mvd_keys.specs.Writes.{Key}
+use Rattle.mvd_wire.specs.declared.request.Request.{Request}
+use Rattle.mvd_wire.specs.declared.request.Request.TheVariants.{Push}
+use Rattle.mvd_wire.specs.declared.reply.Reply.{Reply}
+use Rattle.mvd_replica.specs.Batch.{TakesTurns}
+use Rattle.mvd_replica.specs.Replicas.{StoredSite}
+use Rattle.mvd_replica.specs.Sides.{IsPush}
+use Rattle.mvd_replica.specs.Turns.{Turn}
+use Rattle.mvd_runs.specs.Files.{IsValidTurn}
+
+-- a push with its reply
+abbrev pub push_turn : Key → State → Reply → Turn
+push_turn key s reply = record { asked = Ok (Push key s); reply = reply }
+
+-- the turn asked nothing but a push
+abbrev pub AsksPush : Turn → Type 0
+AsksPush turn = (request : Request) → turn.asked ≡ Ok request → IsPush request
+
+-- What calls of a session did to a replica: its turns, each of which pushed the state of some writes
+pub record SideTakes (old new : StoredSite) : Type 0 where
+  pub turns : List Turn
+  pub pushes : AllByRecursion AsksPush turns
+  pub valid : AllByRecursion IsValidTurn turns
+  pub takes : TakesTurns turns old new

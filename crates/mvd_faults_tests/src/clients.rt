@@ -33,8 +33,8 @@ const ASKED: [&str; 10] = [
     WIDE,
 ];
 
-/// A client: what it asks, how much of that came, how many requests were taken, and where the last of them ends; what
-/// it was told, and what it should be.
+/// A client: what it asks, how much of that came, how many requests were taken, and where the last of them ends; whether
+/// the last round began with its question; what it was told, and what it should be.
 #[derive(Drop)]
 struct Client {
     asked: [&'static str; REQUESTS],
@@ -42,6 +42,7 @@ struct Client {
     came: usize,
     taken: usize,
     end: usize,
+    led: bool,
     told: Vec<u8>,
     wanted: Vec<u8>,
 }
@@ -58,6 +59,7 @@ fn new_client(alloc: Global, random: &mut Random) -> Client {
         came: 0,
         taken: 0,
         end: 0,
+        led: false,
         told: Vec::new(alloc),
         wanted: Vec::new(alloc),
     }
@@ -72,22 +74,31 @@ fn is_last(request: &str) -> bool {
         )
 }
 
-/// One replica is asked what a round takes of a client: the requests that are whole, up to one that is the last.
-fn ask<S: Alter + Drop>(alloc: Global, single: &mut Replica<S>, client: &mut Client) {
+/// One replica is asked what a round takes of a client next: the changes that are whole, or the one request that is the
+/// last. Whether there was one.
+fn ask<S: Alter + Drop>(
+    alloc: Global,
+    single: &mut Replica<S>,
+    client: &mut Client,
+    last: bool,
+) -> bool {
+    let mut any = false;
     for at in client.taken..REQUESTS {
         let request = client.asked[at];
         let end = client.end.saturating_add(request.len() / 2);
-        if end > client.came {
-            return;
+        if end > client.came || is_last(request) != last {
+            return any;
         }
         let (reply, _) = replies(alloc, single, Bytes::of(&[request]).bytes());
         push(&mut client.wanted, reply.as_slice());
         client.taken = at + 1;
         client.end = end;
-        if is_last(request) {
-            return;
+        any = true;
+        if last {
+            return any;
         }
     }
+    any
 }
 
 /// At most so many bytes of a client come, or as many of those that wait leave to it.
@@ -103,7 +114,8 @@ fn move_bytes(host: &mut Host, number: u64, clients: &mut [Client], most: usize,
     }
 }
 
-/// A round of two clients, for which the one replica is asked too.
+/// A round of two clients, for which the one replica is asked too: first questions, then changes, and then the questions
+/// behind them.
 fn round_of<S: Alter + Drop, T: Alter + Drop>(
     alloc: Global,
     host: &mut Host,
@@ -115,7 +127,26 @@ fn round_of<S: Alter + Drop, T: Alter + Drop>(
     round(alloc, host, replica, &ready);
     for number in ready {
         if let Some(client) = clients.get_mut(number as usize) {
-            ask(alloc, single, client);
+            client.led = ask(alloc, single, client, true);
+        }
+    }
+    ask_behind(alloc, single, clients, ready, false);
+    ask_behind(alloc, single, clients, ready, true);
+}
+
+/// Of those whose first request was a change, the changes, or the requests behind them.
+fn ask_behind<S: Alter + Drop>(
+    alloc: Global,
+    single: &mut Replica<S>,
+    clients: &mut [Client],
+    ready: [u64; 2],
+    last: bool,
+) {
+    for number in ready {
+        if let Some(client) = clients.get_mut(number as usize)
+            && !client.led
+        {
+            ask(alloc, single, client, last);
         }
     }
 }

@@ -4,6 +4,7 @@ pub mod Frames
 pub mod Holding
 pub mod Own
 pub mod TakingAll
+pub mod Orders
 pub mod ToldLemmas
 pub mod Serving
 pub mod RoundLemmas

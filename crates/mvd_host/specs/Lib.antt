@@ -2,6 +2,7 @@ pub mod Hosts
 pub mod Inside
 pub mod Course
 pub mod Taking
+pub mod Arranging
 pub mod Queueing
 pub mod Round
 pub mod Runs

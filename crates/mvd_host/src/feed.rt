@@ -1,6 +1,6 @@
 //! The keys that changed of late: those that each round may have changed, and the root of the hash tree after it. A root
 //! tells what a reader knows: states only grow, so one that was never comes again.
-ghost use Rattle.std.specs.Prelude.{◌≡◌, ◌≤◌, IfOk, IfSome, OnErr, OnOk, List, [], ℕ, drop, length, map, option_map};
+ghost use Rattle.std.specs.Prelude.{◌≡◌, ◌≤◌, IfOk, IfSome, IsOkUnless, OnErr, OnOk, List, [], ℕ, drop, length, map, option_map};
 ghost use Rattle.mvd_host.specs.Feeds.{keys_in, knows_nothing, knows_root, lasts, noted_in, noted_since, root_now, told_from, told_since};
 ghost use Rattle.mvd_host.specs.Lists.{ChangesAmong, IsListed, Lists, ListsOn, root_of};
 ghost use Rattle.mvd_site.specs.Held.{States};
@@ -134,6 +134,7 @@ impl Feed {
         ensures told { IfOk result (λ told. option_map (λ keys. keys.items) told ≡ told_since self.now root.now) }
         ensures listed { (past : List States) (now : States) → Lists self.now past now →
             IfOk result (λ told. IsListed root.now past now (option_map (λ keys. keys.items) told)) }
+        ensures memory { IsOkUnless result Refusal.Memory }
     {
         match self.place_of(root) {
             Some(place) => self.keys_from(place),
@@ -162,7 +163,8 @@ impl Feed {
     /// The keys noted from this round on, each once.
     fn keys_from(&self, place: usize) -> Result<Option<Vec<Key>>, Refusal>
         requires { place ≤ length self.now.rounds }
-        ensures { IfOk result (λ told. option_map (λ keys. keys.items) told ≡ told_from self.now.rounds place) }
+        ensures told { IfOk result (λ told. option_map (λ keys. keys.items) told ≡ told_from self.now.rounds place) }
+        ensures memory { IsOkUnless result Refusal.Memory }
     {
         let mut lasts = Lasts::new(self.alloc);
         let mut left = self.rounds.len();
@@ -225,7 +227,8 @@ impl<'a> Lasts<'a> {
 
     /// All of them, in order.
     fn in_order(&self, alloc: Global) -> Result<Vec<Key>, Refusal>
-        ensures { (keys : List (List ℕ)) → Gathers self.now keys → IfOk result (λ told. told.items ≡ lasts keys) }
+        ensures keys { (keys : List (List ℕ)) → Gathers self.now keys → IfOk result (λ told. told.items ≡ lasts keys) }
+        ensures memory { IsOkUnless result Refusal.Memory }
     {
         let mut keys = Vec::with_capacity(alloc, self.found.len())?;
         let mut left = self.found.len();

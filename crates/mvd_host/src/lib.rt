@@ -2,6 +2,7 @@
 //! reply is queued on its own connection.
 #![tactic(auto)]
 
+mod arranging;
 mod feed;
 mod host;
 pub mod laws;

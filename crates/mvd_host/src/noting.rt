@@ -72,7 +72,7 @@ fn is_counted(before: u64, now: u64) -> bool
 }
 
 /// The key that a request asks to change.
-fn key_asked(request: &Request) -> Option<&Key>
+pub(crate) fn key_asked(request: &Request) -> Option<&Key>
     ensures { option_copied result ≡ asked_key request.now }
 {
     match request {

@@ -8,12 +8,14 @@ ghost use Rattle.mvd_wire.specs.Frames.{FrameValue};
 ghost use Rattle.mvd_conn.specs.History.{History, after_next, released};
 ghost use Rattle.mvd_host.specs.Course.{asked_by};
 
+use crate::arranging::arranged;
 use mvd_conn::Connection;
 use mvd_dots::Refusal;
 use mvd_frames::decode_request;
 use mvd_wire::Request;
 use std::alloc::{AllocError, Global};
 use std::collections::BTreeMap;
+use std::mem;
 
 /// As many frames of a client are taken in one round: as many as share a commit.
 const FRAMES_MAX: usize = 1_024;
@@ -28,6 +30,7 @@ pub(crate) struct Taken {
 }
 
 impl Taken {
+    ghost use Rattle.mvd_host.specs.Arranging.{Arranges};
     ghost use Rattle.mvd_host.specs.Course.{own};
     ghost use Rattle.mvd_host.specs.Hosts.{IfClient, client_in};
     ghost use Rattle.mvd_host.specs.Taking.{EndsTaking, Extends, HasRoom, Holds, IsIdle, Keeps, IsMore, IsNone};
@@ -143,8 +146,38 @@ impl Taken {
         }
     }
 
-    /// Takes frames of some clients. Whether memory was refused for one.
+    /// Puts the requests into the order in which they are answered.
+    fn arrange(&mut self, alloc: Global)
+        requires { length self.old.clients.items ≡ length self.old.requests.items }
+        ensures { Arranges self.old self.new }
+    {
+        let clients = mem::replace(&mut self.clients, Vec::new(alloc));
+        let requests = mem::replace(&mut self.requests, Vec::new(alloc));
+        let (clients, requests) = arranged(alloc, clients, requests);
+        self.clients = clients;
+        self.requests = requests;
+    }
+
+    /// Takes frames of some clients, and arranges them. Whether memory was refused for one.
     pub(crate) fn take_all(
+        &mut self,
+        alloc: Global,
+        clients: &mut BTreeMap<u64, Connection>,
+        ready: &[u64],
+    ) -> bool
+        requires none { Holds [] [] self.old }
+        ensures took { TakesFairly result ready.now (length ready.now) clients.old.entries
+            clients.new.entries self.new }
+        ensures idle { result ≡ false → IsNone self.new → (i : ℕ) → i < length ready.now →
+            IfClient (client_in clients.new.entries (slice_index ready.now i)) IsIdle }
+    {
+        let refused = self.take_each(alloc, clients, ready);
+        self.arrange(alloc);
+        refused
+    }
+
+    /// Takes frames of some clients, one client after the other. Whether memory was refused for one.
+    fn take_each(
         &mut self,
         alloc: Global,
         clients: &mut BTreeMap<u64, Connection>,

@@ -6,8 +6,8 @@ use Rattle.mvd_host.specs.Gathered.{Gathers}
 use Rattle.mvd_host.proofs.Feeding.{keys_in-drop, many_told, some_told, few_gathered}
 use Rattle.mvd_host.proofs.feed.Feed.keys_from.Goals as goal
 
-pub returns-then-not-branch : goal.returns-then-not-branch
-returns-then-not-branch c =
+pub returns-then-not-branch-clause-told : goal.returns-then-not-branch-clause-told
+returns-then-not-branch-clause-told c =
     let rounds = c.args.self.now.rounds in
     let i = c.rounds.left - 1 in
     let noted = c.index.result.now in
@@ -21,11 +21,11 @@ returns-then-not-branch c =
     ∙ ap₂ (λ (l : List Key) n. l ++ keys_in (drop n rounds)) (sym keys) (sym next) in
     many_told rounds c.args.place i (omega arith) (subst (λ (l : List Key). told_most < length (lasts l)) (sym here) all)
 
-pub returns : goal.returns
-returns c =
+pub returns-clause-told : goal.returns-clause-told
+returns-clause-told c =
     let rounds = c.args.self.now.rounds in
     let at : c.rounds.left ≡ c.args.place = omega arith in
     let keys = keys_in (drop c.rounds.left rounds) in
-    ap (λ (l : List Key). Some l) (c.in_ok-in_order.ensures keys c.rounds.invariant.2)
+    ap (λ (l : List Key). Some l) (c.in_ok-in_order.ensures.keys keys c.rounds.invariant.2)
     ∙ some_told keys (few_gathered c.rounds.lasts keys c.rounds.invariant.2)
     ∙ ap (λ n. told_from rounds n) at

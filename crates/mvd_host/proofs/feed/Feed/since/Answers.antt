@@ -8,7 +8,7 @@ use Rattle.mvd_host.proofs.feed.Feed.since.Goals as goal
 pub returns-in-Some-clause-told : goal.returns-in-Some-clause-told
 returns-in-Some-clause-told c =
     let is : told_from c.args.self.now.rounds c.in-Some.place ≡ told_since c.args.self.now c.args.root.now = ap (option_and_then (λ (keys : List Key). if_few (lasts keys))) (sym c.in-Some.ensures.place) in
-    subst (λ (o : Option (List Key)). IfOk c.keys_from.result (λ told. option_map (λ keys. keys.items) told ≡ o)) is c.keys_from.ensures
+    subst (λ (o : Option (List Key)). IfOk c.keys_from.result (λ told. option_map (λ keys. keys.items) told ≡ o)) is c.keys_from.ensures.told
 
 pub returns-in-Some-clause-listed : goal.returns-in-Some-clause-listed
 returns-in-Some-clause-listed c past now lists =

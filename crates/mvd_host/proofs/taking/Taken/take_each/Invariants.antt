@@ -1,7 +1,7 @@
 use Rattle.std.proofs.Common.{◌≡◌, ◌<◌, ℕ, false, slice_index}
 use Rattle.mvd_host.specs.Hosts.{IfClient, client_in}
 use Rattle.mvd_host.specs.Taking.{IsIdle, IsNone, TakesFairly}
-use Rattle.mvd_host.proofs.taking.Taken.take_all.Given as goal
+use Rattle.mvd_host.proofs.taking.Taken.take_each.Given as goal
 
 -- frames of the clients so far were taken; where there were none, nothing comes next of them
 abbrev pub invariant-loop-client : goal.invariant-loop-client

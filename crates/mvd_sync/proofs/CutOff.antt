@@ -25,7 +25,7 @@ use Rattle.mvd_sync.proofs.Joined.{filtered, joins_of, member_at}
 use Rattle.mvd_sync.proofs.Keys.{Each-weaker, member_has}
 use Rattle.mvd_peer.proofs.Pushes.{tied}
 use Rattle.mvd_sync.proofs.Taking.{Ask, Phase, ask_keys, phase, same_state}
-use Rattle.mvd_sync.proofs.Window.{ArePlanned, IsPlanned, IsState, Pulled, Wants, Wants_peer, asked_keys, asks_of, included, it_has, left, mine as asks_mine, not_asked, nothing, pairs_same, theirs as asks_theirs, took, wants_local, wants_peer}
+use Rattle.mvd_sync.proofs.OneWindow.{ArePlanned, IsPlanned, IsState, Pulled, Wants, Wants_peer, asked_keys, asks_of, included, it_has, left, mine as asks_mine, not_asked, nothing, pairs_same, theirs as asks_theirs, took, wants_local, wants_peer}
 use Rattle.mvd_sync.proofs.Windowed.{all_planned, distinct_keys, each_both, each_noted, facts, from_so_far, here, keys_noted, keys_of_done, local_phase, meeting_keys, not_after, pulled, same_x}
 use Rattle.mvd_sync.proofs.Positions.{JoinsBy, SoFarBy}
 

@@ -84,7 +84,7 @@ long_told n path m t e =
       | false ↦ long_children n path e ds
     ]
 
-long_told_all : (n : ℕ) (ps : List (List ℕ)) (ms ts : List Node) → AreLong n ps → AreLong (n + 1) (told_all ps ms ts)
+pub long_told_all : (n : ℕ) (ps : List (List ℕ)) (ms ts : List Node) → AreLong n ps → AreLong (n + 1) (told_all ps ms ts)
 long_told_all n [] ms ts e = tt
 long_told_all n (p ∷ ps) [] ts e = tt
 long_told_all n (p ∷ ps) (m ∷ ms) [] e = tt

@@ -32,7 +32,7 @@ pub none_waits : (inside before : Exchanging) (waiting : List Entry) → inside 
 none_waits inside before waiting e f = λ i. record (e i) { waiting = f i }
 
 -- each key counts once
-all_count : (ds : List Done) → length (given_keys ds) + length (left_keys ds) ≡ length ds
+pub all_count : (ds : List Done) → length (given_keys ds) + length (left_keys ds) ≡ length ds
 all_count [] = refl
 all_count (d ∷ ds) =
     let g = ap length (Rattle.mvd_sync.proofs.Counting.given_append (d ∷ []) ds) ∙ length-append (given_keys (d ∷ [])) (given_keys ds) in

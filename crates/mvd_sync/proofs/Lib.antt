@@ -25,7 +25,7 @@ pub mod Descending
 pub mod Answering
 pub mod ToldPages
 pub mod Paging
-pub mod Window
+pub mod OneWindow
 pub mod Counting
 pub mod Carrying
 pub mod Joined
@@ -39,5 +39,7 @@ pub mod Stages
 pub mod CutOff
 pub mod Exchanged
 pub mod Exchanging
-pub mod Telling
+pub mod Reported
 pub mod Sessions
+pub mod Machined
+pub mod Stepping

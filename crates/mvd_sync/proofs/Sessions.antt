@@ -21,7 +21,7 @@ use Rattle.mvd_sync.proofs.Compose.{answered_still}
 use Rattle.mvd_sync.proofs.Going.{course_done, course_ends, goes_of_end, goes_of_exchange, goes_of_reads, goes_on}
 use Rattle.mvd_sync.proofs.Joined.{joins_of, joins_some}
 use Rattle.mvd_sync.proofs.Keys.{Each-weaker}
-use Rattle.mvd_sync.proofs.Telling.{tells_of}
+use Rattle.mvd_sync.proofs.Reported.{tells_of}
 use Rattle.mvd_sync.proofs.Walks.{digests_differ}
 use Rattle.mvd_sync.proofs.Positions.{AreFewForBy, ExchangesBy, GoesOnWithinBy, FindsBucketsBy, FindsBy, GoesBy, GoesOnBy, GoesOverBy, JoinsSomeBy, MeetsBy, ReadsEndBy, SessionBy, SoFarBy}
 

@@ -63,7 +63,7 @@ same_length ms es h =
     let b = length-map es (λ (e : Entry). e.key) in
     sym a ∙ ap length h ∙ b
 
-held_one : (side : Side) (e : Entry) (es : List Entry) → length (held_keys side (e ∷ es)) ≡ cond (is_held side e) 1 0 + length (held_keys side es)
+pub held_one : (side : Side) (e : Entry) (es : List Entry) → length (held_keys side (e ∷ es)) ≡ cond (is_held side e) 1 0 + length (held_keys side es)
 held_one side e es =
     elim (is_held side e) as (λ b. length (map (λ (e : Entry). e.key) (cond b (e ∷ filter (is_held side) es) (filter (is_held side) es))) ≡ cond b 1 0 + length (held_keys side es)) [ true ↦ omega arith | false ↦ omega arith ]
 

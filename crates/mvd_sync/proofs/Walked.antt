@@ -164,7 +164,7 @@ pub quiet_if : (asks : Bool) (asked : List PageQuestion) → (asks ≡ true) ↔
 quiet_if asks [] is quiet = refl
 quiet_if asks (q ∷ asked) is quiet = absurd (true≢false (sym (is.1 (λ none. absurd (cc))) ∙ quiet))
 
-no_window : (rest : List (List ℕ)) → map first_page (take 64 rest) ≡ [] → rest ≡ []
+pub no_window : (rest : List (List ℕ)) → map first_page (take 64 rest) ≡ [] → rest ≡ []
 no_window [] none = refl
 no_window (path ∷ rest) none = absurd (cc)
 

@@ -25,7 +25,7 @@ use Rattle.mvd_peer.proofs.JoinLaws.{valid_at}
 use Rattle.mvd_sync.proofs.Keys.{Each-weaker, is_member-append, member_has, or_left, or_right}
 use Rattle.mvd_peer.proofs.Pushes.{Each-append, tied}
 use Rattle.mvd_sync.proofs.Taking.{Ask, ComesFrom, Phase, apart_of, phase, same_state}
-use Rattle.mvd_sync.proofs.Window.{ArePlanned, IsPlanned, IsState, IsStill, MayTake, Plan, Pulled, asked_keys, asks_of, local_after, pairs_same, peer_after, planned}
+use Rattle.mvd_sync.proofs.OneWindow.{ArePlanned, IsPlanned, IsState, IsStill, MayTake, Plan, Pulled, asked_keys, asks_of, local_after, pairs_same, peer_after, planned}
 use Rattle.mvd_sync.proofs.Positions.{CameToBy, IsDoneBy, SoFarBy}
 
 abbrev pub meeting_keys : List Meeting → List (List ℕ)

@@ -13,3 +13,6 @@ pub mod Meetings
 pub mod Carries
 pub mod OneTurn
 pub mod Nodes
+pub mod Steps
+pub mod Tellings
+pub mod Machines

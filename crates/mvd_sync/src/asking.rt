@@ -72,7 +72,7 @@ impl Made<Digests> for Node {
 }
 
 /// What is made of all answers to the questions of a window, of which so many were taken and so many wanted.
-fn read_all<A: Drop, B: Made<A>>(
+pub fn read_all<A: Drop, B: Made<A>>(
     alloc: Global,
     told: Result<Vec<Result<A, Refusal>>, Refusal>,
     taken: usize,

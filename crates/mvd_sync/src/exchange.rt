@@ -239,8 +239,24 @@ impl Exchange {
         Ok(())
     }
 
+    /// The number of the local site, where it is known.
+    pub fn number(&self) -> Option<u32>
+        ensures { result ≡ self.now.number }
+    {
+        self.number
+    }
+
+    /// The keys that wait, which are taken out.
+    pub fn taken_out(&mut self) -> Vec<Entry>
+        ensures entries { result.items ≡ self.old.waiting }
+        ensures held { Each IsHeldByEither result.items }
+        ensures none { self.new ≡ record self.old { waiting = [] } }
+    {
+        std::mem::replace(&mut self.waiting, Vec::new(self.alloc))
+    }
+
     /// One more key waits.
-    fn wait(&mut self, entry: Entry) -> Result<(), Refusal>
+    pub fn wait(&mut self, entry: Entry) -> Result<(), Refusal>
         requires held { IsHeldByEither entry }
         ensures waits { OnOk result (self.new ≡ record self.old { waiting = self.old.waiting ++ entry ∷ [] }) }
         ensures number { self.new.number ≡ self.old.number }
@@ -251,7 +267,7 @@ impl Exchange {
     }
 
     /// Whether as many keys wait as are exchanged at once.
-    fn is_full(&self) -> bool
+    pub fn is_full(&self) -> bool
         ensures { IsTrue result ↔ (1000 ≤ length self.now.waiting) }
     {
         self.waiting.len() >= WINDOW
@@ -283,7 +299,7 @@ impl Exchange {
     }
 
     /// Counts the keys of a window, and names the first that were refused.
-    fn tell(&mut self, meetings: Vec<Meeting>) -> Result<(), Refusal>
+    pub fn tell(&mut self, meetings: Vec<Meeting>) -> Result<(), Refusal>
         requires room { self.old.keys + self.old.refused + length meetings.items < 2 ^ 64 }
         ensures adds { OnOk result (Adds (map done_of meetings.items) self.old self.new) }
         ensures number { self.new.number ≡ self.old.number }

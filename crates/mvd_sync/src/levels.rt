@@ -105,7 +105,7 @@ pub fn first_of(rest: &[Path]) -> &[Path]
 /// A descent from the root to the buckets that differ, between two windows of questions: the nodes of a level, how many
 /// of them both sides have told, and the children found.
 #[derive(Drop)]
-struct Descent {
+pub struct Descent {
     alloc: Global,
     depth: u8,
     paths: Vec<Path>,
@@ -126,7 +126,7 @@ impl Model for Descent {
 
 impl Descent {
     /// It begins with the root.
-    fn new(alloc: Global) -> Result<Descent, Refusal>
+    pub fn new(alloc: Global) -> Result<Descent, Refusal>
         ensures root { IfOk result (λ descent. descent ≡ record { depth = 0; rest = [] ∷ []; below = [] }) }
         ensures memory { IfErr result (λ refusal. refusal ≡ Refusal.Memory) }
     {
@@ -140,21 +140,21 @@ impl Descent {
     }
 
     /// Whether nothing is left to ask.
-    fn is_done(&self) -> bool
+    pub fn is_done(&self) -> bool
         ensures { IsTrue result ↔ IsDown self.now }
     {
         self.depth >= 3 || self.told == self.paths.len()
     }
 
     /// What both sides are asked next: at most 64 nodes.
-    fn window(&self) -> &[Path]
+    pub fn window(&self) -> &[Path]
         ensures { result.now ≡ next_nodes self.now }
     {
         first_of(&self.paths[self.told..])
     }
 
     /// Takes what both sides told of these nodes. After the last of its level the children found are next.
-    fn take(&mut self, mine: &[Node], theirs: &[Node]) -> Result<(), Refusal>
+    pub fn take(&mut self, mine: &[Node], theirs: &[Node]) -> Result<(), Refusal>
         requires high { self.old.depth < 3 }
         requires short { Each (λ path. length path < 3) (next_nodes self.old) }
         requires mine { length mine.now ≡ length (next_nodes self.old) }
@@ -176,7 +176,7 @@ impl Descent {
     }
 
     /// The nodes that are left when it is done: the buckets, or none.
-    fn buckets(self) -> Vec<Path>
+    pub fn buckets(self) -> Vec<Path>
         requires { IsDown self }
         ensures { result.items ≡ self.rest }
     {

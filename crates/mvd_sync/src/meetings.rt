@@ -1,5 +1,5 @@
 //! The keys of a window: what each side is to take of them, and how they were refused.
-ghost use Rattle.std.specs.Prelude.{◌≡◌, map, filter_map, IfOk, OnOk, IfErr, None, Some, false, option_map, ◌++◌, []};
+ghost use Rattle.std.specs.Prelude.{◌≡◌, length, map, filter_map, IfOk, OnOk, IfErr, None, Some, false, option_map, ◌++◌, []};
 ghost use Rattle.std.specs.List.{cons_option};
 ghost use Rattle.mvd_sync.specs.Meetings.{ArePlans, IsPlan, first_if, held_keys, is_held, noted, pair_of, rest_if};
 ghost use Rattle.mvd_sync.specs.Meetings.{taken_from, wanted};
@@ -49,6 +49,19 @@ pub fn keys_held(alloc: Global, entries: &[Entry], side: Side) -> Result<Vec<Key
         }
     }
     Ok(keys)
+}
+
+/// How many of the keys of a window a side holds, as its page told.
+pub fn count_held(entries: &[Entry], side: Side) -> usize
+    ensures { result ≡ length (held_keys side entries.now) }
+{
+    let mut count = 0;
+    for entry in entries {
+        if is_held(entry, side) {
+            count += 1;
+        }
+    }
+    count
 }
 
 /// What is to be done for a key that both sides hold. States that clash are refused at the local side.

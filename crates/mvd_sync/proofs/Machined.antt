@@ -1,0 +1,513 @@
+-- A session between two windows of questions.
+use Rattle.std.proofs.Common.{◌≡◌, ◌≢◌, ℕ, zero, suc, ◌+◌, ◌<◌, ◌≤◌, ◌^◌, ◌↔◌, Bool, true, false, cond, not, List, [], ◌∷◌, ◌++◌, map, length, drop, take, refl, sym, ap, subst, ◌∙◌, arith, Option, Some, None, inl, inr, length-append, length-drop}
+use Rattle.std.specs.Prelude.{IfErr, IfOk, IfSome, Result, Ok, Err, Vec, ◌⊎◌}
+use Rattle.std.specs.declared.alloc.Global.{Global}
+use Rattle.std.proofs.lemmas.Bool.{cases_lt}
+use Rattle.std.proofs.lemmas.List.{length-map}
+use Rattle.mvd_dots.specs.declared.refusals.Refusal.{Refusal}
+use Rattle.mvd_dots.specs.declared.refusals.Refusal.TheVariants.{Memory}
+use Rattle.mvd_peer.specs.PushedStates.{Each}
+use Rattle.mvd_sync.specs.Answers.{ListingValue}
+use Rattle.mvd_sync.specs.Exchanges.{Adds, Done as DoneKey, Exchanging, IsHeldByEither}
+use Rattle.mvd_sync.specs.Level.{GoesDown, IsDown, Level, along, down, next_nodes}
+use Rattle.mvd_sync.specs.Machines.{Asks, AsksFor, Begins, Carried, FromTurn, FromWalk, GoesAlone, HasNext, HasRoom, Hears, HearsAt, IsFit, IsFitting, IsQuiet, Machining, Settles, Stands, TakesShares, Went, both, counts, count_of, ends, equal, fills, goes as took, goes_on, hears, here, in_flight, is_same, last, none_found, of_local, of_other, of_peer, of_side, on, quiet, share_of, stage_after, stays, turns, waits}
+use Rattle.mvd_sync.specs.Meetings.{ArePlans, done_of, held_keys, noted, rest_if, taken_from}
+use Rattle.mvd_sync.specs.OneTurn.{untold}
+use Rattle.mvd_sync.specs.Walk.{told_all}
+use Rattle.mvd_sync.specs.Walking.{GoesTo, IsTold, IsWalked, PageQuestion, Walking, closes, ends as no_later, fills as fills_page, moves, opens, pages_next, tells, waits as waits_page}
+use Rattle.mvd_sync.specs.declared.asking.Node.{Node}
+use Rattle.mvd_sync.specs.declared.asking.Questions.{Questions}
+use Rattle.mvd_sync.specs.declared.cursor.Entry.{Entry}
+use Rattle.mvd_sync.specs.declared.meetings.Meeting.{Meeting}
+use Rattle.mvd_sync.specs.declared.report.Side.{Side}
+use Rattle.mvd_sync.specs.declared.report.Side.TheVariants.{Local as AtLocal, Peer as AtPeer}
+use Rattle.mvd_sync.specs.declared.asked.Step.{Step}
+use Rattle.mvd_sync.specs.declared.report.SyncFault.{SyncFault}
+use Rattle.mvd_sync.specs.declared.report.SyncFault.TheVariants.{Local}
+use Rattle.mvd_sync.specs.declared.stage.Stage.{Stage}
+use Rattle.mvd_sync.specs.declared.stage.Stage.TheVariants.{Descends, Walks, Meets, Carries, Done, Failed}
+use Rattle.mvd_sync.specs.declared.telling.Answers.{Answers}
+use Rattle.mvd_sync.specs.declared.telling.Share.{Share}
+use Rattle.mvd_sync.specs.declared.telling.Shares.{Shares}
+use Rattle.mvd_sync.specs.declared.turn.Turn.{Turn}
+use Rattle.mvd_sync.specs.declared.walking.Bucket.{Bucket}
+use Rattle.mvd_sync.proofs.Descents.{Each-take, long_told_all}
+use Rattle.mvd_sync.proofs.Exchanging.{all_count}
+use Rattle.mvd_sync.proofs.Keys.{Each-weaker}
+use Rattle.mvd_sync.proofs.Nodes.{Each-append}
+use Rattle.mvd_sync.proofs.Stages.{held_by_one, plan_keys, same_length}
+use Rattle.mvd_sync.proofs.Walked.{no_window, quiet_if, size_of}
+use Rattle.mvd_sync.proofs.WalkedOn.{found_held, goes_smaller}
+
+-- ---- how much room is left
+
+pub noted_long : (side : Side) (ms : List Meeting) (told : List (Result (Unit {0}) Refusal)) → length (noted side ms told) ≡ length ms
+noted_long side [] told = refl
+noted_long side (m ∷ ms) told = ap suc (noted_long side ms (rest_if m.asked told))
+
+counts_room : (ds : List DoneKey) (old new : Exchanging) → Adds ds old new → new.keys + new.refused ≡ old.keys + old.refused + length ds
+counts_room ds old new adds = let n = all_count ds in omega (arith, n, adds.keys, adds.refused)
+
+settles_room : (walk : Walking) (found : Option Entry) (old new : Exchanging) (stage : Stage) → Settles walk found old new stage → new.keys + new.refused + in_flight stage ≡ old.keys + old.refused
+settles_room walk found old new stage (none_found none same is) =
+    let k = ap (λ (w : Exchanging). w.keys) same in
+    let r = ap (λ (w : Exchanging). w.refused) same in
+    let f = ap in_flight is in
+    omega (arith, k, r, f)
+settles_room walk found old new stage (equal e some differs same is) =
+    let k = ap (λ (w : Exchanging). w.keys) same in
+    let r = ap (λ (w : Exchanging). w.refused) same in
+    let f = ap in_flight is in
+    omega (arith, k, r, f)
+settles_room walk found old new stage (waits e some differs same low is) =
+    let k = ap (λ (w : Exchanging). w.keys) same in
+    let r = ap (λ (w : Exchanging). w.refused) same in
+    let f = ap in_flight is in
+    omega (arith, k, r, f)
+settles_room walk found old new stage (fills e entries some differs list long same is) =
+    let k = ap (λ (w : Exchanging). w.keys) same in
+    let r = ap (λ (w : Exchanging). w.refused) same in
+    let f = ap in_flight is in
+    omega (arith, k, r, f)
+
+begins_room : (walk : Walking) (side : Side) (ms : List Meeting) (stage : Stage) → Begins walk side ms stage → in_flight stage ≡ length ms
+begins_room walk side ms stage b = ap in_flight b.is ∙ ap length b.begun.keys ∙ length-map ms (taken_from side)
+
+pub alone_room : (work : Exchanging) (stage : Stage) (work' : Exchanging) (stage' : Stage) → GoesAlone work stage work' stage' → work'.keys + work'.refused + in_flight stage' ≤ work.keys + work.refused + in_flight stage
+alone_room work (Descends level) work' stage' g =
+    let k = ap (λ (w : Exchanging). w.keys) g.0 in
+    let r = ap (λ (w : Exchanging). w.refused) g.0 in
+    let f = ap in_flight g.1 in
+    omega (arith, k, r, f)
+alone_room work (Walks walk) work' stage' (goes_on walk' found g settles) = let n = settles_room walk' found work work' stage' settles in omega (arith, n)
+alone_room work (Walks walk) work' stage' (last entries walked more list same is) =
+    let k = ap (λ (w : Exchanging). w.keys) same in
+    let r = ap (λ (w : Exchanging). w.refused) same in
+    let f = ap in_flight is in
+    omega (arith, k, r, f)
+alone_room work (Walks walk) work' stage' (ends walked none same is) =
+    let k = ap (λ (w : Exchanging). w.keys) same in
+    let r = ap (λ (w : Exchanging). w.refused) same in
+    let f = ap in_flight is in
+    omega (arith, k, r, f)
+alone_room work (Carries walk turn count) work' stage' (turns side same begins) =
+    let k = ap (λ (w : Exchanging). w.keys) same in
+    let r = ap (λ (w : Exchanging). w.refused) same in
+    let f = begins_room walk AtPeer (noted AtLocal turn.meetings.items turn.told.items) stage' begins in
+    let n = noted_long AtLocal turn.meetings.items turn.told.items in
+    omega (arith, k, r, f, n)
+alone_room work (Carries walk turn count) work' stage' (counts side adds is) =
+    let now = noted AtPeer turn.meetings.items turn.told.items in
+    let k = counts_room (map done_of now) work work' adds in
+    let m = length-map now done_of in
+    let n = noted_long AtPeer turn.meetings.items turn.told.items in
+    let f = ap in_flight is in
+    omega (arith, k, m, n, f)
+alone_room work (Meets walk entries) work' stage' never = absurd never
+alone_room work Done work' stage' never = absurd never
+alone_room work (Failed fault) work' stage' never = absurd never
+
+-- ---- how far it may go without a question
+
+abbrev size_of_turn : Side → ℕ
+size_of_turn AtLocal = 2
+size_of_turn AtPeer = 1
+
+abbrev pub size_at : Stage → ℕ
+size_at (Descends level) = 2
+size_at (Walks walk) = 1 + size_of walk
+size_at (Meets walk entries) = 0
+size_at (Carries walk turn count) = 1 + size_of walk + size_of_turn turn.side
+size_at Done = 0
+size_at (Failed fault) = 0
+
+settles_small : (walk : Walking) (found : Option Entry) (old new : Exchanging) (stage : Stage) → Settles walk found old new stage → size_at stage ≤ 1 + size_of walk
+settles_small walk found old new stage (none_found none same is) = let n = ap size_at is in omega (arith, n)
+settles_small walk found old new stage (equal e some differs same is) = let n = ap size_at is in omega (arith, n)
+settles_small walk found old new stage (waits e some differs same low is) = let n = ap size_at is in omega (arith, n)
+settles_small walk found old new stage (fills e entries some differs list long same is) = let n = ap size_at is in omega (arith, n)
+
+pub alone_smaller : (work : Exchanging) (stage : Stage) (work' : Exchanging) (stage' : Stage) → GoesAlone work stage work' stage' → size_at stage' < size_at stage
+alone_smaller work (Descends level) work' stage' g = let n = ap size_at g.1 in omega (arith, n)
+alone_smaller work (Walks walk) work' stage' (goes_on walk' found g settles) =
+    let n = goes_smaller walk found walk' g in
+    let m = settles_small walk' found work work' stage' settles in
+    omega (arith, n, m)
+alone_smaller work (Walks walk) work' stage' (last entries walked more list same is) = let n = ap size_at is in omega (arith, n)
+alone_smaller work (Walks walk) work' stage' (ends walked none same is) = let n = ap size_at is in omega (arith, n)
+alone_smaller work (Carries walk turn count) work' stage' (turns side same begins) =
+    let n = ap size_at begins.is in
+    let s = ap size_of_turn side in
+    let t = ap size_of_turn begins.begun.of_side in
+    omega (arith, n, s, t)
+alone_smaller work (Carries walk turn count) work' stage' (counts side adds is) =
+    let n = ap size_at is in
+    let s = ap size_of_turn side in
+    omega (arith, n, s)
+alone_smaller work (Meets walk entries) work' stage' never = absurd never
+alone_smaller work Done work' stage' never = absurd never
+alone_smaller work (Failed fault) work' stage' never = absurd never
+
+-- ---- it stays in form
+
+abbrev IsHeld : Option Entry → Type 0
+IsHeld found = IfSome found IsHeldByEither
+
+goes_held : (walk : Walking) (found : Option Entry) (walk' : Walking) → GoesTo walk found walk' → IsHeld walk.entry → IsHeld found × IsHeld walk'.entry
+goes_held walk found walk' (tells b b' e some takes full told is) held = (
+  subst IsHeld (sym told) (found_held b b' e takes),
+  subst IsHeld (sym (ap (λ (w : Walking). w.entry) is)) held,
+)
+goes_held walk found walk' (waits_page b b' e some takes wants told is) held = (
+  subst IsHeld (sym told) tt,
+  subst IsHeld (sym (ap (λ (w : Walking). w.entry) is)) (found_held b b' e takes),
+)
+goes_held walk found walk' (closes b some none none' told (moves c later more is)) held = (
+  subst IsHeld (sym told) tt,
+  subst IsHeld (sym (ap (λ (w : Walking). w.entry) is)) tt,
+)
+goes_held walk found walk' (closes b some none none' told (no_later no_more is)) held = (
+  subst IsHeld (sym told) tt,
+  subst IsHeld (sym (ap (λ (w : Walking). w.entry) is)) tt,
+)
+
+told_held : (walk : Walking) (mine theirs : List ListingValue) (found : Option Entry) (walk' : Walking) → IsTold walk mine theirs found walk' → IsHeld walk.entry → IsHeld found × IsHeld walk'.entry
+told_held walk mine theirs found walk' (opens b later none all told is) held = (
+  subst IsHeld (sym told) tt,
+  subst IsHeld (sym (ap (λ (w : Walking). w.entry) is)) tt,
+)
+told_held walk mine theirs found walk' (fills_page b e some waited after after' told is) held = (
+  subst IsHeld (sym told) (subst IsHeld waited held),
+  subst IsHeld (sym (ap (λ (w : Walking). w.entry) is)) tt,
+)
+
+-- fewer than a thousand wait, and each is held
+abbrev Waits : Exchanging → Type 0
+Waits work = (length work.waiting < 1000) × Each IsHeldByEither work.waiting
+
+same_waits : (old new : Exchanging) → new.waiting ≡ old.waiting → Waits old → Waits new
+same_waits old new same w = subst (λ (es : List Entry). (length es < 1000) × Each IsHeldByEither es) (sym same) w
+
+none_waits : (work : Exchanging) → work.waiting ≡ [] → Waits work
+none_waits work none = subst (λ (es : List Entry). (length es < 1000) × Each IsHeldByEither es) (sym none) (omega arith, tt)
+
+settles_fit : (walk : Walking) (found : Option Entry) (old new : Exchanging) (stage : Stage) → Settles walk found old new stage → Waits old → IsHeld found → IsHeld walk.entry → Waits new × Stands stage
+settles_fit walk found old new stage (none_found none same is) w f held = (same_waits old new (ap (λ (w : Exchanging). w.waiting) same) w, subst Stands (sym is) held)
+settles_fit walk found old new stage (equal e some differs same is) w f held = (same_waits old new (ap (λ (w : Exchanging). w.waiting) same) w, subst Stands (sym is) held)
+settles_fit walk found old new stage (waits e some differs same low is) w f held = (
+  (low, subst (Each IsHeldByEither) (sym (ap (λ (w : Exchanging). w.waiting) same)) (Each-append IsHeldByEither old.waiting (e ∷ []) w.1 (subst IsHeld some f, tt))),
+  subst Stands (sym is) held,
+)
+settles_fit walk found old new stage (fills e entries some differs list long same is) w f held =
+    let n = ap length list in
+    let m = length-append old.waiting (e ∷ []) in
+    let l = w.0 in (
+      none_waits new (ap (λ (w : Exchanging). w.waiting) same),
+      subst Stands (sym is) (held, omega (arith, n, m, l), subst (Each IsHeldByEither) (sym list) (Each-append IsHeldByEither old.waiting (e ∷ []) w.1 (subst IsHeld some f, tt))),
+    )
+
+begins_stands : (walk : Walking) (side : Side) (ms : List Meeting) (stage : Stage) → Begins walk side ms stage → IsHeld walk.entry → Stands stage
+begins_stands walk side ms stage b held = subst Stands (sym b.is) (held, b.window, let n = ap length b.begun.fresh in omega (arith, n))
+
+alone_stands : (work : Exchanging) (stage : Stage) (work' : Exchanging) (stage' : Stage) → GoesAlone work stage work' stage' → Waits work → Stands stage → Waits work' × Stands stage'
+alone_stands work (Descends level) work' stage' g w s = (same_waits work work' (ap (λ (w : Exchanging). w.waiting) g.0) w, subst Stands (sym g.1) tt)
+alone_stands work (Walks walk) work' stage' (goes_on walk' found g settles) w s =
+    let held = goes_held walk found walk' g s in
+    settles_fit walk' found work work' stage' settles w held.0 held.1
+alone_stands work (Walks walk) work' stage' (last entries walked more list same is) w s =
+    let n = ap length list in
+    let l = w.0 in (
+      none_waits work' (ap (λ (w : Exchanging). w.waiting) same),
+      subst Stands (sym is) (s, omega (arith, n, l), subst (Each IsHeldByEither) (sym list) w.1),
+    )
+alone_stands work (Walks walk) work' stage' (ends walked none same is) w s = (none_waits work' (ap (λ (w : Exchanging). w.waiting) same), subst Stands (sym is) tt)
+alone_stands work (Carries walk turn count) work' stage' (turns side same begins) w s = (
+  same_waits work work' (ap (λ (w : Exchanging). w.waiting) same) w,
+  begins_stands walk AtPeer (noted AtLocal turn.meetings.items turn.told.items) stage' begins s.0,
+)
+alone_stands work (Carries walk turn count) work' stage' (counts side adds is) w s = (same_waits work work' adds.waiting w, subst Stands (sym is) s.0)
+alone_stands work (Meets walk entries) work' stage' never w s = absurd never
+alone_stands work Done work' stage' never w s = absurd never
+alone_stands work (Failed fault) work' stage' never w s = absurd never
+
+pub fit_of : (left : Questions) (work : Exchanging) (stage : Stage) → IsFitting left work stage → IsFit left work stage
+fit_of left work (Descends level) f = f
+fit_of left work (Walks walk) f = f
+fit_of left work (Meets walk entries) f = f
+fit_of left work (Carries walk turn count) f = f
+fit_of left work Done f = f
+fit_of left work (Failed fault) f = tt
+
+-- a stage that g on without a question has not failed
+quiet_fits : (left : Questions) (work : Exchanging) (stage : Stage) → IsQuiet stage → IsFit left work stage → IsFitting left work stage
+quiet_fits left work (Descends level) q f = f
+quiet_fits left work (Walks walk) q f = f
+quiet_fits left work (Meets walk entries) q f = f
+quiet_fits left work (Carries walk turn count) q f = f
+quiet_fits left work Done q f = f
+quiet_fits left work (Failed fault) q f = absurd q
+
+pub quiet_room : (left : Questions) (work : Exchanging) (stage : Stage) → IsQuiet stage → IsFit left work stage → HasRoom work stage
+quiet_room left work stage q f = let room = (quiet_fits left work stage q f).room in omega (arith, room)
+
+pub went_fit : (left : Questions) (work : Exchanging) (stage : Stage) {work' : Exchanging} {stage' : Stage} → Went work stage work' stage' → IsFit left work stage → IsFit left work' stage'
+went_fit left work stage (here work' stage' same is) fit = subst (λ w. IsFit left w stage') (sym same) (subst (λ s. IsFit left work s) (sym is) fit)
+went_fit left work stage (on mid work' stage1 stage' went q g) fit =
+    let f = quiet_fits left mid stage1 q (went_fit left work stage went fit) in
+    let room = f.room in
+    let less = alone_room mid stage1 work' stage' g in
+    let more = alone_stands mid stage1 work' stage' g (f.short, f.held) f.stands in
+    fit_of left work' stage' (record { room = omega (arith, room, less); short = more.0.0; held = more.0.1; stands = more.1 })
+
+-- ---- with answers
+
+Each-drop : {X : Type 0} (P : X → Type 0) (n : ℕ) (xs : List X) → Each P xs → Each P (drop n xs)
+Each-drop P zero xs h = h
+Each-drop P (suc n) [] h = tt
+Each-drop P (suc n) (x ∷ xs) h = Each-drop P n xs h.1
+
+-- a level of which both sides told stays in form
+goes_down_fit : (level : Level) (mine theirs : List Node) (after : Level) → GoesDown level mine theirs after → Stands (Descends level) → Stands (Descends after)
+goes_down_fit level mine theirs after (along more is) s =
+    let deep = Each-append (λ path. length path ≡ level.depth + 1) level.below (told_all (next_nodes level) mine theirs) s.1
+    (long_told_all level.depth (next_nodes level) mine theirs (Each-take (λ path. length path ≡ level.depth) 64 level.rest s.0)) in
+    subst (λ (l : Level). Stands (Descends l)) (sym is) (Each-drop (λ path. length path ≡ level.depth) 64 level.rest s.0, deep)
+goes_down_fit level mine theirs after (down none is) s =
+    let deep = Each-append (λ path. length path ≡ level.depth + 1) level.below (told_all (next_nodes level) mine theirs) s.1
+    (long_told_all level.depth (next_nodes level) mine theirs (Each-take (λ path. length path ≡ level.depth) 64 level.rest s.0)) in
+    subst (λ (l : Level). Stands (Descends l)) (sym is) (deep, tt)
+
+stays_same : (stage stage' : Stage) (mine theirs : Result (Unit {0}) Refusal) → Ok stage' ≡ stays stage mine theirs → stage' ≡ stage
+stays_same stage stage' (Err refusal) theirs is = absurd (cc)
+stays_same stage stage' (Ok x) (Err refusal) is = absurd (cc)
+stays_same stage stage' (Ok x) (Ok y) is = cc
+
+-- the side in turn is asked for what is next of its pushes
+own_count : (side : Side) (count : ℕ) → cond (is_same side side) count 0 ≡ count
+own_count AtLocal count = refl
+own_count AtPeer count = refl
+
+share_wanted : (side : Side) (stage : Stage) (left left' : Questions) (shares : Shares) → TakesShares stage left left' shares → (share_of side shares).wanted ≡ count_of side stage
+share_wanted AtLocal stage left left' shares takes = takes.wanted.0
+share_wanted AtPeer stage left left' shares takes = takes.wanted.1
+
+share_most : (side : Side) (stage : Stage) (left left' : Questions) (shares : Shares) → TakesShares stage left left' shares → (share_of side shares).asked ≤ (share_of side shares).wanted
+share_most AtLocal stage left left' shares takes = let a = takes.local.most in let b = takes.wanted.0 in omega (arith, a, b)
+share_most AtPeer stage left left' shares takes = let a = takes.peer.most in let b = takes.wanted.1 in omega (arith, a, b)
+
+pub own_share : (walk : Walking) (turn : Turn) (count : ℕ) (left left' : Questions) (shares : Shares) → TakesShares (Carries walk turn count) left left' shares → ((share_of turn.side shares).wanted ≡ count) × ((share_of turn.side shares).asked ≤ (share_of turn.side shares).wanted)
+own_share walk turn count left left' shares takes = (
+  share_wanted turn.side (Carries walk turn count) left left' shares takes ∙ own_count turn.side count,
+  share_most turn.side (Carries walk turn count) left left' shares takes,
+)
+
+heard_fit : (left : Questions) (work : Exchanging) (stage : Stage) (answers : Answers) (left' : Questions) (work' : Exchanging) (stage' : Stage) (shares : Shares)
+    → IsFitting left work stage → TakesShares stage left left' shares → HearsAt work stage shares answers work' (Ok stage') → IsFitting left' work' stage'
+heard_fit left work (Descends level) answers left' work' stage' shares fit takes h = elim h.1 [
+  | both mine theirs read read' g ↦
+      let a = takes.local.spent in
+      let b = takes.peer.spent in
+      let k = ap (λ (w : Exchanging). w.keys) h.0 in
+      let r = ap (λ (w : Exchanging). w.refused) h.0 in
+      let f = ap in_flight g.2 in
+      let room = fit.room in
+      let w = same_waits work work' (ap (λ (w : Exchanging). w.waiting) h.0) (fit.short, fit.held) in
+      record { room = omega (arith, a, b, k, r, f, room); short = w.0; held = w.1; stands = subst Stands (sym g.2) (goes_down_fit level mine.items theirs.items g.0 g.1 fit.stands) }
+  | of_local refusal why is ↦ absurd (cc)
+  | of_peer mine refusal read why is ↦ absurd (cc)
+]
+heard_fit left work (Walks walk) answers left' work' stage' shares fit takes h = elim h [
+  | both mine theirs read read' g ↦
+      let a = takes.local.spent in
+      let b = takes.peer.spent in
+      let n = settles_room g.0 g.1 work work' stage' g.3 in
+      let room = fit.room in
+      let held = told_held walk mine.items theirs.items g.1 g.0 g.2 fit.stands in
+      let more = settles_fit g.0 g.1 work work' stage' g.3 (fit.short, fit.held) held.0 held.1 in
+      record { room = omega (arith, a, b, n, room); short = more.0.0; held = more.0.1; stands = more.1 }
+  | of_local refusal why is ↦ absurd (cc)
+  | of_peer mine refusal read why is ↦ absurd (cc)
+]
+heard_fit left work (Meets walk entries) answers left' work' stage' shares fit takes h = elim h.1 [
+  | both mine theirs read read' g ↦
+      let a = takes.local.spent in
+      let b = takes.peer.spent in
+      let c = read.whole in
+      let d = read'.whole in
+      let e = takes.wanted.0 in
+      let e' = takes.wanted.1 in
+      let k = ap (λ (w : Exchanging). w.keys) h.0 in
+      let r = ap (λ (w : Exchanging). w.refused) h.0 in
+      let f = begins_room walk AtLocal g.0 stage' g.2 in
+      let n = same_length g.0 entries.items (plan_keys work.number entries.items mine.items theirs.items g.0 g.1) in
+      let one = held_by_one entries.items fit.stands.2 in
+      let room = fit.room in
+      let w = same_waits work work' (ap (λ (w : Exchanging). w.waiting) h.0) (fit.short, fit.held) in
+      record { room = omega (arith, a, b, c, d, e, e', k, r, f, n, one, room); short = w.0; held = w.1; stands = begins_stands walk AtLocal g.0 stage' g.2 fit.stands.0 }
+  | of_local refusal why is ↦ absurd (cc)
+  | of_peer mine refusal read why is ↦ absurd (cc)
+]
+heard_fit left work (Carries walk turn count) answers left' work' stage' shares fit takes h = elim h.1 [
+  | took stage quiet_other pushed is ↦
+      let a = takes.local.spent in
+      let b = takes.peer.spent in
+      let k = ap (λ (w : Exchanging). w.keys) h.0 in
+      let r = ap (λ (w : Exchanging). w.refused) h.0 in
+      let same : stage' ≡ Carries walk pushed.after pushed.count = (let p = pushed.goes in cc) in
+      let f = ap in_flight same in
+      let m = ap (λ (v : Vec Meeting Global). length v.items) pushed.same.keys in
+      let own = own_share walk turn count left left' shares takes in
+      let n = ap length pushed.more in
+      let l = length-append turn.told.items pushed.answers in
+      let c = pushed.counted in
+      let p = ap (λ (v : Vec (Rattle.mvd_keys.specs.Writes.Key × Rattle.mvd_keys.specs.State.State) Global). length v.items) pushed.same.takes in
+      let low = fit.stands.1.within in
+      let d = length-drop (length turn.told.items) turn.pairs.items in
+      let fits = fit.stands.2 in
+      let room = fit.room in
+      let w = same_waits work work' (ap (λ (w : Exchanging). w.waiting) h.0) (fit.short, fit.held) in
+      record {
+        room = omega (arith, a, b, k, r, f, m, room);
+        short = w.0;
+        held = w.1;
+        stands = subst Stands (sym same) (fit.stands.0, pushed.window, omega (arith, own.0, own.1, n, l, c, p, low, d, fits));
+      }
+  | of_other refusal why is ↦ absurd (cc)
+  | of_side refusal why is ↦ absurd (cc)
+]
+heard_fit left work Done answers left' work' stage' shares fit takes h = absurd h
+heard_fit left work (Failed fault) answers left' work' stage' shares fit takes h = absurd h
+
+asks_fits : (left : Questions) (work : Exchanging) (stage : Stage) → Asks stage → IsFit left work stage → IsFitting left work stage
+asks_fits left work (Descends level) q f = f
+asks_fits left work (Walks walk) q f = f
+asks_fits left work (Meets walk entries) q f = f
+asks_fits left work (Carries walk turn count) q f = f
+asks_fits left work Done q f = f
+asks_fits left work (Failed fault) q f = absurd q
+
+pub asks_stands : (left : Questions) (work : Exchanging) (stage : Stage) → Asks stage → IsFit left work stage → Stands stage
+asks_stands left work stage q f = (asks_fits left work stage q f).stands
+
+pub hears_fit : (left : Questions) (work : Exchanging) (stage : Stage) (answers : Answers) (left' : Questions) (work' : Exchanging) (result : Result Stage SyncFault)
+    → Hears left work stage answers left' work' result → IsFit left work stage → IsFit left' work' (stage_after result)
+hears_fit left work stage answers left' work' (Err fault) h fit = tt
+hears_fit left work stage answers left' work' (Ok stage') (quiet still same same' is) fit =
+    subst (λ l. IsFit l work' stage') (sym same) (subst (λ w. IsFit left w stage') (sym same') (subst (λ s. IsFit left work s) (sym (stays_same stage stage' _ _ is)) fit))
+hears_fit left work stage answers left' work' (Ok stage') (hears shares asks takes at) fit =
+    fit_of left' work' stage' (heard_fit left work stage answers left' work' stage' shares (asks_fits left work stage asks fit) takes at)
+
+-- ---- tests
+
+pub quiet_pages : (b : Bool) (qs : List PageQuestion) → (b ≡ true) ↔ (qs ≢ []) → (not b ≡ true) ↔ (qs ≡ [])
+quiet_pages true qs is = (λ never. absurd (cc), λ none. absurd (is.0 refl none))
+quiet_pages false qs is = (λ _. quiet_if false qs is refl, λ _. refl)
+
+pub quiet_turn : (b : Bool) (n m : ℕ) → (b ≡ true) ↔ (n < m) → (not b ≡ true) ↔ (m ≤ n)
+quiet_turn true n m is = (λ never. absurd (cc), λ low. let h = is.0 refl in absurd (omega (arith, h, low)))
+quiet_turn false n m is = (λ _. elim (cases_lt n m) [ inl less ↦ (let h = is.1 less in absurd (cc)) | inr more ↦ more ], λ _. refl)
+
+pub not_so : (b : Bool) (P : Type 0) → (b ≡ true) ↔ P → (not b ≡ true) ↔ (P → ⊥)
+not_so true P is = (λ never. absurd (cc), λ no. absurd (no (is.0 refl)))
+not_so false P is = (λ _ p. (let h = is.1 p in absurd (cc)), λ _. refl)
+
+-- what does not go on without a question asks one, unless it is done or has failed
+pub asks_of : (stage : Stage) → (IsQuiet stage → ⊥) → stage ≢ Done → ((fault : SyncFault) → stage ≢ Failed fault) → Asks stage
+asks_of (Descends level) loud done failed = loud
+asks_of (Walks walk) loud done failed = loud
+asks_of (Meets walk entries) loud done failed = tt
+asks_of (Carries walk turn count) loud done failed = elim (cases_lt (length turn.told.items) (length turn.pairs.items)) [ inl less ↦ less | inr more ↦ absurd (loud more) ]
+asks_of Done loud done failed = absurd (done refl)
+asks_of (Failed fault) loud done failed = absurd (failed fault refl)
+
+-- ---- what the parts want
+
+pub asks_high : (level : Level) → (IsDown level → ⊥) → level.depth < 3
+asks_high level loud = elim (cases_lt level.depth 3) [ inl less ↦ less | inr more ↦ absurd (loud (inl more)) ]
+
+pub asks_short : (level : Level) → (IsDown level → ⊥) → Stands (Descends level) → Each (λ path. length path < 3) (next_nodes level)
+asks_short level loud s =
+    let high = asks_high level loud in
+    Each-weaker (λ path. length path ≡ level.depth) (λ path. length path < 3) (λ path e. omega (arith, e, high)) (next_nodes level) (Each-take (λ path. length path ≡ level.depth) 64 level.rest s.0)
+
+amid_of : (b : Option Bucket) (e : Option Entry) (rest : List (List ℕ)) → ((b ≡ None) × (rest ≡ []) → ⊥) → pages_next b e rest ≡ [] → (b ≢ None) × (e ≡ None)
+amid_of None e rest more none = absurd (more (refl, no_window rest none))
+amid_of (Some b) None rest more none = (λ is. absurd (cc), refl)
+amid_of (Some b) (Some e) rest more none = absurd (cc)
+
+-- a walk that is not done and asks nothing is amid a bucket
+pub amid_bucket : (walk : Walking) → (IsWalked walk → ⊥) → pages_next walk.bucket walk.entry walk.rest ≡ [] → (walk.bucket ≢ None) × (walk.entry ≡ None)
+amid_bucket walk more none = amid_of walk.bucket walk.entry walk.rest more none
+
+pub goes_found : (walk : Walking) (found : Option Entry) (walk' : Walking) → walk.entry ≡ None → GoesTo walk found walk' → IfSome found IsHeldByEither
+goes_found walk found walk' none g = (goes_held walk found walk' g (subst IsHeld (sym none) tt)).0
+
+pub told_found : (walk : Walking) (mine theirs : List ListingValue) (found : Option Entry) (walk' : Walking) → IfSome walk.entry IsHeldByEither → IsTold walk mine theirs found walk' → IfSome found IsHeldByEither
+told_found walk mine theirs found walk' held told = (told_held walk mine theirs found walk' told held).0
+
+-- what a machine took, as its value tells it
+pub took_told : (inside at : Machining) (stage : Stage) (answers : Answers) (left' : Questions) (work' : Exchanging) (result r : Result Stage SyncFault)
+    → inside ≡ at → stage ≡ inside.stage → result ≡ r → Hears inside.left inside.work stage answers left' work' result → Hears at.left at.work at.stage answers left' work' r
+took_told inside at stage answers left' work' result r view same is h =
+    subst (λ (m : Machining). Hears m.left m.work m.stage answers left' work' r) view
+    (subst (λ s. Hears inside.left inside.work s answers left' work' r) same (subst (λ x. Hears inside.left inside.work stage answers left' work' x) is h))
+
+pub took_fit : (left : Questions) (work : Exchanging) (first stage after : Stage) (answers : Answers) (left' : Questions) (work' : Exchanging) (result : Result Stage SyncFault)
+    → stage ≡ first → result ≡ Ok after → IsFit left work first → Hears left work stage answers left' work' result → IsFit left' work' after
+took_fit left work first stage after answers left' work' result same is fit h =
+    subst (λ r. IsFit left' work' (stage_after r)) is (hears_fit left work stage answers left' work' result h (subst (λ s. IsFit left work s) (sym same) fit))
+
+-- ---- a machine goes on
+
+settles_never : (walk : Walking) (found : Option Entry) (old new : Exchanging) (stage : Stage) (fault : SyncFault) → Settles walk found old new stage → stage ≡ Failed fault → ⊥
+settles_never walk found old new stage fault (none_found none same is) failed = absurd (cc)
+settles_never walk found old new stage fault (equal e some differs same is) failed = absurd (cc)
+settles_never walk found old new stage fault (waits e some differs same low is) failed = absurd (cc)
+settles_never walk found old new stage fault (fills e entries some differs list long same is) failed = absurd (cc)
+
+begins_never : (walk : Walking) (side : Side) (ms : List Meeting) (stage : Stage) (fault : SyncFault) → Begins walk side ms stage → stage ≡ Failed fault → ⊥
+begins_never walk side ms stage fault b failed = let is = b.is in absurd (cc)
+
+alone_never : (work : Exchanging) (stage : Stage) (work' : Exchanging) (stage' : Stage) (fault : SyncFault) → GoesAlone work stage work' stage' → stage' ≡ Failed fault → ⊥
+alone_never work (Descends level) work' stage' fault g failed = let is = g.1 in absurd (cc)
+alone_never work (Walks walk) work' stage' fault (goes_on walk' found g settles) failed = settles_never walk' found work work' stage' fault settles failed
+alone_never work (Walks walk) work' stage' fault (last entries walked more list same is) failed = absurd (cc)
+alone_never work (Walks walk) work' stage' fault (ends walked none same is) failed = absurd (cc)
+alone_never work (Carries walk turn count) work' stage' fault (turns side same begins) failed = begins_never walk AtPeer (noted AtLocal turn.meetings.items turn.told.items) stage' fault begins failed
+alone_never work (Carries walk turn count) work' stage' fault (counts side adds is) failed = absurd (cc)
+alone_never work (Meets walk entries) work' stage' fault never failed = absurd never
+alone_never work Done work' stage' fault never failed = absurd never
+alone_never work (Failed f) work' stage' fault never failed = absurd never
+
+-- a machine has failed only by an answer
+failed_before : (work : Exchanging) (stage : Stage) {work' : Exchanging} {stage' : Stage} (fault : SyncFault) → Went work stage work' stage' → stage' ≡ Failed fault → stage ≡ Failed fault
+failed_before work stage fault (here work' stage' same is) failed = sym is ∙ failed
+failed_before work stage fault (on mid work' stage1 stage' went q g) failed = absurd (alone_never mid stage1 work' stage' fault g failed)
+
+pub went_view : (inside at : Machining) (stage : Stage) (work' : Exchanging) (stage' : Stage) → inside ≡ at → stage ≡ inside.stage → Went inside.work stage work' stage' → Went at.work at.stage work' stage'
+went_view inside at stage work' stage' view same went =
+    subst (λ (m : Machining). Went m.work m.stage work' stage') view (subst (λ s. Went inside.work s work' stage') same went)
+
+pub next_of : (old now : Machining) (result : Result (Option Step) SyncFault) → now.left ≡ old.left → Went old.work old.stage now.work now.stage → (IsQuiet now.stage → ⊥) → IfOk result (AsksFor now) → IfOk result (HasNext old now)
+next_of old now (Ok step) left went loud asks = record { left = left; went = went; loud = loud; asks = asks }
+next_of old now (Err fault) left went loud asks = tt
+
+pub ends_of : (old now : Machining) (result : Result (Option Step) SyncFault) → Went old.work old.stage now.work now.stage
+    → IfErr result (λ fault. (fault ≡ Local Memory) ⊎ (now.stage ≡ Failed fault)) → IfErr result (λ fault. (fault ≡ Local Memory) ⊎ (old.stage ≡ Failed fault))
+ends_of old now (Ok step) went why = tt
+ends_of old now (Err fault) went (inl memory) = inl memory
+ends_of old now (Err fault) went (inr failed) = inr (failed_before old.work old.stage fault went failed)
+
+-- ---- small facts
+
+pub was_false : (b : Bool) → not b ≡ true → b ≡ false
+was_false true is = absurd (cc)
+was_false false is = refl
+
+pub was_true : (b : Bool) → not b ≡ false → b ≡ true
+was_true true is = refl
+was_true false is = absurd (cc)
+
+pub walk_settles : (work : Exchanging) (walk walk' : Walking) (found : Option Entry) (work' : Exchanging) (result : Result Stage Refusal) → GoesTo walk found walk' → IfOk result (Settles walk' found work work') → IfOk result (FromWalk work walk work')
+walk_settles work walk walk' found work' (Ok stage) g settles = goes_on walk' found g settles
+walk_settles work walk walk' found work' (Err refusal) g settles = tt

@@ -1,0 +1,23 @@
+use Rattle.std.proofs.Common.{ℕ, Option, refl, subst, sym}
+use Rattle.mvd_sync.specs.Machines.{Asks, HearsAt, Met, ReadBoth, Stands}
+use Rattle.mvd_sync.specs.Tellings.{IsRead, IsStateOf, never, states_told}
+use Rattle.mvd_sync.specs.declared.stage.Stage.{Stage}
+use Rattle.mvd_sync.proofs.Machined.{asks_short}
+use Rattle.mvd_sync.proofs.hearing.hear_at.Goals as goal
+
+pub hear_nodes-requires-clause-short : goal.hear_nodes-requires-clause-short
+hear_nodes-requires-clause-short c = asks_short c.in-Descends.descent (subst Asks c.in-Descends.is c.requires.asks) (subst Stands c.in-Descends.is c.requires.stands)
+
+pub returns-in-Descends : goal.returns-in-Descends
+returns-in-Descends c = subst (λ (s : Stage). HearsAt c.args.exchange.now s c.args.shares c.args.answers c.args.exchange.now c.hear_nodes.result) (sym c.in-Descends.is) (refl, c.hear_nodes.ensures)
+
+pub returns-in-Walks : goal.returns-in-Walks
+returns-in-Walks c = subst (λ (s : Stage). HearsAt c.args.exchange.now s c.args.shares c.args.answers c.hear_pages.new.exchange c.hear_pages.result) (sym c.in-Walks.is) c.hear_pages.ensures
+
+pub returns-in-Meets : goal.returns-in-Meets
+returns-in-Meets c =
+    let h = subst (λ (n : Option ℕ). ReadBoth (IsRead IsStateOf never (states_told c.args.answers.mine) c.args.shares.local) (IsRead IsStateOf never (states_told c.args.answers.theirs) c.args.shares.peer) (Met n c.in-Meets.walk c.in-Meets.entries.items) c.hear_states.result) c.number.ensures c.hear_states.ensures in
+    subst (λ (s : Stage). HearsAt c.args.exchange.now s c.args.shares c.args.answers c.args.exchange.now c.hear_states.result) (sym c.in-Meets.is) (refl, h)
+
+pub returns-in-Carries : goal.returns-in-Carries
+returns-in-Carries c = subst (λ (s : Stage). HearsAt c.args.exchange.now s c.args.shares c.args.answers c.args.exchange.now c.hear_pushes.result) (sym c.in-Carries.is) (refl, c.hear_pushes.ensures)

@@ -6,8 +6,9 @@ pub mod ending;
 mod guard;
 pub mod laws;
 mod room;
-mod scan;
+pub mod scan;
 
 pub use connection::Connection;
 pub use ending::{Ending, Source};
 pub use guard::Guard;
+pub use scan::{Front, front_of};

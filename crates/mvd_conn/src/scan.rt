@@ -10,7 +10,7 @@ use mvd_wire::FRAME_LIMIT;
 
 /// What bytes begin with.
 #[derive(Clone, Copy)]
-pub(crate) enum Front {
+pub enum Front {
     /// A whole frame, of so many bytes with its length.
     Whole(usize),
     /// A part of a frame, or nothing.
@@ -33,7 +33,7 @@ pub(crate) enum Found {
 }
 
 /// Looks at the front of the bytes. It reads four of them.
-pub(crate) fn front_of(bytes: &[u8]) -> Front
+pub fn front_of(bytes: &[u8]) -> Front
     ensures { IsFront bytes.now result }
 {
     if bytes.len() < 4 {

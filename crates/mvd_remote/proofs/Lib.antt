@@ -2,3 +2,4 @@ pub mod Turns
 pub mod RemoteSides
 pub mod Lined
 pub mod FarSides
+pub mod Mailed

@@ -2,3 +2,4 @@ pub mod Links
 pub mod LinkWindows
 pub mod Lines
 pub mod Remotes
+pub mod Mail

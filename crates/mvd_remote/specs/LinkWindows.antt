@@ -107,3 +107,47 @@ AsksForAll as_reply kind requests old new result =
 abbrev pub IsOfKind : ℕ → Result Reply Refusal → Type 0
 IsOfKind kind (Ok reply) = (kind_of reply ≡ kind) ⊎ (kind_of reply ≡ 0xEE)
 IsOfKind kind (Err refusal) = Unit {0}
+
+-- ---- a window in two halves
+
+-- its frames went out, and nothing was read; or the link had refused before; or the writer failed after a front of them
+abbrev pub Leaves : Frames → Link → Link → Result (Unit {0}) Refusal → Type 0
+Leaves frames old new (Ok done) = Appends old.output new.output frames.0 × (new.input ≡ old.input) × IsUp new
+Leaves frames old new (Err refusal) =
+    ((new ≡ old) × (old.refused ≡ Some refusal))
+    ⊎ ((refusal ≡ WriteFailed) × AppendsFront old.output new.output frames.0 × (new.input ≡ old.input)
+    × (new.refused ≡ Some refusal))
+
+-- each of its requests was answered in its turn, and nothing was sent
+pub record TakesEach (kind : ℕ) (nones : List (Option Refusal)) (replies : List (Result Reply Refusal))
+    (old new : Link) : Type 0 where
+  pub read : TakeTurns kind nones replies old.input new.input
+  pub unsent : new.output ≡ old.output
+  pub goes_on : IsUp new
+
+-- A WINDOW THAT LEFT WAS ANSWERED so
+pub record CollectsAll {A : Type 0} (as_reply : A → Reply) (kind : ℕ) (nones : List (Option Refusal))
+    (told : List (Result A Refusal)) (old new : Link) : Type 0 where
+  pub replies : List (Result Reply Refusal)
+  pub takes : TakesEach kind nones replies old new
+  pub tells : ForEach (Answers as_reply) replies told
+
+-- A WINDOW THAT LEFT WAS REFUSED so
+pub data CollectsNone (kind : ℕ) (nones : List (Option Refusal)) (old new : Link) (refusal : Refusal) : Type 0 where
+  -- the link had refused before
+  of_none : new ≡ old → old.refused ≡ Some refusal → CollectsNone kind nones old new refusal
+  -- nothing was read, and nothing will be
+  of_memory : refusal ≡ Memory → new.input ≡ old.input → new.refused ≡ Some refusal
+      → CollectsNone kind nones old new refusal
+  -- a reply broke the link
+  of_read : TurnBreaks kind nones old.input new.input refusal → new.refused ≡ Some refusal
+      → CollectsNone kind nones old new refusal
+  -- all were answered, and one by that the side is broken, or memory was refused
+  of_reply : (replies : List (Result Reply Refusal)) → TakesEach kind nones replies old new → (refusal ≡ Memory)
+      ⊎ ((refusal ≡ Broken) × (Contains replies (Ok (Refused Broken)) ⊎ Contains replies (Err Broken)))
+      → CollectsNone kind nones old new refusal
+
+abbrev pub Collects : {A : Type 0} → (A → Reply) → ℕ → List (Option Refusal) → Link → Link
+    → Result (Vec (Result A Refusal) Global) Refusal → Type 0
+Collects as_reply kind nones old new result =
+    MatchResult result (λ told. CollectsAll as_reply kind nones told.items old new) (CollectsNone kind nones old new)

@@ -3,7 +3,9 @@
 
 mod far_end;
 pub mod line;
-mod remote;
+pub mod mailbox;
+pub mod remote;
 
 pub use line::{Duplex, Line};
-pub use remote::Remote;
+pub use mailbox::Mailbox;
+pub use remote::{Answer, Remote, Window};

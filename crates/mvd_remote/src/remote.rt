@@ -1,6 +1,8 @@
 //! A site at the other end of a connection.
 mod answer;
 mod far_side;
+mod halves;
+mod session_windows;
 mod window;
 
 ghost use Rattle.std.specs.Prelude.{◌≡◌, ◌⊎◌, [], IfOk, None, Some, Ok};
@@ -15,18 +17,19 @@ ghost use Rattle.mvd_wire.specs.Replies.{kind_of};
 ghost use Rattle.mvd_wire.specs.Requests.{IsRequest, request_frame};
 
 use crate::line::Line;
-use answer::Answer;
+pub use answer::Answer;
 use mvd_dots::Refusal;
 use mvd_frames::{decode_reply, encode_bye, encode_hello, encode_request};
 use mvd_wire::{Reply, Request, Token};
 use std::alloc::Global;
+pub use window::Window;
 
 /// A site that is asked over a line. What it holds is known as far as the line is true; of a reader
 /// and a writer alone nothing is.
 #[derive(Drop)]
 pub struct Remote<L: Line> {
     alloc: Global,
-    line: L,
+    pub(crate) line: L,
     refused: Option<Refusal>,
 }
 

@@ -118,10 +118,7 @@ impl<L: Line> Peer for Remote<L> {
         if let Some(refusal) = self.refused {
             return Err(refusal);
         }
-        let mut window = Window::new(self.alloc, paths.len())?;
-        for path in paths {
-            window.add(encode_node(self.alloc, path))?;
-        }
+        let window = Window::nodes(self.alloc, paths)?;
         self.ask_all(&window)
     }
 
@@ -137,10 +134,7 @@ impl<L: Line> Peer for Remote<L> {
         if let Some(refusal) = self.refused {
             return Err(refusal);
         }
-        let mut window = Window::new(self.alloc, asked.len())?;
-        for (path, after) in asked {
-            window.add(encode_bucket(self.alloc, path, after))?;
-        }
+        let window = Window::pages(self.alloc, asked)?;
         self.ask_all(&window)
     }
 
@@ -153,10 +147,7 @@ impl<L: Line> Peer for Remote<L> {
         if let Some(refusal) = self.refused {
             return Err(refusal);
         }
-        let mut window = Window::new(self.alloc, keys.len())?;
-        for key in keys {
-            window.add(encode_get(self.alloc, key))?;
-        }
+        let window = Window::gets(self.alloc, keys)?;
         self.ask_all(&window)
     }
 
@@ -169,10 +160,7 @@ impl<L: Line> Peer for Remote<L> {
         if let Some(refusal) = self.refused {
             return Err(refusal);
         }
-        let mut window = Window::new(self.alloc, pairs.len())?;
-        for (key, state) in pairs {
-            window.add(encode_push(self.alloc, key, state))?;
-        }
+        let window = Window::pushes(self.alloc, pairs)?;
         self.ask_all(&window)
     }
 }

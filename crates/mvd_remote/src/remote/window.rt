@@ -24,9 +24,9 @@ use std::marker::Model;
 /// The frames of a window.
 #[derive(Drop)]
 pub struct Window {
-    frames: Vec<u8>,
+    pub(super) frames: Vec<u8>,
     // For each request why it has no frame, if it has none.
-    nones: Vec<Option<Refusal>>,
+    pub(super) nones: Vec<Option<Refusal>>,
 }
 
 impl Model for Window {
@@ -47,6 +47,13 @@ impl Window {
         let frames = Vec::new(alloc);
         let nones = Vec::with_capacity(alloc, count)?;
         Ok(Window { frames, nones })
+    }
+
+    /// For each request why it has no frame, if it has none. Each other one is answered by a reply.
+    pub fn nones(&self) -> &[Option<Refusal>]
+        ensures { result.now ≡ self.now.1 }
+    {
+        &self.nones
     }
 
     /// Adds the frame of a request, or why it has none; want of memory ends the window before anything is sent.
@@ -95,7 +102,7 @@ impl<L: Line> Remote<L> {
     }
 
     /// Answers each request in its turn, also after one was refused.
-    fn take_turns(
+    pub(super) fn take_turns(
         &mut self,
         nones: &[Option<Refusal>],
         kind: u8,

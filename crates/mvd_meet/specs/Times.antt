@@ -1,0 +1,37 @@
+-- When two sides meet again.
+use Rattle.std.specs.Prelude.{ℕ, ◌+◌, ◌*◌, ◌-◌, ◌^◌, min, max, Option, Some, None}
+use Rattle.mvd_meet.specs.declared.pace.Ended.{Ended}
+use Rattle.mvd_meet.specs.declared.pace.Ended.TheVariants.{Well, Stuck, Failed}
+use Rattle.mvd_meet.specs.declared.pace.Pace.{Pace}
+use Rattle.mvd_meet.specs.declared.schedule.Schedule.{Schedule}
+
+-- twice a pause, but a minute at the most, or what sessions are apart, if that is more
+abbrev pub doubled : ℕ → ℕ → ℕ
+doubled pause every = min (pause * 2) (max every 60)
+
+-- the seconds after a session that ended so: those that sessions are apart; after a fault 1, and then twice as many in a
+-- row of faults; after a session that left keys and did nothing else twice as many as they are apart, and then as many again
+abbrev pub pause_by : Ended → Ended → ℕ → ℕ → ℕ
+pause_by Well last pause every = every
+pause_by Stuck Stuck pause every = doubled pause every
+pause_by Stuck last pause every = doubled every every
+pause_by Failed Failed pause every = doubled pause every
+pause_by Failed last pause every = 1
+
+abbrev pub pause_after : Ended → Pace → ℕ → ℕ
+pause_after ended pace every = pause_by ended pace.last pace.pause every
+
+-- five milliseconds after a change; it stays where there was one before
+abbrev pub news_at : Option ℕ → ℕ → Option ℕ
+news_at (Some news) now = Some news
+news_at None now = Some (min (now + 5) (2 ^ 64 - 1))
+
+-- after a fault a change does not count
+abbrev pub with_news : Ended → Option ℕ → ℕ → ℕ
+with_news Failed news next = next
+with_news ended None next = next
+with_news ended (Some news) next = min next news
+
+-- WHEN A PEER IS DUE
+abbrev pub due_of : Schedule → ℕ
+due_of s = with_news s.pace.last s.news s.next

@@ -1,0 +1,238 @@
+//! A side of a session that is asked by mail: the frames of a window leave, and later what came is told.
+ghost use Rattle.std.specs.Prelude.{◌≡◌, ◌≤◌, ◌++◌, [], None, Some, IfErr, IfOk, OnErr, OnOk, drop, length};
+ghost use Rattle.mvd_dots.specs.declared.refusals.Refusal.TheVariants.{Memory};
+ghost use Rattle.mvd_meet.specs.Callers.{Asks, EndsTurns, LeavesTurn, SendsTo, Tells, TellsBy, asked_by, asked_of, came_at, has_all, has_turns, leaving_at, link_by};
+
+use mvd_conn::{Front, front_of};
+use mvd_dots::Refusal;
+use mvd_remote::{Mailbox, Remote, Window as Frames};
+use mvd_sync::{Told, Window};
+use mvd_wire::Token;
+use std::alloc::Global;
+
+/// What a window asks for.
+#[derive(Clone, Copy)]
+pub enum Sort {
+    Nodes,
+    Pages,
+    States,
+    Pushes,
+}
+
+/// A window that left.
+#[derive(Drop)]
+pub struct Asked {
+    sort: Sort,
+    frames: Frames,
+}
+
+/// A side, what is to leave to it, and what came of it.
+#[derive(Drop)]
+pub struct Caller {
+    alloc: Global,
+    remote: Remote<Mailbox>,
+    asked: Option<Asked>,
+    /// Nothing more comes.
+    ended: bool,
+    /// As many questions were asked.
+    questions: u64,
+}
+
+impl Caller {
+    /// A side that was asked nothing.
+    pub fn new(alloc: Global) -> Caller
+        ensures leaving { leaving_at result ≡ [] }
+        ensures came { came_at result ≡ [] }
+        ensures asked { asked_of result ≡ None }
+    {
+        Caller {
+            alloc,
+            remote: Remote::by_mail(alloc),
+            asked: None,
+            ended: false,
+            questions: 0,
+        }
+    }
+
+    /// The bytes that are to leave.
+    pub fn leaving(&self) -> &[u8]
+        ensures { result.now ≡ leaving_at self.now }
+    {
+        self.remote.leaving()
+    }
+
+    /// So many of them left.
+    pub fn left(&mut self, count: usize)
+        requires { count ≤ length (leaving_at self.old) }
+        ensures leaving { leaving_at self.new ≡ drop count (leaving_at self.old) }
+        ensures came { came_at self.new ≡ came_at self.old }
+        ensures asked { asked_of self.new ≡ asked_of self.old }
+    {
+        self.remote.left(count);
+    }
+
+    /// Takes bytes that came. Where memory is refused, none is taken.
+    pub fn feed(&mut self, bytes: &[u8]) -> Result<(), Refusal>
+        ensures ok { OnOk result (came_at self.new ≡ came_at self.old ++ bytes.now) }
+        ensures err { OnErr result (came_at self.new ≡ came_at self.old) }
+        ensures memory { IfErr result (λ refusal. refusal ≡ Memory) }
+        ensures leaving { leaving_at self.new ≡ leaving_at self.old }
+        ensures asked { asked_of self.new ≡ asked_of self.old }
+    {
+        self.remote.feed(bytes)
+    }
+
+    /// Nothing more comes: it is at its end, or reading failed.
+    pub fn end(&mut self, has_failed: bool)
+        ensures leaving { leaving_at self.new ≡ leaving_at self.old }
+        ensures came { came_at self.new ≡ came_at self.old }
+        ensures asked { asked_of self.new ≡ asked_of self.old }
+    {
+        self.ended = true;
+        if has_failed {
+            self.remote.fail();
+        }
+    }
+
+    /// As many questions were asked, a Hello and a Bye among them.
+    pub fn questions(&self) -> u64 {
+        self.questions
+    }
+
+    /// Whether all came that is due, or nothing more comes.
+    pub fn has_all(&self) -> bool
+        ensures { result ≡ has_all self.now }
+    {
+        match &self.asked {
+            None => true,
+            Some(asked) => self.ended || has_turns(asked.frames.nones(), self.remote.came()),
+        }
+    }
+
+    /// The frames of a window are to leave, and what they ask for is due.
+    pub fn ask(&mut self, window: &Window) -> Result<(), Refusal>
+        ensures asks { OnOk result (Asks window.now self.old self.new) }
+        ensures err { OnErr result (asked_of self.new ≡ asked_of self.old) }
+    {
+        let asked = asked_by(self.alloc, window)?;
+        self.send(asked)
+    }
+
+    /// A Hello that shows a token is to leave.
+    pub fn greet(&mut self, token: &Token) -> Result<(), Refusal> {
+        let frames = Frames::hello(self.alloc, token)?;
+        self.send(Asked {
+            sort: Sort::Pushes,
+            frames,
+        })
+    }
+
+    /// A Bye is to leave.
+    pub fn part(&mut self) -> Result<(), Refusal> {
+        let frames = Frames::bye(self.alloc)?;
+        self.send(Asked {
+            sort: Sort::Pushes,
+            frames,
+        })
+    }
+
+    /// Frames are to leave, and what they ask for is due.
+    fn send(&mut self, asked: Asked) -> Result<(), Refusal>
+        ensures asks { OnOk result (SendsTo asked self.old self.new) }
+        ensures err { OnErr result (asked_of self.new ≡ asked_of self.old) }
+    {
+        match self.remote.leave(&asked.frames) {
+            Ok(()) => {
+                let count = asked.frames.nones().len() as u64;
+                self.questions = self.questions.saturating_add(count);
+                self.asked = Some(asked);
+                Ok(())
+            }
+            Err(refusal) => Err(refusal),
+        }
+    }
+
+    /// What came of what was asked, if something was.
+    pub fn tell(&mut self) -> Option<Told>
+        ensures { Tells (asked_of self.old) self.old self.new result }
+    {
+        let Asked { sort, frames } = self.asked.take()?;
+        Some(told_in(&mut self.remote, sort, &frames))
+    }
+
+    /// Whether a Hello or a Bye was answered by Done.
+    pub fn is_answered(&mut self) -> Result<(), Refusal> {
+        match self.tell() {
+            Some(Told::Pushes(mut answers)) => answers.pop().unwrap_or(Ok(())),
+            Some(Told::Refused(refusal)) => Err(refusal),
+            _ => Err(Refusal::BadBody),
+        }
+    }
+}
+
+/// Whether a whole frame came for each request that has one. What is no frame comes in place of all that are left.
+fn has_turns(nones: &[Option<Refusal>], bytes: &[u8]) -> bool
+    ensures { result ≡ has_turns nones.now bytes.now }
+{
+    let mut rest = bytes;
+    for none in nones {
+        match turn_in(*none, rest) {
+            Ok(left) => rest = left,
+            Err(all) => return all,
+        }
+    }
+    true
+}
+
+/// What is left of the bytes behind the reply to a request; or, where its frame is not there, whether nothing more is
+/// waited for.
+fn turn_in(none: Option<Refusal>, bytes: &[u8]) -> Result<&[u8], bool>
+    ensures left { IfOk result (λ left. LeavesTurn none bytes.now left.now) }
+    ensures ends { IfErr result (λ all. EndsTurns none bytes.now all) }
+{
+    if none.is_some() {
+        return Ok(bytes);
+    }
+    match front_of(bytes) {
+        Front::Whole(size) => Ok(&bytes[size..]),
+        Front::Part => Err(false),
+        Front::TooLong => Err(true),
+    }
+}
+
+/// The frames of a window.
+fn asked_by(alloc: Global, window: &Window) -> Result<Asked, Refusal>
+    ensures { IfOk result (λ asked. asked ≡ asked_by window.now) }
+{
+    let (sort, frames) = match window {
+        Window::Nodes(paths) => (Sort::Nodes, Frames::nodes(alloc, paths)?),
+        Window::Pages(asked) => (Sort::Pages, Frames::pages(alloc, asked)?),
+        Window::Gets(keys) => (Sort::States, Frames::gets(alloc, keys)?),
+        Window::Pushes(pairs) => (Sort::Pushes, Frames::pushes(alloc, pairs)?),
+    };
+    Ok(Asked { sort, frames })
+}
+
+/// What came of a window.
+fn told_in(remote: &mut Remote<Mailbox>, sort: Sort, frames: &Frames) -> Told
+    ensures { TellsBy sort frames.now.1 (link_by remote.old) (link_by remote.new) result }
+{
+    match sort {
+        Sort::Nodes => match remote.collect(frames) {
+            Ok(answers) => Told::Nodes(answers),
+            Err(refusal) => Told::Refused(refusal),
+        },
+        Sort::Pages => match remote.collect(frames) {
+            Ok(answers) => Told::Pages(answers),
+            Err(refusal) => Told::Refused(refusal),
+        },
+        Sort::States => match remote.collect(frames) {
+            Ok(answers) => Told::States(answers),
+            Err(refusal) => Told::Refused(refusal),
+        },
+        Sort::Pushes => match remote.collect(frames) {
+            Ok(answers) => Told::Pushes(answers),
+            Err(refusal) => Told::Refused(refusal),
+        },
+    }
+}

@@ -1,0 +1,80 @@
+//! How long two sides wait until they meet again.
+ghost use Rattle.std.specs.Prelude.{◌≡◌};
+ghost use Rattle.mvd_meet.specs.Times.{pause_after};
+
+use mvd_sync::{Left, Report};
+
+/// The most seconds until a session is tried again, unless sessions are further apart.
+const MOST_PAUSE: u32 = 60;
+
+/// How a session ended: it exchanged all that it could, it exchanged nothing and left keys, or it failed.
+#[derive(Clone, Copy, PartialEq, Eq)]
+pub enum Ended {
+    Well,
+    Stuck,
+    Failed,
+}
+
+impl Ended {
+    /// How a session ended that has this report.
+    pub fn with(report: &Report) -> Ended {
+        if report.keys == 0 && report.refused > 0 {
+            Ended::Stuck
+        } else {
+            Ended::Well
+        }
+    }
+}
+
+/// How the last session ended, and the pause after it, in seconds.
+#[derive(Clone, Copy)]
+pub struct Pace {
+    pub last: Ended,
+    pub pause: u32,
+}
+
+impl Pace {
+    /// Before the first session.
+    pub fn new() -> Pace
+        ensures { result ≡ record { last = Ended.Well; pause = 0 } }
+    {
+        Pace {
+            last: Ended::Well,
+            pause: 0,
+        }
+    }
+
+    /// The pause after a session that ended so, where sessions are as many seconds apart that end well. It doubles in a
+    /// row of sessions that ended badly.
+    pub fn after(&mut self, ended: Ended, every: u32) -> u32
+        ensures pause { result ≡ pause_after ended self.old every }
+        ensures noted { self.new ≡ record { last = ended; pause = result } }
+    {
+        let most = every.max(MOST_PAUSE);
+        let pause = match (ended, self.last) {
+            (Ended::Well, _) => every,
+            (Ended::Stuck, Ended::Stuck) | (Ended::Failed, Ended::Failed) => {
+                self.pause.saturating_mul(2).min(most)
+            }
+            (Ended::Stuck, _) => every.saturating_mul(2).min(most),
+            (Ended::Failed, _) => 1,
+        };
+        self.last = ended;
+        self.pause = pause;
+        pause
+    }
+}
+
+/// Whether the same keys were refused, by the same sides and in the same way.
+pub fn are_same(first: &[Left], second: &[Left]) -> bool {
+    first.len() == second.len() && first.iter().zip(second).all(|(a, b)| is_same(a, b))
+}
+
+/// Whether a key stands among others, refused by the same side and in the same way.
+pub fn is_among(left: &Left, others: &[Left]) -> bool {
+    others.iter().any(|other| is_same(left, other))
+}
+
+fn is_same(first: &Left, second: &Left) -> bool {
+    first.key == second.key && first.side == second.side && first.refusal == second.refusal
+}

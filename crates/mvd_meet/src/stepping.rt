@@ -1,0 +1,99 @@
+//! A session of two sides that are asked by mail, step by step.
+ghost use Rattle.std.specs.Prelude.{◌≡◌, false, IfOk, Ok};
+ghost use Rattle.mvd_meet.specs.Callers.{has_all};
+ghost use Rattle.mvd_meet.specs.Meetings.{AsksBoth, AsksNext, Hears, Steps};
+
+use crate::caller::Caller;
+use mvd_sync::{MOST_QUESTIONS, Machine, Report, Step, SyncFault};
+use std::alloc::Global;
+
+/// How far a session is.
+#[derive(Clone, Copy, PartialEq, Eq)]
+pub enum Course {
+    /// Something is due that did not come.
+    Waits,
+    /// Something was asked.
+    Asks,
+    /// It is done.
+    Done,
+}
+
+/// A session.
+#[derive(Drop)]
+pub struct Meeting {
+    machine: Machine,
+    began: bool,
+}
+
+impl Meeting {
+    /// A session in which nothing was asked. The site that is near has this number.
+    pub fn new(alloc: Global, number: u32) -> Result<Meeting, SyncFault> {
+        let machine = Machine::new(alloc, Some(number), MOST_QUESTIONS)?;
+        Ok(Meeting {
+            machine,
+            began: false,
+        })
+    }
+
+    /// Takes what came of both sides, once all came, and asks what is next. As long as something is due, it does nothing.
+    pub fn step(&mut self, near: &mut Caller, far: &mut Caller) -> Result<Course, SyncFault>
+        ensures waits { has_all near.old ≡ false → result ≡ Ok Course.Waits }
+        ensures waits_too { has_all far.old ≡ false → result ≡ Ok Course.Waits }
+        ensures steps { IfOk result (Steps self.old near.old far.old self.new near.new far.new) }
+    {
+        if !near.has_all() || !far.has_all() {
+            return Ok(Course::Waits);
+        }
+        self.hear(near, far)?;
+        self.ask(near, far)
+    }
+
+    /// Takes what both sides tell of what they were asked. At first nothing was.
+    fn hear(&mut self, near: &mut Caller, far: &mut Caller) -> Result<(), SyncFault>
+        ensures { Hears self.old near.old far.old self.new near.new far.new result }
+    {
+        if !self.began {
+            self.began = true;
+            return Ok(());
+        }
+        let mine = near.tell();
+        let theirs = far.tell();
+        self.machine.take(mine, theirs)
+    }
+
+    /// Asks what is next.
+    fn ask(&mut self, near: &mut Caller, far: &mut Caller) -> Result<Course, SyncFault>
+        ensures asks { IfOk result (AsksNext self.old near.old far.old self.new near.new far.new) }
+    {
+        match self.machine.next()? {
+            Some(step) => {
+                ask_both(&step, near, far)?;
+                Ok(Course::Asks)
+            }
+            None => Ok(Course::Done),
+        }
+    }
+
+    /// What a session did that is done.
+    pub fn report(self) -> Report {
+        let Meeting { machine, began: _ } = self;
+        machine.report()
+    }
+}
+
+/// Asks each side what a step wants of it.
+fn ask_both(step: &Step, near: &mut Caller, far: &mut Caller) -> Result<(), SyncFault>
+    ensures { IfOk result (λ _. AsksBoth step.now near.old far.old near.new far.new) }
+{
+    if let Some(window) = &step.local
+        && let Err(refusal) = near.ask(window)
+    {
+        return Err(SyncFault::Local(refusal));
+    }
+    if let Some(window) = &step.peer
+        && let Err(refusal) = far.ask(window)
+    {
+        return Err(SyncFault::Peer(refusal));
+    }
+    Ok(())
+}

@@ -1,0 +1,87 @@
+//! The windows of a session's questions, and those that open and end a connection.
+ghost use Rattle.std.specs.Prelude.{◌≡◌, ◌∷◌, [], IfErr, IfOk, map};
+ghost use Rattle.mvd_dots.specs.declared.refusals.Refusal.TheVariants.{Memory};
+ghost use Rattle.mvd_wire.specs.declared.request.Request.TheVariants.{Bucket, Bye, Get, Hello, Node, Push};
+ghost use Rattle.mvd_remote.specs.LinkWindows.{frames_of};
+ghost use Rattle.mvd_remote.specs.Lines.{AreSpelled};
+
+use super::window::Window;
+use mvd_dots::Refusal;
+use mvd_frames::{encode_bucket, encode_bye, encode_get, encode_hello, encode_node, encode_push};
+use mvd_keys::{Key, KeyState, Path};
+use mvd_wire::Token;
+use std::alloc::Global;
+
+impl Window {
+    /// The questions for nodes.
+    pub fn nodes(alloc: Global, paths: &[Path]) -> Result<Self, Refusal>
+        ensures frames { IfOk result (λ window. window ≡ frames_of (map (λ path. Node path) paths.now)) }
+        ensures spelled { IfOk result (λ _. AreSpelled (map (λ path. Node path) paths.now)) }
+        ensures memory { IfErr result (λ refusal. refusal ≡ Memory) }
+    {
+        let mut window = Window::new(alloc, paths.len())?;
+        for path in paths {
+            window.add(encode_node(alloc, path))?;
+        }
+        Ok(window)
+    }
+
+    /// The questions for pages of buckets, each after a key.
+    pub fn pages(alloc: Global, asked: &[(Path, Option<Key>)]) -> Result<Self, Refusal>
+        ensures frames { IfOk result (λ window. window ≡ frames_of (map (λ q. Bucket q.0 q.1) asked.now)) }
+        ensures spelled { IfOk result (λ _. AreSpelled (map (λ q. Bucket q.0 q.1) asked.now)) }
+        ensures memory { IfErr result (λ refusal. refusal ≡ Memory) }
+    {
+        let mut window = Window::new(alloc, asked.len())?;
+        for (path, after) in asked {
+            window.add(encode_bucket(alloc, path, after))?;
+        }
+        Ok(window)
+    }
+
+    /// The questions for the states of keys.
+    pub fn gets(alloc: Global, keys: &[Key]) -> Result<Self, Refusal>
+        ensures frames { IfOk result (λ window. window ≡ frames_of (map (λ key. Get key) keys.now)) }
+        ensures spelled { IfOk result (λ _. AreSpelled (map (λ key. Get key) keys.now)) }
+        ensures memory { IfErr result (λ refusal. refusal ≡ Memory) }
+    {
+        let mut window = Window::new(alloc, keys.len())?;
+        for key in keys {
+            window.add(encode_get(alloc, key))?;
+        }
+        Ok(window)
+    }
+
+    /// Pushes.
+    pub fn pushes(alloc: Global, pairs: &[(Key, KeyState)]) -> Result<Self, Refusal>
+        ensures frames { IfOk result (λ window. window ≡ frames_of (map (λ pair. Push pair.0 pair.1) pairs.now)) }
+        ensures spelled { IfOk result (λ _. AreSpelled (map (λ pair. Push pair.0 pair.1) pairs.now)) }
+        ensures memory { IfErr result (λ refusal. refusal ≡ Memory) }
+    {
+        let mut window = Window::new(alloc, pairs.len())?;
+        for (key, state) in pairs {
+            window.add(encode_push(alloc, key, state))?;
+        }
+        Ok(window)
+    }
+
+    /// A Hello that shows a token.
+    pub fn hello(alloc: Global, token: &Token) -> Result<Self, Refusal>
+        ensures frames { IfOk result (λ window. window ≡ frames_of (Hello token.now ∷ [])) }
+        ensures memory { IfErr result (λ refusal. refusal ≡ Memory) }
+    {
+        let mut window = Window::new(alloc, 1)?;
+        window.add(encode_hello(alloc, token))?;
+        Ok(window)
+    }
+
+    /// A Bye.
+    pub fn bye(alloc: Global) -> Result<Self, Refusal>
+        ensures frames { IfOk result (λ window. window ≡ frames_of (Bye ∷ [])) }
+        ensures memory { IfErr result (λ refusal. refusal ≡ Memory) }
+    {
+        let mut window = Window::new(alloc, 1)?;
+        window.add(encode_bye(alloc))?;
+        Ok(window)
+    }
+}

@@ -7,3 +7,4 @@ pub mod LetIn
 pub mod Synced
 pub mod SyncsAt
 pub mod Talked
+pub mod Early

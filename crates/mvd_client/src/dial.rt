@@ -4,7 +4,10 @@ ghost use Rattle.std.specs.declared.net.socket_addr.SocketAddr.{SocketAddr};
 ghost use Rattle.mvd_client.specs.LetIn.{GivesIn, Shows};
 ghost use Rattle.mvd_client.specs.Stopped.{StopsUndialed};
 
+use crate::both_ways::{BothWays, Nonblocking};
 use crate::link::Link;
+use crate::socket::Socket;
+use mio::Events;
 use mvd_dots::Refusal;
 use mvd_hint::Stop;
 use mvd_remote::{Line, Remote};
@@ -42,7 +45,7 @@ pub trait Dial {
 pub struct Sockets<'a, N: Net>(pub &'a N);
 
 impl<N: Net> Dial for Sockets<'_, N> {
-    type Dialed = Link<N::Stream>;
+    type Dialed = Link<BothWays<Socket<N::Stream>>>;
 
     // Nothing is known of who answers.
     ghost gives = { λ _ _ _. Unit {0} };
@@ -52,26 +55,37 @@ impl<N: Net> Dial for Sockets<'_, N> {
         alloc: Global,
         address: SocketAddr,
         idle: u32,
-    ) -> Result<Link<N::Stream>, DialFault> {
-        let stream = match connected(self.0, address, idle) {
-            Ok(stream) => stream,
+    ) -> Result<Link<BothWays<Socket<N::Stream>>>, DialFault> {
+        let Ok(events) = Events::with_capacity(alloc, 1) else {
+            return Err(DialFault::Memory);
+        };
+        let socket = match connected(self.0, events, address, idle) {
+            Ok(socket) => socket,
             Err(error) => return Err(DialFault::Unanswered(error)),
         };
-        match Link::new(alloc, stream) {
+        match linked(alloc, socket) {
             Ok(link) => Ok(link),
             Err(_) => Err(DialFault::Memory),
         }
     }
 }
 
-/// A stream to the server at an address. What is written leaves at once.
-fn connected<N: Net>(rt: &N, address: SocketAddr, idle: u32) -> io::Result<N::Stream> {
-    let most = Duration::from_secs(u64::from(idle));
-    let stream = rt.connect_timeout(address, most)?;
-    stream.set_read_timeout(Some(most))?;
-    stream.set_write_timeout(Some(most))?;
+/// A socket to the server at an address. What is written leaves at once.
+fn connected<N: Net>(
+    rt: &N,
+    events: Events,
+    address: SocketAddr,
+    idle: u32,
+) -> io::Result<Socket<N::Stream>> {
+    let stream = rt.connect_timeout(address, Duration::from_secs(u64::from(idle)))?;
     stream.set_nodelay(true)?;
-    Ok(stream)
+    Socket::new(rt, events, stream, idle)
+}
+
+/// A line over a stream over which nothing went.
+fn linked<S: Nonblocking>(alloc: Global, stream: S) -> Result<Link<BothWays<S>>, Refusal> {
+    let stream = BothWays::new(alloc, stream)?;
+    Link::new(alloc, stream)
 }
 
 /// A line to what answers at an address, where it lets in whoever shows the token, if there is one. Nothing else went

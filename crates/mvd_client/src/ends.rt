@@ -1,10 +1,12 @@
 //! The servers that meet, the connections with them, and one session of two of them.
 ghost use Rattle.mvd_client.specs.Met.{IsFailureOf};
 
+use crate::both_ways::BothWays;
 use crate::dial::{Sockets, let_in, undialed};
 use crate::link::Link;
 use crate::meeting::{Root, meet_over, root_over};
 use crate::progress::Watched;
+use crate::socket::Socket;
 use http_server::Log;
 use mvd_dots::Refusal;
 use mvd_hint::Stop;
@@ -38,7 +40,7 @@ pub struct MeetingTerms<'a> {
 #[derive(Drop)]
 pub(crate) struct End<T: Read + Write + Drop> {
     pub(crate) address: SocketAddr,
-    link: Option<Link<T>>,
+    link: Option<Link<BothWays<Socket<T>>>>,
     frames: u32,
     is_failing: bool,
 }
@@ -203,7 +205,7 @@ fn opened<'a, N: Net>(
     alloc: Global,
     end: &mut End<N::Stream>,
     terms: MeetingTerms<'_>,
-) -> Result<Link<N::Stream>, Stop<'a>> {
+) -> Result<Link<BothWays<Socket<N::Stream>>>, Stop<'a>> {
     if let Some(link) = end.link.take() {
         if link.frames < MOST_FRAMES {
             return Ok(link);

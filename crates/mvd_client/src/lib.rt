@@ -1,6 +1,7 @@
 //! What a command does at its end of a connection to a server: a session, or a shell; and sessions between servers.
 #![tactic(auto)]
 
+mod both_ways;
 mod dial;
 mod ends;
 mod link;
@@ -8,7 +9,9 @@ mod meeting;
 mod peer_commands;
 mod progress;
 mod rounds;
+mod socket;
 
+pub use both_ways::{BothWays, Nonblocking};
 pub use dial::{Dial, DialFault, Sockets};
 pub use ends::MeetingTerms;
 pub use link::Link;
@@ -16,3 +19,4 @@ pub use meeting::{Root, meet_over, root_over, tell_meeting};
 pub use peer_commands::{remote_shell_run, sync_run, sync_told, tell_report};
 pub use progress::Watched;
 pub use rounds::meet_run;
+pub use socket::Socket;

@@ -174,6 +174,18 @@ def check_writes(server):
     return took * 1000, commits
 
 
+def check_long_context(server):
+    """A context that is too long for a field goes in a line."""
+    context = ",".join(f"{site}:1" for site in range(2, 3002))
+    wanted("a write whose author has seen 3,000 sites", server.post([line(key="wide", context=context, document={"n": 1})]) == (200, '{"dot":"1:1"}\n'))
+    seen = server.json("/keys/wide")["context"]
+    wanted("its context is told", seen == f"1:1,{context}" and len(seen) > 16_384, seen[:80])
+    server.told("it is too long for a field", 431, '{"refused":0,"name":"HeaderTooLarge"}', "PUT", "/keys/wide", {"n": 2}, mvd_context=seen)
+    wanted("and goes in a line", server.post([line(key="wide", context=seen, document={"n": 2})]) == (200, '{"dot":"1:2"}\n'))
+    told = server.json("/keys/wide")
+    wanted("so the key is resolved", ([one["dot"] for one in told["siblings"]], told["context"]) == (["1:2"], f"1:2,{context}"), told["siblings"])
+
+
 def check_full(folder):
     server = Server(folder, "--max-keys", "2", name="full.db")
     _, text = server.post([line(key=key, document={}) for key in ("a", "b", "c", "a")])
@@ -290,6 +302,7 @@ def main():
         server = Server(folder)
         check_lists(server)
         took, commits = check_writes(server)
+        check_long_context(server)
         check_full(folder)
         last = check_changes(server)
         server = check_restart(server, folder, last)

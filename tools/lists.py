@@ -104,7 +104,8 @@ def put_all(server):
             line = stream.readline()
             if not line:
                 sys.exit("the server ended the connection")
-            done += line.startswith(b"HTTP/1.1 201")
+            # a body has no line feed at its end, so the next status stands behind it
+            done += line.count(b"HTTP/1.1 201")
         sender.join()
 
 

@@ -11,7 +11,7 @@ use Rattle.mvd_frames.proofs.RequestLaws.{request_found}
 use Rattle.mvd_wire.specs.Frames.{FrameValue}
 use Rattle.mvd_wire.proofs.Laws.{IsBytes, ok_is}
 use Rattle.mvd_conn.specs.History.{History, is_bye}
-use Rattle.mvd_conn.specs.Stands.{AreFirst, Stands, spelled}
+use Rattle.mvd_conn.specs.Stands.{AreFirst, HistoryStands, frames_spelled}
 use Rattle.mvd_conn.proofs.StandLemmas.{first_in}
 
 same_frame : (f g : FrameValue) (a b : List ℕ) → ◌≡◌ {A = Option FrameValue × List ℕ} (Some f, a) (Some g, b) → (f ≡ g) × (a ≡ b)
@@ -30,9 +30,9 @@ one_front (f ∷ fs) (g ∷ gs) bytes r s p q few =
     let rest = one_front fs gs p.0 r s p.2 next (omega (arith, few)) in
     (rest.0, ap (λ (x : FrameValue). x ∷ gs) (sym same.0) ∙ ap (λ (t : List FrameValue). f ∷ t) rest.1)
 
-pub one_way : (a b : History) (more : List ℕ) → Stands a → Stands b → b.came ≡ a.came ++ more → length a.taken ≤ length b.taken → (rest : List FrameValue) × (b.taken ≡ a.taken ++ rest)
+pub one_way : (a b : History) (more : List ℕ) → HistoryStands a → HistoryStands b → b.came ≡ a.came ++ more → length a.taken ≤ length b.taken → (rest : List FrameValue) × (b.taken ≡ a.taken ++ rest)
 one_way a b more p q e few =
-    let all : b.came ≡ spelled a.taken ++ (a.held ++ more) = e ∙ ap (λ (t : List ℕ). t ++ more) p.input ∙ append_assoc (spelled a.taken) a.held more in
+    let all : b.came ≡ frames_spelled a.taken ++ (a.held ++ more) = e ∙ ap (λ (t : List ℕ). t ++ more) p.input ∙ append_assoc (frames_spelled a.taken) a.held more in
     one_front a.taken b.taken b.came (a.held ++ more) b.held (first_in a.taken b.came (a.held ++ more) p.fit all) q.first few
 
 pub bye_asks : (f : FrameValue) → is_bye f ≡ true → request_of f.kind f.payload ≡ Ok Bye
@@ -51,5 +51,5 @@ bytes_of bytes fits i =
 
 pub asks_bye : (f : FrameValue) → All (λ b. b < 256) f.payload → request_of f.kind f.payload ≡ Ok Bye → is_bye f ≡ true
 asks_bye f fits e =
-    let spelled = request_found f.kind f.payload (bytes_of f.payload fits) (Ok Bye) e in
-    rw (spelled.1, spelled.2) refl
+    let frames_spelled = request_found f.kind f.payload (bytes_of f.payload fits) (Ok Bye) e in
+    rw (frames_spelled.1, frames_spelled.2) refl

@@ -10,7 +10,7 @@ use Rattle.mvd_wire.specs.Codec.{number}
 use Rattle.mvd_wire.specs.Frames.{FrameValue, body_at, length_at, frame_at, frame_limit, spell_frame}
 use Rattle.mvd_wire.proofs.Laws.{IsBytes, IsBytes-take, wide32}
 use Rattle.mvd_frames.proofs.FrameLemmas.{frame_again}
-use Rattle.mvd_conn.specs.Front.{IsPart, IsWhole}
+use Rattle.mvd_conn.specs.Front.{IsPart, IsWholeFrame}
 use Rattle.mvd_conn.specs.Stands.{frame_of}
 
 -- five bytes and more, as the head, the kind and the payload
@@ -25,7 +25,7 @@ parted (a ∷ b ∷ c ∷ d ∷ kind ∷ rest) m long =
     rw n (refl, omega (arith, length-take m rest, long))
 
 -- a length within its limits, and as many bytes behind it
-pub whole_front : (bytes : List ℕ) (n : ℕ) → IsBytes bytes → from_be_bytes w32 (take 4 bytes) ≡ n → 1 ≤ n → n ≤ frame_limit → 4 + n ≤ length bytes → IsWhole bytes (4 + n)
+pub whole_front : (bytes : List ℕ) (n : ℕ) → IsBytes bytes → from_be_bytes w32 (take 4 bytes) ≡ n → 1 ≤ n → n ≤ frame_limit → 4 + n ≤ length bytes → IsWholeFrame bytes (4 + n)
 unfolding number
 whole_front bytes zero fits value some few long = absurd (omega (arith, some))
 whole_front bytes (suc m) fits value some few long =

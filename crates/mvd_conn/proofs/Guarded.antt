@@ -4,7 +4,7 @@ use Rattle.std.specs.Str.{bytes_eq}
 use Rattle.mvd_dots.specs.declared.refusals.Refusal.TheVariants.{NotAdmitted, TooManyRequests}
 use Rattle.mvd_wire.specs.Frames.{FrameValue, frame_at}
 use Rattle.mvd_conn.specs.Guard.{IsShown, may_come}
-use Rattle.mvd_conn.specs.History.{Gives, History, Next, Over, Stops, Waits, frames_most, let_in, next_held, next_of}
+use Rattle.mvd_conn.specs.History.{Gives, History, NextTaken, Over, Stops, Waits, frames_most, let_in, next_held, next_of}
 use Rattle.mvd_conn.specs.declared.guard.Guard.{Guard}
 
 and_last : (a : Bool) → (a && true) ≡ a
@@ -29,7 +29,7 @@ none_given true f rest e = e
 none_given false f rest e = absurd cc
 
 -- where more bytes are awaited, nothing was there that may not come
-pub let_in_waits : (guard : Option Guard) (taken : List FrameValue) (next : Next) → let_in guard taken next ≡ Waits → next ≡ Waits
+pub let_in_waits : (guard : Option Guard) (taken : List FrameValue) (next : NextTaken) → let_in guard taken next ≡ Waits → next ≡ Waits
 let_in_waits guard taken (Gives f rest) e = none_given (may_come guard taken f) f rest e
 let_in_waits guard taken Over e = absurd cc
 let_in_waits guard taken (Stops refusal) e = absurd cc
@@ -43,7 +43,7 @@ given true f g a c e = (refl, same_given f g a c e)
 given false f g a c e = absurd cc
 
 -- what is given may come
-given_may : (guard : Option Guard) (taken : List FrameValue) (next : Next) (f : FrameValue) (rest : List ℕ) → let_in guard taken next ≡ Gives f rest → may_come guard taken f ≡ true
+given_may : (guard : Option Guard) (taken : List FrameValue) (next : NextTaken) (f : FrameValue) (rest : List ℕ) → let_in guard taken next ≡ Gives f rest → may_come guard taken f ≡ true
 given_may guard taken (Gives g a) f rest e = let it = given (may_come guard taken g) g f a rest e in subst (λ (x : FrameValue). may_come guard taken x ≡ true) it.1 it.0
 given_may guard taken Over f rest e = absurd cc
 given_may guard taken (Stops refusal) f rest e = absurd cc
@@ -54,13 +54,13 @@ shown_more None taken f may shown = tt
 shown_more (Some guard) [] f may shown = may
 shown_more (Some guard) (g ∷ taken) f may shown = shown
 
-not_stopped : (b : Bool) (next : Next) (f : FrameValue) (rest : List ℕ) → cond b (Stops TooManyRequests) next ≡ Gives f rest → next ≡ Gives f rest
+not_stopped : (b : Bool) (next : NextTaken) (f : FrameValue) (rest : List ℕ) → cond b (Stops TooManyRequests) next ≡ Gives f rest → next ≡ Gives f rest
 not_stopped true next f rest e = absurd cc
 not_stopped false next f rest e = e
 
 -- a frame that is taken first shows the token, where there is a guard
 pub gives_shown : (h : History) (f : FrameValue) (rest : List ℕ) → next_of h ≡ Gives f rest → IsShown h.guard h.taken → IsShown h.guard (h.taken ++ f ∷ [])
 gives_shown h f rest next shown =
-    let y : Next = next_held h.source h.held (frame_at h.held) in
+    let y : NextTaken = next_held h.source h.held (frame_at h.held) in
     let in_ : let_in h.guard h.taken y ≡ Gives f rest = not_stopped (eqb (length h.taken) frames_most) (let_in h.guard h.taken y) f rest next in
     shown_more h.guard h.taken f (given_may h.guard h.taken y f rest in_) shown

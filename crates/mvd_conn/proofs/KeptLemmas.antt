@@ -14,15 +14,15 @@ use Rattle.mvd_conn.specs.declared.ending.Ending.TheVariants as ending
 use Rattle.mvd_conn.specs.declared.ending.Source.{Source}
 use Rattle.mvd_conn.specs.declared.ending.Source.TheVariants as source
 use Rattle.mvd_conn.specs.History.{History, Stops, Waits, due, ends_long, fed, frame_most, is_bye, is_held_up, may_be_long, next_of, piece_most, replied, short_most, stopped, taking}
-use Rattle.mvd_conn.specs.Inside.{IsKept, history_of}
-use Rattle.mvd_conn.specs.Stands.{IsBounded, Stands, frame_of}
+use Rattle.mvd_conn.specs.Inside.{IsKeptConnection, history_of}
+use Rattle.mvd_conn.specs.Stands.{IsBounded, HistoryStands, frame_of}
 use Rattle.mvd_conn.specs.declared.scan.Found.TheVariants as found
 use Rattle.mvd_conn.specs.Front.{IsFound}
 use Rattle.mvd_conn.proofs.LengthLemmas.{refused_length}
 use Rattle.mvd_conn.proofs.Owing.{ends_long-more, only_short, owed_less, owed_most, owed_none}
 use Rattle.mvd_conn.proofs.StandLemmas.{free_of, stands_closed, stands_fed, stands_replied, stands_stopped, stands_taking, waits_few}
 
-pub kept_closed : (c : Inside) (new : Source) → c.source ≡ source.Open → IsKept c → IsKept (record c { source = new })
+pub kept_closed : (c : Inside) (new : Source) → c.source ≡ source.Open → IsKeptConnection c → IsKeptConnection (record c { source = new })
 kept_closed c new opened k = record {
   stands = stands_closed (history_of c) new opened k.stands;
   bounded = record { few_held = k.bounded.few_held; few_due = k.bounded.few_due; few_waiting = k.bounded.few_waiting };
@@ -50,13 +50,13 @@ fed_history c input reads bytes none grown logged =
     rw (logged, ← log, new, grown, none) refl
 
 pub kept_fed : (c : Inside) (input : BytesMut Global) (reads : Log (BytesMut Global) ℕ) (bytes : List ℕ) → c.last ≡ None → next_of (history_of c) ≡ Waits → (history_of c).hand ≡ None → length bytes ≤ piece_most
-    → input.items ≡ c.input.items ++ bytes → reads.items ≡ c.reads.items ++ (input, length c.input.items) ∷ [] → IsKept c → IsKept (record c { input = input; reads = reads })
+    → input.items ≡ c.input.items ++ bytes → reads.items ≡ c.reads.items ++ (input, length c.input.items) ∷ [] → IsKeptConnection c → IsKeptConnection (record c { input = input; reads = reads })
 kept_fed c input reads bytes going next hand few grown logged k =
     let none : c.hand ≡ 0 = no_hand c.hand (frame_of (take c.hand c.input.items)) hand in
     let same = fed_history c input reads bytes none grown logged in
     let less = waits_few (history_of c) next in
     record {
-      stands = subst Stands (sym same) (stands_fed (history_of c) bytes going k.stands);
+      stands = subst HistoryStands (sym same) (stands_fed (history_of c) bytes going k.stands);
       bounded = subst IsBounded (sym same) (record {
         few_held = omega (arith, less, few, length-append (history_of c).held bytes);
         few_due = k.bounded.few_due;
@@ -82,7 +82,7 @@ replied_history c output replies large due frame grown logged =
 pub kept_replied : (c : Inside) (output : BytesMut Global) (replies : Log (BytesMut Global) ℕ) (large : Bool) (frame : List ℕ) → length (history_of c).answers < length (history_of c).taken
     → (length frame ≤ short_most) ⊎ ((due (history_of c) ≡ 1) × (ends_long (history_of c).taken ≡ true) × (length frame ≤ frame_most))
     → output.items ≡ c.output.items ++ frame → replies.items ≡ c.replies.items ++ (output, length c.output.items) ∷ []
-    → 17 * (c.due - 1) ≤ output.spare → (c.last ≡ None → 17 * (c.due - 1) + 6 ≤ output.spare) → IsKept c → IsKept (record c { output = output; grown = large; replies = replies; due = c.due - 1 })
+    → 17 * (c.due - 1) ≤ output.spare → (c.last ≡ None → 17 * (c.due - 1) + 6 ≤ output.spare) → IsKeptConnection c → IsKeptConnection (record c { output = output; grown = large; replies = replies; due = c.due - 1 })
 kept_replied c output replies large frame some few grown logged room last_room k =
     let same = replied_history c output replies large (c.due - 1) frame grown logged in
     let h = history_of c in
@@ -90,7 +90,7 @@ kept_replied c output replies large frame some few grown logged room last_room k
     let longer : length (h.waits ++ frame) ≡ length h.waits + length frame = length-append h.waits frame in
     let paid = owed_less (ends_long h.taken) (due (replied h frame)) (due h) (length frame) (omega (arith, some, more)) few in
     record {
-      stands = subst Stands (sym same) (stands_replied h frame some k.stands);
+      stands = subst HistoryStands (sym same) (stands_replied h frame some k.stands);
       bounded = subst IsBounded (sym same) (record {
         few_held = k.bounded.few_held;
         few_due = omega (arith, k.bounded.few_due, more);
@@ -107,7 +107,7 @@ kept_replied c output replies large frame some few grown logged room last_room k
 
 -- a refusal was told
 pub kept_stopped : (c : Inside) (output : BytesMut Global) (refusal : Refusal) → is_held_up (history_of c) ≡ false → next_of (history_of c) ≡ Stops refusal → due (history_of c) ≡ 0
-    → output.items ≡ c.output.items ++ reply_bytes (Refused refusal) → IsKept c → IsKept (record c { output = output; last = Some (ending.Stopped refusal) })
+    → output.items ≡ c.output.items ++ reply_bytes (Refused refusal) → IsKeptConnection c → IsKeptConnection (record c { output = output; last = Some (ending.Stopped refusal) })
 kept_stopped c output refusal free next all grown k =
     let h = history_of c in
     let open_ = free_of h free in
@@ -115,7 +115,7 @@ kept_stopped c output refusal free next all grown k =
     let same : history_of (record c { output = output; last = Some (ending.Stopped refusal) }) ≡ stopped h refusal = rw grown refl in
     let longer : length (h.waits ++ reply_bytes (Refused refusal)) ≡ length h.waits + 6 = length-append h.waits (reply_bytes (Refused refusal)) ∙ ap (λ n. length h.waits + n) (refused_length refusal) in
     record {
-      stands = subst Stands (sym same) (stands_stopped h refusal open_.last all next k.stands);
+      stands = subst HistoryStands (sym same) (stands_stopped h refusal open_.last all next k.stands);
       bounded = subst IsBounded (sym same) (record {
         few_held = k.bounded.few_held;
         few_due = k.bounded.few_due;
@@ -148,7 +148,7 @@ taken_history c output frames size count due last long none some same logged is 
 
 pub kept_taken : (c : Inside) (output : BytesMut Global) (frames : Log (BytesMut Global) ℕ) (size : ℕ) (last : Option Ending) (long : Bool) → is_held_up (history_of c) ≡ false → IsFound (history_of c) (found.Frame size) → (history_of c).hand ≡ None
     → output.items ≡ c.output.items → 17 * (c.due + 1) + 6 ≤ output.spare → frames.items ≡ c.frames.items ++ (c.input, size) ∷ [] → last ≡ cond (is_bye (frame_of (take size c.input.items))) (Some ending.Bye) c.last
-    → long ≡ may_be_long (frame_of (take size c.input.items)).kind → IsKept c → IsKept (record c { output = output; frames = frames; hand = size; count = c.count + 1; due = c.due + 1; last = last; long = long })
+    → long ≡ may_be_long (frame_of (take size c.input.items)).kind → IsKeptConnection c → IsKeptConnection (record c { output = output; frames = frames; hand = size; count = c.count + 1; due = c.due + 1; last = last; long = long })
 kept_taken c output frames size last long free whole_frame hand same room logged is is_long k =
     let h = history_of c in
     let f : FrameValue = frame_of (take size h.held) in
@@ -163,7 +163,7 @@ kept_taken c output frames size last long free whole_frame hand same room logged
     let short = only_short (ends_long h.taken) (due h) (length h.waits) free_.room in
     let most = owed_most (ends_long (h.taken ++ f ∷ [])) (due (taking h f rest)) (due h) (omega (arith, more, k.stands.in_turn)) in
     record {
-      stands = subst Stands (sym now) (stands_taking h f rest free_.last held (omega (arith, wide, whole.few)) whole_frame.1 whole_frame.2 k.stands);
+      stands = subst HistoryStands (sym now) (stands_taking h f rest free_.last held (omega (arith, wide, whole.few)) whole_frame.1 whole_frame.2 k.stands);
       bounded = subst IsBounded (sym now) (record {
         few_held = omega (arith, wide, k.bounded.few_held, length-drop size h.held, whole.within);
         few_due = omega (arith, short, more);

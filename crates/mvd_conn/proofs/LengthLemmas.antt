@@ -8,7 +8,7 @@ use Rattle.mvd_wire.specs.Codec.{number}
 use Rattle.mvd_wire.specs.Codecs.{dot}
 use Rattle.mvd_wire.specs.Frames.{FrameValue, frame_limit, spell_frame}
 use Rattle.mvd_wire.specs.Requests.{framed}
-use Rattle.mvd_wire.specs.Replies.{CanBeSent, is_short, kind_of, payload_of, refusal, reply_bytes}
+use Rattle.mvd_wire.specs.Replies.{CanBeSent, is_short, reply_kind, reply_payload, refusal, reply_bytes}
 use Rattle.mvd_wire.specs.declared.reply.Reply.{Reply}
 use Rattle.mvd_wire.specs.declared.reply.Reply.TheVariants as reply
 use Rattle.mvd_wire.proofs.Laws.{passed_ok, wide32}
@@ -25,7 +25,7 @@ went_on false r e x is = absurd cc
 framed_fits : (kind : ℕ) (payload bytes : List ℕ) → framed kind payload ≡ Ok bytes → length payload + 1 ≤ frame_limit
 framed_fits kind payload bytes is = leb-true _ _ (passed_ok (leb (length payload + 1) frame_limit) FrameTooLong (spell_frame (record { kind = kind; payload = payload })) bytes is).0
 
-payload_fits : (r : Reply) → CanBeSent r → length (payload_of r) + 1 ≤ frame_limit
+payload_fits : (r : Reply) → CanBeSent r → length (reply_payload r) + 1 ≤ frame_limit
 payload_fits (reply.State s) is = framed_fits 0xA1 _ _ (went_on _ _ _ _ is)
 payload_fits (reply.Written d) is = framed_fits 0xA2 _ _ is
 payload_fits reply.Done is = framed_fits 0xA3 [] _ is
@@ -39,7 +39,7 @@ payload_fits (reply.Refused r) is = framed_fits 0xEE _ _ is
 
 -- a reply that can be sent is at most as long as a frame
 pub sent_fits : (r : Reply) → CanBeSent r → length (reply_bytes r) ≤ frame_most
-sent_fits r is = omega (arith, frame_length (record { kind = kind_of r; payload = payload_of r }), payload_fits r is)
+sent_fits r is = omega (arith, frame_length (record { kind = reply_kind r; payload = reply_payload r }), payload_fits r is)
 
 -- a short reply has at most 17 bytes, and a Refused 6
 pub short_fits : (r : Reply) → is_short r ≡ true → length (reply_bytes r) ≤ 17

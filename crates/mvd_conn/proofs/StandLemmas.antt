@@ -17,18 +17,18 @@ use Rattle.mvd_conn.specs.declared.ending.Ending.TheVariants as ending
 use Rattle.mvd_conn.specs.Guard.{may_come}
 use Rattle.mvd_conn.specs.declared.guard.Guard.{Guard}
 use Rattle.mvd_conn.proofs.Guarded.{gives_shown, let_in_waits}
-use Rattle.mvd_conn.specs.History.{Gives, History, Next, Over, Stops, Waits, due, fed, frame_most, frames_most, is_bye, is_held_up, last_bytes, let_in, next_held, next_of, next_of_source, over, owed, replied, stopped, taking, waits_most}
-use Rattle.mvd_conn.specs.Stands.{AreFirst, GoOn, IsLast, Stands, spelled}
+use Rattle.mvd_conn.specs.History.{Gives, History, NextTaken, Over, Stops, Waits, due, fed, frame_most, frames_most, is_bye, is_held_up, last_bytes, let_in, next_held, next_of, next_of_source, over, owed, replied, stopped, taking, waits_most}
+use Rattle.mvd_conn.specs.Stands.{AreFirst, GoOn, IsLast, HistoryStands, frames_spelled}
 
 abbrev pub Fit : List FrameValue → Type 0
 Fit frames = AllByRecursion (λ (f : FrameValue). length f.payload + 1 ≤ frame_limit) frames
 
-first_of : (fs : List FrameValue) (rest : List ℕ) → Fit fs → AreFirst fs (spelled fs ++ rest) rest
+first_of : (fs : List FrameValue) (rest : List ℕ) → Fit fs → AreFirst fs (frames_spelled fs ++ rest) rest
 first_of [] rest fit = refl
 first_of (f ∷ fs) rest fit =
-    (spelled fs ++ rest, ap frame_at (append_assoc (spell_frame f) (spelled fs) rest) ∙ frame_again f (spelled fs ++ rest) fit.0, first_of fs rest fit.1)
+    (frames_spelled fs ++ rest, ap frame_at (append_assoc (spell_frame f) (frames_spelled fs) rest) ∙ frame_again f (frames_spelled fs ++ rest) fit.0, first_of fs rest fit.1)
 
-pub first_in : (fs : List FrameValue) (bytes rest : List ℕ) → Fit fs → bytes ≡ spelled fs ++ rest → AreFirst fs bytes rest
+pub first_in : (fs : List FrameValue) (bytes rest : List ℕ) → Fit fs → bytes ≡ frames_spelled fs ++ rest → AreFirst fs bytes rest
 first_in fs bytes rest fit e = subst (λ (b : List ℕ). AreFirst fs b rest) (sym e) (first_of fs rest fit)
 
 all_more : {X : Type 0} (P : X → Type 0) (xs : List X) (x : X) → AllByRecursion P xs → P x → AllByRecursion P (xs ++ x ∷ [])
@@ -57,12 +57,12 @@ free_of h e =
 
 -- ---- more input
 
-going : (h : History) → h.last ≡ None → Stands h → GoOn h.taken
+going : (h : History) → h.last ≡ None → HistoryStands h → GoOn h.taken
 going h none s = subst (λ (l : Option Ending). IsLast h l) none s.last
 
-pub stands_fed : (h : History) (bytes : List ℕ) → h.last ≡ None → Stands h → Stands (fed h bytes)
+pub stands_fed : (h : History) (bytes : List ℕ) → h.last ≡ None → HistoryStands h → HistoryStands (fed h bytes)
 stands_fed h bytes none s =
-    let came : h.came ++ bytes ≡ spelled h.taken ++ (h.held ++ bytes) = ap (λ (t : List ℕ). t ++ bytes) s.input ∙ append_assoc (spelled h.taken) h.held bytes in
+    let came : h.came ++ bytes ≡ frames_spelled h.taken ++ (h.held ++ bytes) = ap (λ (t : List ℕ). t ++ bytes) s.input ∙ append_assoc (frames_spelled h.taken) h.held bytes in
     record {
       input = came;
       fit = s.fit;
@@ -90,7 +90,7 @@ never_over guard taken false held (Ok (Some f, rest)) e = given_over (may_come g
 never_over guard taken false held (Ok (None, rest)) e = absurd cc
 never_over guard taken false held (Err refusal) e = open_over guard taken (eqb (number_of refusal) (number_of FrameTooLong)) e
 
-open_stops : (guard : Option Guard) (taken : List FrameValue) (t : Bool) (y : Next) (x : Refusal) → let_in guard taken (cond t (Stops FrameTooLong) Waits) ≡ Stops x → let_in guard taken (cond t (Stops FrameTooLong) y) ≡ Stops x
+open_stops : (guard : Option Guard) (taken : List FrameValue) (t : Bool) (y : NextTaken) (x : Refusal) → let_in guard taken (cond t (Stops FrameTooLong) Waits) ≡ Stops x → let_in guard taken (cond t (Stops FrameTooLong) y) ≡ Stops x
 open_stops guard taken true y x e = e
 open_stops guard taken false y x e = absurd cc
 
@@ -110,7 +110,7 @@ last_closed h new (Some (ending.Stopped refusal)) opened s =
     let all = eqb (length h.taken) frames_most in
     (s.0, s.1, still_stops h.guard h.taken all new h.held (frame_at h.held) refusal (ap (λ (from : Source). cond all (Stops TooManyRequests) (let_in h.guard h.taken (next_held from h.held (frame_at h.held)))) (sym opened) ∙ s.2))
 
-pub stands_closed : (h : History) (new : Source) → h.source ≡ source.Open → Stands h → Stands (record h { source = new })
+pub stands_closed : (h : History) (new : Source) → h.source ≡ source.Open → HistoryStands h → HistoryStands (record h { source = new })
 stands_closed h new opened s = record {
   input = s.input;
   fit = s.fit;
@@ -132,10 +132,10 @@ no_bytes : (b : Bool) (l : Option Ending) → l ≡ None → last_bytes (cond b 
 no_bytes true l none = rw none refl
 no_bytes false l none = refl
 
-pub stands_taking : (h : History) (f : FrameValue) (rest : List ℕ) → h.last ≡ None → h.held ≡ spell_frame f ++ rest → length f.payload + 1 ≤ frame_limit → next_of h ≡ Gives f rest → length h.taken < frames_most → Stands h → Stands (taking h f rest)
+pub stands_taking : (h : History) (f : FrameValue) (rest : List ℕ) → h.last ≡ None → h.held ≡ spell_frame f ++ rest → length f.payload + 1 ≤ frame_limit → next_of h ≡ Gives f rest → length h.taken < frames_most → HistoryStands h → HistoryStands (taking h f rest)
 stands_taking h f rest none held fits next more s =
-    let came : h.came ≡ spelled (h.taken ++ f ∷ []) ++ rest =
-    s.input ∙ ap (λ (t : List ℕ). spelled h.taken ++ t) held ∙ sym (append_assoc (spelled h.taken) (spell_frame f) rest) ∙ ap (λ (t : List ℕ). t ++ rest) (flat_map_more spell_frame [] h.taken f) in
+    let came : h.came ≡ frames_spelled (h.taken ++ f ∷ []) ++ rest =
+    s.input ∙ ap (λ (t : List ℕ). frames_spelled h.taken ++ t) held ∙ sym (append_assoc (frames_spelled h.taken) (spell_frame f) rest) ∙ ap (λ (t : List ℕ). t ++ rest) (flat_map_more spell_frame [] h.taken f) in
     let fit : Fit (h.taken ++ f ∷ []) = all_more (λ (g : FrameValue). length g.payload + 1 ≤ frame_limit) h.taken f s.fit fits in
     record {
       input = came;
@@ -153,7 +153,7 @@ stands_taking h f rest none held fits next more s =
 all_answered : (h : History) → due h ≡ 0 → length h.answers ≤ length h.taken → length h.answers ≡ length h.taken
 all_answered h none few = omega (arith, none, few)
 
-pub stands_over : (h : History) → h.last ≡ None → due h ≡ 0 → next_of h ≡ Over → Stands h → Stands (over h)
+pub stands_over : (h : History) → h.last ≡ None → due h ≡ 0 → next_of h ≡ Over → HistoryStands h → HistoryStands (over h)
 stands_over h none all next s = record {
   input = s.input;
   fit = s.fit;
@@ -165,7 +165,7 @@ stands_over h none all next s = record {
   shown = s.shown;
 }
 
-pub stands_stopped : (h : History) (refusal : Refusal) → h.last ≡ None → due h ≡ 0 → next_of h ≡ Stops refusal → Stands h → Stands (stopped h refusal)
+pub stands_stopped : (h : History) (refusal : Refusal) → h.last ≡ None → due h ≡ 0 → next_of h ≡ Stops refusal → HistoryStands h → HistoryStands (stopped h refusal)
 stands_stopped h refusal none all next s =
     let bytes = last_bytes (Some (ending.Stopped refusal)) in
     let before : concat h.answers ≡ h.left ++ h.waits = sym (append-nil (concat h.answers)) ∙ ap (λ (l : Option Ending). concat h.answers ++ last_bytes l) (sym none) ∙ s.output in
@@ -189,7 +189,7 @@ due_last h (Some ending.Bye) some s frame = (refl, s)
 due_last h (Some ending.End) some s frame = absurd (omega (arith, some, s.1))
 due_last h (Some (ending.Stopped refusal)) some s frame = absurd (omega (arith, some, s.1))
 
-pub stands_replied : (h : History) (frame : List ℕ) → length h.answers < length h.taken → Stands h → Stands (replied h frame)
+pub stands_replied : (h : History) (frame : List ℕ) → length h.answers < length h.taken → HistoryStands h → HistoryStands (replied h frame)
 stands_replied h frame some s =
     let end = due_last h h.last some s.last frame in
     let before : concat h.answers ≡ h.left ++ h.waits = sym (append-nil (concat h.answers)) ∙ ap (λ (t : List ℕ). concat h.answers ++ t) (sym end.0) ∙ s.output in
@@ -207,7 +207,7 @@ stands_replied h frame some s =
 
 -- ---- what waiting for more input means
 
-awaits : (b : Bool) (r : Refusal) (y : Next) → cond b (Stops r) y ≡ Waits → y ≡ Waits
+awaits : (b : Bool) (r : Refusal) (y : NextTaken) → cond b (Stops r) y ≡ Waits → y ≡ Waits
 awaits true r y e = absurd cc
 awaits false r y e = e
 
@@ -220,7 +220,7 @@ stops_never r e = absurd cc
 -- where more bytes are awaited, less than the longest frame is held
 pub waits_few : (h : History) → next_of h ≡ Waits → length h.held < frame_most
 waits_few h e =
-    let y : Next = next_held h.source h.held (frame_at h.held) in
+    let y : NextTaken = next_held h.source h.held (frame_at h.held) in
     let next : y ≡ Waits = let_in_waits h.guard h.taken y (awaits (eqb (length h.taken) frames_most) TooManyRequests (let_in h.guard h.taken y) e) in
     elim (cases_lt (length h.held) frame_most) [
       | inl lt ↦ lt

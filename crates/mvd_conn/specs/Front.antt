@@ -10,7 +10,7 @@ use Rattle.mvd_conn.specs.History.{Gives, History, Over, Stops, Waits, frame_mos
 use Rattle.mvd_conn.specs.Stands.{frame_of}
 
 -- the first n bytes spell a frame
-pub record IsWhole (bytes : List ℕ) (n : ℕ) : Type 0 where
+pub record IsWholeFrame (bytes : List ℕ) (n : ℕ) : Type 0 where
   pub some : 5 ≤ n
   pub few : n ≤ frame_most
   pub within : n ≤ length bytes
@@ -23,17 +23,17 @@ pub record IsPart (bytes : List ℕ) : Type 0 where
   pub read : ((bytes ≡ []) × (frame_at bytes ≡ Ok (None, []))) ⊎ (frame_at bytes ≡ Err Truncated)
 
 abbrev pub IsFront : List ℕ → Front → Type 0
-IsFront bytes (Whole n) = IsWhole bytes n
+IsFront bytes (Whole n) = IsWholeFrame bytes n
 IsFront bytes Part = IsPart bytes
 IsFront bytes TooLong = frame_at bytes ≡ Err FrameTooLong
 
 -- what comes next, with a whole frame as its length
 abbrev pub IsFound : History → Found → Type 0
-IsFound h (found.Frame size) = IsWhole h.held size × (next_of h ≡ Gives (frame_of (take size h.held)) (drop size h.held)) × (length h.taken < frames_most)
+IsFound h (found.Frame size) = IsWholeFrame h.held size × (next_of h ≡ Gives (frame_of (take size h.held)) (drop size h.held)) × (length h.taken < frames_most)
 IsFound h found.End = next_of h ≡ Over
 IsFound h (found.Stops refusal) = next_of h ≡ Stops refusal
 IsFound h found.Nothing = next_of h ≡ Waits
 
 -- the frame of the first bytes is taken in hand
-abbrev pub Takes : History → ℕ → History → Type 0
-Takes old size new = new ≡ taking old (frame_of (take size old.held)) (drop size old.held)
+abbrev pub TakesFrame : History → ℕ → History → Type 0
+TakesFrame old size new = new ≡ taking old (frame_of (take size old.held)) (drop size old.held)

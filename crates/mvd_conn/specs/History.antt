@@ -84,30 +84,30 @@ owed h = owed_by (ends_long h.taken) (due h)
 
 -- the frame of a Bye
 abbrev pub is_bye : FrameValue → Bool
-is_bye f = (f.kind == asked.kind_of Bye) && (length f.payload == 0)
+is_bye f = (f.kind == asked.request_kind Bye) && (length f.payload == 0)
 
 -- a frame, with what follows it; the end after a frame; a refusal; or more bytes are wanted
-pub data Next : Type 0 where
-  Gives : FrameValue → List ℕ → Next
-  Over : Next
-  Stops : Refusal → Next
-  Waits : Next
+pub data NextTaken : Type 0 where
+  Gives : FrameValue → List ℕ → NextTaken
+  Over : NextTaken
+  Stops : Refusal → NextTaken
+  Waits : NextTaken
 
 -- where no whole frame is held
-abbrev pub next_of_source : Source → List ℕ → Next
+abbrev pub next_of_source : Source → List ℕ → NextTaken
 next_of_source source.Open held = Waits
 next_of_source source.AtEnd [] = Over
 next_of_source source.AtEnd (b ∷ held) = Stops Truncated
 next_of_source (source.Failed refusal) held = Stops refusal
 
 -- a length that no frame has is told at once
-abbrev pub next_held : Source → List ℕ → Result (Option FrameValue × List ℕ) Refusal → Next
+abbrev pub next_held : Source → List ℕ → Result (Option FrameValue × List ℕ) Refusal → NextTaken
 next_held from held (Ok (Some f, rest)) = Gives f rest
 next_held from held (Ok (None, rest)) = next_of_source from held
 next_held from held (Err refusal) = if number_of refusal == number_of FrameTooLong then Stops FrameTooLong else next_of_source from held
 
 -- a frame is given only where it may be taken behind these
-abbrev pub let_in : Option Guard → List FrameValue → Next → Next
+abbrev pub let_in : Option Guard → List FrameValue → NextTaken → NextTaken
 let_in guard taken (Gives f rest) = if may_come guard taken f then Gives f rest else Stops NotAdmitted
 let_in guard taken Over = Over
 let_in guard taken (Stops refusal) = Stops refusal
@@ -115,7 +115,7 @@ let_in guard taken Waits = Waits
 
 -- the first cause decides: as many frames as there may be, a whole frame, which may come in or not, a length that no frame has,
 -- the source's end
-abbrev pub next_of : History → Next
+abbrev pub next_of : History → NextTaken
 next_of h =
     if length h.taken == frames_most then Stops TooManyRequests
     else let_in h.guard h.taken (next_held h.source h.held (frame_at h.held))
@@ -171,7 +171,7 @@ abbrev pub stopped : History → Refusal → History
 stopped h refusal = record h { last = Some (ending.Stopped refusal); waits = h.waits ++ last_bytes (Some (ending.Stopped refusal)) }
 
 -- an end is told once all replies are queued
-abbrev pub stepped : History → Next → Bool × History
+abbrev pub stepped : History → NextTaken → Bool × History
 stepped h (Gives f rest) = (true, taking h f rest)
 stepped h Over = (false, if due h == 0 then over h else h)
 stepped h (Stops refusal) = (false, if due h == 0 then stopped h refusal else h)

@@ -2,7 +2,7 @@
 use Rattle.std.specs.Prelude.{◌≡◌, ◌+◌, ◌*◌, ◌≤◌, ◌⊎◌, ◌==◌, if◌then◌else◌, length, take, drop, map, flat_map, Some, None}
 use Rattle.mvd_conn.specs.declared.connection.Connection.TheInside.{Inside}
 use Rattle.mvd_conn.specs.History.{History, ends_long}
-use Rattle.mvd_conn.specs.Stands.{IsBounded, Stands, frame_of}
+use Rattle.mvd_conn.specs.Stands.{IsBounded, HistoryStands, frame_of}
 
 abbrev pub history_of : Inside → History
 history_of c = record {
@@ -19,8 +19,8 @@ history_of c = record {
   failed = c.failed;
 }
 
-pub record IsKept (c : Inside) : Type 0 where
-  pub stands : Stands (history_of c)
+pub record IsKeptConnection (c : Inside) : Type 0 where
+  pub stands : HistoryStands (history_of c)
   pub bounded : IsBounded (history_of c)
   pub count : c.count ≡ length (history_of c).taken
   pub due : c.due + length (history_of c).answers ≡ length (history_of c).taken

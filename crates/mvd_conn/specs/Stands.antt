@@ -16,8 +16,8 @@ abbrev pub frame_of : List ℕ → FrameValue
 frame_of bytes = record { kind = slice_index bytes 4; payload = drop 5 bytes }
 
 -- the frames, one after the other
-abbrev pub spelled : List FrameValue → List ℕ
-spelled frames = flat_map spell_frame frames
+abbrev pub frames_spelled : List FrameValue → List ℕ
+frames_spelled frames = flat_map spell_frame frames
 
 -- the bytes are read as these frames, and then comes the rest
 abbrev pub AreFirst : List FrameValue → List ℕ → List ℕ → Type 0
@@ -41,8 +41,8 @@ IsLast h (Some (ending.Stopped refusal)) = GoOn h.taken × (length h.answers ≡
 
 -- What came in are the frames that were taken, and what is held. What was queued left, or waits. The frames that were taken are
 -- the first of the input, and the end is the first cause. Of a client that does not show the token no frame was taken.
-pub record Stands (h : History) : Type 0 where
-  pub input : h.came ≡ spelled h.taken ++ h.held
+pub record HistoryStands (h : History) : Type 0 where
+  pub input : h.came ≡ frames_spelled h.taken ++ h.held
   pub fit : AllByRecursion (λ f. length f.payload + 1 ≤ frame_limit) h.taken
   pub first : AreFirst h.taken h.came h.held
   pub output : queued h ≡ h.left ++ h.waits

@@ -1,5 +1,7 @@
 //! One connection: from the bytes that came to the bytes that leave.
-ghost use Rattle.std.specs.Prelude.{◌≡◌, ◌≤◌, ◌<◌, ◌==◌, ◌↔◌, ◌⊎◌, if◌then◌else◌, [], length, take, drop, true, false, None, IsTrue, IfOk, IfErr, OnOk, option_map};
+ghost use Rattle.std.specs.Prelude.{◌≡◌, ◌≤◌, ◌<◌, ◌==◌, ◌↔◌, ◌⊎◌, if◌then◌else◌, []};
+ghost use Rattle.std.specs.Prelude.{length, take, drop, true, false, None};
+ghost use Rattle.std.specs.Prelude.{IsTrue, IfOk, IfErr, OnOk, option_map};
 ghost use Rattle.mvd_dots.specs.declared.refusals.Refusal.TheVariants as Refusal;
 ghost use Rattle.mvd_wire.specs.declared.reply.Reply.{Reply};
 ghost use Rattle.mvd_wire.specs.Replies.{CanBeSent, reply_bytes};
@@ -70,18 +72,20 @@ impl Model for Connection {
 
     ghost Value = { History };
 
-    ghost use Rattle.mvd_conn.specs.Inside.{IsKept, history_of};
+    ghost use Rattle.mvd_conn.specs.Inside.{IsKeptConnection, history_of};
 
     ghost view = { history_of };
 
-    ghost invariant = { IsKept };
+    ghost invariant = { IsKeptConnection };
 }
 
 impl Connection {
-    ghost use Rattle.mvd_conn.specs.History.{NextRefused, Over, Stops, WantsInput, after_next, closed, cut, due, ending_of, ends_long, fed, frame_most, is_done, is_held_up, new_history, next_of, over, owed, piece_most, released, replied, sent, stopped};
+    ghost use Rattle.mvd_conn.specs.History.{NextRefused, Over, Stops, WantsInput, after_next, closed, cut, due, ending_of};
+    ghost use Rattle.mvd_conn.specs.History.{ends_long, fed, frame_most, is_done, is_held_up, new_history, next_of, over};
+    ghost use Rattle.mvd_conn.specs.History.{owed, piece_most, released, replied, sent, stopped};
     ghost use Rattle.mvd_conn.specs.Guard.{may_come};
-    ghost use Rattle.mvd_conn.specs.Stands.{IsBounded, IsQueued, Stands, frame_of};
-    ghost use Rattle.mvd_conn.specs.Front.{IsFound, Takes};
+    ghost use Rattle.mvd_conn.specs.Stands.{IsBounded, IsQueued, HistoryStands, frame_of};
+    ghost use Rattle.mvd_conn.specs.Front.{IsFound, TakesFrame};
     ghost use Rattle.mvd_conn.specs.declared.scan.Found.TheVariants as Found;
     ghost use Rattle.mvd_conn.specs.declared.ending.Source.TheVariants as Source;
 
@@ -249,7 +253,7 @@ impl Connection {
 
     /// What is true of every connection.
     pub fn stands(&self)
-        ensures stands { Stands self.now }
+        ensures stands { HistoryStands self.now }
         ensures bounded { IsBounded self.now }
     {
         let _ = &self.input;
@@ -339,7 +343,7 @@ impl Connection {
         requires idle { self.old.hand ≡ None }
         requires free { is_held_up self.old ≡ false }
         requires found { IsFound self.old (Found.Frame size) }
-        ensures ok { IfOk result (λ more. (more ≡ true) × Takes self.old size self.new) }
+        ensures ok { IfOk result (λ more. (more ≡ true) × TakesFrame self.old size self.new) }
         ensures due { IfOk result (λ _. length self.new.answers < length self.new.taken) }
         ensures err { IfErr result (λ e. (e ≡ Refusal.Memory) × (self.new ≡ self.old)) }
     {

@@ -6,13 +6,13 @@ ghost use Rattle.mvd_wire.specs.Requests.{request_of};
 ghost use Rattle.mvd_wire.specs.Frames.{FrameValue};
 ghost use Rattle.mvd_conn.specs.Guard.{IsTokenOf, shows};
 ghost use Rattle.mvd_conn.specs.History.{History, is_bye};
-ghost use Rattle.mvd_conn.specs.Stands.{Stands};
+ghost use Rattle.mvd_conn.specs.Stands.{HistoryStands};
 ghost use Rattle.mvd_conn.specs.declared.guard.Guard.{Guard};
 
 /// Of two connections to which the same bytes came, in whatever pieces, and to one of them perhaps more, the frames
 /// that the one has taken are the first that the other has.
 pub fn one_course()
-    ensures { (a b : History) (more : List ℕ) → Stands a → Stands b → b.came ≡ a.came ++ more →
+    ensures { (a b : History) (more : List ℕ) → HistoryStands a → HistoryStands b → b.came ≡ a.came ++ more →
         length a.taken ≤ length b.taken → (rest : List FrameValue) × (b.taken ≡ a.taken ++ rest) }
 {}
 

@@ -10,12 +10,12 @@ abbrev pub Absorbed : CountedHasher → List ℕ → Type 0
 Absorbed computation bytes = Holds256 computation.hasher bytes
 
 -- a computation read so many bytes
-pub record Reads (bytes : ℕ) (old new : Hashed) : Type 0 where
+pub record ReadsBytes (bytes : ℕ) (old new : Hashed) : Type 0 where
   pub reads : new.bytes ≡ counted old.bytes bytes
   pub ends : new.computations ≡ old.computations
 
 -- a computation ended
-pub record Ends (old new : Hashed) : Type 0 where
+pub record EndsDigest (old new : Hashed) : Type 0 where
   pub reads : new.bytes ≡ old.bytes
   pub ends : new.computations ≡ counted old.computations 1
 

@@ -1,7 +1,7 @@
 //! SHA-256 computations. All bytes that one reads are counted here, and each of its ends.
 ghost use Rattle.std.specs.Prelude.{◌≡◌, ℕ, List, [], ◌++◌, length};
 ghost use Rattle.sha2.specs.Sha256.{sha256};
-ghost use Rattle.mvd_digest.specs.Counted.{Ends, Absorbed, Hashes, Reads};
+ghost use Rattle.mvd_digest.specs.Counted.{EndsDigest, Absorbed, Hashes, ReadsBytes};
 
 use mvd_count::Count;
 use sha2::{Digest, Sha256};
@@ -21,14 +21,14 @@ pub struct Hashed {
 
 impl Hashed {
     fn count_bytes(&mut self, bytes: usize)
-        ensures exact { Reads bytes self.old self.new }
+        ensures exact { ReadsBytes bytes self.old self.new }
         ensures counts { Hashes 0 bytes self.old self.new }
     {
         self.bytes.add(bytes as u64);
     }
 
     fn count_end(&mut self)
-        ensures exact { Ends self.old self.new }
+        ensures exact { EndsDigest self.old self.new }
         ensures counts { Hashes 1 0 self.old self.new }
     {
         self.computations.add(1);
@@ -54,7 +54,7 @@ impl CountedHasher {
     /// It reads these bytes, each of which is counted.
     pub fn update(&mut self, bytes: &[u8], hashed: &mut Hashed)
         ensures reads { (m : List ℕ) → Absorbed self.old m → Absorbed self.new (m ++ bytes.now) }
-        ensures exact { Reads (length bytes.now) hashed.old hashed.new }
+        ensures exact { ReadsBytes (length bytes.now) hashed.old hashed.new }
         ensures counts { Hashes 0 (length bytes.now) hashed.old hashed.new }
     {
         hashed.count_bytes(bytes.len());
@@ -74,7 +74,7 @@ impl CountedHasher {
     /// The digest of what was read. This end is counted.
     pub fn finish(self, hashed: &mut Hashed) -> [u8; 32]
         ensures digest { (m : List ℕ) → Absorbed self m → result ≡ sha256 m }
-        ensures exact { Ends hashed.old hashed.new }
+        ensures exact { EndsDigest hashed.old hashed.new }
         ensures counts { Hashes 1 0 hashed.old hashed.new }
     {
         hashed.count_end();

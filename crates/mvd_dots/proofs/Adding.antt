@@ -5,7 +5,7 @@ use Rattle.std.specs.List.{AllWithin}
 use Rattle.std.specs.FinSet as finite
 use Rattle.mvd_dots.specs.Dot.{DotValue}
 use Rattle.mvd_dots.specs.Entry.{EntryValue, IsEntry}
-use Rattle.mvd_dots.specs.Context.{DotSet, Holds, AreEntriesAbove, AreEntries, IsEntryOfDot, entry_dots, set_of}
+use Rattle.mvd_dots.specs.Context.{DotSet, HoldsDot, AreEntriesAbove, AreEntries, IsEntryOfDot, entry_dots, set_of}
 use Rattle.mvd_dots.proofs.Sets.{holds_insert, empty_holds, union_assoc, union_comm}
 use Rattle.mvd_dots.proofs.Members.{entry_holds, some_dot, cons_first, cons_rest, set_of-append, set_of-cons}
 use Rattle.mvd_dots.proofs.EntryLists.{entries_replaced, place_of_site, sites_rise_or_same, union_single}
@@ -13,7 +13,7 @@ use Rattle.mvd_dots.proofs.EntryLists.{entries_replaced, place_of_site, sites_ri
 pub site_of_dot : (d : DotValue) (e : EntryValue) → IsEntryOfDot d e → e.site ≡ d.site
 site_of_dot d e is =
     let some = some_dot e is.form in
-    elim (holds_insert finite.empty d e.site some.0 (subst (λ s. Holds s e.site some.0) is.dots (entry_holds e some.0 some.1))) [
+    elim (holds_insert finite.empty d e.site some.0 (subst (λ s. HoldsDot s e.site some.0) is.dots (entry_holds e some.0 some.1))) [
       | inl q ↦ ap (λ v. v.site) q
       | inr none ↦ absurd (empty_holds e.site some.0 none)
     ]
@@ -50,7 +50,7 @@ set_dots es i e z single d s h is union of_dot es_is =
 
 -- ---- an entry of a new site
 
-inserted_form : (low : ℕ) (a : List EntryValue) (x : EntryValue) (b : List EntryValue) → AreEntriesAbove low (a ++ b) → low < x.site → IsEntry x → ((site n : ℕ) → Holds (set_of a) site n → site < x.site) → ((site n : ℕ) → Holds (set_of b) site n → x.site < site) → AreEntriesAbove low (a ++ x ∷ b)
+inserted_form : (low : ℕ) (a : List EntryValue) (x : EntryValue) (b : List EntryValue) → AreEntriesAbove low (a ++ b) → low < x.site → IsEntry x → ((site n : ℕ) → HoldsDot (set_of a) site n → site < x.site) → ((site n : ℕ) → HoldsDot (set_of b) site n → x.site < site) → AreEntriesAbove low (a ++ x ∷ b)
 inserted_form low [] x [] form above is below over = (above, is, tt)
 inserted_form low [] x (f ∷ b) form above is below over =
     let some = some_dot f form.1 in (above, is, (over f.site some.0 (cons_first f b some.0 some.1), form.1, form.2))
@@ -61,14 +61,14 @@ inserted_form low (e ∷ a) x b form above is below over =
 none : EntryValue
 none = record { site = 0; base = 0; loose = [] }
 
-front_lower : (es : List EntryValue) (i bound : ℕ) → i ≤ length es → AllWithin (λ v. v.site < bound) es 0 i → (site n : ℕ) → Holds (set_of (take i es)) site n → site < bound
+front_lower : (es : List EntryValue) (i bound : ℕ) → i ≤ length es → AllWithin (λ v. v.site < bound) es 0 i → (site n : ℕ) → HoldsDot (set_of (take i es)) site n → site < bound
 front_lower es i bound h below site n holds =
     let place = place_of_site (take i es) site n none holds in
     let inside : place.0 < i = omega (arith, place.1, length-take-le i es h) in
     let at : (get_or es place.0 none).site ≡ site = ap (λ v. v.site) (sym (get_or-take i es place.0 none inside)) ∙ place.2 in
     omega (arith, below place.0 none (omega arith) inside, at)
 
-rest_higher : (es : List EntryValue) (i bound : ℕ) → AllWithin (λ v. bound < v.site) es i (length es) → (site n : ℕ) → Holds (set_of (drop i es)) site n → bound < site
+rest_higher : (es : List EntryValue) (i bound : ℕ) → AllWithin (λ v. bound < v.site) es i (length es) → (site n : ℕ) → HoldsDot (set_of (drop i es)) site n → bound < site
 rest_higher es i bound above site n holds =
     let place = place_of_site (drop i es) site n none holds in
     let at : (get_or es (i + place.0) none).site ≡ site = ap (λ v. v.site) (sym (get_or-drop i es place.0 none)) ∙ place.2 in

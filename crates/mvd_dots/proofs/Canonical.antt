@@ -11,7 +11,7 @@ use Rattle.std.specs.FinMap.Entries.{below_all, is_some-find}
 use Rattle.std.specs.FinSet as set
 use Rattle.mvd_dots.specs.Dot.{DotValue, dot_cmp}
 use Rattle.mvd_dots.specs.Entry.{EntryValue, IsEntry, RisesAbove, Among, HasCounter}
-use Rattle.mvd_dots.specs.Context.{DotSet, Holds, AreInRange, IsBaseOf, IsEntryAt, AreEntriesAbove, AreEntries, AreEntriesOf, set_of, rising, counters_at, counted_on, base_of, loose_of, entry_of, sites_of, entries_of, bases_of}
+use Rattle.mvd_dots.specs.Context.{DotSet, HoldsDot, AreInRange, IsBaseOf, IsEntryAt, AreEntriesAbove, AreEntries, AreEntriesOf, set_of, rising, counters_at, counted_on, base_of, loose_of, entry_of, sites_of, entries_of, bases_of}
 use Rattle.mvd_dots.proofs.Rising.{above_low, all_below, has_dot, rises_lower}
 use Rattle.mvd_dots.proofs.Sets.{dot, same_dot, tied_dot, same_dots}
 use Rattle.mvd_dots.proofs.Members.{holds_cons, cons_first, cons_rest, nil_holds, entries_unique, entry_unique, some_dot}
@@ -137,22 +137,22 @@ site_any (d ∷ ds) site h =
       | inr later ↦ let rest = site_any ds site later in (rest.0, or_right _ _ rest.1)
     ]
 
-pub counters_hold : (dots : DotSet) (site n : ℕ) → Among (counters_at dots site) n → Holds dots site n
+pub counters_hold : (dots : DotSet) (site n : ℕ) → Among (counters_at dots site) n → HoldsDot dots site n
 unfolding counters_at
 counters_hold dots site n h = set.contains-items dots (dot site n) ∙ own_any site (set.items dots) n (among_rising (own site (set.items dots)) n h)
 
-pub holds_counters : (dots : DotSet) (site n : ℕ) → Holds dots site n → Among (counters_at dots site) n
+pub holds_counters : (dots : DotSet) (site n : ℕ) → HoldsDot dots site n → Among (counters_at dots site) n
 unfolding counters_at
 holds_counters dots site n h =
     rising_among (own site (set.items dots)) n (any_own site (set.items dots) n (sym (set.contains-items dots (dot site n)) ∙ h))
 
-pub sites_hold : (dots : DotSet) (site : ℕ) → Among (sites_of dots) site → (n : ℕ) × Holds dots site n
+pub sites_hold : (dots : DotSet) (site : ℕ) → Among (sites_of dots) site → (n : ℕ) × HoldsDot dots site n
 unfolding sites_of
 sites_hold dots site h =
     let found = site_any (set.items dots) site (among_rising (map (λ d. d.site) (set.items dots)) site h) in
     (found.0, set.contains-items dots (dot site found.0) ∙ found.1)
 
-pub holds_sites : (dots : DotSet) (site n : ℕ) → Holds dots site n → Among (sites_of dots) site
+pub holds_sites : (dots : DotSet) (site n : ℕ) → HoldsDot dots site n → Among (sites_of dots) site
 unfolding sites_of
 holds_sites dots site n h =
     rising_among (map (λ d. d.site) (set.items dots)) site (any_site (set.items dots) site n (sym (set.contains-items dots (dot site n)) ∙ h))
@@ -260,14 +260,14 @@ rises_past base (n ∷ ns) rises gap =
 
 -- ---- the entry of a site
 
-pub counter_there : (dots : DotSet) (site n : ℕ) → AreInRange dots → Holds dots site n → HasCounter (base_of dots site) (loose_of dots site) n
+pub counter_there : (dots : DotSet) (site n : ℕ) → AreInRange dots → HoldsDot dots site n → HasCounter (base_of dots site) (loose_of dots site) n
 counter_there dots site n range holds =
     elim (cases_lt (base_of dots site) n) [
       | inl above ↦ inr (loose_among (base_of dots site) (counters_at dots site) n above (holds_counters dots site n holds))
       | inr within ↦ inl ((range site n holds).counter_low, within)
     ]
 
-pub counter_back : (dots : DotSet) (site n : ℕ) → AreInRange dots → HasCounter (base_of dots site) (loose_of dots site) n → Holds dots site n
+pub counter_back : (dots : DotSet) (site n : ℕ) → AreInRange dots → HasCounter (base_of dots site) (loose_of dots site) n → HoldsDot dots site n
 counter_back dots site n range has =
     elim has [
       | inl low ↦ (base_is dots site range).all n low.0 low.1
@@ -281,7 +281,7 @@ base_high dots site range =
       | inr none ↦ omega arith
     ]
 
-pub entry_form : (dots : DotSet) (site n : ℕ) → AreInRange dots → Holds dots site n → IsEntry (entry_of dots site)
+pub entry_form : (dots : DotSet) (site n : ℕ) → AreInRange dots → HoldsDot dots site n → IsEntry (entry_of dots site)
 entry_form dots site n range holds =
     let base = base_of dots site in
     let all = counters_at dots site in
@@ -312,10 +312,10 @@ none_among [] none = refl
 none_among (n ∷ ns) none = absurd (none n (inl refl))
 
 -- a site with no dot has no loose counter
-pub loose_none : (dots : DotSet) (site : ℕ) → AreInRange dots → ((n : ℕ) → Holds dots site n → ⊥) → loose_of dots site ≡ []
+pub loose_none : (dots : DotSet) (site : ℕ) → AreInRange dots → ((n : ℕ) → HoldsDot dots site n → ⊥) → loose_of dots site ≡ []
 loose_none dots site range none = none_among (loose_of dots site) (λ n h. none n (counter_back dots site n range (inr h)))
 
-pub loose_is : (dots : DotSet) (site n : ℕ) → AreInRange dots → Among (loose_of dots site) n ↔ (base_of dots site < n) × Holds dots site n
+pub loose_is : (dots : DotSet) (site n : ℕ) → AreInRange dots → Among (loose_of dots site) n ↔ (base_of dots site < n) × HoldsDot dots site n
 loose_is dots site n range = (
   λ h. let parts = among_loose (base_of dots site) (counters_at dots site) n h in (parts.0, counters_hold dots site n parts.1),
   λ h. loose_among (base_of dots site) (counters_at dots site) n h.0 (holds_counters dots site n h.1),
@@ -326,28 +326,28 @@ loose_rises dots site range = loose_past 0 (base_of dots site) (counters_at dots
 
 -- ---- the entries
 
-form_of : (dots : DotSet) → AreInRange dots → (low : ℕ) (sites : List ℕ) → RisesAbove low sites → ((site : ℕ) → Among sites site → (n : ℕ) × Holds dots site n) → AreEntriesAbove low (map (entry_of dots) sites)
+form_of : (dots : DotSet) → AreInRange dots → (low : ℕ) (sites : List ℕ) → RisesAbove low sites → ((site : ℕ) → Among sites site → (n : ℕ) × HoldsDot dots site n) → AreEntriesAbove low (map (entry_of dots) sites)
 form_of dots range low [] rises each = tt
 form_of dots range low (site ∷ sites) rises each =
     let some = each site (inl refl) in
     (rises.0, entry_form dots site some.0 range some.1, form_of dots range site sites rises.1 (λ s h. each s (inr h)))
 
-dots_there : (dots : DotSet) → AreInRange dots → (sites : List ℕ) (i n : ℕ) → Holds (set_of (map (entry_of dots) sites)) i n → Holds dots i n
+dots_there : (dots : DotSet) → AreInRange dots → (sites : List ℕ) (i n : ℕ) → HoldsDot (set_of (map (entry_of dots) sites)) i n → HoldsDot dots i n
 dots_there dots range [] i n h = absurd (nil_holds i n h)
 dots_there dots range (site ∷ sites) i n h =
     elim (holds_cons (entry_of dots site) (map (entry_of dots) sites) i n h) [
-      | inl k ↦ subst (λ s. Holds dots s n) (sym k.0) (counter_back dots site n range k.1)
+      | inl k ↦ subst (λ s. HoldsDot dots s n) (sym k.0) (counter_back dots site n range k.1)
       | inr k ↦ dots_there dots range sites i n k
     ]
 
-dots_back : (dots : DotSet) → AreInRange dots → (sites : List ℕ) (i n : ℕ) → Among sites i → Holds dots i n → Holds (set_of (map (entry_of dots) sites)) i n
+dots_back : (dots : DotSet) → AreInRange dots → (sites : List ℕ) (i n : ℕ) → Among sites i → HoldsDot dots i n → HoldsDot (set_of (map (entry_of dots) sites)) i n
 dots_back dots range [] i n h holds = absurd h
 dots_back dots range (site ∷ sites) i n h holds =
     elim h [
       | inl is ↦
-          let first : Holds (set_of (map (entry_of dots) (site ∷ sites))) site n
-          = cons_first (entry_of dots site) (map (entry_of dots) sites) n (counter_there dots site n range (subst (λ s. Holds dots s n) is holds)) in
-          subst (λ s. Holds (set_of (map (entry_of dots) (site ∷ sites))) s n) (sym is) first
+          let first : HoldsDot (set_of (map (entry_of dots) (site ∷ sites))) site n
+          = cons_first (entry_of dots site) (map (entry_of dots) sites) n (counter_there dots site n range (subst (λ s. HoldsDot dots s n) is holds)) in
+          subst (λ s. HoldsDot (set_of (map (entry_of dots) (site ∷ sites))) s n) (sym is) first
       | inr later ↦ cons_rest (entry_of dots site) (map (entry_of dots) sites) i n (dots_back dots range sites i n later holds)
     ]
 

@@ -6,7 +6,7 @@ use Rattle.std.specs.List.{AllWithin}
 use Rattle.std.specs.FinSet as set
 use Rattle.mvd_dots.specs.Dot.{DotValue, IsDot}
 use Rattle.mvd_dots.specs.Entry.{EntryValue, IsEntry, HasCounter}
-use Rattle.mvd_dots.specs.Context.{DotSet, Holds, AreEntriesAbove, AreEntries, IsEntryAt, IsEntryOfDot, entry_dots, set_of}
+use Rattle.mvd_dots.specs.Context.{DotSet, HoldsDot, AreEntriesAbove, AreEntries, IsEntryAt, IsEntryOfDot, entry_dots, set_of}
 use Rattle.mvd_dots.proofs.Sets.{same_dots, holds_insert, insert_new, insert_old, holds_union, union_left, union_right, empty_holds, union-empty, union_comm, union_assoc}
 use Rattle.mvd_dots.proofs.Members.{holds_entry, entry_holds, holds_cons, cons_first, cons_rest, nil_holds, site_above, set_of-nil, set_of-cons, set_of-append, some_dot}
 
@@ -28,12 +28,12 @@ sites_rise low (e ∷ es) i zero d form less h = absurd (omega arith)
 sites_rise low (e ∷ es) zero (suc j) d form less h = site_at_above e.site es j d form.2 (omega arith)
 sites_rise low (e ∷ es) (suc i) (suc j) d form less h = sites_rise e.site es i j d form.2 (omega arith) (omega arith)
 
-pub at_holds_entry : (es : List EntryValue) (i : ℕ) (d : EntryValue) → i < length es → (n : ℕ) → HasCounter (get_or es i d).base (get_or es i d).loose n → Holds (set_of es) (get_or es i d).site n
+pub at_holds_entry : (es : List EntryValue) (i : ℕ) (d : EntryValue) → i < length es → (n : ℕ) → HasCounter (get_or es i d).base (get_or es i d).loose n → HoldsDot (set_of es) (get_or es i d).site n
 at_holds_entry [] i d h n has = absurd (omega arith)
 at_holds_entry (e ∷ es) zero d h n has = cons_first e es n has
 at_holds_entry (e ∷ es) (suc i) d h n has = cons_rest e es (get_or es i d).site n (at_holds_entry es i d (omega arith) n has)
 
-pub holds_entry_at : (low : ℕ) (es : List EntryValue) (i : ℕ) (d : EntryValue) → AreEntriesAbove low es → i < length es → (n : ℕ) → Holds (set_of es) (get_or es i d).site n → HasCounter (get_or es i d).base (get_or es i d).loose n
+pub holds_entry_at : (low : ℕ) (es : List EntryValue) (i : ℕ) (d : EntryValue) → AreEntriesAbove low es → i < length es → (n : ℕ) → HoldsDot (set_of es) (get_or es i d).site n → HasCounter (get_or es i d).base (get_or es i d).loose n
 holds_entry_at low [] i d form h n holds = absurd (omega arith)
 holds_entry_at low (e ∷ es) zero d form h n holds =
     elim (holds_cons e es e.site n holds) [
@@ -47,7 +47,7 @@ holds_entry_at low (e ∷ es) (suc i) d form h n holds =
     ]
 
 -- where a dot's entry stands
-pub place_of_site : (es : List EntryValue) (site n : ℕ) (d : EntryValue) → Holds (set_of es) site n → (k : ℕ) × (k < length es) × ((get_or es k d).site ≡ site)
+pub place_of_site : (es : List EntryValue) (site n : ℕ) (d : EntryValue) → HoldsDot (set_of es) site n → (k : ℕ) × (k < length es) × ((get_or es k d).site ≡ site)
 place_of_site [] site n d holds = absurd (nil_holds site n holds)
 place_of_site (e ∷ es) site n d holds =
     elim (holds_cons e es site n holds) [
@@ -62,15 +62,15 @@ found_entry es i site e form h is at =
       at = at;
       form = subst IsEntry (sym is) (form_at 0 es i e form h);
       there = λ n holds.
-          let moved : Holds (set_of es) (get_or es i e).site n = subst (λ s. Holds (set_of es) s n) (sym at ∙ ap (λ v. v.site) is) holds in
+          let moved : HoldsDot (set_of es) (get_or es i e).site n = subst (λ s. HoldsDot (set_of es) s n) (sym at ∙ ap (λ v. v.site) is) holds in
           subst (λ v. HasCounter v.base v.loose n) (sym is) (holds_entry_at 0 es i e form h n moved);
       back = λ n has.
           let moved : HasCounter (get_or es i e).base (get_or es i e).loose n = subst (λ v. HasCounter v.base v.loose n) is has in
-          subst (λ s. Holds (set_of es) s n) (sym (ap (λ v. v.site) is) ∙ at) (at_holds_entry es i e h n moved);
+          subst (λ s. HoldsDot (set_of es) s n) (sym (ap (λ v. v.site) is) ∙ at) (at_holds_entry es i e h n moved);
     }
 
 -- with no entry of the site at its place, it has no dot
-pub missing_entry : (es : List EntryValue) (i site : ℕ) → AreEntries es → AllWithin (λ e. e.site < site) es 0 i → AllWithin (λ e. site ≤ e.site) es i (length es) → ((d : EntryValue) → i < length es → (get_or es i d).site ≡ site → ⊥) → (n : ℕ) → Holds (set_of es) site n → ⊥
+pub missing_entry : (es : List EntryValue) (i site : ℕ) → AreEntries es → AllWithin (λ e. e.site < site) es 0 i → AllWithin (λ e. site ≤ e.site) es i (length es) → ((d : EntryValue) → i < length es → (get_or es i d).site ≡ site → ⊥) → (n : ℕ) → HoldsDot (set_of es) site n → ⊥
 missing_entry es i site form below above other n holds =
     let d : EntryValue = record { site = 0; base = 0; loose = [] } in
     let place = place_of_site es site n d holds in
@@ -102,7 +102,7 @@ entries_replaced low [] x z first same is p =
     (subst (λ s. low < s) (sym same) p.0, is, subst (λ s. AreEntriesAbove s first) (sym same) p.2)
 entries_replaced low (e ∷ out) x z first same is p = (p.0, p.1, entries_replaced e.site out x z first same is p.2)
 
-pub entries_push : (low : ℕ) (es : List EntryValue) (x : EntryValue) → low < x.site → AreEntriesAbove low es → IsEntry x → ((site n : ℕ) → Holds (set_of es) site n → site < x.site) → AreEntriesAbove low (es ++ x ∷ [])
+pub entries_push : (low : ℕ) (es : List EntryValue) (x : EntryValue) → low < x.site → AreEntriesAbove low es → IsEntry x → ((site n : ℕ) → HoldsDot (set_of es) site n → site < x.site) → AreEntriesAbove low (es ++ x ∷ [])
 entries_push low [] x above form is each = (above, is, tt)
 entries_push low (e ∷ es) x above form is each =
     let some = some_dot e form.1 in
@@ -234,7 +234,7 @@ of_one d e site only has =
       | inl e_is ↦
           let sites : i ≡ e.site = ap (λ v. v.site) e_is ∙ sym site in
           let counters : n ≡ d.counter = ap (λ v. v.counter) e_is in
-          subst (λ j. Holds (entry_dots e) j n) (sym sites) (subst (λ m. Holds (entry_dots e) e.site m) (sym counters) (entry_holds e d.counter has))
+          subst (λ j. HoldsDot (entry_dots e) j n) (sym sites) (subst (λ m. HoldsDot (entry_dots e) e.site m) (sym counters) (entry_holds e d.counter has))
       | inr none ↦ absurd (empty_holds i n none)
     ])
 
@@ -282,11 +282,11 @@ from_middle es middle site e form h is least k d low high =
     omega (arith, sites_rise_or_same es middle k d form low high, ap (λ v. v.site) at)
 
 -- the same at an entry that was read
-pub missing_read : (es : List EntryValue) (i site : ℕ) (e : EntryValue) → AreEntries es → AllWithin (λ v. v.site < site) es 0 i → AllWithin (λ v. site ≤ v.site) es i (length es) → i < length es → e ≡ get_or es i e → (e.site ≡ site → ⊥) → (n : ℕ) → Holds (set_of es) site n → ⊥
+pub missing_read : (es : List EntryValue) (i site : ℕ) (e : EntryValue) → AreEntries es → AllWithin (λ v. v.site < site) es 0 i → AllWithin (λ v. site ≤ v.site) es i (length es) → i < length es → e ≡ get_or es i e → (e.site ≡ site → ⊥) → (n : ℕ) → HoldsDot (set_of es) site n → ⊥
 missing_read es i site e form below above h is other =
     missing_entry es i site form below above (λ d _ at. other (ap (λ v. v.site) (get_or_read es i e h is d) ∙ at))
 
-pub missing_past : (es : List EntryValue) (i site : ℕ) → AreEntries es → AllWithin (λ v. v.site < site) es 0 i → AllWithin (λ v. site ≤ v.site) es i (length es) → length es ≤ i → (n : ℕ) → Holds (set_of es) site n → ⊥
+pub missing_past : (es : List EntryValue) (i site : ℕ) → AreEntries es → AllWithin (λ v. v.site < site) es 0 i → AllWithin (λ v. site ≤ v.site) es i (length es) → length es ≤ i → (n : ℕ) → HoldsDot (set_of es) site n → ⊥
 missing_past es i site form below above past = missing_entry es i site form below above (λ d h _. absurd (omega arith))
 
 -- ---- one dot more

@@ -6,7 +6,7 @@ use Rattle.std.specs.List.{list_any}
 use Rattle.std.specs.Ordering.{eq_by_cmp}
 use Rattle.std.specs.FinSet as set
 use Rattle.mvd_dots.specs.Dot.{DotValue, dot_cmp}
-use Rattle.mvd_dots.specs.Context.{DotSet, Holds, AreInRange, greatest, greatest_of}
+use Rattle.mvd_dots.specs.Context.{DotSet, HoldsDot, AreInRange, greatest, greatest_of}
 use Rattle.mvd_dots.proofs.Sets.{dot, dot_total, same_dot, tied_dot}
 
 or-true : (a : Bool) → (a || true) ≡ true
@@ -47,7 +47,7 @@ greatest_of-bound site m (d ∷ ds) h =
     ] refl
 
 -- a bound on the counters of the site that is one of them, or 0, is the greatest
-pub greatest_is : (s : DotSet) (site m : ℕ) → ((n : ℕ) → Holds s site n → n ≤ m) → (0 < m → Holds s site m) → m ≡ greatest site s
+pub greatest_is : (s : DotSet) (site m : ℕ) → ((n : ℕ) → HoldsDot s site n → n ≤ m) → (0 < m → HoldsDot s site m) → m ≡ greatest site s
 unfolding greatest
 greatest_is s site m bound attained =
     let high : greatest_of site (set.items s) ≤ m =
@@ -92,11 +92,11 @@ greatest_of-attained site (d ∷ ds) some =
     ] refl some
 
 -- it bounds the counters of the site, and is one of them or 0
-pub greatest_bounds : (s : DotSet) (site n : ℕ) → Holds s site n → n ≤ greatest site s
+pub greatest_bounds : (s : DotSet) (site n : ℕ) → HoldsDot s site n → n ≤ greatest site s
 unfolding greatest
 greatest_bounds s site n h = le-greatest_of site (set.items s) (dot site n) (sym (set.contains-items s (dot site n)) ∙ h) refl
 
-pub greatest_attained : (s : DotSet) (site : ℕ) → 0 < greatest site s → Holds s site (greatest site s)
+pub greatest_attained : (s : DotSet) (site : ℕ) → 0 < greatest site s → HoldsDot s site (greatest site s)
 unfolding greatest
 greatest_attained s site some = set.contains-items s (dot site (greatest_of site (set.items s))) ∙ greatest_of-attained site (set.items s) some
 

@@ -6,7 +6,7 @@ use Rattle.mvd_dots.specs.declared.refusals.Refusal.TheVariants.{BadContext, Mem
 use Rattle.mvd_dots.specs.Answer.{IsReading}
 use Rattle.mvd_dots.specs.Entry.{EntryValue, HasCounter, HasDot}
 use Rattle.mvd_dots.specs.Dot.{dot_cmp}
-use Rattle.mvd_dots.specs.Context.{DotSet, Holds, AreInRange, AreEntries, set_of, entries_of}
+use Rattle.mvd_dots.specs.Context.{DotSet, HoldsDot, AreInRange, AreEntries, set_of, entries_of}
 use Rattle.mvd_dots.specs.Text.{IsTextOf, entries_text, text_of}
 use Rattle.mvd_dots.proofs.Canonical.{AreEntriesOf-entries_of, set_of-entries_of}
 use Rattle.mvd_dots.proofs.Reading.{same_texts}
@@ -43,7 +43,7 @@ some_counter base [] some = (base, inl (some, omega arith))
 some_counter base (n ∷ ns) some = (n, inr (inl refl))
 
 -- a set with a dot is not of length 0
-pub counted_dot : (dots : DotSet) (site n : ℕ) → Holds dots site n → (set.len dots == 0) ≡ false
+pub counted_dot : (dots : DotSet) (site n : ℕ) → HoldsDot dots site n → (set.len dots == 0) ≡ false
 counted_dot dots site n has = elim (set.len dots == 0) as (λ b. (set.len dots == 0) ≡ b → b ≡ false) [
   | true ↦ λ none. absurd (empty_holds site n (ap (λ s. set.contains s record { site = site; counter = n }) (sym (set.empty_of_len dots (eqb-true (set.len dots) 0 none))) ∙ has))
   | false ↦ λ _. refl

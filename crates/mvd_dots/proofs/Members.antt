@@ -2,13 +2,13 @@
 use Rattle.std.proofs.Common.{◌≡◌, ℕ, zero, suc, ◌+◌, ◌<◌, ◌≤◌, List, [], ◌∷◌, ◌++◌, refl, sym, ap, ◌∙◌, subst, ◌⊎◌, inl, inr, arith}
 use Rattle.std.specs.FinSet as set
 use Rattle.mvd_dots.specs.Entry.{EntryValue, RisesAbove, IsEntry, Among, HasCounter}
-use Rattle.mvd_dots.specs.Context.{Holds, AreEntriesAbove, AreEntries, dots_up_to, dots_at, entry_dots, set_of}
+use Rattle.mvd_dots.specs.Context.{HoldsDot, AreEntriesAbove, AreEntries, dots_up_to, dots_at, entry_dots, set_of}
 use Rattle.mvd_dots.proofs.Rising.{above_low, first_counter}
 use Rattle.mvd_dots.proofs.Sets.{dot, empty_holds, holds_insert, insert_new, insert_old, holds_union, union_left, union_right, union_assoc, union_empty_left}
 
 -- ---- members
 
-pub holds_up_to : (site base i n : ℕ) → Holds (dots_up_to site base) i n → (i ≡ site) × (0 < n) × (n ≤ base)
+pub holds_up_to : (site base i n : ℕ) → HoldsDot (dots_up_to site base) i n → (i ≡ site) × (0 < n) × (n ≤ base)
 unfolding dots_up_to
 holds_up_to site zero i n h = absurd (empty_holds i n h)
 holds_up_to site (suc b) i n h =
@@ -20,7 +20,7 @@ holds_up_to site (suc b) i n h =
       | inr k ↦ let below = holds_up_to site b i n k in (below.0, below.1, omega (arith, below.2))
     ]
 
-pub up_to_holds : (site base n : ℕ) → 0 < n → n ≤ base → Holds (dots_up_to site base) site n
+pub up_to_holds : (site base n : ℕ) → 0 < n → n ≤ base → HoldsDot (dots_up_to site base) site n
 unfolding dots_up_to
 up_to_holds site zero n low high = absurd (omega arith)
 up_to_holds site (suc b) n low high =
@@ -29,7 +29,7 @@ up_to_holds site (suc b) n low high =
       | inr other ↦ insert_old (dots_up_to site b) (dot site (suc b)) site n (up_to_holds site b n low (omega arith))
     ]
 
-pub holds_at : (site : ℕ) (ns : List ℕ) (i n : ℕ) → Holds (dots_at site ns) i n → (i ≡ site) × Among ns n
+pub holds_at : (site : ℕ) (ns : List ℕ) (i n : ℕ) → HoldsDot (dots_at site ns) i n → (i ≡ site) × Among ns n
 unfolding dots_at
 holds_at site [] i n h = absurd (empty_holds i n h)
 holds_at site (x ∷ ns) i n h =
@@ -38,7 +38,7 @@ holds_at site (x ∷ ns) i n h =
       | inr k ↦ let rest = holds_at site ns i n k in (rest.0, inr rest.1)
     ]
 
-pub at_holds : (site : ℕ) (ns : List ℕ) (n : ℕ) → Among ns n → Holds (dots_at site ns) site n
+pub at_holds : (site : ℕ) (ns : List ℕ) (n : ℕ) → Among ns n → HoldsDot (dots_at site ns) site n
 unfolding dots_at
 at_holds site [] n h = absurd h
 at_holds site (x ∷ ns) n h =
@@ -47,7 +47,7 @@ at_holds site (x ∷ ns) n h =
       | inr k ↦ insert_old (dots_at site ns) (dot site x) site n (at_holds site ns n k)
     ]
 
-pub holds_entry : (e : EntryValue) (i n : ℕ) → Holds (entry_dots e) i n → (i ≡ e.site) × HasCounter e.base e.loose n
+pub holds_entry : (e : EntryValue) (i n : ℕ) → HoldsDot (entry_dots e) i n → (i ≡ e.site) × HasCounter e.base e.loose n
 unfolding entry_dots
 holds_entry e i n h =
     elim (holds_union (dots_up_to e.site e.base) (dots_at e.site e.loose) i n h) [
@@ -55,7 +55,7 @@ holds_entry e i n h =
       | inr k ↦ let high = holds_at e.site e.loose i n k in (high.0, inr high.1)
     ]
 
-pub entry_holds : (e : EntryValue) (n : ℕ) → HasCounter e.base e.loose n → Holds (entry_dots e) e.site n
+pub entry_holds : (e : EntryValue) (n : ℕ) → HasCounter e.base e.loose n → HoldsDot (entry_dots e) e.site n
 unfolding entry_dots
 entry_holds e n h =
     elim h [
@@ -77,25 +77,25 @@ set_of-append [] fs = sym (union_empty_left (set_of fs))
 set_of-append (e ∷ es) fs =
     ap (λ s. set.union (entry_dots e) s) (set_of-append es fs) ∙ sym (union_assoc (entry_dots e) (set_of es) (set_of fs))
 
-pub holds_cons : (e : EntryValue) (es : List EntryValue) (i n : ℕ) → Holds (set_of (e ∷ es)) i n → ((i ≡ e.site) × HasCounter e.base e.loose n) ⊎ Holds (set_of es) i n
+pub holds_cons : (e : EntryValue) (es : List EntryValue) (i n : ℕ) → HoldsDot (set_of (e ∷ es)) i n → ((i ≡ e.site) × HasCounter e.base e.loose n) ⊎ HoldsDot (set_of es) i n
 unfolding set_of
 holds_cons e es i n h = elim (holds_union (entry_dots e) (set_of es) i n h) [ inl k ↦ inl (holds_entry e i n k) | inr k ↦ inr k ]
 
-pub cons_first : (e : EntryValue) (es : List EntryValue) (n : ℕ) → HasCounter e.base e.loose n → Holds (set_of (e ∷ es)) e.site n
+pub cons_first : (e : EntryValue) (es : List EntryValue) (n : ℕ) → HasCounter e.base e.loose n → HoldsDot (set_of (e ∷ es)) e.site n
 unfolding set_of
 cons_first e es n h = union_left (entry_dots e) (set_of es) e.site n (entry_holds e n h)
 
-pub cons_rest : (e : EntryValue) (es : List EntryValue) (i n : ℕ) → Holds (set_of es) i n → Holds (set_of (e ∷ es)) i n
+pub cons_rest : (e : EntryValue) (es : List EntryValue) (i n : ℕ) → HoldsDot (set_of es) i n → HoldsDot (set_of (e ∷ es)) i n
 unfolding set_of
 cons_rest e es i n h = union_right (entry_dots e) (set_of es) i n h
 
-pub nil_holds : (i n : ℕ) → Holds (set_of []) i n → ⊥
+pub nil_holds : (i n : ℕ) → HoldsDot (set_of []) i n → ⊥
 unfolding set_of
 nil_holds i n h = empty_holds i n h
 
 -- ---- bounds
 
-pub site_above : (low : ℕ) (es : List EntryValue) (i n : ℕ) → AreEntriesAbove low es → Holds (set_of es) i n → low < i
+pub site_above : (low : ℕ) (es : List EntryValue) (i n : ℕ) → AreEntriesAbove low es → HoldsDot (set_of es) i n → low < i
 site_above low [] i n form h = absurd (nil_holds i n h)
 site_above low (e ∷ es) i n form h =
     elim (holds_cons e es i n h) [
@@ -145,7 +145,7 @@ entry_unique b c xs ys p q there back =
 pub some_dot : (e : EntryValue) → IsEntry e → (n : ℕ) × HasCounter e.base e.loose n
 some_dot e is = first_counter e.base e.loose is.some
 
-first_site : (low : ℕ) (e f : EntryValue) (es fs : List EntryValue) → AreEntriesAbove low (e ∷ es) → AreEntriesAbove low (f ∷ fs) → ((i n : ℕ) → Holds (set_of (e ∷ es)) i n → Holds (set_of (f ∷ fs)) i n) → f.site ≤ e.site
+first_site : (low : ℕ) (e f : EntryValue) (es fs : List EntryValue) → AreEntriesAbove low (e ∷ es) → AreEntriesAbove low (f ∷ fs) → ((i n : ℕ) → HoldsDot (set_of (e ∷ es)) i n → HoldsDot (set_of (f ∷ fs)) i n) → f.site ≤ e.site
 first_site low e f es fs p q there =
     let some = some_dot e p.1 in
     elim (holds_cons f fs e.site some.0 (there e.site some.0 (cons_first e es some.0 some.1))) [
@@ -153,21 +153,21 @@ first_site low e f es fs p q there =
       | inr k ↦ omega (arith, site_above f.site fs e.site some.0 q.2 k)
     ]
 
-first_counters : (low : ℕ) (e f : EntryValue) (es fs : List EntryValue) → AreEntriesAbove low (f ∷ fs) → e.site ≡ f.site → ((i n : ℕ) → Holds (set_of (e ∷ es)) i n → Holds (set_of (f ∷ fs)) i n) → (n : ℕ) → HasCounter e.base e.loose n → HasCounter f.base f.loose n
+first_counters : (low : ℕ) (e f : EntryValue) (es fs : List EntryValue) → AreEntriesAbove low (f ∷ fs) → e.site ≡ f.site → ((i n : ℕ) → HoldsDot (set_of (e ∷ es)) i n → HoldsDot (set_of (f ∷ fs)) i n) → (n : ℕ) → HasCounter e.base e.loose n → HasCounter f.base f.loose n
 first_counters low e f es fs q sites there n h =
     elim (holds_cons f fs e.site n (there e.site n (cons_first e es n h))) [
       | inl k ↦ k.1
       | inr k ↦ absurd (omega (arith, sites, site_above f.site fs e.site n q.2 k))
     ]
 
-rest_members : (low : ℕ) (e f : EntryValue) (es fs : List EntryValue) → AreEntriesAbove low (e ∷ es) → e.site ≡ f.site → ((i n : ℕ) → Holds (set_of (e ∷ es)) i n → Holds (set_of (f ∷ fs)) i n) → (i n : ℕ) → Holds (set_of es) i n → Holds (set_of fs) i n
+rest_members : (low : ℕ) (e f : EntryValue) (es fs : List EntryValue) → AreEntriesAbove low (e ∷ es) → e.site ≡ f.site → ((i n : ℕ) → HoldsDot (set_of (e ∷ es)) i n → HoldsDot (set_of (f ∷ fs)) i n) → (i n : ℕ) → HoldsDot (set_of es) i n → HoldsDot (set_of fs) i n
 rest_members low e f es fs p sites there i n h =
     elim (holds_cons f fs i n (there i n (cons_rest e es i n h))) [
       | inl k ↦ absurd (omega (arith, sites, k.0, site_above e.site es i n p.2 h))
       | inr k ↦ k
     ]
 
-pub same_members : (low : ℕ) (es fs : List EntryValue) → AreEntriesAbove low es → AreEntriesAbove low fs → ((i n : ℕ) → Holds (set_of es) i n → Holds (set_of fs) i n) → ((i n : ℕ) → Holds (set_of fs) i n → Holds (set_of es) i n) → es ≡ fs
+pub same_members : (low : ℕ) (es fs : List EntryValue) → AreEntriesAbove low es → AreEntriesAbove low fs → ((i n : ℕ) → HoldsDot (set_of es) i n → HoldsDot (set_of fs) i n) → ((i n : ℕ) → HoldsDot (set_of fs) i n → HoldsDot (set_of es) i n) → es ≡ fs
 same_members low [] [] p q there back = refl
 same_members low [] (f ∷ fs) p q there back =
     let some = some_dot f q.1 in absurd (nil_holds f.site some.0 (back f.site some.0 (cons_first f fs some.0 some.1)))
@@ -189,4 +189,4 @@ same_members low (e ∷ es) (f ∷ fs) p q there back =
 -- a set has one list of entries
 pub entries_unique : (es fs : List EntryValue) → AreEntries es → AreEntries fs → set_of es ≡ set_of fs → es ≡ fs
 entries_unique es fs p q e =
-    same_members 0 es fs p q (λ i n h. subst (λ s. Holds s i n) e h) (λ i n h. subst (λ s. Holds s i n) (sym e) h)
+    same_members 0 es fs p q (λ i n h. subst (λ s. HoldsDot s i n) e h) (λ i n h. subst (λ s. HoldsDot s i n) (sym e) h)

@@ -16,12 +16,12 @@ abbrev pub dot_set_code : Coded DotSet
 dot_set_code = set.code dot_code
 
 -- the set has the dot of this site and counter
-abbrev pub Holds : DotSet → ℕ → ℕ → Type 0
-Holds dots site counter = IsTrue (set.contains dots (record { site = site; counter = counter }))
+abbrev pub HoldsDot : DotSet → ℕ → ℕ → Type 0
+HoldsDot dots site counter = IsTrue (set.contains dots (record { site = site; counter = counter }))
 
 -- all its dots are within the limits
 abbrev pub AreInRange : DotSet → Type 0
-AreInRange dots = (site counter : ℕ) → Holds dots site counter → IsDot (record { site = site; counter = counter })
+AreInRange dots = (site counter : ℕ) → HoldsDot dots site counter → IsDot (record { site = site; counter = counter })
 
 -- ---- the greatest counter and the base of a site
 
@@ -36,8 +36,8 @@ greatest site dots = greatest_of site (set.items dots)
 
 -- `base` is the greatest number with all of the counters 1 to `base` of the site in the set
 pub record IsBaseOf (dots : DotSet) (site base : ℕ) : Type 0 where
-  pub all : (n : ℕ) → 0 < n → n ≤ base → Holds dots site n
-  pub greatest : Holds dots site (base + 1) → ⊥
+  pub all : (n : ℕ) → 0 < n → n ≤ base → HoldsDot dots site n
+  pub greatest : HoldsDot dots site (base + 1) → ⊥
 
 -- ---- entries
 
@@ -77,8 +77,8 @@ pub record AreEntriesOf (dots : DotSet) (entries : List EntryValue) : Type 0 whe
 pub record IsEntryAt (dots : DotSet) (site : ℕ) (entry : EntryValue) : Type 0 where
   pub at : entry.site ≡ site
   pub form : IsEntry entry
-  pub there : (n : ℕ) → Holds dots site n → HasCounter entry.base entry.loose n
-  pub back : (n : ℕ) → HasCounter entry.base entry.loose n → Holds dots site n
+  pub there : (n : ℕ) → HoldsDot dots site n → HasCounter entry.base entry.loose n
+  pub back : (n : ℕ) → HasCounter entry.base entry.loose n → HoldsDot dots site n
 
 -- the entry that has just this dot
 pub record IsEntryOfDot (dot : DotValue) (entry : EntryValue) : Type 0 where

@@ -1,11 +1,14 @@
 //! Causal contexts: finite sets of dots.
-ghost use Rattle.std.specs.Prelude.{◌≡◌, ℕ, ◌==◌, ◌<◌, ◌≤◌, ◌^◌, ◌↔◌, IsTrue, IfOk, IsOkUnless, OnOk, Ok, string_bytes, max, OnErr, List, IfSome, IfNone, length, ◌++◌};
+ghost use Rattle.std.specs.Prelude.{◌≡◌, ℕ, ◌==◌, ◌<◌, ◌≤◌, ◌^◌, ◌↔◌, IsTrue, IfOk};
+ghost use Rattle.std.specs.Prelude.{IsOkUnless, OnOk, Ok, string_bytes, max};
+ghost use Rattle.std.specs.Prelude.{OnErr, List, IfSome, IfNone, length, ◌++◌};
 ghost use Rattle.std.specs.List.{AllWithin};
 ghost use Rattle.std.specs.FinSet as set;
 ghost use Rattle.mvd_dots.specs.Entry.{EntryValue, IsEntry, RisesAbove, Among};
 ghost use Rattle.mvd_dots.specs.Answer.{IsAnswer, IsReading};
 ghost use Rattle.mvd_dots.specs.Text.{IsTextOf, text_of};
-ghost use Rattle.mvd_dots.specs.Context.{DotSet, Holds, AreInRange, IsBaseOf, AreEntries, AreEntriesOf, IsEntryAt, entry_dots, set_of, entries_of, bases_of, base_of, loose_of, greatest};
+ghost use Rattle.mvd_dots.specs.Context.{DotSet, HoldsDot, AreInRange, IsBaseOf, AreEntries, AreEntriesOf, IsEntryAt};
+ghost use Rattle.mvd_dots.specs.Context.{entry_dots, set_of, entries_of, bases_of, base_of, loose_of, greatest};
 
 use crate::dots::Dot;
 use crate::entries::Entry;
@@ -165,7 +168,7 @@ impl Context {
     /// Adds all dots of one site at once, where the context has none of this or a greater site.
     pub fn add_entry(&mut self, site: u32, base: u64, loose: &[u64]) -> Result<(), Refusal>
         requires form { IsEntry (record { site = site; base = base; loose = loose.now }) }
-        requires above { (held n : ℕ) → Holds self.old held n → held < site }
+        requires above { (held n : ℕ) → HoldsDot self.old held n → held < site }
         ensures ok { OnOk result (self.new ≡
             set.union self.old (entry_dots (record { site = site; base = base; loose = loose.now }))) }
         ensures unchanged { OnErr result (self.new ≡ self.old) }
@@ -218,7 +221,7 @@ impl Context {
 
     fn find(&self, site: u32) -> Option<&Entry>
         ensures found { IfSome result (λ entry. IsEntryAt self.now site entry.now) }
-        ensures missing { IfNone result ((n : ℕ) → Holds self.now site n → ⊥) }
+        ensures missing { IfNone result ((n : ℕ) → HoldsDot self.now site n → ⊥) }
         ensures in_range { AreInRange self.now }
     {
         let i = place(&self.entries, site);
@@ -247,7 +250,7 @@ pub fn one_form()
 pub fn bases_and_loose()
     ensures base { (dots : DotSet) (site : ℕ) → AreInRange dots → IsBaseOf dots site (base_of dots site) }
     ensures loose { (dots : DotSet) (site n : ℕ) → AreInRange dots →
-        Among (loose_of dots site) n ↔ (base_of dots site < n) × Holds dots site n }
+        Among (loose_of dots site) n ↔ (base_of dots site < n) × HoldsDot dots site n }
     ensures rising { (dots : DotSet) (site : ℕ) → AreInRange dots →
         RisesAbove (base_of dots site) (loose_of dots site) }
 {}
@@ -255,8 +258,8 @@ pub fn bases_and_loose()
 /// The greatest counter of a site bounds its counters, and is one of them or 0. That of a union is
 /// the greater of the two.
 pub fn greatest_counter()
-    ensures bound { (dots : DotSet) (site n : ℕ) → Holds dots site n → n ≤ greatest site dots }
-    ensures attained { (dots : DotSet) (site : ℕ) → 0 < greatest site dots → Holds dots site (greatest site dots) }
+    ensures bound { (dots : DotSet) (site n : ℕ) → HoldsDot dots site n → n ≤ greatest site dots }
+    ensures attained { (dots : DotSet) (site : ℕ) → 0 < greatest site dots → HoldsDot dots site (greatest site dots) }
     ensures union { (s t : DotSet) (site : ℕ) →
         greatest site (set.union s t) ≡ max (greatest site s) (greatest site t) }
 {}

@@ -19,7 +19,7 @@ use Rattle.mvd_keys.proofs.Lists.{tied_itself_dot}
 use Rattle.mvd_keys.proofs.Parts.{is_true}
 use Rattle.mvd_keys.proofs.Rising.{Pair, first_true, second_true, none_found}
 use Rattle.mvd_wire.specs.Codec.{FitEach}
-use Rattle.mvd_wire.specs.Codecs.{layout2, document, context, sibling, siblings, unlimited_state, state, spell_state, IsInForm}
+use Rattle.mvd_wire.specs.Codecs.{layout2, document, context_codec, sibling, siblings_codec, unlimited_state, state_codec, spell_state, IsInForm}
 use Rattle.mvd_wire.proofs.Fits.{document_fits, if_text, own_of_same, state_fits}
 use Rattle.mvd_wire.proofs.Siblings.{pairs_back as map_back, siblings_parts}
 
@@ -85,21 +85,21 @@ documents_fit (p ∷ ps) sorted each =
 
 -- ---- both ways
 
-ranged : (dots : DotSet) → (context layout2).Fits dots → AreInRange dots
-unfolding context
+ranged : (dots : DotSet) → (context_codec layout2).Fits dots → AreInRange dots
+unfolding context_codec
 ranged dots fits = fits.0
 
-each_fits : (dots : DotSet) (ps : List Pair) → (siblings layout2 dots).Fits ps → FitEach (sibling layout2 dots) (λ _ s. Some s.0) None ps
-unfolding siblings
+each_fits : (dots : DotSet) (ps : List Pair) → (siblings_codec layout2 dots).Fits ps → FitEach (sibling layout2 dots) (λ _ s. Some s.0) None ps
+unfolding siblings_codec
 each_fits dots ps fits = fits.1.1
 
-valid_of : (s : State) → (siblings layout2 s.context).Fits (pairs s.siblings) → IsValid s
+valid_of : (s : State) → (siblings_codec layout2 s.context).Fits (pairs s.siblings) → IsValid s
 valid_of s fits =
-    let parts : AreParts (siblings_of s) s.context = siblings_parts layout2 s.context (siblings_of s) (subst (λ ps. (siblings layout2 s.context).Fits ps) (sym (pairs_again (pairs s.siblings))) fits) in
+    let parts : AreParts (siblings_of s) s.context = siblings_parts layout2 s.context (siblings_of s) (subst (λ ps. (siblings_codec layout2 s.context).Fits ps) (sym (pairs_again (pairs s.siblings))) fits) in
     subst IsValid (state_again s) parts.valid
 
-pub form_of : (s : State) → (state layout2).Fits s → IsInForm s
-unfolding state unlimited_state spell_state
+pub form_of : (s : State) → (state_codec layout2).Fits s → IsInForm s
+unfolding state_codec unlimited_state spell_state
 form_of s fits = record {
   valid = valid_of s fits.0.1;
   in_range = ranged s.context fits.0.0;
@@ -107,7 +107,7 @@ form_of s fits = record {
   short = leb-true _ _ fits.1;
 }
 
-pub fits_of : (s : State) → IsInForm s → (state layout2).Fits s
+pub fits_of : (s : State) → IsInForm s → (state_codec layout2).Fits s
 fits_of s form =
     let sorted = entries_sorted s.siblings in
     let same : pairs_of (siblings_of s) ≡ pairs s.siblings = pairs_again (pairs s.siblings) in

@@ -149,16 +149,16 @@ frames_differ f g a b few_f few_g e =
     let both : (Some f, a) ≡ (Some g, b) = ok_is (Some f, a) (Some g, b) (sym (frame_again f a few_f) ∙ ap frame_at e ∙ frame_again g b few_g) in
     (some_is f g (ap (λ (p : Option FrameValue × List ℕ). p.0) both), ap (λ (p : Option FrameValue × List ℕ). p.1) both)
 
-pub requests_differ : (r s : Request) (a b : List ℕ) → IsRequest r → IsRequest s → length (asked.payload_of r) + 1 ≤ frame_limit → length (asked.payload_of s) + 1 ≤ frame_limit → request_bytes r ++ a ≡ request_bytes s ++ b → (r ≡ s) × (a ≡ b)
+pub requests_differ : (r s : Request) (a b : List ℕ) → IsRequest r → IsRequest s → length (asked.request_payload r) + 1 ≤ frame_limit → length (asked.request_payload s) + 1 ≤ frame_limit → request_bytes r ++ a ≡ request_bytes s ++ b → (r ≡ s) × (a ≡ b)
 requests_differ r s a b is_r is_s few_r few_s e =
-    let f : FrameValue = record { kind = asked.kind_of r; payload = asked.payload_of r } in
-    let g : FrameValue = record { kind = asked.kind_of s; payload = asked.payload_of s } in
+    let f : FrameValue = record { kind = asked.request_kind r; payload = asked.request_payload r } in
+    let g : FrameValue = record { kind = asked.request_kind s; payload = asked.request_payload s } in
     let parts = frames_differ f g a b few_r few_s e in
     (ok_is r s (sym (requests_again r is_r) ∙ ap (λ (h : FrameValue). request_of h.kind h.payload) parts.0 ∙ requests_again s is_s), parts.1)
 
-pub replies_differ : (r s : Reply) (a b : List ℕ) → IsReply r → IsReply s → length (told.payload_of r) + 1 ≤ frame_limit → length (told.payload_of s) + 1 ≤ frame_limit → reply_bytes r ++ a ≡ reply_bytes s ++ b → (r ≡ s) × (a ≡ b)
+pub replies_differ : (r s : Reply) (a b : List ℕ) → IsReply r → IsReply s → length (told.reply_payload r) + 1 ≤ frame_limit → length (told.reply_payload s) + 1 ≤ frame_limit → reply_bytes r ++ a ≡ reply_bytes s ++ b → (r ≡ s) × (a ≡ b)
 replies_differ r s a b is_r is_s few_r few_s e =
-    let f : FrameValue = record { kind = told.kind_of r; payload = told.payload_of r } in
-    let g : FrameValue = record { kind = told.kind_of s; payload = told.payload_of s } in
+    let f : FrameValue = record { kind = told.reply_kind r; payload = told.reply_payload r } in
+    let g : FrameValue = record { kind = told.reply_kind s; payload = told.reply_payload s } in
     let parts = frames_differ f g a b few_r few_s e in
     (ok_is r s (sym (replies_again r is_r) ∙ ap (λ (h : FrameValue). reply_of h.kind h.payload) parts.0 ∙ replies_again s is_s), parts.1)

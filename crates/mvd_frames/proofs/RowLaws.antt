@@ -14,9 +14,9 @@ use Rattle.mvd_docs.specs.declared.term.Term.{Term}
 use Rattle.mvd_docs.specs.declared.term.Term.TheVariants.{Null, False, True, Whole, Text}
 use Rattle.mvd_docs.specs.Name.{is_field, is_view_name}
 use Rattle.mvd_docs.specs.TermText.{term_text_of}
-use Rattle.mvd_wire.specs.Codec.{◌>>=◌, Codec, byte, number, raw, followed, checked, accepted, read_optional, spell_optional, optional, counted, nothing, variant}
+use Rattle.mvd_wire.specs.Codec.{◌>>=◌, Codec, byte, number, raw, followed, checked, accepted, read_optional, spell_optional, optional, with_count, nothing, variant}
 use Rattle.mvd_wire.specs.Codecs.{layout2, dot, key}
-use Rattle.mvd_wire.specs.Rows.{field_of_bytes, field, view_name_of_bytes, view_name, whole_number, text_of_bytes, term_text, term, spot, place, sum, ends, row, view_row, digest, key_count, key_entry, list_of, children_of, children, digests, flag, item_of, items, page, page_limit}
+use Rattle.mvd_wire.specs.Rows.{field_of_bytes, field, view_name_of_bytes, view_name, whole_number, text_of_bytes, term_text_codec, term, spot_codec, place, sum, ends, row_codec, view_row, digest, key_count, key_entry, list_of, children_of, children, digests_codec, flag, item_of, items, page, page_limit}
 use Rattle.mvd_wire.proofs.Laws.{IsBytes, IsBytes-rest, IsLawful, Takes, bind_ok, ok_is, passed_ok, wide16, wide32, wide64, lawful_byte, lawful_number, lawful_raw, lawful_followed, lawful_checked, lawful_accepted, lawful_named, lawful_named_where, lawful_counted}
 use Rattle.mvd_frames.proofs.Tagged.{chosen, lawful_nothing}
 use Rattle.mvd_wire.proofs.CodecLaws.{wide_layout2, lawful_sized, lawful_key, lawful_dot}
@@ -81,8 +81,8 @@ accepts_text text t e = inner (is_utf8 text) e
     inner true e = (passed_ok (leb (length text) 512) BadTerm text t e).1
     inner false e = absurd cc
 
-lawful_term_text : IsLawful term_text
-unfolding term_text raw
+lawful_term_text : IsLawful term_text_codec
+unfolding term_text_codec raw
 lawful_term_text = lawful_sized (checked BadTerm (λ n. leb n 512) (number w16)) (λ n. accepted text_of_bytes (raw n))
     (lawful_checked BadTerm (λ n. leb n 512) (number w16) (lawful_number w16 wide16))
     (λ n. lawful_accepted text_of_bytes (raw n) accepts_text (lawful_raw n))
@@ -111,7 +111,7 @@ term_takes (tag ∷ rest) x fits e =
     (reads_variant term 1 nothing (λ _. False) _ lawful_nothing (λ _. refl) (λ _ _. tt)
     (reads_variant term 2 nothing (λ _. True) _ lawful_nothing (λ _. refl) (λ _ _. tt)
     (reads_variant term 3 whole_number Whole _ lawful_whole_number (λ _. refl) (λ _ f. f)
-    (reads_variant term 4 term_text Text (λ _ _. Err BadTerm) lawful_term_text (λ _. refl) (λ _ f. f)
+    (reads_variant term 4 term_text_codec Text (λ _ _. Err BadTerm) lawful_term_text (λ _. refl) (λ _ f. f)
     (λ tag rest y bytes e. absurd cc))))) tag rest x fits e
 
 term_again : (x : Term) (rest : List ℕ) → term.Fits x → term.read (term.spell x ++ rest) ≡ Ok (x, rest)
@@ -127,14 +127,14 @@ lawful_term = record { again = term_again; takes = term_takes }
 
 -- ---- places
 
-pub lawful_spot : IsLawful spot
-unfolding spot
+pub lawful_spot : IsLawful spot_codec
+unfolding spot_codec
 lawful_spot = lawful_followed key (λ _. dot layout2) lawful_key (λ _. lawful_dot layout2 wide_layout2)
 
 pub lawful_place : IsLawful place
 unfolding place
-lawful_place = lawful_named (λ p. (p.term, (p.key, p.dot))) (λ p. record { term = p.0; key = p.1.0; dot = p.1.1 }) (followed term (λ _. spot)) (λ p fits. refl) (λ p. refl)
-    (lawful_followed term (λ _. spot) lawful_term (λ _. lawful_spot))
+lawful_place = lawful_named (λ p. (p.term, (p.key, p.dot))) (λ p. record { term = p.0; key = p.1.0; dot = p.1.1 }) (followed term (λ _. spot_codec)) (λ p fits. refl) (λ p. refl)
+    (lawful_followed term (λ _. spot_codec) lawful_term (λ _. lawful_spot))
 
 -- ---- rows
 
@@ -162,15 +162,15 @@ pub lawful_ends : IsLawful ends
 unfolding ends
 lawful_ends = lawful_optional (followed whole_number (λ _. whole_number)) (lawful_followed whole_number (λ _. whole_number) lawful_whole_number (λ _. lawful_whole_number))
 
-pub lawful_row : IsLawful row
-unfolding row
+pub lawful_row : IsLawful row_codec
+unfolding row_codec
 lawful_row = lawful_named (λ r. (r.count, (r.sum, r.ends))) (λ p. record { count = p.0; sum = p.1.0; ends = p.1.1 }) (followed (number w64) (λ _. followed sum (λ _. ends))) (λ p fits. refl) (λ r. refl)
     (lawful_followed (number w64) (λ _. followed sum (λ _. ends)) (lawful_number w64 wide64) (λ _. lawful_followed sum (λ _. ends) lawful_sum (λ _. lawful_ends)))
 
 pub lawful_view_row : IsLawful view_row
 unfolding view_row
-lawful_view_row = lawful_named (λ r. (r.0, record { count = r.1; sum = r.2; ends = r.3 })) (λ p. (p.0, p.1.count, p.1.sum, p.1.ends)) (followed term (λ _. row)) (λ p fits. refl) (λ r. refl)
-    (lawful_followed term (λ _. row) lawful_term (λ _. lawful_row))
+lawful_view_row = lawful_named (λ r. (r.0, record { count = r.1; sum = r.2; ends = r.3 })) (λ p. (p.0, p.1.count, p.1.sum, p.1.ends)) (followed term (λ _. row_codec)) (λ p fits. refl) (λ r. refl)
+    (lawful_followed term (λ _. row_codec) lawful_term (λ _. lawful_row))
 
 pub lawful_key_count : IsLawful key_count
 unfolding key_count
@@ -203,12 +203,12 @@ pub lawful_children : IsLawful children
 unfolding children
 lawful_children =
     let count = checked BadBody (λ n. eqb n 0 || eqb n 16) byte in
-    lawful_named_where (λ c. MatchOption c ⊤ (λ ds. length ds ≡ 16)) list_of children_of (counted (item_of digest) (λ s _. s) count tt)
+    lawful_named_where (λ c. MatchOption c ⊤ (λ ds. length ds ≡ 16)) list_of children_of (with_count (item_of digest) (λ s _. s) count tt)
     (λ ds fits. none_or_all ds fits.0.1) back_again
     (lawful_counted (item_of digest) (λ s _. s) (λ _. lawful_digest) count tt (lawful_checked BadBody (λ n. eqb n 0 || eqb n 16) byte lawful_byte))
 
-pub lawful_digests : IsLawful digests
-unfolding digests
+pub lawful_digests : IsLawful digests_codec
+unfolding digests_codec
 lawful_digests = lawful_named (λ d. (d.own, d.children)) (λ p. record { own = p.0; children = p.1 }) (followed digest (λ _. children)) (λ p fits. refl) (λ d. refl)
     (lawful_followed digest (λ _. children) lawful_digest (λ _. lawful_children))
 

@@ -1,7 +1,7 @@
 //! Digests and the items of lists, read at the front of a payload.
 ghost use Rattle.std.specs.Prelude.{◌≡◌, ◌<◌, ◌+◌, length, take};
 ghost use Rattle.mvd_wire.specs.Codec.{Gives, Codec, each};
-ghost use Rattle.mvd_wire.specs.Rows.{children, digest, digests, item_of, key_count, key_entry, view_row};
+ghost use Rattle.mvd_wire.specs.Rows.{children, digest, digests_codec, item_of, key_count, key_entry, view_row};
 
 use crate::rows::{row_at, term_at};
 use mvd_docs::Term;
@@ -53,9 +53,9 @@ fn children_at(bytes: &[u8]) -> Result<(Option<[[u8; 32]; 16]>, &[u8]), Refusal>
     }
 }
 
-#[tactic(auto, unfolding(mvd_wire::specs::Rows::digests))]
+#[tactic(auto, unfolding(mvd_wire::specs::Rows::digests_codec))]
 pub fn digests_at(bytes: &[u8]) -> Result<(Digests, &[u8]), Refusal>
-    ensures { Gives (λ x. (x.0, x.1.now)) result (digests.read bytes.now) }
+    ensures { Gives (λ x. (x.0, x.1.now)) result (digests_codec.read bytes.now) }
 {
     let (own, rest) = digest_at(bytes)?;
     let (children, rest) = children_at(rest)?;

@@ -3,7 +3,7 @@ ghost use Rattle.std.specs.Prelude.{◌≡◌, ℕ, IfOk, Ok};
 ghost use Rattle.mvd_dots.specs.Answer.{IsAnswer};
 ghost use Rattle.mvd_wire.specs.Codec.{Gives, Codec, whole};
 ghost use Rattle.mvd_wire.specs.Codecs.{layout2, dot};
-ghost use Rattle.mvd_wire.specs.Rows.{digests, key_count, key_entry, page, place, row, view_row};
+ghost use Rattle.mvd_wire.specs.Rows.{digests_codec, key_count, key_entry, page, place, row_codec, view_row};
 ghost use Rattle.mvd_wire.specs.Replies.{SpellsReply, numbered, refusal, reply_of};
 
 use crate::lists::digests_at;
@@ -52,7 +52,7 @@ fn written_of(payload: &[u8]) -> Result<Dot, Refusal>
 }
 
 fn row_of(payload: &[u8]) -> Result<RowValue, Refusal>
-    ensures { IsAnswer result (whole row payload.now) }
+    ensures { IsAnswer result (whole row_codec payload.now) }
 {
     let (row, rest) = row_at(payload)?;
     if !rest.is_empty() {
@@ -62,7 +62,7 @@ fn row_of(payload: &[u8]) -> Result<RowValue, Refusal>
 }
 
 fn digests_of(payload: &[u8]) -> Result<Digests, Refusal>
-    ensures { IsAnswer result (whole digests payload.now) }
+    ensures { IsAnswer result (whole digests_codec payload.now) }
 {
     let (digests, rest) = digests_at(payload)?;
     if !rest.is_empty() {

@@ -3,7 +3,8 @@ ghost use Rattle.std.specs.Prelude.{◌≡◌, ℕ, IfOk, Ok};
 ghost use Rattle.mvd_dots.specs.Answer.{IsAnswer};
 ghost use Rattle.mvd_wire.specs.Codec.{Gives, Codec, whole, nothing, optional};
 ghost use Rattle.mvd_wire.specs.Codecs.{key, path, token};
-ghost use Rattle.mvd_wire.specs.Requests.{SpellsRequest, request_of, put, delete, find, row_of_view, rows_of_view, bucket, push, range, keys_of_prefix};
+ghost use Rattle.mvd_wire.specs.Requests.{SpellsRequest, request_of, put, delete, find_codec, row_of_view_codec};
+ghost use Rattle.mvd_wire.specs.Requests.{rows_of_view_codec, bucket, push, range, keys_of_prefix};
 
 use crate::rows::{field_at, path_at, term_at, view_name_at};
 use crate::spelled_lists::optional_at;
@@ -62,9 +63,9 @@ fn push_of(alloc: Global, payload: &[u8]) -> Result<(Key, KeyState), Refusal>
     Ok((key, state))
 }
 
-#[tactic(auto, unfolding(mvd_wire::specs::Requests::find))]
+#[tactic(auto, unfolding(mvd_wire::specs::Requests::find_codec))]
 fn find_of(alloc: Global, payload: &[u8]) -> Result<(Field, Term, Option<(Key, Dot)>), Refusal>
-    ensures { Gives (λ p. (p.0, (p.1, p.2))) result (whole find payload.now) }
+    ensures { Gives (λ p. (p.0, (p.1, p.2))) result (whole find_codec payload.now) }
 {
     let (field, rest) = field_at(alloc, payload)?;
     let (term, rest) = term_at(alloc, rest)?;
@@ -75,9 +76,9 @@ fn find_of(alloc: Global, payload: &[u8]) -> Result<(Field, Term, Option<(Key, D
     Ok((field, term, after))
 }
 
-#[tactic(auto, unfolding(mvd_wire::specs::Requests::row_of_view))]
+#[tactic(auto, unfolding(mvd_wire::specs::Requests::row_of_view_codec))]
 fn row_of(alloc: Global, payload: &[u8]) -> Result<(ViewName, Term), Refusal>
-    ensures { IsAnswer result (whole row_of_view payload.now) }
+    ensures { IsAnswer result (whole row_of_view_codec payload.now) }
 {
     let (name, rest) = view_name_at(alloc, payload)?;
     let (term, rest) = term_at(alloc, rest)?;
@@ -87,9 +88,9 @@ fn row_of(alloc: Global, payload: &[u8]) -> Result<(ViewName, Term), Refusal>
     Ok((name, term))
 }
 
-#[tactic(auto, unfolding(mvd_wire::specs::Requests::rows_of_view))]
+#[tactic(auto, unfolding(mvd_wire::specs::Requests::rows_of_view_codec))]
 fn rows_of(alloc: Global, payload: &[u8]) -> Result<(ViewName, Option<Term>), Refusal>
-    ensures { IsAnswer result (whole rows_of_view payload.now) }
+    ensures { IsAnswer result (whole rows_of_view_codec payload.now) }
 {
     let (name, rest) = view_name_at(alloc, payload)?;
     let (after, rest) = optional_at(alloc, rest)?;

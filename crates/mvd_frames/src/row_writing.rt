@@ -5,7 +5,8 @@ ghost use Rattle.mvd_docs.specs.Name.{is_field, is_view_name};
 ghost use Rattle.mvd_keys.specs.Path.{is_path};
 ghost use Rattle.mvd_wire.specs.Codec.{Codec};
 ghost use Rattle.mvd_wire.specs.Codecs.{path};
-ghost use Rattle.mvd_wire.specs.Rows.{children, digests, ends, field, key_count, key_entry, place, row, spot, sum, term, term_text, view_name, view_row, whole_number};
+ghost use Rattle.mvd_wire.specs.Rows.{children, digests_codec, ends, field, key_count, key_entry, place, row_codec};
+ghost use Rattle.mvd_wire.specs.Rows.{spot_codec, sum, term, term_text_codec, view_name, view_row, whole_number};
 
 use mvd_docs::{Field, Term, TermText, ViewName};
 use mvd_dots::Dot;
@@ -46,10 +47,10 @@ pub fn write_path(out: &mut Vec<u8>, value: &Path) -> Result<(), AllocError>
     Ok(())
 }
 
-#[tactic(auto, unfolding(mvd_wire::specs::Rows::term_text, mvd_wire::specs::Codec::raw))]
+#[tactic(auto, unfolding(mvd_wire::specs::Rows::term_text_codec, mvd_wire::specs::Codec::raw))]
 fn write_term_text(out: &mut Vec<u8>, value: &TermText) -> Result<(), AllocError>
-    ensures bytes { OnOk result (out.new.items ≡ out.old.items ++ term_text.spell value.now) }
-    ensures fits { term_text.Fits value.now }
+    ensures bytes { OnOk result (out.new.items ≡ out.old.items ++ term_text_codec.spell value.now) }
+    ensures fits { term_text_codec.Fits value.now }
 {
     let text = value.text().as_bytes();
     write_len16(out, text.len())?;
@@ -87,10 +88,10 @@ pub fn write_term(out: &mut Vec<u8>, value: &Term) -> Result<(), AllocError>
     Ok(())
 }
 
-#[tactic(auto, unfolding(mvd_wire::specs::Rows::spot))]
+#[tactic(auto, unfolding(mvd_wire::specs::Rows::spot_codec))]
 pub fn write_spot(out: &mut Vec<u8>, key: &Key, dot: Dot) -> Result<(), AllocError>
-    ensures bytes { OnOk result (out.new.items ≡ out.old.items ++ spot.spell (key.now, dot)) }
-    ensures fits { OnOk result (spot.Fits (key.now, dot)) }
+    ensures bytes { OnOk result (out.new.items ≡ out.old.items ++ spot_codec.spell (key.now, dot)) }
+    ensures fits { OnOk result (spot_codec.Fits (key.now, dot)) }
 {
     write_key(out, key)?;
     write_dot(out, dot)?;
@@ -135,7 +136,7 @@ fn write_sum(out: &mut Vec<u8>, value: i128) -> Result<(), AllocError>
     Ok(())
 }
 
-#[tactic(auto, unfolding(mvd_wire::specs::Rows::row))]
+#[tactic(auto, unfolding(mvd_wire::specs::Rows::row_codec))]
 pub fn write_row(
     out: &mut Vec<u8>,
     count: u64,
@@ -143,8 +144,8 @@ pub fn write_row(
     limits: Option<(i64, i64)>,
 ) -> Result<(), AllocError>
     ensures bytes { OnOk result (out.new.items ≡
-        out.old.items ++ row.spell (record { count = count; sum = total; ends = limits })) }
-    ensures fits { OnOk result (row.Fits (record { count = count; sum = total; ends = limits })) }
+        out.old.items ++ row_codec.spell (record { count = count; sum = total; ends = limits })) }
+    ensures fits { OnOk result (row_codec.Fits (record { count = count; sum = total; ends = limits })) }
 {
     write_u64(out, count)?;
     write_sum(out, total)?;
@@ -221,10 +222,10 @@ fn write_children(out: &mut Vec<u8>, value: &Option<[[u8; 32]; 16]>) -> Result<(
     }
 }
 
-#[tactic(auto, unfolding(mvd_wire::specs::Rows::digests, mvd_wire::specs::Rows::digest, mvd_wire::specs::Codec::raw))]
+#[tactic(auto, unfolding(mvd_wire::specs::Rows::digests_codec, mvd_wire::specs::Rows::digest, mvd_wire::specs::Codec::raw))]
 pub fn write_digests(out: &mut Vec<u8>, value: &Digests) -> Result<(), AllocError>
-    ensures bytes { OnOk result (out.new.items ≡ out.old.items ++ digests.spell value.now) }
-    ensures fits { OnOk result (digests.Fits value.now) }
+    ensures bytes { OnOk result (out.new.items ≡ out.old.items ++ digests_codec.spell value.now) }
+    ensures fits { OnOk result (digests_codec.Fits value.now) }
 {
     out.extend_from_slice(&value.own)?;
     write_children(out, &value.children)?;

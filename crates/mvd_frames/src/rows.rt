@@ -3,7 +3,8 @@ ghost use Rattle.std.specs.Prelude.{◌≡◌};
 ghost use Rattle.mvd_dots.specs.Answer.{IsAnswer};
 ghost use Rattle.mvd_wire.specs.Codec.{Gives, Codec};
 ghost use Rattle.mvd_wire.specs.Codecs.{path};
-ghost use Rattle.mvd_wire.specs.Rows.{field_of_bytes, field, view_name_of_bytes, view_name, whole_number, text_of_bytes, term_text, term, term_behind, spot, place, sum, ends, row};
+ghost use Rattle.mvd_wire.specs.Rows.{field_of_bytes, field, view_name_of_bytes, view_name, whole_number, text_of_bytes};
+ghost use Rattle.mvd_wire.specs.Rows.{term_text_codec, term, term_behind, spot_codec, place, sum, ends, row_codec};
 
 use mvd_docs::{Field, Term, TermText, ViewName};
 use mvd_dots::{Dot, Refusal};
@@ -75,9 +76,9 @@ fn text_of(alloc: Global, bytes: &[u8]) -> Result<TermText, Refusal>
     }
 }
 
-#[tactic(auto, unfolding(mvd_wire::specs::Rows::term_text))]
+#[tactic(auto, unfolding(mvd_wire::specs::Rows::term_text_codec))]
 fn term_text_at(alloc: Global, bytes: &[u8]) -> Result<(TermText, &[u8]), Refusal>
-    ensures { Gives (λ x. (x.0, x.1.now)) result (term_text.read bytes.now) }
+    ensures { Gives (λ x. (x.0, x.1.now)) result (term_text_codec.read bytes.now) }
 {
     let (count, rest) = u16_at(bytes)?;
     if count > 512 {
@@ -129,9 +130,9 @@ pub fn path_at(alloc: Global, bytes: &[u8]) -> Result<(Path, &[u8]), Refusal>
 }
 
 /// A key and a dot.
-#[tactic(auto, unfolding(mvd_wire::specs::Rows::spot))]
+#[tactic(auto, unfolding(mvd_wire::specs::Rows::spot_codec))]
 pub fn spot_at(alloc: Global, bytes: &[u8]) -> Result<((Key, Dot), &[u8]), Refusal>
-    ensures { Gives (λ x. (x.0, x.1.now)) result (spot.read bytes.now) }
+    ensures { Gives (λ x. (x.0, x.1.now)) result (spot_codec.read bytes.now) }
 {
     let (key, rest) = key_at(alloc, bytes)?;
     match dot_at(Version::Second, rest) {
@@ -176,9 +177,9 @@ fn sum_at(bytes: &[u8]) -> Result<(i128, &[u8]), Refusal>
     Ok((bits.cast_signed(), rest))
 }
 
-#[tactic(auto, unfolding(mvd_wire::specs::Rows::row))]
+#[tactic(auto, unfolding(mvd_wire::specs::Rows::row_codec))]
 pub fn row_at(bytes: &[u8]) -> Result<(RowValue, &[u8]), Refusal>
-    ensures { Gives (λ x. (x.0, x.1.now)) result (row.read bytes.now) }
+    ensures { Gives (λ x. (x.0, x.1.now)) result (row_codec.read bytes.now) }
 {
     let (count, rest) = u64_at(bytes)?;
     let (sum, rest) = sum_at(rest)?;

@@ -2,11 +2,12 @@
 ghost use Rattle.std.specs.Prelude.{◌≡◌, ◌≤◌, ◌<◌, ◌+◌, ◌++◌, [], drop, length, slice_index, true, Ok, IfOk, OnOk};
 ghost use Rattle.mvd_keys.specs.Key.{is_key};
 ghost use Rattle.mvd_wire.specs.Codec.{Gives, Codec};
-ghost use Rattle.mvd_wire.specs.Codecs.{layout2, key, spell_state, state_limit, state as spelled};
+ghost use Rattle.mvd_wire.specs.Codecs.{layout2, key, spell_state, state_limit, state_codec as spelled};
 ghost use Rattle.mvd_wire.specs.Frames.{frame_limit};
-ghost use Rattle.mvd_wire.specs.Requests.{framed, unmeasured, within_limit, put, delete, find, row_of_view, rows_of_view, push, range, IsRequest, request_bytes, request_frame};
+ghost use Rattle.mvd_wire.specs.Requests.{framed, unmeasured, within_limit, put, delete, find_codec, row_of_view_codec};
+ghost use Rattle.mvd_wire.specs.Requests.{rows_of_view_codec, push, range, IsRequest, request_bytes, request_frame};
 ghost use Rattle.mvd_wire.specs.Replies.{IsReply, reply_frame, within_page};
-ghost use Rattle.mvd_wire.specs.Rows.{digests, page, row};
+ghost use Rattle.mvd_wire.specs.Rows.{digests_codec, page, row_codec};
 ghost use Rattle.mvd_wire.specs.declared.request.Request.TheVariants as asked;
 
 use crate::row_writing::{
@@ -151,15 +152,15 @@ pub fn encode_push(alloc: Global, key: &Key, state: &KeyState) -> Result<Vec<u8>
     measured(frame)
 }
 
-#[tactic(auto, unfolding(mvd_wire::specs::Requests::find))]
+#[tactic(auto, unfolding(mvd_wire::specs::Requests::find_codec))]
 fn write_find(
     out: &mut Vec<u8>,
     field: &Field,
     term: &Term,
     after: &Option<(Key, Dot)>,
 ) -> Result<(), AllocError>
-    ensures bytes { OnOk result (out.new.items ≡ out.old.items ++ find.spell (field.now, (term.now, after.now))) }
-    ensures fits { OnOk result (find.Fits (field.now, (term.now, after.now))) }
+    ensures bytes { OnOk result (out.new.items ≡ out.old.items ++ find_codec.spell (field.now, (term.now, after.now))) }
+    ensures fits { OnOk result (find_codec.Fits (field.now, (term.now, after.now))) }
 {
     write_field(out, field)?;
     write_term(out, term)?;
@@ -182,10 +183,10 @@ pub fn encode_find(
     measured(frame)
 }
 
-#[tactic(auto, unfolding(mvd_wire::specs::Requests::row_of_view))]
+#[tactic(auto, unfolding(mvd_wire::specs::Requests::row_of_view_codec))]
 fn write_row_asked(out: &mut Vec<u8>, name: &ViewName, term: &Term) -> Result<(), AllocError>
-    ensures bytes { OnOk result (out.new.items ≡ out.old.items ++ row_of_view.spell (name.now, term.now)) }
-    ensures fits { OnOk result (row_of_view.Fits (name.now, term.now)) }
+    ensures bytes { OnOk result (out.new.items ≡ out.old.items ++ row_of_view_codec.spell (name.now, term.now)) }
+    ensures fits { OnOk result (row_of_view_codec.Fits (name.now, term.now)) }
 {
     write_view_name(out, name)?;
     write_term(out, term)?;
@@ -202,14 +203,14 @@ pub fn encode_row(alloc: Global, name: &ViewName, term: &Term) -> Result<Vec<u8>
     measured(frame)
 }
 
-#[tactic(auto, unfolding(mvd_wire::specs::Requests::rows_of_view))]
+#[tactic(auto, unfolding(mvd_wire::specs::Requests::rows_of_view_codec))]
 fn write_rows_asked(
     out: &mut Vec<u8>,
     name: &ViewName,
     after: &Option<Term>,
 ) -> Result<(), AllocError>
-    ensures bytes { OnOk result (out.new.items ≡ out.old.items ++ rows_of_view.spell (name.now, after.now)) }
-    ensures fits { OnOk result (rows_of_view.Fits (name.now, after.now)) }
+    ensures bytes { OnOk result (out.new.items ≡ out.old.items ++ rows_of_view_codec.spell (name.now, after.now)) }
+    ensures fits { OnOk result (rows_of_view_codec.Fits (name.now, after.now)) }
 {
     write_view_name(out, name)?;
     write_optional(out, after)?;
@@ -318,8 +319,8 @@ fn encode_state_reply(alloc: Global, state: &KeyState) -> Result<Vec<u8>, Refusa
 
 /// The whole frame of a row.
 fn encode_row_reply(alloc: Global, value: &RowValue) -> Result<Vec<u8>, Refusal>
-    ensures exact { Gives (λ v. v.items) result (framed 0xA5 (row.spell value.now)) }
-    ensures fits { IfOk result (λ _. row.Fits value.now) }
+    ensures exact { Gives (λ v. v.items) result (framed 0xA5 (row_codec.spell value.now)) }
+    ensures fits { IfOk result (λ _. row_codec.Fits value.now) }
 {
     let mut frame = head_of(alloc, 0xA5)?;
     write_row(&mut frame, value.count, value.sum, value.ends)?;
@@ -328,8 +329,8 @@ fn encode_row_reply(alloc: Global, value: &RowValue) -> Result<Vec<u8>, Refusal>
 
 /// The whole frame of digests.
 fn encode_digests(alloc: Global, value: &Digests) -> Result<Vec<u8>, Refusal>
-    ensures exact { Gives (λ v. v.items) result (framed 0xA7 (digests.spell value.now)) }
-    ensures fits { IfOk result (λ _. digests.Fits value.now) }
+    ensures exact { Gives (λ v. v.items) result (framed 0xA7 (digests_codec.spell value.now)) }
+    ensures fits { IfOk result (λ _. digests_codec.Fits value.now) }
 {
     let mut frame = head_of(alloc, 0xA7)?;
     write_digests(&mut frame, value)?;

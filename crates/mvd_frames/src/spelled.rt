@@ -70,9 +70,9 @@ impl Spelled for Place {
 }
 
 impl Spelled for (Key, Dot) {
-    ghost use Rattle.mvd_wire.specs.Rows.{spot};
+    ghost use Rattle.mvd_wire.specs.Rows.{spot_codec};
 
-    ghost kind = { spot };
+    ghost kind = { spot_codec };
 
     fn read_at(alloc: Global, bytes: &[u8]) -> Result<((Key, Dot), &[u8]), Refusal> {
         spot_at(alloc, bytes)

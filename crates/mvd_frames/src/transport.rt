@@ -1,8 +1,10 @@
 //! Frames, read from a reader and written to a writer.
-ghost use Rattle.std.specs.Prelude.{◌≡◌, ◌≤◌, ◌<◌, ◌+◌, ◌∷◌, ℕ, take, length, ◌⊎◌, IfOk, IfErr, OnOk, OnErr, IfSome, option_map};
+ghost use Rattle.std.specs.Prelude.{◌≡◌, ◌≤◌, ◌<◌, ◌+◌, ◌∷◌, ℕ, take, length, ◌⊎◌, IfOk, IfErr, OnOk, OnErr, IfSome};
+ghost use Rattle.std.specs.Prelude.{option_map};
 ghost use Rattle.std.specs.Int.{w32, from_be_bytes};
 ghost use Rattle.std.specs.Io.KnownBytes.{Appends, Consumes, IsAtEnd};
-ghost use Rattle.mvd_wire.specs.Frames.{AppendsFront, EndsReading, Reads, frame_value, frame_limit, spell_frame, length_at, body_at, frame_at};
+ghost use Rattle.mvd_wire.specs.Frames.{AppendsFront, EndsReading, Reads, frame_value, frame_limit, spell_frame, length_at};
+ghost use Rattle.mvd_wire.specs.Frames.{body_at, frame_at};
 ghost use Rattle.mvd_wire.specs.Codec.{Codec, number};
 
 use mvd_dots::Refusal;

@@ -8,10 +8,14 @@ ghost use Rattle.mvd_keys.specs.Path.{is_path};
 ghost use Rattle.mvd_keys.specs.State.{State, Text};
 ghost use Rattle.mvd_wire.specs.Frames.{FrameValue, frame_limit, frame_at, spell_frame};
 ghost use Rattle.mvd_wire.specs.Codec.{Codec, IsPrefixFree, optional};
-ghost use Rattle.mvd_wire.specs.Codecs.{layout1, layout2, dot, entry, context, sibling, key, document, path, prefix, token, state, spell_state, state_limit, IsInForm};
-ghost use Rattle.mvd_wire.specs.Rows.{digests, ends, field, key_count, key_entry, page, place, row, spot, sum, term, view_name, view_row};
-ghost use Rattle.mvd_wire.specs.Requests.{SpellsRequest, IsRequest, request_of, kind_of as request_kind, payload_of as request_payload, request_bytes, request_frame};
-ghost use Rattle.mvd_wire.specs.Replies.{CanBeSent, IsReply, reply_of, kind_of as reply_kind, payload_of as reply_payload, is_short, reply_bytes};
+ghost use Rattle.mvd_wire.specs.Codecs.{layout1, layout2, dot, entry, context_codec, sibling, key, document, path, prefix};
+ghost use Rattle.mvd_wire.specs.Codecs.{token, state_codec, spell_state, state_limit, IsInForm};
+ghost use Rattle.mvd_wire.specs.Rows.{digests_codec, ends, field, key_count, key_entry, page, place, row_codec, spot_codec};
+ghost use Rattle.mvd_wire.specs.Rows.{sum, term, view_name, view_row};
+ghost use Rattle.mvd_wire.specs.Requests.{SpellsRequest, IsRequest, request_of, request_kind as request_kind};
+ghost use Rattle.mvd_wire.specs.Requests.{request_payload as request_payload, request_bytes, request_frame};
+ghost use Rattle.mvd_wire.specs.Replies.{CanBeSent, IsReply, reply_of, reply_kind as reply_kind};
+ghost use Rattle.mvd_wire.specs.Replies.{reply_payload as reply_payload, is_short, reply_bytes};
 ghost use Rattle.mvd_wire.specs.declared.request.Request.TheVariants as asked;
 ghost use Rattle.mvd_wire.specs.declared.reply.Reply.TheVariants as answered;
 
@@ -21,7 +25,7 @@ use mvd_wire::{Reply, Request};
 pub fn one_spelling()
     ensures dots { IsPrefixFree (dot layout2) }
     ensures entries_of_contexts { (previous : ℕ) → IsPrefixFree (entry layout2 previous) }
-    ensures contexts { IsPrefixFree (context layout2) }
+    ensures contexts { IsPrefixFree (context_codec layout2) }
     ensures keys { IsPrefixFree key }
     ensures documents { IsPrefixFree document }
     ensures paths { IsPrefixFree path }
@@ -34,21 +38,21 @@ pub fn one_spelling()
     ensures optional_keys { IsPrefixFree (optional key) }
     ensures optional_terms { IsPrefixFree (optional term) }
     ensures optional_places { IsPrefixFree (optional place) }
-    ensures optional_keys_with_dots { IsPrefixFree (optional spot) }
+    ensures optional_keys_with_dots { IsPrefixFree (optional spot_codec) }
     ensures sums { IsPrefixFree sum }
     ensures ends_of_rows { IsPrefixFree ends }
-    ensures rows { IsPrefixFree row }
+    ensures rows { IsPrefixFree row_codec }
     ensures view_rows { IsPrefixFree view_row }
     ensures key_entries { IsPrefixFree key_entry }
     ensures key_counts { IsPrefixFree key_count }
-    ensures digests_of_nodes { IsPrefixFree digests }
+    ensures digests_of_nodes { IsPrefixFree digests_codec }
     ensures lists_of_places { IsPrefixFree (page place) }
     ensures lists_of_view_rows { IsPrefixFree (page view_row) }
     ensures lists_of_key_entries { IsPrefixFree (page key_entry) }
     ensures lists_of_key_counts { IsPrefixFree (page key_count) }
     ensures siblings { (dots : DotSet) (previous : Option DotValue) → IsPrefixFree (sibling layout2 dots previous) }
-    ensures states { IsPrefixFree (state layout2) }
-    ensures old_states { IsPrefixFree (state layout1) }
+    ensures states { IsPrefixFree (state_codec layout2) }
+    ensures old_states { IsPrefixFree (state_codec layout1) }
     // No frame begins another, nor does that of a request or a reply.
     ensures frames_apart { (f g : FrameValue) (a b : List ℕ) → length f.payload + 1 ≤ frame_limit →
         length g.payload + 1 ≤ frame_limit → spell_frame f ++ a ≡ spell_frame g ++ b → (f ≡ g) × (a ≡ b) }
@@ -72,19 +76,19 @@ pub fn one_spelling()
 
 /// A key and then a state, as both are hashed for the tree: equal texts are one key in one state.
 pub fn one_text()
-    ensures { (k l : Text) (s t : State) → is_key k ≡ true → is_key l ≡ true → (state layout2).Fits s →
-        (state layout2).Fits t → key.spell k ++ spell_state s ≡ key.spell l ++ spell_state t → (k ≡ l) × (s ≡ t) }
+    ensures { (k l : Text) (s t : State) → is_key k ≡ true → is_key l ≡ true → (state_codec layout2).Fits s →
+        (state_codec layout2).Fits t → key.spell k ++ spell_state s ≡ key.spell l ++ spell_state t → (k ≡ l) × (s ≡ t) }
 {}
 
 /// Which states have a spelling, so also what a decoded state is.
 pub fn spelled_states()
-    ensures in_form { (s : State) → (state layout2).Fits s → IsInForm s }
-    ensures spelled { (s : State) → IsInForm s → (state layout2).Fits s }
+    ensures in_form { (s : State) → (state_codec layout2).Fits s → IsInForm s }
+    ensures spelled { (s : State) → IsInForm s → (state_codec layout2).Fits s }
 {}
 
 /// What the first version of the format spells in 1,000,000 bytes the second spells in 1,150,000.
 pub fn old_states_are_short()
-    ensures { (s : State) → (state layout1).Fits s → (state layout2).Fits s × (length (spell_state s) ≤ state_limit) }
+    ensures { (s : State) → (state_codec layout1).Fits s → (state_codec layout2).Fits s × (length (spell_state s) ≤ state_limit) }
 {}
 
 /// What has a spelling is decoded from it.

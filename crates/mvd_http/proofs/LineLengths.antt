@@ -7,7 +7,7 @@ use Rattle.mvd_dots.specs.declared.refusals.Refusal.TheVariants.{BadKey, BadCont
 use Rattle.mvd_dots.specs.Refusal.{number_of, name_of}
 use Rattle.mvd_wire.specs.declared.reply.Reply.{Reply}
 use Rattle.mvd_wire.specs.declared.reply.Reply.TheVariants as reply
-use Rattle.mvd_http.specs.Json.{refused_text, write_text, written_line}
+use Rattle.mvd_http.specs.Json.{refused_json, write_text, written_line}
 
 number_short : (refusal : Refusal) → number_of refusal < 100
 number_short BadKey = lit< tt
@@ -71,7 +71,7 @@ name_short TooManyRequests = lit≤ tt
 name_short BadDefs = lit≤ tt
 name_short NotAdmitted = lit≤ tt
 
-pub refused_short : (refusal : Refusal) → length (refused_text refusal) < 64
+pub refused_short : (refusal : Refusal) → length (refused_json refusal) < 64
 refused_short refusal =
     let number = number_short refusal in
     let digits = length-decimal-le 2 (number_of refusal) (lit< tt) number (omega arith) in

@@ -14,7 +14,7 @@ use Rattle.serde_json.specs.declared.value.Value.{Value}
 use Rattle.mvd_dots.specs.declared.refusals.Refusal.{Refusal}
 use Rattle.mvd_wire.specs.declared.request.Request.{Request}
 use Rattle.mvd_http.specs.declared.posted.Line.{Line}
-use Rattle.mvd_http.specs.Posted.{AreItems, HasOther, IsItem, IsItemIf, LineValue, line_of, line_of_data, line_with, lines_of, said_by, without_last}
+use Rattle.mvd_http.specs.Posted.{AreLineWrites, HasOther, IsLineWrite, IsItemIf, LineValue, line_value, line_of_data, line_with, body_lines, said_by, without_last}
 
 -- ---- the document of a line nests no deeper than the line
 
@@ -52,31 +52,31 @@ nests_no_deeper line d is few v of_line =
 
 -- ---- the items so far, with one more
 
-items_more : (lines : List (List ℕ)) (items : List (Result Request Refusal)) (line : List ℕ) (item : Result Request Refusal) → AreItems lines items → IsItem (line_of line) item → AreItems (lines ++ line ∷ []) (items ++ item ∷ [])
+items_more : (lines : List (List ℕ)) (items : List (Result Request Refusal)) (line : List ℕ) (item : Result Request Refusal) → AreLineWrites lines items → IsLineWrite (line_value line) item → AreLineWrites (lines ++ line ∷ []) (items ++ item ∷ [])
 items_more [] [] line item are is = (is, tt)
 items_more [] (i ∷ is) line item are it = absurd are
 items_more (l ∷ ls) [] line item are it = absurd are
 items_more (l ∷ ls) (i ∷ is) line item are it = (are.0, items_more ls is line item are.1 it)
 
 pub one_more : (lines : List (List ℕ)) (n : ℕ) (items : List (Result Request Refusal)) (line : List ℕ) (item : Result Request Refusal) → (n < length lines) × (line ≡ get_or lines n line)
-    → AreItems (take n lines) items → IsItem (line_of line) item → AreItems (take (n + 1) lines) (items ++ item ∷ [])
+    → AreLineWrites (take n lines) items → IsLineWrite (line_value line) item → AreLineWrites (take (n + 1) lines) (items ++ item ∷ [])
 one_more lines n items line item at are is =
-    subst (λ ls. AreItems ls (items ++ item ∷ [])) (sym (take_more lines n line at.0 ∙ ap (λ l. take n lines ++ l ∷ []) (sym at.1)))
+    subst (λ ls. AreLineWrites ls (items ++ item ∷ [])) (sym (take_more lines n line at.0 ∙ ap (λ l. take n lines ++ l ∷ []) (sym at.1)))
     (items_more (take n lines) items line item are is)
 
-pub all_lines : (lines : List (List ℕ)) (n : ℕ) (items : List (Result Request Refusal)) → length lines ≤ n → AreItems (take n lines) items → AreItems lines items
-all_lines lines n items ended are = subst (λ ls. AreItems ls items) (take_all n lines ended) are
+pub all_lines : (lines : List (List ℕ)) (n : ℕ) (items : List (Result Request Refusal)) → length lines ≤ n → AreLineWrites (take n lines) items → AreLineWrites lines items
+all_lines lines n items ended are = subst (λ ls. AreLineWrites ls items) (take_all n lines ended) are
 
 -- where the next line is, in the one list of lines or the other
 pub at_line : (n : ℕ) (line : List ℕ) (parts lines : List (List ℕ)) → parts ≡ lines → (n < length parts) × (line ≡ get_or parts n line) → (n < length lines) × (line ≡ get_or lines n line)
 at_line n line parts lines same at = let P : List (List ℕ) → Type 0 = λ ls. (n < length ls) × (line ≡ get_or ls n line) in subst P same at
 
-pub other_line : (lines : List (List ℕ)) (n : ℕ) (line : List ℕ) (item : Option (Result Request Refusal)) → (n < length lines) × (line ≡ get_or lines n line) → item ≡ None → IsItemIf (line_of line) item → HasOther lines
+pub other_line : (lines : List (List ℕ)) (n : ℕ) (line : List ℕ) (item : Option (Result Request Refusal)) → (n < length lines) × (line ≡ get_or lines n line) → item ≡ None → IsItemIf (line_value line) item → HasOther lines
 other_line lines n line item at none is =
-    let P : Option (Result Request Refusal) → Type 0 = λ o. IsItemIf (line_of line) o in (n, line, at.0, sym at.1, subst P none is)
+    let P : Option (Result Request Refusal) → Type 0 = λ o. IsItemIf (line_value line) o in (n, line, at.0, sym at.1, subst P none is)
 
 -- ---- the lines of a body that has some
 
-pub lines_are : (body text : List ℕ) → (length body == 0) ≡ false → text ≡ without_last body → slice_split (λ b. b == 10) text ≡ lines_of body
+pub lines_are : (body text : List ℕ) → (length body == 0) ≡ false → text ≡ without_last body → slice_split (λ b. b == 10) text ≡ body_lines body
 lines_are body text some is =
     ap (λ t. slice_split (λ b. b == 10) t) is ∙ ap (λ b. cond b [] (slice_split (λ b. b == 10) (without_last body))) (sym some)

@@ -14,7 +14,7 @@ use Rattle.mvd_wire.specs.declared.reply.Reply.{Reply}
 use Rattle.mvd_wire.specs.declared.reply.Reply.TheVariants as reply
 use Rattle.mvd_wire.specs.declared.request.Request.{Request}
 use Rattle.mvd_wire.specs.declared.request.Request.TheVariants.{Get, Put, Row}
-use Rattle.mvd_http.specs.Json.{state_text, written_text, places_text, rows_text, keys_text, counts_text, live_text, row_text, node_text, refused_text}
+use Rattle.mvd_http.specs.Json.{state_json, written_json, places_json, rows_text, keys_json, counts_text, live_text, row_json, node_text, refused_json}
 
 -- a status and a body
 pub record Told : Type 0 where
@@ -51,7 +51,7 @@ refused_status Broken = 503
 refused_status _ = 500
 
 abbrev pub refused_told : Refusal → Told
-refused_told refusal = record { status = refused_status refusal; body = refused_text refusal }
+refused_told refusal = record { status = refused_status refusal; body = refused_json refusal }
 
 -- ---- replies
 
@@ -69,11 +69,11 @@ found_status state = if length (entries state.siblings) == 0 then 404 else 200
 
 abbrev pub state_told : Option Key → State → Result Told Refusal
 state_told None state = Err BadKind
-state_told (Some key) state = Ok (record { status = found_status state; body = state_text key state })
+state_told (Some key) state = Ok (record { status = found_status state; body = state_json key state })
 
-abbrev pub row_told : Option Term → RowValue → Result Told Refusal
-row_told None row = Err BadKind
-row_told (Some term) row = Ok (ok_told (row_text term row.count row.sum row.ends))
+abbrev pub row_response : Option Term → RowValue → Result Told Refusal
+row_response None row = Err BadKind
+row_response (Some term) row = Ok (ok_told (row_json term row.count row.sum row.ends))
 
 -- what the author of a write had seen
 abbrev pub seen_by : Request → DotSet
@@ -87,13 +87,13 @@ seen_then request dot = set.insert (seen_by request) dot
 -- The status and the body, or the refusal that is told in their place. A reply of a kind that answers no such request is 32.
 abbrev pub reply_told : Request → Reply → Result Told Refusal
 reply_told request (reply.State state) = state_told (key_asked request) state
-reply_told request (reply.Written dot) = Ok (record { status = 201; body = written_text dot (seen_then request dot) })
+reply_told request (reply.Written dot) = Ok (record { status = 201; body = written_json dot (seen_then request dot) })
 reply_told request reply.Done = Ok (record { status = 204; body = [] })
-reply_told request (reply.Places places more) = Ok (ok_told (places_text places more))
-reply_told request (reply.Row row) = row_told (term_asked request) row
+reply_told request (reply.Places places more) = Ok (ok_told (places_json places more))
+reply_told request (reply.Row row) = row_response (term_asked request) row
 reply_told request (reply.Rows rows more) = Ok (ok_told (rows_text rows more))
 reply_told request (reply.Digests digests) = Ok (ok_told (node_text digests.own digests.children))
-reply_told request (reply.Keys keys more) = Ok (ok_told (keys_text keys more))
+reply_told request (reply.Keys keys more) = Ok (ok_told (keys_json keys more))
 reply_told request (reply.Counts keys more) = Ok (ok_told (counts_text keys more))
 reply_told request (reply.Refused refusal) = Err refusal
 
@@ -104,7 +104,7 @@ live_told request reply = reply_told request reply
 
 -- ---- what is told
 
-pub record IsTold (told : Told) (status : ℕ) (body : List ℕ) : Type 0 where
+pub record IsToldAs (told : Told) (status : ℕ) (body : List ℕ) : Type 0 where
   pub status_is : status ≡ told.status
   pub body_is : body ≡ told.body
 
@@ -116,11 +116,11 @@ is_stored _ = false
 
 -- This is told, or the refusal. Want of memory may be told in its place, but never of a change that is stored.
 abbrev pub Responds : Bool → Result Told Refusal → ℕ → List ℕ → Type 0
-Responds stored (Ok told) status body = IsTold told status body ⊎ ((stored ≡ false) × IsTold (refused_told Memory) status body)
-Responds stored (Err refusal) status body = IsTold (refused_told refusal) status body
+Responds stored (Ok told) status body = IsToldAs told status body ⊎ ((stored ≡ false) × IsToldAs (refused_told Memory) status body)
+Responds stored (Err refusal) status body = IsToldAs (refused_told refusal) status body
 
 -- the body came behind a text, and its status is given; a refusal is given back, and so is want of memory
-abbrev pub Pushes : Result Told Refusal → List ℕ → List ℕ → Result ℕ Refusal → Type 0
-Pushes (Ok told) old new (Ok status) = (status ≡ told.status) × (new ≡ old ++ told.body)
-Pushes (Ok told) old new (Err refusal) = refusal ≡ Memory
-Pushes (Err refusal) old new result = result ≡ Err refusal
+abbrev pub AppendsBody : Result Told Refusal → List ℕ → List ℕ → Result ℕ Refusal → Type 0
+AppendsBody (Ok told) old new (Ok status) = (status ≡ told.status) × (new ≡ old ++ told.body)
+AppendsBody (Ok told) old new (Err refusal) = refusal ≡ Memory
+AppendsBody (Err refusal) old new result = result ≡ Err refusal

@@ -30,7 +30,7 @@ use Rattle.mvd_http.specs.declared.question.Question.TheVariants.{Page, Root, Me
 use Rattle.mvd_http.specs.declared.question.Methods.TheVariants.{OfKey, OfKeys, OfList}
 use Rattle.mvd_http.specs.declared.question.Verb.{Verb}
 use Rattle.mvd_http.specs.declared.question.Verb.TheVariants as verb
-use Rattle.mvd_http.specs.Paths.{before, behind, given, read_part, read_text, without, without_end}
+use Rattle.mvd_http.specs.Paths.{text_before, text_behind, given, read_part, read_text, without, without_end}
 use Rattle.mvd_http.specs.Posted.{IsMany}
 use Rattle.mvd_http.specs.Seen.{IsWrite, then_read}
 
@@ -49,11 +49,11 @@ abbrev pub prefix_in : List ℕ → Result (List ℕ) Refusal
 prefix_in text = read_part prefix_of_text BadKey text
 
 -- a text that names no field has no index, and one that names no view is none
-abbrev pub field_in : List ℕ → Result (List ℕ) Refusal
-field_in text = read_part (λ t. else_refused NoIndex (field_of t)) NoIndex text
+abbrev pub field_named_in : List ℕ → Result (List ℕ) Refusal
+field_named_in text = read_part (λ t. else_refused NoIndex (field_of t)) NoIndex text
 
-abbrev pub view_in : List ℕ → Result (List ℕ) Refusal
-view_in text = read_part (λ t. else_refused NoView (view_name_of t)) NoView text
+abbrev pub view_named_in : List ℕ → Result (List ℕ) Refusal
+view_named_in text = read_part (λ t. else_refused NoView (view_name_of t)) NoView text
 
 abbrev pub term_in : List ℕ → Result Term Refusal
 term_in text = read_part term_of_json BadTerm text
@@ -62,8 +62,8 @@ term_in text = read_part term_of_json BadTerm text
 abbrev pub digit_in : ℕ → ℕ
 digit_in byte = if nat_le 48 byte && nat_le byte 57 then byte - 48 else (if nat_le 97 byte && nat_le byte 102 then byte - 87 else 255)
 
-abbrev pub path_in : List ℕ → Result (List ℕ) Refusal
-path_in text = path_of (map digit_in (percent_decode text))
+abbrev pub path_asked : List ℕ → Result (List ℕ) Refusal
+path_asked text = path_of (map digit_in (percent_decode text))
 
 -- nothing where nothing is given
 abbrev pub if_given : {A : Type 0} → (List ℕ → Result A Refusal) → List ℕ → Result (Option A) Refusal
@@ -83,28 +83,28 @@ dot_of (Some site) (Some counter) =
 dot_of _ _ = Err BadBody
 
 abbrev pub dot_in : List ℕ → Result DotValue Refusal
-dot_in text = dot_of (number_in (before 58 text)) (number_in (behind 58 text))
+dot_in text = dot_of (number_in (text_before 58 text)) (number_in (text_behind 58 text))
 
-abbrev pub place_with : DotValue → List ℕ → Result Place Refusal
-place_with dot rest =
-    then_read (read_text key_of_text BadKey (before 32 rest)) (λ key.
-    then_read (read_text term_of_json BadTerm (behind 32 rest)) (λ term. Ok (record { term = term; key = key; dot = dot })))
+abbrev pub place_asked : DotValue → List ℕ → Result Place Refusal
+place_asked dot rest =
+    then_read (read_text key_of_text BadKey (text_before 32 rest)) (λ key.
+    then_read (read_text term_of_json BadTerm (text_behind 32 rest)) (λ term. Ok (record { term = term; key = key; dot = dot })))
 
 abbrev pub place_of_text : List ℕ → Result Place Refusal
-place_of_text text = then_read (dot_in (before 32 text)) (λ dot. place_with dot (behind 32 text))
+place_of_text text = then_read (dot_in (text_before 32 text)) (λ dot. place_asked dot (text_behind 32 text))
 
 abbrev pub place_in : List ℕ → Result Place Refusal
 place_in text = place_of_text (percent_decode text)
 
 -- ---- a root, and how long to wait
 
-abbrev pub root_of : Result (List ℕ) FromHexError → Result (List ℕ) Refusal
-root_of (Ok bytes) = Ok bytes
-root_of (Err fault) = Err BadBody
+abbrev pub root_asked : Result (List ℕ) FromHexError → Result (List ℕ) Refusal
+root_asked (Ok bytes) = Ok bytes
+root_asked (Err fault) = Err BadBody
 
 -- the 32 bytes of 64 hexadecimal digits
 abbrev pub root_in : List ℕ → Result (List ℕ) Refusal
-root_in text = root_of (decode_sized (percent_decode text) 32)
+root_in text = root_asked (decode_sized (percent_decode text) 32)
 
 -- at most 60 seconds
 abbrev pub wait_of : Option ℕ → Result ℕ Refusal
@@ -127,41 +127,41 @@ bound name query = bound_or (given (codes "is=") query) (given name query)
 
 abbrev pub index_asked : List ℕ → List ℕ → Result Question Refusal
 index_asked field query =
-    then_read (field_in field) (λ f.
+    then_read (field_named_in field) (λ f.
     then_read (term_in (bound (codes "from=") query)) (λ low.
     then_read (term_in (bound (codes "to=") query)) (λ high.
     then_read (if_given place_in (given (codes "after=") query)) (λ after. Ok (Ask (Range f low high after))))))
 
-abbrev pub rows_asked : List ℕ → List ℕ → Result Question Refusal
-rows_asked view query =
-    then_read (view_in view) (λ v.
+abbrev pub rows_question : List ℕ → List ℕ → Result Question Refusal
+rows_question view query =
+    then_read (view_named_in view) (λ v.
     then_read (if_given term_in (given (codes "after=") query)) (λ after. Ok (Ask (Rows v after))))
 
-abbrev pub row_asked : List ℕ → List ℕ → Result Question Refusal
-row_asked view query =
-    then_read (view_in view) (λ v. then_read (term_in (given (codes "is=") query)) (λ term. Ok (Ask (Row v term))))
+abbrev pub row_question : List ℕ → List ℕ → Result Question Refusal
+row_question view query =
+    then_read (view_named_in view) (λ v. then_read (term_in (given (codes "is=") query)) (λ term. Ok (Ask (Row v term))))
 
 abbrev pub row_or : Option (List ℕ) → List ℕ → Result Question Refusal
 row_or None query = Ok Nowhere
-row_or (Some view) query = row_asked view query
+row_or (Some view) query = row_question view query
 
 abbrev pub view_or : Option (List ℕ) → List ℕ → List ℕ → Result Question Refusal
 view_or None view query = row_or (without_end (codes "/row") view) query
-view_or (Some name) view query = rows_asked name query
+view_or (Some name) view query = rows_question name query
 
 -- `V/rows` or `V/row`
 abbrev pub view_asked : List ℕ → List ℕ → Result Question Refusal
 view_asked view query = view_or (without_end (codes "/rows") view) view query
 
 -- three digits ask for the keys of a bucket, and fewer for a node
-abbrev pub under : List ℕ → List ℕ → Result Question Refusal
-under path query =
+abbrev pub under_path : List ℕ → List ℕ → Result Question Refusal
+under_path path query =
     if length path == 3
     then then_read (if_given key_in (given (codes "after=") query)) (λ after. Ok (Ask (Bucket path after)))
     else Ok (Ask (Node path))
 
 abbrev pub tree_asked : List ℕ → Result Question Refusal
-tree_asked query = then_read (path_in (given (codes "path=") query)) (λ path. under path query)
+tree_asked query = then_read (path_asked (given (codes "path=") query)) (λ path. under_path path query)
 
 -- `live=1` leaves out keys without a sibling
 abbrev pub keys_as : Bool → Request → Question
@@ -171,16 +171,16 @@ keys_as false request = Ask request
 abbrev pub is_live : List ℕ → Bool
 is_live query = bytes_eq (given (codes "live=") query) (codes "1")
 
-abbrev pub keys_asked : List ℕ → Result Question Refusal
-keys_asked query =
+abbrev pub keys_question : List ℕ → Result Question Refusal
+keys_question query =
     then_read (prefix_in (given (codes "prefix=") query)) (λ prefix.
     then_read (if_given key_in (given (codes "after=") query)) (λ after. Ok (keys_as (is_live query) (Keys prefix after))))
 
 abbrev pub conflicts_asked : List ℕ → Result Question Refusal
 conflicts_asked query = then_read (if_given key_in (given (codes "after=") query)) (λ after. Ok (Ask (Conflicts after)))
 
-abbrev pub changes_asked : List ℕ → Result Question Refusal
-changes_asked query =
+abbrev pub changes_question : List ℕ → Result Question Refusal
+changes_question query =
     then_read (if_given root_in (given (codes "since=") query)) (λ since.
     then_read (wait_in (given (codes "wait=") query)) (λ wait. Ok (Changes since wait)))
 
@@ -196,7 +196,7 @@ named_list (Some field) path query = index_asked field query
 abbrev pub told_asked : List ℕ → List ℕ → Result Question Refusal
 told_asked path query =
     if bytes_eq path (codes "/conflicts") then conflicts_asked query else (
-    if bytes_eq path (codes "/changes") then changes_asked query else (
+    if bytes_eq path (codes "/changes") then changes_question query else (
     if bytes_eq path (codes "/tree") then tree_asked query else named_list (without (codes "/index/") path) path query))
 
 abbrev pub list_asked : List ℕ → List ℕ → Result Question Refusal
@@ -207,22 +207,22 @@ list_asked path query =
 
 -- ---- keys
 
-abbrev pub put_of : List ℕ → Key → DotSet → Result Question Refusal
-put_of body key seen = then_read (read_text document_of BadDocument body) (λ document. Ok (Ask (Put key seen document)))
+abbrev pub put_question : List ℕ → Key → DotSet → Result Question Refusal
+put_question body key seen = then_read (read_text document_of BadDocument body) (λ document. Ok (Ask (Put key seen document)))
 
-abbrev pub delete_of : Key → DotSet → Result Question Refusal
-delete_of key seen = Ok (Ask (Delete key seen))
+abbrev pub delete_question : Key → DotSet → Result Question Refusal
+delete_question key seen = Ok (Ask (Delete key seen))
 
-abbrev pub IsOfKey : Verb → List ℕ → Option (List ℕ) → List ℕ → Result Question Refusal → Type 0
-IsOfKey verb.Read key context body result = IsAnswer result (then_read (key_in key) (λ k. Ok (Ask (Get k))))
-IsOfKey verb.Put key context body result = IsWrite (Ok set.empty) (key_in key) context (put_of body) result
-IsOfKey verb.Delete key context body result = IsWrite (Err BadContext) (key_in key) context delete_of result
-IsOfKey verb.Post key context body result = result ≡ Ok (NotAllowed OfKey)
-IsOfKey verb.Other key context body result = result ≡ Ok (NotAllowed OfKey)
+abbrev pub IsQuestionOfKey : Verb → List ℕ → Option (List ℕ) → List ℕ → Result Question Refusal → Type 0
+IsQuestionOfKey verb.Read key context body result = IsAnswer result (then_read (key_in key) (λ k. Ok (Ask (Get k))))
+IsQuestionOfKey verb.Put key context body result = IsWrite (Ok set.empty) (key_in key) context (put_question body) result
+IsQuestionOfKey verb.Delete key context body result = IsWrite (Err BadContext) (key_in key) context delete_question result
+IsQuestionOfKey verb.Post key context body result = result ≡ Ok (NotAllowed OfKey)
+IsQuestionOfKey verb.Other key context body result = result ≡ Ok (NotAllowed OfKey)
 
 -- all keys: their list, or many writes
 abbrev pub IsOfKeys : Verb → List ℕ → List ℕ → Result Question Refusal → Type 0
-IsOfKeys verb.Read query body result = IsAnswer result (keys_asked query)
+IsOfKeys verb.Read query body result = IsAnswer result (keys_question query)
 IsOfKeys verb.Post query body result = IsMany body result
 IsOfKeys verb.Put query body result = result ≡ Ok (NotAllowed OfKeys)
 IsOfKeys verb.Delete query body result = result ≡ Ok (NotAllowed OfKeys)
@@ -247,11 +247,11 @@ abbrev pub IsOfServer : Bool → Verb → List ℕ → List ℕ → List ℕ →
 IsOfServer true verb path query body result = IsOfKeys verb query body result
 IsOfServer false verb path query body result = IsAnswer result (read_only verb path query)
 
-abbrev pub IsAsked : Option (List ℕ) → Verb → List ℕ → List ℕ → Option (List ℕ) → List ℕ → Result Question Refusal → Type 0
-IsAsked None verb path query context body result = IsOfServer (bytes_eq path (codes "/keys")) verb path query body result
-IsAsked (Some key) verb path query context body result = IsOfKey verb key context body result
+abbrev pub IsQuestionOf : Option (List ℕ) → Verb → List ℕ → List ℕ → Option (List ℕ) → List ℕ → Result Question Refusal → Type 0
+IsQuestionOf None verb path query context body result = IsOfServer (bytes_eq path (codes "/keys")) verb path query body result
+IsQuestionOf (Some key) verb path query context body result = IsQuestionOfKey verb key context body result
 
 -- a request of this method, target, field `Mvd-Context` and body asks this
 abbrev pub IsQuestion : List ℕ → List ℕ → Option (List ℕ) → List ℕ → Result Question Refusal → Type 0
 IsQuestion method target context body result =
-    IsAsked (without (codes "/keys/") (before 63 target)) (verb_of method) (before 63 target) (behind 63 target) context body result
+    IsQuestionOf (without (codes "/keys/") (text_before 63 target)) (verb_of method) (text_before 63 target) (text_behind 63 target) context body result

@@ -18,20 +18,20 @@ status_of NotImplemented = 501
 status_of InternalError = 500
 
 -- its name, as the body tells it
-abbrev pub name_of : Fault → List ℕ
-name_of BadRequest = codes "BadRequest"
-name_of HostMissing = codes "HostMissing"
-name_of ForeignOrigin = codes "ForeignOrigin"
-name_of NotFound = codes "NotFound"
-name_of MethodNotAllowed = codes "MethodNotAllowed"
-name_of ContentTooLarge = codes "ContentTooLarge"
-name_of UriTooLong = codes "UriTooLong"
-name_of HeaderTooLarge = codes "HeaderTooLarge"
-name_of NotImplemented = codes "NotImplemented"
-name_of InternalError = codes "InternalError"
+abbrev pub fault_name : Fault → List ℕ
+fault_name BadRequest = codes "BadRequest"
+fault_name HostMissing = codes "HostMissing"
+fault_name ForeignOrigin = codes "ForeignOrigin"
+fault_name NotFound = codes "NotFound"
+fault_name MethodNotAllowed = codes "MethodNotAllowed"
+fault_name ContentTooLarge = codes "ContentTooLarge"
+fault_name UriTooLong = codes "UriTooLong"
+fault_name HeaderTooLarge = codes "HeaderTooLarge"
+fault_name NotImplemented = codes "NotImplemented"
+fault_name InternalError = codes "InternalError"
 
-abbrev pub text_of : Fault → List ℕ
-text_of fault = codes "{\"refused\":0,\"name\":\"" ++ (name_of fault ++ codes "\"}")
+abbrev pub fault_text : Fault → List ℕ
+fault_text fault = codes "{\"refused\":0,\"name\":\"" ++ (fault_name fault ++ codes "\"}")
 
 abbrev pub answer_of : Fault → Answer
 answer_of fault = record { status = status_of fault; content = Json; allow = None; asks_token = false }

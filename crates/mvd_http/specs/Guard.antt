@@ -4,7 +4,7 @@ use Rattle.std.specs.Prelude.{◌==◌, ◌&&◌, ◌||◌, ℕ, Bool, true, fal
 use Rattle.std.specs.Char.{is_ascii_digit}
 use Rattle.std.specs.List.{list_all}
 use Rattle.std.specs.Str.{bytes_eq}
-use Rattle.mvd_http.specs.Paths.{before, without}
+use Rattle.mvd_http.specs.Paths.{text_before, without}
 
 -- digits and points, as of an IPv4 address and of no name of a domain
 abbrev pub is_number_byte : ℕ → Bool
@@ -16,7 +16,7 @@ is_safe_name name = bytes_eq name (codes "localhost") || (nat_lt 0 (length name)
 -- in brackets stands an IPv6 address: the server has refused all else there
 abbrev pub is_safe_host : List ℕ → Bool
 is_safe_host [] = false
-is_safe_host (b ∷ bs) = (b == 91) || is_safe_name (before 58 (b ∷ bs))
+is_safe_host (b ∷ bs) = (b == 91) || is_safe_name (text_before 58 (b ∷ bs))
 
 abbrev pub is_this : List ℕ → Option (List ℕ) → Bool
 is_this host None = false

@@ -46,43 +46,43 @@ next_text (Some text) = codes ",\"next\":" ++ quoted text
 abbrev pub last_of : {X : Type 0} → List X → Option X
 last_of xs = slice_get xs (length xs - 1)
 
-abbrev pub next_of : {X : Type 0} → (X → List ℕ) → Bool → List X → Option (List ℕ)
-next_of text false xs = None
-next_of text true xs = option_map text (last_of xs)
+abbrev pub next_text_of : {X : Type 0} → (X → List ℕ) → Bool → List X → Option (List ℕ)
+next_text_of text false xs = None
+next_text_of text true xs = option_map text (last_of xs)
 
 -- ---- entries
 
-abbrev pub sibling_text : DotValue × Text → List ℕ
-sibling_text sibling = codes "{\"dot\":\"" ++ (dot_text sibling.0 ++ (codes "\",\"document\":" ++ (sibling.1 ++ codes "}")))
+abbrev pub sibling_json : DotValue × Text → List ℕ
+sibling_json sibling = codes "{\"dot\":\"" ++ (dot_text sibling.0 ++ (codes "\",\"document\":" ++ (sibling.1 ++ codes "}")))
 
-abbrev pub place_text : Place → List ℕ
-place_text place =
+abbrev pub place_json : Place → List ℕ
+place_json place =
     codes "{\"term\":" ++ (term_text place.term ++ (codes ",\"key\":" ++ (quoted place.key ++ (codes ",\"dot\":\"" ++ (dot_text place.dot ++ codes "\"}")))))
 
 -- the place as the text that a query takes
 abbrev pub place_mark : Place → List ℕ
 place_mark place = dot_text place.dot ++ (codes " " ++ (place.key ++ (codes " " ++ term_text place.term)))
 
-abbrev pub ends_text : Option (ℤ × ℤ) → List ℕ
-ends_text None = []
-ends_text (Some ends) = codes ",\"least\":" ++ (signed_decimal ends.0 ++ (codes ",\"greatest\":" ++ signed_decimal ends.1))
+abbrev pub ends_json : Option (ℤ × ℤ) → List ℕ
+ends_json None = []
+ends_json (Some ends) = codes ",\"least\":" ++ (signed_decimal ends.0 ++ (codes ",\"greatest\":" ++ signed_decimal ends.1))
 
-abbrev pub row_text : Term → ℕ → ℤ → Option (ℤ × ℤ) → List ℕ
-row_text term count sum ends =
-    codes "{\"term\":" ++ (term_text term ++ (codes ",\"count\":" ++ (decimal count ++ (codes ",\"sum\":" ++ (signed_decimal sum ++ (ends_text ends ++ codes "}"))))))
+abbrev pub row_json : Term → ℕ → ℤ → Option (ℤ × ℤ) → List ℕ
+row_json term count sum ends =
+    codes "{\"term\":" ++ (term_text term ++ (codes ",\"count\":" ++ (decimal count ++ (codes ",\"sum\":" ++ (signed_decimal sum ++ (ends_json ends ++ codes "}"))))))
 
-abbrev pub view_row_text : Term × ℕ × ℤ × Option (ℤ × ℤ) → List ℕ
-view_row_text row = row_text row.0 row.1 row.2 row.3
+abbrev pub view_row_json : Term × ℕ × ℤ × Option (ℤ × ℤ) → List ℕ
+view_row_json row = row_json row.0 row.1 row.2 row.3
 
 abbrev pub row_mark : Term × ℕ × ℤ × Option (ℤ × ℤ) → List ℕ
 row_mark row = term_text row.0
 
 -- a digest's 64 hexadecimal digits, as a JSON string
-abbrev pub digest_text : List ℕ → List ℕ
-digest_text digest = codes "\"" ++ (encode_lower digest ++ codes "\"")
+abbrev pub digest_json : List ℕ → List ℕ
+digest_json digest = codes "\"" ++ (encode_lower digest ++ codes "\"")
 
 abbrev pub key_digest_text : Key × List ℕ → List ℕ
-key_digest_text entry = codes "{\"key\":" ++ (quoted entry.0 ++ (codes ",\"digest\":" ++ (digest_text entry.1 ++ codes "}")))
+key_digest_text entry = codes "{\"key\":" ++ (quoted entry.0 ++ (codes ",\"digest\":" ++ (digest_json entry.1 ++ codes "}")))
 
 abbrev pub key_mark : Key × List ℕ → List ℕ
 key_mark entry = entry.0
@@ -96,29 +96,29 @@ count_mark entry = entry.0
 
 -- ---- whole bodies
 
-abbrev pub siblings_text : List (DotValue × Text) → List ℕ
-siblings_text siblings = commaed sibling_text siblings
+abbrev pub siblings_json : List (DotValue × Text) → List ℕ
+siblings_json siblings = commaed sibling_json siblings
 
-abbrev pub state_text : Key → State → List ℕ
-state_text key state =
-    codes "{\"key\":" ++ (quoted key ++ (codes ",\"context\":\"" ++ (text_of state.context ++ (codes "\",\"siblings\":[" ++ (siblings_text (entries state.siblings) ++ codes "]}")))))
+abbrev pub state_json : Key → State → List ℕ
+state_json key state =
+    codes "{\"key\":" ++ (quoted key ++ (codes ",\"context\":\"" ++ (text_of state.context ++ (codes "\",\"siblings\":[" ++ (siblings_json (entries state.siblings) ++ codes "]}")))))
 
 -- the dot of a write, and the context to write with next
-abbrev pub written_text : DotValue → DotSet → List ℕ
-written_text dot context = codes "{\"dot\":\"" ++ (dot_text dot ++ (codes "\",\"context\":\"" ++ (text_of context ++ codes "\"}")))
+abbrev pub written_json : DotValue → DotSet → List ℕ
+written_json dot context = codes "{\"dot\":\"" ++ (dot_text dot ++ (codes "\",\"context\":\"" ++ (text_of context ++ codes "\"}")))
 
 -- a page of a list, under its name, and the text for the next page
 abbrev pub page_text : {X : Type 0} → List ℕ → (X → List ℕ) → (X → List ℕ) → List X → Bool → List ℕ
-page_text name text mark xs more = name ++ (commaed text xs ++ (codes "]" ++ (next_text (next_of mark more xs) ++ codes "}")))
+page_text name text mark xs more = name ++ (commaed text xs ++ (codes "]" ++ (next_text (next_text_of mark more xs) ++ codes "}")))
 
-abbrev pub places_text : List Place → Bool → List ℕ
-places_text places more = page_text (codes "{\"places\":[") place_text place_mark places more
+abbrev pub places_json : List Place → Bool → List ℕ
+places_json places more = page_text (codes "{\"places\":[") place_json place_mark places more
 
 abbrev pub rows_text : List (Term × ℕ × ℤ × Option (ℤ × ℤ)) → Bool → List ℕ
-rows_text rows more = page_text (codes "{\"rows\":[") view_row_text row_mark rows more
+rows_text rows more = page_text (codes "{\"rows\":[") view_row_json row_mark rows more
 
-abbrev pub keys_text : List (Key × List ℕ) → Bool → List ℕ
-keys_text keys more = page_text (codes "{\"keys\":[") key_digest_text key_mark keys more
+abbrev pub keys_json : List (Key × List ℕ) → Bool → List ℕ
+keys_json keys more = page_text (codes "{\"keys\":[") key_digest_text key_mark keys more
 
 abbrev pub counts_text : List (Key × ℕ) → Bool → List ℕ
 counts_text keys more = page_text (codes "{\"keys\":[") key_count_text count_mark keys more
@@ -129,18 +129,18 @@ live_of keys = filter (λ entry. nat_lt 0 entry.1) keys
 
 abbrev pub live_text : List (Key × ℕ) → Bool → List ℕ
 live_text keys more =
-    codes "{\"keys\":[" ++ (commaed key_count_text (live_of keys) ++ (codes "]" ++ (next_text (next_of count_mark more keys) ++ codes "}")))
+    codes "{\"keys\":[" ++ (commaed key_count_text (live_of keys) ++ (codes "]" ++ (next_text (next_text_of count_mark more keys) ++ codes "}")))
 
 abbrev pub children_text : Option (List (List ℕ)) → List ℕ
 children_text None = []
-children_text (Some children) = codes ",\"children\":[" ++ (commaed digest_text children ++ codes "]")
+children_text (Some children) = codes ",\"children\":[" ++ (commaed digest_json children ++ codes "]")
 
 abbrev pub node_text : List ℕ → Option (List (List ℕ)) → List ℕ
-node_text own children = codes "{\"digest\":" ++ (digest_text own ++ (children_text children ++ codes "}"))
+node_text own children = codes "{\"digest\":" ++ (digest_json own ++ (children_text children ++ codes "}"))
 
-abbrev pub root_text : List ℕ → ℕ → ℕ → ℕ → List ℕ
-root_text digest keys conflicts site =
-    codes "{\"root\":" ++ (digest_text digest ++ (codes ",\"keys\":" ++ (decimal keys ++ (codes ",\"conflicts\":" ++ (decimal conflicts ++ (codes ",\"site\":" ++ (decimal site ++ codes "}")))))))
+abbrev pub root_json : List ℕ → ℕ → ℕ → ℕ → List ℕ
+root_json digest keys conflicts site =
+    codes "{\"root\":" ++ (digest_json digest ++ (codes ",\"keys\":" ++ (decimal keys ++ (codes ",\"conflicts\":" ++ (decimal conflicts ++ (codes ",\"site\":" ++ (decimal site ++ codes "}")))))))
 
 abbrev pub truth_text : Bool → List ℕ
 truth_text true = codes "true"
@@ -149,10 +149,10 @@ truth_text false = codes "false"
 -- the keys that changed, and the root now; or that all is to be read anew
 abbrev pub changes_text : List ℕ → List Key → Bool → List ℕ
 changes_text root keys resync =
-    codes "{\"root\":" ++ (digest_text root ++ (codes ",\"keys\":[" ++ (commaed quoted keys ++ (codes "],\"resync\":" ++ (truth_text resync ++ codes "}")))))
+    codes "{\"root\":" ++ (digest_json root ++ (codes ",\"keys\":[" ++ (commaed quoted keys ++ (codes "],\"resync\":" ++ (truth_text resync ++ codes "}")))))
 
-abbrev pub refused_text : Refusal → List ℕ
-refused_text refusal = codes "{\"refused\":" ++ (decimal (number_of refusal) ++ (codes ",\"name\":\"" ++ (name_of refusal ++ codes "\"}")))
+abbrev pub refused_json : Refusal → List ℕ
+refused_json refusal = codes "{\"refused\":" ++ (decimal (number_of refusal) ++ (codes ",\"name\":\"" ++ (name_of refusal ++ codes "\"}")))
 
 -- ---- the lines that many writes are told in, each with its line feed (10)
 
@@ -163,8 +163,8 @@ written_line dot = codes "{\"dot\":\"" ++ (dot_text dot ++ codes "\"}")
 abbrev pub write_text : Reply → List ℕ
 write_text (reply.Written dot) = written_line dot
 write_text reply.Done = codes "{}"
-write_text (reply.Refused refusal) = refused_text refusal
-write_text _ = refused_text BadKind
+write_text (reply.Refused refusal) = refused_json refusal
+write_text _ = refused_json BadKind
 
 abbrev pub line_text : Reply → List ℕ
 line_text reply = write_text reply ++ 10 ∷ []

@@ -6,15 +6,15 @@ use Rattle.percent_encoding.specs.Percent.{percent_decode}
 use Rattle.mvd_dots.specs.declared.refusals.Refusal.{Refusal}
 
 -- how many bytes stand before the first one that is this
-abbrev pub place_of : ℕ → List ℕ → ℕ
-place_of byte text = prefix_len (λ b. not (b == byte)) text
+abbrev pub position_of : ℕ → List ℕ → ℕ
+position_of byte text = prefix_len (λ b. not (b == byte)) text
 
 -- what stands before the first such byte, and behind it
-unfoldable pub before : ℕ → List ℕ → List ℕ
-before byte text = take (place_of byte text) text
+unfoldable pub text_before : ℕ → List ℕ → List ℕ
+text_before byte text = take (position_of byte text) text
 
-unfoldable pub behind : ℕ → List ℕ → List ℕ
-behind byte text = drop (place_of byte text + 1) text
+unfoldable pub text_behind : ℕ → List ℕ → List ℕ
+text_behind byte text = drop (position_of byte text + 1) text
 
 -- what is left behind this front
 unfoldable pub without : List ℕ → List ℕ → Option (List ℕ)
@@ -35,8 +35,8 @@ read_part read refusal text = read_text read refusal (percent_decode text)
 
 -- ---- the options of a query (application/x-www-form-urlencoded): `NAME=VALUE`, parted by `&` (38)
 
-abbrev pub options_of : List ℕ → List (List ℕ)
-options_of query = slice_split (λ b. b == 38) query
+abbrev pub parameters_of : List ℕ → List (List ℕ)
+parameters_of query = slice_split (λ b. b == 38) query
 
 abbrev pub or_else : Option (List ℕ) → List ℕ → List ℕ
 or_else (Some value) others = value
@@ -48,4 +48,4 @@ value_among name [] = []
 value_among name (option ∷ others) = or_else (without name option) (value_among name others)
 
 unfoldable pub given : List ℕ → List ℕ → List ℕ
-given name query = value_among name (options_of query)
+given name query = value_among name (parameters_of query)

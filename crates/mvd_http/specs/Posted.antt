@@ -36,9 +36,9 @@ abbrev pub member_count : Members → ℕ
 member_count no_members = 0
 member_count (member name d ms) = member_count ms + 1
 
-abbrev pub count_of : Option Members → ℕ
-count_of None = 0
-count_of (Some ms) = member_count ms
+abbrev pub member_count_of : Option Members → ℕ
+member_count_of None = 0
+member_count_of (Some ms) = member_count ms
 
 abbrev pub one_if : {A : Type 0} → Option A → ℕ
 one_if None = 0
@@ -59,14 +59,14 @@ line_with count None context document = None
 
 abbrev pub line_of_data : Data → Option LineValue
 line_of_data d =
-    line_with (count_of (as_object d)) (option_and_then as_str (get (codes "key") d)) (text_if (get (codes "context") d)) (get (codes "document") d)
+    line_with (member_count_of (as_object d)) (option_and_then as_str (get (codes "key") d)) (text_if (get (codes "context") d)) (get (codes "document") d)
 
 abbrev pub line_of_read : Option Data → Option LineValue
 line_of_read d = option_and_then line_of_data d
 
 -- what a line says, or that it has another form
-unfoldable pub line_of : List ℕ → Option LineValue
-line_of text = if is_utf8 text then line_of_read (read text) else None
+unfoldable pub line_value : List ℕ → Option LineValue
+line_value text = if is_utf8 text then line_of_read (read text) else None
 
 -- ---- what it asks
 
@@ -74,32 +74,32 @@ abbrev pub write_of : Option Data → Key → DotSet → Result Request Refusal
 write_of None key seen = Ok (Delete key seen)
 write_of (Some d) key seen = then_read (document_of_data d) (λ document. Ok (Put key seen document))
 
-abbrev pub IsAsked : LineValue → Result Request Refusal → Type 0
-IsAsked line item = IsWrite (Ok set.empty) (key_of_text line.key) line.context (write_of line.document) item
+abbrev pub IsWriteOf : LineValue → Result Request Refusal → Type 0
+IsWriteOf line item = IsWrite (Ok set.empty) (key_of_text line.key) line.context (write_of line.document) item
 
 -- the write that a line asks for, or why it is refused; want of memory is no line's own
-abbrev pub IsItem : Option LineValue → Result Request Refusal → Type 0
-IsItem None item = ⊥
-IsItem (Some line) item = IsAsked line item × (item ≢ Err Memory)
+abbrev pub IsLineWrite : Option LineValue → Result Request Refusal → Type 0
+IsLineWrite None item = ⊥
+IsLineWrite (Some line) item = IsWriteOf line item × (item ≢ Err Memory)
 
 -- that of each line, in order
-abbrev pub AreItems : List (List ℕ) → List (Result Request Refusal) → Type 0
-AreItems [] [] = Unit {0}
-AreItems [] (item ∷ items) = ⊥
-AreItems (line ∷ lines) [] = ⊥
-AreItems (line ∷ lines) (item ∷ items) = IsItem (line_of line) item × AreItems lines items
+abbrev pub AreLineWrites : List (List ℕ) → List (Result Request Refusal) → Type 0
+AreLineWrites [] [] = Unit {0}
+AreLineWrites [] (item ∷ items) = ⊥
+AreLineWrites (line ∷ lines) [] = ⊥
+AreLineWrites (line ∷ lines) (item ∷ items) = IsLineWrite (line_value line) item × AreLineWrites lines items
 
 -- or that there is none, or one has none
 abbrev pub IsItemIf : Option LineValue → Option (Result Request Refusal) → Type 0
 IsItemIf line None = line ≡ None
-IsItemIf line (Some item) = IsItem line item
+IsItemIf line (Some item) = IsLineWrite line item
 
 abbrev pub HasOther : List (List ℕ) → Type 0
-HasOther lines = Any (λ line. line_of line ≡ None) lines
+HasOther lines = Any (λ line. line_value line ≡ None) lines
 
 abbrev pub AreItemsIf : List (List ℕ) → Option (List (Result Request Refusal)) → Type 0
 AreItemsIf lines None = HasOther lines
-AreItemsIf lines (Some items) = AreItems lines items
+AreItemsIf lines (Some items) = AreLineWrites lines items
 
 -- ---- the lines of a body
 
@@ -107,15 +107,15 @@ AreItemsIf lines (Some items) = AreItems lines items
 abbrev pub without_last : List ℕ → List ℕ
 without_last body = unwrap_or (without_end (10 ∷ []) body) body
 
-abbrev pub lines_of : List ℕ → List (List ℕ)
-lines_of body = if length body == 0 then [] else slice_split (λ b. b == 10) (without_last body)
+abbrev pub body_lines : List ℕ → List (List ℕ)
+body_lines body = if length body == 0 then [] else slice_split (λ b. b == 10) (without_last body)
 
-abbrev pub AreFew : List ℕ → Type 0
-AreFew body = length (lines_of body) ≤ 1000
+abbrev pub AreFewLines : List ℕ → Type 0
+AreFewLines body = length (body_lines body) ≤ 1000
 
 -- Each line is a write or its refusal, where there are at most 1,000 and each has the form of one. Else nothing is done.
 abbrev pub IsMany : List ℕ → Result Question Refusal → Type 0
-IsMany body (Ok (Many items)) = AreFew body × AreItems (lines_of body) items
-IsMany body (Ok TooManyLines) = 1000 < length (lines_of body)
+IsMany body (Ok (Many items)) = AreFewLines body × AreLineWrites (body_lines body) items
+IsMany body (Ok TooManyLines) = 1000 < length (body_lines body)
 IsMany body (Ok _) = ⊥
-IsMany body (Err refusal) = refusal ≢ Memory → (refusal ≡ BadBody) × AreFew body × HasOther (lines_of body)
+IsMany body (Err refusal) = refusal ≢ Memory → (refusal ≡ BadBody) × AreFewLines body × HasOther (body_lines body)

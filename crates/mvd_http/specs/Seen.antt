@@ -23,14 +23,14 @@ abbrev pub IsSeen : Result DotSet Refusal → Option (List ℕ) → Result DotSe
 IsSeen absent None seen = seen ≡ absent
 IsSeen absent (Some text) seen = IsContext (is_utf8 text) text seen
 
-abbrev pub After : {A B : Type 0} → Result A Refusal → (A → Result B Refusal → Type 0) → Result B Refusal → Type 0
-After (Ok value) Is result = Is value result
-After (Err refusal) Is result = result ≡ Err refusal
+abbrev pub AndThen : {A B : Type 0} → Result A Refusal → (A → Result B Refusal → Type 0) → Result B Refusal → Type 0
+AndThen (Ok value) Is result = Is value result
+AndThen (Err refusal) Is result = result ≡ Err refusal
 
-abbrev pub IsMade : {A : Type 0} → Result DotSet Refusal → Option (List ℕ) → (DotSet → Result A Refusal) → Result A Refusal → Type 0
-IsMade absent context make result =
-    (seen : Result DotSet Refusal) × IsSeen absent context seen × After seen (λ dots made. IsAnswer made (make dots)) result
+abbrev pub IsMadeWithContext : {A : Type 0} → Result DotSet Refusal → Option (List ℕ) → (DotSet → Result A Refusal) → Result A Refusal → Type 0
+IsMadeWithContext absent context make result =
+    (seen : Result DotSet Refusal) × IsSeen absent context seen × AndThen seen (λ dots made. IsAnswer made (make dots)) result
 
 abbrev pub IsWrite : {A : Type 0} → Result DotSet Refusal → Result Key Refusal → Option (List ℕ) → (Key → DotSet → Result A Refusal) → Result A Refusal → Type 0
 IsWrite absent key context make result =
-    (read : Result Key Refusal) × IsAnswer read key × After read (λ k made. IsMade absent context (make k) made) result
+    (read : Result Key Refusal) × IsAnswer read key × AndThen read (λ k made. IsMadeWithContext absent context (make k) made) result

@@ -6,7 +6,8 @@ ghost use Rattle.mvd_dots.specs.Answer.{IsAnswer};
 ghost use Rattle.mvd_dots.specs.declared.refusals.Refusal.TheVariants.{BadContext};
 ghost use Rattle.mvd_http.specs.declared.question.Question.TheVariants.{Ask};
 ghost use Rattle.mvd_wire.specs.declared.request.Request.TheVariants.{Get};
-ghost use Rattle.mvd_http.specs.Asked.{key_in as key_read, IsAsked, IsOfKey, IsOfKeys, IsOfServer, IsQuestion, delete_of as deletes, put_of as puts, read_only as only_read, verb_of as verb_read};
+ghost use Rattle.mvd_http.specs.Asked.{key_in as key_read, IsQuestionOf, IsQuestionOfKey, IsOfKeys, IsOfServer, IsQuestion};
+ghost use Rattle.mvd_http.specs.Asked.{delete_question as deletes, put_question as puts, read_only as only_read, verb_of as verb_read};
 ghost use Rattle.mvd_http.specs.Seen.{IsContext, IsSeen, IsWrite, then_read};
 
 use crate::lists_asked::{keys_of, list_of};
@@ -64,7 +65,7 @@ fn of_key(
     context: Option<&[u8]>,
     body: &[u8],
 ) -> Result<Question, Refusal>
-    ensures { IsOfKey verb key.now (option_copied context.entry) body.now result }
+    ensures { IsQuestionOfKey verb key.now (option_copied context.entry) body.now result }
 {
     match verb {
         Verb::Read => get_of(alloc, key),

@@ -1,7 +1,8 @@
 //! Lists of keys in JSON: with the numbers of their siblings, and alone.
 ghost use Rattle.std.specs.Prelude.{◌≡◌, ◌++◌, OnOk, IsOkUnless, string_bytes};
 ghost use Rattle.std.specs.List.{flat_map};
-ghost use Rattle.mvd_http.specs.Json.{commaed, count_mark, counts_text, key_count_text, led, led_if, live_of, live_text, next_of, next_text, quoted};
+ghost use Rattle.mvd_http.specs.Json.{commaed, count_mark, counts_text, key_count_text, led, led_if, live_of, live_text};
+ghost use Rattle.mvd_http.specs.Json.{next_text_of, next_text, quoted};
 
 use crate::json_lists::push_next;
 use crate::json_words::{push_number, push_quoted, push_word};
@@ -84,7 +85,7 @@ fn push_count_next(
     more: bool,
 ) -> Result<(), Refusal>
     ensures text { OnOk result (string_bytes out.new ≡
-        string_bytes out.old ++ next_text (next_of count_mark more keys.now)) }
+        string_bytes out.old ++ next_text (next_text_of count_mark more keys.now)) }
     ensures memory { IsOkUnless result Refusal.Memory }
 {
     if !more {

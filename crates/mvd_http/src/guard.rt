@@ -1,7 +1,8 @@
 //! Which requests are of this server's own pages.
 ghost use Rattle.std.specs.Prelude.{◌≡◌, option_copied};
 ghost use Rattle.std.specs.List.{list_all};
-ghost use Rattle.mvd_http.specs.Guard.{is_number_byte, is_origin as origin_own, is_own as request_own, is_safe_host as host_safe, is_safe_name as name_safe};
+ghost use Rattle.mvd_http.specs.Guard.{is_number_byte, is_origin as origin_own, is_own as request_own};
+ghost use Rattle.mvd_http.specs.Guard.{is_safe_host as host_safe, is_safe_name as name_safe};
 
 use crate::target::{before, without};
 

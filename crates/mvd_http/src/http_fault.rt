@@ -30,7 +30,7 @@ pub enum Fault {
 }
 
 impl Fault {
-    ghost use Rattle.mvd_http.specs.Faults.{answer_of, status_of, text_of};
+    ghost use Rattle.mvd_http.specs.Faults.{answer_of, status_of, fault_text};
 
     /// The status of the response.
     pub fn status(self) -> StatusCode
@@ -63,7 +63,7 @@ impl Fault {
 
     /// The body of the response, as JSON.
     pub fn body(self) -> &'static str
-        ensures { result.now ≡ text_of self }
+        ensures { result.now ≡ fault_text self }
     {
         match self {
             Fault::BadRequest => "{\"refused\":0,\"name\":\"BadRequest\"}",

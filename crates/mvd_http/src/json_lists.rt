@@ -2,7 +2,9 @@
 ghost use Rattle.std.specs.Prelude.{◌≡◌, ◌++◌, Some, OnOk, IfOk, IsOkUnless, string_bytes};
 ghost use Rattle.std.specs.List.{flat_map};
 ghost use Rattle.mvd_keys.specs.State.{pair_of};
-ghost use Rattle.mvd_http.specs.Json.{commaed, ends_text, key_digest_text, keys_text, led, next_of, next_text, key_mark, row_mark, place_mark as mark_of_place, place_text, places_text, row_text, rows_text, sibling_text, view_row_text};
+ghost use Rattle.mvd_http.specs.Json.{commaed, ends_json, key_digest_text, keys_json, led, next_text_of, next_text, key_mark};
+ghost use Rattle.mvd_http.specs.Json.{row_mark, place_mark as mark_of_place, place_json, places_json, row_json, rows_text};
+ghost use Rattle.mvd_http.specs.Json.{sibling_json, view_row_json};
 
 use crate::json_words::{
     push_digest, push_dot, push_number, push_quoted, push_signed, push_term, push_whole, push_word,
@@ -19,7 +21,7 @@ pub type ViewRow = (Term, u64, i128, Option<(i64, i64)>);
 pub type KeyDigest = (Key, [u8; 32]);
 
 fn push_sibling(out: &mut String, sibling: &Sibling) -> Result<(), AllocError>
-    ensures { OnOk result (string_bytes out.new ≡ string_bytes out.old ++ sibling_text (pair_of sibling.now)) }
+    ensures { OnOk result (string_bytes out.new ≡ string_bytes out.old ++ sibling_json (pair_of sibling.now)) }
 {
     push_word(out, "{\"dot\":\"")?;
     push_dot(out, sibling.dot)?;
@@ -31,7 +33,7 @@ fn push_sibling(out: &mut String, sibling: &Sibling) -> Result<(), AllocError>
 
 fn push_more_siblings(out: &mut String, siblings: &[Sibling]) -> Result<(), AllocError>
     ensures { OnOk result (string_bytes out.new ≡
-        string_bytes out.old ++ flat_map (λ s. led sibling_text (pair_of s)) siblings.now) }
+        string_bytes out.old ++ flat_map (λ s. led sibling_json (pair_of s)) siblings.now) }
 {
     for sibling in siblings {
         push_word(out, ",")?;
@@ -42,7 +44,7 @@ fn push_more_siblings(out: &mut String, siblings: &[Sibling]) -> Result<(), Allo
 
 pub fn push_siblings(out: &mut String, siblings: &[Sibling]) -> Result<(), AllocError>
     ensures { OnOk result (string_bytes out.new ≡
-        string_bytes out.old ++ commaed (λ s. sibling_text (pair_of s)) siblings.now) }
+        string_bytes out.old ++ commaed (λ s. sibling_json (pair_of s)) siblings.now) }
 {
     let Some((first, rest)) = siblings.split_first() else {
         return Ok(());
@@ -52,7 +54,7 @@ pub fn push_siblings(out: &mut String, siblings: &[Sibling]) -> Result<(), Alloc
 }
 
 fn push_place(alloc: Global, out: &mut String, place: &Place) -> Result<(), Refusal>
-    ensures text { OnOk result (string_bytes out.new ≡ string_bytes out.old ++ place_text place.now) }
+    ensures text { OnOk result (string_bytes out.new ≡ string_bytes out.old ++ place_json place.now) }
     ensures memory { IsOkUnless result Refusal.Memory }
 {
     push_word(out, "{\"term\":")?;
@@ -65,7 +67,7 @@ fn push_place(alloc: Global, out: &mut String, place: &Place) -> Result<(), Refu
 }
 
 fn push_more_places(alloc: Global, out: &mut String, places: &[Place]) -> Result<(), Refusal>
-    ensures text { OnOk result (string_bytes out.new ≡ string_bytes out.old ++ flat_map (led place_text) places.now) }
+    ensures text { OnOk result (string_bytes out.new ≡ string_bytes out.old ++ flat_map (led place_json) places.now) }
     ensures memory { IsOkUnless result Refusal.Memory }
 {
     for place in places {
@@ -76,7 +78,7 @@ fn push_more_places(alloc: Global, out: &mut String, places: &[Place]) -> Result
 }
 
 fn push_places(alloc: Global, out: &mut String, places: &[Place]) -> Result<(), Refusal>
-    ensures text { OnOk result (string_bytes out.new ≡ string_bytes out.old ++ commaed place_text places.now) }
+    ensures text { OnOk result (string_bytes out.new ≡ string_bytes out.old ++ commaed place_json places.now) }
     ensures memory { IsOkUnless result Refusal.Memory }
 {
     let Some((first, rest)) = places.split_first() else {
@@ -87,7 +89,7 @@ fn push_places(alloc: Global, out: &mut String, places: &[Place]) -> Result<(), 
 }
 
 fn push_two(out: &mut String, least: i64, greatest: i64) -> Result<(), AllocError>
-    ensures { OnOk result (string_bytes out.new ≡ string_bytes out.old ++ ends_text (Some (least, greatest))) }
+    ensures { OnOk result (string_bytes out.new ≡ string_bytes out.old ++ ends_json (Some (least, greatest))) }
 {
     push_word(out, ",\"least\":")?;
     push_whole(out, least)?;
@@ -98,7 +100,7 @@ fn push_two(out: &mut String, least: i64, greatest: i64) -> Result<(), AllocErro
 
 /// The least and the greatest number, where there are any.
 fn push_ends(out: &mut String, ends: Option<(i64, i64)>) -> Result<(), AllocError>
-    ensures { OnOk result (string_bytes out.new ≡ string_bytes out.old ++ ends_text ends) }
+    ensures { OnOk result (string_bytes out.new ≡ string_bytes out.old ++ ends_json ends) }
 {
     match ends {
         Some((least, greatest)) => push_two(out, least, greatest),
@@ -115,7 +117,7 @@ pub fn push_row(
     sum: i128,
     ends: Option<(i64, i64)>,
 ) -> Result<(), Refusal>
-    ensures text { OnOk result (string_bytes out.new ≡ string_bytes out.old ++ row_text term.now count sum ends) }
+    ensures text { OnOk result (string_bytes out.new ≡ string_bytes out.old ++ row_json term.now count sum ends) }
     ensures memory { IsOkUnless result Refusal.Memory }
 {
     push_word(out, "{\"term\":")?;
@@ -129,14 +131,14 @@ pub fn push_row(
 }
 
 fn push_view_row(alloc: Global, out: &mut String, row: &ViewRow) -> Result<(), Refusal>
-    ensures text { OnOk result (string_bytes out.new ≡ string_bytes out.old ++ view_row_text row.now) }
+    ensures text { OnOk result (string_bytes out.new ≡ string_bytes out.old ++ view_row_json row.now) }
     ensures memory { IsOkUnless result Refusal.Memory }
 {
     push_row(alloc, out, &row.0, row.1, row.2, row.3)
 }
 
 fn push_more_rows(alloc: Global, out: &mut String, rows: &[ViewRow]) -> Result<(), Refusal>
-    ensures text { OnOk result (string_bytes out.new ≡ string_bytes out.old ++ flat_map (led view_row_text) rows.now) }
+    ensures text { OnOk result (string_bytes out.new ≡ string_bytes out.old ++ flat_map (led view_row_json) rows.now) }
     ensures memory { IsOkUnless result Refusal.Memory }
 {
     for row in rows {
@@ -147,7 +149,7 @@ fn push_more_rows(alloc: Global, out: &mut String, rows: &[ViewRow]) -> Result<(
 }
 
 fn push_rows(alloc: Global, out: &mut String, rows: &[ViewRow]) -> Result<(), Refusal>
-    ensures text { OnOk result (string_bytes out.new ≡ string_bytes out.old ++ commaed view_row_text rows.now) }
+    ensures text { OnOk result (string_bytes out.new ≡ string_bytes out.old ++ commaed view_row_json rows.now) }
     ensures memory { IsOkUnless result Refusal.Memory }
 {
     let Some((first, rest)) = rows.split_first() else {
@@ -221,7 +223,7 @@ fn push_place_next(
     more: bool,
 ) -> Result<(), Refusal>
     ensures text { OnOk result (string_bytes out.new ≡
-        string_bytes out.old ++ next_text (next_of mark_of_place more places.now)) }
+        string_bytes out.old ++ next_text (next_text_of mark_of_place more places.now)) }
     ensures memory { IsOkUnless result Refusal.Memory }
 {
     if !more {
@@ -241,7 +243,7 @@ fn push_row_next(
     more: bool,
 ) -> Result<(), Refusal>
     ensures text { OnOk result (string_bytes out.new ≡
-        string_bytes out.old ++ next_text (next_of row_mark more rows.now)) }
+        string_bytes out.old ++ next_text (next_text_of row_mark more rows.now)) }
     ensures memory { IsOkUnless result Refusal.Memory }
 {
     if !more {
@@ -261,7 +263,7 @@ fn push_key_next(
     more: bool,
 ) -> Result<(), Refusal>
     ensures text { OnOk result (string_bytes out.new ≡
-        string_bytes out.old ++ next_text (next_of key_mark more keys.now)) }
+        string_bytes out.old ++ next_text (next_text_of key_mark more keys.now)) }
     ensures memory { IsOkUnless result Refusal.Memory }
 {
     if !more {
@@ -280,7 +282,7 @@ pub fn push_places_page(
     places: &[Place],
     more: bool,
 ) -> Result<(), Refusal>
-    ensures text { OnOk result (string_bytes out.new ≡ string_bytes out.old ++ places_text places.now more) }
+    ensures text { OnOk result (string_bytes out.new ≡ string_bytes out.old ++ places_json places.now more) }
     ensures memory { IsOkUnless result Refusal.Memory }
 {
     push_word(out, "{\"places\":[")?;
@@ -314,7 +316,7 @@ pub fn push_keys_page(
     keys: &[KeyDigest],
     more: bool,
 ) -> Result<(), Refusal>
-    ensures text { OnOk result (string_bytes out.new ≡ string_bytes out.old ++ keys_text keys.now more) }
+    ensures text { OnOk result (string_bytes out.new ≡ string_bytes out.old ++ keys_json keys.now more) }
     ensures memory { IsOkUnless result Refusal.Memory }
 {
     push_word(out, "{\"keys\":[")?;

@@ -2,8 +2,8 @@
 ghost use Rattle.std.specs.Prelude.{◌≡◌, ◌++◌, OnOk, IsOkUnless, length, string_bytes};
 ghost use Rattle.std.specs.Fmt.{decimal, signed_decimal};
 ghost use Rattle.mvd_print.specs.Text.{dot_text, term_text};
-ghost use Rattle.mvd_http.specs.Json.{digest_text, quoted};
-ghost use Rattle.mvd_http.specs.Room.{Fills};
+ghost use Rattle.mvd_http.specs.Json.{digest_json, quoted};
+ghost use Rattle.mvd_http.specs.Room.{FillsRoom};
 
 use itoa::Buffer;
 use mvd_docs::Term;
@@ -13,14 +13,14 @@ use std::alloc::{AllocError, Global};
 
 pub fn push_word(out: &mut String, word: &str) -> Result<(), AllocError>
     ensures text { OnOk result (string_bytes out.new ≡ string_bytes out.old ++ word.now) }
-    ensures room { Fills result out.old (length word.now) out.new }
+    ensures room { FillsRoom result out.old (length word.now) out.new }
 {
     out.push_str(word)
 }
 
 pub fn push_number(out: &mut String, number: u64) -> Result<(), AllocError>
     ensures text { OnOk result (string_bytes out.new ≡ string_bytes out.old ++ decimal number) }
-    ensures room { Fills result out.old (length (decimal number)) out.new }
+    ensures room { FillsRoom result out.old (length (decimal number)) out.new }
 {
     let mut buffer = Buffer::new();
     push_word(out, buffer.format(number))
@@ -43,7 +43,7 @@ pub fn push_whole(out: &mut String, number: i64) -> Result<(), AllocError>
 /// The site, a `:`, and the counter.
 pub fn push_dot(out: &mut String, dot: Dot) -> Result<(), AllocError>
     ensures text { OnOk result (string_bytes out.new ≡ string_bytes out.old ++ dot_text dot) }
-    ensures room { Fills result out.old (length (dot_text dot)) out.new }
+    ensures room { FillsRoom result out.old (length (dot_text dot)) out.new }
 {
     push_number(out, u64::from(dot.site()))?;
     push_word(out, ":")?;
@@ -71,7 +71,7 @@ pub fn push_quoted(alloc: Global, out: &mut String, text: &str) -> Result<(), Re
 
 /// The digest's digits as a JSON string.
 pub fn push_digest(alloc: Global, out: &mut String, digest: [u8; 32]) -> Result<(), Refusal>
-    ensures text { OnOk result (string_bytes out.new ≡ string_bytes out.old ++ digest_text digest) }
+    ensures text { OnOk result (string_bytes out.new ≡ string_bytes out.old ++ digest_json digest) }
     ensures memory { IsOkUnless result Refusal.Memory }
 {
     let text = hex::encode(alloc, digest)?;

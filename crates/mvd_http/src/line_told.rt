@@ -2,7 +2,7 @@
 ghost use Rattle.std.specs.Prelude.{◌≡◌, ◌≤◌, ◌<◌, ◌+◌, ◌++◌, OnOk, OnErr, length, string_bytes, string_len};
 ghost use Rattle.std.specs.String.{string_capacity};
 ghost use Rattle.mvd_http.specs.Json.{line_text, write_text, written_line};
-ghost use Rattle.mvd_http.specs.Room.{Fills};
+ghost use Rattle.mvd_http.specs.Room.{FillsRoom};
 
 use crate::json_words::{push_dot, push_word};
 use crate::responses::push_refused;
@@ -17,7 +17,7 @@ pub const LINE_ROOM: usize = 64;
 /// takes no memory and gives no error.
 pub fn push_line(out: &mut String, reply: &Reply) -> Result<(), AllocError>
     ensures text { OnOk result (string_bytes out.new ≡ string_bytes out.old ++ line_text reply.now) }
-    ensures room { Fills result out.old (length (line_text reply.now)) out.new }
+    ensures room { FillsRoom result out.old (length (line_text reply.now)) out.new }
     ensures short { length (line_text reply.now) ≤ LINE_ROOM }
 {
     push_write(out, reply)?;
@@ -27,7 +27,7 @@ pub fn push_line(out: &mut String, reply: &Reply) -> Result<(), AllocError>
 #[tactic(auto, using(crate::proofs::LineLengths::refused_short))]
 fn push_write(out: &mut String, reply: &Reply) -> Result<(), AllocError>
     ensures text { OnOk result (string_bytes out.new ≡ string_bytes out.old ++ write_text reply.now) }
-    ensures room { Fills result out.old (length (write_text reply.now)) out.new }
+    ensures room { FillsRoom result out.old (length (write_text reply.now)) out.new }
     ensures short { length (write_text reply.now) < LINE_ROOM }
 {
     match reply {
@@ -47,7 +47,7 @@ fn push_write(out: &mut String, reply: &Reply) -> Result<(), AllocError>
 #[tactic(auto, using(crate::proofs::LineLengths::written_short))]
 fn push_written(out: &mut String, dot: Dot) -> Result<(), AllocError>
     ensures text { OnOk result (string_bytes out.new ≡ string_bytes out.old ++ written_line dot) }
-    ensures room { Fills result out.old (length (written_line dot)) out.new }
+    ensures room { FillsRoom result out.old (length (written_line dot)) out.new }
     ensures short { length (written_line dot) < LINE_ROOM }
 {
     push_word(out, "{\"dot\":\"")?;

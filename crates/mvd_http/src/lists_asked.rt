@@ -1,7 +1,9 @@
 //! What a request asks of the server, or of a list of the site.
 ghost use Rattle.std.specs.Prelude.{◌≡◌, codes};
 ghost use Rattle.mvd_dots.specs.Answer.{IsAnswer};
-ghost use Rattle.mvd_http.specs.Asked.{bound as bound_given, changes_asked, conflicts_asked, index_asked, keys_asked, list_asked, named_list as list_named, row_asked, rows_asked, told_asked, tree_asked, under, view_asked};
+ghost use Rattle.mvd_http.specs.Asked.{bound as bound_given, changes_question, conflicts_asked, index_asked, keys_question};
+ghost use Rattle.mvd_http.specs.Asked.{list_asked, named_list as list_named, row_question, rows_question, told_asked, tree_asked};
+ghost use Rattle.mvd_http.specs.Asked.{under_path, view_asked};
 ghost use Rattle.mvd_http.specs.Paths.{without as left_behind};
 
 use crate::place::place_if_given;
@@ -49,7 +51,7 @@ fn told_of(alloc: Global, path: &[u8], query: &[u8]) -> Result<Question, Refusal
 
 /// The keys that are held. Those without a sibling may be left out of what is told.
 pub fn keys_of(alloc: Global, query: &[u8]) -> Result<Question, Refusal>
-    ensures { IsAnswer result (keys_asked query.now) }
+    ensures { IsAnswer result (keys_question query.now) }
 {
     let prefix = prefix_in(alloc, given(query, b"prefix="))?;
     let after = key_if_given(alloc, given(query, b"after="))?;
@@ -68,7 +70,7 @@ fn conflicts_of(alloc: Global, query: &[u8]) -> Result<Question, Refusal>
 }
 
 fn changes_of(alloc: Global, query: &[u8]) -> Result<Question, Refusal>
-    ensures { IsAnswer result (changes_asked query.now) }
+    ensures { IsAnswer result (changes_question query.now) }
 {
     let since = root_if_given(alloc, given(query, b"since="))?;
     let wait = wait_in(alloc, given(query, b"wait="))?;
@@ -97,7 +99,7 @@ fn tree_of(alloc: Global, query: &[u8]) -> Result<Question, Refusal>
 
 /// The keys of a bucket, or a node.
 fn keys_under(alloc: Global, path: Path, query: &[u8]) -> Result<Question, Refusal>
-    ensures { IsAnswer result (under path query.now) }
+    ensures { IsAnswer result (under_path path query.now) }
 {
     if path.digits().len() != 3 {
         return Ok(Question::Ask(Request::Node(path)));
@@ -141,7 +143,7 @@ fn view_of(alloc: Global, view: &[u8], query: &[u8]) -> Result<Question, Refusal
 }
 
 fn rows_of(alloc: Global, view: &[u8], query: &[u8]) -> Result<Question, Refusal>
-    ensures { IsAnswer result (rows_asked view.now query.now) }
+    ensures { IsAnswer result (rows_question view.now query.now) }
 {
     let view = view_in(alloc, view)?;
     let after = term_if_given(alloc, given(query, b"after="))?;
@@ -149,7 +151,7 @@ fn rows_of(alloc: Global, view: &[u8], query: &[u8]) -> Result<Question, Refusal
 }
 
 fn row_of(alloc: Global, view: &[u8], query: &[u8]) -> Result<Question, Refusal>
-    ensures { IsAnswer result (row_asked view.now query.now) }
+    ensures { IsAnswer result (row_question view.now query.now) }
 {
     let view = view_in(alloc, view)?;
     let term = term_in(alloc, given(query, b"is="))?;

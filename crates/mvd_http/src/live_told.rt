@@ -1,6 +1,6 @@
 //! The response to who asks for keys that have a sibling.
 ghost use Rattle.std.specs.Prelude.{Ok, IfOk, string_bytes};
-ghost use Rattle.mvd_http.specs.Answers.{Pushes, Responds, is_stored as stored, live_told, ok_told};
+ghost use Rattle.mvd_http.specs.Answers.{AppendsBody, Responds, is_stored as stored, live_told, ok_told};
 ghost use Rattle.mvd_http.specs.Json.{live_text};
 
 use crate::count_lists::{KeyCount, push_live_page};
@@ -35,7 +35,7 @@ fn push_live_of(
     keys: &[KeyCount],
     more: bool,
 ) -> Result<u16, Refusal>
-    ensures { Pushes (Ok (ok_told (live_text keys.now more))) (string_bytes out.old) (string_bytes out.new) result }
+    ensures { AppendsBody (Ok (ok_told (live_text keys.now more))) (string_bytes out.old) (string_bytes out.new) result }
 {
     push_live_page(alloc, out, keys, more)?;
     Ok(200)

@@ -4,7 +4,8 @@ ghost use Rattle.std.specs.Char.{is_ascii_digit};
 ghost use Rattle.std.specs.List.{list_all};
 ghost use Rattle.std.specs.Str.Parse.{AllDigits, digits_value};
 ghost use Rattle.mvd_dots.specs.Answer.{IsAnswer};
-ghost use Rattle.mvd_http.specs.Asked.{dot_in as dot_read, dot_of as dot_from, if_given, number_in as number_read, place_in as place_read, place_of_text as place_text, place_with as place_after};
+ghost use Rattle.mvd_http.specs.Asked.{dot_in as dot_read, dot_of as dot_from, if_given, number_in as number_read};
+ghost use Rattle.mvd_http.specs.Asked.{place_in as place_read, place_of_text as place_text, place_asked as place_after};
 
 use crate::target::{before, behind};
 use crate::target_parts::{decoded, key_of, term_of};

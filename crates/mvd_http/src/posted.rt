@@ -9,7 +9,9 @@ ghost use Rattle.serde_json.specs.Read.{max_depth};
 ghost use Rattle.serde_json.specs.View.{view};
 ghost use Rattle.mvd_dots.specs.Answer.{IsAnswer};
 ghost use Rattle.mvd_docs.specs.Document.{document_of_data};
-ghost use Rattle.mvd_http.specs.Posted.{AreItemsIf, IsAsked, IsItemIf, IsMany, count_of as count_told, line_of as line_read, line_of_data, lines_of, said_by, text_if as text_told, without_last as without_feed, write_of as write_asked};
+ghost use Rattle.mvd_http.specs.Posted.{AreItemsIf, IsWriteOf, IsItemIf, IsMany, member_count_of as count_told};
+ghost use Rattle.mvd_http.specs.Posted.{line_value as line_read, line_of_data, body_lines, said_by, text_if as text_told};
+ghost use Rattle.mvd_http.specs.Posted.{without_last as without_feed, write_of as write_asked};
 ghost use Rattle.mvd_http.specs.Seen.{IsContext, IsSeen};
 
 use crate::question::Question;
@@ -56,7 +58,7 @@ fn without_last(body: &[u8]) -> &[u8]
 }
 
 fn line_count(body: &[u8]) -> usize
-    ensures { result ≡ length (lines_of body.now) }
+    ensures { result ≡ length (body_lines body.now) }
 {
     if body.is_empty() {
         return 0;
@@ -66,7 +68,7 @@ fn line_count(body: &[u8]) -> usize
 
 /// What each line asks, or that one has another form.
 fn items_of(alloc: Global, body: &[u8]) -> Result<Option<Vec<Item>>, Refusal>
-    ensures items { IfOk result (λ found. AreItemsIf (lines_of body.now) (option_map (λ v. v.items) found)) }
+    ensures items { IfOk result (λ found. AreItemsIf (body_lines body.now) (option_map (λ v. v.items) found)) }
     ensures memory { IsOkUnless result Refusal.Memory }
 {
     if body.is_empty() {
@@ -83,7 +85,7 @@ fn items_of(alloc: Global, body: &[u8]) -> Result<Option<Vec<Item>>, Refusal>
 }
 
 /// What a line asks, or why it is refused, where it has the form of one.
-#[tactic(auto, using(crate::proofs::Texts::is_text, crate::proofs::Texts::is_no_text), unfolding(crate::specs::Posted::line_of))]
+#[tactic(auto, using(crate::proofs::Texts::is_text, crate::proofs::Texts::is_no_text), unfolding(crate::specs::Posted::line_value))]
 fn item_of(alloc: Global, line: &[u8]) -> Result<Option<Item>, Refusal>
     ensures item { IfOk result (λ item. IsItemIf (line_read line.now) item) }
     ensures memory { IsOkUnless result Refusal.Memory }
@@ -158,7 +160,7 @@ fn text_if<'a>(member: Option<&'a Value>) -> Option<Option<&'a str>>
 
 fn write_in(alloc: Global, line: &Line<'_>) -> Item
     requires { ForSome line.now.document (λ v. nesting (view v.now) ≤ max_depth) }
-    ensures { IsAsked (said_by line.now) result }
+    ensures { IsWriteOf (said_by line.now) result }
 {
     match Key::read(alloc, line.key) {
         Ok(key) => match seen_in(alloc, line.context) {

@@ -3,10 +3,13 @@ ghost use Rattle.std.specs.Prelude.{◌≡◌, ◌++◌, Ok, OnOk, IfOk, IsOkUnl
 ghost use Rattle.std.specs.List.{flat_map};
 ghost use Rattle.mvd_dots.specs.Text.{text_of};
 ghost use Rattle.mvd_dots.specs.declared.refusals.Refusal.TheVariants.{Memory};
-ghost use Rattle.mvd_http.specs.Answers.{IsTold, Pushes, Responds, found_status as status_found, is_stored as stored, key_asked as asked_key, ok_told, refused_status as status_of, refused_told, reply_told, row_told, seen_then as then_seen, state_told, term_asked as asked_term};
-ghost use Rattle.mvd_http.specs.Room.{Fills};
+ghost use Rattle.mvd_http.specs.Answers.{IsToldAs, AppendsBody, Responds, found_status as status_found, is_stored as stored};
+ghost use Rattle.mvd_http.specs.Answers.{key_asked as asked_key, ok_told, refused_status as status_of, refused_told};
+ghost use Rattle.mvd_http.specs.Answers.{reply_told, row_response, seen_then as then_seen, state_told, term_asked as asked_term};
+ghost use Rattle.mvd_http.specs.Room.{FillsRoom};
 ghost use Rattle.mvd_wire.specs.declared.reply.Reply.TheVariants.{Done};
-ghost use Rattle.mvd_http.specs.Json.{children_text, commaed, counts_text, digest_text, led, keys_text, node_text, places_text, refused_text, rows_text, state_text, written_text};
+ghost use Rattle.mvd_http.specs.Json.{children_text, commaed, counts_text, digest_json, led, keys_json, node_text};
+ghost use Rattle.mvd_http.specs.Json.{places_json, refused_json, rows_text, state_json, written_json};
 
 use crate::count_lists::{KeyCount, push_counts_page};
 use crate::json_lists::{
@@ -43,8 +46,8 @@ pub fn refused_status(refusal: Refusal) -> u16
 }
 
 pub fn push_refused(out: &mut String, refusal: Refusal) -> Result<(), AllocError>
-    ensures text { OnOk result (string_bytes out.new ≡ string_bytes out.old ++ refused_text refusal) }
-    ensures room { Fills result out.old (length (refused_text refusal)) out.new }
+    ensures text { OnOk result (string_bytes out.new ≡ string_bytes out.old ++ refused_json refusal) }
+    ensures room { FillsRoom result out.old (length (refused_json refusal)) out.new }
 {
     push_word(out, "{\"refused\":")?;
     push_number(out, u64::from(refusal.number()))?;
@@ -56,7 +59,7 @@ pub fn push_refused(out: &mut String, refusal: Refusal) -> Result<(), AllocError
 
 /// Puts the body of a refusal in place of what `out` held, and gives its status.
 pub fn refused_response(out: &mut String, refusal: Refusal) -> Result<u16, AllocError>
-    ensures { IfOk result (λ status. IsTold (refused_told refusal) status (string_bytes out.new)) }
+    ensures { IfOk result (λ status. IsToldAs (refused_told refusal) status (string_bytes out.new)) }
 {
     out.clear();
     push_refused(out, refusal)?;
@@ -116,7 +119,7 @@ fn push_reply(
     reply: &Reply,
     out: &mut String,
 ) -> Result<u16, Refusal>
-    ensures told { Pushes (reply_told request.now reply.now) (string_bytes out.old) (string_bytes out.new) result }
+    ensures told { AppendsBody (reply_told request.now reply.now) (string_bytes out.old) (string_bytes out.new) result }
     ensures done { reply.now ≡ Done → result ≡ Ok 204 }
 {
     match reply {
@@ -139,7 +142,7 @@ fn push_places_of(
     places: &[Place],
     more: bool,
 ) -> Result<u16, Refusal>
-    ensures { Pushes (Ok (ok_told (places_text places.now more))) (string_bytes out.old) (string_bytes out.new) result }
+    ensures { AppendsBody (Ok (ok_told (places_json places.now more))) (string_bytes out.old) (string_bytes out.new) result }
 {
     push_places_page(alloc, out, places, more)?;
     Ok(200)
@@ -151,7 +154,7 @@ fn push_rows_of(
     rows: &[ViewRow],
     more: bool,
 ) -> Result<u16, Refusal>
-    ensures { Pushes (Ok (ok_told (rows_text rows.now more))) (string_bytes out.old) (string_bytes out.new) result }
+    ensures { AppendsBody (Ok (ok_told (rows_text rows.now more))) (string_bytes out.old) (string_bytes out.new) result }
 {
     push_rows_page(alloc, out, rows, more)?;
     Ok(200)
@@ -163,7 +166,7 @@ fn push_keys_of(
     keys: &[KeyDigest],
     more: bool,
 ) -> Result<u16, Refusal>
-    ensures { Pushes (Ok (ok_told (keys_text keys.now more))) (string_bytes out.old) (string_bytes out.new) result }
+    ensures { AppendsBody (Ok (ok_told (keys_json keys.now more))) (string_bytes out.old) (string_bytes out.new) result }
 {
     push_keys_page(alloc, out, keys, more)?;
     Ok(200)
@@ -175,7 +178,7 @@ fn push_counts_of(
     keys: &[KeyCount],
     more: bool,
 ) -> Result<u16, Refusal>
-    ensures { Pushes (Ok (ok_told (counts_text keys.now more))) (string_bytes out.old) (string_bytes out.new) result }
+    ensures { AppendsBody (Ok (ok_told (counts_text keys.now more))) (string_bytes out.old) (string_bytes out.new) result }
 {
     push_counts_page(alloc, out, keys, more)?;
     Ok(200)
@@ -187,7 +190,7 @@ fn push_found(
     state: &KeyState,
     out: &mut String,
 ) -> Result<u16, Refusal>
-    ensures { Pushes (state_told (option_copied key.entry) state.now) (string_bytes out.old)
+    ensures { AppendsBody (state_told (option_copied key.entry) state.now) (string_bytes out.old)
         (string_bytes out.new) result }
 {
     let Some(key) = key else {
@@ -216,7 +219,7 @@ fn push_context(out: &mut String, context: &Context) -> Result<(), Refusal>
 }
 
 fn push_state(alloc: Global, key: &Key, state: &KeyState, out: &mut String) -> Result<(), Refusal>
-    ensures text { OnOk result (string_bytes out.new ≡ string_bytes out.old ++ state_text key.now state.now) }
+    ensures text { OnOk result (string_bytes out.new ≡ string_bytes out.old ++ state_json key.now state.now) }
     ensures memory { IsOkUnless result Refusal.Memory }
 {
     push_word(out, "{\"key\":")?;
@@ -243,7 +246,7 @@ fn seen_then(alloc: Global, request: &Request, dot: Dot) -> Result<Context, Refu
 }
 
 fn push_written(out: &mut String, dot: Dot, seen: &Context) -> Result<u16, Refusal>
-    ensures { Pushes (Ok (record { status = 201; body = written_text dot seen.now })) (string_bytes out.old)
+    ensures { AppendsBody (Ok (record { status = 201; body = written_json dot seen.now })) (string_bytes out.old)
         (string_bytes out.new) result }
 {
     push_word(out, "{\"dot\":\"")?;
@@ -260,7 +263,7 @@ fn push_row_of(
     row: &RowValue,
     out: &mut String,
 ) -> Result<u16, Refusal>
-    ensures { Pushes (row_told (option_copied term.entry) row.now) (string_bytes out.old)
+    ensures { AppendsBody (row_response (option_copied term.entry) row.now) (string_bytes out.old)
         (string_bytes out.new) result }
 {
     let Some(term) = term else {
@@ -271,7 +274,7 @@ fn push_row_of(
 }
 
 fn push_more_digests(alloc: Global, out: &mut String, digests: &[[u8; 32]]) -> Result<(), Refusal>
-    ensures text { OnOk result (string_bytes out.new ≡ string_bytes out.old ++ flat_map (led digest_text) digests.now) }
+    ensures text { OnOk result (string_bytes out.new ≡ string_bytes out.old ++ flat_map (led digest_json) digests.now) }
     ensures memory { IsOkUnless result Refusal.Memory }
 {
     for digest in digests {
@@ -282,7 +285,7 @@ fn push_more_digests(alloc: Global, out: &mut String, digests: &[[u8; 32]]) -> R
 }
 
 fn push_digests(alloc: Global, out: &mut String, digests: &[[u8; 32]]) -> Result<(), Refusal>
-    ensures text { OnOk result (string_bytes out.new ≡ string_bytes out.old ++ commaed digest_text digests.now) }
+    ensures text { OnOk result (string_bytes out.new ≡ string_bytes out.old ++ commaed digest_json digests.now) }
     ensures memory { IsOkUnless result Refusal.Memory }
 {
     let Some((first, rest)) = digests.split_first() else {
@@ -309,7 +312,7 @@ fn push_children(
 }
 
 fn push_node(alloc: Global, digests: &Digests, out: &mut String) -> Result<u16, Refusal>
-    ensures { Pushes (Ok (ok_told (node_text digests.now.own digests.now.children))) (string_bytes out.old)
+    ensures { AppendsBody (Ok (ok_told (node_text digests.now.own digests.now.children))) (string_bytes out.old)
         (string_bytes out.new) result }
 {
     push_word(out, "{\"digest\":")?;

@@ -1,6 +1,6 @@
 //! What is told of the site as a whole: its root, and what changed.
 ghost use Rattle.std.specs.Prelude.{◌≡◌, ◌++◌, OnOk, IsOkUnless, string_bytes};
-ghost use Rattle.mvd_http.specs.Json.{changes_text, root_text, truth_text};
+ghost use Rattle.mvd_http.specs.Json.{changes_text, root_json, truth_text};
 
 use crate::count_lists::push_key_list;
 use crate::json_words::{push_digest, push_number, push_word};
@@ -17,7 +17,7 @@ pub fn push_root(
     conflicts: u64,
     site: u32,
 ) -> Result<(), Refusal>
-    ensures text { OnOk result (string_bytes out.new ≡ string_bytes out.old ++ root_text digest keys conflicts site) }
+    ensures text { OnOk result (string_bytes out.new ≡ string_bytes out.old ++ root_json digest keys conflicts site) }
     ensures memory { IsOkUnless result Refusal.Memory }
 {
     push_word(out, "{\"root\":")?;

@@ -2,7 +2,8 @@
 ghost use Rattle.std.specs.Prelude.{◌≡◌};
 ghost use Rattle.hex.specs.Hex.{decode_sized};
 ghost use Rattle.mvd_dots.specs.Answer.{IsAnswer};
-ghost use Rattle.mvd_http.specs.Asked.{if_given, root_in as root_read, root_of as root_told, wait_in as wait_read, wait_of as wait_told};
+ghost use Rattle.mvd_http.specs.Asked.{if_given, root_in as root_read, root_asked as root_told, wait_in as wait_read};
+ghost use Rattle.mvd_http.specs.Asked.{wait_of as wait_told};
 
 use crate::place::number_in;
 use crate::target_parts::decoded;

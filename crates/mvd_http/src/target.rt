@@ -1,17 +1,18 @@
 //! The parts of a target.
 ghost use Rattle.std.specs.Prelude.{◌≡◌, ◌≤◌, length, option_copied};
-ghost use Rattle.mvd_http.specs.Paths.{before as front_of, behind as rest_of, given as value_of, place_of, without as left_behind, without_end as left_before};
+ghost use Rattle.mvd_http.specs.Paths.{text_before as front_of, text_behind as rest_of, given as value_of, position_of};
+ghost use Rattle.mvd_http.specs.Paths.{without as left_behind, without_end as left_before};
 
 /// How many bytes stand before the first one that is this.
 fn place_of(text: &[u8], byte: u8) -> usize
-    ensures value { result ≡ place_of byte text.now }
+    ensures value { result ≡ position_of byte text.now }
     ensures within { result ≤ length text.now }
 {
     text.iter().take_while(|b| **b != byte).count()
 }
 
 /// What stands before the first such byte, or the whole text.
-#[tactic(auto, unfolding(crate::specs::Paths::before))]
+#[tactic(auto, unfolding(crate::specs::Paths::text_before))]
 pub fn before(text: &[u8], byte: u8) -> &[u8]
     ensures { result.now ≡ front_of byte text.now }
 {
@@ -19,7 +20,7 @@ pub fn before(text: &[u8], byte: u8) -> &[u8]
 }
 
 /// What stands behind the first such byte, or nothing.
-#[tactic(auto, unfolding(crate::specs::Paths::behind))]
+#[tactic(auto, unfolding(crate::specs::Paths::text_behind))]
 pub fn behind(text: &[u8], byte: u8) -> &[u8]
     ensures { result.now ≡ rest_of byte text.now }
 {

@@ -9,12 +9,12 @@ use Rattle.mvd_wire.specs.declared.reply.Reply.{Reply}
 use Rattle.mvd_wire.specs.declared.reply.Reply.TheVariants.{Refused}
 use Rattle.mvd_kept.specs.Answer.{answer, change_of}
 use Rattle.mvd_kept.specs.AtOnce.{AnswersRequest}
-use Rattle.mvd_kept.specs.Change.{ChangeValue, reply_of}
+use Rattle.mvd_kept.specs.Change.{ChangeValue, change_reply}
 use Rattle.mvd_kept.specs.Config.{ConfigValue}
 use Rattle.mvd_kept.specs.FromStates.{Answered, AnswersFrom, after_from, answer_from, change_from, with_change}
 use Rattle.mvd_kept.specs.Held.{States}
 use Rattle.mvd_kept.specs.Installs.{broken_site, changed_site}
-use Rattle.mvd_kept.specs.Known.{Adds, Changes, IsValidRequest, MayReply}
+use Rattle.mvd_kept.specs.Known.{Adds, ChangesKey, IsValidRequest, MayReply}
 use Rattle.mvd_kept.specs.Prepared.{IsFrugal, IsPlain, PreparesAnswerFrom, PreparesChangeFrom, is_refusal}
 use Rattle.mvd_kept.specs.Sites.{AnswersOne, SiteValue}
 use Rattle.mvd_kept.proofs.Answered.{after_stands, answered, changed_alike, with_state-same}
@@ -63,7 +63,7 @@ request_told old request reply whole prepared plain valid = record {
 }
 
 -- its change is put in
-pub request_changed : (old new : SiteValue) (request : Request) (change : ChangeValue) (reply : Reply) → old.broken ≡ false → new ≡ changed_site old change → reply ≡ reply_of change.dot →
+pub request_changed : (old new : SiteValue) (request : Request) (change : ChangeValue) (reply : Reply) → old.broken ≡ false → new ≡ changed_site old change → reply ≡ change_reply change.dot →
     PreparesChangeFrom old.config old.states request change → IsValidRequest request → AnswersRequest old new request reply
 request_changed old new request change reply whole installed told prepared valid =
     let plain : IsPlain reply = subst IsPlain (sym told) (change_plain change.dot) in
@@ -119,7 +119,7 @@ module _ (old new : SiteValue) (request : Request) (reply : Reply) (does : Answe
 
 -- ---- and from the writes known
 
-changes_known : (config : ConfigValue) (m : States) (W : List Write) (request : Request) → Stands m W → after_from config m request ≢ m → Changes config W request
+changes_known : (config : ConfigValue) (m : States) (W : List Write) (request : Request) → Stands m W → after_from config m request ≢ m → ChangesKey config W request
 changes_known config m W request stands differs =
     elim (change_of W request (answer config W request)) as (λ o. change_from m request (answer_from config m request) ≡ o → IsSomeAnd o (λ change. change.1 ≢ state change.0 W)) [
       | None ↦ λ e. absurd (differs (ap (with_change m) e))

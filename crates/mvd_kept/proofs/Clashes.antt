@@ -12,14 +12,14 @@ use Rattle.mvd_keys.specs.Writes.{Key}
 use Rattle.mvd_keys.specs.declared.places.Place.{Place}
 use Rattle.mvd_rows.specs.Answers.{find_answer, range_answer, row_answer, rows_answer}
 use Rattle.mvd_rows.specs.Visible.{visible_in}
-use Rattle.mvd_tree.specs.Page.{is_more_after_page, page_of}
+use Rattle.mvd_tree.specs.Page.{is_more_after_page, bucket_page}
 use Rattle.mvd_wire.specs.declared.request.Request.{Request}
 use Rattle.mvd_wire.specs.declared.request.Request.TheVariants.{Get, Put, Delete, Find, Row, Rows, Node, Bucket, Push, Range, Keys, Conflicts, Hello, Bye}
 use Rattle.mvd_wire.specs.declared.reply.Reply.{Reply}
 use Rattle.mvd_wire.specs.declared.reply.Reply.TheVariants.{Written, Done, Keys as KeysTold, Refused}
 use Rattle.mvd_kept.specs.Answer.{digests, is_too_large, places_reply, row_reply, rows_reply}
 use Rattle.mvd_kept.specs.Config.{ConfigValue}
-use Rattle.mvd_kept.specs.FromStates.{IsClash, answer_from, put_from}
+use Rattle.mvd_kept.specs.FromStates.{IsClashingPush, answer_from, put_from}
 use Rattle.mvd_kept.specs.Held.{States, state_at}
 use Rattle.mvd_kept.proofs.Answered.{limited_cases}
 use Rattle.mvd_kept.proofs.Listed.{find_refuses, range_refuses, row_refuses, rows_refuses}
@@ -60,7 +60,7 @@ module _ (r : Refusal) (exhausted : r ≢ Exhausted) (large : r ≢ StateTooLarg
   refuses_not config m (Rows name after) P push e = absurd (rows_not (rows_answer config.defs (visible_in m) name after) (rows_refuses config.defs (visible_in m) name after r view) e)
   refuses_not config m (Node at) P push e = cc
   refuses_not config m (Bucket at after) P push e =
-      absurd (elim (length at == 3) as (λ b. IsNot (if b then KeysTold (page_of (digests m) at after) (is_more_after_page (digests m) at after) else Refused BadPath)) [
+      absurd (elim (length at == 3) as (λ b. IsNot (if b then KeysTold (bucket_page (digests m) at after) (is_more_after_page (digests m) at after) else Refused BadPath)) [
         | true ↦ λ e. cc
         | false ↦ λ e. path (sym (refusal_is BadPath r e))
       ] e)
@@ -70,10 +70,10 @@ module _ (r : Refusal) (exhausted : r ≢ Exhausted) (large : r ≢ StateTooLarg
   refuses_not config m Bye P push e = cc
 
 -- a clash is told of a push alone, of a state that clashes with the key's
-pub clash_alone : (config : ConfigValue) (m : States) (request : Request) → answer_from config m request ≡ Refused DotClash → IsClash m request
+pub clash_alone : (config : ConfigValue) (m : States) (request : Request) → answer_from config m request ≡ Refused DotClash → IsClashingPush m request
 clash_alone config m request e =
-    refuses_not DotClash (λ d. cc) (λ d. cc) (λ d. cc) (λ d. cc) (λ d. cc) (λ d. cc) config m request (IsClash m request)
-    (λ key pushed is. subst (IsClash m) (sym is) (clash_is config m key pushed (is_too_large pushed) (clashes (state_at m key) pushed) (sym (subst (λ q. answer_from config m q ≡ Refused DotClash) is e)))) e
+    refuses_not DotClash (λ d. cc) (λ d. cc) (λ d. cc) (λ d. cc) (λ d. cc) (λ d. cc) config m request (IsClashingPush m request)
+    (λ key pushed is. subst (IsClashingPush m) (sym is) (clash_is config m key pushed (is_too_large pushed) (clashes (state_at m key) pushed) (sym (subst (λ q. answer_from config m q ≡ Refused DotClash) is e)))) e
 
 -- that a site is broken is no answer
 pub no_answer_broken : (config : ConfigValue) (m : States) (request : Request) → answer_from config m request ≢ Refused Broken

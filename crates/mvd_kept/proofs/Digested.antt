@@ -18,7 +18,7 @@ use Rattle.mvd_rows.specs.Stands.{IsRowsOf}
 use Rattle.mvd_rows.specs.declared.changes.Rows.{Rows}
 use Rattle.mvd_tree.specs.Change.{changed}
 use Rattle.mvd_tree.specs.HashTree.{KeyDigests, digest_above, digest_unless_empty, digits, is_under, node_digest, zero_digest}
-use Rattle.mvd_tree.specs.Page.{children_digests, is_after, page_of, rest_of}
+use Rattle.mvd_tree.specs.Page.{children_digests, is_after, bucket_page, keys_after}
 use Rattle.mvd_tree.specs.States.{key_digest}
 use Rattle.mvd_tree.proofs.Held.{digests_of-empty, digests_of-entries, digests_of-insert}
 use Rattle.mvd_tree.proofs.KeyDigests.{Each, get-digests_of, got_each}
@@ -141,8 +141,8 @@ module _ (states : States) (kept : AreHeld states) (path : List ℕ) (after : Op
       let digest : key_digest spelled e.0 s ≡ e.1 = cc in
       record { key = kept.key e.0 s found; digest = ap length (sym digest) ∙ length_digest e.0 s }
 
-  one_entry : (e : Key × List ℕ) → get (rest_of (digests states) path after) e.0 ≡ Some e.1 → IsEntry e
-  unfolding rest_of
+  one_entry : (e : Key × List ℕ) → get (keys_after (digests states) path after) e.0 ≡ Some e.1 → IsEntry e
+  unfolding keys_after
   one_entry e found =
       elim (is_under path e.0 && is_after after e.0) as (λ b. cond b (get (digests states) e.0) None ≡ Some e.1 → IsEntry e) [
         | true ↦ λ is. held_entry e (get states e.0) refl (sym (get-digests_of spelled states e.0) ∙ is)
@@ -150,14 +150,14 @@ module _ (states : States) (kept : AreHeld states) (path : List ℕ) (after : Op
       ] (sym (get-retain_keys (digests states) (λ key. is_under path key && is_after after key) e.0
       (λ x tie. ap (λ key. is_under path key && is_after after key) (sym (key_antisymmetric e.0 x tie)))) ∙ found)
 
-  each_taken : (n : ℕ) (es : List (Key × List ℕ)) → Each (λ e. get (rest_of (digests states) path after) e.0 ≡ Some e.1) es → AllByRecursion IsEntry (take n es)
+  each_taken : (n : ℕ) (es : List (Key × List ℕ)) → Each (λ e. get (keys_after (digests states) path after) e.0 ≡ Some e.1) es → AllByRecursion IsEntry (take n es)
   each_taken zero es all = tt
   each_taken (suc n) [] all = tt
   each_taken (suc n) (e ∷ es) all = (one_entry e all.0, each_taken n es all.1)
 
   -- a page of a bucket has keys with digests
-  pub page_entries : AllByRecursion IsEntry (page_of (digests states) path after)
-  page_entries = each_taken 1000 (entries (rest_of (digests states) path after)) (got_each key_total (rest_of (digests states) path after))
+  pub page_entries : AllByRecursion IsEntry (bucket_page (digests states) path after)
+  page_entries = each_taken 1000 (entries (keys_after (digests states) path after)) (got_each key_total (keys_after (digests states) path after))
 
-pub short_page : (held : KeyDigests) (path : List ℕ) (after : Option Key) → length (page_of held path after) ≤ 1000
-short_page held path after = subst (λ n. n ≤ 1000) (sym (length-take 1000 (entries (rest_of held path after)))) (omega arith)
+pub short_page : (held : KeyDigests) (path : List ℕ) (after : Option Key) → length (bucket_page held path after) ≤ 1000
+short_page held path after = subst (λ n. n ≤ 1000) (sym (length-take 1000 (entries (keys_after held path after)))) (omega arith)

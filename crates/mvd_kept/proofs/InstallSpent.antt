@@ -30,7 +30,7 @@ use Rattle.mvd_kept.specs.Change.{ChangeValue}
 use Rattle.mvd_kept.specs.Config.{ConfigValue}
 use Rattle.mvd_kept.specs.Costs.{Costs}
 use Rattle.mvd_kept.specs.Held.{States}
-use Rattle.mvd_kept.specs.Installs.{InstallCosts, TreeCosts, bytes_in, bytes_of, changes_in, digests_in, is_change, moved_in, moved_of, with_group, with_prepared}
+use Rattle.mvd_kept.specs.Installs.{InstallCosts, TreeCosts, byte_count_in, byte_count_of, changes_in, digests_in, is_change, moved_in, moved_of, with_group, with_prepared}
 use Rattle.mvd_kept.specs.Sites.{SiteValue}
 use Rattle.mvd_kept.specs.declared.prepared.Prepared.{Prepared}
 use Rattle.mvd_kept.specs.declared.prepared.Prepared.TheVariants.{Answer, Change}
@@ -51,7 +51,7 @@ pub changes_more : (group : List Prepared) (prepared : Prepared) → changes_in 
 changes_more [] prepared = omega arith
 changes_more (p ∷ group) prepared = let rest = changes_more group prepared in omega (arith, rest)
 
-bytes_more : (group : List Prepared) (prepared : Prepared) → bytes_in (group ++ prepared ∷ []) ≡ bytes_in group + bytes_of prepared
+bytes_more : (group : List Prepared) (prepared : Prepared) → byte_count_in (group ++ prepared ∷ []) ≡ byte_count_in group + byte_count_of prepared
 bytes_more [] prepared = omega arith
 bytes_more (p ∷ group) prepared = let rest = bytes_more group prepared in omega (arith, rest)
 
@@ -80,24 +80,24 @@ module _ (group : List Prepared) (i : ℕ) (item : Prepared) (low : i < length g
       so_far ∙ sym (append-nil (digests_in (take i group))) ∙ ap (λ l. digests_in (take i group) ++ l) (sym (ap (λ p. digests_in (p ∷ [])) reply-is))
       ∙ sym (digests_more (take i group) item) ∙ ap digests_in (sym next)
 
-  pub counts_next : (change : ChangeValue) (a b c : Hashed) → item ≡ Change change → Hashes (2 * changes_in (take i group)) (bytes_in (take i group) + changed_bytes (digests_in (take i group))) a b
+  pub counts_next : (change : ChangeValue) (a b c : Hashed) → item ≡ Change change → Hashes (2 * changes_in (take i group)) (byte_count_in (take i group) + changed_bytes (digests_in (take i group))) a b
       → Hashes 2 (length (spelled change.key change.state) + length change.key) b c
-      → Hashes (2 * changes_in (take (i + 1) group)) (bytes_in (take (i + 1) group) + changed_bytes (digests_in (take (i + 1) group))) a c
+      → Hashes (2 * changes_in (take (i + 1) group)) (byte_count_in (take (i + 1) group) + changed_bytes (digests_in (take (i + 1) group))) a c
   counts_next change a b c change-is so_far one =
       let changes = ap changes_in next ∙ changes_more (take i group) item ∙ ap (λ p. changes_in (take i group) + is_change p) change-is in
-      let bytes = ap bytes_in next ∙ bytes_more (take i group) item ∙ ap (λ p. bytes_in (take i group) + bytes_of p) change-is in
+      let bytes = ap byte_count_in next ∙ bytes_more (take i group) item ∙ ap (λ p. byte_count_in (take i group) + byte_count_of p) change-is in
       let keys = ap changed_bytes (ap digests_in next ∙ digests_more (take i group) item ∙ ap (λ p. digests_in (take i group) ++ digests_in (p ∷ [])) change-is)
       ∙ sum_by_push (λ (e : Key × Option (List ℕ)). length e.0) (digests_in (take i group)) (change.key, Some (digest_of change)) in
-      hashes_then (2 * changes_in (take i group)) (bytes_in (take i group) + changed_bytes (digests_in (take i group))) 2 (length (spelled change.key change.state) + length change.key) _ _ a b c
+      hashes_then (2 * changes_in (take i group)) (byte_count_in (take i group) + changed_bytes (digests_in (take i group))) 2 (length (spelled change.key change.state) + length change.key) _ _ a b c
       (omega (arith, changes)) (omega (arith, bytes, keys)) so_far one
 
-  pub counts_skip : (reply : Reply) (a b : Hashed) → item ≡ Answer reply → Hashes (2 * changes_in (take i group)) (bytes_in (take i group) + changed_bytes (digests_in (take i group))) a b
-      → Hashes (2 * changes_in (take (i + 1) group)) (bytes_in (take (i + 1) group) + changed_bytes (digests_in (take (i + 1) group))) a b
+  pub counts_skip : (reply : Reply) (a b : Hashed) → item ≡ Answer reply → Hashes (2 * changes_in (take i group)) (byte_count_in (take i group) + changed_bytes (digests_in (take i group))) a b
+      → Hashes (2 * changes_in (take (i + 1) group)) (byte_count_in (take (i + 1) group) + changed_bytes (digests_in (take (i + 1) group))) a b
   counts_skip reply a b reply-is so_far =
       let changes = ap changes_in next ∙ changes_more (take i group) item ∙ ap (λ p. changes_in (take i group) + is_change p) reply-is in
-      let bytes = ap bytes_in next ∙ bytes_more (take i group) item ∙ ap (λ p. bytes_in (take i group) + bytes_of p) reply-is in
+      let bytes = ap byte_count_in next ∙ bytes_more (take i group) item ∙ ap (λ p. byte_count_in (take i group) + byte_count_of p) reply-is in
       let keys = ap changed_bytes (sym (digests_skip reply (digests_in (take i group)) reply-is refl)) in
-      hashes_then (2 * changes_in (take i group)) (bytes_in (take i group) + changed_bytes (digests_in (take i group))) 0 0 _ _ a b b (omega (arith, changes)) (omega (arith, bytes, keys)) so_far (no_hash b)
+      hashes_then (2 * changes_in (take i group)) (byte_count_in (take i group) + changed_bytes (digests_in (take i group))) 0 0 _ _ a b b (omega (arith, changes)) (omega (arith, bytes, keys)) so_far (no_hash b)
 
 -- the first have no more than all
 few_changes : (n : ℕ) (group : List Prepared) → changes_in (take n group) ≤ changes_in group
@@ -105,8 +105,8 @@ few_changes n [] = subst (λ l. changes_in l ≤ 0) (sym (take-nil n)) (omega ar
 few_changes zero (p ∷ group) = omega arith
 few_changes (suc n) (p ∷ group) = let rest = few_changes n group in omega (arith, rest)
 
-few_bytes : (n : ℕ) (group : List Prepared) → bytes_in (take n group) ≤ bytes_in group
-few_bytes n [] = subst (λ l. bytes_in l ≤ 0) (sym (take-nil n)) (omega arith)
+few_bytes : (n : ℕ) (group : List Prepared) → byte_count_in (take n group) ≤ byte_count_in group
+few_bytes n [] = subst (λ l. byte_count_in l ≤ 0) (sym (take-nil n)) (omega arith)
 few_bytes zero (p ∷ group) = omega arith
 few_bytes (suc n) (p ∷ group) = let rest = few_bytes n group in omega (arith, rest)
 
@@ -119,13 +119,13 @@ few_keys (suc n) (Change change ∷ group) =
     let first = sum_by-cons (λ (e : Key × Option (List ℕ)). length e.0) (change.key, Some (digest_of change)) (digests_in (take n group)) in
     let all = sum_by-cons (λ (e : Key × Option (List ℕ)). length e.0) (change.key, Some (digest_of change)) (digests_in group) in omega (arith, rest, first, all)
 
-pub counts_part : (n : ℕ) (group : List Prepared) (a b : Hashed) → Hashes (2 * changes_in (take n group)) (bytes_in (take n group) + changed_bytes (digests_in (take n group))) a b
-    → Hashes (2 * changes_in group) (bytes_in group + changed_bytes (digests_in group)) a b
+pub counts_part : (n : ℕ) (group : List Prepared) (a b : Hashed) → Hashes (2 * changes_in (take n group)) (byte_count_in (take n group) + changed_bytes (digests_in (take n group))) a b
+    → Hashes (2 * changes_in group) (byte_count_in group + changed_bytes (digests_in group)) a b
 counts_part n group a b so_far =
     let changes = few_changes n group in
     let bytes = few_bytes n group in
     let keys = few_keys n group in
-    hashes_then (2 * changes_in (take n group)) (bytes_in (take n group) + changed_bytes (digests_in (take n group))) 0 0 _ _ a b b (omega (arith, changes)) (omega (arith, bytes, keys)) so_far (no_hash b)
+    hashes_then (2 * changes_in (take n group)) (byte_count_in (take n group) + changed_bytes (digests_in (take n group))) 0 0 _ _ a b b (omega (arith, changes)) (omega (arith, bytes, keys)) so_far (no_hash b)
 
 -- ---- keys in buckets, as more are put in
 
@@ -166,12 +166,12 @@ front_grows held p (suc n) (Change change ∷ group) = front_grows (changed held
 
 -- ---- what the hash tree takes
 
-module _ (group : List Prepared) (held grown : KeyDigests) (a b c : Hashed) (digested : Hashes (2 * changes_in group) (bytes_in group + changed_bytes (digests_in group)) a b) where
+module _ (group : List Prepared) (held grown : KeyDigests) (a b c : Hashed) (digested : Hashes (2 * changes_in group) (byte_count_in group + changed_bytes (digests_in group)) a b) where
   both_take : keys_touched grown (digests_in group) ≤ keys_touched (changed_all held (digests_in group)) (digests_in group)
       → Hashes (count_touched 0 (digests_in group) + inner_touched (digests_in group)) (32 * keys_touched grown (digests_in group) + 512 * inner_touched (digests_in group)) b c
       → TreeCosts held group a c
   both_take few hashes =
-      hashes_then (2 * changes_in group) (bytes_in group + changed_bytes (digests_in group)) _ _ _ _ a b c (omega arith) (omega (arith, few)) digested hashes
+      hashes_then (2 * changes_in group) (byte_count_in group + changed_bytes (digests_in group)) _ _ _ _ a b c (omega arith) (omega (arith, few)) digested hashes
 
   takes : (result : Result ⊤ Refusal) → ChangesAll (digests_in group) held grown result b c → TreeCosts held group a c
   takes (Ok done) changes = both_take (let same = ap (λ m. keys_touched m (digests_in group)) changes.ok in omega (arith, same)) changes.hashes

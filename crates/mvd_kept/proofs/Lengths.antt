@@ -5,7 +5,7 @@ use Rattle.mvd_keys.proofs.Lists.{IsValid-empty}
 use Rattle.std.proofs.lemmas.Bool.Decides.{nat_tests}
 use Rattle.mvd_dots.specs.declared.refusals.Refusal.TheVariants.{StateTooLarge}
 use Rattle.mvd_wire.specs.Codec.{spelled_within}
-use Rattle.mvd_wire.specs.Codecs.{layout2, spell_state, state, state_limit}
+use Rattle.mvd_wire.specs.Codecs.{layout2, spell_state, state_codec, state_limit}
 use Rattle.mvd_wire.proofs.Spellings.{length_empty}
 use Rattle.mvd_kept.specs.Answer.{is_too_large}
 use Rattle.mvd_kept.specs.Held.{IsKept}
@@ -31,6 +31,6 @@ le-true : (n limit : ℕ) → n ≤ limit → nat_le n limit ≡ true
 le-true n limit low = grind (arith, nat_tests)
 
 -- what a state within the limit is spelled as
-pub spelled : (s : State) → length (spell_state s) ≤ state_limit → spelled_within StateTooLarge state_limit (state layout2) s ≡ Ok (spell_state s)
+pub spelled : (s : State) → length (spell_state s) ≤ state_limit → spelled_within StateTooLarge state_limit (state_codec layout2) s ≡ Ok (spell_state s)
 unfolding spell_state
 spelled s low = ap (λ b. if b then Ok (spell_state s) else Err StateTooLarge) (le-true (length (spell_state s)) state_limit low)

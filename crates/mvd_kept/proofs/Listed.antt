@@ -27,7 +27,7 @@ use Rattle.mvd_keys.specs.Writes.{Key}
 use Rattle.mvd_keys.specs.declared.places.Place.{Place}
 use Rattle.mvd_keys.proofs.KeyOrder.{key_total}
 use Rattle.mvd_keys.proofs.PlaceOrder.{place_antisymmetric, place_total}
-use Rattle.mvd_rows.specs.Answers.{find_answer, group_of, groups_in, is_after, is_after_place, is_after_term, is_between, page_of, place_at, place_of, places_in, range_answer, row_answer, row_of_view, rows_answer, rows_of_view, shown, view_in, view_named}
+use Rattle.mvd_rows.specs.Answers.{find_answer, group_of, groups_in, is_place_after, is_after_place, is_after_term, is_between, page_of, place_at, place_of, places_in, range_answer, row_answer, row_of_view, rows_answer, rows_of_view, shown, view_in, view_named}
 use Rattle.mvd_rows.specs.Defs.{Definitions, has_index}
 use Rattle.mvd_rows.specs.Marks.{spots_exact, spots_total}
 use Rattle.mvd_rows.specs.Siblings.{begins_with, conflicts_answer, conflicts_in, is_after_key, is_conflict, keys_answer, sibling_count, sibling_counts}
@@ -198,8 +198,8 @@ ok_is x y e = cc
 
 pub found_page : (defs : Definitions) (states : States) (field : List ℕ) (term : Term) (after : Option (Key × DotValue)) (page : List Place) (more : Bool) → AreHeld states → find_answer defs (visible_in states) field term after ≡ Ok (page, more) → IsShortPage IsShortPlace page
 found_page defs states field term after page more kept is =
-    elim (has_index defs.indexes field) as (λ b. (if b then Ok (page_of (filter (λ p. eq_by_cmp term_cmp term p.term && is_after after p) (places_in field (visible_in states)))) else Err NoIndex) ≡ Ok (page, more) → IsShortPage IsShortPlace page) [
-      | true ↦ λ e. page_is_short IsShortPlace (λ p. eq_by_cmp term_cmp term p.term && is_after after p) (places_in field (visible_in states)) page more (places_are_short states kept field) (ok_is _ _ e)
+    elim (has_index defs.indexes field) as (λ b. (if b then Ok (page_of (filter (λ p. eq_by_cmp term_cmp term p.term && is_place_after after p) (places_in field (visible_in states)))) else Err NoIndex) ≡ Ok (page, more) → IsShortPage IsShortPlace page) [
+      | true ↦ λ e. page_is_short IsShortPlace (λ p. eq_by_cmp term_cmp term p.term && is_place_after after p) (places_in field (visible_in states)) page more (places_are_short states kept field) (ok_is _ _ e)
       | false ↦ λ e. cc
     ] is
 
@@ -259,7 +259,7 @@ few_conflicts states =
 
 pub find_refuses : (defs : Definitions) (visible : Visible) (field : List ℕ) (term : Term) (after : Option (Key × DotValue)) (refusal : Refusal) → refusal ≢ NoIndex → find_answer defs visible field term after ≢ Err refusal
 find_refuses defs visible field term after refusal other is =
-    elim (has_index defs.indexes field) as (λ b. (if b then Ok (page_of (filter (λ p. eq_by_cmp term_cmp term p.term && is_after after p) (places_in field visible))) else Err NoIndex) ≡ Err refusal → ⊥) [
+    elim (has_index defs.indexes field) as (λ b. (if b then Ok (page_of (filter (λ p. eq_by_cmp term_cmp term p.term && is_place_after after p) (places_in field visible))) else Err NoIndex) ≡ Err refusal → ⊥) [
       | true ↦ λ e. cc
       | false ↦ λ e. other (cc)
     ] is

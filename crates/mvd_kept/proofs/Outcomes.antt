@@ -9,7 +9,7 @@ use Rattle.mvd_keys.specs.State.{State, Text, after_put, clashes, join, join_ans
 use Rattle.mvd_wire.specs.declared.reply.Reply.TheVariants.{Written, Done, Refused}
 use Rattle.mvd_wire.specs.Replies.{CanBeSent}
 use Rattle.mvd_wire.proofs.SentFrames.{short_can_be_sent}
-use Rattle.mvd_kept.specs.Change.{reply_of}
+use Rattle.mvd_kept.specs.Change.{change_reply}
 use Rattle.mvd_kept.specs.Prepared.{IsPlain}
 
 pub memory_or_not : (refusal : Refusal) → (refusal ≡ Memory) ⊎ (refusal ≢ Memory)
@@ -67,6 +67,6 @@ pub refused_fits : (refusal : Refusal) → CanBeSent (Refused refusal)
 refused_fits refusal = short_can_be_sent (Refused refusal) refl
 
 -- what a change is answered with is no refusal
-pub change_plain : (dot : Option DotValue) → IsPlain (reply_of dot)
+pub change_plain : (dot : Option DotValue) → IsPlain (change_reply dot)
 change_plain None = record { accepts = refl; fits = short_can_be_sent Done refl }
 change_plain (Some dot) = record { accepts = refl; fits = short_can_be_sent (Written dot) refl }

@@ -16,11 +16,11 @@ use Rattle.mvd_wire.specs.declared.request.Request.TheVariants.{Put, Delete, Pus
 use Rattle.mvd_wire.specs.declared.reply.Reply.{Reply}
 use Rattle.mvd_wire.specs.declared.reply.Reply.TheVariants.{Written, Done, Refused}
 use Rattle.mvd_kept.specs.Answer.{answer, change_of, is_too_large}
-use Rattle.mvd_kept.specs.Change.{ChangeValue, reply_of}
+use Rattle.mvd_kept.specs.Change.{ChangeValue, change_reply}
 use Rattle.mvd_kept.specs.Config.{ConfigValue}
 use Rattle.mvd_kept.specs.FromStates.{AnswersFrom, answer_from, change_from, put_from, with_change, within}
 use Rattle.mvd_kept.specs.Held.{States, state_at}
-use Rattle.mvd_kept.specs.Known.{Adds, Changes, MayReply}
+use Rattle.mvd_kept.specs.Known.{Adds, ChangesKey, MayReply}
 use Rattle.mvd_kept.specs.Prepared.{LimitsTo, Prepares, PreparesAnswer, PreparesAnswerFrom, PreparesAt}
 use Rattle.mvd_kept.specs.Prepared.{PreparesChange, PreparesChangeFrom, PreparesFrom, PreparesFromStates, PreparesReply}
 use Rattle.mvd_kept.specs.Sites.{AnswersOne, SiteValue}
@@ -33,8 +33,8 @@ use Rattle.mvd_kept.proofs.Steps.{Adds-change_of, Adds-nothing, IsFresh, Stands-
 
 -- a request whose answer is its reply within the limits
 pub limited : (site : SiteValue) (request : Request) (key : Key) (after : State) (dot : Option DotValue) (result : Result Prepared Refusal) →
-    answer_from site.config site.states request ≡ within site.config site.states key after (reply_of dot) →
-    change_from site.states request (reply_of dot) ≡ Some (key, after) →
+    answer_from site.config site.states request ≡ within site.config site.states key after (change_reply dot) →
+    change_from site.states request (change_reply dot) ≡ Some (key, after) →
     LimitsTo site key after dot result → PreparesFrom site.config site.states request result
 limited site request key after dot (Err refusal) is leaves gives = ⊎_elim (λ full. inl (sym (is ∙ full))) (λ memory. inr memory) gives
 limited site request key after dot (Ok (Answer reply)) is leaves gives =
@@ -127,7 +127,7 @@ prepares_known config states known request (Ok (Answer reply)) stands gives =
     changed_alike config states known request stands ∙ ap (change_of known request) (sym is) in
     record { answers = is; still = subst (λ o. IfSome o (λ c. c.1 ≡ state c.0 known)) change (still_known states known _ stands gives.still) }
 prepares_known config states known request (Ok (Change change)) stands gives =
-    let is : reply_of change.dot ≡ answer config known request = gives.answers ∙ answered config states known request stands in
+    let is : change_reply change.dot ≡ answer config known request = gives.answers ∙ answered config states known request stands in
     record {
       answers = is;
       leaves = ap (change_of known request) is ∙ sym (changed_alike config states known request stands) ∙ gives.leaves;
@@ -161,7 +161,7 @@ answers_by_answer old request reply whole prepared = record {
 
 -- and one whose change was installed
 pub answers_by_change : (old new : SiteValue) (request : Request) (change : ChangeValue) (reply : Reply) → old.broken ≡ false → new ≡ record { config = old.config; states = insert_at old.states change.key change.state; broken = false } →
-    is_empty change.state.context ≡ false → reply ≡ reply_of change.dot →
+    is_empty change.state.context ≡ false → reply ≡ change_reply change.dot →
     ((known : List Write) → Stands old.states known → PreparesChange old.config known request change) → AnswersOne old new request reply
 answers_by_change old new request change reply whole installed seen told prepared = record {
   replies = λ known stands.
@@ -198,7 +198,7 @@ pub answers_by_breaking : (old new : SiteValue) (request : Request) (change : Ch
 answers_by_breaking old new request change whole broken prepared = record {
   replies = λ known stands.
       let here : PreparesChange old.config known request change = prepared known (stands whole) in
-      let changes : Changes old.config known request =
+      let changes : ChangesKey old.config known request =
       subst (λ o. IsSomeAnd o (λ c. c.1 ≢ state c.0 known)) (sym (ap (change_of known request) (sym here.answers) ∙ here.leaves)) here.differs in
       subst (λ b. MayReply old.config known b request (Refused Broken) new.broken) (sym whole) (subst (λ b. MayReply old.config known false request (Refused Broken) b) (sym broken) (refl, changes));
   stands = λ known added stands adds unbroken. absurd (true≢false (sym broken ∙ unbroken));
@@ -230,7 +230,7 @@ answers_from_answer old request reply prepared whole =
     inl (record { answers = here.answers; site = whole_site old _ whole here.after })
 
 pub answers_from_change : (old new : SiteValue) (request : Request) (change : ChangeValue) (reply : Reply) →
-    new ≡ record { config = old.config; states = insert_at old.states change.key change.state; broken = false } → reply ≡ reply_of change.dot →
+    new ≡ record { config = old.config; states = insert_at old.states change.key change.state; broken = false } → reply ≡ change_reply change.dot →
     (old.broken ≡ false → PreparesChangeFrom old.config old.states request change) → AnswersFrom old new request reply
 answers_from_change old new request change reply installed told prepared whole =
     let here : PreparesChangeFrom old.config old.states request change = prepared whole in

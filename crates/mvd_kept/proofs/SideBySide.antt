@@ -16,7 +16,7 @@ use Rattle.mvd_wire.specs.declared.request.Request.TheVariants.{Delete, Push, Pu
 use Rattle.mvd_wire.specs.declared.reply.Reply.{Reply}
 use Rattle.mvd_wire.specs.declared.reply.Reply.TheVariants.{Done, Refused, Written}
 use Rattle.mvd_kept.specs.Answer.{is_too_large}
-use Rattle.mvd_kept.specs.Change.{ChangeValue, reply_of}
+use Rattle.mvd_kept.specs.Change.{ChangeValue, change_reply}
 use Rattle.mvd_kept.specs.Config.{ConfigValue}
 use Rattle.mvd_kept.specs.FromStates.{answer_from, change_from, put_from, with_change, with_state, within}
 use Rattle.mvd_kept.specs.Held.{States, state_at}
@@ -28,8 +28,8 @@ same_state : (m n : States) (key : Key) → get n key ≡ get m key → state_at
 same_state m n key same = ap (λ o. unwrap_or o empty_state) same
 
 -- what was within the limits stays there while there is room
-limits : (large full other seen : Bool) (dot : Option DotValue) (reply : Reply) → (if large then Refused StateTooLarge else if full && seen then Refused Full else reply) ≡ reply_of dot → other ≡ false →
-    (if large then Refused StateTooLarge else if other && seen then Refused Full else reply) ≡ reply_of dot
+limits : (large full other seen : Bool) (dot : Option DotValue) (reply : Reply) → (if large then Refused StateTooLarge else if full && seen then Refused Full else reply) ≡ change_reply dot → other ≡ false →
+    (if large then Refused StateTooLarge else if other && seen then Refused Full else reply) ≡ change_reply dot
 limits true full other seen dot reply is room = is
 limits false true other true None reply is room = cc
 limits false true other true (Some dot) reply is room = cc
@@ -37,19 +37,19 @@ limits false true other false dot reply is room = ap (λ b. if b && false then R
 limits false false other seen dot reply is room = ap (λ b. if b && seen then Refused Full else reply) room ∙ is
 
 within_still : (config : ConfigValue) (m n : States) (key : Key) (s : State) (reply : Reply) (dot : Option DotValue) → has_no_room config n key ≡ false →
-    within config m key s reply ≡ reply_of dot → within config n key s reply ≡ reply_of dot
+    within config m key s reply ≡ change_reply dot → within config n key s reply ≡ change_reply dot
 within_still config m n key s reply dot room is = limits (is_too_large s) (has_no_room config m key) (has_no_room config n key) (not (is_empty s.context)) dot reply is room
 
 put_still : (config : ConfigValue) (m n : States) (key : Key) (seen : DotSet) (document : Text) (next : Option DotValue) (dot : Option DotValue) → get n key ≡ get m key → has_no_room config n key ≡ false →
-    put_from config m key seen document next ≡ reply_of dot → put_from config n key seen document next ≡ reply_of dot
+    put_from config m key seen document next ≡ change_reply dot → put_from config n key seen document next ≡ change_reply dot
 put_still config m n key seen document None dot same room is = is
 put_still config m n key seen document (Some new) dot same room is =
     ap (λ s. within config n key (after_put s new seen document) (Written new)) (same_state m n key same)
     ∙ within_still config m n key (after_put (state_at m key) new seen document) (Written new) dot room is
 
-pushes : (large clash : Bool) (reply other : Reply) (dot : Option DotValue) → (reply ≡ reply_of dot → other ≡ reply_of dot) →
-    (if large then Refused StateTooLarge else if clash then Refused DotClash else reply) ≡ reply_of dot →
-    (if large then Refused StateTooLarge else if clash then Refused DotClash else other) ≡ reply_of dot
+pushes : (large clash : Bool) (reply other : Reply) (dot : Option DotValue) → (reply ≡ change_reply dot → other ≡ change_reply dot) →
+    (if large then Refused StateTooLarge else if clash then Refused DotClash else reply) ≡ change_reply dot →
+    (if large then Refused StateTooLarge else if clash then Refused DotClash else other) ≡ change_reply dot
 pushes true clash reply other dot still is = is
 pushes false true reply other dot still is = is
 pushes false false reply other dot still is = still is
@@ -74,7 +74,7 @@ change_still m n (Push key pushed) Done c same is =
 change_still m n request reply c same is = cc
 
 answer_still : (config : ConfigValue) (m n : States) (request : Request) (dot : Option DotValue) (c : Key × State) → get n c.0 ≡ get m c.0 → has_no_room config n c.0 ≡ false →
-    change_from m request (reply_of dot) ≡ Some c → answer_from config m request ≡ reply_of dot → answer_from config n request ≡ reply_of dot
+    change_from m request (change_reply dot) ≡ Some c → answer_from config m request ≡ change_reply dot → answer_from config n request ≡ change_reply dot
 answer_still config m n (Put key seen document) (Some dot) c same room leaves is =
     let s : State = after_put (state_at m key) dot seen document in
     let here : get n key ≡ get m key = at_key m n key s c leaves same in
@@ -103,10 +103,10 @@ now_still : (config : ConfigValue) (m n : States) (request : Request) (change : 
     PreparesChangeFrom config m request change → PreparesChangeFrom config n request change
 now_still config m n request change same room was =
     let c : Key × State = (change.key, change.state) in
-    let told : answer_from config m request ≡ reply_of change.dot = sym was.answers in
-    let left : change_from m request (reply_of change.dot) ≡ Some c = ap (change_from m request) was.answers ∙ was.leaves in
-    let is : answer_from config n request ≡ reply_of change.dot = answer_still config m n request change.dot c same room left told in
-    let leaves : change_from n request (answer_from config n request) ≡ Some c = ap (change_from n request) is ∙ change_still m n request (reply_of change.dot) c same left in
+    let told : answer_from config m request ≡ change_reply change.dot = sym was.answers in
+    let left : change_from m request (change_reply change.dot) ≡ Some c = ap (change_from m request) was.answers ∙ was.leaves in
+    let is : answer_from config n request ≡ change_reply change.dot = answer_still config m n request change.dot c same room left told in
+    let leaves : change_from n request (answer_from config n request) ≡ Some c = ap (change_from n request) is ∙ change_still m n request (change_reply change.dot) c same left in
     let seen : is_empty change.state.context ≡ false = change_seen m change.key change.state was.differs (sym (ap (with_change m) was.leaves) ∙ was.after) in
     record {
       answers = sym is;

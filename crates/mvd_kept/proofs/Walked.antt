@@ -24,7 +24,7 @@ use Rattle.mvd_rows.specs.Pages.{IsPageOf}
 use Rattle.mvd_tree.proofs.KeyDigests.{Each, got_each}
 use Rattle.mvd_wire.specs.Prefix.{is_prefix}
 use Rattle.mvd_kept.specs.Held.{AreHeld, States}
-use Rattle.mvd_kept.specs.Walk.{first_of, is_at_prefix, start_of, while_begins}
+use Rattle.mvd_kept.specs.Walk.{first_of, is_at_prefix, walk_start, while_begins}
 use Rattle.mvd_kept.proofs.Room.{few_siblings}
 
 abbrev Entry : Type 0
@@ -135,27 +135,27 @@ low_after prefix key after late is =
           (sym (ap is_lt (key_total.trans after key prefix (less_is _ is) (key_total.antisymm key prefix ∙ ap ordering_reverse beyond))) ∙ late))
     ] refl
 
-from_low : (prefix key : List ℕ) (after : Option Key) → is_from_start key_cmp (start_of (first_of prefix after) after) key ≡ true → is_gt (key_cmp prefix key) ≡ false
+from_low : (prefix key : List ℕ) (after : Option Key) → is_from_start key_cmp (walk_start (first_of prefix after) after) key ≡ true → is_gt (key_cmp prefix key) ≡ false
 from_low prefix key None is =
-    elim (nat_lt 0 (length prefix)) as (λ b. nat_lt 0 (length prefix) ≡ b → is_from_start key_cmp (start_of (if b then Some prefix else None) None) key ≡ true → is_gt (key_cmp prefix key) ≡ false) [
+    elim (nat_lt 0 (length prefix)) as (λ b. nat_lt 0 (length prefix) ≡ b → is_from_start key_cmp (walk_start (if b then Some prefix else None) None) key ≡ true → is_gt (key_cmp prefix key) ≡ false) [
       | true ↦ λ _ from. not_gt (key_cmp prefix key) from
       | false ↦ λ none _. low_empty prefix key none
     ] refl is
 from_low prefix key (Some after) is =
-    elim (is_lt (key_cmp after prefix)) as (λ b. is_lt (key_cmp after prefix) ≡ b → is_from_start key_cmp (start_of (if b then Some prefix else None) (Some after)) key ≡ true → is_gt (key_cmp prefix key) ≡ false) [
+    elim (is_lt (key_cmp after prefix)) as (λ b. is_lt (key_cmp after prefix) ≡ b → is_from_start key_cmp (walk_start (if b then Some prefix else None) (Some after)) key ≡ true → is_gt (key_cmp prefix key) ≡ false) [
       | true ↦ λ _ from. not_gt (key_cmp prefix key) from
       | false ↦ λ late from. low_after prefix key after late from
     ] refl is
 
 -- of those that begin with the prefix, it begins with the first that is after the key
-from_after : (prefix key : List ℕ) (after : Option Key) → begins_with prefix key ≡ true → is_from_start key_cmp (start_of (first_of prefix after) after) key ≡ is_after_key after key
+from_after : (prefix key : List ℕ) (after : Option Key) → begins_with prefix key ≡ true → is_from_start key_cmp (walk_start (first_of prefix after) after) key ≡ is_after_key after key
 from_after prefix key None is =
-    elim (nat_lt 0 (length prefix)) as (λ b. is_from_start key_cmp (start_of (if b then Some prefix else None) None) key ≡ true) [
+    elim (nat_lt 0 (length prefix)) as (λ b. is_from_start key_cmp (walk_start (if b then Some prefix else None) None) key ≡ true) [
       | true ↦ le_is _ (begins_low prefix key is)
       | false ↦ refl
     ]
 from_after prefix key (Some after) is =
-    elim (is_lt (key_cmp after prefix)) as (λ b. is_lt (key_cmp after prefix) ≡ b → is_from_start key_cmp (start_of (if b then Some prefix else None) (Some after)) key ≡ is_lt (key_cmp after key)) [
+    elim (is_lt (key_cmp after prefix)) as (λ b. is_lt (key_cmp after prefix) ≡ b → is_from_start key_cmp (walk_start (if b then Some prefix else None) (Some after)) key ≡ is_lt (key_cmp after key)) [
       | true ↦ λ before. le_is _ (begins_low prefix key is) ∙ sym (ap is_lt (below_low after prefix key (less_is _ before) (begins_low prefix key is)))
       | false ↦ λ _. refl
     ] refl
@@ -179,13 +179,13 @@ none_beyond prefix after key (e ∷ es) all low is =
 
 -- the keys that begin with a prefix and stand after a key, are those from the start of the walk on, until the first that does not begin with it
 walked : (prefix : List ℕ) (after : Option Key) (es : List Entry) → IsStrictlySortedBy key_cmp (keys_of es) →
-    while_begins prefix (entries_between key_cmp (start_of (first_of prefix after) after) Unbounded es) ≡ map sibling_count (filter (wanted prefix after) es)
+    while_begins prefix (entries_between key_cmp (walk_start (first_of prefix after) after) Unbounded es) ≡ map sibling_count (filter (wanted prefix after) es)
 unfolding IsStrictlySortedBy
 walked prefix after [] sorted = refl
 walked prefix after (e ∷ es) sorted =
     let rest = walked prefix after es sorted.1 in
-    let from = is_from_start key_cmp (start_of (first_of prefix after) after) e.0 in
-    let later = entries_between key_cmp (start_of (first_of prefix after) after) Unbounded es in
+    let from = is_from_start key_cmp (walk_start (first_of prefix after) after) e.0 in
+    let later = entries_between key_cmp (walk_start (first_of prefix after) after) Unbounded es in
     let kept = filter (wanted prefix after) es in
     elim (begins_with prefix e.0) as (λ b. begins_with prefix e.0 ≡ b → while_begins prefix (cond (from && true) (e ∷ later) later) ≡ map sibling_count (cond (b && is_after_key after e.0) (e ∷ kept) kept)) [
       | true ↦ λ is. ap (λ f. while_begins prefix (cond (f && true) (e ∷ later) later)) (from_after prefix e.0 after is)
@@ -234,12 +234,12 @@ wanted_counts prefix after (e ∷ es) =
 
 -- a page of what is walked is a page of the keys
 pub keys_page : (prefix : List ℕ) (after : Option Key) (es : List Entry) (m : FinMap key_cmp State) (page : List (Key × ℕ)) (more : Bool) → IsStrictlySortedBy key_cmp (keys_of es) → from_entries es ≡ m →
-    IsPageOf (while_begins prefix (entries_between key_cmp (start_of (first_of prefix after) after) Unbounded (entries m))) page more →
+    IsPageOf (while_begins prefix (entries_between key_cmp (walk_start (first_of prefix after) after) Unbounded (entries m))) page more →
     keys_answer m prefix after ≡ (page, more)
 unfolding sibling_counts
 keys_page prefix after es m page more sorted is taken =
     let are : entries m ≡ es = ap (λ n. entries n) (sym is) ∙ entries_kept es sorted in
-    let all = ap (λ l. while_begins prefix (entries_between key_cmp (start_of (first_of prefix after) after) Unbounded l)) are ∙ walked prefix after es sorted
+    let all = ap (λ l. while_begins prefix (entries_between key_cmp (walk_start (first_of prefix after) after) Unbounded l)) are ∙ walked prefix after es sorted
     ∙ wanted_counts prefix after es ∙ ap (λ l. filter (λ (c : Key × ℕ). begins_with prefix c.0 && is_after_key after c.0) (map sibling_count l)) (sym are) in
     let first = taken.first ∙ ap (take 1000) all in
     let left = taken.left ∙ ap (λ l. nat_lt 1000 (length l)) all in
@@ -280,7 +280,7 @@ each_countable m held (e ∷ es) got = (few_siblings e.1 (held.held e.0 e.1 got.
 
 -- where the walk begins
 pub walk_begins : (prefix : List ℕ) (after : Option Key) (es rest : List Entry) (m : States) (start : Bound Key) → IsStrictlySortedBy key_cmp (keys_of es) → from_entries es ≡ m →
-    start ≡ start_of (first_of prefix after) after → rest ≡ entries_between key_cmp start Unbounded es → rest ≡ entries_between key_cmp (start_of (first_of prefix after) after) Unbounded (entries m)
+    start ≡ walk_start (first_of prefix after) after → rest ≡ entries_between key_cmp start Unbounded es → rest ≡ entries_between key_cmp (walk_start (first_of prefix after) after) Unbounded (entries m)
 walk_begins prefix after es rest m start sorted is at taken =
     let are : es ≡ entries m = sym (entries_kept es sorted) ∙ ap (λ n. entries n) is in
     taken ∙ (λ i. entries_between key_cmp (at i) Unbounded (are i))

@@ -21,7 +21,7 @@ use Rattle.mvd_rows.specs.Changes.{state_in}
 use Rattle.mvd_rows.specs.Siblings.{conflicts_answer, keys_answer}
 use Rattle.mvd_rows.specs.Visible.{visible_in}
 use Rattle.mvd_tree.specs.HashTree.{KeyDigests, node_digest}
-use Rattle.mvd_tree.specs.Page.{children_digests, is_more_after_page, page_of}
+use Rattle.mvd_tree.specs.Page.{children_digests, is_more_after_page, bucket_page}
 use Rattle.mvd_tree.specs.States.{digests_of}
 use Rattle.mvd_wire.specs.Codecs.{key as spelled_key, spell_state, state_limit}
 use Rattle.mvd_wire.specs.declared.request.Request.{Request}
@@ -74,7 +74,7 @@ node_digests held path = record { own = node_digest held path; children = if nat
 
 -- a page of a bucket's keys, after a key if one is given
 abbrev pub bucket_answer : KeyDigests → List ℕ → Option Key → Reply
-bucket_answer held path after = if length path == 3 then KeysTold (page_of held path after) (is_more_after_page held path after) else Refused BadPath
+bucket_answer held path after = if length path == 3 then KeysTold (bucket_page held path after) (is_more_after_page held path after) else Refused BadPath
 
 -- ---- indexes and views
 

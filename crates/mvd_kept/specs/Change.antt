@@ -28,6 +28,6 @@ pub record SpellsChange (key : Key) (s : State) (start : ℕ) (bytes : List ℕ)
   pub spelled : IsSpelled s
 
 -- a put is answered with its dot, and a delete or a push is done
-abbrev pub reply_of : Option DotValue → Reply
-reply_of None = Done
-reply_of (Some dot) = Written dot
+abbrev pub change_reply : Option DotValue → Reply
+change_reply None = Done
+change_reply (Some dot) = Written dot

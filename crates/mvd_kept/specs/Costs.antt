@@ -25,7 +25,7 @@ use Rattle.mvd_kept.specs.declared.prepared.Prepared.TheVariants.{Answer}
 use Rattle.mvd_kept.specs.declared.work.Work.{Work}
 
 -- nothing was done yet
-pub record IsNone (work : Work) : Type 0 where
+pub record IsNoWork (work : Work) : Type 0 where
   pub looks : work.looks ≡ 0
   pub updates : work.rows.updates ≡ 0
   pub row_looks : work.rows.looks ≡ 0

@@ -13,9 +13,9 @@ use Rattle.mvd_kept.specs.Held.{States, state_at}
 use Rattle.mvd_kept.specs.Sites.{SiteValue}
 
 -- the request pushes a state that clashes with the key's
-abbrev pub IsClash : States → Request → Type 0
-IsClash states (Push key pushed) = clashes (state_at states key) pushed ≡ true
-IsClash states request = ⊥
+abbrev pub IsClashingPush : States → Request → Type 0
+IsClashingPush states (Push key pushed) = clashes (state_at states key) pushed ≡ true
+IsClashingPush states request = ⊥
 
 -- ---- what a site does with one request
 

@@ -12,7 +12,7 @@ use Rattle.mvd_tree.specs.Touched.{Changes, changed_bytes, count_touched, inner_
 use Rattle.mvd_wire.specs.declared.reply.Reply.{Reply}
 use Rattle.mvd_wire.specs.declared.reply.Reply.TheVariants.{Refused}
 use Rattle.mvd_kept.specs.Answer.{digests, spelled}
-use Rattle.mvd_kept.specs.Change.{ChangeValue, reply_of}
+use Rattle.mvd_kept.specs.Change.{ChangeValue, change_reply}
 use Rattle.mvd_kept.specs.Costs.{Costs}
 use Rattle.mvd_kept.specs.Held.{IsHeldState, States, state_at}
 use Rattle.mvd_kept.specs.Prepared.{IsChangeNow}
@@ -49,7 +49,7 @@ MayBeIn site (Change change) = (has_no_room site.config site.states change.key �
 abbrev pub PutsOne : SiteValue → SiteValue → Prepared → Reply → Type 0
 PutsOne old new (Answer told) reply = (reply ≡ told) × (new ≡ old)
 PutsOne old new (Change change) reply =
-    ((reply ≡ reply_of change.dot) × (new ≡ changed_site old change)) ⊎ ((reply ≡ Refused Broken) × (new ≡ broken_site old))
+    ((reply ≡ change_reply change.dot) × (new ≡ changed_site old change)) ⊎ ((reply ≡ Refused Broken) × (new ≡ broken_site old))
 
 pub record PutsIfWhole (old new : SiteValue) (prepared : Prepared) (reply : Reply) : Type 0 where
   pub whole : old.broken ≡ false → PutsOne old new prepared reply
@@ -88,13 +88,13 @@ changes_in [] = 0
 changes_in (prepared ∷ group) = is_change prepared + changes_in group
 
 -- how many bytes spell the keys of the changes with their states
-abbrev pub bytes_of : Prepared → ℕ
-bytes_of (Answer reply) = 0
-bytes_of (Change change) = length (spelled change.key change.state)
+abbrev pub byte_count_of : Prepared → ℕ
+byte_count_of (Answer reply) = 0
+byte_count_of (Change change) = length (spelled change.key change.state)
 
-abbrev pub bytes_in : List Prepared → ℕ
-bytes_in [] = 0
-bytes_in (prepared ∷ group) = bytes_of prepared + bytes_in group
+abbrev pub byte_count_in : List Prepared → ℕ
+byte_count_in [] = 0
+byte_count_in (prepared ∷ group) = byte_count_of prepared + byte_count_in group
 
 -- the changes of digests
 abbrev pub digests_in : List Prepared → Changes
@@ -116,7 +116,7 @@ abbrev pub TreeCosts : KeyDigests → List Prepared → Hashed → Hashed → Ty
 TreeCosts held group =
     let changes = digests_in group in
     Hashes (2 * changes_in group + count_touched 0 changes + inner_touched changes)
-    (bytes_in group + changed_bytes changes + 32 * keys_touched (changed_all held changes) changes + 512 * inner_touched changes)
+    (byte_count_in group + changed_bytes changes + 32 * keys_touched (changed_all held changes) changes + 512 * inner_touched changes)
 
 -- What it takes to put in a group: for each change a look at the key's old state, an update of the keys in conflict, and two
 -- computations, of the key with its state and of the key's path; for each sibling that comes or goes what each index and view
@@ -128,4 +128,4 @@ InstallCosts site group =
     let changes = digests_in group in
     Costs (changes_in group) (moved * looks_each site.config.defs) (moved * updates_each site.config.defs + changes_in group)
     (2 * changes_in group + count_touched 0 changes + inner_touched changes)
-    (bytes_in group + changed_bytes changes + 32 * keys_touched (digests (with_group site.states group)) changes + 512 * inner_touched changes)
+    (byte_count_in group + changed_bytes changes + 32 * keys_touched (digests (with_group site.states group)) changes + 512 * inner_touched changes)

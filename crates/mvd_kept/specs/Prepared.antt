@@ -16,7 +16,7 @@ use Rattle.mvd_kept.specs.Config.{ConfigValue}
 use Rattle.mvd_kept.specs.Held.{IsHeldState, States, state_at}
 use Rattle.mvd_kept.specs.FromStates.{after_from, answer_from, change_from, within}
 use Rattle.mvd_kept.specs.Sites.{SiteValue, has_no_room}
-use Rattle.mvd_kept.specs.Change.{ChangeValue, reply_of}
+use Rattle.mvd_kept.specs.Change.{ChangeValue, change_reply}
 use Rattle.mvd_kept.specs.declared.prepared.Prepared.{Prepared}
 use Rattle.mvd_kept.specs.declared.prepared.Prepared.TheVariants.{Answer, Change}
 
@@ -27,8 +27,8 @@ pub record PreparesAnswer (config : ConfigValue) (known : List Write) (request :
 
 -- A change: its reply is the answer, its state is the one that the key has afterwards, and that is another than before
 pub record PreparesChange (config : ConfigValue) (known : List Write) (request : Request) (change : ChangeValue) : Type 0 where
-  pub answers : reply_of change.dot ≡ answer config known request
-  pub leaves : change_of known request (reply_of change.dot) ≡ Some (change.key, change.state)
+  pub answers : change_reply change.dot ≡ answer config known request
+  pub leaves : change_of known request (change_reply change.dot) ≡ Some (change.key, change.state)
   pub differs : change.state ≢ state change.key known
 
 -- What is prepared is the answer, or memory was refused
@@ -49,7 +49,7 @@ pub record PreparesAnswerFrom (config : ConfigValue) (states : States) (request 
 
 -- and a change
 pub record PreparesChangeFrom (config : ConfigValue) (states : States) (request : Request) (change : ChangeValue) : Type 0 where
-  pub answers : reply_of change.dot ≡ answer_from config states request
+  pub answers : change_reply change.dot ≡ answer_from config states request
   pub leaves : change_from states request (answer_from config states request) ≡ Some (change.key, change.state)
   pub differs : change.state ≢ state_at states change.key
   pub after : after_from config states request ≡ insert states change.key change.state
@@ -99,8 +99,8 @@ PreparesReply reply (Ok (Change change)) = ⊥
 
 -- where the key is to have this state, what is prepared, by the limits
 abbrev pub LimitsTo : SiteValue → Key → State → Option DotValue → Result Prepared Refusal → Type 0
-LimitsTo site key after dot (Err refusal) = (within site.config site.states key after (reply_of dot) ≡ Refused refusal) ⊎ (refusal ≡ Memory)
+LimitsTo site key after dot (Err refusal) = (within site.config site.states key after (change_reply dot) ≡ Refused refusal) ⊎ (refusal ≡ Memory)
 LimitsTo site key after dot (Ok (Answer reply)) =
-    (within site.config site.states key after (reply_of dot) ≡ reply) × (reply ≡ reply_of dot) × (after ≡ state_at site.states key)
+    (within site.config site.states key after (change_reply dot) ≡ reply) × (reply ≡ change_reply dot) × (after ≡ state_at site.states key)
 LimitsTo site key after dot (Ok (Change change)) =
-    (within site.config site.states key after (reply_of dot) ≡ reply_of dot) × (change ≡ record { key = key; state = after; dot = dot }) × (after ≢ state_at site.states key) × (is_empty after.context ≡ false)
+    (within site.config site.states key after (change_reply dot) ≡ change_reply dot) × (change ≡ record { key = key; state = after; dot = dot }) × (after ≢ state_at site.states key) × (is_empty after.context ≡ false)

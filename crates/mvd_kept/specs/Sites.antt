@@ -14,7 +14,7 @@ use Rattle.mvd_tree.specs.HashTree.{KeyDigests}
 use Rattle.mvd_kept.specs.Answer.{digests, is_full}
 use Rattle.mvd_kept.specs.Config.{ConfigValue, config_code}
 use Rattle.mvd_kept.specs.Held.{States}
-use Rattle.mvd_kept.specs.Known.{Adds, AllReplied, Event, MayReply, Tells, known_after}
+use Rattle.mvd_kept.specs.Known.{Adds, AllReplied, KnownEvent, MayReply, Tells, known_after}
 
 -- a site: what it was set up with, the states of its keys, and whether an install was refused memory
 pub record SiteValue : Type 0 where
@@ -45,8 +45,8 @@ pub record AnswersOne (old new : SiteValue) (request : Request) (reply : Reply) 
 
 -- What a site that began with no key has done with requests: for every choice of what they added, each reply
 -- is one that it may give from the writes known before it, and the states stand for all that was added
-abbrev pub AnswersAll : ConfigValue → SiteValue → List Request → List Reply → Type 0
-AnswersAll config site requests replies = (events : List Event) → Tells events requests replies →
+abbrev pub AnswersFromNothing : ConfigValue → SiteValue → List Request → List Reply → Type 0
+AnswersFromNothing config site requests replies = (events : List KnownEvent) → Tells events requests replies →
     AllReplied config [] false events site.broken × SiteStands site (known_after events)
 
 -- the map has as many keys as it may have, and this is none of them

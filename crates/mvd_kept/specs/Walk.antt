@@ -18,10 +18,10 @@ abbrev pub first_of : List ℕ → Option Key → Option Key
 first_of prefix after = if is_at_prefix prefix after then Some prefix else None
 
 -- it begins at the first key, or else after the other
-abbrev pub start_of : Option Key → Option Key → Bound Key
-start_of (Some first) after = Included first
-start_of None (Some after) = Excluded after
-start_of None None = Unbounded
+abbrev pub walk_start : Option Key → Option Key → Bound Key
+walk_start (Some first) after = Included first
+walk_start None (Some after) = Excluded after
+walk_start None None = Unbounded
 
 -- the keys with their numbers of siblings, until the first that does not begin with the prefix
 abbrev pub while_begins : List ℕ → List (Key × State) → List (Key × ℕ)

@@ -17,7 +17,7 @@ ghost use Rattle.mvd_rows.specs.Defs.{Definitions};
 ghost use Rattle.mvd_rows.specs.Siblings.{begins_with, keys_answer};
 ghost use Rattle.mvd_rows.specs.Stands.{IsRowsOf, definitions_of};
 ghost use Rattle.mvd_kept.specs.Held.{AreHeld, IsHeldState, IsKept, IsSpelled, States, state_at};
-ghost use Rattle.mvd_kept.specs.Walk.{first_of, is_at_prefix, start_of};
+ghost use Rattle.mvd_kept.specs.Walk.{first_of, is_at_prefix, walk_start};
 
 use crate::work::{HeldLook, Work};
 use mvd_count::Count;
@@ -233,7 +233,7 @@ fn walk_from<'a>(
 
 /// Where a walk begins: at the first key, or else after the other.
 fn start<'a>(first: &'a Option<Key>, after: Option<&'a Key>) -> Bound<&'a Key>
-    ensures { bound_map (λ x. x.now) result ≡ start_of first.now (option_copied after.entry) }
+    ensures { bound_map (λ x. x.now) result ≡ walk_start first.now (option_copied after.entry) }
 {
     match (first, after) {
         (Some(first), _) => Bound::Included(first),

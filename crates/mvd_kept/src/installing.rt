@@ -13,7 +13,7 @@ ghost use Rattle.mvd_kept.specs.Answer.{spelled};
 ghost use Rattle.mvd_kept.specs.Costs.{ChangeCosts, Costs};
 ghost use Rattle.mvd_kept.specs.Held.{IsHeldState, state_at};
 ghost use Rattle.mvd_kept.specs.Installs.{InstallCosts, InstallsAll, MayAllBeIn, MayBeIn, PutsIfWhole, TreeCosts};
-ghost use Rattle.mvd_kept.specs.Installs.{broken_site, bytes_in, changed_site, changes_in, digests_in, is_change};
+ghost use Rattle.mvd_kept.specs.Installs.{broken_site, byte_count_in, changed_site, changes_in, digests_in, is_change};
 ghost use Rattle.mvd_kept.specs.Installs.{moved_in, moved_of};
 ghost use Rattle.mvd_kept.specs.Prepared.{IsChangeNow};
 ghost use Rattle.mvd_kept.specs.Sites.{has_no_room};
@@ -49,7 +49,7 @@ fn digests_of(
     hashed: &mut Hashed,
 ) -> Result<Vec<KeyChange>, Refusal>
     ensures digests { IfOk result (λ changes. changes.items ≡ digests_in group.now) }
-    ensures counts { Hashes (2 * changes_in group.now) (bytes_in group.now + changed_bytes (digests_in group.now))
+    ensures counts { Hashes (2 * changes_in group.now) (byte_count_in group.now + changed_bytes (digests_in group.now))
         hashed.old hashed.new }
 {
     let mut changes = Vec::new(alloc);

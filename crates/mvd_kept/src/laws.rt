@@ -14,7 +14,7 @@ ghost use Rattle.mvd_kept.specs.Answer.{answer, digests, is_question, spelled, s
 ghost use Rattle.mvd_kept.specs.AtOnce.{AnswersRequest};
 ghost use Rattle.mvd_kept.specs.Change.{ChangeValue};
 ghost use Rattle.mvd_kept.specs.Config.{ConfigValue};
-ghost use Rattle.mvd_kept.specs.FromStates.{IsClash, after_from, answer_from};
+ghost use Rattle.mvd_kept.specs.FromStates.{IsClashingPush, after_from, answer_from};
 ghost use Rattle.mvd_kept.specs.Held.{AreHeld, States, state_at};
 ghost use Rattle.mvd_kept.specs.Known.{Adds};
 ghost use Rattle.mvd_kept.specs.Prepared.{IsChangeNow};
@@ -34,7 +34,7 @@ pub fn answers_from_states()
         Stands (after_from config states request) (known ++ added) }
     // A clash is the answer to a push alone, of a state that clashes with the key's.
     ensures clash { (config : ConfigValue) (states : States) (request : Request) →
-        answer_from config states request ≡ Refused DotClash → IsClash states request }
+        answer_from config states request ≡ Refused DotClash → IsClashingPush states request }
     // Two sets of writes with the same states have the same answers.
     ensures alike { (config : ConfigValue) (states : States) (V W : List Write) (request : Request) →
         Stands states V → Stands states W → answer config V request ≡ answer config W request }

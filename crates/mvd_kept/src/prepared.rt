@@ -1,7 +1,7 @@
 //! What a request comes to, before anything is changed.
 ghost use Rattle.std.specs.Prelude.{◌≡◌, ◌≤◌, IfErr, IfOk, length};
 ghost use Rattle.mvd_wire.specs.Codecs.{spell_state, state_limit};
-ghost use Rattle.mvd_kept.specs.Change.{SpellsChange, reply_of};
+ghost use Rattle.mvd_kept.specs.Change.{SpellsChange, change_reply};
 ghost use Rattle.mvd_kept.specs.Held.{IsSpelled};
 
 use mvd_dots::{Dot, Refusal};
@@ -94,7 +94,7 @@ impl Change {
 
     /// The reply once the change is made: `Written` for a put, `Done` for a delete or a push.
     pub fn reply(&self) -> Reply
-        ensures { result ≡ reply_of self.now.dot }
+        ensures { result ≡ change_reply self.now.dot }
     {
         reply_of(self.dot)
     }
@@ -128,7 +128,7 @@ pub(crate) fn spelled_key_state(
 
 /// A put is answered with its dot, and a delete or a push is done.
 pub(crate) fn reply_of(dot: Option<Dot>) -> Reply
-    ensures { result ≡ reply_of dot }
+    ensures { result ≡ change_reply dot }
 {
     match dot {
         Some(dot) => Reply::Written(dot),

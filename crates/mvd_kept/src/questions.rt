@@ -9,7 +9,7 @@ ghost use Rattle.mvd_rows.specs.Answers.{find_answer, range_answer, row_answer, 
 ghost use Rattle.mvd_rows.specs.Counted.{Within};
 ghost use Rattle.mvd_rows.specs.Siblings.{conflicts_answer, conflicts_in, keys_answer};
 ghost use Rattle.mvd_rows.specs.Visible.{visible_in};
-ghost use Rattle.mvd_tree.specs.Page.{is_more_after_page, page_of};
+ghost use Rattle.mvd_tree.specs.Page.{is_more_after_page, bucket_page};
 ghost use Rattle.mvd_wire.specs.declared.reply.Reply.TheVariants.{Digests as Told};
 ghost use Rattle.mvd_kept.specs.Answer.{bucket_answer, counts_reply, digests, node_digests};
 ghost use Rattle.mvd_kept.specs.Answer.{places_reply, row_reply, rows_reply};
@@ -54,7 +54,7 @@ impl Kept {
         ensures whole { IfOk result (λ _. self.now.broken ≡ false) }
         ensures path { IfOk result (λ _. length path.now ≡ 3) }
         ensures keys { IfOk result (λ page. page.0.items ≡
-            page_of (digests self.now.states) path.now (option_copied after.entry)) }
+            bucket_page (digests self.now.states) path.now (option_copied after.entry)) }
         ensures more { IfOk result (λ page. page.1 ≡
             is_more_after_page (digests self.now.states) path.now (option_copied after.entry)) }
         ensures refused { IfErr result (λ refusal. refusal ≡ bucket_refusal self.now.broken path.now) }

@@ -2,7 +2,7 @@
 use Rattle.std.proofs.Common.{◌≡◌, ℕ, ◌+◌, ◌<◌, ◌≤◌, Bool, true, false, nat_lt, if◌then◌else◌, ◌||◌, ◌≢◌, ◌↔◌, List, Option, Some, None, Result, Ok, Err, Contains, is_some, refl, sym, ap, ◌∙◌, subst, arith, true≢false, ltb-true}
 use Rattle.std.specs.FinSet.{contains, union}
 use Rattle.mvd_dots.specs.Dot.{DotValue}
-use Rattle.mvd_dots.specs.Context.{DotSet, Holds, greatest}
+use Rattle.mvd_dots.specs.Context.{DotSet, HoldsDot, greatest}
 use Rattle.mvd_dots.specs.declared.dots.TheConstants.{COUNTER_MAX}
 use Rattle.mvd_dots.proofs.Greatest.{greatest_bounds}
 use Rattle.mvd_keys.specs.Minting.{mint}
@@ -33,7 +33,7 @@ minted_next site seen dot h =
 pub minted_within : (site : ℕ) (seen : DotSet) (dot : DotValue) → mint site seen ≡ Some dot → (1 ≤ dot.counter) × (dot.counter ≤ COUNTER_MAX)
 minted_within site seen dot h = let next = minted_next site seen dot h in (omega (arith, next.next), omega (arith, next.next, next.early))
 
-pub minted_above : (site : ℕ) (seen : DotSet) (dot : DotValue) (n : ℕ) → mint site seen ≡ Some dot → Holds seen site n → n < dot.counter
+pub minted_above : (site : ℕ) (seen : DotSet) (dot : DotValue) (n : ℕ) → mint site seen ≡ Some dot → HoldsDot seen site n → n < dot.counter
 minted_above site seen dot n h has = let next = minted_next site seen dot h in let low : n ≤ greatest site seen = greatest_bounds seen site n has in omega (arith, next.next)
 
 seen_too : (a b : Bool) → b ≡ true → (a || b) ≡ true

@@ -8,7 +8,7 @@ use Rattle.mvd_dots.specs.declared.refusals.Refusal.{Refusal}
 use Rattle.mvd_dots.specs.declared.refusals.Refusal.TheVariants.{BadPath, Broken, DotClash, FrameTooLong, Full, Memory, StateTooLarge, BadBody}
 use Rattle.mvd_keys.specs.State.{IsValid, State, clashes, join}
 use Rattle.mvd_keys.specs.Writes.{Key, is_empty}
-use Rattle.mvd_tree.specs.Page.{is_more_after_page, page_of}
+use Rattle.mvd_tree.specs.Page.{is_more_after_page, bucket_page}
 use Rattle.mvd_wire.specs.declared.request.Request.{Request}
 use Rattle.mvd_wire.specs.declared.request.Request.TheVariants.{Get, Put, Delete, Find, Row, Rows, Node, Bucket, Push, Range, Keys as KeysAsked, Conflicts, Hello, Bye}
 use Rattle.mvd_wire.specs.Codecs.{spell_state, state_limit}
@@ -31,8 +31,8 @@ use Rattle.mvd_site.specs.FromStates.{Answered, AnswersFrom, Broke, after_from, 
 use Rattle.mvd_site.specs.Held.{AreHeld, States, state_at}
 use Rattle.mvd_site.specs.Known.{IsValidRequest}
 use Rattle.mvd_site.specs.Sites.{SiteValue}
-use Rattle.mvd_line_tests.specs.Serving.{TakesOne, far_at}
-use Rattle.mvd_remote.specs.Lines.{AreFrames, Far, IsNext, TakesAll, TakesFirst, TrueReplies, TrueReply}
+use Rattle.mvd_line_tests.specs.Serving.{TakesOneRequest, far_at}
+use Rattle.mvd_remote.specs.Lines.{AreRequestFrames, Far, IsNextReply, TakesAll, TakesFirst, TrueReplies, TrueReply}
 use Rattle.mvd_peer.specs.PushedStates.{pushed}
 use Rattle.mvd_peer.specs.Sides.{is_of_question}
 use Rattle.mvd_peer.specs.Windows.{CannotTake, RefusesPage}
@@ -61,7 +61,7 @@ refused_so config old new (KeysAsked p after) refusal same own free why = inr (r
 refused_so config old new (Conflicts after) refusal same own free why = inr (refusal, refl, own, inl same)
 refused_so config old new (Hello t) refusal same own free why = inr (refusal, refl, own, inl same)
 
-bucket_so : (config : ConfigValue) (old : States) (path : List ℕ) (after : Option Key) (three : Bool) → (length path == 3) ≡ three → TrueReply config old (Bucket path after) (if three then Keys (page_of (digests old) path after) (is_more_after_page (digests old) path after) else Refused BadPath) old
+bucket_so : (config : ConfigValue) (old : States) (path : List ℕ) (after : Option Key) (three : Bool) → (length path == 3) ≡ three → TrueReply config old (Bucket path after) (if three then Keys (bucket_page (digests old) path after) (is_more_after_page (digests old) path after) else Refused BadPath) old
 bucket_so config old path after true is = (refl, refl, refl)
 bucket_so config old path after false is = (is, refl)
 
@@ -140,7 +140,7 @@ frame_is kind payload bytes e = elim (nat_le (length payload + 1) frame_limit) a
 
 -- the frame of a request, read
 abbrev asked_frame : Request → FrameValue
-asked_frame q = record { kind = asked.kind_of q; payload = asked.payload_of q }
+asked_frame q = record { kind = asked.request_kind q; payload = asked.request_payload q }
 
 within_is : (s : State) (kind : ℕ) (payload bytes : List ℕ) → within_limit s (framed kind payload) ≡ Ok bytes → framed kind payload ≡ Ok bytes
 within_is s kind payload bytes e = elim (nat_le (length (spell_state s)) state_limit) as (λ b. (if b then framed kind payload else Err StateTooLarge) ≡ Ok bytes → framed kind payload ≡ Ok bytes) [
@@ -148,7 +148,7 @@ within_is s kind payload bytes e = elim (nat_le (length (spell_state s)) state_l
   | false ↦ λ e. absurd (cc)
 ] e
 
-request_spelled : (q : Request) (bytes : List ℕ) → request_frame q ≡ Ok bytes → (bytes ≡ spell_frame (asked_frame q)) × (length (asked.payload_of q) + 1 ≤ frame_limit)
+request_spelled : (q : Request) (bytes : List ℕ) → request_frame q ≡ Ok bytes → (bytes ≡ spell_frame (asked_frame q)) × (length (asked.request_payload q) + 1 ≤ frame_limit)
 request_spelled (Get k) bytes e = frame_is _ _ bytes e
 request_spelled (Put k c d) bytes e = frame_is _ _ bytes e
 request_spelled (Delete k c) bytes e = frame_is _ _ bytes e
@@ -184,11 +184,11 @@ pub record Went (old new : Far) (requests : List Request) (bytes : List ℕ) : T
   pub replies : List Reply
   pub are_true : TrueReplies old.config old.states done replies new.states
   pub due : new.due ≡ old.due ++ replies
-  pub frames : AreFrames left bytes
+  pub frames : AreRequestFrames left bytes
   pub config : new.config ≡ old.config
 
 -- none yet
-pub went_none : (old : Far) (requests : List Request) (bytes : List ℕ) → AreFrames requests bytes → Went old old requests bytes
+pub went_none : (old : Far) (requests : List Request) (bytes : List ℕ) → AreRequestFrames requests bytes → Went old old requests bytes
 went_none old requests bytes frames = record { done = []; left = requests; all = refl; replies = []; are_true = refl; due = sym (append-nil old.due); frames = frames; config = refl }
 
 replies_append : (config : ConfigValue) (old mid new : States) (qs : List Request) (rs : List Reply) (q : Request) (r : Reply) → TrueReplies config old qs rs mid → TrueReply config mid q r new → TrueReplies config old (qs ++ q ∷ []) (rs ++ r ∷ []) new
@@ -223,7 +223,7 @@ behinds : (a b : Option FrameValue) (r s : List ℕ) → read_at a r ≡ read_at
 unfolding behind
 behinds a b r s e = ap behind e
 
-nothing_left : (left : List Request) (bytes rest : List ℕ) → AreFrames left bytes → frame_at bytes ≡ Ok (None, rest) → left ≡ []
+nothing_left : (left : List Request) (bytes rest : List ℕ) → AreRequestFrames left bytes → frame_at bytes ≡ Ok (None, rest) → left ≡ []
 nothing_left [] bytes rest h e = refl
 nothing_left (q ∷ qs) bytes rest h e = let never = fronts None (Some (asked_frame q)) rest h.1 (sym e ∙ first_frame q h.0 h.1 bytes h.3 h.4) in absurd (cc)
 
@@ -240,9 +240,9 @@ pub record Next (left : List Request) (frame : Frame) (rest : List ℕ) : Type 0
   pub later : List Request
   pub is : left ≡ q ∷ later
   pub spells : SpellsRequest q frame.kind frame.payload.items
-  pub frames : AreFrames later rest
+  pub frames : AreRequestFrames later rest
 
-next_of : (left : List Request) (bytes : List ℕ) (frame : Frame) (rest : List ℕ) → AreFrames left bytes → frame_at bytes ≡ Ok (Some (frame_value frame), rest) → Next left frame rest
+next_of : (left : List Request) (bytes : List ℕ) (frame : Frame) (rest : List ℕ) → AreRequestFrames left bytes → frame_at bytes ≡ Ok (Some (frame_value frame), rest) → Next left frame rest
 next_of [] bytes frame rest h e = let never = fronts None (Some (frame_value frame)) [] rest (sym no_frame ∙ subst (λ b. frame_at b ≡ Ok (Some (frame_value frame), rest)) h e) in absurd (cc)
 next_of (q ∷ qs) bytes frame rest h e =
     let both = sym (first_frame q h.0 h.1 bytes h.3 h.4) ∙ e in
@@ -253,7 +253,7 @@ next_of (q ∷ qs) bytes frame rest h e =
       later = qs;
       is = refl;
       spells = (h.2, sym (ap (λ (f : FrameValue). f.kind) value), sym (ap (λ (f : FrameValue). f.payload) value));
-      frames = subst (AreFrames qs) (behinds (Some (asked_frame q)) (Some (frame_value frame)) h.1 rest both) h.5;
+      frames = subst (AreRequestFrames qs) (behinds (Some (asked_frame q)) (Some (frame_value frame)) h.1 rest both) h.5;
     }
 
 module _ (old mid new : Far) (requests : List Request) (bytes : List ℕ) (came : Option Frame) (frame : Frame) (rest : List ℕ) (is : came ≡ Some frame) (e : frame_at bytes ≡ Ok (option_map frame_value came, rest)) (w : Went old mid requests bytes) where
@@ -267,7 +267,7 @@ module _ (old mid new : Far) (requests : List Request) (bytes : List ℕ) (came 
   at_mid r t = subst (λ m. TrueReply m mid.states here.q r new.states) w.config t
 
   -- it was taken, and its reply waits
-  pub went_on : new.config ≡ mid.config → ((q : Request) → SpellsRequest q frame.kind frame.payload.items → TakesOne mid q new (Ok tt)) → Went old new requests rest
+  pub went_on : new.config ≡ mid.config → ((q : Request) → SpellsRequest q frame.kind frame.payload.items → TakesOneRequest mid q new (Ok tt)) → Went old new requests rest
   went_on config takes =
       let one = takes here.q here.spells in
       record {
@@ -282,7 +282,7 @@ module _ (old mid new : Far) (requests : List Request) (bytes : List ℕ) (came 
       }
 
   -- there was no memory for its reply
-  pub went_cut : (refusal : Refusal) → ((q : Request) → SpellsRequest q frame.kind frame.payload.items → TakesOne mid q new (Err refusal)) → TakesFirst old.config old.states requests new.states
+  pub went_cut : (refusal : Refusal) → ((q : Request) → SpellsRequest q frame.kind frame.payload.items → TakesOneRequest mid q new (Err refusal)) → TakesFirst old.config old.states requests new.states
   went_cut refusal takes = elim (takes here.q here.spells) [
     | inl same ↦ subst (TakesFirst old.config old.states requests) (sym same) (went_some old mid requests bytes w)
     | inr one ↦ subst (λ (qs : List Request). TakesFirst old.config old.states qs new.states) (sym split) (first_of old.config old.states new.states (w.done ++ here.q ∷ []) here.later (w.replies ++ one.0 ∷ []) (replies_append old.config old.states mid.states new.states w.done w.replies here.q one.0 w.are_true (at_mid one.0 one.1)))
@@ -291,7 +291,7 @@ module _ (old mid new : Far) (requests : List Request) (bytes : List ℕ) (came 
 -- ---- one request that was sent
 
 -- its reply waits
-pub queued : (old new : SiteValue) (was waits : List Reply) (q x : Request) (reply : Reply) → x ≡ q → TrueReply old.config old.states x reply new.states → waits ≡ was ++ reply ∷ [] → TakesOne (far_at old was) q (far_at new waits) (Ok tt)
+pub queued : (old new : SiteValue) (was waits : List Reply) (q x : Request) (reply : Reply) → x ≡ q → TrueReply old.config old.states x reply new.states → waits ≡ was ++ reply ∷ [] → TakesOneRequest (far_at old was) q (far_at new waits) (Ok tt)
 queued old new was waits q x reply e t w = (reply, subst (λ (y : Request). TrueReply old.config old.states y reply new.states) e t, w)
 
 -- ---- a reply that is taken
@@ -303,9 +303,9 @@ page_is xs kind payload bytes e = elim (nat_le (length xs) page_limit) as (λ b.
 ] e
 
 abbrev told_frame : Reply → FrameValue
-told_frame r = record { kind = answered.kind_of r; payload = answered.payload_of r }
+told_frame r = record { kind = answered.reply_kind r; payload = answered.reply_payload r }
 
-reply_spelled : (r : Reply) (bytes : List ℕ) → answered.reply_frame r ≡ Ok bytes → (bytes ≡ spell_frame (told_frame r)) × (length (answered.payload_of r) + 1 ≤ frame_limit)
+reply_spelled : (r : Reply) (bytes : List ℕ) → answered.reply_frame r ≡ Ok bytes → (bytes ≡ spell_frame (told_frame r)) × (length (answered.reply_payload r) + 1 ≤ frame_limit)
 reply_spelled (told.State s) bytes e = frame_is _ _ bytes (within_is s 0xA1 (spell_state s) bytes e)
 reply_spelled (told.Written d) bytes e = frame_is _ _ bytes e
 reply_spelled told.Done bytes e = frame_is 0xA3 [] bytes e
@@ -318,7 +318,7 @@ reply_spelled (told.Counts cs more) bytes e = frame_is _ _ bytes (page_is cs _ _
 reply_spelled (told.Refused refusal) bytes e = frame_is _ _ bytes e
 
 -- the frame that is read spells it
-pub next_reply : (r : Reply) (bytes : List ℕ) (after : Option (List ℕ)) (due left : List Reply) (result : Result (Option Frame) Refusal) → answered.reply_frame r ≡ Ok bytes → answered.IsReply r → due ≡ r ∷ left → Reads (option_map frame_value) (Some bytes) after result frame_at → IfOk result (λ came. IfSome came (λ frame. IsNext due left (frame_value frame)))
+pub next_reply : (r : Reply) (bytes : List ℕ) (after : Option (List ℕ)) (due left : List Reply) (result : Result (Option Frame) Refusal) → answered.reply_frame r ≡ Ok bytes → answered.IsReply r → due ≡ r ∷ left → Reads (option_map frame_value) (Some bytes) after result frame_at → IfOk result (λ came. IfSome came (λ frame. IsNextReply due left (frame_value frame)))
 next_reply r bytes after due left (Err refusal) e fits is reads = tt
 next_reply r bytes after due left (Ok None) e fits is reads = tt
 next_reply r bytes after due left (Ok (Some frame)) e fits is reads =
@@ -329,4 +329,4 @@ next_reply r bytes after due left (Ok (Some frame)) e fits is reads =
     let both : read_at (Some (told_frame r)) [] ≡ read_at (Some (frame_value frame)) came.0 = sym first ∙ came.2 in
     let some : Some (told_frame r) ≡ Some (frame_value frame) = fronts (Some (told_frame r)) (Some (frame_value frame)) [] came.0 both in
     let value : told_frame r ≡ frame_value frame = cc in
-    subst (λ ds. IsNext ds left (frame_value frame)) (sym is) (subst (λ (f : FrameValue). reply_of f.kind f.payload ≡ Ok r) value (replies_again r fits), refl)
+    subst (λ ds. IsNextReply ds left (frame_value frame)) (sym is) (subst (λ (f : FrameValue). reply_of f.kind f.payload ≡ Ok r) value (replies_again r fits), refl)

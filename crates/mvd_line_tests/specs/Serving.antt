@@ -13,14 +13,14 @@ abbrev pub far_at : SiteValue → List Reply → Far
 far_at site waiting = record { states = site.states; due = waiting; config = site.config }
 
 -- its reply waits, or there was no memory for that
-abbrev pub TakesOne : Far → Request → Far → Result (Unit {0}) Refusal → Type 0
-TakesOne old request new (Ok done) =
+abbrev pub TakesOneRequest : Far → Request → Far → Result (Unit {0}) Refusal → Type 0
+TakesOneRequest old request new (Ok done) =
     (reply : Reply) × TrueReply old.config old.states request reply new.states × (new.due ≡ old.due ++ reply ∷ [])
-TakesOne old request new (Err refusal) = MayTake old.config old.states request new.states
+TakesOneRequest old request new (Err refusal) = MayTake old.config old.states request new.states
 
 -- the site at the other end
-abbrev pub site_of : Served → SiteValue
-site_of served = served.site
+abbrev pub far_site : Served → SiteValue
+far_site served = served.site
 
 -- it holds keys and states in form, and no reply of it waits
 abbrev pub IsAtHand : Served → Type 0

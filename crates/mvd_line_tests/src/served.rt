@@ -3,7 +3,7 @@ ghost use Rattle.std.specs.Prelude.{◌≡◌, None};
 ghost use Rattle.mvd_site.specs.Held.{AreHeld};
 ghost use Rattle.mvd_site.specs.Known.{IsValidRequest};
 ghost use Rattle.mvd_remote.specs.Lines.{TrueReply};
-ghost use Rattle.mvd_line_tests.specs.Serving.{IsAtHand, TakesOne, far_at, site_of};
+ghost use Rattle.mvd_line_tests.specs.Serving.{IsAtHand, TakesOneRequest, far_at, far_site};
 ghost use Rattle.mvd_wire.specs.declared.request.Request.{Request};
 ghost use Rattle.mvd_wire.specs.Replies.{CanBeSent};
 ghost use Rattle.mvd_wire.specs.Requests.{SpellsRequest};
@@ -27,7 +27,7 @@ pub struct Served {
 
 impl Served {
     pub fn new(alloc: Global, site: Site) -> Self
-        ensures site { site_of result ≡ site }
+        ensures site { far_site result ≡ site }
         ensures at_hand { IsAtHand result }
     {
         site.stands();
@@ -57,7 +57,7 @@ impl Served {
     /// Answers the request of a frame.
     fn take(&mut self, frame: &Frame) -> Result<(), Refusal>
         ensures truth { (request : Request) → SpellsRequest request frame.now.kind frame.now.payload.items →
-            TakesOne (far_at self.old.site self.old.waiting.items) request
+            TakesOneRequest (far_at self.old.site self.old.waiting.items) request
             (far_at self.new.site self.new.waiting.items) result }
         ensures config { self.new.site.config ≡ self.old.site.config }
         ensures held { AreHeld self.old.site.states → AreHeld self.new.site.states }

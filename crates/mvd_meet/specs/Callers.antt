@@ -32,8 +32,8 @@ abbrev pub came_at : Caller → List ℕ
 came_at caller = came_of caller.remote
 
 -- what it was asked and has not told
-abbrev pub asked_of : Caller → Option Asked
-asked_of caller = caller.asked
+abbrev pub asked_of_caller : Caller → Option Asked
+asked_of_caller caller = caller.asked
 
 -- ---- whether all came
 
@@ -82,8 +82,8 @@ sort_of (wanted.Gets keys) = sort.States
 sort_of (wanted.Pushes pairs) = sort.Pushes
 
 -- the frames of a window
-abbrev pub asked_by : Window → Asked
-asked_by window = record { sort = sort_of window; frames = frames_of (requests_of window) }
+abbrev pub asked_in_window : Window → Asked
+asked_in_window window = record { sort = sort_of window; frames = frames_of (requests_of window) }
 
 -- frames are to leave behind the others, and what they ask for is due
 pub record SendsTo (window : Asked) (old new : Caller) : Type 0 where
@@ -92,8 +92,8 @@ pub record SendsTo (window : Asked) (old new : Caller) : Type 0 where
   pub asked : new.asked ≡ Some window
 
 -- THE FRAMES OF A WINDOW are to leave, and its answers are due
-abbrev pub Asks : Window → Caller → Caller → Type 0
-Asks window old new = SendsTo (asked_by window) old new
+abbrev pub CallerAsks : Window → Caller → Caller → Type 0
+CallerAsks window old new = SendsTo (asked_in_window window) old new
 
 -- ---- what is told
 
@@ -107,25 +107,25 @@ link_by remote = record {
 abbrev pub link_at : Caller → Link
 link_at caller = link_by caller.remote
 
-abbrev pub Answers : Type 0 → Type 0
-Answers A = Result (Vec (Result A Refusal) Global) Refusal
+abbrev pub AnswersOf : Type 0 → Type 0
+AnswersOf A = Result (Vec (Result A Refusal) Global) Refusal
 
 -- the answers to a window of one kind, or the refusal in place of them
-abbrev pub told_as : {A : Type 0} → (Vec (Result A Refusal) Global → Told) → Answers A → Told
+abbrev pub told_as : {A : Type 0} → (Vec (Result A Refusal) Global → Told) → AnswersOf A → Told
 told_as as_told (Ok answers) = as_told answers
 told_as as_told (Err refusal) = told.Refused refusal
 
 -- what came is told as answers of this kind
-abbrev pub TellsAs : {A : Type 0} → (Vec (Result A Refusal) Global → Told) → (A → Reply) → ℕ → List (Option Refusal)
+abbrev pub CallerTellsAs : {A : Type 0} → (Vec (Result A Refusal) Global → Told) → (A → Reply) → ℕ → List (Option Refusal)
     → Link → Link → Told → Type 0
-TellsAs {A} as_told as_reply kind nones old new told =
-    (answers : Answers A) × Collects as_reply kind nones old new answers × (told ≡ told_as as_told answers)
+CallerTellsAs {A} as_told as_reply kind nones old new told =
+    (answers : AnswersOf A) × Collects as_reply kind nones old new answers × (told ≡ told_as as_told answers)
 
 abbrev pub TellsBy : Sort → List (Option Refusal) → Link → Link → Told → Type 0
-TellsBy sort.Nodes = TellsAs (λ answers. told.Nodes answers) as_digests 0xA7
-TellsBy sort.Pages = TellsAs (λ answers. told.Pages answers) as_page 0xA8
-TellsBy sort.States = TellsAs (λ answers. told.States answers) as_state 0xA1
-TellsBy sort.Pushes = TellsAs (λ answers. told.Pushes answers) as_done 0xA3
+TellsBy sort.Nodes = CallerTellsAs (λ answers. told.Nodes answers) as_digests 0xA7
+TellsBy sort.Pages = CallerTellsAs (λ answers. told.Pages answers) as_page 0xA8
+TellsBy sort.States = CallerTellsAs (λ answers. told.States answers) as_state 0xA1
+TellsBy sort.Pushes = CallerTellsAs (λ answers. told.Pushes answers) as_done 0xA3
 
 -- WHAT CAME OF A WINDOW IS TOLD as an answer to each of its questions in its turn, or as the refusal in place of them
 pub record TellsOf (window : Asked) (old new : Caller) (told : Told) : Type 0 where
@@ -133,6 +133,6 @@ pub record TellsOf (window : Asked) (old new : Caller) (told : Told) : Type 0 wh
   pub asked : new.asked ≡ None
 
 -- so of what was asked, if something was
-abbrev pub Tells : Option Asked → Caller → Caller → Option Told → Type 0
-Tells None old new told = (told ≡ None) × (new ≡ old)
-Tells (Some asked) old new told = IsSomeAnd told (TellsOf asked old new)
+abbrev pub CallerTells : Option Asked → Caller → Caller → Option Told → Type 0
+CallerTells None old new told = (told ≡ None) × (new ≡ old)
+CallerTells (Some asked) old new told = IsSomeAnd told (TellsOf asked old new)

@@ -1,6 +1,6 @@
 -- A session of two sides that are asked by mail.
 use Rattle.std.specs.Prelude.{◌≡◌, true, false, Bool, Option, Some, None, Result, Ok}
-use Rattle.mvd_meet.specs.Callers.{Asks, Tells}
+use Rattle.mvd_meet.specs.Callers.{CallerAsks, CallerTells}
 use Rattle.mvd_meet.specs.declared.caller.Caller.{Caller}
 use Rattle.mvd_meet.specs.declared.stepping.Course.{Course}
 use Rattle.mvd_meet.specs.declared.stepping.Course.TheVariants as course
@@ -14,7 +14,7 @@ use Rattle.mvd_sync.specs.declared.telling.Told.{Told}
 -- a side is asked a window, if there is one
 abbrev pub AsksIf : Option Window → Caller → Caller → Type 0
 AsksIf None old new = new ≡ old
-AsksIf (Some window) old new = Asks window old new
+AsksIf (Some window) old new = CallerAsks window old new
 
 -- either side is asked what a step wants of it, and not what it wants of the other
 pub record AsksBoth (step : Step) (near far near' far' : Caller) : Type 0 where
@@ -26,12 +26,12 @@ pub record HearsBoth (old : Meeting) (near far : Caller) (new : Meeting) (near' 
     (result : Result (Unit {0}) SyncFault) : Type 0 where
   pub mine : Option Told
   pub theirs : Option Told
-  pub local : Tells near.asked near near' mine
-  pub peer : Tells far.asked far far' theirs
+  pub local : CallerTells near.asked near near' mine
+  pub peer : CallerTells far.asked far far' theirs
   pub takes : TakesTold old.machine mine theirs new.machine result
 
 -- the session begins: nothing was asked
-pub record Begins (old : Meeting) (near far : Caller) (new : Meeting) (near' far' : Caller)
+pub record MeetingBegins (old : Meeting) (near far : Caller) (new : Meeting) (near' far' : Caller)
     (result : Result (Unit {0}) SyncFault) : Type 0 where
   pub machine : new.machine ≡ old.machine
   pub same_near : near' ≡ near
@@ -39,11 +39,11 @@ pub record Begins (old : Meeting) (near far : Caller) (new : Meeting) (near' far
   pub ok : result ≡ Ok tt
 
 abbrev pub HearsIf : Bool → Meeting → Caller → Caller → Meeting → Caller → Caller → Result (Unit {0}) SyncFault → Type 0
-HearsIf false = Begins
+HearsIf false = MeetingBegins
 HearsIf true = HearsBoth
 
-abbrev pub Hears : Meeting → Caller → Caller → Meeting → Caller → Caller → Result (Unit {0}) SyncFault → Type 0
-Hears old near far new near' far' result =
+abbrev pub MeetingHears : Meeting → Caller → Caller → Meeting → Caller → Caller → Result (Unit {0}) SyncFault → Type 0
+MeetingHears old near far new near' far' result =
     HearsIf old.began old near far new near' far' result × (new.began ≡ true)
 
 -- what is next is asked; or it is done, and nothing is
@@ -52,7 +52,7 @@ pub record AsksStep (old : Meeting) (near far : Caller) (new : Meeting) (near' f
   pub next : HasNext old.machine new.machine (Some step)
   pub asks : AsksBoth step near far near' far'
 
-pub record IsDone (old : Meeting) (near far : Caller) (new : Meeting) (near' far' : Caller) : Type 0 where
+pub record MeetingIsDone (old : Meeting) (near far : Caller) (new : Meeting) (near' far' : Caller) : Type 0 where
   pub next : HasNext old.machine new.machine None
   pub same_near : near' ≡ near
   pub same_far : far' ≡ far
@@ -60,24 +60,24 @@ pub record IsDone (old : Meeting) (near far : Caller) (new : Meeting) (near' far
 abbrev pub AsksNext : Meeting → Caller → Caller → Meeting → Caller → Caller → Course → Type 0
 AsksNext old near far new near' far' course.Waits = ⊥
 AsksNext old near far new near' far' course.Asks = AsksStep old near far new near' far'
-AsksNext old near far new near' far' course.Done = IsDone old near far new near' far'
+AsksNext old near far new near' far' course.Done = MeetingIsDone old near far new near' far'
 
 -- nothing was done
-pub record Stays (old : Meeting) (near far : Caller) (new : Meeting) (near' far' : Caller) : Type 0 where
+pub record MeetingStays (old : Meeting) (near far : Caller) (new : Meeting) (near' far' : Caller) : Type 0 where
   pub machine : new ≡ old
   pub same_near : near' ≡ near
   pub same_far : far' ≡ far
 
 -- what was told was taken, and then this came
-pub record Goes (old : Meeting) (near far : Caller) (new : Meeting) (near' far' : Caller) (course : Course) : Type 0 where
+pub record MeetingGoes (old : Meeting) (near far : Caller) (new : Meeting) (near' far' : Caller) (course : Course) : Type 0 where
   pub mid : Meeting
   pub near_mid : Caller
   pub far_mid : Caller
-  pub hears : Hears old near far mid near_mid far_mid (Ok tt)
+  pub hears : MeetingHears old near far mid near_mid far_mid (Ok tt)
   pub asks : AsksNext mid near_mid far_mid new near' far' course
 
 -- A STEP OF A SESSION: the machine takes what both sides told of just what they were asked, and they are asked just what
 -- the machine wants next
-abbrev pub Steps : Meeting → Caller → Caller → Meeting → Caller → Caller → Course → Type 0
-Steps old near far new near' far' course.Waits = Stays old near far new near' far'
-Steps old near far new near' far' course = Goes old near far new near' far' course
+abbrev pub MeetingSteps : Meeting → Caller → Caller → Meeting → Caller → Caller → Course → Type 0
+MeetingSteps old near far new near' far' course.Waits = MeetingStays old near far new near' far'
+MeetingSteps old near far new near' far' course = MeetingGoes old near far new near' far' course

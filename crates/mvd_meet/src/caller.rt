@@ -1,7 +1,8 @@
 //! A side of a session that is asked by mail: the frames of a window leave, and later what came is told.
 ghost use Rattle.std.specs.Prelude.{◌≡◌, ◌≤◌, ◌++◌, [], None, Some, IfErr, IfOk, OnErr, OnOk, drop, length};
 ghost use Rattle.mvd_dots.specs.declared.refusals.Refusal.TheVariants.{Memory};
-ghost use Rattle.mvd_meet.specs.Callers.{Asks, EndsTurns, LeavesTurn, SendsTo, Tells, TellsBy, asked_by, asked_of, came_at, has_all, has_turns, leaving_at, link_by};
+ghost use Rattle.mvd_meet.specs.Callers.{CallerAsks, EndsTurns, LeavesTurn, SendsTo, CallerTells, TellsBy, asked_in_window, asked_of_caller, came_at};
+ghost use Rattle.mvd_meet.specs.Callers.{has_all, has_turns, leaving_at, link_by};
 
 use mvd_conn::{Front, front_of};
 use mvd_dots::Refusal;
@@ -43,7 +44,7 @@ impl Caller {
     pub fn new(alloc: Global) -> Caller
         ensures leaving { leaving_at result ≡ [] }
         ensures came { came_at result ≡ [] }
-        ensures asked { asked_of result ≡ None }
+        ensures asked { asked_of_caller result ≡ None }
     {
         Caller {
             alloc,
@@ -66,7 +67,7 @@ impl Caller {
         requires { count ≤ length (leaving_at self.old) }
         ensures leaving { leaving_at self.new ≡ drop count (leaving_at self.old) }
         ensures came { came_at self.new ≡ came_at self.old }
-        ensures asked { asked_of self.new ≡ asked_of self.old }
+        ensures asked { asked_of_caller self.new ≡ asked_of_caller self.old }
     {
         self.remote.left(count);
     }
@@ -77,7 +78,7 @@ impl Caller {
         ensures err { OnErr result (came_at self.new ≡ came_at self.old) }
         ensures memory { IfErr result (λ refusal. refusal ≡ Memory) }
         ensures leaving { leaving_at self.new ≡ leaving_at self.old }
-        ensures asked { asked_of self.new ≡ asked_of self.old }
+        ensures asked { asked_of_caller self.new ≡ asked_of_caller self.old }
     {
         self.remote.feed(bytes)
     }
@@ -86,7 +87,7 @@ impl Caller {
     pub fn end(&mut self, has_failed: bool)
         ensures leaving { leaving_at self.new ≡ leaving_at self.old }
         ensures came { came_at self.new ≡ came_at self.old }
-        ensures asked { asked_of self.new ≡ asked_of self.old }
+        ensures asked { asked_of_caller self.new ≡ asked_of_caller self.old }
     {
         self.ended = true;
         if has_failed {
@@ -111,8 +112,8 @@ impl Caller {
 
     /// The frames of a window are to leave, and what they ask for is due.
     pub fn ask(&mut self, window: &Window) -> Result<(), Refusal>
-        ensures asks { OnOk result (Asks window.now self.old self.new) }
-        ensures err { OnErr result (asked_of self.new ≡ asked_of self.old) }
+        ensures asks { OnOk result (CallerAsks window.now self.old self.new) }
+        ensures err { OnErr result (asked_of_caller self.new ≡ asked_of_caller self.old) }
     {
         let asked = asked_by(self.alloc, window)?;
         self.send(asked)
@@ -139,7 +140,7 @@ impl Caller {
     /// Frames are to leave, and what they ask for is due.
     fn send(&mut self, asked: Asked) -> Result<(), Refusal>
         ensures asks { OnOk result (SendsTo asked self.old self.new) }
-        ensures err { OnErr result (asked_of self.new ≡ asked_of self.old) }
+        ensures err { OnErr result (asked_of_caller self.new ≡ asked_of_caller self.old) }
     {
         match self.remote.leave(&asked.frames) {
             Ok(()) => {
@@ -154,7 +155,7 @@ impl Caller {
 
     /// What came of what was asked, if something was.
     pub fn tell(&mut self) -> Option<Told>
-        ensures { Tells (asked_of self.old) self.old self.new result }
+        ensures { CallerTells (asked_of_caller self.old) self.old self.new result }
     {
         let Asked { sort, frames } = self.asked.take()?;
         Some(told_in(&mut self.remote, sort, &frames))
@@ -202,7 +203,7 @@ fn turn_in(none: Option<Refusal>, bytes: &[u8]) -> Result<&[u8], bool>
 
 /// The frames of a window.
 fn asked_by(alloc: Global, window: &Window) -> Result<Asked, Refusal>
-    ensures { IfOk result (λ asked. asked ≡ asked_by window.now) }
+    ensures { IfOk result (λ asked. asked ≡ asked_in_window window.now) }
 {
     let (sort, frames) = match window {
         Window::Nodes(paths) => (Sort::Nodes, Frames::nodes(alloc, paths)?),

@@ -1,7 +1,7 @@
 //! A session of two sides that are asked by mail, step by step.
 ghost use Rattle.std.specs.Prelude.{◌≡◌, false, IfOk, Ok};
 ghost use Rattle.mvd_meet.specs.Callers.{has_all};
-ghost use Rattle.mvd_meet.specs.Meetings.{AsksBoth, AsksNext, Hears, Steps};
+ghost use Rattle.mvd_meet.specs.Meetings.{AsksBoth, AsksNext, MeetingHears, MeetingSteps};
 
 use crate::caller::Caller;
 use mvd_sync::{MOST_QUESTIONS, Machine, Report, Step, SyncFault};
@@ -39,7 +39,7 @@ impl Meeting {
     pub fn step(&mut self, near: &mut Caller, far: &mut Caller) -> Result<Course, SyncFault>
         ensures waits { has_all near.old ≡ false → result ≡ Ok Course.Waits }
         ensures waits_too { has_all far.old ≡ false → result ≡ Ok Course.Waits }
-        ensures steps { IfOk result (Steps self.old near.old far.old self.new near.new far.new) }
+        ensures steps { IfOk result (MeetingSteps self.old near.old far.old self.new near.new far.new) }
     {
         if !near.has_all() || !far.has_all() {
             return Ok(Course::Waits);
@@ -50,7 +50,7 @@ impl Meeting {
 
     /// Takes what both sides tell of what they were asked. At first nothing was.
     fn hear(&mut self, near: &mut Caller, far: &mut Caller) -> Result<(), SyncFault>
-        ensures { Hears self.old near.old far.old self.new near.new far.new result }
+        ensures { MeetingHears self.old near.old far.old self.new near.new far.new result }
     {
         if !self.began {
             self.began = true;

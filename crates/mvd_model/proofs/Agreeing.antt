@@ -17,7 +17,7 @@ use Rattle.mvd_wire.specs.declared.reply.Reply.TheVariants.{Done, Written}
 use Rattle.mvd_kept.specs.Answer.{answer}
 use Rattle.mvd_kept.specs.Known.{Adds}
 use Rattle.mvd_model.specs.TheStore.{AddAll, Event, Happen, Knows, Next, Opened, Setup, Site, Told, config}
-use Rattle.mvd_model.specs.Handed.{AllBring, AreHanded, AreSound, Brings, IsHanded, knows, nothing}
+use Rattle.mvd_model.specs.Handed.{AllBring, AreHanded, AreSound, Brings, IsHanded, knows, nothing_known}
 use Rattle.mvd_model.proofs.Runs.{answer_written, refuses_same}
 
 -- ---- what is known with more
@@ -159,7 +159,7 @@ pub sound_run : (a : Knows) (events : List Event) (end : Knows) (happen : Happen
 sound_run a [] end happen brings sound = subst (λ k. AreSound (knows k)) (sym happen) sound
 sound_run a (event ∷ events) end (b, next, rest) (first, later) sound = sound_run b events end rest later (sound_next a event b next first sound)
 
-pub sound_start : (setups : ℕ → Setup) → AreSound (knows (nothing setups))
+pub sound_start : (setups : ℕ → Setup) → AreSound (knows (nothing_known setups))
 sound_start setups = record {
   one = λ i j key dot seen also_seen document other here there. absurd (none_empty _ here);
   own = λ i key dot seen document here. absurd (none_empty _ here);

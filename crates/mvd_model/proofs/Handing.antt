@@ -18,12 +18,12 @@ use Rattle.mvd_wire.specs.declared.reply.Reply.{Reply}
 use Rattle.mvd_wire.specs.declared.reply.Reply.TheVariants.{Done, Refused, State as Shown}
 use Rattle.mvd_kept.specs.Answer.{answer, change_of, state_at, states_of}
 use Rattle.mvd_kept.specs.Config.{ConfigValue}
-use Rattle.mvd_kept.specs.Known.{Adds, Changes}
+use Rattle.mvd_kept.specs.Known.{Adds, ChangesKey}
 use Rattle.mvd_kept.proofs.Answered.{answered, changed_alike}
 use Rattle.mvd_kept.proofs.KnownKeys.{states_of-stands}
 use Rattle.mvd_kept.proofs.Steps.{state_known}
 use Rattle.mvd_model.specs.TheStore.{AddAll, Answers, AreAmong, Event, Happen, Knows, Next, Opened, Refuses, Setup, Site, Told, config}
-use Rattle.mvd_model.specs.Handed.{AllBring, AreHanded, Brings, Handed, IsHanded, IsIn, IsSame, IsToldPush, PushTold, knows, nothing}
+use Rattle.mvd_model.specs.Handed.{AllBring, AreHanded, Brings, Handed, IsHanded, IsPairIn, IsSame, IsToldPush, PushTold, knows, nothing_known}
 use Rattle.mvd_model.proofs.Runs.{next_grows}
 use Rattle.mvd_model.proofs.Placing.{placed, placed_at, placed_else}
 
@@ -38,7 +38,7 @@ stands_same V W same = record { at = λ key. (states_of-stands V).at key ∙ hel
 answer_same : (c : ConfigValue) (V W : List Write) (request : Request) → AreSame V W → answer c V request ≡ answer c W request
 answer_same c V W request same = sym (answered c (states_of V) V request (states_of-stands V)) ∙ answered c (states_of V) W request (stands_same V W same)
 
-changes_same : (c : ConfigValue) (V W : List Write) (request : Request) → AreSame V W → Changes c V request → Changes c W request
+changes_same : (c : ConfigValue) (V W : List Write) (request : Request) → AreSame V W → ChangesKey c V request → ChangesKey c W request
 changes_same c V W request same changes =
     subst (λ (f : Key → State). IsSomeAnd (change_of W request (answer c W request)) (λ change. change.1 ≢ f change.0)) (λ k key. same key k)
     (subst (λ o. IsSomeAnd o (λ change. change.1 ≢ state change.0 V))
@@ -79,7 +79,7 @@ pub record IsPast (known : ℕ → List Write) (key : Key) (s : State) : Type 0 
   pub is : state key writes ≡ s
 
 abbrev ArePast : (ℕ → List Write) → List (Key × State) → Type 0
-ArePast known told = (key : Key) (s : State) → IsIn told (key, s) → IsPast known key s
+ArePast known told = (key : Key) (s : State) → IsPairIn told (key, s) → IsPast known key s
 
 past_now : (known : ℕ → List Write) (i : ℕ) (key : Key) → IsPast known key (state key (known i))
 past_now known i key = record {
@@ -176,8 +176,8 @@ at_every P a a' b i t here all others j = ⊎_elim
 same_answer : (i : ℕ) (s t : Site) (request : Request) → IsSame s t → answer (config i s.setup) s.known request ≡ answer (config i t.setup) t.known request
 same_answer i s t request same = answer_same (config i s.setup) s.known t.known request same.states ∙ ap (λ setup. answer (config i setup) t.known request) same.setup
 
-same_changes : (i : ℕ) (s t : Site) (request : Request) → IsSame s t → Changes (config i s.setup) s.known request → Changes (config i t.setup) t.known request
-same_changes i s t request same changes = subst (λ setup. Changes (config i setup) t.known request) same.setup (changes_same (config i s.setup) s.known t.known request same.states changes)
+same_changes : (i : ℕ) (s t : Site) (request : Request) → IsSame s t → ChangesKey (config i s.setup) s.known request → ChangesKey (config i t.setup) t.known request
+same_changes i s t request same changes = subst (λ setup. ChangesKey (config i setup) t.known request) same.setup (changes_same (config i s.setup) s.known t.known request same.states changes)
 
 record Refusing (i : ℕ) (told : List (Key × State)) (s' : Site) (request : Request) (reply : Reply) (after : Site) : Type 0 where
   other : Site
@@ -312,7 +312,7 @@ follows a a' (Opened i setup some ∷ events) end told (b, (opens, others), rest
     first_step a' (Opened i setup some) events told b end step
     (follows b step.other events end told rest tells step.same (past_next a' step.other (Opened i setup some) told step.next past) step.refused)
 
-pub handed_start : (setups : ℕ → Setup) (events : List Event) (end : Knows) → Happen (nothing setups) events end → PushTold [] events → Handed (nothing setups) events end
+pub handed_start : (setups : ℕ → Setup) (events : List Event) (end : Knows) → Happen (nothing_known setups) events end → PushTold [] events → Handed (nothing_known setups) events end
 handed_start setups events end happen told =
-    let f = follows (nothing setups) (nothing setups) events end [] happen told (λ i. record { setup = refl; refused = refl; broken = refl; states = λ key. refl }) (λ key s none. absurd none) (λ i. tt) in
+    let f = follows (nothing_known setups) (nothing_known setups) events end [] happen told (λ i. record { setup = refl; refused = refl; broken = refl; states = λ key. refl }) (λ key s none. absurd none) (λ i. tt) in
     record { other = f.other; happen = f.happen; bring = f.bring; same = f.same }

@@ -13,8 +13,8 @@ use Rattle.mvd_kept.specs.Config.{ConfigValue}
 use Rattle.mvd_model.specs.TheStore.{AddAll, Event, Happen, Knows, Next, Opened, Setup, Site, Told, config}
 
 -- at first nobody knows anything
-abbrev pub nothing : (ℕ → Setup) → Knows
-nothing setups i = record { setup = setups i; known = []; refused = []; broken = false }
+abbrev pub nothing_known : (ℕ → Setup) → Knows
+nothing_known setups i = record { setup = setups i; known = []; refused = []; broken = false }
 
 -- the writes that each site knows
 abbrev pub knows : Knows → ℕ → List Write
@@ -50,12 +50,12 @@ pub record AreSound (known : ℕ → List Write) : Type 0 where
 -- ---- pushes of states that were told
 
 -- it is one of these
-abbrev pub IsIn : List (Key × State) → Key × State → Type 0
-IsIn [] pair = ⊥
-IsIn (p ∷ pairs) pair = (p ≡ pair) ⊎ IsIn pairs pair
+abbrev pub IsPairIn : List (Key × State) → Key × State → Type 0
+IsPairIn [] pair = ⊥
+IsPairIn (p ∷ pairs) pair = (p ≡ pair) ⊎ IsPairIn pairs pair
 
 abbrev pub IsToldPush : List (Key × State) → Request → Type 0
-IsToldPush told (Push key pushed) = IsIn told (key, pushed)
+IsToldPush told (Push key pushed) = IsPairIn told (key, pushed)
 IsToldPush told request = ⊤
 
 -- each state that is pushed is among these, or a site told it before as that of its key

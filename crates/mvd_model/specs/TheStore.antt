@@ -18,7 +18,7 @@ use Rattle.mvd_wire.specs.declared.reply.Reply.{Reply}
 use Rattle.mvd_wire.specs.declared.reply.Reply.TheVariants.{Refused, Written}
 use Rattle.mvd_kept.specs.Answer.{answer}
 use Rattle.mvd_kept.specs.Config.{ConfigValue}
-use Rattle.mvd_kept.specs.Known.{Adds, Changes}
+use Rattle.mvd_kept.specs.Known.{Adds, ChangesKey}
 use Rattle.mvd_model.specs.Alike.{SpeakAlike}
 
 -- what a site is opened with: how many keys it may hold, and its indexes and views
@@ -53,14 +53,14 @@ abbrev pub Answers : ConfigValue → Site → Request → Reply → Site → Typ
 Answers c s request reply t = (s.broken ≡ false) × (reply ≡ answer c s.known request)
     × (added : List Write) × Adds request reply added × (t ≡ record s { known = s.known ++ added })
 
--- Or it refuses, and knows no more: for want of memory (20); or, only where its answer would change a state (`Changes`), for its
+-- Or it refuses, and knows no more: for want of memory (20); or, only where its answer would change a state (`ChangesKey`), for its
 -- store (21), or broken by it (22). A broken site tells 22, or 20, until it is opened again
 abbrev pub Refuses : ConfigValue → Site → Request → Reply → Site → Type 0
 Refuses c s request (Refused Memory) t = t ≡ s
 Refuses c s request (Refused Store) t =
-    (s.broken ≡ false) × Changes c s.known request × (t ≡ record s { refused = s.refused ++ request ∷ [] })
+    (s.broken ≡ false) × ChangesKey c s.known request × (t ≡ record s { refused = s.refused ++ request ∷ [] })
 Refuses c s request (Refused Broken) t =
-    ((s.broken ≡ true) ⊎ Changes c s.known request) × (t ≡ record s { refused = s.refused ++ request ∷ []; broken = true })
+    ((s.broken ≡ true) ⊎ ChangesKey c s.known request) × (t ≡ record s { refused = s.refused ++ request ∷ []; broken = true })
 Refuses c s request reply t = ⊥
 
 -- these are some of those, in their order

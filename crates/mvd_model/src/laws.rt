@@ -5,7 +5,7 @@ ghost use Rattle.mvd_wire.specs.declared.reply.Reply.{Reply};
 ghost use Rattle.mvd_kept.specs.Known.{IsValidRequest};
 ghost use Rattle.mvd_model.specs.TheStore.{Event, Happen, Knows, Next, Promise, Setup, Told};
 ghost use Rattle.mvd_model.specs.Apart.{HappenAt, events_at};
-ghost use Rattle.mvd_model.specs.Handed.{AllBring, AreSound, Handed, PushTold, knows, nothing};
+ghost use Rattle.mvd_model.specs.Handed.{AllBring, AreSound, Handed, PushTold, knows, nothing_known};
 
 /// Whatever the sites knew at first, whatever was asked of whichever of them, in whatever order, and however often each was
 /// opened again.
@@ -16,14 +16,14 @@ pub fn the_store()
 /// Where each state that is pushed was told before as that of its key, by any site, nobody makes up what he pushes: the
 /// same events, with the same states at each site at the end, are such a behaviour.
 pub fn told_states_are_handed()
-    ensures { (setups : ℕ → Setup) (events : List Event) (end : Knows) → Happen (nothing setups) events end
-        → PushTold [] events → Handed (nothing setups) events end }
+    ensures { (setups : ℕ → Setup) (events : List Event) (end : Knows) → Happen (nothing_known setups) events end
+        → PushTold [] events → Handed (nothing_known setups) events end }
 {}
 
 /// Where nobody makes up what he pushes, no two documents have one dot. So what sites know agrees, as `Promise.alike` asks.
 pub fn nothing_is_made_up()
     ensures { (setups : ℕ → Setup) (events : List Event) (end : Knows)
-        → (happen : Happen (nothing setups) events end) → AllBring (nothing setups) events end happen
+        → (happen : Happen (nothing_known setups) events end) → AllBring (nothing_known setups) events end happen
         → AreSound (knows end) }
 {}
 

@@ -41,8 +41,8 @@ abbrev pub Reaches : {S : Type 0} → (ℕ → S → S → Type 0) → S → S �
 Reaches follows old new = (n : ℕ) × follows n old new
 
 -- by at most so many questions
-abbrev pub Within : {S : Type 0} → (ℕ → S → S → Type 0) → ℕ → S → S → Type 0
-Within follows most old new = (n : ℕ) × (n ≤ most) × follows n old new
+abbrev pub WithinQuestions : {S : Type 0} → (ℕ → S → S → Type 0) → ℕ → S → S → Type 0
+WithinQuestions follows most old new = (n : ℕ) × (n ≤ most) × follows n old new
 
 -- on the way it answered a question
 abbrev pub HasAnswered : {S : Type 0} → (ℕ → S → S → Type 0) → (S → Type 0) → S → S → Type 0

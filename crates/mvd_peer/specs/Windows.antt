@@ -11,12 +11,12 @@ use Rattle.mvd_dots.specs.declared.refusals.Refusal.TheVariants.{StateTooLarge, 
 use Rattle.mvd_keys.specs.State.{State, clashes, join}
 use Rattle.mvd_keys.specs.Writes.{Key}
 use Rattle.mvd_tree.specs.HashTree.{KeyDigests, node_digest}
-use Rattle.mvd_tree.specs.Page.{children_digests, is_more_after_page, page_of}
+use Rattle.mvd_tree.specs.Page.{children_digests, is_more_after_page, bucket_page}
 use Rattle.mvd_wire.specs.declared.reply.Digests.{Digests}
 use Rattle.mvd_site.specs.Answer.{digests, is_too_large}
 use Rattle.mvd_site.specs.Held.{States, state_at}
 use Rattle.mvd_peer.specs.PushedStates.{pushed}
-use Rattle.mvd_peer.specs.Sides.{HasAnswered, HasRefused, Within, is_of_key, is_of_question}
+use Rattle.mvd_peer.specs.Sides.{HasAnswered, HasRefused, WithinQuestions, is_of_key, is_of_question}
 
 -- each question with its answer
 abbrev pub ForEach : {Q A : Type 0} → (Q → A → Type 0) → List Q → List A → Type 0
@@ -91,14 +91,14 @@ abbrev pub for_pages : Type 0 → States → Kind (List ℕ × Option (List ℕ)
 for_pages was_faithful states = record {
   may = λ _ _. Unit {0};
   was_faithful = was_faithful;
-  right = λ q page. (page.0.items ≡ page_of (digests states) q.0 q.1)
+  right = λ q page. (page.0.items ≡ bucket_page (digests states) q.0 q.1)
       × (page.1 ≡ is_more_after_page (digests states) q.0 q.1);
   refuses = λ q. RefusesPage q.0;
 }
 
 -- the keys of a page of a bucket after a key, as these states give them
 abbrev pub HasKeys : States → List ℕ → Option (List ℕ) → PageValue → Type 0
-HasKeys states path after page = page.0.items ≡ page_of (digests states) path after
+HasKeys states path after page = page.0.items ≡ bucket_page (digests states) path after
 
 -- and whether more are left
 abbrev pub TellsMore : States → List ℕ → Option (List ℕ) → PageValue → Type 0
@@ -132,8 +132,8 @@ pub record Asked {S Q A : Type 0} (m : Manner S) (kind : Kind Q A) (questions : 
 abbrev pub nodes_of : {S : Type 0} → (S → Type 0) → (S → States) → S → Kind (List ℕ) Digests
 nodes_of is_faithful states side = for_nodes (is_faithful side) (states side)
 
-abbrev pub pages_of : {S : Type 0} → (S → Type 0) → (S → States) → S → Kind (List ℕ × Option (List ℕ)) PageValue
-pages_of is_faithful states side = for_pages (is_faithful side) (states side)
+abbrev pub pages_kind : {S : Type 0} → (S → Type 0) → (S → States) → S → Kind (List ℕ × Option (List ℕ)) PageValue
+pages_kind is_faithful states side = for_pages (is_faithful side) (states side)
 
 abbrev pub gets_of : {S : Type 0} → (Key → State → Type 0) → (S → Type 0) → (S → States) → S → Kind Key State
 gets_of can_give is_faithful states side = for_states can_give (is_faithful side) (states side)
@@ -146,7 +146,7 @@ AskedAll m kind questions old new result = IfOk result (λ told. Asked m (kind o
 -- Questions that came to an end: at most so many were made, and the side refused so, or memory was refused
 pub record Ends {S : Type 0} (follows : ℕ → S → S → Type 0) (can_refuse : S → Refusal → Type 0) (most : ℕ) (old new : S)
     (refusal : Refusal) : Type 0 where
-  pub count : Within follows most old new
+  pub count : WithinQuestions follows most old new
   pub cause : HasRefused follows can_refuse old new refusal ⊎ (refusal ≡ Memory)
 
 -- Why a side that takes at most so many keys, and holds these states, refuses a push: 9, 10 and 11 for these causes;
@@ -199,8 +199,8 @@ abbrev pub IsPushed : {S : Type 0} → Holding S → Key → State → (old new 
 IsPushed s key state old new = s.is_faithful new × (s.states new ≡ pushed (s.states old) key state)
 
 -- a state was taken
-abbrev pub Takes : States → Key → State → States → Type 0
-Takes old key state new = (clashes (state_at old key) state ≡ false) × (new ≡ pushed old key state)
+abbrev pub TakesState : States → Key → State → States → Type 0
+TakesState old key state new = (clashes (state_at old key) state ≡ false) × (new ≡ pushed old key state)
 
 -- a refusal that may leave open whether a push was taken: 20, 22, or one from 30 on
 abbrev pub leaves_open : Refusal → Bool
@@ -221,5 +221,5 @@ abbrev pub IsLeftOpen : Refusal → Type 0
 IsLeftOpen refusal = leaves_open refusal ≡ true
 
 -- what a push that was refused leaves: the states that were, unless the refusal leaves open whether it was taken
-abbrev pub Leaves : States → Key → State → States → Refusal → Type 0
-Leaves old key state new refusal = (new ≡ old) ⊎ ((leaves_open refusal ≡ true) × Takes old key state new)
+abbrev pub LeavesOfPush : States → Key → State → States → Refusal → Type 0
+LeavesOfPush old key state new refusal = (new ≡ old) ⊎ ((leaves_open refusal ≡ true) × TakesState old key state new)

@@ -8,9 +8,9 @@ ghost use Rattle.mvd_keys.specs.Writes.{Key};
 ghost use Rattle.mvd_site.specs.Held.{AreHeld, States, state_at};
 ghost use Rattle.mvd_site.specs.Answer.{digests};
 ghost use Rattle.mvd_peer.specs.Sides.{IsOfNoQuestion, StaysFaithful};
-ghost use Rattle.mvd_peer.specs.Windows.{AskedAll, CannotTake, Ends, HasKeys, IsLeftOpen, IsNode, IsPushed, Leaves};
+ghost use Rattle.mvd_peer.specs.Windows.{AskedAll, CannotTake, Ends, HasKeys, IsLeftOpen, IsNode, IsPushed, LeavesOfPush};
 ghost use Rattle.mvd_peer.specs.Windows.{PushedAll, PushedSome, RefusesPage, TellsMore};
-ghost use Rattle.mvd_peer.specs.Windows.{for_pushes, gets_of, holding, manner, nodes_of, pages_of};
+ghost use Rattle.mvd_peer.specs.Windows.{for_pushes, gets_of, holding, manner, nodes_of, pages_kind};
 
 use crate::windows::{is_over, left_open, room_for};
 use mvd_dots::Refusal;
@@ -100,7 +100,7 @@ pub trait Peer {
         ensures apart { is_faithful self.old →
             OnOk result (clashes (state_at (states self.old) key.now) state.now ≡ false) }
         ensures refused { is_faithful self.old →
-            IfErr result (Leaves (states self.old) key.now state.now (states self.new)) }
+            IfErr result (LeavesOfPush (states self.old) key.now state.now (states self.new)) }
         ensures unbroken { is_faithful self.old →
             IfErr result (λ refusal. refusal ≢ Refusal.Broken → is_faithful self.new) }
         ensures cause { is_faithful self.old →
@@ -135,7 +135,7 @@ pub trait Peer {
     ) -> Result<Vec<Result<Page, Refusal>>, Refusal>
         ensures kept { StaysFaithful is_faithful states self.old self.new }
         ensures told { AskedAll (manner follows can_refuse can_answer)
-            (pages_of is_faithful states) asked.now self.old self.new result }
+            (pages_kind is_faithful states) asked.now self.old self.new result }
         ensures ended { IfErr result (Ends follows can_refuse (length asked.now) self.old self.new) }
         ensures not_of_question { is_faithful self.old → IfErr result IsOfNoQuestion }
     {

@@ -1,7 +1,8 @@
 //! Lines of a few words.
 ghost use Rattle.std.specs.Prelude.{◌≡◌, ◌++◌, OnOk, string_bytes};
 ghost use Rattle.mvd_print.specs.Added.{Extends};
-ghost use Rattle.mvd_print.specs.Text.{done_text, keys_text, left_text, message_text, more_left_text, none_such_text, refused_text, two_words, written_text};
+ghost use Rattle.mvd_print.specs.Text.{done_text, keys_text, left_text, message_text, more_left_text, none_such_text};
+ghost use Rattle.mvd_print.specs.Text.{refused_text, two_words, written_text};
 
 use crate::words::{push_dot, push_number, push_word};
 use mvd_dots::{Dot, Refusal};

@@ -1,7 +1,8 @@
 //! Places of indexes, rows of views, and keys with their numbers of siblings, a line each.
 ghost use Rattle.std.specs.Prelude.{◌≡◌, ◌++◌, OnOk, IsOkUnless, string_bytes};
 ghost use Rattle.mvd_print.specs.Added.{Extends};
-ghost use Rattle.mvd_print.specs.Text.{count_text, ends_text, line, list_text, place_text, places_text, row_words, spot_words, two_text, view_row_text};
+ghost use Rattle.mvd_print.specs.Text.{count_text, ends_text, line, list_text, place_text, places_text, row_words};
+ghost use Rattle.mvd_print.specs.Text.{spot_words, two_text, view_row_text};
 
 use crate::words::{push_dot, push_number, push_signed, push_term, push_whole, push_word};
 use mvd_docs::Term;

@@ -8,9 +8,9 @@ use Rattle.sqlite.specs.State.{State, Executes}
 use Rattle.sqlite.specs.Listing.{understood}
 use Rattle.sqlite.proofs.Callers.{runs_as, statement_of}
 use Rattle.mvd_records.specs.Tables.{all_tables}
-use Rattle.mvd_records.specs.States.{States}
+use Rattle.mvd_records.specs.States.{StoredStates}
 use Rattle.mvd_records.specs.Records.{HoldsRecords, SavesStates, SavesState, StaysInside, with_pairs}
-use Rattle.mvd_records.specs.Pairs.{Pair, entries_of}
+use Rattle.mvd_records.specs.Pairs.{Pair, pair_entries}
 use Rattle.mvd_records.proofs.Saved.{saved}
 use Rattle.mvd_records.proofs.Texts.{save_text, save_command, save_is, save_plain}
 
@@ -21,7 +21,7 @@ set version site old new key bytes count sound holds h =
     let w = runs_as save_text (Text key ∷ Blob bytes ∷ []) old new all_tables holds.tables.schema save_command save_is save_plain count h in
     (w.sound, saved old.step_limit (statement_of save_text (understood all_tables save_text)) version site old.now new.now w.tally key bytes sound holds w.changed)
 
-with_more : (states : States) (pairs : List (List ℕ × List ℕ)) (p : List ℕ × List ℕ) → with_pairs states (pairs ++ p ∷ []) ≡ insert (with_pairs states pairs) p.0 p.1
+with_more : (states : StoredStates) (pairs : List (List ℕ × List ℕ)) (p : List ℕ × List ℕ) → with_pairs states (pairs ++ p ∷ []) ≡ insert (with_pairs states pairs) p.0 p.1
 with_more states [] p = refl
 with_more states (q ∷ pairs) p = with_more (insert states q.0 q.1) pairs p
 
@@ -31,7 +31,7 @@ none_saved db = record { old_same = refl; saved = refl }
 pub one_more : (a b c : Database) (pairs : List (List ℕ × List ℕ)) (key bytes : List ℕ) → SavesStates a b pairs → SavesState b c key bytes → SavesStates a c (pairs ++ (key, bytes) ∷ [])
 one_more a b c pairs key bytes so_far one = record {
   old_same = one.old_same ∙ so_far.old_same;
-  saved = one.saved ∙ (ap (λ (m : States). insert m key bytes) so_far.saved ∙ sym (with_more _ pairs (key, bytes)));
+  saved = one.saved ∙ (ap (λ (m : StoredStates). insert m key bytes) so_far.saved ∙ sym (with_more _ pairs (key, bytes)));
 }
 
 -- nothing was done
@@ -41,8 +41,8 @@ stays_self a = record {
   survives = record { clean = omega arith; shield = λ h. h; counts = omega arith; limit = refl; closes = λ _ was. inl was; crash = λ _ _ may. inl may };
 }
 
-pub entries_more : (pairs : List Pair) (i : ℕ) (p : Pair) → take (i + 1) pairs ≡ take i pairs ++ p ∷ [] → entries_of (take (i + 1) pairs) ≡ entries_of (take i pairs) ++ (p.0, p.1.items) ∷ []
-entries_more pairs i p e = ap entries_of e ∙ map-append _ (take i pairs) (p ∷ [])
+pub entries_more : (pairs : List Pair) (i : ℕ) (p : Pair) → take (i + 1) pairs ≡ take i pairs ++ p ∷ [] → pair_entries (take (i + 1) pairs) ≡ pair_entries (take i pairs) ++ (p.0, p.1.items) ∷ []
+entries_more pairs i p e = ap pair_entries e ∙ map-append _ (take i pairs) (p ∷ [])
 
 pub saves_as : (a b : Database) (key key' bytes bytes' : List ℕ) → key ≡ key' → bytes ≡ bytes' → SavesState a b key bytes → SavesState a b key' bytes'
 saves_as a b key key' bytes bytes' k d it = subst (λ x. SavesState a b x bytes') k (subst (SavesState a b key) d it)

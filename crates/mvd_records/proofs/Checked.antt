@@ -9,9 +9,9 @@ use Rattle.sqlite.specs.Given.{IsPlain}
 use Rattle.sqlite.specs.State.{State, HasCleanDisk, KeepsCommit, Survives, Shown, CommitsShowing}
 use Rattle.sqlite.proofs.Callers.{never_commits}
 use Rattle.sqlite.proofs.StateLemmas.{survives_then, survives_weaker}
-use Rattle.mvd_records.specs.Tables.{all_tables, old_states, new_states}
+use Rattle.mvd_records.specs.Tables.{all_tables, old_states_table, new_states_table}
 use Rattle.mvd_records.specs.States.{states_in}
-use Rattle.mvd_records.specs.Records.{IsSound, IsSettled, HoldsRecords, OnlyReads, Leaves, HasNone, AreDisjoint, rows_at}
+use Rattle.mvd_records.specs.Records.{IsSound, IsQuiescent, HoldsRecords, OnlyReads, LeavesTrees, HasNone, AreDisjoint, rows_at}
 use Rattle.mvd_records.specs.Records as maps
 use Rattle.mvd_records.proofs.Calls.{shown_open}
 use Rattle.mvd_records.proofs.Rules.{AreStates, apart_in, old_states_of, new_states_of}
@@ -20,11 +20,11 @@ use Rattle.mvd_records.proofs.Texts.{any_old_text, any_both_text}
 use Rattle.mvd_records.proofs.Asked.{any_old, any_both, no_state, no_row, maps_apart, rows_unlike}
 
 -- the schema that a statement meets
-pub met_schema : (version site : ℕ) (old : State) → IsSettled old → IsTrue old.is_open → HoldsRecords version site old.committed → old.now.schema ≡ all_tables
+pub met_schema : (version site : ℕ) (old : State) → IsQuiescent old → IsTrue old.is_open → HoldsRecords version site old.committed → old.now.schema ≡ all_tables
 met_schema version site old settled was holds = ap (λ (d : Database). d.schema) (settled.settled was) ∙ holds.tables.schema
 
 -- a query that is plain under all tables only reads
-pub only_reads : (sql : List ℕ) (old new : State) → IsPlain (understood all_tables sql) → IsSettled old → (IsSound new → IsSound old)
+pub only_reads : (sql : List ℕ) (old new : State) → IsPlain (understood all_tables sql) → IsQuiescent old → (IsSound new → IsSound old)
     → (HasCleanDisk new → IsPlain (understood old.now.schema sql) → KeepsCommit old new) → Survives old new (CommitsShowing sql [] old) → OnlyReads old new
 only_reads sql old new plain settled before keeps survives = record {
   before = before;
@@ -53,15 +53,15 @@ reads_nothing s = record {
 }
 
 -- the rows of the two tables
-pub states_of : (version site : ℕ) (old : State) → IsSettled old → IsTrue old.is_open → HoldsRecords version site old.committed → AreStates (old.now.trees 0) × AreStates (old.now.trees 4)
+pub states_of : (version site : ℕ) (old : State) → IsQuiescent old → IsTrue old.is_open → HoldsRecords version site old.committed → AreStates (old.now.trees 0) × AreStates (old.now.trees 4)
 states_of version site old settled was holds =
     let now : old.now ≡ old.committed = settled.settled was in
     let here = subst (HoldsRecords version site) (sym now) holds in
     let sound = (settled.live was).0 in
-    (old_states_of old.now here.tables.schema sound (here.tables.rows old_states (inl refl)), new_states_of old.now here.tables.schema sound (here.tables.rows new_states (inr (inr (inl refl)))))
+    (old_states_of old.now here.tables.schema sound (here.tables.rows old_states_table (inl refl)), new_states_of old.now here.tables.schema sound (here.tables.rows new_states_table (inr (inr (inl refl)))))
 
 -- the two maps, by those rows
-pub maps_of : (version site : ℕ) (old : State) → IsSettled old → IsTrue old.is_open → HoldsRecords version site old.committed
+pub maps_of : (version site : ℕ) (old : State) → IsQuiescent old → IsTrue old.is_open → HoldsRecords version site old.committed
     → (maps.old_states old.committed ≡ states_in (old.now.trees 0)) × (maps.new_states old.committed ≡ states_in (old.now.trees 4))
 maps_of version site old settled was holds =
     let now : old.now ≡ old.committed = settled.settled was in
@@ -84,21 +84,21 @@ pub tells_inside : (version site : ℕ) (old new : State) (rows : List Row) (any
 tells_inside version site old new rows any sound holds h is =
     let has = holds.tables.schema in
     let asked = any_old old new rows has h in
-    let are = old_states_of old.now has sound (holds.tables.rows old_states (inl refl)) in
+    let are = old_states_of old.now has sound (holds.tables.rows old_states_table (inl refl)) in
     subst (λ m. Tells (HasNone m) any) (sym (ap states_in (rows_there old.now has).0)) (answer any is asked (apart_in _ are))
   where
     answer : (any : Bool) → MatchBool any (rows ≢ []) (rows ≡ []) → (rows ≡ [] → old.now.trees 0 ≡ []) × (old.now.trees 0 ≡ [] → rows ≡ []) → Rattle.mvd_records.proofs.Rows.IsApart (old.now.trees 0) → Tells (HasNone (states_in (old.now.trees 0))) any
     answer true some both apart = λ none. some (both.1 (no_row _ apart none))
     answer false none both apart = no_state _ (both.0 none)
 
-pub tells_old : (version site : ℕ) (old new : State) (rows : List Row) (any : Bool) → IsSettled old → HoldsRecords version site old.committed → Shown any_old_text [] old new rows → MatchBool any (rows ≢ []) (rows ≡ [])
+pub tells_old : (version site : ℕ) (old new : State) (rows : List Row) (any : Bool) → IsQuiescent old → HoldsRecords version site old.committed → Shown any_old_text [] old new rows → MatchBool any (rows ≢ []) (rows ≡ [])
     → Tells (HasNone (maps.old_states old.committed)) any
 tells_old version site old new rows any settled holds h is =
     let was = shown_open any_old_text [] old new rows h in
     let now = settled.settled was in
     subst (λ (d : Database). Tells (HasNone (maps.old_states d)) any) now (tells_inside version site old new rows any (settled.live was).0 (subst (HoldsRecords version site) (sym now) holds) h is)
 
-pub tells_both : (version site : ℕ) (old new : State) (rows : List Row) (any : Bool) → IsSettled old → HoldsRecords version site old.committed → Shown any_both_text [] old new rows → MatchBool any (rows ≢ []) (rows ≡ [])
+pub tells_both : (version site : ℕ) (old new : State) (rows : List Row) (any : Bool) → IsQuiescent old → HoldsRecords version site old.committed → Shown any_both_text [] old new rows → MatchBool any (rows ≢ []) (rows ≡ [])
     → Tells (AreDisjoint (maps.old_states old.committed) (maps.new_states old.committed)) any
 tells_both version site old new rows any settled holds h is =
     let was = shown_open any_both_text [] old new rows h in
@@ -131,7 +131,7 @@ on_ok (Ok x) P Q R f h k = f x h k
 on_ok (Err e) P Q R f h k = tt
 
 -- the text is plain under the schema that it meets
-pub plain_at : (sql : List ℕ) (version site : ℕ) (old : State) → IsPlain (understood all_tables sql) → IsSettled old → IsTrue old.is_open → HoldsRecords version site old.committed → IsPlain (understood old.now.schema sql)
+pub plain_at : (sql : List ℕ) (version site : ℕ) (old : State) → IsPlain (understood all_tables sql) → IsQuiescent old → IsTrue old.is_open → HoldsRecords version site old.committed → IsPlain (understood old.now.schema sql)
 plain_at sql version site old plain settled was holds = subst (λ s. IsPlain (understood s sql)) (sym (met_schema version site old settled was holds)) plain
 
 pub on_then : {X E : Type 0} (r : Result X E) (P Q : Type 0) → (P → Q) → OnOk r P → OnOk r Q
@@ -147,5 +147,5 @@ on_err (Ok x) P Q f h = tt
 on_err (Err e) P Q f h = f h
 
 -- a call that only reads leaves nothing else to a crash
-pub reads_leave : (a b : State) (Q : ℕ → ℕ → Database → Type 0) → OnlyReads a b → Survives a b (Leaves a Q)
+pub reads_leave : (a b : State) (Q : ℕ → ℕ → Database → Type 0) → OnlyReads a b → Survives a b (LeavesTrees a Q)
 reads_leave a b Q reads = survives_weaker a b _ _ (λ _ db left version site was holds. absurd ((left version site was holds).2)) reads.survives

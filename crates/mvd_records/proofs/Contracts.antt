@@ -11,13 +11,13 @@ use Rattle.mvd_dots.specs.declared.refusals.Refusal.{Refusal}
 use Rattle.mvd_dots.specs.declared.refusals.Refusal.TheVariants.{Damaged, Memory, Store}
 use Rattle.mvd_records.specs.declared.loading.StateTable.{StateTable}
 use Rattle.mvd_records.specs.declared.loading.StateTable.TheVariants.{Version1, Version2}
-use Rattle.mvd_records.specs.States.{States}
-use Rattle.mvd_records.specs.Pairs.{Pair, entries_of, rises}
-use Rattle.mvd_records.specs.Records.{EndsMove, HasNone, HoldsRecords, IsSound, IsWhole, LacksKey, Leaves, LeavesMade, LeavesUnmade, MovesState, OnlyReads, SavesState, SavesStates, marks_of, new_states, old_states, states_at, with_pairs}
+use Rattle.mvd_records.specs.States.{StoredStates}
+use Rattle.mvd_records.specs.Pairs.{Pair, pair_entries, pairs_rise}
+use Rattle.mvd_records.specs.Records.{EndsMove, HasNone, HoldsRecords, IsSound, IsWhole, LacksKey, LeavesTrees, LeavesMade, LeavesUnmade, MovesState, OnlyReads, SavesState, SavesStates, marks_of, new_states, old_states, states_at, with_pairs}
 use Rattle.mvd_records.specs.Contents.{Contents, EndsMoves, Holds, MovesKey, SetsStates, map_of}
-use Rattle.mvd_records.specs.Calls.{Commits, Finishes, IsOpened, IsRefused, LeavesChange, Loads, Moves, SavesAll}
+use Rattle.mvd_records.specs.Calls.{Commits, Finishes, IsOpenedAs, IsRefusedAs, LeavesChange, Loads, MovesOldKey, SavesAll}
 use Rattle.mvd_records.specs.Foreign.{HoldsForeign}
-use Rattle.mvd_records.specs.Jobs.{DoesWhole, LeavesDone, Meaning, OfRecords, always, finishing, moving, opening}
+use Rattle.mvd_records.specs.Jobs.{DoesWhole, LeavesJob, Meaning, OfRecords, always, finishing, moving, opening}
 use Rattle.mvd_records.proofs.Calls.{same_commit, sound_before}
 use Rattle.mvd_records.proofs.Checked.{if_err, if_ok}
 use Rattle.mvd_records.proofs.Marked.{told_store}
@@ -58,7 +58,7 @@ module _ (old mid new : State) (found : IsFound old mid) where
       subst (λ (d : Database). OnErr result (new.committed ≡ d)) (commit_found before sound) (same sound)
 
 pub left : (P : Change) (C : Contents → Contents → Type 0) (s : State) (trees : Trees) → Follows P C → IsTrue s.is_open →
-    Leaves s (λ version site db. P version site s.committed db) trees → LeavesChange C s trees
+    LeavesTrees s (λ version site db. P version site s.committed db) trees → LeavesChange C s trees
 left P C s trees follows is_open leaves = (
   is_open,
   λ was holds. (
@@ -69,14 +69,14 @@ left P C s trees follows is_open leaves = (
 
 -- what a crash leaves of a store that was found open is left of it as it was before
 leaves_as : (P : Change) (old mid : State) (trees : Trees) → IsUnchanged old mid →
-    Leaves mid (λ version site db. P version site mid.committed db) trees → Leaves old (λ version site db. P version site old.committed db) trees
+    LeavesTrees mid (λ version site db. P version site mid.committed db) trees → LeavesTrees old (λ version site db. P version site old.committed db) trees
 leaves_as P old mid trees same leaves version site _ holds =
     let is = same.0.committed_is in
     let it = leaves version site same.0.is_open (subst (HoldsRecords version site) (sym is) holds) in
     (it.0, it.1, subst (λ (d : Database). P version site d it.0) is it.2, it.3)
 
 pub survives_found : (P : Change) (C : Contents → Contents → Type 0) (old mid new : State) → Follows P C → IsFound old mid →
-    Survives mid new (Leaves mid (λ version site db. P version site mid.committed db)) → Survives old new (LeavesChange C old)
+    Survives mid new (LeavesTrees mid (λ version site db. P version site mid.committed db)) → Survives old new (LeavesChange C old)
 survives_found P C old mid new follows found it =
     survives_then _ _ _ _ _ _ (λ _ _ none. absurd none) (λ clean trees leaves. (
     let early : HasCleanDisk mid = omega (arith, it.clean, clean) in
@@ -94,7 +94,7 @@ sets pairs was a b holds it = (
   record {
     records = it.0;
     old_is = it.1.old_same ∙ holds.old_is;
-    new_is = it.1.saved ∙ ap (λ (m : States). with_pairs m pairs) holds.new_is;
+    new_is = it.1.saved ∙ ap (λ (m : StoredStates). with_pairs m pairs) holds.new_is;
   },
 )
 
@@ -105,18 +105,18 @@ sets_one key state was a b holds it = (
   record {
     records = it.0;
     old_is = it.1.old_same ∙ holds.old_is;
-    new_is = it.1.saved ∙ ap (λ (m : States). insert m key state) holds.new_is;
+    new_is = it.1.saved ∙ ap (λ (m : StoredStates). insert m key state) holds.new_is;
   },
 )
 
 pub moves : (key state : List ℕ) → Follows (λ version site a b. HoldsRecords version site b × MovesState a b key state) (MovesKey key state)
 moves key state was a b holds it = (
   record was { old_map = remove was.old_map key; new_map = insert was.new_map key state },
-  record { there = (it.1.was.0, subst (λ (m : States). get m key ≡ Some it.1.was.0) holds.old_is it.1.was.1); is = refl },
+  record { there = (it.1.was.0, subst (λ (m : StoredStates). get m key ≡ Some it.1.was.0) holds.old_is it.1.was.1); is = refl },
   record {
     records = it.0;
-    old_is = it.1.removed ∙ ap (λ (m : States). remove m key) holds.old_is;
-    new_is = it.1.saved ∙ ap (λ (m : States). insert m key state) holds.new_is;
+    old_is = it.1.removed ∙ ap (λ (m : StoredStates). remove m key) holds.old_is;
+    new_is = it.1.saved ∙ ap (λ (m : StoredStates). insert m key state) holds.new_is;
   },
 )
 
@@ -135,7 +135,7 @@ pub of_records : (P : Database → Database → Type 0) (C : Contents → Conten
 of_records P C follows was a b holds sound makes = let it = makes was.version was.site sound holds.records in (it.0, follows was a b holds it.1)
 
 module _ {A : Type 0} (job : Meaning A) (C : Contents → Contents → Type 0) (follows : (out : A) (was : Contents) (a b : Database) → Holds a was → IsDatabase a → job.makes out a b → IsDatabase b × ((now : Contents) × C was now × Holds b now)) where
-  leaves_change : (s : State) (result : Result A Refusal) (trees : Trees) → LeavesDone job result s trees → LeavesChange C s trees
+  leaves_change : (s : State) (result : Result A Refusal) (trees : Trees) → LeavesJob job result s trees → LeavesChange C s trees
   leaves_change s result trees (told, is_open, (out, db, did, is)) =
       (is_open, λ was holds. (let n = follows out was s.committed db holds did.0 did.1 in (n.1.0, n.1.1, db, n.0, n.1.2, is)))
 
@@ -165,13 +165,13 @@ never : (e : Refusal) → e ≡ Store → e ≡ Damaged → ⊥
 never e a b = let apart : Store ≡ Damaged = sym a ∙ b in cc
 
 pub moves_key : (key state : List ℕ) (version : ℕ) (old new : State) (result : Result ⊤ Refusal) → DoesWhole (moving key state) old result new
-    → Moves (record { version = version; store = old }) key state result (record { version = version; store = new })
+    → MovesOldKey (record { version = version; store = old }) key state result (record { version = version; store = new })
 moves_key key state version old new result it = record {
   commits = commits_whole (moving key state) (MovesKey key state) (λ _. of_records (λ a b. MovesState a b key state) (MovesKey key state) (moves key state)) old new result it;
   refusal = if_err result _ _ (λ e h. elim h [ inl is ↦ inr is | inr is ↦ inl is ]) it.refusal;
   damaged = λ was sound holds. if_err result _ _ (λ e h is. elim h [
     | inl store ↦ absurd (never e store is)
-    | inr did ↦ subst (λ (m : States). LacksKey m key) holds.old_is (did.1 was.version was.site did.0 holds.records)
+    | inr did ↦ subst (λ (m : StoredStates). LacksKey m key) holds.old_is (did.1 was.version was.site did.0 holds.records)
   ]) (it.refused sound);
   unchanged = it.unchanged;
   version = refl;
@@ -184,17 +184,17 @@ finishes_moves version version' old new result raised it = record {
   refusal = if_err result _ _ (λ e h. elim h [ inl is ↦ inr is | inr is ↦ inl is ]) it.refusal;
   damaged = λ was sound holds. if_err result _ _ (λ e h is. elim h [
     | inl store ↦ absurd (never e store is)
-    | inr did ↦ subst (λ (m : States). ¬ HasNone m) holds.old_is (did.1 was.version was.site did.0 holds.records)
+    | inr did ↦ subst (λ (m : StoredStates). ¬ HasNone m) holds.old_is (did.1 was.version was.site did.0 holds.records)
   ]) (it.refused sound);
   unchanged = λ was sound holds. it.unchanged sound;
   version = raised;
 }
 
 -- what a crash may leave of an opening
-leaves_made : (site : ℕ) (s : State) (result : Result ℕ Refusal) (trees : Trees) → LeavesDone (opening site) result s trees → LeavesMade s site trees
+leaves_made : (site : ℕ) (s : State) (result : Result ℕ Refusal) (trees : Trees) → LeavesJob (opening site) result s trees → LeavesMade s site trees
 leaves_made site s result trees (told, is_open, (version, db, did, is)) _ ours = let it = did.1 ours did.0 in (db, version, it.0, it.1, is)
 
-pub opened_whole : (site : ℕ) (old new : State) (version : ℕ) → DoesWhole (opening site) old (Ok version) new → ¬ HoldsForeign old → IsOpened old site (record { version = version; store = new })
+pub opened_whole : (site : ℕ) (old new : State) (version : ℕ) → DoesWhole (opening site) old (Ok version) new → ¬ HoldsForeign old → IsOpenedAs old site (record { version = version; store = new })
 opened_whole site old new version it own = record {
   before = it.before;
   opened = λ sound ours. (let did = it.made sound in (did.1 ours did.0).1);
@@ -203,7 +203,7 @@ opened_whole site old new version it own = record {
   own = own;
 }
 
-pub refused_whole : (site : ℕ) (old new : State) (e : Refusal) → DoesWhole (opening site) old (Err e) new → IsRefused old site e new
+pub refused_whole : (site : ℕ) (old new : State) (e : Refusal) → DoesWhole (opening site) old (Err e) new → IsRefusedAs old site e new
 refused_whole site old new e it = record {
   before = it.before;
   refusal = elim it.refusal [ inl is ↦ inr (inr is) | inr other ↦ elim other [ inl mismatch ↦ inl mismatch | inr damaged ↦ inr (inl damaged) ] ];
@@ -213,8 +213,8 @@ refused_whole site old new e it = record {
 }
 
 -- why a call is refused, of what was held
-pub lacking : {A : Type 0} (result : Result A Refusal) (P : States → Type 0) (db : Database) (was : Contents) → Holds db was → IfErr result (λ e. e ≡ Damaged → P (old_states db)) → IfErr result (λ e. e ≡ Damaged → P was.old_map)
-lacking result P db was holds it = subst (λ (m : States). IfErr result (λ e. e ≡ Damaged → P m)) holds.old_is it
+pub lacking : {A : Type 0} (result : Result A Refusal) (P : StoredStates → Type 0) (db : Database) (was : Contents) → Holds db was → IfErr result (λ e. e ≡ Damaged → P (old_states db)) → IfErr result (λ e. e ≡ Damaged → P was.old_map)
+lacking result P db was holds it = subst (λ (m : StoredStates). IfErr result (λ e. e ≡ Damaged → P m)) holds.old_is it
 
 -- ---- loads
 
@@ -222,12 +222,12 @@ at_table : (table : StateTable) (db : Database) (it : Contents) → Holds db it 
 at_table Version1 db it holds = holds.old_is
 at_table Version2 db it holds = holds.new_is
 
-of_maps : (table : StateTable) (P : States → States → States → Type 0) (db : Database) (it : Contents) → Holds db it → P (states_at table db) (old_states db) (new_states db) → P (map_of table it) it.old_map it.new_map
-of_maps table P db it holds p = subst (λ (m : States). P m it.old_map it.new_map) (at_table table db it holds) (subst₂ (λ (o n : States). P (states_at table db) o n) holds.old_is holds.new_is p)
+of_maps : (table : StateTable) (P : StoredStates → StoredStates → StoredStates → Type 0) (db : Database) (it : Contents) → Holds db it → P (states_at table db) (old_states db) (new_states db) → P (map_of table it) it.old_map it.new_map
+of_maps table P db it holds p = subst (λ (m : StoredStates). P m it.old_map it.new_map) (at_table table db it holds) (subst₂ (λ (o n : StoredStates). P (states_at table db) o n) holds.old_is holds.new_is p)
 
 pub loads : (table : StateTable) (version : ℕ) (old mid new : State) (result : Result (Vec Pair Global) Refusal) → IsFound old mid → OnlyReads mid new
-    → ((marked site : ℕ) → IsSound new → HoldsRecords marked site mid.committed → IfOk result (λ pairs. entries_of pairs.items ≡ entries (states_at table mid.committed)))
-    → IfOk result (λ pairs. rises (entries_of pairs.items))
+    → ((marked site : ℕ) → IsSound new → HoldsRecords marked site mid.committed → IfOk result (λ pairs. pair_entries pairs.items ≡ entries (states_at table mid.committed)))
+    → IfOk result (λ pairs. pairs_rise (pair_entries pairs.items))
     → ((marked site : ℕ) → IsSound new → HoldsRecords marked site mid.committed → OnOk result (IsWhole version (states_at table mid.committed) (old_states mid.committed) (new_states mid.committed)))
     → ((marked site : ℕ) → IsSound new → HoldsRecords marked site mid.committed → IfErr result (λ e. e ≡ Damaged → ¬ IsWhole version (states_at table mid.committed) (old_states mid.committed) (new_states mid.committed)))
     → IfErr result (λ e. (e ≡ Damaged) ⊎ ((e ≡ Memory) ⊎ (e ≡ Store)))
@@ -237,7 +237,7 @@ loads table version old mid new result found reads loaded rising whole damaged r
     let there = held_found old mid new found reads.before in
     record {
       before = before_found old mid new found reads.before;
-      loaded = λ was sound holds. (let h = there was sound holds in of_maps table (λ m _ _. IfOk result (λ pairs. entries_of pairs.items ≡ entries m)) mid.committed was h (loaded was.version was.site sound h.records));
+      loaded = λ was sound holds. (let h = there was sound holds in of_maps table (λ m _ _. IfOk result (λ pairs. pair_entries pairs.items ≡ entries m)) mid.committed was h (loaded was.version was.site sound h.records));
       rising = rising;
       sorted = if_ok result _ _ (λ pairs up. pairs_sorted pairs.items up) rising;
       whole = λ was sound holds. (let h = there was sound holds in of_maps table (λ m o n. OnOk result (IsWhole version m o n)) mid.committed was h (whole was.version was.site sound h.records));

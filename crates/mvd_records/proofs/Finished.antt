@@ -8,9 +8,9 @@ use Rattle.sqlite_trees.specs.declared.store.Shape.TheVariants as shape
 use Rattle.sqlite.specs.State.{State, Executes}
 use Rattle.sqlite.specs.Listing.{understood}
 use Rattle.sqlite.proofs.Callers.{runs_as, statement_of}
-use Rattle.mvd_records.specs.Tables.{all_tables, old_states, meta, new_states}
+use Rattle.mvd_records.specs.Tables.{all_tables, old_states_table, meta, new_states_table}
 use Rattle.mvd_records.specs.States.{states_in}
-use Rattle.mvd_records.specs.Records.{IsSettled, IsSound, HoldsRecords, KeepsStates, EndsMove, HasNone, Leaves, OnlyReads}
+use Rattle.mvd_records.specs.Records.{IsQuiescent, IsSound, HoldsRecords, KeepsStates, EndsMove, HasNone, LeavesTrees, OnlyReads}
 use Rattle.mvd_records.specs.Records as maps
 use Rattle.mvd_records.proofs.Texts.{finish_text, finish_query, finish_is, finish_plain}
 use Rattle.mvd_records.proofs.Saving.{plain_mode}
@@ -23,7 +23,7 @@ finished limit text version site db after tally holds h =
     let has = holds.tables.schema in
     let it = finishes limit text db after tally version site has (holds.tables.rows meta (inr (inl refl))) holds.marks h in (
       record {
-        tables = with_rows after it.0 (subst (IsShaped shape.Table) (sym it.1.old_rows) (holds.tables.rows old_states (inl refl))) it.1.shaped (subst (IsShaped shape.Table) (sym it.1.new_rows) (holds.tables.rows new_states (inr (inr (inl refl)))));
+        tables = with_rows after it.0 (subst (IsShaped shape.Table) (sym it.1.old_rows) (holds.tables.rows old_states_table (inl refl))) it.1.shaped (subst (IsShaped shape.Table) (sym it.1.new_rows) (holds.tables.rows new_states_table (inr (inr (inl refl)))));
         marks = it.1.marks;
       },
       record {

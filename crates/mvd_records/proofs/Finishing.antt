@@ -30,7 +30,7 @@ use Rattle.sqlite_rules.specs.Action.{Writes}
 use Rattle.sqlite_rules.specs.Calls.{ids_of}
 use Rattle.sqlite_rules.specs.Lists.{Has}
 use Rattle.mvd_records.specs.Tables.{all_tables, meta}
-use Rattle.mvd_records.specs.States.{AreMarks, shown}
+use Rattle.mvd_records.specs.States.{AreMarks, shown_row}
 use Rattle.mvd_records.proofs.Rules.{int_value}
 use Rattle.mvd_records.proofs.Asked.{text_tie}
 use Rattle.mvd_records.proofs.Marked.{either, in_order, turned}
@@ -110,20 +110,20 @@ second_put a b i own less =
     rw (tie, low) (rw low refl)
 
 pub record Finishes (db next : Trees) (site : ℕ) : Type 0 where
-  pub marks : AreMarks 2 site (map shown (next 2))
+  pub marks : AreMarks 2 site (map shown_row (next 2))
   pub shaped : IsShaped shape.Table (next 2)
   pub old_rows : next 0 ≡ db 0
   pub new_rows : next 4 ≡ db 4
 
-ended : (db next : Trees) (i : ℤ) (site : ℕ) → IsShaped shape.Table (db 2) → Remarks db next (new_mark i) i → AreMarks 2 site (map shown (put_row (new_mark i) (without_all (db 2) (i ∷ [])))) → Finishes db next site
+ended : (db next : Trees) (i : ℤ) (site : ℕ) → IsShaped shape.Table (db 2) → Remarks db next (new_mark i) i → AreMarks 2 site (map shown_row (put_row (new_mark i) (without_all (db 2) (i ∷ [])))) → Finishes db next site
 ended db next i site shaped it marks = record {
-  marks = subst (λ (rows : List Row). AreMarks 2 site (map shown rows)) (sym it.rows) marks;
+  marks = subst (λ (rows : List Row). AreMarks 2 site (map shown_row rows)) (sym it.rows) marks;
   shaped = subst (IsShaped shape.Table) (sym it.rows) (IsShaped-put_row (new_mark i) (without_all (db 2) (i ∷ [])) refl (IsShaped-filter shape.Table (λ q. not (has_rowid i q)) (db 2) shaped));
   old_rows = it.old_rows;
   new_rows = it.new_rows;
 }
 
-pub finishes : (limit : Option ℕ) (text : List ℕ) (db after : Database) (tally : Tally) (version site : ℕ) → db.schema ≡ all_tables → IsShaped shape.Table (db.trees 2) → AreMarks version site (map shown (db.trees 2))
+pub finishes : (limit : Option ℕ) (text : List ℕ) (db after : Database) (tally : Tally) (version site : ℕ) → db.schema ≡ all_tables → IsShaped shape.Table (db.trees 2) → AreMarks version site (map shown_row (db.trees 2))
     → Does limit plain_mode [] db text None (Update 1 (record { lets = []; body = finish_query })) (Ok (tally, after)) → (after.schema ≡ all_tables) × Finishes db.trees after.trees site
 finishes limit text db after tally version site has shaped marks h = go (db.trees 2) refl
   where
@@ -131,21 +131,21 @@ finishes limit text db after tally version site has shaped marks h = go (db.tree
     other x e = named x (codes "site") e
 
     go : (rows : List Row) → db.trees 2 ≡ rows → (after.schema ≡ all_tables) × Finishes db.trees after.trees site
-    go [] e = absurd (let none : length (map shown (db.trees 2)) ≡ 0 = ap (λ (l : List Row). length (map shown l)) e in omega (arith, length_permutation _ _ marks, none))
-    go (a ∷ []) e = absurd (let one : length (map shown (db.trees 2)) ≡ 1 = ap (λ (l : List Row). length (map shown l)) e in omega (arith, length_permutation _ _ marks, one))
-    go (a ∷ b ∷ c ∷ more) e = absurd (omega (arith, length_permutation _ _ marks, length-map (db.trees 2) shown, ap length e))
+    go [] e = absurd (let none : length (map shown_row (db.trees 2)) ≡ 0 = ap (λ (l : List Row). length (map shown_row l)) e in omega (arith, length_permutation _ _ marks, none))
+    go (a ∷ []) e = absurd (let one : length (map shown_row (db.trees 2)) ≡ 1 = ap (λ (l : List Row). length (map shown_row l)) e in omega (arith, length_permutation _ _ marks, one))
+    go (a ∷ b ∷ c ∷ more) e = absurd (omega (arith, length_permutation _ _ marks, length-map (db.trees 2) shown_row, ap length e))
     go (a ∷ b ∷ []) e =
         let up = subst (IsShaped shape.Table) e shaped in
         let less : value_cmp (rowid a) (rowid b) ≡ Less = up.0.0.0 in
-        elim (either (shown a) (shown b) version site (subst (λ (l : List Row). AreMarks version site (map shown l)) e marks)) [
+        elim (either (shown_row a) (shown_row b) version site (subst (λ (l : List Row). AreMarks version site (map shown_row l)) e marks)) [
           | inl it ↦ (
               let i = int_value (rowid a) up.1.0 in
               let there : Has (db.trees 2) a = subst (λ (l : List Row). Has l a) (sym e) (inl refl) in
               let one = λ (x : Row) (h : Has (db.trees 2) x) (p : picks x ≡ true). (let is : x ≡ a = (elim (subst (λ (l : List Row). Has l x) e h) [ inl first ↦ first | inr more ↦ elim more [ inl second ↦ absurd (let no : true ≡ false = sym p ∙ (ap picks second ∙ other b it.1.0) in cc) | inr none ↦ absurd none ] ]) in is) in
               let done = updated limit text db after tally a i.0 has shaped there i.1 it.0.0 one h in (
                 done.0,
-                ended db.trees after.trees i.0 site shaped done.1 (subst (λ (l : List Row). AreMarks 2 site (map shown (put_row (new_mark i.0) (without_all l (i.0 ∷ []))))) (sym e)
-                    (subst (λ (l : List Row). AreMarks 2 site (map shown l)) (sym (first_put a b i.0 i.1 less)) (in_order (shown (new_mark i.0)) (shown b) 2 site ((refl, refl), it.1)))),
+                ended db.trees after.trees i.0 site shaped done.1 (subst (λ (l : List Row). AreMarks 2 site (map shown_row (put_row (new_mark i.0) (without_all l (i.0 ∷ []))))) (sym e)
+                    (subst (λ (l : List Row). AreMarks 2 site (map shown_row l)) (sym (first_put a b i.0 i.1 less)) (in_order (shown_row (new_mark i.0)) (shown_row b) 2 site ((refl, refl), it.1)))),
               ))
           | inr it ↦ (
               let i = int_value (rowid b) up.1.1.0 in
@@ -153,7 +153,7 @@ finishes limit text db after tally version site has shaped marks h = go (db.tree
               let one = λ (x : Row) (h : Has (db.trees 2) x) (p : picks x ≡ true). (let is : x ≡ b = (elim (subst (λ (l : List Row). Has l x) e h) [ inl first ↦ absurd (let no : true ≡ false = sym p ∙ (ap picks first ∙ other a it.1.0) in cc) | inr more ↦ elim more [ inl second ↦ second | inr none ↦ absurd none ] ]) in is) in
               let done = updated limit text db after tally b i.0 has shaped there i.1 it.0.0 one h in (
                 done.0,
-                ended db.trees after.trees i.0 site shaped done.1 (subst (λ (l : List Row). AreMarks 2 site (map shown (put_row (new_mark i.0) (without_all l (i.0 ∷ []))))) (sym e)
-                    (subst (λ (l : List Row). AreMarks 2 site (map shown l)) (sym (second_put a b i.0 i.1 less)) (turned (shown a) (shown (new_mark i.0)) 2 site ((refl, refl), it.1)))),
+                ended db.trees after.trees i.0 site shaped done.1 (subst (λ (l : List Row). AreMarks 2 site (map shown_row (put_row (new_mark i.0) (without_all l (i.0 ∷ []))))) (sym e)
+                    (subst (λ (l : List Row). AreMarks 2 site (map shown_row l)) (sym (second_put a b i.0 i.1 less)) (turned (shown_row a) (shown_row (new_mark i.0)) 2 site ((refl, refl), it.1)))),
               ))
         ]

@@ -9,13 +9,13 @@ use Rattle.mvd_dots.specs.declared.refusals.Refusal.{Refusal}
 use Rattle.mvd_dots.specs.declared.refusals.Refusal.TheVariants.{Damaged}
 use Rattle.mvd_records.specs.declared.loading.StateTable.{StateTable}
 use Rattle.mvd_records.specs.declared.loading.StateTable.TheVariants.{Version1, Version2}
-use Rattle.mvd_records.specs.States.{States}
-use Rattle.mvd_records.specs.Pairs.{Pair, entries_of}
-use Rattle.mvd_records.specs.Records.{EndsMove, HasNone, HoldsRecords, IsSound, IsWhole, LacksKey, Leaves, MovesState}
+use Rattle.mvd_records.specs.States.{StoredStates}
+use Rattle.mvd_records.specs.Pairs.{Pair, pair_entries}
+use Rattle.mvd_records.specs.Records.{EndsMove, HasNone, HoldsRecords, IsSound, IsWhole, LacksKey, LeavesTrees, MovesState}
 use Rattle.mvd_records.specs.Records.{OnlyReads, SavesState, SavesStates, new_states, old_states, states_at}
 use Rattle.mvd_records.specs.Contents.{Contents, EndsMoves, Holds, MovesKey, SetsStates, map_of}
 use Rattle.mvd_records.specs.Seen.{Seen}
-use Rattle.mvd_records.specs.Calls.{Commits, Finishes, SameCommit, Loads, Moves, Saves, SavesAll}
+use Rattle.mvd_records.specs.Calls.{Commits, Finishes, SameCommit, Loads, MovesOldKey, Saves, SavesAll}
 use Rattle.mvd_records.proofs.Contracts.{Change}
 
 abbrev pub contents_of : ℕ → ℕ → Database → Contents
@@ -43,7 +43,7 @@ module _ {A : Type 0} (C : Contents → Contents → Type 0) (P : Change) (gives
       on_ok_map result _ _ (λ d. gives version site old.committed new.committed d.0 d.1 d.2)
       (it.done (contents_of version site old.committed) sound (holds_all version site old.committed holds))
 
-  pub survives_of : Survives old new (λ trees. IsTrue old.is_open × Leaves old (λ version site db. P version site old.committed db) trees)
+  pub survives_of : Survives old new (λ trees. IsTrue old.is_open × LeavesTrees old (λ version site db. P version site old.committed db) trees)
   survives_of = survives_weaker _ _ _ _ (λ _ trees left. (
     left.0,
     λ version site is_open holds. (
@@ -98,7 +98,7 @@ module _ {A : Type 0} (old new : Seen) (pairs : List (List ℕ × List ℕ)) (re
       OnOk result (SavesStates old.store.committed new.store.committed pairs)
   all_saved version site sound holds = on_ok_map result _ _ (λ d. d.1) (sets version site sound holds)
 
-  pub all_survive : Survives old.store new.store (λ trees. IsTrue old.store.is_open × Leaves old.store (λ version site db.
+  pub all_survive : Survives old.store new.store (λ trees. IsTrue old.store.is_open × LeavesTrees old.store (λ version site db.
       HoldsRecords version site db × SavesStates old.store.committed db pairs) trees)
   all_survive = survives_of (SetsStates pairs) _ (sets_gives pairs) old.store new.store result it.commits
 
@@ -109,14 +109,14 @@ module _ {A : Type 0} (old new : Seen) (key state : List ℕ) (result : Result A
   saves_saved version site sound holds = on_ok_map result _ _ (λ d. d.1)
       (done_of (SetsStates ((key, state) ∷ [])) _ (set_gives key state) old.store new.store result it.commits version site sound holds)
 
-  pub saves_survives : Survives old.store new.store (λ trees. IsTrue old.store.is_open × Leaves old.store (λ version site db.
+  pub saves_survives : Survives old.store new.store (λ trees. IsTrue old.store.is_open × LeavesTrees old.store (λ version site db.
       HoldsRecords version site db × SavesState old.store.committed db key state) trees)
   saves_survives = survives_of (SetsStates ((key, state) ∷ [])) _ (set_gives key state) old.store new.store result it.commits
 
 -- ---- move_key
 
 module _ {A : Type 0} (old new : Seen) (key state : List ℕ) (result : Result A Refusal)
-    (it : Moves old key state result new) where
+    (it : MovesOldKey old key state result new) where
   moved : (version site : ℕ) → IsSound new.store → HoldsRecords version site old.store.committed →
       OnOk result (HoldsRecords version site new.store.committed × MovesState old.store.committed new.store.committed key state)
   moved = done_of (MovesKey key state) _ (moves_gives key state) old.store new.store result it.commits
@@ -134,7 +134,7 @@ module _ {A : Type 0} (old new : Seen) (key state : List ℕ) (result : Result A
       IfErr result (λ e. e ≡ Damaged → LacksKey (old_states old.store.committed) key)
   moves_damaged version site sound holds = it.damaged (contents_of version site old.store.committed) sound (holds_all version site old.store.committed holds)
 
-  pub moves_survives : Survives old.store new.store (λ trees. IsTrue old.store.is_open × Leaves old.store (λ version site db.
+  pub moves_survives : Survives old.store new.store (λ trees. IsTrue old.store.is_open × LeavesTrees old.store (λ version site db.
       HoldsRecords version site db × MovesState old.store.committed db key state) trees)
   moves_survives = survives_of (MovesKey key state) _ (moves_gives key state) old.store new.store result it.commits
 
@@ -154,13 +154,13 @@ module _ {A : Type 0} (old new : Seen) (result : Result A Refusal) (it : Finishe
   finishes_unchanged version site sound holds = it.unchanged (contents_of version site old.store.committed) sound (holds_all version site old.store.committed holds)
 
   pub finishes_survives : Survives old.store new.store (λ trees. IsTrue old.store.is_open ×
-      Leaves old.store (λ _ site db. EndsMove site old.store.committed db) trees)
+      LeavesTrees old.store (λ _ site db. EndsMove site old.store.committed db) trees)
   finishes_survives =
       survives_of EndsMoves (λ _ site a b. EndsMove site a b) ends_gives old.store new.store result it.commits
 
 -- ---- load_all and load_old
 
-of_table : (table : StateTable) (P : States → Type 0) (version site : ℕ) (db : Database) → P (map_of table (contents_of version site db)) → P (states_at table db)
+of_table : (table : StateTable) (P : StoredStates → Type 0) (version site : ℕ) (db : Database) → P (map_of table (contents_of version site db)) → P (states_at table db)
 of_table Version1 P version site db it = it
 of_table Version2 P version site db it = it
 
@@ -174,9 +174,9 @@ module _ (table : StateTable) (old new : Seen) (result : Result (Vec Pair Global
   }
 
   pub loads_entries : (version site : ℕ) → IsSound new.store → HoldsRecords version site old.store.committed →
-      IfOk result (λ pairs. entries_of pairs.items ≡ entries (states_at table old.store.committed))
+      IfOk result (λ pairs. pair_entries pairs.items ≡ entries (states_at table old.store.committed))
   loads_entries version site sound holds =
-      of_table table (λ m. IfOk result (λ pairs. entries_of pairs.items ≡ entries m)) version site old.store.committed
+      of_table table (λ m. IfOk result (λ pairs. pair_entries pairs.items ≡ entries m)) version site old.store.committed
       (it.loaded (contents_of version site old.store.committed) sound (holds_all version site old.store.committed holds))
 
   pub loads_whole : (version site : ℕ) → IsSound new.store → HoldsRecords version site old.store.committed → OnOk result

@@ -8,13 +8,13 @@ use Rattle.sqlite.specs.State.{State, HasCleanDisk, KeepsCommit, Survives, Execu
 use Rattle.sqlite.proofs.InsideLemmas.{inside_keeps, keeps_then, unchanged_keeps}
 use Rattle.sqlite.proofs.StateLemmas.{survives_then}
 use Rattle.mvd_records.specs.Records.{StaysInside}
-use Rattle.mvd_records.specs.Jobs.{Ran}
+use Rattle.mvd_records.specs.Jobs.{RanStatement}
 use Rattle.mvd_records.proofs.Calls.{not_shown}
 
 pub execute_stays : (old new : State) (sql : List ℕ) (params : Row) (r : Result ℕ Error) → (HasCleanDisk new → IsTrue old.in_transaction → ExecutesInside 0 sql params old new r) → Survives old new (λ _. ⊥) → StaysInside old new
 execute_stays old new sql params r runs survives = record { kept = λ clean inside. inside_keeps old new 0 false sql params r (runs clean inside); survives = survives }
 
-pub ran_inside : (sql : List ℕ) (params : Row) (old new : State) (count : ℕ) → ExecutesInside 0 sql params old new (Ok count) → Ran sql params old count new
+pub ran_inside : (sql : List ℕ) (params : Row) (old new : State) (count : ℕ) → ExecutesInside 0 sql params old new (Ok count) → RanStatement sql params old count new
 ran_inside sql params old new count h = record { did = h.0; inside = h.1.mode }
 
 pub stays_then : (a b c : State) → (HasCleanDisk b → IsTrue a.in_transaction → IsTrue b.in_transaction) → StaysInside a b → StaysInside b c → StaysInside a c

@@ -13,9 +13,9 @@ use Rattle.sqlite.proofs.Callers.{begins_as}
 use Rattle.sqlite_rules.specs.Lists.{Has}
 use Rattle.mvd_keys.specs.Key.{is_key}
 use Rattle.mvd_records.specs.Tables.{all_tables}
-use Rattle.mvd_records.specs.States.{states_in, shown, shown_entry}
-use Rattle.mvd_records.specs.Pairs.{ArePairs, rises}
-use Rattle.mvd_records.specs.Records.{IsSettled, HoldsRecords, AreKeys, states_at}
+use Rattle.mvd_records.specs.States.{states_in, shown_row, shown_row_entry}
+use Rattle.mvd_records.specs.Pairs.{ArePairs, pairs_rise}
+use Rattle.mvd_records.specs.Records.{IsQuiescent, HoldsRecords, AreKeys, states_at}
 use Rattle.mvd_records.specs.declared.loading.StateTable.{StateTable}
 use Rattle.mvd_records.specs.declared.loading.StateTable.TheVariants.{Version1, Version2}
 use Rattle.mvd_records.proofs.Rows.{key_of, order}
@@ -41,11 +41,11 @@ all_at P (x ∷ es) e all (inr later) = all_at P es e all.1 later
 all_at P [] e all there = absurd there
 
 -- each key of the map is among the rows that are shown
-keys_in : (rows answer : List Row) → Lists rows answer → AllByRecursion (λ (e : Entry). is_key e.0 ≡ true) (map shown_entry answer) → AreKeys (states_in rows)
+keys_in : (rows answer : List Row) → Lists rows answer → AllByRecursion (λ (e : Entry). is_key e.0 ≡ true) (map shown_row_entry answer) → AreKeys (states_in rows)
 keys_in rows answer lists form key state got =
     let x = get_has rows key state got in
-    let there = has_moved (map shown rows) answer (shown x.0) lists.same (mapped shown rows x.0 x.1) in
-    subst (λ k. is_key k ≡ true) x.2 (all_at (λ (e : Entry). is_key e.0 ≡ true) (map shown_entry answer) (shown_entry (shown x.0)) form (mapped shown_entry answer (shown x.0) there))
+    let there = has_moved (map shown_row rows) answer (shown_row x.0) lists.same (mapped shown_row rows x.0 x.1) in
+    subst (λ k. is_key k ≡ true) x.2 (all_at (λ (e : Entry). is_key e.0 ≡ true) (map shown_row_entry answer) (shown_row_entry (shown_row x.0)) form (mapped shown_row_entry answer (shown_row x.0) there))
 
 both_left : (a b : Bool) → T (a && b) → T a
 both_left true b h = tt
@@ -67,9 +67,9 @@ sorted_front : (xs ys : List Entry) → T (is_sorted order (xs ++ ys)) → T (is
 sorted_front [] ys h = tt
 sorted_front (x ∷ xs) ys h = both _ _ (below_front x.0 xs ys (both_left _ _ h)) (sorted_front xs ys (both_right _ _ h))
 
-map_front : (rows tail : List Row) → map shown_entry (rows ++ tail) ≡ map shown_entry rows ++ map shown_entry tail
+map_front : (rows tail : List Row) → map shown_row_entry (rows ++ tail) ≡ map shown_row_entry rows ++ map shown_row_entry tail
 map_front [] tail = refl
-map_front (r ∷ rows) tail = ap (λ l. shown_entry r ∷ l) (map_front rows tail)
+map_front (r ∷ rows) tail = ap (λ l. shown_row_entry r ∷ l) (map_front rows tail)
 
 has_front : (rows tail : List Row) (row : Row) → Has rows row → Has (rows ++ tail) row
 has_front (r ∷ rows) tail row (inl is) = inl is
@@ -79,13 +79,13 @@ has_front [] tail row there = absurd there
 front_pairs : (rows tail : List Row) → ArePairs (rows ++ tail) → ArePairs rows
 front_pairs rows tail are = record {
   each = λ row there. are.each row (has_front rows tail row there);
-  rising = sorted_front (map shown_entry rows) (map shown_entry tail) (subst (λ es. T (is_sorted order es)) (map_front rows tail) are.rising);
+  rising = sorted_front (map shown_row_entry rows) (map shown_row_entry tail) (subst (λ es. T (is_sorted order es)) (map_front rows tail) are.rising);
 }
 
 keys_of_rows : (rows : List Row) → AreStates rows → AreKeys (states_in rows) → (x : Row) → Has rows x → is_key (key_of x) ≡ true
 keys_of_rows rows are keys x there = keys (key_of x) _ (has_get rows x there (apart_in rows are))
 
-module _ (table : StateTable) (version site : ℕ) (old : State) (settled : IsSettled old) (holds : HoldsRecords version site old.committed) where
+module _ (table : StateTable) (version site : ℕ) (old : State) (settled : IsQuiescent old) (holds : HoldsRecords version site old.committed) where
   -- the rows of the table, and the map that they are
   are : IsTrue old.is_open → AreStates (old.now.trees (tree_of table))
   are was = choose table
@@ -101,12 +101,12 @@ module _ (table : StateTable) (version site : ℕ) (old : State) (settled : IsSe
       choose Version1 = (maps_of version site old settled was holds).0
       choose Version2 = (maps_of version site old settled was holds).1
 
-  pub loaded_table : (new : State) (rows : List Row) → Shown (load_text table) [] old new rows → rises (map shown_entry rows) → entries (states_at table old.committed) ≡ map shown_entry rows
+  pub loaded_table : (new : State) (rows : List Row) → Shown (load_text table) [] old new rows → pairs_rise (map shown_row_entry rows) → entries (states_at table old.committed) ≡ map shown_row_entry rows
   loaded_table new rows h up =
       let was = shown_open (load_text table) [] old new rows h in
       ap entries (map_is was) ∙ loaded _ _ (listed table old new rows (met_schema version site old settled was holds) h) up
 
-  pub keys_table : (new : State) (rows : List Row) → Shown (load_text table) [] old new rows → AllByRecursion (λ (e : Entry). is_key e.0 ≡ true) (map shown_entry rows) → AreKeys (states_at table old.committed)
+  pub keys_table : (new : State) (rows : List Row) → Shown (load_text table) [] old new rows → AllByRecursion (λ (e : Entry). is_key e.0 ≡ true) (map shown_row_entry rows) → AreKeys (states_at table old.committed)
   keys_table new rows h form =
       let was = shown_open (load_text table) [] old new rows h in
       subst AreKeys (sym (map_is was)) (keys_in _ _ (listed table old new rows (met_schema version site old settled was holds) h) form)

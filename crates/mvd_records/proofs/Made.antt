@@ -13,7 +13,7 @@ use Rattle.sqlite.specs.View.{IsShaped}
 use Rattle.sqlite.proofs.Callers.{IsPlain, command_of, statement_of, runs_as}
 use Rattle.sqlite_trees.specs.declared.store.Shape.TheVariants as shape
 use Rattle.sqlite.specs.Change as change
-use Rattle.mvd_records.specs.Tables.{no_tables, old_tables, all_tables, old_states, meta, new_states}
+use Rattle.mvd_records.specs.Tables.{no_tables, old_tables, all_tables, old_states_table, meta, new_states_table}
 use Rattle.mvd_records.specs.Records.{HasTables, IsOurs, KeepsRows, rows_at}
 use Rattle.mvd_records.proofs.Saving.{went, same_value}
 use Rattle.mvd_records.proofs.OpenTexts.{states_text, meta_text, states2_text, one_table, first_made, second_made, third_made, there_before, all_there, made_plain, made_texts, last_defined, before_plain, all_plain}
@@ -78,7 +78,7 @@ second_step old new has it = (
   record {
     schema = it.is;
     rows = λ t there. elim there [
-      | inl is ↦ subst (λ (t : Table). IsShaped shape.Table (new.trees t.tree)) (sym is) (subst (IsShaped shape.Table) (sym it.kept.0) (has.rows old_states (inl refl)))
+      | inl is ↦ subst (λ (t : Table). IsShaped shape.Table (new.trees t.tree)) (sym is) (subst (IsShaped shape.Table) (sym it.kept.0) (has.rows old_states_table (inl refl)))
       | inr more ↦ elim more [ inl is ↦ subst (λ (t : Table). IsShaped shape.Table (new.trees t.tree)) (sym is) (subst (IsShaped shape.Table) (sym it.empty) (tt, tt)) | inr none ↦ absurd none ]
     ];
   },
@@ -94,7 +94,7 @@ third_step old new has it = (
   record {
     schema = it.is;
     rows = λ t there. elim there [
-      | inl is ↦ subst (λ (t : Table). IsShaped shape.Table (new.trees t.tree)) (sym is) (subst (IsShaped shape.Table) (sym it.kept.0) (has.rows old_states (inl refl)))
+      | inl is ↦ subst (λ (t : Table). IsShaped shape.Table (new.trees t.tree)) (sym is) (subst (IsShaped shape.Table) (sym it.kept.0) (has.rows old_states_table (inl refl)))
       | inr more ↦ elim more [
         | inl is ↦ subst (λ (t : Table). IsShaped shape.Table (new.trees t.tree)) (sym is) (subst (IsShaped shape.Table) (sym it.kept.1.0) (has.rows meta (inr (inl refl))))
         | inr last ↦ elim last [ inl is ↦ subst (λ (t : Table). IsShaped shape.Table (new.trees t.tree)) (sym is) (subst (IsShaped shape.Table) (sym it.empty) (tt, tt)) | inr none ↦ absurd none ]
@@ -120,7 +120,7 @@ stay P old new same has = (subst P (sym same) has, subst (KeepsRows old) (sym sa
 
 states_made : (old new : State) (count : ℕ) → IsOurs old.now → Executes states_text [] old new (Ok count) → AfterOne new.now × KeepsRows old.now new.now
 states_made old new count (inl has) h =
-    let it = first_step old.now new.now has (makes states_text old new no_tables one_table old_states count has.schema first_made.0 made_plain.0 made_texts.0 first_made.1 first_made.2 refl h) in (inl it.0, it.1)
+    let it = first_step old.now new.now has (makes states_text old new no_tables one_table old_states_table count has.schema first_made.0 made_plain.0 made_texts.0 first_made.1 first_made.2 refl h) in (inl it.0, it.1)
 states_made old new count (inr (inl has)) h = stay AfterOne old.now new.now (leaves states_text old new old_tables count has.schema there_before.0 before_plain.0 h) (inr (inl has))
 states_made old new count (inr (inr has)) h = stay AfterOne old.now new.now (leaves states_text old new all_tables count has.schema all_there.0 all_plain.0 h) (inr (inr has))
 
@@ -132,7 +132,7 @@ meta_made old new count (inr (inr has)) h = stay AfterTwo old.now new.now (leave
 
 last_made : (old new : State) (count : ℕ) → AfterTwo old.now → Executes states2_text [] old new (Ok count) → HasTables all_tables new.now × KeepsRows old.now new.now
 last_made old new count (inl has) h =
-    third_step old.now new.now has (makes states2_text old new old_tables all_tables (record new_states { tree = 0 }) count has.schema third_made.0 made_plain.2 made_texts.2 last_defined third_made.1 refl h)
+    third_step old.now new.now has (makes states2_text old new old_tables all_tables (record new_states_table { tree = 0 }) count has.schema third_made.0 made_plain.2 made_texts.2 last_defined third_made.1 refl h)
 last_made old new count (inr has) h = stay (HasTables all_tables) old.now new.now (leaves states2_text old new all_tables count has.schema all_there.2 all_plain.2 h) has
 
 -- a database that obeyed its schema does so after each of them

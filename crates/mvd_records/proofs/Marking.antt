@@ -27,23 +27,23 @@ use Rattle.sqlite_value.proofs.OrderLemmas.{value_cmp-Int}
 use Rattle.sqlite_trees.proofs.ListLemmas.{map-map, IsPermutation-same}
 use Rattle.mvd_dots.specs.declared.refusals.Refusal.{Refusal}
 use Rattle.mvd_dots.specs.declared.refusals.Refusal.TheVariants.{SiteMismatch, Damaged}
-use Rattle.mvd_records.specs.Tables.{all_tables, old_states, meta, new_states}
-use Rattle.mvd_records.specs.States.{AreMarks, first_two, shown, states_in}
-use Rattle.mvd_records.specs.Records.{HasTables, HoldsRecords, IsSettled, OpensRecords, KeepsRows, KeepsStates, TellsVersion, TellsMarks, marks_of, rows_at}
+use Rattle.mvd_records.specs.Tables.{all_tables, old_states_table, meta, new_states_table}
+use Rattle.mvd_records.specs.States.{AreMarks, first_two, shown_row, states_in}
+use Rattle.mvd_records.specs.Records.{HasTables, HoldsRecords, IsQuiescent, OpensRecords, KeepsRows, KeepsStates, TellsVersion, TellsMarks, marks_of, rows_at}
 use Rattle.mvd_records.proofs.Asked.{one_each}
 use Rattle.mvd_records.proofs.Calls.{shown_open}
 use Rattle.mvd_records.proofs.Saving.{went, same_value, cast_null, cast_int, plain_mode}
 use Rattle.mvd_records.proofs.Saved.{rows_there, with_rows}
 use Rattle.mvd_records.proofs.Texts.{marks_text, marks_query, marks_is, marks_plain, mark_text, mark_terms, mark_is, mark_plain}
 
-listed_marks : (old new : State) (answer : List Row) → old.now.schema ≡ all_tables → Shown marks_text [] old new answer → IsPermutation (map shown (old.now.trees 2)) answer
+listed_marks : (old new : State) (answer : List Row) → old.now.schema ≡ all_tables → Shown marks_text [] old new answer → IsPermutation (map shown_row (old.now.trees 2)) answer
 listed_marks old new answer has h =
     let read = reads_as marks_text [] old new all_tables has _ marks_is.0 marks_plain marks_is.1 answer h in
     let a : IsAnswer marks_query (overlay old.now.trees []) [] answer = read.answer Null in
     let rows = old.now.trees 2 in
     let kept = a.distinct ∙ ap (map (output marks_query)) (a.grouped ∙ one_each (λ (r : Row). [] ∷ r ∷ []) rows) ∙ map-map (output marks_query) (λ (r : Row). [] ∷ r ∷ []) rows in
     let seconds = IsPermutation-map (λ (o : Output). o.1) _ _ (subst (λ k. IsPermutation k a.ordered) kept a.same) in
-    subst (IsPermutation (map shown rows)) (sym a.shown) (subst (λ k. IsPermutation k (map (λ (o : Output). o.1) a.ordered)) (map-map (λ (o : Output). o.1) (λ (r : Row). output marks_query ([] ∷ r ∷ [])) rows) seconds)
+    subst (IsPermutation (map shown_row rows)) (sym a.shown) (subst (λ k. IsPermutation k (map (λ (o : Output). o.1) a.ordered)) (map-map (λ (o : Output). o.1) (λ (r : Row). output marks_query ([] ∷ r ∷ [])) rows) seconds)
 
 pub meta_there : (db : Database) → db.schema ≡ all_tables → rows_at db 2 ≡ db.trees 2
 meta_there db has = ap (λ s. rows_at (record { schema = s; trees = db.trees }) 2) has
@@ -66,18 +66,18 @@ tells_moved p q site (Err _) same h = tt
 pub told_marks : (old new : State) (answer : List Row) (site : ℕ) (r : Result (Option ℕ) Refusal) → HasTables all_tables old.now → Shown marks_text [] old new answer → TellsMarks (map first_two answer) site r → TellsMarks (marks_of old.now) site r
 told_marks old new answer site r has h tells =
     let same = IsPermutation-map first_two _ _ (listed_marks old new answer has.schema h) in
-    let moved : IsPermutation (map shown (old.now.trees 2)) (map first_two answer) = subst (λ l. IsPermutation l (map first_two answer)) (map-map first_two shown (old.now.trees 2)) same in
-    subst (λ (rows : List Row). TellsMarks (map shown rows) site r) (sym (meta_there old.now has.schema)) (tells_moved _ _ site r moved tells)
+    let moved : IsPermutation (map shown_row (old.now.trees 2)) (map first_two answer) = subst (λ l. IsPermutation l (map first_two answer)) (map-map first_two shown_row (old.now.trees 2)) same in
+    subst (λ (rows : List Row). TellsMarks (map shown_row rows) site r) (sym (meta_there old.now has.schema)) (tells_moved _ _ site r moved tells)
 
 -- and what marks are read are those of the table
 pub named_marks : (old new : State) (answer : List Row) (v s : ℕ) → HasTables all_tables old.now → Shown marks_text [] old new answer → AreMarks v s (map first_two answer) → AreMarks v s (marks_of old.now)
 named_marks old new answer v s has h are =
     let same = IsPermutation-map first_two _ _ (listed_marks old new answer has.schema h) in
-    let moved : IsPermutation (map shown (old.now.trees 2)) (map first_two answer) = subst (λ l. IsPermutation l (map first_two answer)) (map-map first_two shown (old.now.trees 2)) same in
-    subst (λ (rows : List Row). AreMarks v s (map shown rows)) (sym (meta_there old.now has.schema)) (IsPermutation-trans _ _ _ moved are)
+    let moved : IsPermutation (map shown_row (old.now.trees 2)) (map first_two answer) = subst (λ l. IsPermutation l (map first_two answer)) (map-map first_two shown_row (old.now.trees 2)) same in
+    subst (λ (rows : List Row). AreMarks v s (map shown_row rows)) (sym (meta_there old.now has.schema)) (IsPermutation-trans _ _ _ moved are)
 
 -- so they are those that the last commit held, where no transaction is under way
-pub named_by : (old new : State) (answer : List Row) (v s : ℕ) → IsSettled old → HasTables all_tables old.committed → Shown marks_text [] old new answer → AreMarks v s (map first_two answer) → AreMarks v s (marks_of old.committed)
+pub named_by : (old new : State) (answer : List Row) (v s : ℕ) → IsQuiescent old → HasTables all_tables old.committed → Shown marks_text [] old new answer → AreMarks v s (map first_two answer) → AreMarks v s (marks_of old.committed)
 named_by old new answer v s settled has h are =
     let now = settled.settled (shown_open marks_text [] old new answer h) in
     subst (λ (d : Database). AreMarks v s (marks_of d)) now (named_marks old new answer v s (subst (HasTables all_tables) (sym now) has) h are)
@@ -85,7 +85,7 @@ named_by old new answer v s settled has h are =
 -- the marks that are there tell the version
 pub told_opens : (version site : ℕ) (old new : Database) → new ≡ old → HasTables all_tables old → TellsMarks (marks_of old) site (Ok (Some version)) → OpensRecords version site old new
 told_opens version site old new same has told = subst (OpensRecords version site old) (sym same) (record {
-  holds = record { tables = has; marks = subst (λ (rows : List Row). AreMarks version site (map shown rows)) (meta_there old has.schema) told.1 };
+  holds = record { tables = has; marks = subst (λ (rows : List Row). AreMarks version site (map shown_row rows)) (meta_there old has.schema) told.1 };
   states = record { old_same = refl; new_same = refl };
   told = inr told;
 })
@@ -99,7 +99,7 @@ pub opens_since : (old mid new : Database) (version site : ℕ) → KeepsRows ol
 opens_since old mid new version site kept it = record {
   holds = it.holds;
   states = record { old_same = it.states.old_same ∙ ap states_in kept.old_rows; new_same = it.states.new_same ∙ ap states_in kept.new_rows };
-  told = subst (λ (l : List Row). TellsVersion (map shown l) site (Ok version)) kept.marks it.told;
+  told = subst (λ (l : List Row). TellsVersion (map shown_row l) site (Ok version)) kept.marks it.told;
 }
 
 -- ---- the first marks
@@ -145,11 +145,11 @@ marks_sound old new site count has h = (runs_as mark_text (Int (pos site) ∷ []
 pub marked : (old new : State) (site count : ℕ) → HasTables all_tables old.now → marks_of old.now ≡ [] → Executes mark_text (Int (pos site) ∷ []) old new (Ok count) → HoldsRecords 2 site new.now × KeepsStates old.now new.now
 marked old new site count has none h =
     let w = runs_as mark_text (Int (pos site) ∷ []) old new all_tables has.schema (Insert 1 (Values mark_terms 3)) mark_is mark_plain count h in
-    let empty : old.now.trees 2 ≡ [] = map_none (old.now.trees 2) (ap (map shown) (sym (meta_there old.now has.schema)) ∙ none) in
+    let empty : old.now.trees 2 ≡ [] = map_none (old.now.trees 2) (ap (map shown_row) (sym (meta_there old.now has.schema)) ∙ none) in
     let it = marks_written old.step_limit (statement_of mark_text (understood all_tables mark_text)) old.now new.now w.tally site has.schema empty w.changed in (
       record {
-        tables = with_rows new.now it.0 (subst (IsShaped shape.Table) (sym it.1.old_rows) (has.rows old_states (inl refl))) (subst (IsShaped shape.Table) (sym it.1.rows) (shaped_marks site)) (subst (IsShaped shape.Table) (sym it.1.new_rows) (has.rows new_states (inr (inr (inl refl)))));
-        marks = IsPermutation-same _ _ (ap (map shown) it.1.rows);
+        tables = with_rows new.now it.0 (subst (IsShaped shape.Table) (sym it.1.old_rows) (has.rows old_states_table (inl refl))) (subst (IsShaped shape.Table) (sym it.1.rows) (shaped_marks site)) (subst (IsShaped shape.Table) (sym it.1.new_rows) (has.rows new_states_table (inr (inr (inl refl)))));
+        marks = IsPermutation-same _ _ (ap (map shown_row) it.1.rows);
       },
       record {
         old_same = ap states_in ((rows_there new.now it.0).0 ∙ (it.1.old_rows ∙ sym (rows_there old.now has.schema).0));
@@ -157,6 +157,6 @@ marked old new site count has none h =
       },
     )
   where
-    map_none : (rows : List Row) → map shown rows ≡ [] → rows ≡ []
+    map_none : (rows : List Row) → map shown_row rows ≡ [] → rows ≡ []
     map_none [] e = refl
     map_none (r ∷ rows) e = absurd cc

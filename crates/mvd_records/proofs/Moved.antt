@@ -11,9 +11,9 @@ use Rattle.sqlite_trees.specs.declared.store.Shape.TheVariants as shape
 use Rattle.sqlite.specs.State.{State, Executes}
 use Rattle.sqlite.specs.Listing.{understood}
 use Rattle.sqlite.proofs.Callers.{runs_as, statement_of}
-use Rattle.mvd_records.specs.Tables.{all_tables, old_states, meta, new_states}
-use Rattle.mvd_records.specs.States.{states_in, shown, AreMarks}
-use Rattle.mvd_records.specs.Records.{HoldsRecords, TakesState, SavesState, MovesState, LacksKey}
+use Rattle.mvd_records.specs.Tables.{all_tables, old_states_table, meta, new_states_table}
+use Rattle.mvd_records.specs.States.{states_in, shown_row, AreMarks}
+use Rattle.mvd_records.specs.Records.{HoldsRecords, TakesStoredState, SavesState, MovesState, LacksKey}
 use Rattle.mvd_records.specs.Records as maps
 use Rattle.mvd_records.proofs.Rows.{key_of, state_of, states_set, states_dropped}
 use Rattle.mvd_records.proofs.Rules.{AreStates, apart_in, old_states_of, new_states_of}
@@ -25,13 +25,13 @@ use Rattle.mvd_records.proofs.Texts.{take_text, take_query, take_is, take_plain,
 pub record Taken (version site : ℕ) (old new : State) (key : List ℕ) (count : ℕ) : Type 0 where
   pub sound : IsDatabase new.now
   pub missing : count ≡ 0 → LacksKey (maps.old_states old.now) key
-  pub there : count ≢ 0 → HoldsRecords version site new.now × TakesState old.now new.now key
+  pub there : count ≢ 0 → HoldsRecords version site new.now × TakesStoredState old.now new.now key
 
 pub taken : (version site : ℕ) (old new : State) (key : List ℕ) (count : ℕ) → IsDatabase old.now → HoldsRecords version site old.now → Executes take_text (Text key ∷ []) old new (Ok count) → Taken version site old new key count
 taken version site old new key count sound holds h =
     let has = holds.tables.schema in
     let w = runs_as take_text (Text key ∷ []) old new all_tables has (Delete 0 (record { lets = []; body = take_query })) take_is take_plain count h in
-    let are : AreStates (old.now.trees 0) = old_states_of old.now has sound (holds.tables.rows old_states (inl refl)) in
+    let are : AreStates (old.now.trees 0) = old_states_of old.now has sound (holds.tables.rows old_states_table (inl refl)) in
     let it = takes old.step_limit (statement_of take_text (understood all_tables take_text)) old.now new.now w.tally key has are w.changed in
     let done = it.1 in
     let mine = (rows_there old.now has).0 in
@@ -45,8 +45,8 @@ taken version site old new key count sound holds h =
       there = λ some. elim done.found [
         | inl there ↦ (
           record {
-            tables = with_rows new.now it.0 done.shaped (subst (IsShaped shape.Table) (sym done.marks) (holds.tables.rows meta (inr (inl refl)))) (subst (IsShaped shape.Table) (sym done.new_rows) (holds.tables.rows new_states (inr (inr (inl refl)))));
-            marks = subst (λ (rows : List Row). AreMarks version site (map shown rows)) (sym done.marks) holds.marks;
+            tables = with_rows new.now it.0 done.shaped (subst (IsShaped shape.Table) (sym done.marks) (holds.tables.rows meta (inr (inl refl)))) (subst (IsShaped shape.Table) (sym done.new_rows) (holds.tables.rows new_states_table (inr (inr (inl refl)))));
+            marks = subst (λ (rows : List Row). AreMarks version site (map shown_row rows)) (sym done.marks) holds.marks;
           },
           record {
             was = (state_of there.0, subst (λ k. get (maps.old_states old.now) k ≡ Some (state_of there.0)) there.2 (subst (λ (rows : List Row). get (states_in rows) (key_of there.0) ≡ Some (state_of there.0)) (sym mine) (has_get (old.now.trees 0) there.0 there.1 (apart_in _ are))));
@@ -63,15 +63,15 @@ pub put : (version site : ℕ) (old new : State) (key state : List ℕ) (count :
 put version site old new key state count sound holds h =
     let has = holds.tables.schema in
     let w = runs_as put_text (Text key ∷ Blob state ∷ []) old new all_tables has (Insert 2 (Values save_terms 3)) put_is put_plain count h in
-    let are : AreStates (old.now.trees 4) = new_states_of old.now has sound (holds.tables.rows new_states (inr (inr (inl refl)))) in
+    let are : AreStates (old.now.trees 4) = new_states_of old.now has sound (holds.tables.rows new_states_table (inr (inr (inl refl)))) in
     let it = puts old.step_limit (statement_of put_text (understood all_tables put_text)) old.now new.now w.tally key state has are w.sound w.changed in
     let done = it.1 in
     let set = states_set (old.now.trees 4) (new.now.trees 4) done.row (apart_in _ are) done.sets in (
       w.sound,
       (
         record {
-          tables = with_rows new.now it.0 (subst (IsShaped shape.Table) (sym done.old_rows) (holds.tables.rows old_states (inl refl))) (subst (IsShaped shape.Table) (sym done.marks) (holds.tables.rows meta (inr (inl refl)))) done.shaped;
-          marks = subst (λ (rows : List Row). AreMarks version site (map shown rows)) (sym done.marks) holds.marks;
+          tables = with_rows new.now it.0 (subst (IsShaped shape.Table) (sym done.old_rows) (holds.tables.rows old_states_table (inl refl))) (subst (IsShaped shape.Table) (sym done.marks) (holds.tables.rows meta (inr (inl refl)))) done.shaped;
+          marks = subst (λ (rows : List Row). AreMarks version site (map shown_row rows)) (sym done.marks) holds.marks;
         },
         record {
           old_same = ap states_in ((rows_there new.now it.0).0 ∙ (done.old_rows ∙ sym (rows_there old.now has).0));
@@ -82,7 +82,7 @@ put version site old new key state count sound holds h =
     )
 
 -- out of one table, and into the other
-pub both_moved : (a b c : Database) (key state : List ℕ) → TakesState a b key → SavesState b c key state → MovesState a c key state
+pub both_moved : (a b c : Database) (key state : List ℕ) → TakesStoredState a b key → SavesState b c key state → MovesState a c key state
 both_moved a b c key state one two = record {
   was = one.was;
   removed = two.old_same ∙ one.removed;

@@ -21,7 +21,7 @@ use Rattle.sqlite_trees.proofs.ListLemmas.{map-map}
 use Rattle.sqlite_rules.specs.Lists.{Has}
 use Rattle.mvd_keys.specs.Key.{is_key}
 use Rattle.mvd_records.specs.Tables.{new_tree}
-use Rattle.mvd_records.specs.States.{shown, shown_entry}
+use Rattle.mvd_records.specs.States.{shown_row, shown_row_entry}
 use Rattle.mvd_records.specs.Pairs.{ArePairs}
 use Rattle.mvd_records.proofs.Rows.{key_of, order, same_key}
 use Rattle.mvd_records.proofs.Rules.{AreStates}
@@ -37,7 +37,7 @@ abbrev key_in : Output → List ℕ
 key_in o = bytes (column o.1 0)
 
 abbrev entry_for : Output → List ℕ × List ℕ
-entry_for o = shown_entry o.1
+entry_for o = shown_row_entry o.1
 
 -- an output that shows a text
 pub record IsText (o : Output) : Type 0 where
@@ -154,8 +154,8 @@ shown_pairs rows answer ordered are keys same up is = record {
   each = λ row there. (let o = has_mapped (λ (o : Output). o.1) ordered row (subst (λ (l : List Row). Has l row) is there) in
       let x = from o.0 o.1 in
       let it = are.entry x.0 x.1 in
-      record { key = it.key; state = it.state; is = o.2 ∙ (ap (λ (p : Output). p.1) x.2 ∙ ap shown it.is); form = subst (λ k. is_key k ≡ true) (ap key_of it.is) (keys x.0 x.1) });
-  rising = subst (λ (l : List Row). T (is_sorted order (map shown_entry l))) (sym is) (subst (λ (es : List (List ℕ × List ℕ)). T (is_sorted order es)) (sym (map-map shown_entry (λ (o : Output). o.1) ordered)) (all_rise ordered texts (λ k d low. up k d (omega arith) low)
+      record { key = it.key; state = it.state; is = o.2 ∙ (ap (λ (p : Output). p.1) x.2 ∙ ap shown_row it.is); form = subst (λ k. is_key k ≡ true) (ap key_of it.is) (keys x.0 x.1) });
+  rising = subst (λ (l : List Row). T (is_sorted order (map shown_row_entry l))) (sym is) (subst (λ (es : List (List ℕ × List ℕ)). T (is_sorted order es)) (sym (map-map shown_row_entry (λ (o : Output). o.1) ordered)) (all_rise ordered texts (λ k d low. up k d (omega arith) low)
       (IsDistinct-IsPermutation (eq_by_cmp order) flips (map key_of rows) (map key_in ordered) (subst (λ ks. IsPermutation ks (map key_in ordered)) (map-map key_in output_of rows) (IsPermutation-map key_in _ _ same)) (keys_distinct rows are))));
 }
   where

@@ -9,7 +9,7 @@ use Rattle.mvd_dots.specs.declared.refusals.Refusal.{Refusal}
 use Rattle.mvd_dots.specs.declared.refusals.Refusal.TheVariants.{Damaged}
 use Rattle.mvd_records.specs.Tables.{all_tables}
 use Rattle.mvd_records.specs.States.{AreMarks, first_two}
-use Rattle.mvd_records.specs.Records.{HasTables, IsMarked, IsSettled, IsVersion, TellsMarks, marks_of}
+use Rattle.mvd_records.specs.Records.{HasTables, IsMarked, IsQuiescent, IsVersion, TellsMarks, marks_of}
 use Rattle.mvd_records.proofs.Calls.{shown_open}
 use Rattle.mvd_records.proofs.Marking.{told_marks}
 use Rattle.mvd_records.proofs.Texts.{marks_text}
@@ -28,7 +28,7 @@ unmarked_in p [] moved none = none_marked p (moved (Ok None) refl)
 unmarked_in p (x ∷ q) moved none = (moved (Err Damaged) ((λ e. absurd cc), none)).1
 
 -- where the rows that were read are no marks, those of the last commit are none of ours
-pub unmarked : (old new : State) (answer : List Row) → IsSettled old → HasTables all_tables old.committed → Shown marks_text [] old new answer
+pub unmarked : (old new : State) (answer : List Row) → IsQuiescent old → HasTables all_tables old.committed → Shown marks_text [] old new answer
     → ((v s : ℕ) → v < 2 ^ 32 → s < 2 ^ 32 → ¬ AreMarks v s (map first_two answer)) → (version site : ℕ) → ¬ IsMarked version site (marks_of old.committed)
 unmarked old new answer settled has h none =
     let now = settled.settled (shown_open marks_text [] old new answer h) in

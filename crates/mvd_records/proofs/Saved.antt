@@ -8,8 +8,8 @@ use Rattle.sqlite.specs.Effect.{Database, IsDatabase}
 use Rattle.sqlite.specs.Does.{Tally, Does}
 use Rattle.sqlite.specs.View.{IsShaped}
 use Rattle.sqlite_trees.specs.declared.store.Shape.TheVariants as shape
-use Rattle.mvd_records.specs.Tables.{all_tables, new_states}
-use Rattle.mvd_records.specs.States.{states_in, shown, AreMarks}
+use Rattle.mvd_records.specs.Tables.{all_tables, new_states_table}
+use Rattle.mvd_records.specs.States.{states_in, shown_row, AreMarks}
 use Rattle.mvd_records.specs.Records.{HasTables, HoldsRecords, SavesState, rows_at}
 use Rattle.mvd_records.proofs.Rows.{state_of, states_set}
 use Rattle.mvd_records.proofs.Rules.{AreStates, apart_in, new_states_of}
@@ -37,13 +37,13 @@ pub saved : (limit : Option ℕ) (text : List ℕ) (version site : ℕ) (db afte
     → Does limit plain_mode (Text key ∷ Blob state ∷ []) db text None save_command (Ok (tally, after)) → HoldsRecords version site after × SavesState db after key state
 saved limit text version site db after tally key state sound holds h =
     let has = holds.tables.schema in
-    let are : AreStates (db.trees 4) = new_states_of db has sound (holds.tables.rows new_states (inr (inr (inl refl)))) in
+    let are : AreStates (db.trees 4) = new_states_of db has sound (holds.tables.rows new_states_table (inr (inr (inl refl)))) in
     let it = saves limit text db after tally key state has are h in
     let done = it.1 in
     let set = states_set (db.trees 4) (after.trees 4) done.row (apart_in _ are) done.sets in (
       record {
         tables = with_rows after it.0 (subst (IsShaped shape.Table) (sym done.old_rows) (holds.tables.rows _ (inl refl))) (subst (IsShaped shape.Table) (sym done.marks) (holds.tables.rows _ (inr (inl refl)))) done.shaped;
-        marks = subst (λ (rows : List Row). AreMarks version site (map shown rows)) (sym done.marks) holds.marks;
+        marks = subst (λ (rows : List Row). AreMarks version site (map shown_row rows)) (sym done.marks) holds.marks;
       },
       record {
         old_same = ap states_in ((rows_there after it.0).0 ∙ (done.old_rows ∙ sym (rows_there db has).0));

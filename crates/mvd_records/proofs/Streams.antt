@@ -13,8 +13,8 @@ use Rattle.sqlite.specs.declared.error.Error.{Error}
 use Rattle.sqlite.proofs.Callers.{unchanged_then}
 use Rattle.sqlite.proofs.InsideLemmas.{unchanged_keeps}
 use Rattle.sqlite_rules.specs.Lists.{Has}
-use Rattle.mvd_records.specs.Pairs.{IsPair, ArePairs, rises}
-use Rattle.mvd_records.specs.States.{shown_entry}
+use Rattle.mvd_records.specs.Pairs.{IsPair, ArePairs, pairs_rise}
+use Rattle.mvd_records.specs.States.{shown_row_entry}
 use Rattle.mvd_keys.specs.Key.{is_key}
 use Rattle.std.specs.List.{AllByRecursion}
 use Rattle.std.proofs.lemmas.List.{map-append}
@@ -38,15 +38,15 @@ begins_since sql params first old rows same h =
     (h.0, earlier sql params first old h.0 same h.1, h.2, h.3, subst (λ (d : Database). IsSourceOf (reads_listing d.schema sql) d h.3) same.0.now_is h.4, h.5)
 
 -- the last row is why they are no pairs
-pub not_pairs : (rows : List Row) (row : Row) → (IsPair row → ¬ rises (map shown_entry (rows ++ row ∷ []))) → ¬ ArePairs (rows ++ row ∷ [])
+pub not_pairs : (rows : List Row) (row : Row) → (IsPair row → ¬ pairs_rise (map shown_row_entry (rows ++ row ∷ []))) → ¬ ArePairs (rows ++ row ∷ [])
 not_pairs rows row why it = why (it.each row (last_there rows)) it.rising
   where
     last_there : (xs : List Row) → Has (xs ++ row ∷ []) row
     last_there [] = inl refl
     last_there (x ∷ xs) = inr (last_there xs)
 
-pub one_more : (rows : List Row) (row : Row) → map shown_entry (rows ++ row ∷ []) ≡ map shown_entry rows ++ shown_entry row ∷ []
-one_more rows row = map-append shown_entry rows (row ∷ [])
+pub one_more : (rows : List Row) (row : Row) → map shown_row_entry (rows ++ row ∷ []) ≡ map shown_row_entry rows ++ shown_row_entry row ∷ []
+one_more rows row = map-append shown_row_entry rows (row ∷ [])
 
 pub all_form : (entries : List (List ℕ × List ℕ)) (e : List ℕ × List ℕ) → AllByRecursion (λ x. is_key x.0 ≡ true) entries → is_key e.0 ≡ true → AllByRecursion (λ (x : List ℕ × List ℕ). is_key x.0 ≡ true) (entries ++ e ∷ [])
 all_form [] e all last = (last, tt)

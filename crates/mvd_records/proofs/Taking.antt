@@ -34,7 +34,7 @@ use Rattle.sqlite_rules.specs.Lists.{Has}
 use Rattle.sqlite_rules.proofs.ListLemmas.{has_filtered, has_kept, some_from}
 use Rattle.sqlite_rules.proofs.PlaceLemmas.{tied_same}
 use Rattle.sqlite_rules.proofs.TableLemmas.{has_put, put_all_keeps}
-use Rattle.mvd_records.specs.Tables.{all_tables, old_states, new_states}
+use Rattle.mvd_records.specs.Tables.{all_tables, old_states_table, new_states_table}
 use Rattle.mvd_records.proofs.Rows.{IsEntry, Drops, looked_up, key_of, same_key}
 use Rattle.mvd_records.proofs.Rules.{AreStates, new_states_of}
 use Rattle.mvd_records.proofs.Asked.{text_tie}
@@ -99,9 +99,9 @@ record Cut (db next : Trees) (gone : List ℤ) : Type 0 where
   marks : next 2 ≡ db 2
   new_rows : next 4 ≡ db 4
 
-cut : (db next : Trees) (gone : List ℤ) → Writes all_tables Enforced db (record { table = old_states; gone = gone; news = [] }) (Ok next) → Cut db next gone
+cut : (db next : Trees) (gone : List ℤ) → Writes all_tables Enforced db (record { table = old_states_table; gone = gone; news = [] }) (Ok next) → Cut db next gone
 cut db next gone h =
-    let it = one_step all_tables Enforced db next (record { table = old_states; gone = gone; news = [] }) refl h in
+    let it = one_step all_tables Enforced db next (record { table = old_states_table; gone = gone; news = [] }) refl h in
     record { rows = it.rows; marks = it.tables.1.0 (λ e. absurd (omega (arith, e))); new_rows = it.tables.1.1.0 (λ e. absurd (omega (arith, e))) }
 
 tied : (o : Ordering) → is_eq o ≡ true → o ≡ Equal
@@ -151,7 +151,7 @@ takes limit text db after tally key has are h =
     let answer : IsAnswer take_query (overlay db.trees []) (Text key ∷ []) queried.0 = queried.1.answer Null in
     let gone_so = λ (gone : List ℤ) (is : ids_of queried.0 ≡ gone). (
     let some : tally.rows ≡ Some (length (map (Rattle.sqlite.specs.Edit.row_at (db.trees 0)) gone)) = counts ∙ ap (λ (w : Written). Some (length w.rows)) written ∙ ap (λ ids. Some (length (map (Rattle.sqlite.specs.Edit.row_at (db.trees 0)) ids))) is in
-    let it : Cut db.trees edit.0 gone = cut db.trees edit.0 gone (subst (λ ids. Writes all_tables Enforced db.trees (record { table = old_states; gone = ids; news = [] }) (Ok edit.0)) is edit.1) in
+    let it : Cut db.trees edit.0 gone = cut db.trees edit.0 gone (subst (λ ids. Writes all_tables Enforced db.trees (record { table = old_states_table; gone = ids; news = [] }) (Ok edit.0)) is edit.1) in
     let both : (tally.rows ≡ Some (length (map (Rattle.sqlite.specs.Edit.row_at (db.trees 0)) gone))) × Cut db.trees edit.0 gone = (some, it) in both) in
     let takes_it : Takes db.trees edit.0 key tally.rows = (elim (looked_up (db.trees 0) key) [
       | inl it ↦ (
@@ -189,7 +189,7 @@ puts limit text db after tally key state has are sound h =
     let all : after.trees ≡ written.0 = ap (λ (d : Database). d.trees) now ∙ trees in
     let schema = ap (λ (d : Database). d.schema) now in
     let id = next_rowid (db.trees 4) in
-    let same : edit_of db.trees new_states [] Chosen 0 given.0 ≡ one_row_edit [] (entry id key state) = ap (λ rows. edit_of db.trees new_states [] Chosen 0 rows) given.1.1 ∙ (rw cast_null refl) in
+    let same : edit_of db.trees new_states_table [] Chosen 0 given.0 ≡ one_row_edit [] (entry id key state) = ap (λ rows. edit_of db.trees new_states_table [] Chosen 0 rows) given.1.1 ∙ (rw cast_null refl) in
     let it = applied db.trees written.0 [] (entry id key state) (subst (λ e. Writes all_tables Enforced db.trees e (Ok written.0)) same written.1) in
     let shaped : IsShaped shape.Table (after.trees 4) = subst (λ (t : Trees). IsShaped shape.Table (t 4)) (sym all) (subst (IsShaped shape.Table) (sym it.rows) (IsShaped-put_row (entry id key state) (db.trees 4) refl are.shaped)) in
     let after_states = new_states_of after schema sound shaped in

@@ -9,8 +9,8 @@ use Rattle.sqlite_trees.specs.declared.store.Store.{Ghosts}
 use Rattle.mvd_dots.specs.declared.refusals.Refusal.{Refusal}
 use Rattle.mvd_dots.specs.declared.refusals.Refusal.TheVariants.{Damaged, SiteMismatch, Store}
 use Rattle.mvd_records.specs.Tables.{all_tables}
-use Rattle.mvd_records.specs.Records.{HasTables, IsSettled, StaysInside, TellsMarks, marks_of}
-use Rattle.mvd_records.specs.Jobs.{DoesInside, DoesWhole, LeavesDone, Meaning, telling}
+use Rattle.mvd_records.specs.Records.{HasTables, IsQuiescent, StaysInside, TellsMarks, marks_of}
+use Rattle.mvd_records.specs.Jobs.{DoesInside, DoesWhole, LeavesJob, Meaning, telling}
 use Rattle.mvd_records.proofs.Calls.{same_commit, sound_before}
 use Rattle.mvd_records.proofs.Opened.{before_undone, committed_before, survives_all, undone}
 use Rattle.mvd_records.proofs.Contracts.{IsFound, before_found, commit_found}
@@ -94,7 +94,7 @@ none_done job first end keeps nothing = record {
 }
 
 -- a store that was found open, where no transaction was under way; there the job was begun, and then it ended
-module _ {S : Type 0} (g : Ghosts S) {A : Type 0} (job : Meaning A) (first : State) (old mid : Held S) (end : State) (found : IsFound first (state g old)) (settled : IsSettled (state g old)) where
+module _ {S : Type 0} (g : Ghosts S) {A : Type 0} (job : Meaning A) (first : State) (old mid : Held S) (end : State) (found : IsFound first (state g old)) (settled : IsQuiescent (state g old)) where
   abbrev pub begun : State
   begun = state g (record old { in_transaction = true })
 
@@ -106,9 +106,9 @@ module _ {S : Type 0} (g : Ghosts S) {A : Type 0} (job : Meaning A) (first : Sta
   sound clean was = subst IsDatabase (found.same clean).0.committed_is (settled.live was).1
 
   -- what a crash may leave, where the transaction went to its commit
-  left : (out : A) (r : Result A Refusal) → IfErr r (λ e. e ≡ Store) → DoesInside job begun (Ok out) (state g mid) → Survives (state g mid) end (λ t. t ≡ (state g mid).now.trees) → Survives first end (LeavesDone job r first)
+  left : (out : A) (r : Result A Refusal) → IfErr r (λ e. e ≡ Store) → DoesInside job begun (Ok out) (state g mid) → Survives (state g mid) end (λ t. t ≡ (state g mid).now.trees) → Survives first end (LeavesJob job r first)
   left out r told i it =
-      survives_then _ _ _ _ _ _ (λ _ _ none. absurd none) (λ _ _ h. h) found.nothing (survives_all g old mid end _ (LeavesDone job r first) i.stays (λ clean trees is. (
+      survives_then _ _ _ _ _ _ (λ _ _ none. absurd none) (λ _ _ h. h) found.nothing (survives_all g old mid end _ (LeavesJob job r first) i.stays (λ clean trees is. (
       let early : HasCleanDisk (state g mid) = omega (arith, it.clean, clean) in
       let start : HasCleanDisk (state g old) = omega (arith, i.stays.survives.clean, early) in
       let shown = (found.same start).0 in

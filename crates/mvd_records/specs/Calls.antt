@@ -18,7 +18,7 @@ use Rattle.mvd_records.specs.Records.{OpensRecords, TellsVersion, marks_of}
 use Rattle.mvd_records.specs.Foreign.{HoldsForeign}
 use Rattle.mvd_records.specs.States.{AreMarks}
 use Rattle.mvd_records.specs.Tables.{all_tables}
-use Rattle.mvd_records.specs.Pairs.{Pair, entries_of, rises}
+use Rattle.mvd_records.specs.Pairs.{Pair, pair_entries, pairs_rise}
 use Rattle.mvd_records.specs.Contents.{CanLoad, Contents, EndsMoves, Holds, MovesKey, SetsStates, map_of}
 use Rattle.mvd_records.specs.Seen.{RecordsValue, Seen, seen}
 
@@ -65,7 +65,7 @@ Saves old key state result new = SavesAll old ((key, state) ∷ []) result new
 
 -- ---- move_key
 
-pub record Moves {A : Type 0} (old : Seen) (key state : List ℕ) (result : Result A Refusal) (new : Seen) : Type 0 where
+pub record MovesOldKey {A : Type 0} (old : Seen) (key state : List ℕ) (result : Result A Refusal) (new : Seen) : Type 0 where
   pub commits : Commits (MovesKey key state) old.store result new.store
   -- 17, where the key is no old one, or 21; after either, where the store is sound, nothing is changed
   pub refusal : IfErr result (λ e. (e ≡ Damaged) ⊎ (e ≡ Store))
@@ -88,10 +88,10 @@ pub record Finishes {A : Type 0} (old : Seen) (result : Result A Refusal) (new :
 pub record Loads (table : StateTable) (old : Seen) (result : Result (Vec Pair Global) Refusal) (new : Seen)
     : Type 0 where
   pub before : IsSound new.store → IsSound old.store
-  pub loaded : OfHeld old.store new.store (λ was. IfOk result (λ pairs. entries_of pairs.items ≡
+  pub loaded : OfHeld old.store new.store (λ was. IfOk result (λ pairs. pair_entries pairs.items ≡
       entries (map_of table was)))
   -- the keys rise, whatever the store returned: by their bytes, and in the order in which a site takes its states
-  pub rising : IfOk result (λ pairs. rises (entries_of pairs.items))
+  pub rising : IfOk result (λ pairs. pairs_rise (pair_entries pairs.items))
   pub sorted : IfOk result (λ pairs. IsTrue (is_sorted key_cmp pairs.items))
   -- Ok only where the map can be loaded, 17 only where it cannot; 20 and 21 tell nothing of it
   pub whole : OfHeld old.store new.store (λ was. OnOk result (CanLoad old.version table was))
@@ -106,7 +106,7 @@ pub record Loads (table : StateTable) (old : Seen) (result : Result (Vec Pair Gl
 
 -- ---- open
 
-pub record IsOpened (store : State) (site : ℕ) (records : Seen) : Type 0 where
+pub record IsOpenedAs (store : State) (site : ℕ) (records : Seen) : Type 0 where
   pub before : IsSound records.store → IsSound store
   pub opened : IsSound records.store → IsOurs store.committed →
       OpensRecords records.version site store.committed records.store.committed
@@ -116,7 +116,7 @@ pub record IsOpened (store : State) (site : ℕ) (records : Seen) : Type 0 where
   -- another program's database is never made one of ours
   pub own : ¬ HoldsForeign store
 
-pub record IsRefused (store : State) (site : ℕ) (e : Refusal) (after : State) : Type 0 where
+pub record IsRefusedAs (store : State) (site : ℕ) (e : Refusal) (after : State) : Type 0 where
   pub before : IsSound after → IsSound store
   -- 16, 17 or 21; of a database of ours `told` says why it is 16 or 17
   pub refusal : IsOpenRefusal e
@@ -130,8 +130,8 @@ SparesForeign g conn refused = HoldsForeign (state g conn) → refused ≡ (Dama
 
 -- the records of the site, or a refusal with the connection
 abbrev pub Opens : {S : Type 0} → Ghosts S → Held S → ℕ → Result (RecordsValue S) (Refusal × Held S) → Type 0
-Opens g conn site (Ok records) = IsOpened (state g conn) site (seen g records)
-Opens g conn site (Err refused) = IsRefused (state g conn) site refused.0 (state g refused.1) × SparesForeign g conn refused
+Opens g conn site (Ok records) = IsOpenedAs (state g conn) site (seen g records)
+Opens g conn site (Err refused) = IsRefusedAs (state g conn) site refused.0 (state g refused.1) × SparesForeign g conn refused
 
 -- ---- owner_in: where the store is sound and all our tables are there, the site is the one that the marks name
 abbrev pub TellsOwner : State → State → Option ℕ → Type 0

@@ -6,7 +6,7 @@ use Rattle.std.specs.FinMap.{get, insert, remove}
 use Rattle.sqlite.specs.Effect.{Database}
 use Rattle.mvd_records.specs.declared.loading.StateTable.{StateTable}
 use Rattle.mvd_records.specs.declared.loading.StateTable.TheVariants.{Version1, Version2}
-use Rattle.mvd_records.specs.States.{States}
+use Rattle.mvd_records.specs.States.{StoredStates}
 use Rattle.mvd_records.specs.Records.{HoldsRecords, HasNone, IsWhole, old_states, new_states, with_pairs}
 
 -- The version and the site that the marks name, and the two maps from a key's bytes to a state's bytes: that of
@@ -14,8 +14,8 @@ use Rattle.mvd_records.specs.Records.{HoldsRecords, HasNone, IsWhole, old_states
 pub record Contents : Type 0 where
   pub version : ℕ
   pub site : ℕ
-  pub old_map : States
-  pub new_map : States
+  pub old_map : StoredStates
+  pub new_map : StoredStates
 
 -- The database holds them: our tables are there and no others, and the marks and the rows are these
 pub record Holds (db : Database) (it : Contents) : Type 0 where
@@ -42,7 +42,7 @@ pub record EndsMoves (was now : Contents) : Type 0 where
 -- ---- what a load asks
 
 -- the map in a table of states
-abbrev pub map_of : StateTable → Contents → States
+abbrev pub map_of : StateTable → Contents → StoredStates
 map_of Version1 it = it.old_map
 map_of Version2 it = it.new_map
 

@@ -10,10 +10,10 @@ use Rattle.mvd_dots.specs.declared.refusals.Refusal.TheVariants.{Damaged, SiteMi
 use Rattle.mvd_records.specs.Tables.{all_tables}
 use Rattle.mvd_records.specs.Records.{EndsMove, HasNone, HasTables, HoldsRecords, IsOurs, IsSound, KeepsRows}
 use Rattle.mvd_records.specs.Records.{KeepsStates, LacksKey, MovesState, OpensRecords, SavesState, SavesStates}
-use Rattle.mvd_records.specs.Records.{StaysInside, TakesState, TellsMarks, TellsVersion, marks_of, old_states}
+use Rattle.mvd_records.specs.Records.{StaysInside, TakesStoredState, TellsMarks, TellsVersion, marks_of, old_states}
 
 -- the statement ran inside a transaction, which goes on
-pub record Ran (sql : List ℕ) (params : Row) (old : State) (count : ℕ) (new : State) : Type 0 where
+pub record RanStatement (sql : List ℕ) (params : Row) (old : State) (count : ℕ) (new : State) : Type 0 where
   pub did : Executes sql params old new (Ok count)
   pub inside : IsTrue new.in_transaction
 
@@ -38,8 +38,8 @@ Did P db = IsDatabase db × P db
 
 -- what a crash may leave of a job that went to its commit, where the store was open: the trees of a database that it
 -- made
-abbrev pub LeavesDone : {A : Type 0} → Meaning A → Result A Refusal → State → Trees → Type 0
-LeavesDone {A} job result s trees = IfErr result (λ e. e ≡ Store) × IsTrue s.is_open ×
+abbrev pub LeavesJob : {A : Type 0} → Meaning A → Result A Refusal → State → Trees → Type 0
+LeavesJob {A} job result s trees = IfErr result (λ e. e ≡ Store) × IsTrue s.is_open ×
     ((out : A) × (db : Database) × Did (λ old. job.makes out old db) s.committed × (trees ≡ db.trees))
 
 -- in a transaction of its own it is done of what was committed, or nothing is
@@ -52,7 +52,7 @@ pub record DoesWhole {A : Type 0} (job : Meaning A) (old : State) (result : Resu
   pub unchanged : IsSound new → OnErr result (new.committed ≡ old.committed)
   pub stays_open : HasCleanDisk new → OnOk result (IsTrue new.is_open)
   pub autocommit : OnOk result (new.in_transaction ≡ false)
-  pub survives : Survives old new (LeavesDone job result old)
+  pub survives : Survives old new (LeavesJob job result old)
 
 -- ---- the jobs
 
@@ -79,8 +79,8 @@ of_old key P = record {
   refuses = λ e db. (version site : ℕ) → IsDatabase db → HoldsRecords version site db → LacksKey (old_states db) key;
 }
 
-abbrev pub taking : List ℕ → Meaning ⊤
-taking key = of_old key (λ old new. TakesState old new key)
+abbrev pub one_statement : List ℕ → Meaning ⊤
+one_statement key = of_old key (λ old new. TakesStoredState old new key)
 
 abbrev pub moving : List ℕ → List ℕ → Meaning ⊤
 moving key state = of_old key (λ old new. MovesState old new key state)

@@ -3,7 +3,7 @@ ghost use Rattle.std.specs.Prelude.{◌≡◌, IfErr, IfOk, IsTrue};
 ghost use Rattle.sqlite.specs.Held.{state};
 ghost use Rattle.sqlite.specs.State.{HasCleanDisk};
 ghost use Rattle.sqlite.specs.Values.{bound};
-ghost use Rattle.mvd_records.specs.Jobs.{DoesInside, DoesWhole, Meaning, Ran};
+ghost use Rattle.mvd_records.specs.Jobs.{DoesInside, DoesWhole, Meaning, RanStatement};
 ghost use Rattle.mvd_records.specs.Records.{StaysInside};
 
 use crate::statements::{is_open, is_settled};
@@ -60,7 +60,7 @@ pub fn execute<S: Alter>(
     ensures stays { StaysInside (state S.Store tx.old.conn.now) (state S.Store tx.new.conn.now) }
     ensures ran { HasCleanDisk (state S.Store tx.new.conn.now) →
         IsTrue (state S.Store tx.old.conn.now).in_transaction →
-        IfOk result (λ count. Ran sql.now (bound params.now) (state S.Store tx.old.conn.now) count
+        IfOk result (λ count. RanStatement sql.now (bound params.now) (state S.Store tx.old.conn.now) count
         (state S.Store tx.new.conn.now)) }
     ensures refusal { IfErr result (λ e. e ≡ Refusal.Store) }
 {

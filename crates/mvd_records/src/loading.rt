@@ -7,10 +7,10 @@ ghost use Rattle.sqlite.specs.State.{HasCleanDisk, KeepsCommit, Survives, Shown,
 ghost use Rattle.sqlite.specs.Given.{IsPlain};
 ghost use Rattle.sqlite.specs.Listing.{understood};
 ghost use Rattle.mvd_keys.specs.Key.{is_key};
-ghost use Rattle.mvd_records.specs.States.{shown_entry};
-ghost use Rattle.mvd_records.specs.Records.{IsSettled, IsSound, HoldsRecords, OnlyReads, AreKeys, IsWhole};
+ghost use Rattle.mvd_records.specs.States.{shown_row_entry};
+ghost use Rattle.mvd_records.specs.Records.{IsQuiescent, IsSound, HoldsRecords, OnlyReads, AreKeys, IsWhole};
 ghost use Rattle.mvd_records.specs.Records.{old_states, new_states, states_at};
-ghost use Rattle.mvd_records.specs.Pairs.{entries_of, ArePairs, rises};
+ghost use Rattle.mvd_records.specs.Pairs.{pair_entries, ArePairs, pairs_rise};
 
 use crate::pairs::push_row;
 use crate::statements::{check, is_settled};
@@ -39,9 +39,9 @@ fn read_pairs<S: Alter>(
     ensures shown { HasCleanDisk (state S.Store conn.new) →
         IsPlain (understood (state S.Store conn.old).now.schema sql.now) → IfOk result (λ pairs. (rows : _) ×
         Shown sql.now [] (state S.Store conn.old) (state S.Store conn.new) rows ×
-        (entries_of pairs.items ≡ map shown_entry rows)) }
-    ensures form { IfOk result (λ pairs. AllByRecursion (λ e. is_key e.0 ≡ true) (entries_of pairs.items)) }
-    ensures rising { IfOk result (λ pairs. rises (entries_of pairs.items)) }
+        (pair_entries pairs.items ≡ map shown_row_entry rows)) }
+    ensures form { IfOk result (λ pairs. AllByRecursion (λ e. is_key e.0 ≡ true) (pair_entries pairs.items)) }
+    ensures rising { IfOk result (λ pairs. pairs_rise (pair_entries pairs.items)) }
     ensures damaged { HasCleanDisk (state S.Store conn.new) →
         IsPlain (understood (state S.Store conn.old).now.schema sql.now) → IfErr result (λ e. e ≡ Refusal.Damaged →
         (rows : _) × Begins sql.now [] (state S.Store conn.old) rows × ¬ ArePairs rows) }
@@ -82,12 +82,12 @@ fn read_table<S: Alter>(
     ensures reads { OnlyReads (state S.Store conn.old) (state S.Store conn.new) }
     ensures entries { (version site : _) → IsSound (state S.Store conn.new) →
         HoldsRecords version site (state S.Store conn.old).committed →
-        IfOk result (λ pairs. entries_of pairs.items ≡ entries (states_at table (state S.Store conn.old).committed)) }
+        IfOk result (λ pairs. pair_entries pairs.items ≡ entries (states_at table (state S.Store conn.old).committed)) }
     ensures keys { (version site : _) → IsSound (state S.Store conn.new) →
         HoldsRecords version site (state S.Store conn.old).committed →
         OnOk result (AreKeys (states_at table (state S.Store conn.old).committed)) }
     ensures open { HasCleanDisk (state S.Store conn.new) → OnOk result (IsTrue (state S.Store conn.new).is_open) }
-    ensures rising { IfOk result (λ pairs. rises (entries_of pairs.items)) }
+    ensures rising { IfOk result (λ pairs. pairs_rise (pair_entries pairs.items)) }
     ensures damaged { (version site : _) → IsSound (state S.Store conn.new) →
         HoldsRecords version site (state S.Store conn.old).committed → IfErr result (λ e. e ≡ Refusal.Damaged →
         ¬ AreKeys (states_at table (state S.Store conn.old).committed)) }
@@ -113,9 +113,9 @@ pub fn load<S: Alter>(
     ensures reads { OnlyReads (state S.Store conn.old) (state S.Store conn.new) }
     ensures entries { (marked site : _) → IsSound (state S.Store conn.new) →
         HoldsRecords marked site (state S.Store conn.old).committed →
-        IfOk result (λ pairs. entries_of pairs.items ≡ entries (states_at table (state S.Store conn.old).committed)) }
+        IfOk result (λ pairs. pair_entries pairs.items ≡ entries (states_at table (state S.Store conn.old).committed)) }
     ensures open { HasCleanDisk (state S.Store conn.new) → OnOk result (IsTrue (state S.Store conn.new).is_open) }
-    ensures rising { IfOk result (λ pairs. rises (entries_of pairs.items)) }
+    ensures rising { IfOk result (λ pairs. pairs_rise (pair_entries pairs.items)) }
     ensures whole { (marked site : _) → IsSound (state S.Store conn.new) →
         HoldsRecords marked site (state S.Store conn.old).committed →
         OnOk result (IsWhole version (states_at table (state S.Store conn.old).committed) (old_states

@@ -1,7 +1,7 @@
 //! Moving keys from the old table to the new one.
 ghost use Rattle.std.specs.Prelude.{◌≡◌};
 ghost use Rattle.sqlite.specs.Held.{state};
-ghost use Rattle.mvd_records.specs.Jobs.{DoesInside, finding_old, finishing, moving, raising, saving, taking};
+ghost use Rattle.mvd_records.specs.Jobs.{DoesInside, finding_old, finishing, moving, raising, saving, one_statement};
 
 use crate::jobs::{Job, execute};
 use mvd_dots::Refusal;
@@ -9,7 +9,7 @@ use sqlite::{Alter, Transaction, params};
 
 fn take_old<S: Alter>(tx: &mut Transaction<'_, S>, key: &str) -> Result<(), Refusal>
     ensures same_reference { tx.new.conn.ghost_name ≡ tx.old.conn.ghost_name }
-    ensures done { DoesInside (taking key.now) (state S.Store tx.old.conn.now) result (state S.Store tx.new.conn.now) }
+    ensures done { DoesInside (one_statement key.now) (state S.Store tx.old.conn.now) result (state S.Store tx.new.conn.now) }
 {
     match execute(tx, "DELETE FROM states WHERE key = ?1", params![key]) {
         Ok(0) => Err(Refusal::Damaged),

@@ -5,8 +5,8 @@ ghost use Rattle.std.specs.Cmp.Lexicographic.{slice_cmp};
 ghost use Rattle.std.specs.FinMap.{is_sorted};
 ghost use Rattle.sqlite.specs.Order.{bytes, column};
 ghost use Rattle.mvd_keys.specs.Key.{is_key};
-ghost use Rattle.mvd_records.specs.States.{shown_entry};
-ghost use Rattle.mvd_records.specs.Pairs.{entries_of, IsPair, rises};
+ghost use Rattle.mvd_records.specs.States.{shown_row_entry};
+ghost use Rattle.mvd_records.specs.Pairs.{pair_entries, IsPair, pairs_rise};
 
 use mvd_dots::Refusal;
 use mvd_keys::Key;
@@ -52,8 +52,8 @@ fn bytes_in(alloc: Global, row: &Row) -> Result<Vec<u8>, Refusal>
 
 /// Whether the key is greater than the last one.
 fn is_above(pairs: &[(Key, Vec<u8>)], key: &Key) -> bool
-    ensures { (state : _) → rises (entries_of pairs.now) →
-        is_sorted (slice_cmp nat_cmp) (entries_of pairs.now ++ (key.now, state) ∷ []) ≡ result }
+    ensures { (state : _) → pairs_rise (pair_entries pairs.now) →
+        is_sorted (slice_cmp nat_cmp) (pair_entries pairs.now ++ (key.now, state) ∷ []) ≡ result }
 {
     match pairs.last() {
         None => true,
@@ -64,11 +64,11 @@ fn is_above(pairs: &[(Key, Vec<u8>)], key: &Key) -> bool
 /// Adds the key and the state that the row shows. It is refused where the row shows none, or the
 /// key is not above the last.
 pub fn push_row(alloc: Global, pairs: &mut Vec<(Key, Vec<u8>)>, row: &Row) -> Result<(), Refusal>
-    ensures pushed { OnOk result (entries_of pairs.new.items ≡ entries_of pairs.old.items ++ shown_entry row.now ∷ []) }
+    ensures pushed { OnOk result (pair_entries pairs.new.items ≡ pair_entries pairs.old.items ++ shown_row_entry row.now ∷ []) }
     ensures form { OnOk result (is_key (bytes (column row.now 0)) ≡ true) }
-    ensures rising { rises (entries_of pairs.old.items) → OnOk result (rises (entries_of pairs.new.items)) }
-    ensures damaged { rises (entries_of pairs.old.items) → IfErr result (λ e. e ≡ Refusal.Damaged → IsPair row.now →
-        ¬ rises (entries_of pairs.old.items ++ shown_entry row.now ∷ [])) }
+    ensures rising { pairs_rise (pair_entries pairs.old.items) → OnOk result (pairs_rise (pair_entries pairs.new.items)) }
+    ensures damaged { pairs_rise (pair_entries pairs.old.items) → IfErr result (λ e. e ≡ Refusal.Damaged → IsPair row.now →
+        ¬ pairs_rise (pair_entries pairs.old.items ++ shown_row_entry row.now ∷ [])) }
     ensures which { IfErr result (λ e. (e ≡ Refusal.Damaged) ⊎ (e ≡ Refusal.Memory)) }
 {
     let key = key_in(alloc, row)?;

@@ -2,7 +2,7 @@
 ghost use Rattle.std.specs.Prelude.{◌≡◌, ◌≤◌};
 ghost use Rattle.sqlite.specs.Held.{state};
 ghost use Rattle.sqlite.specs.State.{IsLive};
-ghost use Rattle.mvd_records.specs.Pairs.{entries_of};
+ghost use Rattle.mvd_records.specs.Pairs.{pair_entries};
 
 use crate::jobs::in_transaction;
 use crate::loading::StateTable;
@@ -35,7 +35,7 @@ impl<S: Alter> Model for Records<S> {
 }
 
 impl<S: Alter> Records<S> {
-    ghost use Rattle.mvd_records.specs.Calls.{Finishes, Loads, Moves, Opens, Saves, SavesAll};
+    ghost use Rattle.mvd_records.specs.Calls.{Finishes, Loads, MovesOldKey, Opens, Saves, SavesAll};
     ghost use Rattle.mvd_records.specs.Seen.{seen};
     ghost use Rattle.mvd_records.specs.declared.loading.StateTable.TheVariants.{Version1, Version2};
 
@@ -86,7 +86,7 @@ impl<S: Alter> Records<S> {
     /// Sets the states of these keys in one transaction, one after the other: all of them, or none.
     pub fn save_all(&mut self, pairs: &[(Key, Vec<u8>)]) -> Result<(), Refusal>
         requires { self.old.version ≡ 2 }
-        ensures { SavesAll (seen S.Store self.old) (entries_of pairs.now) result (seen S.Store self.new) }
+        ensures { SavesAll (seen S.Store self.old) (pair_entries pairs.now) result (seen S.Store self.new) }
     {
         in_transaction(&mut self.conn, &SaveAll { pairs })
     }
@@ -125,7 +125,7 @@ impl<S: Alter> Records<S> {
 
     /// Moves a key of version 1, whose state is spelled anew, in one transaction. 17 where the key is no old one.
     pub fn move_key(&mut self, key: &Key, bytes: &[u8]) -> Result<(), Refusal>
-        ensures { Moves (seen S.Store self.old) key.now bytes.now result (seen S.Store self.new) }
+        ensures { MovesOldKey (seen S.Store self.old) key.now bytes.now result (seen S.Store self.new) }
     {
         let key = key.text();
         in_transaction(&mut self.conn, &Move { key, bytes })

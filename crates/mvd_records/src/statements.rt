@@ -4,8 +4,8 @@ ghost use Rattle.sqlite.specs.State.{HasCleanDisk, IsUnchanged, KeepsCommit, Sho
 ghost use Rattle.sqlite.specs.Given.{IsPlain};
 ghost use Rattle.sqlite.specs.Listing.{understood};
 ghost use Rattle.mvd_records.specs.Causes.{FindsShut};
-ghost use Rattle.mvd_records.specs.Records.{IsSettled, IsSound, HoldsRecords};
-ghost use Rattle.mvd_records.specs.Records.{OnlyReads, HasNone, AreDisjoint, AreApart, old_states};
+ghost use Rattle.mvd_records.specs.Records.{IsQuiescent, IsSound, HoldsRecords};
+ghost use Rattle.mvd_records.specs.Records.{OnlyReads, HasNone, AreDisjoint, ShareNoKey, old_states};
 ghost use Rattle.mvd_records.specs.Records.{new_states};
 
 use mvd_dots::Refusal;
@@ -14,7 +14,7 @@ use sqlite::{Alter, Connection};
 /// No transaction is under way, so what the connection sees is what was committed.
 pub fn is_settled<S: Alter>(conn: &Connection<S>) -> bool
     ensures exact { result ≡ not (state S.Store conn.now).in_transaction }
-    ensures settled { IsTrue result → IsSettled (state S.Store conn.now) }
+    ensures settled { IsTrue result → IsQuiescent (state S.Store conn.now) }
 {
     let _schema = conn.schema();
     conn.is_autocommit()
@@ -94,11 +94,11 @@ pub fn check<S: Alter>(conn: &mut Connection<S>, version: u32) -> Result<(), Ref
     ensures open { HasCleanDisk (state S.Store conn.new) → OnOk result (IsTrue (state S.Store conn.new).is_open) }
     ensures apart { (marked site : _) → IsSound (state S.Store conn.new) →
         HoldsRecords marked site (state S.Store conn.old).committed →
-        OnOk result (AreApart version (old_states (state S.Store conn.old).committed) (new_states
+        OnOk result (ShareNoKey version (old_states (state S.Store conn.old).committed) (new_states
         (state S.Store conn.old).committed)) }
     ensures damaged { (marked site : _) → IsSound (state S.Store conn.new) →
         HoldsRecords marked site (state S.Store conn.old).committed → IfErr result (λ e. e ≡ Refusal.Damaged →
-        ¬ AreApart version (old_states (state S.Store conn.old).committed) (new_states
+        ¬ ShareNoKey version (old_states (state S.Store conn.old).committed) (new_states
         (state S.Store conn.old).committed)) }
     ensures refusal { IfErr result (λ e. (e ≡ Refusal.Damaged) ⊎ (e ≡ Refusal.Store)) }
 {

@@ -2,7 +2,7 @@
 ghost use Rattle.std.specs.Prelude.{◌≡◌};
 ghost use Rattle.sqlite.specs.Held.{state};
 ghost use Rattle.mvd_records.specs.Jobs.{DoesInside, saving, saving_all};
-ghost use Rattle.mvd_records.specs.Pairs.{entries_of};
+ghost use Rattle.mvd_records.specs.Pairs.{pair_entries};
 
 use crate::jobs::{Job, execute};
 use mvd_dots::Refusal;
@@ -51,7 +51,7 @@ pub struct SaveAll<'a> {
 impl Job for SaveAll<'_> {
     type Out = ();
 
-    ghost means = { λ job. saving_all (entries_of job.pairs.now) };
+    ghost means = { λ job. saving_all (pair_entries job.pairs.now) };
 
     fn run<S: Alter>(&self, tx: &mut Transaction<'_, S>) -> Result<(), Refusal> {
         for pair in self.pairs {

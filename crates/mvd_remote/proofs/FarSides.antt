@@ -16,10 +16,10 @@ use Rattle.mvd_wire.specs.Requests.{framed as frame_within, push, request_frame}
 use Rattle.mvd_site.specs.Answer.{is_too_large}
 use Rattle.mvd_site.specs.Config.{ConfigValue}
 use Rattle.mvd_site.specs.Held.{States}
-use Rattle.mvd_remote.specs.Lines.{AnswersTruly, EndsOpen, SettleTruly, SettlesTruly, TrueReplies, TrueReply, and_framed, framed}
+use Rattle.mvd_remote.specs.Lines.{AnswersTruly, EndsOpen, SettleTruly, SettlesTruly, TrueReplies, TrueReply, and_framed, framed_requests}
 use Rattle.mvd_peer.specs.PushedStates.{pushed}
 use Rattle.mvd_peer.specs.Sides.{is_of_question}
-use Rattle.mvd_peer.specs.Windows.{CannotTake, EachAnswer, EachRefusal, IsLeftOpen, Leaves, Pushes, PushesFirst, RefusesPage, Takes, leaves_open}
+use Rattle.mvd_peer.specs.Windows.{CannotTake, EachAnswer, EachRefusal, IsLeftOpen, LeavesOfPush, Pushes, PushesFirst, RefusesPage, TakesState, leaves_open}
 use Rattle.mvd_peer.proofs.ManyPushes.{open_not_of_key}
 
 -- ---- questions
@@ -137,7 +137,7 @@ module _ {A : Type 0} (as_reply : A → Reply) (config : ConfigValue) where
     all_not_of_key (q ∷ qs) (Err refusal ∷ ts) old new h = (elim h.1 [ inl told ↦ (is q).refuses config old refusal h.0 told.1 | inr none ↦ (is q).unframed refusal none.0 ], all_not_of_key qs ts h.0 new h.2)
 
     -- a window that was refused
-    first_kept : (q : Q) (qs : List Q) (f : Result (List ℕ) Refusal) (old new : States) (n : ℕ) (rs : List Reply) → ((old : States) (n : ℕ) (rs : List Reply) → TrueReplies config old (take n (framed (map request qs))) rs new → new ≡ old) → TrueReplies config old (take n (and_framed (request q) f (framed (map request qs)))) rs new → new ≡ old
+    first_kept : (q : Q) (qs : List Q) (f : Result (List ℕ) Refusal) (old new : States) (n : ℕ) (rs : List Reply) → ((old : States) (n : ℕ) (rs : List Reply) → TrueReplies config old (take n (framed_requests (map request qs))) rs new → new ≡ old) → TrueReplies config old (take n (and_framed (request q) f (framed_requests (map request qs)))) rs new → new ≡ old
     first_kept q qs (Ok frame) old new zero [] later h = h
     first_kept q qs (Ok frame) old new zero (r ∷ rs) later h = absurd h
     first_kept q qs (Ok frame) old new (suc n) [] later h = absurd h
@@ -150,7 +150,7 @@ module _ {A : Type 0} (as_reply : A → Reply) (config : ConfigValue) where
     none_first (suc n) [] old new h = h
     none_first (suc n) (r ∷ rs) old new h = absurd h
 
-    pub first_all_kept : (qs : List Q) (new old : States) (n : ℕ) (rs : List Reply) → TrueReplies config old (take n (framed (map request qs))) rs new → new ≡ old
+    pub first_all_kept : (qs : List Q) (new old : States) (n : ℕ) (rs : List Reply) → TrueReplies config old (take n (framed_requests (map request qs))) rs new → new ≡ old
     first_all_kept [] new old n rs h = none_first n rs old new h
     first_all_kept (q ∷ qs) new old n rs h = first_kept q qs (request_frame (request q)) old new n rs (first_all_kept qs new) h
 
@@ -185,7 +185,7 @@ open_cause config old key s DotClash e = absurd (cc)
 open_cause config old key s refusal e = tt
 
 module _ (config : ConfigValue) where
-  open_leaves : (old new : States) (key : Key) (s : State) (refusal : Refusal) (r : Reply) → leaves_open refusal ≡ true → TrueReply config old (Push key s) r new → Leaves old key s new refusal
+  open_leaves : (old new : States) (key : Key) (s : State) (refusal : Refusal) (r : Reply) → leaves_open refusal ≡ true → TrueReply config old (Push key s) r new → LeavesOfPush old key s new refusal
   open_leaves old new key s refusal reply.Done e h = inr (e, h)
   open_leaves old new key s refusal (reply.Refused told) e (inl h) = inl h.1
   open_leaves old new key s refusal (reply.Refused told) e (inr h) = inr (e, h.1)
@@ -199,11 +199,11 @@ module _ (config : ConfigValue) where
   open_leaves old new key s refusal (reply.Counts cs more) e h = absurd h
 
   -- one push
-  pub push_taken : (old new : States) (key : Key) (s : State) (result : Result (Unit {0}) Refusal) → AnswersTruly (λ _. reply.Done) config old (Push key s) result new → OnOk result (Takes old key s new)
+  pub push_taken : (old new : States) (key : Key) (s : State) (result : Result (Unit {0}) Refusal) → AnswersTruly (λ _. reply.Done) config old (Push key s) result new → OnOk result (TakesState old key s new)
   push_taken old new key s (Ok done) h = h
   push_taken old new key s (Err refusal) h = tt
 
-  pub push_leaves : (old new : States) (key : Key) (s : State) (result : Result (Unit {0}) Refusal) → AnswersTruly (λ _. reply.Done) config old (Push key s) result new → IfErr result (Leaves old key s new)
+  pub push_leaves : (old new : States) (key : Key) (s : State) (result : Result (Unit {0}) Refusal) → AnswersTruly (λ _. reply.Done) config old (Push key s) result new → IfErr result (LeavesOfPush old key s new)
   push_leaves old new key s (Ok done) h = tt
   push_leaves old new key s (Err refusal) (inl (inl h)) = inl h.1
   push_leaves old new key s (Err refusal) (inl (inr h)) = inr (ap leaves_open h.0, h.1)
@@ -238,7 +238,7 @@ module _ (config : ConfigValue) where
   abbrev First : States → List (Key × State) → States → Type 0
   First old ps new = (n : ℕ) × (ts : List (Result (Unit {0}) Refusal)) × Pushes config.max_keys old (take n ps) ts new
 
-  and_taken : (p : Key × State) (ps : List (Key × State)) (old mid new : States) → Takes old p.0 p.1 mid → First mid ps new → First old (p ∷ ps) new
+  and_taken : (p : Key × State) (ps : List (Key × State)) (old mid new : States) → TakesState old p.0 p.1 mid → First mid ps new → First old (p ∷ ps) new
   and_taken p ps old mid new took f = (suc f.0, Ok tt ∷ f.1, (took.0, pushes_from (pushed old p.0 p.1) mid new (take f.0 ps) f.1 took.1 f.2))
 
   and_refused : (p : Key × State) (ps : List (Key × State)) (old mid new : States) (refusal : Refusal) → CannotTake config.max_keys old p.0 p.1 refusal → mid ≡ old → First mid ps new → First old (p ∷ ps) new
@@ -257,7 +257,7 @@ module _ (config : ConfigValue) where
   and_replied p ps old mid new (reply.Keys ks more) h f = absurd h
   and_replied p ps old mid new (reply.Counts cs more) h f = absurd h
 
-  first_step : (p : Key × State) (ps : List (Key × State)) (f : Result (List ℕ) Refusal) → request_frame (asked p) ≡ f → (old new : States) (n : ℕ) (rs : List Reply) → ((old : States) (n : ℕ) (rs : List Reply) → TrueReplies config old (take n (framed (map asked ps))) rs new → First old ps new) → TrueReplies config old (take n (and_framed (asked p) f (framed (map asked ps)))) rs new → First old (p ∷ ps) new
+  first_step : (p : Key × State) (ps : List (Key × State)) (f : Result (List ℕ) Refusal) → request_frame (asked p) ≡ f → (old new : States) (n : ℕ) (rs : List Reply) → ((old : States) (n : ℕ) (rs : List Reply) → TrueReplies config old (take n (framed_requests (map asked ps))) rs new → First old ps new) → TrueReplies config old (take n (and_framed (asked p) f (framed_requests (map asked ps)))) rs new → First old (p ∷ ps) new
   first_step p ps (Ok frame) e old new zero [] later h = (0, [], h)
   first_step p ps (Ok frame) e old new zero (r ∷ rs) later h = absurd h
   first_step p ps (Ok frame) e old new (suc n) [] later h = absurd h
@@ -270,7 +270,7 @@ module _ (config : ConfigValue) where
   first_none (suc n) [] old new h = (0, [], h)
   first_none (suc n) (r ∷ rs) old new h = absurd h
 
-  first_pushed : (ps : List (Key × State)) (new old : States) (n : ℕ) (rs : List Reply) → TrueReplies config old (take n (framed (map asked ps))) rs new → First old ps new
+  first_pushed : (ps : List (Key × State)) (new old : States) (n : ℕ) (rs : List Reply) → TrueReplies config old (take n (framed_requests (map asked ps))) rs new → First old ps new
   first_pushed [] new old n rs h = first_none n rs old new h
   first_pushed (p ∷ ps) new old n rs h = first_step p ps (request_frame (asked p)) refl old new n rs (first_pushed ps new) h
 

@@ -14,8 +14,8 @@ use Rattle.mvd_wire.specs.declared.reply.Reply.TheVariants.{Refused}
 use Rattle.mvd_wire.specs.Requests.{IsRequest, request_frame}
 use Rattle.mvd_site.specs.Config.{ConfigValue}
 use Rattle.mvd_site.specs.Held.{States}
-use Rattle.mvd_remote.specs.LinkWindows.{Answers, Frames, and_frame, frames_after, frames_of}
-use Rattle.mvd_remote.specs.Lines.{AllToldTruly, AnswersTruly, AreFrames, AreSpelled, DueTurn, DueTurns, EndsOpen, Far, IsNext, IsSettled, IsSpelled, IsTaken, IsTrueRemote, MayTake, SettleTruly, SettlesTruly, TakesAll, TakesDue, TakesFirst, TellsAllTruly, ToldTruly, Took, TrueReplies, TrueReply, and_framed, framed}
+use Rattle.mvd_remote.specs.LinkWindows.{IsToldBy, Frames, and_frame, frames_after, frames_of}
+use Rattle.mvd_remote.specs.Lines.{AllToldTruly, AnswersTruly, AreRequestFrames, HaveFrames, DueTurn, DueTurns, EndsOpen, Far, IsNextReply, LeavesNothingOpen, HasFrame, IsReplyTaken, IsTrueRemote, MayTake, SettleTruly, SettlesTruly, TakesAll, TakesDue, TakesFirst, TellsAllTruly, ToldTruly, Took, TrueReplies, TrueReply, and_framed, framed_requests}
 use Rattle.mvd_remote.specs.Links.{ReadsReply}
 use Rattle.mvd_peer.specs.Windows.{ForEach}
 use Rattle.mvd_peer.specs.Windows.{leaves_open}
@@ -49,7 +49,7 @@ pub goes_on : {P : Type 0} (own : Option Refusal) (refusal : Refusal) → own �
 goes_on own refusal e f = let never = sym e ∙ f in absurd (cc)
 
 -- a reply that was due and was not taken: there was no memory for it
-not_taken : (due left : List Reply) (frame : FrameValue) (refusal : Refusal) → IsNext due left frame → (refusal ≢ Memory → reply_of frame.kind frame.payload ≡ Err refusal) → TakesDue due left (Err refusal)
+not_taken : (due left : List Reply) (frame : FrameValue) (refusal : Refusal) → IsNextReply due left frame → (refusal ≢ Memory → reply_of frame.kind frame.payload ≡ Err refusal) → TakesDue due left (Err refusal)
 not_taken [] left frame refusal next why = tt
 not_taken (r ∷ rs) left frame refusal next why = (
   elim (is_memory refusal) [
@@ -59,8 +59,8 @@ not_taken (r ∷ rs) left frame refusal next why = (
   next.1,
 )
 
-pub frame_not_taken : (due left : List Reply) (came : Option Frame) (frame : Frame) (refusal : Refusal) → came ≡ Some frame → IfSome came (λ f. IsNext due left (frame_value f)) → (refusal ≢ Memory → reply_of frame.kind frame.payload.items ≡ Err refusal) → TakesDue due left (Err refusal)
-frame_not_taken due left came frame refusal e next why = not_taken due left (frame_value frame) refusal (subst (λ o. IfSome o (λ f. IsNext due left (frame_value f))) e next) why
+pub frame_not_taken : (due left : List Reply) (came : Option Frame) (frame : Frame) (refusal : Refusal) → came ≡ Some frame → IfSome came (λ f. IsNextReply due left (frame_value f)) → (refusal ≢ Memory → reply_of frame.kind frame.payload.items ≡ Err refusal) → TakesDue due left (Err refusal)
+frame_not_taken due left came frame refusal e next why = not_taken due left (frame_value frame) refusal (subst (λ o. IfSome o (λ f. IsNextReply due left (frame_value f))) e next) why
 
 -- ---- frames
 
@@ -91,45 +91,45 @@ after_is : (before : Frames) (qs : List Request) → frames_after before qs ≡ 
 after_is (fs, ns) [] = ap (λ x. (x, ns)) (sym (append-nil fs)) ∙ ap (λ y. (fs ++ [], y)) (sym (append-nil ns))
 after_is before (q ∷ qs) = after_is (and_frame before (request_frame q)) qs ∙ one_added before (request_frame q) (bytes_of qs) (nones_of qs)
 
-one_framed : (q : Request) (qs : List Request) (f : Result (List ℕ) Refusal) → request_frame q ≡ f → IfOk f (λ _. IsRequest q) → AreFrames (framed qs) (bytes_of qs) → AreFrames (and_framed q f (framed qs)) (and_bytes f (bytes_of qs))
+one_framed : (q : Request) (qs : List Request) (f : Result (List ℕ) Refusal) → request_frame q ≡ f → IfOk f (λ _. IsRequest q) → AreRequestFrames (framed_requests qs) (bytes_of qs) → AreRequestFrames (and_framed q f (framed_requests qs)) (and_bytes f (bytes_of qs))
 one_framed q qs (Ok frame) e s rest = (frame, bytes_of qs, s, e, refl, rest)
 one_framed q qs (Err refusal) e s rest = rest
 
-frames_are : (qs : List Request) → AreSpelled qs → AreFrames (framed qs) (bytes_of qs)
+frames_are : (qs : List Request) → HaveFrames qs → AreRequestFrames (framed_requests qs) (bytes_of qs)
 frames_are [] s = refl
 frames_are (q ∷ qs) s = one_framed q qs (request_frame q) refl s.0 (frames_are qs s.1)
 
 -- the bytes of a window are the frames of those requests that have one
-pub window_frames : (qs : List Request) (frames : Frames) → frames ≡ frames_of qs → AreSpelled qs → AreFrames (framed qs) frames.0
-window_frames qs frames is s = subst (AreFrames (framed qs)) (sym (ap (λ (f : Frames). f.0) (is ∙ after_is ([], []) qs))) (frames_are qs s)
+pub window_frames : (qs : List Request) (frames : Frames) → frames ≡ frames_of qs → HaveFrames qs → AreRequestFrames (framed_requests qs) frames.0
+window_frames qs frames is s = subst (AreRequestFrames (framed_requests qs)) (sym (ap (λ (f : Frames). f.0) (is ∙ after_is ([], []) qs))) (frames_are qs s)
 
 -- the frame of one request
-pub one_frame : (q : Request) (frame : List ℕ) → IsRequest q → request_frame q ≡ Ok frame → AreFrames (q ∷ []) frame
+pub one_frame : (q : Request) (frame : List ℕ) → IsRequest q → request_frame q ≡ Ok frame → AreRequestFrames (q ∷ []) frame
 one_frame q frame fits e = (frame, [], fits, e, sym (append-nil frame), refl)
 
 -- what was encoded, unless memory was refused, is spelled
-spelled_of : {V : Type 0} (view : V → List ℕ) (q : Request) (frame : Result V Refusal) → Gives view frame (request_frame q) → IfOk frame (λ _. IsRequest q) → frame ≢ Err Memory → IsSpelled q
+spelled_of : {V : Type 0} (view : V → List ℕ) (q : Request) (frame : Result V Refusal) → Gives view frame (request_frame q) → IfOk frame (λ _. IsRequest q) → frame ≢ Err Memory → HasFrame q
 spelled_of view q (Ok v) gives fits some = subst (λ f. IfOk f (λ _. IsRequest q)) (sym gives) fits
 spelled_of view q (Err refusal) gives fits some = subst (λ f. IfOk f (λ _. IsRequest q)) (sym (gives (λ memory. some (ap Err memory)))) tt
 
-spelled-append : (qs rs : List Request) → AreSpelled qs → AreSpelled rs → AreSpelled (qs ++ rs)
+spelled-append : (qs rs : List Request) → HaveFrames qs → HaveFrames rs → HaveFrames (qs ++ rs)
 spelled-append [] rs p q = q
 spelled-append (x ∷ qs) rs p q = (p.0, spelled-append qs rs p.1 q)
 
 -- one request more, in turn
-pub spelled_more : {X V : Type 0} (f : X → Request) (view : V → List ℕ) (xs : List X) (i : ℕ) (x : X) (frame : Result V Refusal) → i < length xs → x ≡ get_or xs i x → AreSpelled (map f (take i xs)) → Gives view frame (request_frame (f x)) → IfOk frame (λ _. IsRequest (f x)) → frame ≢ Err Memory → AreSpelled (map f (take (i + 1) xs))
+pub spelled_more : {X V : Type 0} (f : X → Request) (view : V → List ℕ) (xs : List X) (i : ℕ) (x : X) (frame : Result V Refusal) → i < length xs → x ≡ get_or xs i x → HaveFrames (map f (take i xs)) → Gives view frame (request_frame (f x)) → IfOk frame (λ _. IsRequest (f x)) → frame ≢ Err Memory → HaveFrames (map f (take (i + 1) xs))
 spelled_more f view xs i x frame low at before gives fits some =
     let longer : take (i + 1) xs ≡ take i xs ++ x ∷ [] = take_more xs i x low ∙ ap (λ y. take i xs ++ y ∷ []) (sym at) in
-    subst (λ ys. AreSpelled (map f ys)) (sym longer) (subst AreSpelled (sym (map-append f (take i xs) (x ∷ []))) (spelled-append (map f (take i xs)) (f x ∷ []) before (spelled_of view (f x) frame gives fits some, tt)))
+    subst (λ ys. HaveFrames (map f ys)) (sym longer) (subst HaveFrames (sym (map-append f (take i xs) (x ∷ []))) (spelled-append (map f (take i xs)) (f x ∷ []) before (spelled_of view (f x) frame gives fits some, tt)))
 
 -- ---- what was told in turn
 
-one_told : (config : ConfigValue) (old mid : States) (q : Request) (r : Reply) (t : Result Reply Refusal) → TrueReply config old q r mid → IsTaken r t → ToldTruly config old q t mid
+one_told : (config : ConfigValue) (old mid : States) (q : Request) (r : Reply) (t : Result Reply Refusal) → TrueReply config old q r mid → IsReplyTaken r t → ToldTruly config old q t mid
 one_told config old mid q r t h (inl e) = subst (λ (t : Result Reply Refusal). ToldTruly config old q t mid) (sym e) h
 one_told config old mid q r t h (inr e) = subst (λ (t : Result Reply Refusal). ToldTruly config old q t mid) (sym e) (inr (refl, (r, h)))
 
-module _ (config : ConfigValue) (q : Request) (qs : List Request) (left : List Reply) (new : States) (later : (old : States) (rs : List Reply) (ts : List (Result Reply Refusal)) → TrueReplies config old (framed qs) rs new → DueTurns (nones_of qs) ts rs left → AllToldTruly config old qs ts new × (left ≡ [])) where
-  told_step : (f : Result (List ℕ) Refusal) → request_frame q ≡ f → (old : States) (rs : List Reply) (ts : List (Result Reply Refusal)) → TrueReplies config old (and_framed q f (framed qs)) rs new → DueTurns (none_of f ∷ nones_of qs) ts rs left → AllToldTruly config old (q ∷ qs) ts new × (left ≡ [])
+module _ (config : ConfigValue) (q : Request) (qs : List Request) (left : List Reply) (new : States) (later : (old : States) (rs : List Reply) (ts : List (Result Reply Refusal)) → TrueReplies config old (framed_requests qs) rs new → DueTurns (nones_of qs) ts rs left → AllToldTruly config old qs ts new × (left ≡ [])) where
+  told_step : (f : Result (List ℕ) Refusal) → request_frame q ≡ f → (old : States) (rs : List Reply) (ts : List (Result Reply Refusal)) → TrueReplies config old (and_framed q f (framed_requests qs)) rs new → DueTurns (none_of f ∷ nones_of qs) ts rs left → AllToldTruly config old (q ∷ qs) ts new × (left ≡ [])
   told_step (Ok frame) e old [] ts h d = absurd h
   told_step (Ok frame) e old (r ∷ rs) [] h d = absurd d
   told_step (Ok frame) e old (r ∷ rs) (t ∷ ts) h d =
@@ -140,7 +140,7 @@ module _ (config : ConfigValue) (q : Request) (qs : List Request) (left : List R
       let rest = later old rs ts h d.1 in
       ((old, subst (λ (t : Result Reply Refusal). ToldTruly config old q t old) (sym d.0) (inl (e, refl)), rest.0), rest.1)
 
-told_truly : (config : ConfigValue) (qs : List Request) (left : List Reply) (new old : States) (rs : List Reply) (ts : List (Result Reply Refusal)) → TrueReplies config old (framed qs) rs new → DueTurns (nones_of qs) ts rs left → AllToldTruly config old qs ts new × (left ≡ [])
+told_truly : (config : ConfigValue) (qs : List Request) (left : List Reply) (new old : States) (rs : List Reply) (ts : List (Result Reply Refusal)) → TrueReplies config old (framed_requests qs) rs new → DueTurns (nones_of qs) ts rs left → AllToldTruly config old qs ts new × (left ≡ [])
 told_truly config [] left new old [] [] h d = (h, d)
 told_truly config [] left new old [] (t ∷ ts) h d = absurd d
 told_truly config [] left new old (r ∷ rs) ts h d = absurd h
@@ -151,20 +151,20 @@ pub all_taken : (old new : Far) (qs : List Request) → TakesAll old qs new → 
 all_taken old new qs all = (length qs, all.replies, subst (λ (xs : List Request). TrueReplies old.config old.states xs all.replies new.states) (sym (take_all (length qs) qs (omega arith))) all.are_true)
 
 -- A WINDOW THAT WENT OUT and was told of in turn
-pub window_told : (old mid new : Far) (qs : List Request) (frames : Frames) (ts : List (Result Reply Refusal)) → frames ≡ frames_of qs → old.due ≡ [] → TakesAll old (framed qs) mid → new.states ≡ mid.states → DueTurns frames.1 ts mid.due new.due → TellsAllTruly old.config old.states qs ts new.states × (new.due ≡ [])
+pub window_told : (old mid new : Far) (qs : List Request) (frames : Frames) (ts : List (Result Reply Refusal)) → frames ≡ frames_of qs → old.due ≡ [] → TakesAll old (framed_requests qs) mid → new.states ≡ mid.states → DueTurns frames.1 ts mid.due new.due → TellsAllTruly old.config old.states qs ts new.states × (new.due ≡ [])
 window_told old mid new qs frames ts is none all same due =
     let nones : frames.1 ≡ nones_of qs = ap (λ (f : Frames). f.1) (is ∙ after_is ([], []) qs) in
     let now : mid.due ≡ all.replies = all.due ∙ ap (λ d. d ++ all.replies) none in
-    let true_then = subst (TrueReplies old.config old.states (framed qs) all.replies) (sym same) all.are_true in
+    let true_then = subst (TrueReplies old.config old.states (framed_requests qs) all.replies) (sym same) all.are_true in
     let turns = subst (λ d. DueTurns (nones_of qs) ts d new.due) now (subst (λ ns. DueTurns ns ts mid.due new.due) nones due) in
     let told = told_truly old.config qs new.due new.states old.states all.replies ts true_then turns in
-    let taken = all_taken old mid (framed qs) all in
-    ((told.0, subst (TakesFirst old.config old.states (framed qs)) (sym same) taken), told.1)
+    let taken = all_taken old mid (framed_requests qs) all in
+    ((told.0, subst (TakesFirst old.config old.states (framed_requests qs)) (sym same) taken), told.1)
 
 -- ---- answers
 
 module _ {A : Type 0} (as_reply : A → Reply) where
-  one_settled : (config : ConfigValue) (old new : States) (q : Request) (t : Result Reply Refusal) (a : Result A Refusal) → ToldTruly config old q t new → Answers as_reply t a → IsSettled t a → SettlesTruly as_reply config old q a new
+  one_settled : (config : ConfigValue) (old new : States) (q : Request) (t : Result Reply Refusal) (a : Result A Refusal) → ToldTruly config old q t new → IsToldBy as_reply t a → LeavesNothingOpen t a → SettlesTruly as_reply config old q a new
   one_settled config old new q t (Ok v) h e s = subst (λ (t : Result Reply Refusal). ToldTruly config old q t new) e h
   one_settled config old new q t (Err refusal) h (inl e) s = inl (λ broken. s.1 (ap Err broken), subst (λ (t : Result Reply Refusal). ToldTruly config old q t new) e h)
   one_settled config old new q t (Err refusal) h (inr e) s = elim (subst (λ (t : Result Reply Refusal). ToldTruly config old q t new) e h) [
@@ -172,7 +172,7 @@ module _ {A : Type 0} (as_reply : A → Reply) where
     | inr memory ↦ absurd (s.0 (e ∙ ap Err memory.0))
   ]
 
-  settled : (config : ConfigValue) (old new : States) (qs : List Request) (ts : List (Result Reply Refusal)) (us : List (Result A Refusal)) → AllToldTruly config old qs ts new → ForEach (Answers as_reply) ts us → ForEach IsSettled ts us → SettleTruly as_reply config old qs us new
+  settled : (config : ConfigValue) (old new : States) (qs : List Request) (ts : List (Result Reply Refusal)) (us : List (Result A Refusal)) → AllToldTruly config old qs ts new → ForEach (IsToldBy as_reply) ts us → ForEach LeavesNothingOpen ts us → SettleTruly as_reply config old qs us new
   settled config old new [] [] [] h e s = h
   settled config old new [] [] (u ∷ us) h e s = absurd e
   settled config old new [] (t ∷ ts) us h e s = absurd h
@@ -185,7 +185,7 @@ open_end refusal (inl memory) = ap leaves_open memory
 open_end refusal (inr broken) = ap leaves_open broken.0
 
 -- what is made of a window that was told of
-pub window_answered : {A V : Type 0} (X : Type 0) (as_reply : A → Reply) (items : V → List (Result A Refusal)) (config : ConfigValue) (old new : States) (qs : List Request) (ts : List (Result Reply Refusal)) (made : Result V Refusal) → TellsAllTruly config old qs ts new → IfOk made (λ v. ForEach (Answers as_reply) ts (items v)) → IfOk made (λ v. ForEach IsSettled ts (items v))
+pub window_answered : {A V : Type 0} (X : Type 0) (as_reply : A → Reply) (items : V → List (Result A Refusal)) (config : ConfigValue) (old new : States) (qs : List Request) (ts : List (Result Reply Refusal)) (made : Result V Refusal) → TellsAllTruly config old qs ts new → IfOk made (λ v. ForEach (IsToldBy as_reply) ts (items v)) → IfOk made (λ v. ForEach LeavesNothingOpen ts (items v))
     → IfErr made (λ refusal. (refusal ≡ Memory) ⊎ ((refusal ≡ Broken) × X)) → MatchResult made (λ v. SettleTruly as_reply config old qs (items v) new) (λ refusal. EndsOpen config old qs refusal new)
 window_answered X as_reply items config old new qs ts (Ok v) told e s ended = settled as_reply config old new qs ts (items v) told.0 e s
 window_answered X as_reply items config old new qs ts (Err refusal) told e s ended = (open_end refusal ended, told.1)
@@ -233,13 +233,13 @@ module _ {L : Type 0} (is_true : L → Type 0) (far : L → Far) (new : Remote L
 
   took : (told : Result Reply Refusal) (kind : ℕ) (before after : Option (List ℕ)) → is_true new.line → (new.refused ≡ None → TakesDue due (far new.line).due told) → ((refusal : Refusal) → new.refused ≡ Some refusal → leaves_open refusal ≡ true) → ReadsReply before after kind new.refused told → Ends told
   took (Ok reply) kind before after t d own reads =
-      let taken : IsTaken r (Ok reply) × ((far new.line).due ≡ []) = subst (λ ds. TakesDue ds (far new.line).due (Ok reply)) one (d reads.1) in
+      let taken : IsReplyTaken r (Ok reply) × ((far new.line).due ≡ []) = subst (λ ds. TakesDue ds (far new.line).due (Ok reply)) one (d reads.1) in
       let same : reply ≡ r = elim taken.0 [ inl e ↦ cc | inr e ↦ absurd (cc) ] in
       (still_goes is_true far new t reads.1 taken.1, subst (λ (x : Reply). TrueReply config old q x (far new.line).states) (sym same) is)
   took (Err refusal) kind before after t d own (inl broke) =
       (now_refuses is_true far new refusal t broke.1 (own refusal broke.1), inr (inr (own refusal broke.1, inr (r, is))))
   took (Err refusal) kind before after t d own (inr none) =
-      let taken : IsTaken r (Err refusal) × ((far new.line).due ≡ []) = subst (λ ds. TakesDue ds (far new.line).due (Err refusal)) one (d none.1) in
+      let taken : IsReplyTaken r (Err refusal) × ((far new.line).due ≡ []) = subst (λ ds. TakesDue ds (far new.line).due (Err refusal)) one (d none.1) in
       let memory : refusal ≡ Memory = elim taken.0 [ inl e ↦ absurd (cc) | inr e ↦ cc ] in
       (still_goes is_true far new t none.1 taken.1, inr (inr (ap leaves_open memory, inr (r, is))))
 
@@ -254,14 +254,14 @@ one_answered is_true far old mid new q told kind before after none all taken rea
 -- ---- a window
 
 -- turns broke the link
-pub turns_broke : {L : Type 0} (is_true : L → Type 0) (far : L → Far) (new : Remote L) (old mid : Far) (qs : List Request) (refusal : Refusal) → TakesAll old (framed qs) mid → is_true new.line → (far new.line).states ≡ mid.states → leaves_open refusal ≡ true → new.refused ≡ Some refusal → IsTrueRemote is_true far new × EndsOpen old.config old.states qs refusal (far new.line).states
-turns_broke is_true far new old mid qs refusal all t same e now = (now_refuses is_true far new refusal t now e, (e, subst (TakesFirst old.config old.states (framed qs)) (sym same) (all_taken old mid (framed qs) all)))
+pub turns_broke : {L : Type 0} (is_true : L → Type 0) (far : L → Far) (new : Remote L) (old mid : Far) (qs : List Request) (refusal : Refusal) → TakesAll old (framed_requests qs) mid → is_true new.line → (far new.line).states ≡ mid.states → leaves_open refusal ≡ true → new.refused ≡ Some refusal → IsTrueRemote is_true far new × EndsOpen old.config old.states qs refusal (far new.line).states
+turns_broke is_true far new old mid qs refusal all t same e now = (now_refuses is_true far new refusal t now e, (e, subst (TakesFirst old.config old.states (framed_requests qs)) (sym same) (all_taken old mid (framed_requests qs) all)))
 
 -- its frames did not all go out
-pub send_broke : {L : Type 0} (is_true : L → Type 0) (far : L → Far) (new : Remote L) (old : Far) (line : L) (qs : List Request) (refusal result : Refusal) → new.line ≡ line → new.refused ≡ Some refusal → result ≡ refusal → refusal ≡ WriteFailed → is_true line → TakesFirst old.config old.states (framed qs) (far line).states → IsTrueRemote is_true far new × EndsOpen old.config old.states qs result (far new.line).states
+pub send_broke : {L : Type 0} (is_true : L → Type 0) (far : L → Far) (new : Remote L) (old : Far) (line : L) (qs : List Request) (refusal result : Refusal) → new.line ≡ line → new.refused ≡ Some refusal → result ≡ refusal → refusal ≡ WriteFailed → is_true line → TakesFirst old.config old.states (framed_requests qs) (far line).states → IsTrueRemote is_true far new × EndsOpen old.config old.states qs result (far new.line).states
 send_broke is_true far new old line qs refusal result same now gives why t first = (
   now_refuses is_true far new refusal (subst is_true (sym same) t) now (ap leaves_open why),
-  (ap leaves_open (gives ∙ why), subst (λ l. TakesFirst old.config old.states (framed qs) (far l).states) (sym same) first),
+  (ap leaves_open (gives ∙ why), subst (λ l. TakesFirst old.config old.states (framed_requests qs) (far l).states) (sym same) first),
 )
 
 -- the frame of one request did not all go out

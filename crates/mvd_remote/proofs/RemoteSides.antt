@@ -7,8 +7,8 @@ use Rattle.mvd_dots.specs.declared.refusals.Refusal.TheVariants.{Memory}
 use Rattle.mvd_wire.specs.declared.request.Request.{Request}
 use Rattle.mvd_wire.specs.declared.reply.Reply.{Reply}
 use Rattle.mvd_wire.specs.Requests.{request_frame}
-use Rattle.mvd_remote.specs.LinkWindows.{Answers, AsksAll, Frames, RefusesAll, TakeTurns, and_frame, frames_after, frames_of, of_answer, of_none, of_read, of_write}
-use Rattle.mvd_remote.specs.Links.{AsksFor, Link}
+use Rattle.mvd_remote.specs.LinkWindows.{IsToldBy, AsksAll, Frames, RefusesAll, TakeTurns, and_frame, frames_after, frames_of, of_answer, of_none, of_read, of_write}
+use Rattle.mvd_remote.specs.Links.{AsksLinkFor, Link}
 use Rattle.mvd_peer.specs.Windows.{ForEach}
 use Rattle.mvd_peer.specs.Sides.{HasAnswered, HasRefused}
 use Rattle.mvd_remote.proofs.Lined.{goes_on}
@@ -76,7 +76,7 @@ module _ {S : Type 0} (refused : S → Option Refusal) (Follows : S → S → Ty
         let goes : refused new ≡ None = sym is ∙ a.answered.goes_on in
         let m = many_after ([], []) (map request qs) in
         let n = many_turns kind (frames_of (map request qs)).1 a.replies l.input l'.input a.answered.read in
-        let o = many_each (Answers as_reply) a.replies ts a.tells in
+        let o = many_each (IsToldBy as_reply) a.replies ts a.tells in
         let p = length-map qs request in
         record {
           count = still;
@@ -110,7 +110,7 @@ module _ {S : Type 0} (refused : S → Option Refusal) (Follows : S → S → Ty
 
 -- ---- one question
 
-pub one_refuses : {A : Type 0} (as_reply : A → Reply) (q : Request) (l l' : Link) (result : Result A Refusal) → AsksFor as_reply q l l' result → ((own : Refusal) → l.refused ≡ Some own → result ≡ Err own) → IfErr result (λ refusal. (own : Refusal) → l'.refused ≡ Some own → refusal ≡ own)
+pub one_refuses : {A : Type 0} (as_reply : A → Reply) (q : Request) (l l' : Link) (result : Result A Refusal) → AsksLinkFor as_reply q l l' result → ((own : Refusal) → l.refused ≡ Some own → result ≡ Err own) → IfErr result (λ refusal. (own : Refusal) → l'.refused ≡ Some own → refusal ≡ own)
 one_refuses as_reply q l l' (Ok a) h stays = tt
 one_refuses as_reply q l l' (Err refusal) (inl (inl nothing)) stays = λ own e.
     let was : l.refused ≡ Some own = ap (λ (x : Link). x.refused) (sym nothing.0) ∙ e in
@@ -120,6 +120,6 @@ one_refuses as_reply q l l' (Err refusal) (inl (inr (frame, is, inl breaks))) st
 one_refuses as_reply q l l' (Err refusal) (inl (inr (frame, is, inr told))) stays = λ own e. goes_on l'.refused own told.1 e
 one_refuses as_reply q l l' (Err refusal) (inr (frame, is, told)) stays = λ own e. goes_on l'.refused own told.1 e
 
-pub one_answers : {A : Type 0} (as_reply : A → Reply) (q : Request) (l l' : Link) (result : Result A Refusal) → AsksFor as_reply q l l' result → OnOk result (l'.refused ≡ None)
+pub one_answers : {A : Type 0} (as_reply : A → Reply) (q : Request) (l l' : Link) (result : Result A Refusal) → AsksLinkFor as_reply q l l' result → OnOk result (l'.refused ≡ None)
 one_answers as_reply q l l' (Ok a) (frame, is, told) = told.1
 one_answers as_reply q l l' (Err refusal) h = tt

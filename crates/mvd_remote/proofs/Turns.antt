@@ -8,7 +8,7 @@ use Rattle.mvd_wire.specs.declared.request.Request.{Request}
 use Rattle.mvd_wire.specs.declared.reply.Reply.{Reply}
 use Rattle.mvd_wire.specs.declared.reply.Reply.TheVariants.{Refused}
 use Rattle.mvd_wire.specs.Requests.{request_frame}
-use Rattle.mvd_remote.specs.LinkWindows.{Answered, Answers, AsksAll, Frames, RefusesAll, TakesTurn, TakeTurns, and_frame, frames_after, frames_of, of_answer}
+use Rattle.mvd_remote.specs.LinkWindows.{AnswersInTurn, IsToldBy, AsksAll, Frames, RefusesAll, AnswersTurn, TakeTurns, and_frame, frames_after, frames_of, of_answer}
 use Rattle.mvd_remote.specs.Links.{Link}
 use Rattle.mvd_peer.specs.Windows.{ForEach}
 
@@ -26,14 +26,14 @@ frames_more f xs i x window more low at before added =
 
 -- ---- what comes in
 
-turns_more : (kind : ℕ) (nones : List (Option Refusal)) (replies : List (Result Reply Refusal)) (none : Option Refusal) (reply : Result Reply Refusal) (old mid new : Option (List ℕ)) → TakeTurns kind nones replies old mid → TakesTurn kind none reply mid new → TakeTurns kind (nones ++ none ∷ []) (replies ++ reply ∷ []) old new
-turns_more kind [] [] why reply old mid new h t = (new, subst (λ (o : Option (List ℕ)). TakesTurn kind why reply o new) h t, refl)
+turns_more : (kind : ℕ) (nones : List (Option Refusal)) (replies : List (Result Reply Refusal)) (none : Option Refusal) (reply : Result Reply Refusal) (old mid new : Option (List ℕ)) → TakeTurns kind nones replies old mid → AnswersTurn kind none reply mid new → TakeTurns kind (nones ++ none ∷ []) (replies ++ reply ∷ []) old new
+turns_more kind [] [] why reply old mid new h t = (new, subst (λ (o : Option (List ℕ)). AnswersTurn kind why reply o new) h t, refl)
 turns_more kind [] (r ∷ rs) why reply old mid new h t = absurd h
 turns_more kind (n ∷ ns) [] why reply old mid new h t = absurd h
 turns_more kind (n ∷ ns) (r ∷ rs) why reply old mid new h t = (h.0, h.1, turns_more kind ns rs why reply h.0 mid new h.2 t)
 
 -- one turn more
-pub turns_more_at : (kind : ℕ) (all : List (Option Refusal)) (i : ℕ) (why d : Option Refusal) (replies us : List (Result Reply Refusal)) (reply : Result Reply Refusal) (old mid new : Option (List ℕ)) → i < length all → why ≡ get_or all i d → us ≡ replies ++ reply ∷ [] → TakeTurns kind (take i all) replies old mid → TakesTurn kind why reply mid new → TakeTurns kind (take (i + 1) all) us old new
+pub turns_more_at : (kind : ℕ) (all : List (Option Refusal)) (i : ℕ) (why d : Option Refusal) (replies us : List (Result Reply Refusal)) (reply : Result Reply Refusal) (old mid new : Option (List ℕ)) → i < length all → why ≡ get_or all i d → us ≡ replies ++ reply ∷ [] → TakeTurns kind (take i all) replies old mid → AnswersTurn kind why reply mid new → TakeTurns kind (take (i + 1) all) us old new
 turns_more_at kind all i why d replies us reply old mid new low at told before turn =
     let longer : take (i + 1) all ≡ take i all ++ why ∷ [] = take_more all i d low ∙ ap (λ x. take i all ++ x ∷ []) (sym at) in
     subst (λ (ns : List (Option Refusal)). TakeTurns kind ns us old new) (sym longer) (subst (λ (us : List (Result Reply Refusal)). TakeTurns kind (take i all ++ why ∷ []) us old new) (sym told) (turns_more kind (take i all) replies why reply old mid new before turn))
@@ -41,7 +41,7 @@ turns_more_at kind all i why d replies us reply old mid new low at told before t
 -- ---- a window
 
 -- all were answered, and this was made of it
-pub all_answered : {V A : Type 0} (as_reply : A → Reply) (items : V → List (Result A Refusal)) (kind : ℕ) (frames : Frames) (replies : List (Result Reply Refusal)) (old new : Link) (made : Result V Refusal) → Answered kind frames replies old new → IfOk made (λ v. ForEach (Answers as_reply) replies (items v))
+pub all_answered : {V A : Type 0} (as_reply : A → Reply) (items : V → List (Result A Refusal)) (kind : ℕ) (frames : Frames) (replies : List (Result Reply Refusal)) (old new : Link) (made : Result V Refusal) → AnswersInTurn kind frames replies old new → IfOk made (λ v. ForEach (IsToldBy as_reply) replies (items v))
     → IfErr made (λ refusal. (refusal ≡ Memory) ⊎ ((refusal ≡ Broken) × (Contains replies (Ok (Refused Broken)) ⊎ Contains replies (Err Broken)))) → MatchResult made (λ v. AsksAll as_reply kind frames (items v) old new) (RefusesAll kind frames old new)
 all_answered as_reply items kind frames replies old new (Ok v) answered told ended = record { replies = replies; answered = answered; tells = told }
 all_answered as_reply items kind frames replies old new (Err refusal) answered told ended = of_answer replies answered ended

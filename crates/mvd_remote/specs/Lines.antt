@@ -9,7 +9,7 @@ use Rattle.mvd_dots.specs.declared.refusals.Refusal.{Refusal}
 use Rattle.mvd_dots.specs.declared.refusals.Refusal.TheVariants.{Broken, Memory}
 use Rattle.mvd_keys.specs.State.{State}
 use Rattle.mvd_keys.specs.Writes.{Key}
-use Rattle.mvd_tree.specs.Page.{is_more_after_page, page_of}
+use Rattle.mvd_tree.specs.Page.{is_more_after_page, bucket_page}
 use Rattle.mvd_wire.specs.declared.frame.Frame.{Frame}
 use Rattle.mvd_wire.specs.declared.request.Request.{Request}
 use Rattle.mvd_wire.specs.declared.request.Request.TheVariants.{Get, Node, Bucket, Push}
@@ -24,7 +24,7 @@ use Rattle.mvd_site.specs.Config.{ConfigValue}
 use Rattle.mvd_site.specs.FromStates.{after_from, answer_from}
 use Rattle.mvd_site.specs.Held.{States, state_at}
 use Rattle.mvd_peer.specs.Sides.{Stays, is_of_question, stays_on}
-use Rattle.mvd_peer.specs.Windows.{CannotTake, IsNode, PageValue, RefusesPage, Takes, leaves_open}
+use Rattle.mvd_peer.specs.Windows.{CannotTake, IsNode, PageValue, RefusesPage, TakesState, leaves_open}
 use Rattle.mvd_remote.specs.declared.remote.Remote.{Remote}
 
 -- the far end: the key states that it holds once all that went out is answered, the replies that are still to be read,
@@ -51,12 +51,12 @@ RefusesQuestion old refusal new = (is_of_question refusal ≡ false) × (new ≡
 -- a push was refused for its cause, and not taken; or the side broke, and may hold it
 abbrev pub RefusesPush : ℕ → States → Key → State → Refusal → States → Type 0
 RefusesPush most old key state refusal new =
-    (CannotTake most old key state refusal × (new ≡ old)) ⊎ ((refusal ≡ Broken) × Takes old key state new)
+    (CannotTake most old key state refusal × (new ≡ old)) ⊎ ((refusal ≡ Broken) × TakesState old key state new)
 
 -- a site answers as its states and what it was set up with say, and has the states after that; or it refuses for its
 -- own sake, with a refusal from 20 on, and has done nothing, or broke, and may have done it
-abbrev pub SiteReplies : ConfigValue → States → Request → Reply → States → Type 0
-SiteReplies config old request reply new =
+abbrev pub RepliesFromStates : ConfigValue → States → Request → Reply → States → Type 0
+RepliesFromStates config old request reply new =
     ((reply ≡ answer_from config old request) × (new ≡ after_from config old request))
     ⊎ ((refusal : Refusal) × (reply ≡ Refused refusal) × (20 ≤ number_of refusal)
     × ((new ≡ old) ⊎ ((refusal ≡ Broken) × (new ≡ after_from config old request))))
@@ -71,13 +71,13 @@ TrueReply config old (Node path) (Told node) new = IsNode (digests old) path nod
 TrueReply config old (Node path) (Refused refusal) new = RefusesQuestion old refusal new
 TrueReply config old (Node path) reply new = ⊥
 TrueReply config old (Bucket path after) (Keys page more) new =
-    (page ≡ page_of (digests old) path after) × (more ≡ is_more_after_page (digests old) path after) × (new ≡ old)
+    (page ≡ bucket_page (digests old) path after) × (more ≡ is_more_after_page (digests old) path after) × (new ≡ old)
 TrueReply config old (Bucket path after) (Refused refusal) new = RefusesPage path refusal × (new ≡ old)
 TrueReply config old (Bucket path after) reply new = ⊥
-TrueReply config old (Push key state) Done new = Takes old key state new
+TrueReply config old (Push key state) Done new = TakesState old key state new
 TrueReply config old (Push key state) (Refused refusal) new = RefusesPush config.max_keys old key state refusal new
 TrueReply config old (Push key state) reply new = ⊥
-TrueReply config old request reply new = SiteReplies config old request reply new
+TrueReply config old request reply new = RepliesFromStates config old request reply new
 
 -- so to requests one after the other
 abbrev pub TrueReplies : ConfigValue → States → List Request → List Reply → States → Type 0
@@ -89,11 +89,11 @@ TrueReplies config old qs rs new = ⊥
 -- ---- what goes out and what comes in
 
 -- the bytes are the frames of these requests
-abbrev pub AreFrames : List Request → List ℕ → Type 0
-AreFrames [] bytes = bytes ≡ []
-AreFrames (q ∷ qs) bytes =
+abbrev pub AreRequestFrames : List Request → List ℕ → Type 0
+AreRequestFrames [] bytes = bytes ≡ []
+AreRequestFrames (q ∷ qs) bytes =
     (frame : List ℕ) × (rest : List ℕ) × IsRequest q × (request_frame q ≡ Ok frame) × (bytes ≡ frame ++ rest)
-    × AreFrames qs rest
+    × AreRequestFrames qs rest
 
 -- all of them are taken, and the replies to them are due after those that were
 pub record TakesAll (old : Far) (requests : List Request) (new : Far) : Type 0 where
@@ -107,26 +107,26 @@ TakesFirst config old requests new =
     (n : ℕ) × (replies : List Reply) × TrueReplies config old (take n requests) replies new
 
 -- frames of requests went out; where that failed, the first of them were taken
-abbrev pub GoesOut : Far → Far → List Request → Result (Unit {0}) Refusal → Type 0
-GoesOut old new requests (Ok done) = TakesAll old requests new
-GoesOut old new requests (Err refusal) = TakesFirst old.config old.states requests new.states
+abbrev pub RequestsGoOut : Far → Far → List Request → Result (Unit {0}) Refusal → Type 0
+RequestsGoOut old new requests (Ok done) = TakesAll old requests new
+RequestsGoOut old new requests (Err refusal) = TakesFirst old.config old.states requests new.states
 
 -- what was sent over a line that is true, if these are frames of requests
 abbrev pub SendsTruly : {L : Type 0} → (L → Type 0) → (L → Far) → List ℕ → L → L → Result (Unit {0}) Refusal → Type 0
 SendsTruly is_true far bytes old new result =
-    is_true old → (requests : List Request) → AreFrames requests bytes
-    → is_true new × GoesOut (far old) (far new) requests result
+    is_true old → (requests : List Request) → AreRequestFrames requests bytes
+    → is_true new × RequestsGoOut (far old) (far new) requests result
 
 -- where a reply is due, the frame that came spells the first of them
-abbrev pub IsNext : List Reply → List Reply → FrameValue → Type 0
-IsNext [] left frame = Unit {0}
-IsNext (reply ∷ later) left frame = (reply_of frame.kind frame.payload ≡ Ok reply) × (left ≡ later)
+abbrev pub IsNextReply : List Reply → List Reply → FrameValue → Type 0
+IsNextReply [] left frame = Unit {0}
+IsNextReply (reply ∷ later) left frame = (reply_of frame.kind frame.payload ≡ Ok reply) × (left ≡ later)
 
 -- what came over a line that is true
 abbrev pub ReadsTruly : {L : Type 0} → (L → Type 0) → (L → Far) → L → L → Result (Option Frame) Refusal → Type 0
 ReadsTruly is_true far old new result = is_true old →
     is_true new × ((far new).states ≡ (far old).states)
-    × IfOk result (λ came. IfSome came (λ frame. IsNext (far old).due (far new).due (frame_value frame)))
+    × IfOk result (λ came. IfSome came (λ frame. IsNextReply (far old).due (far new).due (frame_value frame)))
 
 -- ---- a remote side
 
@@ -201,13 +201,13 @@ shown_reply (Ok reply) = reply
 shown_reply (Err refusal) = Refused refusal
 
 -- what a reply is taken as: what it tells, or that there is no memory for it
-abbrev pub IsTaken : Reply → Result Reply Refusal → Type 0
-IsTaken reply told = (told ≡ Ok reply) ⊎ (told ≡ Err Memory)
+abbrev pub IsReplyTaken : Reply → Result Reply Refusal → Type 0
+IsReplyTaken reply told = (told ≡ Ok reply) ⊎ (told ≡ Err Memory)
 
 -- where a reply is due, the first of them is taken
 abbrev pub TakesDue : List Reply → List Reply → Result Reply Refusal → Type 0
 TakesDue [] left told = Unit {0}
-TakesDue (reply ∷ later) left told = IsTaken reply told × (left ≡ later)
+TakesDue (reply ∷ later) left told = IsReplyTaken reply told × (left ≡ later)
 
 -- what a remote side takes from a true line, unless it breaks
 pub record Took {L : Type 0} (is_true : L → Type 0) (far : L → Far) (old new : Remote L)
@@ -228,7 +228,7 @@ DueTurn (Some refusal) due left told = (told ≡ Err refusal) × (left ≡ due)
 abbrev pub DueTurns : List (Option Refusal) → List (Result Reply Refusal) → List Reply → List Reply → Type 0
 DueTurns [] [] due left = left ≡ due
 DueTurns (None ∷ nones) (told ∷ replies) [] left = Unit {0}
-DueTurns (None ∷ nones) (told ∷ replies) (reply ∷ later) left = IsTaken reply told × DueTurns nones replies later left
+DueTurns (None ∷ nones) (told ∷ replies) (reply ∷ later) left = IsReplyTaken reply told × DueTurns nones replies later left
 DueTurns (Some refusal ∷ nones) (told ∷ replies) due left = (told ≡ Err refusal) × DueTurns nones replies due left
 DueTurns nones replies due left = ⊥
 
@@ -241,12 +241,12 @@ pub record TookTurns {L V : Type 0} (is_true : L → Type 0) (far : L → Far) (
   pub unsure : IfErr result (λ refusal. leaves_open refusal ≡ true)
 
 -- what is spelled by a frame
-abbrev pub IsSpelled : Request → Type 0
-IsSpelled request = IfOk (request_frame request) (λ _. IsRequest request)
+abbrev pub HasFrame : Request → Type 0
+HasFrame request = IfOk (request_frame request) (λ _. IsRequest request)
 
-abbrev pub AreSpelled : List Request → Type 0
-AreSpelled [] = Unit {0}
-AreSpelled (q ∷ qs) = IsSpelled q × AreSpelled qs
+abbrev pub HaveFrames : List Request → Type 0
+HaveFrames [] = Unit {0}
+HaveFrames (q ∷ qs) = HasFrame q × HaveFrames qs
 
 -- what a request was told in its turn: the reply, or why it has no frame, or that there is no memory for the reply
 abbrev pub ToldTruly : ConfigValue → States → Request → Result Reply Refusal → States → Type 0
@@ -266,9 +266,9 @@ abbrev pub and_framed : Request → Result (List ℕ) Refusal → List Request �
 and_framed q (Ok frame) qs = q ∷ qs
 and_framed q (Err refusal) qs = qs
 
-abbrev pub framed : List Request → List Request
-framed [] = []
-framed (q ∷ qs) = and_framed q (request_frame q) (framed qs)
+abbrev pub framed_requests : List Request → List Request
+framed_requests [] = []
+framed_requests (q ∷ qs) = and_framed q (request_frame q) (framed_requests qs)
 
 -- one answer of a window that was answered; nothing is left open
 abbrev pub SettlesTruly : {A : Type 0} → (A → Reply) → ConfigValue → States → Request → Result A Refusal → States
@@ -288,12 +288,12 @@ SettleTruly as_reply config old qs ts new = ⊥
 -- a window went out, and what was told in each turn is true
 abbrev pub TellsAllTruly : ConfigValue → States → List Request → List (Result Reply Refusal) → States → Type 0
 TellsAllTruly config old requests replies new =
-    AllToldTruly config old requests replies new × TakesFirst config old (framed requests) new
+    AllToldTruly config old requests replies new × TakesFirst config old (framed_requests requests) new
 
 -- a window was refused, and of its requests the first were taken
 abbrev pub EndsOpen : ConfigValue → States → List Request → Refusal → States → Type 0
-EndsOpen config old requests refusal new = (leaves_open refusal ≡ true) × TakesFirst config old (framed requests) new
+EndsOpen config old requests refusal new = (leaves_open refusal ≡ true) × TakesFirst config old (framed_requests requests) new
 
 -- a reply was taken for what it tells, and the answer leaves nothing open
-abbrev pub IsSettled : {A : Type 0} → Result Reply Refusal → Result A Refusal → Type 0
-IsSettled reply answer = (reply ≢ Err Memory) × (answer ≢ Err Broken)
+abbrev pub LeavesNothingOpen : {A : Type 0} → Result Reply Refusal → Result A Refusal → Type 0
+LeavesNothingOpen reply answer = (reply ≢ Err Memory) × (answer ≢ Err Broken)

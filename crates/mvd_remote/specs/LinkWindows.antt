@@ -11,9 +11,9 @@ use Rattle.mvd_wire.specs.declared.request.Request.{Request}
 use Rattle.mvd_wire.specs.declared.reply.Reply.{Reply}
 use Rattle.mvd_wire.specs.declared.reply.Reply.TheVariants.{Refused}
 use Rattle.mvd_wire.specs.Frames.{AppendsFront, FrameValue}
-use Rattle.mvd_wire.specs.Replies.{kind_of}
+use Rattle.mvd_wire.specs.Replies.{reply_kind}
 use Rattle.mvd_wire.specs.Requests.{request_frame}
-use Rattle.mvd_remote.specs.Links.{IsUp, Link, ReadCause, Receives, TellsReply, TellsNone}
+use Rattle.mvd_remote.specs.Links.{IsUp, Link, ReadCause, ReceivesFrame, TellsReply, TellsNone}
 use Rattle.mvd_peer.specs.Windows.{ForEach}
 
 -- ---- what goes out
@@ -43,16 +43,16 @@ ToldBy kind (Err refusal) frame = TellsNone kind refusal frame × (number_of ref
 
 -- in its turn a request is answered by the next frame that comes in; one that has no frame is refused so, and nothing
 -- is read
-abbrev pub TakesTurn : ℕ → Option Refusal → Result Reply Refusal → Option (List ℕ) → Option (List ℕ) → Type 0
-TakesTurn kind None told old new = Receives old new (ToldBy kind told)
-TakesTurn kind (Some refusal) told old new = (told ≡ Err refusal) × (new ≡ old)
+abbrev pub AnswersTurn : ℕ → Option Refusal → Result Reply Refusal → Option (List ℕ) → Option (List ℕ) → Type 0
+AnswersTurn kind None told old new = ReceivesFrame old new (ToldBy kind told)
+AnswersTurn kind (Some refusal) told old new = (told ≡ Err refusal) × (new ≡ old)
 
 -- each in its turn
 abbrev pub TakeTurns : ℕ → List (Option Refusal) → List (Result Reply Refusal) → Option (List ℕ) → Option (List ℕ)
     → Type 0
 TakeTurns kind [] [] old new = new ≡ old
 TakeTurns kind (none ∷ nones) (told ∷ replies) old new =
-    (mid : Option (List ℕ)) × TakesTurn kind none told old mid × TakeTurns kind nones replies mid new
+    (mid : Option (List ℕ)) × AnswersTurn kind none told old mid × TakeTurns kind nones replies mid new
 TakeTurns kind nones replies old new = ⊥
 
 -- after the first came in the next broke the link
@@ -64,22 +64,22 @@ TurnBreaks kind nones old new refusal =
 -- ---- a window
 
 -- all frames went out, and then each request was answered in its turn
-pub record Answered (kind : ℕ) (frames : Frames) (replies : List (Result Reply Refusal)) (old new : Link) : Type 0 where
+pub record AnswersInTurn (kind : ℕ) (frames : Frames) (replies : List (Result Reply Refusal)) (old new : Link) : Type 0 where
   pub wrote : Appends old.output new.output frames.0
   pub read : TakeTurns kind frames.1 replies old.input new.input
   pub goes_on : IsUp new
 
 -- an answer is what a reply tells
-abbrev pub Answers : {A : Type 0} → (A → Reply) → Result Reply Refusal → Result A Refusal → Type 0
-Answers as_reply reply (Ok answer) = reply ≡ Ok (as_reply answer)
-Answers as_reply reply (Err refusal) = (reply ≡ Ok (Refused refusal)) ⊎ (reply ≡ Err refusal)
+abbrev pub IsToldBy : {A : Type 0} → (A → Reply) → Result Reply Refusal → Result A Refusal → Type 0
+IsToldBy as_reply reply (Ok answer) = reply ≡ Ok (as_reply answer)
+IsToldBy as_reply reply (Err refusal) = (reply ≡ Ok (Refused refusal)) ⊎ (reply ≡ Err refusal)
 
 -- A WINDOW WAS ANSWERED so
 pub record AsksAll {A : Type 0} (as_reply : A → Reply) (kind : ℕ) (frames : Frames) (told : List (Result A Refusal))
     (old new : Link) : Type 0 where
   pub replies : List (Result Reply Refusal)
-  pub answered : Answered kind frames replies old new
-  pub tells : ForEach (Answers as_reply) replies told
+  pub answered : AnswersInTurn kind frames replies old new
+  pub tells : ForEach (IsToldBy as_reply) replies told
 
 -- A WINDOW WAS REFUSED so
 pub data RefusesAll (kind : ℕ) (frames : Frames) (old new : Link) (refusal : Refusal) : Type 0 where
@@ -92,7 +92,7 @@ pub data RefusesAll (kind : ℕ) (frames : Frames) (old new : Link) (refusal : R
   of_read : Appends old.output new.output frames.0 → TurnBreaks kind frames.1 old.input new.input refusal
       → new.refused ≡ Some refusal → RefusesAll kind frames old new refusal
   -- all were answered, and one by that the side is broken, or memory was refused
-  of_answer : (replies : List (Result Reply Refusal)) → Answered kind frames replies old new → (refusal ≡ Memory)
+  of_answer : (replies : List (Result Reply Refusal)) → AnswersInTurn kind frames replies old new → (refusal ≡ Memory)
       ⊎ ((refusal ≡ Broken) × (Contains replies (Ok (Refused Broken)) ⊎ Contains replies (Err Broken)))
       → RefusesAll kind frames old new refusal
 
@@ -105,7 +105,7 @@ AsksForAll as_reply kind requests old new result =
 
 -- a reply of a kind that was asked for, or a refusal
 abbrev pub IsOfKind : ℕ → Result Reply Refusal → Type 0
-IsOfKind kind (Ok reply) = (kind_of reply ≡ kind) ⊎ (kind_of reply ≡ 0xEE)
+IsOfKind kind (Ok reply) = (reply_kind reply ≡ kind) ⊎ (reply_kind reply ≡ 0xEE)
 IsOfKind kind (Err refusal) = Unit {0}
 
 -- ---- a window in two halves
@@ -130,7 +130,7 @@ pub record CollectsAll {A : Type 0} (as_reply : A → Reply) (kind : ℕ) (nones
     (told : List (Result A Refusal)) (old new : Link) : Type 0 where
   pub replies : List (Result Reply Refusal)
   pub takes : TakesEach kind nones replies old new
-  pub tells : ForEach (Answers as_reply) replies told
+  pub tells : ForEach (IsToldBy as_reply) replies told
 
 -- A WINDOW THAT LEFT WAS REFUSED so
 pub data CollectsNone (kind : ℕ) (nones : List (Option Refusal)) (old new : Link) (refusal : Refusal) : Type 0 where

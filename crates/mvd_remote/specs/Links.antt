@@ -48,15 +48,15 @@ answered_by (Hello t) = 0xA3
 answered_by Bye = 0xA3
 
 -- just one frame came in, of which this holds
-abbrev pub Receives : Option (List ℕ) → Option (List ℕ) → (FrameValue → Type 0) → Type 0
-Receives old new Came =
+abbrev pub ReceivesFrame : Option (List ℕ) → Option (List ℕ) → (FrameValue → Type 0) → Type 0
+ReceivesFrame old new Came =
     (bytes : List ℕ) → old ≡ Some bytes → (frame : FrameValue) × (rest : List ℕ)
     × (frame_at bytes ≡ Ok (Some frame, rest)) × (new ≡ Some rest) × Came frame
 
 -- just this frame went out, and just one frame came in, of which this holds
 pub record Exchanged (old new : Link) (sent : List ℕ) (Came : FrameValue → Type 0) : Type 0 where
   pub wrote : Appends old.output new.output sent
-  pub read : Receives old.input new.input Came
+  pub read : ReceivesFrame old.input new.input Came
 
 -- the frame spells the reply, which is of the kind that was asked for, or a refusal
 abbrev pub TellsReply : ℕ → Reply → FrameValue → Type 0
@@ -74,8 +74,8 @@ abbrev pub IsOther : ℕ → FrameValue → Type 0
 IsOther kind frame = (frame.kind ≢ kind) × (frame.kind ≢ 0xEE)
 
 -- the bytes end before a frame does
-abbrev pub EndsEarly : List ℕ → Type 0
-EndsEarly bytes = (frame_at bytes ≡ Err Truncated) ⊎ ((rest : List ℕ) × (frame_at bytes ≡ Ok (None, rest)))
+abbrev pub EndsWithinFrame : List ℕ → Type 0
+EndsWithinFrame bytes = (frame_at bytes ≡ Err Truncated) ⊎ ((rest : List ℕ) × (frame_at bytes ≡ Ok (None, rest)))
 
 -- of the bytes that a reader had left this holds
 abbrev pub HadLeft : Option (List ℕ) → (List ℕ → Type 0) → Type 0
@@ -85,19 +85,19 @@ HadLeft old Left = (bytes : List ℕ) → old ≡ Some bytes → Left bytes
 pub data ReadCause (old new : Option (List ℕ)) (kind : ℕ) (refusal : Refusal) : Type 0 where
   -- the reader failed, or memory was refused for what it gave
   of_reader : (refusal ≡ ReadFailed) ⊎ (refusal ≡ Memory) → ReadCause old new kind refusal
-  of_end : refusal ≡ Truncated → HadLeft old EndsEarly → ReadCause old new kind refusal
+  of_end : refusal ≡ Truncated → HadLeft old EndsWithinFrame → ReadCause old new kind refusal
   of_length : refusal ≡ FrameTooLong → HadLeft old (λ bytes. frame_at bytes ≡ Err FrameTooLong)
       → ReadCause old new kind refusal
-  of_kind : refusal ≡ BadKind → Receives old new (IsOther kind) → ReadCause old new kind refusal
+  of_kind : refusal ≡ BadKind → ReceivesFrame old new (IsOther kind) → ReadCause old new kind refusal
   -- the frame that came spells no reply
-  of_body : 30 ≤ number_of refusal → Receives old new (TellsNone kind refusal) → ReadCause old new kind refusal
+  of_body : 30 ≤ number_of refusal → ReceivesFrame old new (TellsNone kind refusal) → ReadCause old new kind refusal
 
 -- how the reading of a reply of this kind ends, and whether the link refuses from now on
 abbrev pub ReadsReply : Option (List ℕ) → Option (List ℕ) → ℕ → Option Refusal → Result Reply Refusal → Type 0
-ReadsReply old new kind refused (Ok reply) = Receives old new (TellsReply kind reply) × (refused ≡ None)
+ReadsReply old new kind refused (Ok reply) = ReceivesFrame old new (TellsReply kind reply) × (refused ≡ None)
 ReadsReply old new kind refused (Err refusal) =
     (ReadCause old new kind refusal × (refused ≡ Some refusal))
-    ⊎ (Receives old new (TellsNone kind refusal) × (refused ≡ None) × (number_of refusal < 30))
+    ⊎ (ReceivesFrame old new (TellsNone kind refusal) × (refused ≡ None) × (number_of refusal < 30))
 
 -- why a link breaks with this refusal
 pub data BreakCause (old new : Link) (sent : List ℕ) (kind : ℕ) (refusal : Refusal) : Type 0 where
@@ -113,9 +113,9 @@ pub record Breaks (old new : Link) (sent : List ℕ) (kind : ℕ) (refusal : Ref
   pub kept : new.refused ≡ Some refusal
 
 -- how the sending of a frame over a link that goes on ends, where a reply of this kind is asked for
-abbrev pub Sends : Link → Link → List ℕ → ℕ → Result Reply Refusal → Type 0
-Sends old new sent kind (Ok reply) = Exchanged old new sent (TellsReply kind reply) × IsUp new
-Sends old new sent kind (Err refusal) =
+abbrev pub SendsAsked : Link → Link → List ℕ → ℕ → Result Reply Refusal → Type 0
+SendsAsked old new sent kind (Ok reply) = Exchanged old new sent (TellsReply kind reply) × IsUp new
+SendsAsked old new sent kind (Err refusal) =
     Breaks old new sent kind refusal
     ⊎ (Exchanged old new sent (TellsNone kind refusal) × IsUp new × (number_of refusal < 30))
 
@@ -127,7 +127,7 @@ SendsNothing old new request refusal =
 -- the frame of the request was sent
 abbrev pub SendsFrame : Link → Link → Request → Result Reply Refusal → Type 0
 SendsFrame old new request told =
-    (frame : List ℕ) × (request_frame request ≡ Ok frame) × Sends old new frame (answered_by request) told
+    (frame : List ℕ) × (request_frame request ≡ Ok frame) × SendsAsked old new frame (answered_by request) told
 
 -- what a question gives
 abbrev pub Asks : Link → Link → Request → Result Reply Refusal → Type 0
@@ -135,14 +135,14 @@ Asks old new request (Ok reply) = SendsFrame old new request (Ok reply)
 Asks old new request (Err refusal) = SendsNothing old new request refusal ⊎ SendsFrame old new request (Err refusal)
 
 -- a refusal of a question: the link gave it, or the peer told it
-abbrev pub Refuses : Link → Link → Request → Refusal → Type 0
-Refuses old new request refusal = Asks old new request (Err refusal) ⊎ SendsFrame old new request (Ok (Refused refusal))
+abbrev pub RefusesAsked : Link → Link → Request → Refusal → Type 0
+RefusesAsked old new request refusal = Asks old new request (Err refusal) ⊎ SendsFrame old new request (Ok (Refused refusal))
 
 -- what a question for an answer gives: a reply that tells it, or a refusal
-abbrev pub AsksFor : {A : Type 0} → (A → Reply) → Request → Link → Link → Result A Refusal → Type 0
-AsksFor as_reply request old new result =
+abbrev pub AsksLinkFor : {A : Type 0} → (A → Reply) → Request → Link → Link → Result A Refusal → Type 0
+AsksLinkFor as_reply request old new result =
     MatchResult result (λ answer. SendsFrame old new request (Ok (as_reply answer)))
-    (λ refusal. Refuses old new request refusal)
+    (λ refusal. RefusesAsked old new request refusal)
 
 -- a link that has refused refuses so again, and stays as it is
 abbrev pub StaysRefused : {L A : Type 0} → Remote L → Remote L → Result A Refusal → Type 0

@@ -14,7 +14,7 @@ use Rattle.mvd_site.specs.Held.{States}
 use Rattle.mvd_remote.specs.LinkWindows.{AsksForAll}
 use Rattle.mvd_remote.specs.Lines.{AnswersTruly, EndsOpen, IsTrueRemote, SettleTruly, Took}
 use Rattle.mvd_remote.specs.Lines.{as_digests, as_done, as_page, as_state, far_of, shown_reply}
-use Rattle.mvd_remote.specs.Links.{Asks, AsksFor, Link, link}
+use Rattle.mvd_remote.specs.Links.{Asks, AsksLinkFor, Link, link}
 use Rattle.mvd_peer.specs.Windows.{PageValue}
 use Rattle.mvd_remote.specs.declared.line.Line.{Ghosts}
 use Rattle.mvd_remote.specs.declared.remote.Remote.{Remote}
@@ -79,7 +79,7 @@ link_of line remote = link line.remaining line.contents remote
 
 -- what a question gives, over the link as it was and as it is
 abbrev pub AsksOver : {L A : Type 0} → Ghosts L → Query A → (old new : Remote L) → Result A Refusal → Type 0
-AsksOver line query old new = AsksFor query.as_reply query.request (link_of line old) (link_of line new)
+AsksOver line query old new = AsksLinkFor query.as_reply query.request (link_of line old) (link_of line new)
 
 -- what questions give that are asked at once
 abbrev pub AsksAllOver : {L A : Type 0} → Ghosts L → Queries A → (old new : Remote L)

@@ -10,10 +10,11 @@ ghost use Rattle.mvd_dots.specs.declared.refusals.Refusal.{Refusal};
 ghost use Rattle.mvd_wire.specs.declared.request.Request.{Request};
 ghost use Rattle.mvd_wire.specs.declared.reply.Reply.TheVariants.{Refused};
 ghost use Rattle.mvd_remote.specs.Lines.{IsTrueRemote, KeepsConfig, line_of, refused_of};
-ghost use Rattle.mvd_remote.specs.Links.{Asks, ReadsReply, Sends, StaysRefused, answered_by};
-ghost use Rattle.mvd_remote.specs.Remotes.{AsksOver, AsksTruly, TakesReply, any_query, bye_query, hello_query, link_of, query};
+ghost use Rattle.mvd_remote.specs.Links.{Asks, ReadsReply, SendsAsked, StaysRefused, answered_by};
+ghost use Rattle.mvd_remote.specs.Remotes.{AsksOver, AsksTruly, TakesReply, any_query, bye_query, hello_query, link_of};
+ghost use Rattle.mvd_remote.specs.Remotes.{query};
 ghost use Rattle.mvd_wire.specs.Codec.{Gives};
-ghost use Rattle.mvd_wire.specs.Replies.{kind_of};
+ghost use Rattle.mvd_wire.specs.Replies.{reply_kind};
 ghost use Rattle.mvd_wire.specs.Requests.{IsRequest, request_frame};
 
 use crate::line::Line;
@@ -52,7 +53,7 @@ fn answered_by(request: &Request) -> u8
 
 /// The refusal that a reply tells which accepts nothing.
 fn refusal_in(reply: &Reply) -> Refusal
-    ensures { kind_of reply.now ≡ 0xEE → reply.now ≡ Refused result }
+    ensures { reply_kind reply.now ≡ 0xEE → reply.now ≡ Refused result }
 {
     match reply {
         Reply::Refused(refusal) => *refusal,
@@ -100,7 +101,7 @@ impl<L: Line> Remote<L> {
         requires { refused_of self.old ≡ None }
         ensures reads { ReadsReply (L.remaining (line_of self.old)) (L.remaining (line_of self.new))
             kind (refused_of self.new) result }
-        ensures of_kind { IfOk result (λ reply. (kind_of reply ≡ kind) ⊎ (kind_of reply ≡ 0xEE)) }
+        ensures of_kind { IfOk result (λ reply. (reply_kind reply ≡ kind) ⊎ (reply_kind reply ≡ 0xEE)) }
         ensures unsent { L.contents (line_of self.new) ≡ L.contents (line_of self.old) }
         ensures config { KeepsConfig L.far self.old self.new }
         ensures truth { TakesReply L.Line self.old self.new result }
@@ -127,8 +128,8 @@ impl<L: Line> Remote<L> {
     /// Sends a frame, and reads the reply, which is of this kind or a refusal.
     fn send(&mut self, frame: &[u8], kind: u8) -> Result<Reply, Refusal>
         requires { refused_of self.old ≡ None }
-        ensures sends { Sends (link_of L.Line self.old) (link_of L.Line self.new) frame.now kind result }
-        ensures of_kind { IfOk result (λ reply. (kind_of reply ≡ kind) ⊎ (kind_of reply ≡ 0xEE)) }
+        ensures sends { SendsAsked (link_of L.Line self.old) (link_of L.Line self.new) frame.now kind result }
+        ensures of_kind { IfOk result (λ reply. (reply_kind reply ≡ kind) ⊎ (reply_kind reply ≡ 0xEE)) }
         ensures config { KeepsConfig L.far self.old self.new }
         ensures truth { (request : Request) → IsRequest request → request_frame request ≡ Ok frame.now →
             AsksTruly L.Line (any_query request) self.old self.new result }

@@ -15,7 +15,7 @@ use Rattle.mvd_keys.specs.Place.{place_cmp}
 use Rattle.mvd_keys.specs.State.{State}
 use Rattle.mvd_keys.specs.Writes.{Key}
 use Rattle.mvd_keys.specs.declared.places.Place.{Place}
-use Rattle.mvd_rows.specs.Answers.{find_answer, is_after, is_after_place, is_after_term, is_between, page_of, places_in, range_answer, row_answer, row_of_view, rows_answer, rows_of_view, view_in, view_named}
+use Rattle.mvd_rows.specs.Answers.{find_answer, is_place_after, is_after_place, is_after_term, is_between, page_of, places_in, range_answer, row_answer, row_of_view, rows_answer, rows_of_view, view_in, view_named}
 use Rattle.mvd_rows.specs.Defs.{Definitions, has_index}
 use Rattle.mvd_rows.specs.Marks.{spot_cmp}
 use Rattle.mvd_rows.specs.Names.{Field}
@@ -41,12 +41,12 @@ of_term_by Less c = refl
 of_term_by Equal c = sym (and-yes (is_lt c))
 of_term_by Greater c = refl
 
-after_is : (after : Option (Key × DotValue)) (p : Place) → is_after after p ≡ is_lt (option_cmp spot_cmp (spot_at after) (Some (record { key = p.key; dot = p.dot })))
+after_is : (after : Option (Key × DotValue)) (p : Place) → is_place_after after p ≡ is_lt (option_cmp spot_cmp (spot_at after) (Some (record { key = p.key; dot = p.dot })))
 after_is None p = refl
 after_is (Some at) p = ap (λ r. is_lt (ordering_then r (spot_cmp (record { key = at.0; dot = at.1 }) (record { key = p.key; dot = p.dot })))) (tied_itself term_cmp_total p.term)
 
 of_term : (term copied : Term) (after : Option (Key × DotValue)) → term ≡ copied → (p : Place) →
-    (is_past (record { term = copied; spot = spot_at after }) p && not (is_gt (term_cmp p.term term))) ≡ (eq_by_cmp term_cmp term p.term && is_after after p)
+    (is_past (record { term = copied; spot = spot_at after }) p && not (is_gt (term_cmp p.term term))) ≡ (eq_by_cmp term_cmp term p.term && is_place_after after p)
 of_term term copied after same p =
     ap (λ t. is_past (record { term = t; spot = spot_at after }) p && not (is_gt (term_cmp p.term term))) (sym same)
     ∙ ap (λ r. is_past (record { term = term; spot = spot_at after }) p && not (is_gt r)) (term_cmp_total.antisymm p.term term)
@@ -106,7 +106,7 @@ module _ (rows : Rows) (defs : Definitions) (states : FinMap key_cmp State) (sta
       page ≡ page_of (filter (λ p. is_past (record { term = copied; spot = spot_at after }) p && not (is_gt (term_cmp p.term term))) (places_in index.field (visible_in states))) →
       find_answer defs (visible_in states) field term after ≡ Ok page
   find_some index field term copied after page has same copy is =
-      ap (λ b. if b then Ok (page_of (filter (λ p. eq_by_cmp term_cmp term p.term && is_after after p) (places_in field (visible_in states)))) else Err NoIndex) (has_here field true has)
+      ap (λ b. if b then Ok (page_of (filter (λ p. eq_by_cmp term_cmp term p.term && is_place_after after p) (places_in field (visible_in states)))) else Err NoIndex) (has_here field true has)
       ∙ ap Ok (sym (is ∙ ap₂ (λ (q : Place → Bool) f. page_of (filter q (places_in f (visible_in states)))) (λ i p. of_term term copied after copy p i) same))
 
   pub range_some : (index : Index) (field : Field) (from to : Term) (after : Option Place) (start : Mark) (page : List Place × Bool) → has_index (definitions_of rows).indexes field ≡ true → index.field ≡ field →

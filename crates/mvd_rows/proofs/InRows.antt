@@ -17,7 +17,7 @@ use Rattle.mvd_rows.specs.Answers.{group_of, groups_in, is_after_term, page_of, 
 use Rattle.mvd_rows.specs.Names.{Field}
 use Rattle.mvd_rows.specs.Pages.{IsPageOf, shown_entry, start_of}
 use Rattle.mvd_rows.specs.Stands.{IsViewOf, definition_of, row_at, unless_none}
-use Rattle.mvd_rows.specs.Views.{is_in, is_term, members, row_of}
+use Rattle.mvd_rows.specs.Views.{has_term, is_term, members, row_of}
 use Rattle.mvd_rows.specs.Visible.{Visible}
 use Rattle.mvd_rows.specs.declared.marks.Spot.{Spot}
 use Rattle.mvd_rows.specs.declared.views.Row.{Row}
@@ -60,9 +60,9 @@ group_by : (t : Term) (o : Option Term) (e : Spot × Text) (es : List (Spot × T
 group_by t None e es rest ih = ih
 group_by t (Some u) e es rest ih = elim (eq_by_cmp term_cmp t u) as (λ b. cond b (Some tt) (find term_cmp t rest) ≡ unless (length (cond b (e ∷ es) es))) [ true ↦ sym (unless_more (length es)) | false ↦ ih ]
 
-find_groups : (group : Field) (t : Term) (es : List (Spot × Text)) → find term_cmp t (filter_map (group_of group) es) ≡ unless (length (filter (λ e. is_in group t e.1) es))
+find_groups : (group : Field) (t : Term) (es : List (Spot × Text)) → find term_cmp t (filter_map (group_of group) es) ≡ unless (length (filter (λ e. has_term group t e.1) es))
 find_groups group t [] = refl
-find_groups group t (e ∷ es) = group_by t (term_of group e.1) e (filter (λ e. is_in group t e.1) es) (filter_map (group_of group) es) (find_groups group t es)
+find_groups group t (e ∷ es) = group_by t (term_of group e.1) e (filter (λ e. has_term group t e.1) es) (filter_map (group_of group) es) (find_groups group t es)
 
 names_untied : (rs : List Entry) → map (λ e. e.0) rs ≡ map (λ e. e.0) (untied rs)
 names_untied [] = refl

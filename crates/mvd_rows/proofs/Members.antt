@@ -13,7 +13,7 @@ use Rattle.mvd_docs.specs.declared.term.Term.{Term}
 use Rattle.mvd_rows.specs.declared.marks.Spot.{Spot}
 use Rattle.mvd_docs.specs.Document.{whole_of}
 use Rattle.mvd_rows.specs.Marks.{spot_cmp, spots_total}
-use Rattle.mvd_rows.specs.Views.{is_in, members, wholes, total, widened, ends_of, times, row_of_members, gained, times_gained}
+use Rattle.mvd_rows.specs.Views.{has_term, members, wholes, total, widened, ends_of, times, row_of_members, gained, times_gained}
 use Rattle.mvd_rows.specs.Visible.{Visible}
 
 -- fs is es with one element more, at some place
@@ -58,15 +58,15 @@ filter_no p x es fs g isout =
     ap (filter p) g.now ∙ filter-append p g.before (x ∷ g.after) ∙ ap (λ b. filter p g.before ++ cond b (x ∷ filter p g.after) (filter p g.after)) isout
     ∙ sym (ap (filter p) g.was ∙ filter-append p g.before g.after)
 
-pub members_gain : (group : Field) (term : Term) (visible : Visible) (s : Spot) (d : Text) → get visible s ≡ None → is_in group term d ≡ true →
+pub members_gain : (group : Field) (term : Term) (visible : Visible) (s : Spot) (d : Text) → get visible s ≡ None → has_term group term d ≡ true →
     Gains (members group term visible) (members group term (insert visible s d)) (s, d)
 unfolding members
-members_gain group term visible s d fresh isin = filter_yes (λ e. is_in group term e.1) (s, d) _ _ (Gains-insert visible s d fresh) isin
+members_gain group term visible s d fresh isin = filter_yes (λ e. has_term group term e.1) (s, d) _ _ (Gains-insert visible s d fresh) isin
 
-pub members_stay : (group : Field) (term : Term) (visible : Visible) (s : Spot) (d : Text) → get visible s ≡ None → is_in group term d ≡ false →
+pub members_stay : (group : Field) (term : Term) (visible : Visible) (s : Spot) (d : Text) → get visible s ≡ None → has_term group term d ≡ false →
     members group term (insert visible s d) ≡ members group term visible
 unfolding members
-members_stay group term visible s d fresh isout = filter_no (λ e. is_in group term e.1) (s, d) _ _ (Gains-insert visible s d fresh) isout
+members_stay group term visible s d fresh isout = filter_no (λ e. has_term group term e.1) (s, d) _ _ (Gains-insert visible s d fresh) isout
 
 -- ---- the whole numbers
 

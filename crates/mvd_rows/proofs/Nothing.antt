@@ -10,7 +10,7 @@ use Rattle.mvd_keys.specs.State.{State, Text}
 use Rattle.mvd_rows.specs.Marks.{mark_cmp, spot_cmp, tally_cmp}
 use Rattle.mvd_rows.specs.Names.{Field}
 use Rattle.mvd_rows.specs.Stands.{IsIndexOf, IsViewOf, is_in_some, is_place, is_place_at, row_at, tally_at, unless_none}
-use Rattle.mvd_rows.specs.Views.{is_in, members, row_of_members, times, wholes}
+use Rattle.mvd_rows.specs.Views.{has_term, members, row_of_members, times, wholes}
 use Rattle.mvd_rows.specs.Visible.{siblings_at, visible_in}
 use Rattle.mvd_rows.specs.declared.index.Index.{Index}
 use Rattle.mvd_rows.specs.declared.marks.Spot.{Spot}
@@ -35,7 +35,7 @@ no_places index none = record {
 
 no_members : (group : Field) (term : Term) → members group term empty ≡ []
 unfolding members
-no_members group term = ap (λ es. filter (λ e. is_in group term e.1) es) (no_entries Text spot_cmp)
+no_members group term = ap (λ es. filter (λ e. has_term group term e.1) es) (no_entries Text spot_cmp)
 
 pub no_rows : (view : View) → tree.IsEmpty view.rows.map → tree.IsEmpty view.tallies.kept.map → IsViewOf view empty
 unfolding row_at tally_at

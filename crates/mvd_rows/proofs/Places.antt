@@ -15,7 +15,7 @@ use Rattle.mvd_docs.proofs.TermOrder.{term_cmp_total}
 use Rattle.mvd_rows.specs.Becomes.{Becomes}
 use Rattle.mvd_rows.specs.Marks.{mark_cmp}
 use Rattle.mvd_rows.specs.Stands.{IsIndexOf, is_place, is_place_at, is_in_some}
-use Rattle.mvd_rows.specs.Views.{is_in, is_term}
+use Rattle.mvd_rows.specs.Views.{has_term, is_term}
 use Rattle.mvd_rows.specs.Visible.{Visible}
 use Rattle.mvd_rows.specs.declared.index.Index.{Index}
 use Rattle.mvd_rows.specs.declared.marks.Mark.{Mark}
@@ -52,10 +52,10 @@ comes_at false true before fresh = ap marked (fresh refl)
 comes_at false false before fresh = refl
 
 pub is_place-insert : (field : Field) (visible : Visible) (spot : Spot) (document : Text) (term : Term) (other : Spot) →
-    is_place_at field term (Some other) (insert visible spot document) ≡ cond (eq_by_cmp spot_cmp other spot) (is_in field term document) (is_place_at field term (Some other) visible)
+    is_place_at field term (Some other) (insert visible spot document) ≡ cond (eq_by_cmp spot_cmp other spot) (has_term field term document) (is_place_at field term (Some other) visible)
 is_place-insert field visible spot document term other =
     ap (is_in_some field term) (get-insert spots_total visible spot document other)
-    ∙ elim (eq_by_cmp spot_cmp other spot) as (λ b. is_in_some field term (cond b (Some document) (get visible other)) ≡ cond b (is_in field term document) (is_in_some field term (get visible other))) [ true ↦ refl | false ↦ refl ]
+    ∙ elim (eq_by_cmp spot_cmp other spot) as (λ b. is_in_some field term (cond b (Some document) (get visible other)) ≡ cond b (has_term field term document) (is_in_some field term (get visible other))) [ true ↦ refl | false ↦ refl ]
 
 place_comes_at : (field : Field) (visible : Visible) (spot : Spot) (document : Text) (term : Term) → term_of field document ≡ Some term → get visible spot ≡ None →
     (group : Term) (at : Option Spot) →

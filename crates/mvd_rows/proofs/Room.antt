@@ -15,7 +15,7 @@ use Rattle.mvd_docs.specs.Term.{term_cmp}
 use Rattle.mvd_rows.proofs.Ranges.{Fits64, whole_of-fits}
 use Rattle.mvd_rows.specs.Marks.{tally_cmp}
 use Rattle.mvd_rows.specs.Stands.{IsViewOf, IsSmall, tally_at}
-use Rattle.mvd_rows.specs.Views.{is_in, members, wholes, times, total, row_of, no_row}
+use Rattle.mvd_rows.specs.Views.{has_term, members, wholes, times, total, row_of, no_row}
 use Rattle.mvd_rows.specs.Visible.{Visible}
 use Rattle.mvd_rows.specs.declared.marks.Tally.{Tally}
 use Rattle.mvd_rows.specs.declared.views.Row.{Row}
@@ -42,8 +42,8 @@ bounded sum (e ∷ es) = bounded_more (length es) (whole_of sum e.1) (wholes sum
 few_members : (group : Field) (t : Term) (visible : Visible) → IsSmall visible → length (members group t visible) ≤ 2 ^ 40
 unfolding members
 few_members group t visible small =
-    let e = length-filter (λ (x : Spot × Text). is_in group t x.1) (entries visible) in
-    let f = count_by-le-length (λ (x : Spot × Text). is_in group t x.1) (entries visible) in
+    let e = length-filter (λ (x : Spot × Text). has_term group t x.1) (entries visible) in
+    let f = count_by-le-length (λ (x : Spot × Text). has_term group t x.1) (entries visible) in
     let g = len-entries visible in
     omega arith
 

@@ -64,9 +64,9 @@ abbrev pub page_of : {A : Type 0} → List A → List A × Bool
 page_of all = (take 1000 all, nat_lt 1000 (length all))
 
 -- whether a place of the term stands after a key and a dot
-abbrev pub is_after : Option (Key × DotValue) → Place → Bool
-is_after None place = true
-is_after (Some at) place = is_lt (place_cmp (record { term = place.term; key = at.0; dot = at.1 }) place)
+abbrev pub is_place_after : Option (Key × DotValue) → Place → Bool
+is_place_after None place = true
+is_place_after (Some at) place = is_lt (place_cmp (record { term = place.term; key = at.0; dot = at.1 }) place)
 
 abbrev pub is_after_place : Option Place → Place → Bool
 is_after_place None place = true
@@ -85,7 +85,7 @@ is_between from to term = not (is_gt (term_cmp from term)) && not (is_gt (term_c
 -- the places of a term
 abbrev pub find_answer : Definitions → Visible → Field → Term → Option (Key × DotValue) → Result (List Place × Bool) Refusal
 find_answer defs visible field term after =
-    if has_index defs.indexes field then Ok (page_of (filter (λ p. eq_by_cmp term_cmp term p.term && is_after after p) (places_in field visible)))
+    if has_index defs.indexes field then Ok (page_of (filter (λ p. eq_by_cmp term_cmp term p.term && is_place_after after p) (places_in field visible)))
     else Err NoIndex
 
 -- the places of the terms from one to another

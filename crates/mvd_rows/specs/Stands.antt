@@ -18,7 +18,7 @@ use Rattle.mvd_rows.specs.Names.{Field}
 use Rattle.mvd_docs.specs.Term.{term_cmp}
 use Rattle.mvd_rows.specs.Marks.{mark_cmp, tally_cmp, tally_of}
 use Rattle.mvd_rows.specs.Visible.{Visible, visible_in}
-use Rattle.mvd_rows.specs.Views.{is_in, members, wholes, times, row_of}
+use Rattle.mvd_rows.specs.Views.{has_term, members, wholes, times, row_of}
 use Rattle.mvd_rows.specs.declared.index.Index.{Index}
 use Rattle.mvd_rows.specs.declared.views.Row.{Row}
 use Rattle.mvd_rows.specs.declared.views.View.{View}
@@ -29,7 +29,7 @@ use Rattle.mvd_rows.specs.declared.marks.Spot.{Spot}
 
 abbrev pub is_in_some : Field → Term → Option Text → Bool
 is_in_some field term None = false
-is_in_some field term (Some document) = is_in field term document
+is_in_some field term (Some document) = has_term field term document
 
 abbrev pub is_place_at : Field → Term → Option Spot → Visible → Bool
 is_place_at field term None visible = false

@@ -17,12 +17,12 @@ is_term term None = false
 is_term term (Some other) = eq_by_cmp term_cmp term other
 
 -- whether the document has the term at the field
-abbrev pub is_in : Field → Term → Text → Bool
-is_in field term document = is_term term (term_of field document)
+abbrev pub has_term : Field → Term → Text → Bool
+has_term field term document = is_term term (term_of field document)
 
 -- the siblings of a group
 unfoldable pub members : Field → Term → Visible → List (Spot × Text)
-members group term visible = filter (λ e. is_in group term e.1) (entries visible)
+members group term visible = filter (λ e. has_term group term e.1) (entries visible)
 
 -- the whole numbers that a field gives in some of them
 abbrev pub wholes : Field → List (Spot × Text) → List ℤ

@@ -1,5 +1,6 @@
 //! The places of one field.
-ghost use Rattle.std.specs.Prelude.{◌≡◌, ◌+◌, Bool, List, ◌&&◌, length, not, filter, filter_map, None, Some, OnOk, IfErr, IfOk};
+ghost use Rattle.std.specs.Prelude.{◌≡◌, ◌+◌, Bool, List, ◌&&◌, length, not, filter, filter_map, None, Some, OnOk, IfErr};
+ghost use Rattle.std.specs.Prelude.{IfOk};
 ghost use Rattle.std.specs.BTreeMap.Range.{entries_between};
 ghost use Rattle.std.specs.declared.ops.Bound.TheVariants.{Excluded, Unbounded};
 ghost use Rattle.mvd_rows.specs.Marks.{mark_cmp};

@@ -13,7 +13,7 @@ use Rattle.mvd_site.specs.FromStates.{after_from}
 use Rattle.mvd_site.specs.Held.{States}
 use Rattle.mvd_site.specs.Sites.{SiteValue}
 use Rattle.mvd_model.specs.TheStore.{AddAll, AreAmong, Event, Happen, Knows, Opened, Site, config}
-use Rattle.mvd_replica.specs.Batch.{AreAmong as AreAmongTurns, HoldsLost, Loses, lost_requests}
+use Rattle.mvd_replica.specs.Batch.{AreAmongTurns as AreAmongTurns, HoldsLost, Loses, lost_requests}
 use Rattle.mvd_replica.specs.File.{HoldsFile, IsFoundIn}
 use Rattle.mvd_replica.specs.Restarts.{Run}
 use Rattle.mvd_replica.specs.Turns.{AreUndoneIn, Turn}
@@ -26,8 +26,8 @@ use Rattle.mvd_replica.proofs.RestoredOrder.{just_one}
 use Rattle.sqlite.specs.Effect.{Database}
 use Rattle.sqlite.specs.Recovery.{Image}
 use Rattle.sqlite.specs.State.{State}
-use Rattle.mvd_runs.specs.Events.{AreEvents, IsSite, events_of}
-use Rattle.mvd_runs.specs.Files.{AreChained, Begins, Carried, Closes, IsFile, IsNewFile, IsValidTurn, Passed, Passes, PassesFrom, Stops, setup_of}
+use Rattle.mvd_runs.specs.Events.{AreEvents, IsSiteKnown, events_of}
+use Rattle.mvd_runs.specs.Files.{AreChained, Begins, CarriedRuns, Closes, IsFile, IsNewFile, IsValidTurn, Passed, Passes, PassesFrom, Stops, setup_of}
 use Rattle.mvd_model.proofs.Placing.{adds_some, placed, placed_at, placed_else}
 use Rattle.mvd_runs.proofs.Telling.{come}
 
@@ -49,7 +49,7 @@ all_stand c states known (request ∷ requests) added stands (first, rest, is, o
     (all_stand c (after_from c states request) (known ++ first) requests rest (after_stands c states known request first stands one) others)
 
 -- a file that holds the site's states after some requests that it refused
-file_of : (a : Knows) (i : ℕ) (image : Image) (site : SiteValue) (some : List Request) → IsSite a i site → AreAmong some (a i).refused → AllByRecursion IsValidRequest some →
+file_of : (a : Knows) (i : ℕ) (image : Image) (site : SiteValue) (some : List Request) → IsSiteKnown a i site → AreAmong some (a i).refused → AllByRecursion IsValidRequest some →
     HoldsFile image i (after_all site.config site.states some) → IsFile a i image
 file_of a i image site some is among valid holds =
     let c : ConfigValue = config i (a i).setup in
@@ -145,8 +145,8 @@ module _ {C : Type 0} (f : C → State) (i : ℕ) (run : Run C) (begins : Begins
   configured : run.config ≡ config i (setup_of run.config)
   configured = λ k. record { site = number k; max_keys = run.config.max_keys; defs = run.config.defs }
 
-  is_site : IsSite after_open i run.old
-  is_site = subst (λ (s : Site). (run.old.config ≡ config i s.setup) × ((run.old.broken ≡ s.broken) × Stands run.old.states s.known) → IsSite after_open i run.old) (placed_at a i opened)
+  is_site : IsSiteKnown after_open i run.old
+  is_site = subst (λ (s : Site). (run.old.config ≡ config i s.setup) × ((run.old.broken ≡ s.broken) × Stands run.old.states s.known) → IsSiteKnown after_open i run.old) (placed_at a i opened)
       (λ h. record { config = h.0; broken = h.1.0; stands = h.1.1 })
       (begins.config ∙ configured, (begins.whole, found.stands))
 
@@ -224,7 +224,7 @@ happen_append : (a b end : Knows) (first rest : List Event) → Happen a first b
 happen_append a b end [] rest is later = subst (λ k. Happen k rest end) is later
 happen_append a b end (event ∷ first) rest (c, next, happen) later = (c, next, happen_append c b end first rest happen later)
 
-after_one : (i : ℕ) (image : Image) (a : Knows) (run : Passed) (runs : List Passed) (h : PassesFrom a i run.setup run.turns run.after) → Carried h.1 i run.after runs → Carried a i image (run ∷ runs)
+after_one : (i : ℕ) (image : Image) (a : Knows) (run : Passed) (runs : List Passed) (h : PassesFrom a i run.setup run.turns run.after) → CarriedRuns h.1 i run.after runs → CarriedRuns a i image (run ∷ runs)
 after_one i image a run runs h t = record {
   events = (Opened i run.setup h.0 ∷ events_of i run.turns) ++ t.events;
   end = t.end;
@@ -234,13 +234,13 @@ after_one i image a run runs h t = record {
   others = λ j other. t.others j other ∙ h.4 j other;
 }
 
-pub chained : (i : ℕ) (image : Image) (a : Knows) (runs : List Passed) → IsFile a i image → AreChained i image runs → Carried a i image runs
+pub chained : (i : ℕ) (image : Image) (a : Knows) (runs : List Passed) → IsFile a i image → AreChained i image runs → CarriedRuns a i image runs
 chained i image a [] file are = record { events = []; end = a; happen = refl; tell = refl; file = file; others = λ j other. refl }
 chained i image a (run ∷ runs) file (from, passes, rest) =
     let h = passes a (inl (subst (IsFile a i) (sym from) file)) in
     after_one i image a run runs h (chained i run.after h.1 runs h.3 rest)
 
-pub chained_new : (i : ℕ) (image : Image) (a : Knows) (run : Passed) (runs : List Passed) → IsNewFile a i image → AreChained i image (run ∷ runs) → Carried a i image (run ∷ runs)
+pub chained_new : (i : ℕ) (image : Image) (a : Knows) (run : Passed) (runs : List Passed) → IsNewFile a i image → AreChained i image (run ∷ runs) → CarriedRuns a i image (run ∷ runs)
 chained_new i image a run runs new (from, passes, rest) =
     let h = passes a (inr (subst (IsNewFile a i) (sym from) new)) in
     after_one i image a run runs h (chained i run.after h.1 runs h.3 rest)

@@ -11,7 +11,7 @@ use Rattle.mvd_wire.specs.declared.reply.Reply.{Reply}
 use Rattle.mvd_wire.specs.declared.reply.Reply.TheVariants.{Refused, State as Shown}
 use Rattle.mvd_kept.specs.Answer.{answer, answer_from, is_question}
 use Rattle.mvd_kept.specs.Config.{ConfigValue}
-use Rattle.mvd_kept.specs.Known.{Adds, Changes, MayReply}
+use Rattle.mvd_kept.specs.Known.{Adds, ChangesKey, MayReply}
 use Rattle.mvd_kept.proofs.Answered.{answered}
 use Rattle.mvd_site.specs.FromStates.{unless_broken}
 use Rattle.mvd_site.specs.Held.{state_at}
@@ -21,8 +21,8 @@ use Rattle.mvd_model.specs.TheStore.{Answers, AreAmong, Happen, Knows, Next, Ref
 use Rattle.mvd_model.proofs.Placing.{does_next, placed, placed_at, placed_else}
 use Rattle.mvd_model.proofs.Refusals.{IsUndone, answer_none}
 use Rattle.mvd_replica.specs.Asks.{TellsAnswer, question_told}
-use Rattle.mvd_replica.specs.Turns.{AddsAt, AllTold, AreUndoneIn, Event as Added, IsMemory, IsToldUndone, MayReplyStored, MayTell, Turn, known_after}
-use Rattle.mvd_runs.specs.Events.{AreEvents, AreTurns, IsSite, events_of}
+use Rattle.mvd_replica.specs.Turns.{AddsAt, AllTold, AreUndoneIn, TurnEvent as Added, IsMemory, IsToldUndone, MayReplyStored, MayTell, Turn, known_after_turns}
+use Rattle.mvd_runs.specs.Events.{AreEvents, AreTurns, IsSiteKnown, events_of}
 
 -- ---- one turn
 
@@ -59,7 +59,7 @@ does_memory c s request reply added is still told adds =
       undone = λ h. absurd (subst IsUndone told h);
     }
 
-does_store : (c : ConfigValue) (s : Site) (request : Request) (reply : Reply) (added : List Write) (is : Bool) → s.broken ≡ false → is ≡ false → Changes c s.known request → reply ≡ Refused Store → Adds request reply added → Does c s request reply added is
+does_store : (c : ConfigValue) (s : Site) (request : Request) (reply : Reply) (added : List Write) (is : Bool) → s.broken ≡ false → is ≡ false → ChangesKey c s.known request → reply ≡ Refused Store → Adds request reply added → Does c s request reply added is
 does_store c s request reply added is whole still changes told adds =
     let none : added ≡ [] = adds_none request Store added (subst (λ r. Adds request r added) told adds) in
     record {
@@ -69,7 +69,7 @@ does_store c s request reply added is whole still changes told adds =
       undone = λ h. refl;
     }
 
-does_break : (c : ConfigValue) (s : Site) (request : Request) (reply : Reply) (added : List Write) (is : Bool) → is ≡ true → (s.broken ≡ true) ⊎ Changes c s.known request → reply ≡ Refused Broken → Adds request reply added → Does c s request reply added is
+does_break : (c : ConfigValue) (s : Site) (request : Request) (reply : Reply) (added : List Write) (is : Bool) → is ≡ true → (s.broken ≡ true) ⊎ ChangesKey c s.known request → reply ≡ Refused Broken → Adds request reply added → Does c s request reply added is
 does_break c s request reply added is broken why told adds =
     let none : added ≡ [] = adds_none request Broken added (subst (λ r. Adds request r added) told adds) in
     record {
@@ -173,20 +173,20 @@ none_undone [] h = tt
 none_undone (request ∷ requests) h = absurd h
 
 goes_turn : (a : Knows) (i : ℕ) (asked : Result Request Refusal) (reply : Reply) (added : List Write) (turns : List Turn) (events : List Added) (mid is : Bool) → MayTell (config i (a i).setup) (a i).known (a i).broken asked reply mid → AddsAt asked reply added →
-    AllTold (config i (a i).setup) ((a i).known ++ added) mid events is → ((b : Knows) → AllTold (config i (b i).setup) (b i).known (b i).broken events is → Goes b i turns (known_after events) is) →
-    Goes a i (record { asked = asked; reply = reply } ∷ turns) (added ++ known_after events) is
+    AllTold (config i (a i).setup) ((a i).known ++ added) mid events is → ((b : Knows) → AllTold (config i (b i).setup) (b i).known (b i).broken events is → Goes b i turns (known_after_turns events) is) →
+    Goes a i (record { asked = asked; reply = reply } ∷ turns) (added ++ known_after_turns events) is
 goes_turn a i (Ok request) reply added turns events mid is may fit rest later =
     let does = does_stored (config i (a i).setup) (a i) request reply added mid may fit in
     let t : Site = site_after (a i) added does.more mid in
-    goes_one a i request reply turns added (known_after events) mid is does
+    goes_one a i request reply turns added (known_after_turns events) mid is does
     (later (placed a i t) (subst (λ (s : Site). AllTold (config i s.setup) s.known s.broken events is) (sym (placed_at a i t)) rest))
 goes_turn a i (Err fault) reply added turns events mid is may fit rest later =
-    subst (λ W. Goes a i (record { asked = Err fault; reply = reply } ∷ turns) W is) (ap (λ W. W ++ known_after events) (sym fit))
-    (goes_fault a i fault reply turns (known_after events) is
+    subst (λ W. Goes a i (record { asked = Err fault; reply = reply } ∷ turns) W is) (ap (λ W. W ++ known_after_turns events) (sym fit))
+    (goes_fault a i fault reply turns (known_after_turns events) is
     (later a (subst₂ (λ W b. AllTold (config i (a i).setup) W b events is) (ap (λ W. (a i).known ++ W) fit ∙ append-nil (a i).known) (still_broken (config i (a i).setup) (a i).known (a i).broken mid fault reply may) rest)))
 
 pub goes_all : (a : Knows) (i : ℕ) (events : List Added) (is : Bool) → AllTold (config i (a i).setup) (a i).known (a i).broken events is →
-    AllByRecursion (λ event. AddsAt event.turn.asked event.turn.reply event.added) events → Goes a i (map (λ event. event.turn) events) (known_after events) is
+    AllByRecursion (λ event. AddsAt event.turn.asked event.turn.reply event.added) events → Goes a i (map (λ event. event.turn) events) (known_after_turns events) is
 goes_all a i [] is told fits = record {
   end = a;
   happen = refl;
@@ -200,14 +200,14 @@ goes_all a i (event ∷ events) is (mid, may, rest) (fit, fits) =
 
 -- ---- turns of a site
 
-pub come : (a : Knows) (i : ℕ) (turns : List Turn) (old new : SiteValue) → AreTurns turns old new → IsSite a i old → AreEvents a i turns new
+pub come : (a : Knows) (i : ℕ) (turns : List Turn) (old new : SiteValue) → AreTurns turns old new → IsSiteKnown a i old → AreEvents a i turns new
 come a i turns old new are site =
     let events = are.choice.0 in
     let tells = are.choice.1 in
     let told : AllTold old.config (a i).known old.broken events new.broken = (are.replies (a i).known events (λ _. site.stands) tells).0 in
-    let goes : Goes a i (map (λ event. event.turn) events) (known_after events) new.broken =
+    let goes : Goes a i (map (λ event. event.turn) events) (known_after_turns events) new.broken =
     goes_all a i events new.broken (subst₂ (λ c b. AllTold c (a i).known b events new.broken) site.config site.broken told) tells.fits in
-    let g : Goes a i turns (known_after events) new.broken = subst (λ ts. Goes a i ts (known_after events) new.broken) tells.told goes in
+    let g : Goes a i turns (known_after_turns events) new.broken = subst (λ ts. Goes a i ts (known_after_turns events) new.broken) tells.told goes in
     record {
       end = g.end;
       happen = g.happen;
@@ -242,14 +242,14 @@ told_still a i request reply whole told adds = (
   λ j other. refl,
 )
 
-answered_at : (a : Knows) (i : ℕ) (site : SiteValue) (request : Request) → IsSite a i site → answer_from site.config site.states request ≡ answer (config i (a i).setup) (a i).known request
+answered_at : (a : Knows) (i : ℕ) (site : SiteValue) (request : Request) → IsSiteKnown a i site → answer_from site.config site.states request ≡ answer (config i (a i).setup) (a i).known request
 answered_at a i site request is = answered site.config site.states (a i).known request is.stands ∙ ap (λ c. answer c (a i).known request) is.config
 
-pub tells_state : (a : Knows) (i : ℕ) (site : SiteValue) (key : Key) → IsSite a i site → site.broken ≡ false → Next a (Told i (Get key) (Shown (state_at site.states key))) a
+pub tells_state : (a : Knows) (i : ℕ) (site : SiteValue) (key : Key) → IsSiteKnown a i site → site.broken ≡ false → Next a (Told i (Get key) (Shown (state_at site.states key))) a
 tells_state a i site key is whole =
     told_still a i (Get key) (Shown (state_at site.states key)) (sym is.broken ∙ whole) (answered_at a i site (Get key) is) refl
 
-pub tells_question : (a : Knows) (i : ℕ) (site : SiteValue) (request : Request) (told : Reply) → IsSite a i site → site.broken ≡ false → is_question request ≡ true → TellsAnswer site request told → Next a (Told i request told) a
+pub tells_question : (a : Knows) (i : ℕ) (site : SiteValue) (request : Request) (told : Reply) → IsSiteKnown a i site → site.broken ≡ false → is_question request ≡ true → TellsAnswer site request told → Next a (Told i request told) a
 tells_question a i site request told is whole asks (inl answer) =
     told_still a i request told (sym is.broken ∙ whole)
     (answer ∙ ap (λ b. unless_broken b (Refused Broken) (answer_from site.config site.states request)) whole ∙ answered_at a i site request is) (asks_nothing request told asks)

@@ -6,7 +6,7 @@ use Rattle.mvd_wire.specs.declared.request.Request.{Request}
 use Rattle.mvd_wire.specs.declared.reply.Reply.{Reply}
 use Rattle.mvd_site.specs.Sites.{SiteValue}
 use Rattle.mvd_model.specs.TheStore.{AreAmong, Event, Happen, Knows, Told, config}
-use Rattle.mvd_replica.specs.Turns.{AreUndoneIn, Event as Added, Replies, StandsOn, TellsTurns, Turn}
+use Rattle.mvd_replica.specs.Turns.{AreUndoneIn, TurnEvent as Added, Replies, StandsOn, TellsTurns, Turn}
 
 -- a turn as an event of this site: a frame that is no request asked nothing of it
 abbrev pub told_at : ℕ → Result Request Refusal → Reply → List Event
@@ -18,7 +18,7 @@ events_of i [] = []
 events_of i (turn ∷ turns) = told_at i turn.asked turn.reply ++ events_of i turns
 
 -- the site is the one of this number in the store: it is set up so, is as whole, and its states stand for what it knows
-pub record IsSite (a : Knows) (i : ℕ) (site : SiteValue) : Type 0 where
+pub record IsSiteKnown (a : Knows) (i : ℕ) (site : SiteValue) : Type 0 where
   pub config : site.config ≡ config i (a i).setup
   pub broken : site.broken ≡ (a i).broken
   pub stands : Stands site.states (a i).known
@@ -28,7 +28,7 @@ pub record IsSite (a : Knows) (i : ℕ) (site : SiteValue) : Type 0 where
 pub record AreEvents (a : Knows) (i : ℕ) (turns : List Turn) (new : SiteValue) : Type 0 where
   pub end : Knows
   pub happen : Happen a (events_of i turns) end
-  pub site : IsSite end i new
+  pub site : IsSiteKnown end i new
   pub others : (j : ℕ) → j ≢ i → end j ≡ a j
   pub refused : (undone : List Request) → AreUndoneIn turns undone → AreAmong undone (end i).refused
 

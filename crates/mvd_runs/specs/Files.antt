@@ -120,7 +120,7 @@ TellAll i (run ∷ runs) events =
     (some : List Request) × (rest : List Event) × (events ≡ Opened i run.setup some ∷ events_of i run.turns ++ rest) × TellAll i runs rest
 
 -- what they come to
-pub record Carried (a : Knows) (i : ℕ) (image : Image) (runs : List Passed) : Type 0 where
+pub record CarriedRuns (a : Knows) (i : ℕ) (image : Image) (runs : List Passed) : Type 0 where
   pub events : List Event
   pub end : Knows
   pub happen : Happen a events end

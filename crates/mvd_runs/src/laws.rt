@@ -18,7 +18,7 @@ ghost use Rattle.mvd_peer.specs.PushedStates.{ComesByPushes, Each};
 ghost use Rattle.mvd_model.specs.TheStore.{Knows, Next, Promise, Told};
 ghost use Rattle.mvd_replica.specs.Asks.{TellsAnswer};
 ghost use Rattle.mvd_replica.specs.Batch.{AnswersAll, TakesTurns};
-ghost use Rattle.mvd_replica.specs.Commits.{AnswersEach, Commits};
+ghost use Rattle.mvd_replica.specs.Commits.{AnswersInCommits, SharesCommit};
 ghost use Rattle.mvd_replica.specs.File.{IsFoundIn};
 ghost use Rattle.mvd_replica.specs.FileCalls.{ClosesInto, OpensAsSite};
 ghost use Rattle.mvd_replica.specs.Pushes.{push_of};
@@ -37,8 +37,8 @@ ghost use Rattle.sqlite.specs.State.{HasCleanDisk};
 ghost use Rattle.sqlite.specs.Tree.{Trees};
 ghost use Rattle.sqlite.specs.WalFiles.{outcomes};
 ghost use Rattle.sqlite.specs.WalReads.{AreClean};
-ghost use Rattle.mvd_runs.specs.Events.{AreEvents, AreTurns, IsSite};
-ghost use Rattle.mvd_runs.specs.Files.{AreChained, Begins, Carried, Closes, IsFile, IsNewFile, Passed, Passes};
+ghost use Rattle.mvd_runs.specs.Events.{AreEvents, AreTurns, IsSiteKnown};
+ghost use Rattle.mvd_runs.specs.Files.{AreChained, Begins, CarriedRuns, Closes, IsFile, IsNewFile, Passed, Passes};
 ghost use Rattle.mvd_runs.specs.Files.{IsValidTurn, Stops, WorksBy, setup_of};
 ghost use Rattle.mvd_runs.specs.Sessions.{SideTakes, push_turn};
 
@@ -49,14 +49,14 @@ use sqlite_disk::Disk;
 /// Turns of a site, of a connection, of rounds of many or of requests at once, are events of the store.
 pub fn turns_are_events<S: Alter>()
     ensures site { (a : Knows) (i : ℕ) (turns : List Turn) (old new : SiteValue) → AreTurns turns old new
-        → IsSite a i old → AreEvents a i turns new }
+        → IsSiteKnown a i old → AreEvents a i turns new }
     ensures replica { (turns : List Turn) (old new : SiteValue) (before after : Held S)
         → TakesTurns turns (stored_by S.Store old before) (stored_by S.Store new after) → AreTurns turns old new }
     // What `Replica::answer` promises is one turn, and what `answer_all` promises one for each request.
-    ensures answer { (turns : List Turn) (old new : Replica S S.Store) → Commits turns old new
+    ensures answer { (turns : List Turn) (old new : Replica S S.Store) → SharesCommit turns old new
         → TakesTurns turns (stored_of old) (stored_of new) }
     ensures answers { (requests : List Request) (replies : List Reply) (old new : Replica S S.Store)
-        → AnswersEach requests replies old new → AnswersAll requests replies (stored_of old) (stored_of new) }
+        → AnswersInCommits requests replies old new → AnswersAll requests replies (stored_of old) (stored_of new) }
 {}
 
 /// A run of a program on a file, whether it closed the file or was stopped, is a behaviour of the store: the file was opened,
@@ -112,17 +112,17 @@ pub fn a_first_run_is_events()
 /// holds what its site then knows.
 pub fn a_file_keeps_the_promise()
     ensures kept { (i : ℕ) (image : Image) (a : Knows) (runs : List Passed) → IsFile a i image → AreChained i image runs
-        → (it : Carried a i image runs) × Promise it.events it.end }
+        → (it : CarriedRuns a i image runs) × Promise it.events it.end }
     ensures begun { (i : ℕ) (image : Image) (a : Knows) (run : Passed) (runs : List Passed) → IsNewFile a i image
-        → AreChained i image (run ∷ runs) → (it : Carried a i image (run ∷ runs)) × Promise it.events it.end }
+        → AreChained i image (run ∷ runs) → (it : CarriedRuns a i image (run ∷ runs)) × Promise it.events it.end }
 {}
 
 /// What a whole site tells to a question, by whatever call, is an event that changes nothing. So what a session hands from one
 /// site to the other was told before it was pushed.
 pub fn a_told_state_is_an_event()
-    ensures state { (a : Knows) (i : ℕ) (site : SiteValue) (key : Key) → IsSite a i site → site.broken ≡ false
+    ensures state { (a : Knows) (i : ℕ) (site : SiteValue) (key : Key) → IsSiteKnown a i site → site.broken ≡ false
         → Next a (Told i (Get key) (Shown (state_at site.states key))) a }
-    ensures question { (a : Knows) (i : ℕ) (site : SiteValue) (request : Request) (told : Reply) → IsSite a i site
+    ensures question { (a : Knows) (i : ℕ) (site : SiteValue) (request : Request) (told : Reply) → IsSiteKnown a i site
         → site.broken ≡ false → is_question request ≡ true → TellsAnswer site request told
         → Next a (Told i request told) a }
 {}

@@ -4,7 +4,7 @@ use Rattle.mvd_dots.specs.declared.refusals.Refusal.{Refusal}
 use Rattle.mvd_input.specs.declared.command.Command.{Command}
 use Rattle.mvd_input.specs.declared.command.Line.TheVariants as line
 use Rattle.mvd_input.specs.declared.command.View.{View}
-use Rattle.mvd_input.specs.Definitions.{IsTaken, index_added, view_added}
+use Rattle.mvd_input.specs.Definitions.{IsDefinitionTaken, index_added, view_added}
 use Rattle.mvd_rows.specs.Defs.{Definitions, no_definitions}
 use Rattle.mvd_world.specs.Machine.{Knowledge, Setting, nothing_yet, setting_of}
 use Rattle.mvd_world.specs.Worlds.{IsWorld}
@@ -12,7 +12,7 @@ use Rattle.mvd_script.specs.declared.member.Member.{Member}
 use Rattle.mvd_script.specs.declared.head.Head.{Head}
 use Rattle.mvd_script.specs.declared.script.Script.{Script}
 use Rattle.mvd_script.specs.Script.{Blank, Commands, DefinesMore, Headed, Plays, Running, Says, Stage, site_in}
-use Rattle.mvd_script.specs.Staged.{Answers, Begins, IsStage, RunsAt, StartsAt, Takes}
+use Rattle.mvd_script.specs.Staged.{CommandSays, ScriptBegins, IsStage, RunsAt, StartsAt, TakesLine}
 
 pub none_of : {X : Type 0} (option : Option X) → is_some option ≡ false → option ≡ None
 none_of None is = refl
@@ -64,15 +64,15 @@ none_more added old refusal refused (Headed sites most defs) (_, same_defs, _) n
     let here : Err refusal ≡ Ok more = sym refused ∙ ap added same_defs ∙ ok in absurd cc
 none_more added old refusal refused (Running _ _) stands next text defines = absurd defines
 
-more_taken : (added : Definitions → Result Definitions Refusal) (old new : Script) (taken : Bool) → IsSome old.head × (old.world ≡ None) → new.head ≡ old.head → new.world ≡ old.world → IsTaken (added old.defs) taken old.defs new.defs → TakesMore added old new taken
+more_taken : (added : Definitions → Result Definitions Refusal) (old new : Script) (taken : Bool) → IsSome old.head × (old.world ≡ None) → new.head ≡ old.head → new.world ≡ old.world → IsDefinitionTaken (added old.defs) taken old.defs new.defs → TakesMore added old new taken
 more_taken added old new true (some, no_world) head world ok = more_on added old new some no_world head world ok
 more_taken added old new false within head world (refusal, refused, same) = none_more added old refusal refused
 
-pub index_taken : (field : Rattle.std.proofs.Common.Bor (List ℕ)) (old new : Script) (taken : Bool) → IsSome old.head × (old.world ≡ None) → new.head ≡ old.head → new.world ≡ old.world → IsTaken (index_added old.defs field.now) taken old.defs new.defs → Takes (line.Index field) old new taken []
+pub index_taken : (field : Rattle.std.proofs.Common.Bor (List ℕ)) (old new : Script) (taken : Bool) → IsSome old.head × (old.world ≡ None) → new.head ≡ old.head → new.world ≡ old.world → IsDefinitionTaken (index_added old.defs field.now) taken old.defs new.defs → TakesLine (line.Index field) old new taken []
 index_taken field old new true within head world is = more_taken (λ d. index_added d field.now) old new true within head world is
 index_taken field old new false within head world is = more_taken (λ d. index_added d field.now) old new false within head world is
 
-pub view_taken : (view : View) (old new : Script) (taken : Bool) → IsSome old.head × (old.world ≡ None) → new.head ≡ old.head → new.world ≡ old.world → IsTaken (view_added old.defs view) taken old.defs new.defs → Takes (line.View view) old new taken []
+pub view_taken : (view : View) (old new : Script) (taken : Bool) → IsSome old.head × (old.world ≡ None) → new.head ≡ old.head → new.world ≡ old.world → IsDefinitionTaken (view_added old.defs view) taken old.defs new.defs → TakesLine (line.View view) old new taken []
 view_taken view old new true within head world is = more_taken (λ d. view_added d view) old new true within head world is
 view_taken view old new false within head world is = more_taken (λ d. view_added d view) old new false within head world is
 
@@ -99,10 +99,10 @@ one_member : (member other : Member) (option : Option Member) → option ≡ Som
 one_member member other option first second = let both : Some member ≡ Some other = sym first ∙ second in cc
 
 pub ran_at : (done : Result (Unit {0}) Refusal) (site : ℕ) (command : Command) (old new : Script) (member member' : Member) (text : List ℕ) → old.world ≡ Some member → new.world ≡ Some member'
-    → OnOk done (Answers (site_in site) command member.world member'.world text) → OnOk done (RunsAt site command old new text)
+    → OnOk done (CommandSays (site_in site) command member.world member'.world text) → OnOk done (RunsAt site command old new text)
 ran_at (Err refusal) site command old new member member' text is is' answers = tt
 ran_at (Ok unit) site command old new member member' text is is' answers = λ other is_other.
-    (member', is', subst (λ (m : Member). Answers (site_in site) command m.world member'.world text) (one_member member other old.world is is_other) answers)
+    (member', is', subst (λ (m : Member). CommandSays (site_in site) command m.world member'.world text) (one_member member other old.world is is_other) answers)
 
 plays_at : (site : ℕ) (command : Command) (stage : Stage) (setting : Setting) (knowledge after : Knowledge) (text : List ℕ) → StartsAt stage setting knowledge → Says setting (site_in site) command knowledge after text
     → Plays (line.At site command) stage (Running setting after) text
@@ -114,7 +114,7 @@ plays_at site command (Running setting' knowledge') setting knowledge after text
     subst (λ (s : Setting). Commands setting' site command knowledge' (Running s after) text) same
     (after, subst (λ (s : Setting). Says s (site_in site) command knowledge' after text) (sym same) (subst (λ (k : Knowledge). Says setting (site_in site) command k after text) (sym known) says), refl)
 
-pub commanded : (site : ℕ) (command : Command) (old mid new : Script) (text : List ℕ) → Begins old mid true → RunsAt site command mid new text
+pub commanded : (site : ℕ) (command : Command) (old mid new : Script) (text : List ℕ) → ScriptBegins old mid true → RunsAt site command mid new text
     → (stage : Stage) → IsStage old stage → (next : Stage) × Plays (line.At site command) stage next text × IsStage new next
 commanded site command old mid new text (there, begins) runs stage stands =
     let (setting, knowledge, starts, (member, is, world)) = begins stage stands in

@@ -20,8 +20,8 @@ use Rattle.mvd_world.specs.Worlds.{IsWorld, Steps}
 use Rattle.mvd_script.specs.declared.member.Member.{Member}
 use Rattle.mvd_shell.specs.Asked.{Exchange}
 use Rattle.mvd_script.specs.Script.{Says, SiteReplies, TellsCommand, TellsSend, TellsStep, asked_step, reply_in}
-use Rattle.mvd_script.specs.Staged.{Acts, ActsFor, Answers, MemberReplies}
-use Rattle.mvd_shell.specs.Talk.{Answered, Shows, Speaks, told_text}
+use Rattle.mvd_script.specs.Staged.{Acts, ActsFor, CommandSays, MemberReplies}
+use Rattle.mvd_shell.specs.Talk.{AnswersExchanges, ShowsText, Speaks, told_text}
 use Rattle.mvd_script.specs.Outcomes.{outcome_text}
 use Rattle.mvd_shell.proofs.Talking.{extends_none}
 
@@ -33,14 +33,14 @@ replies old new request outcome same steps = record {
   leads = λ setting before world. let (after, (may, stands)) = steps setting before world in (after, ((outcome, may, refl), stands));
 }
 
-lifts : (exchanges : List Exchange) (old new : Member) → Answered MemberReplies exchanges old new → (setting : Setting) (before : Knowledge) → IsWorld setting old.world before
-    → (after : Knowledge) × (Answered (SiteReplies setting old.site) exchanges before after × IsWorld setting new.world after)
-unfolding Answered
+lifts : (exchanges : List Exchange) (old new : Member) → AnswersExchanges MemberReplies exchanges old new → (setting : Setting) (before : Knowledge) → IsWorld setting old.world before
+    → (after : Knowledge) × (AnswersExchanges (SiteReplies setting old.site) exchanges before after × IsWorld setting new.world after)
+unfolding AnswersExchanges
 lifts [] old new same setting before world = (before, (refl, subst (λ (m : Member). IsWorld setting m.world before) (sym same) world))
 lifts (exchange ∷ exchanges) old new (between, answers, rest) setting before world =
     let (middle, (first, stands)) = answers.leads setting before world in
     let (after, (others, ends)) = lifts exchanges between new rest setting middle stands in
-    (after, ((middle, first, subst (λ (n : ℕ). Answered (SiteReplies setting n) exchanges middle after) answers.site others), ends))
+    (after, ((middle, first, subst (λ (n : ℕ). AnswersExchanges (SiteReplies setting n) exchanges middle after) answers.site others), ends))
 
 pub asks : (ask : Ask) (old new : Member) (text text' : List ℕ) (result : Result (Unit {0}) Refusal) → Speaks MemberReplies old new ask text text' result → Acts (command.Ask ask) old new text text' result
 asks ask old new text text' result speaks = record {
@@ -53,7 +53,7 @@ asks ask old new text text' result speaks = record {
 
 -- ---- one step
 
-printed : (answer : Result (List ℕ) Refusal) (text text' : List ℕ) (result : Result (Unit {0}) Refusal) → Prints answer text text' result → (told : Result (List ℕ) Refusal) × (IsAnswer told answer × Shows told text text' result)
+printed : (answer : Result (List ℕ) Refusal) (text text' : List ℕ) (result : Result (Unit {0}) Refusal) → Prints answer text text' result → (told : Result (List ℕ) Refusal) × (IsAnswer told answer × ShowsText told text text' result)
 printed (Ok line) text text' (Ok done) prints = (Ok line, (refl, prints))
 printed (Ok line) text text' (Err refusal) (memory, more) = (Err refusal, ((λ not. absurd (not memory)), (refl, more)))
 printed (Err other) text text' (Ok done) (same, stays) = absurd cc
@@ -96,12 +96,12 @@ says_on true setting site command before after told text is _ tells same =
 says_on false setting site command before after told text is nowhere tells same = absurd cc
 
 pub says : (command : Command) (old new : Member) (text text' : List ℕ) (result : Result (Unit {0}) Refusal) → is_numbered (length old.world.sites.items) old.site ≡ true → (acts : Acts command old new [] text result) → text' ≡ told_text acts.told
-    → Answers old.site command old.world new.world text'
+    → CommandSays old.site command old.world new.world text'
 says command old new text text' result there acts same = λ setting before world.
     let (after, (tells, stands)) = acts.leads setting before world in
     (after, (says_on (is_site setting old.site) setting old.site command before after acts.told text' refl (sym (world.all old.site) ∙ there) tells same, stands))
 
-pub says_none : (site : ℕ) (command : Command) (old : World) (text : List ℕ) → is_numbered (length old.sites.items) site ≡ false → text ≡ none_such_text → Answers site command old old text
+pub says_none : (site : ℕ) (command : Command) (old : World) (text : List ℕ) → is_numbered (length old.sites.items) site ≡ false → text ≡ none_such_text → CommandSays site command old old text
 says_none site command old text nowhere same = λ setting before world.
     let is : is_site setting site ≡ false = sym (world.all site) ∙ nowhere in
     (before, (subst (λ (b : Bool). MatchBool b ((told : Result (List ℕ) Refusal) × TellsCommand setting site command before before told × (text ≡ told_text told)) ((before ≡ before) × (text ≡ none_such_text))) (sym is) (refl, same), world))
@@ -115,9 +115,9 @@ numbered false None at is found = absurd cc
 numbered false (Some x) at is found = absurd cc
 
 pub says_so : (done : Result (Unit {0}) Refusal) (number site : ℕ) (command : Command) (old : Member) (new : Member) (empty text text' : List ℕ) (result : Result (Unit {0}) Refusal) → old.site ≡ site → empty ≡ []
-    → is_numbered (length old.world.sites.items) old.site ≡ true → (acts : Acts command old new empty text result) → ((told : Result (List ℕ) Refusal) → Shows told [] text result → OnOk done (text' ≡ told_text told))
-    → OnOk done (Answers site command old.world new.world text')
+    → is_numbered (length old.world.sites.items) old.site ≡ true → (acts : Acts command old new empty text result) → ((told : Result (List ℕ) Refusal) → ShowsText told [] text result → OnOk done (text' ≡ told_text told))
+    → OnOk done (CommandSays site command old.world new.world text')
 says_so (Err refusal) number site command old new empty text text' result same none there acts settled = tt
 says_so (Ok done) number site command old new empty text text' result same none there acts settled =
     let plain : Acts command old new [] text result = subst (λ (t : List ℕ). Acts command old new t text result) none acts in
-    subst (λ (n : ℕ). Answers n command old.world new.world text') same (says command old new text text' result there plain (settled plain.told plain.shows))
+    subst (λ (n : ℕ). CommandSays n command old.world new.world text') same (says command old new text text' result there plain (settled plain.told plain.shows))

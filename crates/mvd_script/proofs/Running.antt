@@ -12,14 +12,14 @@ use Rattle.mvd_input.specs.Hexadecimal.{lines_after, lines_of}
 use Rattle.mvd_input.proofs.Lines.{Taking, takes_all, takes_next, takes_none, takes_on}
 use Rattle.mvd_shell.proofs.Pieces.{appends_none, appends_on}
 use Rattle.mvd_script.specs.declared.script.Script.{Script}
-use Rattle.mvd_script.specs.Script.{Blank, Ran, ReadAll, Reads, RunsScript, Stage}
+use Rattle.mvd_script.specs.Script.{Blank, Ran, ReadAll, ReadsLine, RunsScript, Stage}
 use Rattle.mvd_script.specs.Staged.{AddsLine, IsStage}
 
 -- ---- lines that are read
 
-read_more : (lines : List (List ℕ)) (line : List ℕ) (old mid new : Stage) (texts : List (List ℕ)) (text : List ℕ) → ReadAll lines old mid texts → Reads line mid new text → ReadAll (lines ++ line ∷ []) old new (texts ++ text ∷ [])
+read_more : (lines : List (List ℕ)) (line : List ℕ) (old mid new : Stage) (texts : List (List ℕ)) (text : List ℕ) → ReadAll lines old mid texts → ReadsLine line mid new text → ReadAll (lines ++ line ∷ []) old new (texts ++ text ∷ [])
 unfolding ReadAll
-read_more [] line old mid new [] text (same, none) reads = (new, subst (λ (s : Stage). Reads line s new text) same reads, (refl, refl))
+read_more [] line old mid new [] text (same, none) reads = (new, subst (λ (s : Stage). ReadsLine line s new text) same reads, (refl, refl))
 read_more [] line old mid new (first ∷ texts) text (same, none) reads = absurd cc
 read_more (first ∷ lines) line old mid new [] text read reads = absurd read
 read_more (first ∷ lines) line old mid new (printed ∷ texts) text (between, one, others) reads = (between, one, read_more lines line between mid new texts text others reads)

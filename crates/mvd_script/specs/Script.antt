@@ -112,8 +112,8 @@ abbrev pub MayNotStand : Line → Stage → Type 0
 MayNotStand line stage = (new : Stage) (text : List ℕ) → Plays line stage new text → ⊥
 
 -- a line's bytes are UTF-8, and say nothing or spell a line that may stand here
-abbrev pub Reads : List ℕ → Stage → Stage → List ℕ → Type 0
-Reads bytes old new text = IsUtf8 bytes × (((said bytes ≡ []) × (new ≡ old) × (text ≡ [])) ⊎ ((line : Line) × IsLine line (said bytes) × Plays line old new text))
+abbrev pub ReadsLine : List ℕ → Stage → Stage → List ℕ → Type 0
+ReadsLine bytes old new text = IsUtf8 bytes × (((said bytes ≡ []) × (new ≡ old) × (text ≡ [])) ⊎ ((line : Line) × IsLine line (said bytes) × Plays line old new text))
 
 -- a line's bytes are no UTF-8, or spell no line, or one that may not stand here
 abbrev pub IsAtFault : List ℕ → Stage → Type 0
@@ -129,7 +129,7 @@ IsNotRead input input' fault = ReadsNot fault × (fault ≡ of_fault.Stopped Fra
 unfoldable pub ReadAll : List (List ℕ) → Stage → Stage → List (List ℕ) → Type 0
 ReadAll [] old new texts = (new ≡ old) × (texts ≡ [])
 ReadAll (line ∷ lines) old new [] = ⊥
-ReadAll (line ∷ lines) old new (text ∷ texts) = (between : Stage) × Reads line old between text × ReadAll lines between new texts
+ReadAll (line ∷ lines) old new (text ∷ texts) = (between : Stage) × ReadsLine line old between text × ReadAll lines between new texts
 
 -- Lines from the first on were run, and what they print was written
 pub record Ran (lines : List (List ℕ)) (stage : Stage) (out out' : Option (List ℕ)) : Type 0 where

@@ -15,8 +15,8 @@ use Rattle.mvd_world.specs.Worlds.{IsWorld, Leads}
 use Rattle.mvd_script.specs.declared.member.Member.{Member}
 use Rattle.mvd_script.specs.declared.head.Head.{Head}
 use Rattle.mvd_script.specs.declared.script.Script.{Script}
-use Rattle.mvd_script.specs.Script.{Blank, Headed, IsAtFault, MayNotStand, Plays, Reads, Running, Says, SiteReplies, Stage, TellsCommand, site_in}
-use Rattle.mvd_shell.specs.Talk.{Shows}
+use Rattle.mvd_script.specs.Script.{Blank, Headed, IsAtFault, MayNotStand, Plays, ReadsLine, Running, Says, SiteReplies, Stage, TellsCommand, site_in}
+use Rattle.mvd_shell.specs.Talk.{ShowsText}
 
 -- a site of a world replies as a site of the machine does
 pub record MemberReplies (old new : Member) (request : Request) (reply : Reply) : Type 0 where
@@ -27,7 +27,7 @@ pub record MemberReplies (old new : Member) (request : Request) (reply : Reply) 
 pub record ActsFor (Tells : Setting → Knowledge → Knowledge → Result (List ℕ) Refusal → Type 0) (old new : World) (text text' : List ℕ) (result : Result (Unit {0}) Refusal) : Type 0 where
   pub told : Result (List ℕ) Refusal
   pub leads : Leads old new (λ setting before after. Tells setting before after told)
-  pub shows : Shows told text text' result
+  pub shows : ShowsText told text text' result
 
 -- a command was played at a site of a world
 abbrev pub Acts : Command → Member → Member → List ℕ → List ℕ → Result (Unit {0}) Refusal → Type 0
@@ -35,8 +35,8 @@ Acts command old new text text' result =
     ActsFor (λ setting before after told. TellsCommand setting old.site command before after told) old.world new.world text text' result
 
 -- a command said this
-abbrev pub Answers : ℕ → Command → World → World → List ℕ → Type 0
-Answers site command old new text = Leads old new (λ setting before after. Says setting site command before after text)
+abbrev pub CommandSays : ℕ → Command → World → World → List ℕ → Type 0
+CommandSays site command old new text = Leads old new (λ setting before after. Says setting site command before after text)
 
 -- a head in hand is this
 pub record IsHead (head : Head) (sites : ℕ) (most : Option ℕ) : Type 0 where
@@ -50,13 +50,13 @@ IsStage script (Headed sites most defs) = ((head : Head) × (script.head ≡ Som
 IsStage script (Running setting knowledge) = (member : Member) × (script.world ≡ Some member) × IsWorld setting member.world knowledge
 
 -- a line that may stand here is taken; of one that may not only that is told
-abbrev pub Takes : Line → Script → Script → Bool → List ℕ → Type 0
-Takes line old new true text = (stage : Stage) → IsStage old stage → (next : Stage) × Plays line stage next text × IsStage new next
-Takes line old new false text = (stage : Stage) → IsStage old stage → MayNotStand line stage
+abbrev pub TakesLine : Line → Script → Script → Bool → List ℕ → Type 0
+TakesLine line old new true text = (stage : Stage) → IsStage old stage → (next : Stage) × Plays line stage next text × IsStage new next
+TakesLine line old new false text = (stage : Stage) → IsStage old stage → MayNotStand line stage
 
 -- a line's bytes are run, or are at fault, or memory is refused
 abbrev pub RunsLine : ℕ → List ℕ → Script → Script → List ℕ → Result (Unit {0}) Fault → Type 0
-RunsLine number bytes old new text (Ok done) = (stage : Stage) → IsStage old stage → (next : Stage) × Reads bytes stage next text × IsStage new next
+RunsLine number bytes old new text (Ok done) = (stage : Stage) → IsStage old stage → (next : Stage) × ReadsLine bytes stage next text × IsStage new next
 RunsLine number bytes old new text (Err (fault.Line at)) = (at ≡ number) × ((stage : Stage) → IsStage old stage → IsAtFault bytes stage)
 RunsLine number bytes old new text (Err (fault.Stopped refusal)) = refusal ≡ Memory
 
@@ -78,10 +78,10 @@ StartsAt (Headed sites most defs) setting knowledge = (setting ≡ setting_of si
 StartsAt (Running setting' knowledge') setting knowledge = (setting' ≡ setting) × (knowledge' ≡ knowledge)
 
 -- where there was a head or were sites, there are sites; else nothing was read yet
-abbrev pub Begins : Script → Script → Bool → Type 0
-Begins old new true = IsSome new.world × ((stage : Stage) → IsStage old stage → (setting : Setting) × (knowledge : Knowledge) × StartsAt stage setting knowledge × IsStage new (Running setting knowledge))
-Begins old new false = (stage : Stage) → IsStage old stage → stage ≡ Blank
+abbrev pub ScriptBegins : Script → Script → Bool → Type 0
+ScriptBegins old new true = IsSome new.world × ((stage : Stage) → IsStage old stage → (setting : Setting) × (knowledge : Knowledge) × StartsAt stage setting knowledge × IsStage new (Running setting knowledge))
+ScriptBegins old new false = (stage : Stage) → IsStage old stage → stage ≡ Blank
 
 -- a command was run by the sites, if there are any
 abbrev pub RunsAt : ℕ → Command → Script → Script → List ℕ → Type 0
-RunsAt site command old new text = (member : Member) → old.world ≡ Some member → (member' : Member) × (new.world ≡ Some member') × Answers (site_in site) command member.world member'.world text
+RunsAt site command old new text = (member : Member) → old.world ≡ Some member → (member' : Member) × (new.world ≡ Some member') × CommandSays (site_in site) command member.world member'.world text

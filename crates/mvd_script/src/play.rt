@@ -3,7 +3,7 @@ ghost use Rattle.std.specs.Prelude.{◌≡◌, IfErr, OnOk, Result, string_bytes
 ghost use Rattle.mvd_dots.specs.Answer.{IsAnswer};
 ghost use Rattle.mvd_keys.specs.Key.{key_of_text};
 ghost use Rattle.mvd_script.specs.Script.{TellsSend, TellsStep, site_in};
-ghost use Rattle.mvd_script.specs.Staged.{Acts, ActsFor, Answers};
+ghost use Rattle.mvd_script.specs.Staged.{Acts, ActsFor, CommandSays};
 
 use crate::member::Member;
 use crate::printing::print_outcome;
@@ -23,7 +23,7 @@ pub fn run(
     command: Command<'_>,
     out: &mut String,
 ) -> Result<(), Refusal>
-    ensures said { OnOk result (Answers (site_in site) command.entry member.old.world member.new.world
+    ensures said { OnOk result (CommandSays (site_in site) command.entry member.old.world member.new.world
         (string_bytes out.new)) }
     ensures memory { IfErr result (λ refusal. refusal ≡ Refusal.Memory) }
 {

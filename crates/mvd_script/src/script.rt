@@ -1,5 +1,6 @@
 //! Scripts: a line is a command on one of several sites.
-ghost use Rattle.std.specs.Prelude.{◌≡◌, ◌<◌, ◌≤◌, ◌↔◌, ◌++◌, ℕ, [], IfErr, IfOk, IsSome, IsTrue, List, None, OnOk, string_bytes, unwrap_or};
+ghost use Rattle.std.specs.Prelude.{◌≡◌, ◌<◌, ◌≤◌, ◌↔◌, ◌++◌, ℕ, [], IfErr, IfOk, IsSome, IsTrue, List, None, OnOk};
+ghost use Rattle.std.specs.Prelude.{string_bytes, unwrap_or};
 ghost use Rattle.std.specs.Io.KnownBytes.{Appends};
 ghost use Rattle.mvd_dots.specs.declared.refusals.Refusal.TheVariants.{Memory, WriteFailed};
 ghost use Rattle.mvd_input.specs.declared.command.Line.TheVariants as lines;
@@ -9,7 +10,7 @@ ghost use Rattle.mvd_input.specs.Hexadecimal.{lines_of};
 ghost use Rattle.mvd_world.specs.Machine.{nothing_yet, setting_of};
 ghost use Rattle.mvd_world.specs.Worlds.{IsWorld};
 ghost use Rattle.mvd_script.specs.Script.{Blank, RunsScript, Simulates};
-ghost use Rattle.mvd_script.specs.Staged.{AddsLine, Begins, IsStage, RunsAt, RunsLine, Takes, TakesAt};
+ghost use Rattle.mvd_script.specs.Staged.{AddsLine, ScriptBegins, IsStage, RunsAt, RunsLine, TakesLine, TakesAt};
 
 use crate::head::Head;
 use crate::member::Member;
@@ -86,7 +87,7 @@ impl Script {
     /// Whether the line may stand here; it is taken then.
     fn takes(&mut self, line: Line<'_>, out: &mut String) -> Result<bool, Fault>
         requires { string_bytes out.old ≡ [] }
-        ensures taken { IfOk result (λ is_taken. Takes line.entry self.old self.new is_taken (string_bytes out.new)) }
+        ensures taken { IfOk result (λ is_taken. TakesLine line.entry self.old self.new is_taken (string_bytes out.new)) }
         ensures memory { IfErr result (λ fault. fault ≡ Stopped Memory) }
     {
         match line {
@@ -100,7 +101,7 @@ impl Script {
 
     /// Whether this may be the number of sites: it is set once, before all else.
     fn set_sites(&mut self, count: u64) -> bool
-        ensures { Takes (lines.Sites count) self.old self.new result [] }
+        ensures { TakesLine (lines.Sites count) self.old self.new result [] }
     {
         if self.head.is_some() {
             return false;
@@ -120,7 +121,7 @@ impl Script {
 
     /// Whether this may be the most keys of a site: it is set once, between the number of sites and the first command.
     fn set_max(&mut self, count: u64) -> bool
-        ensures { Takes (lines.Max count) self.old self.new result [] }
+        ensures { TakesLine (lines.Max count) self.old self.new result [] }
     {
         let Some(head) = self.head else {
             return false;
@@ -150,7 +151,7 @@ impl Script {
 
     /// Whether this may be one more index.
     fn set_index(&mut self, field: &str) -> Result<bool, Fault>
-        ensures taken { IfOk result (λ is_taken. Takes (lines.Index field.entry) self.old self.new is_taken []) }
+        ensures taken { IfOk result (λ is_taken. TakesLine (lines.Index field.entry) self.old self.new is_taken []) }
         ensures memory { IfErr result (λ fault. fault ≡ Stopped Memory) }
     {
         if !self.is_in_head() {
@@ -162,7 +163,7 @@ impl Script {
 
     /// Whether this may be one more view.
     fn set_view(&mut self, view: View<'_>) -> Result<bool, Fault>
-        ensures taken { IfOk result (λ is_taken. Takes (lines.View view.entry) self.old self.new is_taken []) }
+        ensures taken { IfOk result (λ is_taken. TakesLine (lines.View view.entry) self.old self.new is_taken []) }
         ensures memory { IfErr result (λ fault. fault ≡ Stopped Memory) }
     {
         if !self.is_in_head() {
@@ -174,7 +175,7 @@ impl Script {
 
     /// Runs a command, and whether there were head lines before it.
     fn command(&mut self, site: u64, command: Command<'_>, out: &mut String) -> Result<bool, Fault>
-        ensures taken { IfOk result (λ is_taken. Takes (lines.At site command.entry) self.old self.new is_taken
+        ensures taken { IfOk result (λ is_taken. TakesLine (lines.At site command.entry) self.old self.new is_taken
             (string_bytes out.new)) }
         ensures memory { IfErr result (λ fault. fault ≡ Stopped Memory) }
     {
@@ -187,7 +188,7 @@ impl Script {
 
     /// Whether there are sites. Where the head lines stand alone so far, their sites begin.
     fn begin(&mut self) -> Result<bool, Refusal>
-        ensures begins { IfOk result (Begins self.old self.new) }
+        ensures begins { IfOk result (ScriptBegins self.old self.new) }
         ensures memory { IfErr result (λ refusal. refusal ≡ Refusal.Memory) }
     {
         if self.world.is_some() {

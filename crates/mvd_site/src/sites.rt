@@ -10,16 +10,16 @@ ghost use Rattle.mvd_keys.specs.Key.{key_cmp};
 ghost use Rattle.mvd_keys.specs.State.{IsValid, clashes};
 ghost use Rattle.mvd_keys.specs.Writes.{Write, Stands};
 ghost use Rattle.mvd_rows.specs.Siblings.{conflicts_in};
-ghost use Rattle.mvd_tree.specs.Page.{is_more_after_page, page_of};
+ghost use Rattle.mvd_tree.specs.Page.{is_more_after_page, bucket_page};
 ghost use Rattle.mvd_wire.specs.declared.request.Request.TheVariants.{Push};
 ghost use Rattle.mvd_kept.specs.Answer.{digests, node_digests};
 ghost use Rattle.mvd_kept.specs.AtOnce.{AnswersRequest};
 ghost use Rattle.mvd_kept.specs.FromStates.{AnswersFrom, bucket_refusal, joined_site, push_reply, unless_broken};
 ghost use Rattle.mvd_kept.specs.Held.{AreHeld, IsHeldState, state_at};
 ghost use Rattle.mvd_kept.specs.Installs.{InstallsAll, MayAllBeIn, broken_site, changed_site};
-ghost use Rattle.mvd_kept.specs.Known.{Event, IsValidRequest, Tells};
+ghost use Rattle.mvd_kept.specs.Known.{KnownEvent, IsValidRequest, Tells};
 ghost use Rattle.mvd_kept.specs.Prepared.{IsChangeNow, IsFrugal, IsReady, PreparesAt, PreparesFromStates};
-ghost use Rattle.mvd_kept.specs.Sites.{AnswersAll, SiteValue, has_no_room, opened};
+ghost use Rattle.mvd_kept.specs.Sites.{AnswersFromNothing, SiteValue, has_no_room, opened};
 
 use crate::uncounted::no_work;
 use mvd_dots::Refusal;
@@ -139,7 +139,7 @@ impl Site {
         ensures whole { IfOk result (λ _. self.now.broken ≡ false) }
         ensures path { IfOk result (λ _. length path.now ≡ 3) }
         ensures keys { IfOk result (λ page. page.0.items ≡
-            page_of (digests self.now.states) path.now (option_copied after.entry)) }
+            bucket_page (digests self.now.states) path.now (option_copied after.entry)) }
         ensures more { IfOk result (λ page. page.1 ≡
             is_more_after_page (digests self.now.states) path.now (option_copied after.entry)) }
         ensures refused { IfErr result (λ refusal. refusal ≡ bucket_refusal self.now.broken path.now) }
@@ -225,9 +225,9 @@ impl Site {
         config: &Config,
         requests: &[Request],
     ) -> Result<(Site, Vec<Reply>), Refusal>
-        ensures answers { IfOk result (λ done. AnswersAll config.now done.0 requests.now done.1.items) }
+        ensures answers { IfOk result (λ done. AnswersFromNothing config.now done.0 requests.now done.1.items) }
         // There is such a choice.
-        ensures choice { IfOk result (λ done. (events : List Event) × Tells events requests.now done.1.items) }
+        ensures choice { IfOk result (λ done. (events : List KnownEvent) × Tells events requests.now done.1.items) }
         ensures count { IfOk result (λ done. length done.1.items ≡ length requests.now) }
         ensures config { IfOk result (λ done. done.0.config ≡ config.now) }
         ensures only { IfErr result (λ refusal. refusal ≡ Memory) }

@@ -1,5 +1,5 @@
 //! Work to be counted.
-ghost use Rattle.mvd_kept.specs.Costs.{IsNone};
+ghost use Rattle.mvd_kept.specs.Costs.{IsNoWork};
 
 use mvd_count::Count;
 use mvd_digest::Hashed;
@@ -9,7 +9,7 @@ use mvd_start::Start;
 
 /// Nothing was done yet.
 pub fn no_work(start: &Start) -> Work
-    ensures { IsNone result }
+    ensures { IsNoWork result }
 {
     Work {
         looks: Count::new(start),

@@ -9,10 +9,10 @@ use Rattle.mvd_sync.specs.declared.asking.Node.{Node}
 use Rattle.mvd_dots.specs.declared.refusals.Refusal.{Refusal}
 use Rattle.mvd_dots.specs.declared.refusals.Refusal.TheVariants.{BadPath, Memory, TooManyRequests}
 use Rattle.std.proofs.lemmas.List.{length-take-le, take_all}
-use Rattle.mvd_sync.specs.Questions.{AllAnswered, AnswersEach, ComesToEnd, Keeps, Takes, with_left}
+use Rattle.mvd_sync.specs.Questions.{AllAnswered, AnswersEach, ComesToEnd, Keeps, TakesBudget, with_left}
 use Rattle.mvd_peer.specs.Windows.{ForEach}
 use Rattle.mvd_peer.specs.PushedStates.{Each}
-use Rattle.mvd_sync.specs.Made.{EndsMaking, Passes, ReadsAll}
+use Rattle.mvd_sync.specs.Made.{EndsMaking, PassesFault, ReadsAll}
 use Rattle.mvd_peer.specs.Sides.{HasAnswered, HasRefused, SideOf, is_of_question}
 use Rattle.mvd_sync.specs.Faults.{of_answer, of_memory, of_questions, of_side}
 use Rattle.mvd_peer.specs.Windows.{Asked, EachAnswer, EachRefusal, EachTold, Ends, Kind, RefusesPage, manner}
@@ -22,7 +22,7 @@ use Rattle.mvd_sync.proofs.Positions.{BlamesBy}
 
 -- what is so of each answer, to a question of a sort, is so of what was made of it
 pub passed : {Q A B : Type 0} (In : Q → Type 0) (M : Q → A → Type 0) (P : Type 0) (T : Refusal → Type 0) (R : A → B → Type 0) (N : Q → B → Type 0) → ((q : Q) (a : A) (b : B) → In q → M q a → P → R a b → N q b)
-    → (qs : List Q) (ts : List (Result A Refusal)) (bs : List B) → Each In qs → EachAnswer M qs ts → EachTold P T ts → ForEach (Passes R) ts bs → ForEach N qs bs
+    → (qs : List Q) (ts : List (Result A Refusal)) (bs : List B) → Each In qs → EachAnswer M qs ts → EachTold P T ts → ForEach (PassesFault R) ts bs → ForEach N qs bs
 passed In M P T R N f [] [] [] i m p r = tt
 passed In M P T R N f [] [] (b ∷ bs) i m p r = absurd r
 passed In M P T R N f [] (Ok a ∷ ts) bs i m p r = absurd m
@@ -103,7 +103,7 @@ ReadOrEnded s qs left left' old new May Right result =
     IfOk result (λ read. AllAnswered s May (AnswersEach s Right qs read.items old new) qs read.items (with_left old left) (with_left new left'))
     × IfErr result (ComesToEnd s (Keeps s old new) (length qs) (with_left old left) new)
 
-module _ {S Q : Type 0} (s : SideOf S) (qs : List Q) (left left' taken : ℕ) (old new : S) (takes : Takes left left' (length qs) taken) where
+module _ {S Q : Type 0} (s : SideOf S) (qs : List Q) (left left' taken : ℕ) (old new : S) (takes : TakesBudget left left' (length qs) taken) where
   asked_is : length (take taken qs) ≡ taken
   asked_is = let most = takes.most in length-take-le taken qs most
 

@@ -9,13 +9,13 @@ use Rattle.mvd_site.specs.Held.{States}
 use Rattle.mvd_tree.specs.HashTree.{is_under}
 use Rattle.mvd_tree.specs.Page.{is_after}
 use Rattle.mvd_sync.specs.Questions.{with_left}
-use Rattle.mvd_sync.specs.Answers.{IsPageOf, ListingValue, TakesLesser}
+use Rattle.mvd_sync.specs.Answers.{IsBucketPage, ListingValue, TakesLesser}
 use Rattle.mvd_sync.specs.Buckets.{AreElsewhere, ArePages, held_in, waits_if}
 use Rattle.mvd_sync.specs.Exchanges.{AreNext, Counts, Done, Exchanging, keys_done, keys_next}
 use Rattle.mvd_sync.specs.Nodes.{has_below}
 use Rattle.mvd_peer.specs.PushedStates.{Each}
 use Rattle.mvd_peer.specs.Sides.{SideOf, two}
-use Rattle.mvd_sync.specs.Walk.{Reads}
+use Rattle.mvd_sync.specs.Walk.{ReadsSide}
 use Rattle.mvd_sync.specs.declared.cursor.Entry.{Entry}
 use Rattle.mvd_sync.specs.declared.asking.Questions.{Questions}
 use Rattle.mvd_sync.specs.declared.report.SyncFault.{SyncFault}
@@ -76,7 +76,7 @@ pub record AtKey {L P : Type 0} (l : SideOf L) (p : SideOf P) (number : Option �
 pub record OverBucket {L P : Type 0} (l : SideOf L) (p : SideOf P) (path : List ℕ) (first second mine theirs : ListingValue) (left left' : Questions) (local local' : L) (peer peer' : P) (before after : Exchanging) : Type 0 where
   pub goes : GoesBy l p left left' local local' peer peer' before after (Ok (tt {0}))
   pub meets : l.is_faithful local → p.is_faithful peer → (a b : States) (done : List Done) → SoFarBy (l.most_keys local) (p.most_keys peer) before.number a b (l.states local) (p.states peer) done → Counts done before
-      → AreNext a b done before.waiting → AreElsewhere (path ∷ []) (keys_done done ++ keys_next before.waiting) → IsPageOf (digests a) path None first.0 first.1 → IsPageOf (digests b) path None second.0 second.1
+      → AreNext a b done before.waiting → AreElsewhere (path ∷ []) (keys_done done ++ keys_next before.waiting) → IsBucketPage (digests a) path None first.0 first.1 → IsBucketPage (digests b) path None second.0 second.1
       → AtKey l p before.number a b done path mine theirs goes.course.asked_local goes.course.asked_peer local' peer' (l.most_keys local) (p.most_keys peer) before after
 
 not_under : (path : List ℕ) (keys : List Key) → AreElsewhere (path ∷ []) keys → Each (λ key. is_under path key ≡ false) keys
@@ -323,10 +323,10 @@ module _ {L P : Type 0} (l : SideOf L) (p : SideOf P) (path : List ℕ) (first s
           (stays' : (n : ℕ) (old new : P) → p.follows n old new → p.most_keys new ≡ p.most_keys old)
           (mine2 theirs2 : ListingValue) (left2 left3 : Questions) (local2 local3 : L) (peer2 peer3 : P) (after : Exchanging)
           (f : FillsBothBy l p path (Some e.key) mine1 mine2 theirs1 theirs2 left1 left2 local1 local2 peer1 peer2) where
-        reads_local : Reads l f.local_side.asked (with_left local1 left1.local) (with_left local2 left2.local)
+        reads_local : ReadsSide l f.local_side.asked (with_left local1 left1.local) (with_left local2 left2.local)
         reads_local = record { spent = f.local_side.spent; follows = f.local_side.follows; kept = f.local_side.kept }
 
-        reads_peer : Reads p f.peer_side.asked (with_left peer1 left1.peer) (with_left peer2 left2.peer)
+        reads_peer : ReadsSide p f.peer_side.asked (with_left peer1 left1.peer) (with_left peer2 left2.peer)
         reads_peer = record { spent = f.peer_side.spent; follows = f.peer_side.follows; kept = f.peer_side.kept }
 
         -- with the questions that filled them

@@ -5,7 +5,7 @@ use Rattle.mvd_dots.specs.declared.refusals.Refusal.{Refusal}
 use Rattle.mvd_dots.specs.declared.refusals.Refusal.TheVariants.{Memory}
 use Rattle.mvd_keys.specs.State.{State}
 use Rattle.mvd_sync.specs.Carries.{Carried}
-use Rattle.mvd_sync.specs.Meetings.{noted, pair_of, taken_from}
+use Rattle.mvd_sync.specs.Meetings.{noted, pushed_pair, taken_from}
 use Rattle.mvd_sync.specs.Questions.{AllAnswered, ComesToEnd, IsOfKey, OneAsking, TakesIn, TakesInFirst, with_left}
 use Rattle.mvd_sync.specs.declared.meetings.Meeting.{Meeting}
 use Rattle.mvd_sync.specs.declared.report.Side.{Side}
@@ -39,7 +39,7 @@ module _ {S : Type 0} (s : SideOf S) (pairs : List (List ℕ × State)) (told : 
 
 -- all that a side was to take was told
 pub carried_all : {S A : Type 0} (s : SideOf S) (name side : Side) (before ms : List Meeting) (told : List (Result (Unit {0}) Refusal)) (old new : OneAsking S) (r : Result (Vec Meeting A) Refusal) → side ≡ name → ms ≡ map (taken_from name) before
-    → AllAnswered s (λ _ told. IsOfKey told) (TakesIn s (filter_map (pair_of name) before) told old.at new.at) (filter_map (pair_of name) before) told old new
+    → AllAnswered s (λ _ told. IsOfKey told) (TakesIn s (filter_map (pushed_pair name) before) told old.at new.at) (filter_map (pushed_pair name) before) told old new
     → IfOk r (λ v. v.items ≡ noted side ms told) → IfOk r (λ v. Carried s name before v.items old new)
 carried_all s name side before ms told old new (Ok v) e f all is = record { told = told; is = is ∙ (λ i. noted (e i) (f i) told); answered = all }
 carried_all s name side before ms told old new (Err refusal) e f all is = tt

@@ -7,7 +7,7 @@ use Rattle.mvd_sync.specs.declared.report.Left.{Left}
 use Rattle.std.proofs.lemmas.List.Elements.{filter-append, filter_map-append}
 use Rattle.mvd_dots.specs.declared.refusals.Refusal.{Refusal}
 use Rattle.mvd_sync.specs.declared.report.Side.{Side}
-use Rattle.mvd_sync.specs.Exchanges.{Adds, Counts, Done, Exchanging, given_keys, is_given, keys_done, left_keys, left_of, left_as}
+use Rattle.mvd_sync.specs.Exchanges.{CountsDone, Counts, Done, Exchanging, given_keys, is_given, keys_done, left_keys, left_of, left_as}
 
 pub take_all : {X : Type 0} (n : ℕ) (xs : List X) → length xs ≤ n → take n xs ≡ xs
 take_all zero [] h = refl
@@ -34,7 +34,7 @@ take_short (suc n) (x ∷ xs) = let rest = take_short n xs in omega (arith, rest
 pub given_append : (xs ys : List Done) → given_keys (xs ++ ys) ≡ given_keys xs ++ given_keys ys
 given_append xs ys = ap keys_done (filter-append (λ d. is_given d.refused) xs ys) ∙ map-append (λ d. d.key) (filter (λ d. is_given d.refused) xs) (filter (λ d. is_given d.refused) ys)
 
-pub adds_none : (e : Exchanging) → Adds [] e e
+pub adds_none : (e : Exchanging) → CountsDone [] e e
 adds_none e = record {
   number = refl;
   waiting = refl;
@@ -44,7 +44,7 @@ adds_none e = record {
   older = omega arith;
 }
 
-pub adds_on : (xs ys : List Done) (e f g : Exchanging) → Adds xs e f → Adds ys f g → Adds (xs ++ ys) e g
+pub adds_on : (xs ys : List Done) (e f g : Exchanging) → CountsDone xs e f → CountsDone ys f g → CountsDone (xs ++ ys) e g
 adds_on xs ys e f g p q = record {
   number = q.number ∙ p.number;
   waiting = q.waiting ∙ p.waiting;
@@ -70,7 +70,7 @@ old_one : (d : Done) → length (filter (λ (d : Done). d.is_old) (d ∷ [])) �
 old_one d = elim d.is_old as (λ b. length (cond b (d ∷ []) []) ≡ count_if b) [ true ↦ refl | false ↦ refl ]
 
 -- a key that was given to both sides
-pub adds_given : (d : Done) (e f : Exchanging) → d.refused ≡ None → f.number ≡ e.number → f.waiting ≡ e.waiting → f.keys ≡ e.keys + 1 → f.refused ≡ e.refused → f.first_refused ≡ e.first_refused → f.older ≡ e.older + count_if d.is_old → Adds (d ∷ []) e f
+pub adds_given : (d : Done) (e f : Exchanging) → d.refused ≡ None → f.number ≡ e.number → f.waiting ≡ e.waiting → f.keys ≡ e.keys + 1 → f.refused ≡ e.refused → f.first_refused ≡ e.first_refused → f.older ≡ e.older + count_if d.is_old → CountsDone (d ∷ []) e f
 adds_given d e f none number waiting keys refused first old =
     let lefts : left_keys (d ∷ []) ≡ [] = ap (λ o. cons_option (option_map (left_as d.key) o) []) none in
     let given : is_given d.refused ≡ true = ap is_given none in
@@ -84,7 +84,7 @@ adds_given d e f none number waiting keys refused first old =
     }
 
 -- a key that was refused
-pub adds_left : (d : Done) (r : Side × Refusal) (e f : Exchanging) → d.refused ≡ Some r → f.number ≡ e.number → f.waiting ≡ e.waiting → f.keys ≡ e.keys → f.refused ≡ e.refused + 1 → (length e.first_refused < 100 → f.first_refused ≡ e.first_refused ++ left_as d.key r ∷ []) → (100 ≤ length e.first_refused → f.first_refused ≡ e.first_refused) → f.older ≡ e.older + count_if d.is_old → Adds (d ∷ []) e f
+pub adds_left : (d : Done) (r : Side × Refusal) (e f : Exchanging) → d.refused ≡ Some r → f.number ≡ e.number → f.waiting ≡ e.waiting → f.keys ≡ e.keys → f.refused ≡ e.refused + 1 → (length e.first_refused < 100 → f.first_refused ≡ e.first_refused ++ left_as d.key r ∷ []) → (100 ≤ length e.first_refused → f.first_refused ≡ e.first_refused) → f.older ≡ e.older + count_if d.is_old → CountsDone (d ∷ []) e f
 adds_left d r e f some number waiting keys refused named full old =
     let lefts : left_keys (d ∷ []) ≡ left_as d.key r ∷ [] = ap (λ o. cons_option (option_map (left_as d.key) o) []) some in
     let given : is_given d.refused ≡ false = ap is_given some in
@@ -110,7 +110,7 @@ one_of_two true = refl
 one_of_two false = refl
 
 -- each key counts once
-pub adds_room : (d : Done) (e f : Exchanging) → Adds (d ∷ []) e f → f.keys + f.refused ≡ e.keys + e.refused + 1
+pub adds_room : (d : Done) (e f : Exchanging) → CountsDone (d ∷ []) e f → f.keys + f.refused ≡ e.keys + e.refused + 1
 adds_room d e f a =
     let g = given_one d in
     let l = left_one d in
@@ -118,7 +118,7 @@ adds_room d e f a =
     omega (arith, g, l, n, a.keys, a.refused)
 
 -- what was counted besides is counted with the rest
-pub counts_on : (done now : List Done) (e f : Exchanging) → Counts done e → Adds now e f → Counts (done ++ now) f
+pub counts_on : (done now : List Done) (e f : Exchanging) → Counts done e → CountsDone now e f → Counts (done ++ now) f
 counts_on done now e f c a = record {
   keys = let n = ap length (given_append done now) ∙ length-append (given_keys done) (given_keys now) in omega (arith, n, c.keys, a.keys);
   refused = let n = ap length (filter_map-append left_of done now) ∙ length-append (left_keys done) (left_keys now) in omega (arith, n, c.refused, a.refused);

@@ -10,7 +10,7 @@ use Rattle.mvd_keys.proofs.Joins.{join_commutes}
 use Rattle.mvd_site.specs.Answer.{is_too_large}
 use Rattle.mvd_site.specs.Held.{AreHeld, States, state_at}
 use Rattle.mvd_sync.specs.Exchanges.{AreNext, Done, given_keys, is_given, joined_keys, keys_done, keys_next}
-use Rattle.mvd_sync.specs.Meetings.{ArePlans, done_of, held_keys, noted, pair_of, taken_from, wanted}
+use Rattle.mvd_sync.specs.Meetings.{ArePlans, done_of, held_keys, noted, pushed_pair, taken_from, wanted}
 use Rattle.mvd_peer.specs.Windows.{ForEach}
 use Rattle.mvd_sync.specs.Questions.{IsOfKey}
 use Rattle.mvd_sync.specs.Session.{AreDistinct, CanMeet, is_member}
@@ -140,7 +140,7 @@ module _ (ml mp : ℕ) (number : Option ℕ) (a b x y x' y' : States) (done : Li
   done_joins T U = joins_of ml mp a b x y number T U done so
 
   -- the local side took the first of them
-  module _ (n : ℕ) (ts : List (Result (Unit {0}) Refusal)) (mid : States) (first : Pushes ml x (take n (filter_map (pair_of AtLocal) ms)) ts mid) where
+  module _ (n : ℕ) (ts : List (Result (Unit {0}) Refusal)) (mid : States) (first : Pushes ml x (take n (filter_map (pushed_pair AtLocal) ms)) ts mid) where
     abbrev local_asks : List Ask
     local_asks = cut n (asks_of AtLocal ms)
 
@@ -168,8 +168,8 @@ module _ (ml mp : ℕ) (number : Option ℕ) (a b x y x' y' : States) (done : Li
         (λ k. refl) (λ k h. absurd (true≢false (sym h))) apart_local
 
   -- the local side took all, and the peer the first of them
-  module _ (first : Pushes ml x (filter_map (pair_of AtLocal) ms) told x') (one : Each IsOfKey told) (n : ℕ) (ts : List (Result (Unit {0}) Refusal)) (mid : States)
-      (second : Pushes mp y (take n (filter_map (pair_of AtPeer) (noted AtLocal (map (taken_from AtLocal) ms) told))) ts mid) where
+  module _ (first : Pushes ml x (filter_map (pushed_pair AtLocal) ms) told x') (one : Each IsOfKey told) (n : ℕ) (ts : List (Result (Unit {0}) Refusal)) (mid : States)
+      (second : Pushes mp y (take n (filter_map (pushed_pair AtPeer) (noted AtLocal (map (taken_from AtLocal) ms) told))) ts mid) where
     abbrev after : List Meeting
     after = noted AtLocal (map (taken_from AtLocal) ms) told
 

@@ -10,7 +10,7 @@ use Rattle.mvd_peer.specs.PushedStates.{Each}
 use Rattle.mvd_peer.specs.Sides.{HasAnswered, SideOf}
 use Rattle.mvd_sync.specs.Level.{GoesDown, IsDown, Level, along, down, found_by, next_nodes}
 use Rattle.mvd_sync.specs.Questions.{AllAnswered, AnswersEach, ComesToEnd, IsInner, Keeps, with_left}
-use Rattle.mvd_sync.specs.Walk.{Reads, told_all}
+use Rattle.mvd_sync.specs.Walk.{ReadsSide, told_all}
 use Rattle.mvd_sync.specs.declared.asking.Node.{Node}
 use Rattle.mvd_sync.specs.declared.asking.Questions.{Questions}
 use Rattle.mvd_sync.specs.declared.report.SyncFault.TheVariants.{Local, Peer}
@@ -170,7 +170,7 @@ module _ {L P : Type 0} (l : SideOf L) (p : SideOf P)
 
     module _ (after : Questions) (local2 : L) (mine : List Node)
         (first : ToldNodes l (next_nodes at) mine left'.local after.local local' local2) where
-      read_mine : Reads l (length s.done + length (next_nodes at)) (with_left s.local1 s.mid.local) (with_left local2 after.local)
+      read_mine : ReadsSide l (length s.done + length (next_nodes at)) (with_left s.local1 s.mid.local) (with_left local2 after.local)
       read_mine =
           reads_on l on (length s.done) (length (next_nodes at)) s.mid.local left'.local after.local s.local1 local' local2 s.level.local_side
           (reads_of l (λ _ _. HasAnswered l.follows l.can_answer local' local2) (IsInner (digests (l.states local'))) (next_nodes at) mine left'.local after.local local' local2 first)
@@ -184,7 +184,7 @@ module _ {L P : Type 0} (l : SideOf L) (p : SideOf P)
 
       module _ (peer2 : P) (theirs : List Node)
           (second : ToldNodes p (next_nodes at) theirs left'.peer after.peer peer' peer2) where
-        read_theirs : Reads p (length s.done + length (next_nodes at)) (with_left s.peer1 s.mid.peer) (with_left peer2 after.peer)
+        read_theirs : ReadsSide p (length s.done + length (next_nodes at)) (with_left s.peer1 s.mid.peer) (with_left peer2 after.peer)
         read_theirs =
             reads_on p on' (length s.done) (length (next_nodes at)) s.mid.peer left'.peer after.peer s.peer1 peer' peer2 s.level.peer_side
             (reads_of p (λ _ _. HasAnswered p.follows p.can_answer peer' peer2) (IsInner (digests (p.states peer'))) (next_nodes at) theirs left'.peer after.peer peer' peer2 second)

@@ -10,7 +10,7 @@ use Rattle.mvd_peer.specs.Windows.{ForEach}
 use Rattle.mvd_peer.specs.PushedStates.{Each}
 use Rattle.mvd_peer.specs.Sides.{HasAnswered, SideOf}
 use Rattle.mvd_sync.specs.Faults.{IsFaultOf}
-use Rattle.mvd_sync.specs.Walk.{Reads, told, told_all}
+use Rattle.mvd_sync.specs.Walk.{ReadsSide, told, told_all}
 use Rattle.mvd_sync.specs.declared.asking.Node.{Node}
 use Rattle.mvd_sync.specs.declared.asking.Questions.{Questions}
 use Rattle.mvd_sync.specs.declared.report.SyncFault.{SyncFault}
@@ -113,14 +113,14 @@ some_answered T (q ∷ qs) (t ∷ ts) e h = e.0
 -- ---- questions after questions
 
 -- questions of one side, and then more
-pub reads_on : {S : Type 0} (s : SideOf S) (on : (m n : ℕ) (old mid new : S) → s.follows m old mid → s.follows n mid new → s.follows (m + n) old new) (m n left mid left' : ℕ) (old at new : S) → Reads s m (with_left old left) (with_left at mid) → Reads s n (with_left at mid) (with_left new left') → Reads s (m + n) (with_left old left) (with_left new left')
+pub reads_on : {S : Type 0} (s : SideOf S) (on : (m n : ℕ) (old mid new : S) → s.follows m old mid → s.follows n mid new → s.follows (m + n) old new) (m n left mid left' : ℕ) (old at new : S) → ReadsSide s m (with_left old left) (with_left at mid) → ReadsSide s n (with_left at mid) (with_left new left') → ReadsSide s (m + n) (with_left old left) (with_left new left')
 reads_on s on m n left mid left' old at new p q = record {
   spent = let e = p.spent in let f = q.spent in omega (arith, e, f);
   follows = on m n old at new p.follows q.follows;
   kept = λ t. let k = p.kept t in keeps_on s old at new k (q.kept k.still);
 }
 
-pub reads_of : {S Q A : Type 0} (s : SideOf S) (May Right : Q → A → Type 0) (qs : List Q) (ts : List A) (left left' : ℕ) (old new : S) → AllAnswered s May (AnswersEach s Right qs ts old new) qs ts (with_left old left) (with_left new left') → Reads s (length qs) (with_left old left) (with_left new left')
+pub reads_of : {S Q A : Type 0} (s : SideOf S) (May Right : Q → A → Type 0) (qs : List Q) (ts : List A) (left left' : ℕ) (old new : S) → AllAnswered s May (AnswersEach s Right qs ts old new) qs ts (with_left old left) (with_left new left') → ReadsSide s (length qs) (with_left old left) (with_left new left')
 reads_of s May Right qs ts left left' old new a = record { spent = a.spent; follows = a.follows; kept = λ t. (a.right t).kept }
 
 module _ {L P : Type 0} (l : SideOf L) (p : SideOf P)
@@ -129,13 +129,13 @@ module _ {L P : Type 0} (l : SideOf L) (p : SideOf P)
   sums : (a b c : ℕ) → a + (b + c) ≡ (a + b) + c
   sums a b c = omega arith
 
-  fault_later : (left mid : Questions) (n m : ℕ) (local local1 local2 : L) (peer peer1 peer2 : P) → Reads l n (with_left local left.local) (with_left local1 mid.local) → Reads p m (with_left peer left.peer) (with_left peer1 mid.peer) → (i j v w : ℕ) (fault : SyncFault)
+  fault_later : (left mid : Questions) (n m : ℕ) (local local1 local2 : L) (peer peer1 peer2 : P) → ReadsSide l n (with_left local left.local) (with_left local1 mid.local) → ReadsSide p m (with_left peer left.peer) (with_left peer1 mid.peer) → (i j v w : ℕ) (fault : SyncFault)
       → IsFaultOf (BlamesBy l mid.local i v local1 local2) (BlamesBy p mid.peer j w peer1 peer2) fault → IsFaultOf (BlamesBy l left.local (n + i) v local local2) (BlamesBy p left.peer (m + j) w peer peer2) fault
   fault_later left mid n m local local1 local2 peer peer1 peer2 r q i j v w (Local refusal) h = blames_later l on left.local mid.local n local local1 local2 r.spent r.follows (λ t. (r.kept t).still) i v refusal h
   fault_later left mid n m local local1 local2 peer peer1 peer2 r q i j v w (Peer refusal) h = blames_later p on' left.peer mid.peer m peer peer1 peer2 q.spent q.follows (λ t. (q.kept t).still) j w refusal h
 
   -- a walk that came to an end after questions
-  pub end_later : (Few Most : ℕ → Type 0) (left mid : Questions) (n m : ℕ) (local local1 local2 : L) (peer peer1 peer2 : P) (fault : SyncFault) → Reads l n (with_left local left.local) (with_left local1 mid.local) → Reads p m (with_left peer left.peer) (with_left peer1 mid.peer) → ((i : ℕ) → Few i → Most (n + i)) → ((i : ℕ) → Few i → Most (m + i))
+  pub end_later : (Few Most : ℕ → Type 0) (left mid : Questions) (n m : ℕ) (local local1 local2 : L) (peer peer1 peer2 : P) (fault : SyncFault) → ReadsSide l n (with_left local left.local) (with_left local1 mid.local) → ReadsSide p m (with_left peer left.peer) (with_left peer1 mid.peer) → ((i : ℕ) → Few i → Most (n + i)) → ((i : ℕ) → Few i → Most (m + i))
       → ReadsEndBy l p Few mid local1 local2 peer1 peer2 fault → ReadsEndBy l p Most left local local2 peer peer2 fault
   end_later Few Most left mid n m local local1 local2 peer peer1 peer2 fault r q f f' e = record {
     asked_local = n + e.asked_local;
@@ -182,8 +182,8 @@ module _ {L P : Type 0} (l : SideOf L) (p : SideOf P)
         let both_l = reads_on l on (length done) (length window) left.local mid.local left'.local local local1 local2 before.local_side (reads_of l (λ _ _. HasAnswered l.follows l.can_answer local1 local2) (IsInner (digests (l.states local1))) window mine mid.local left'.local local1 local2 first) in
         let both_p = reads_on p on' (length done) (length window) left.peer mid.peer left'.peer peer peer1 peer2 before.peer_side (reads_of p (λ _ _. HasAnswered p.follows p.can_answer peer1 peer2) (IsInner (digests (p.states peer1))) window theirs mid.peer left'.peer peer1 peer2 second) in
         record {
-          local_side = subst (λ n. Reads l n (with_left local left.local) (with_left local2 left'.local)) (sym long) both_l;
-          peer_side = subst (λ n. Reads p n (with_left peer left.peer) (with_left peer2 left'.peer)) (sym long) both_p;
+          local_side = subst (λ n. ReadsSide l n (with_left local left.local) (with_left local2 left'.local)) (sym long) both_l;
+          peer_side = subst (λ n. ReadsSide p n (with_left peer left.peer) (with_left peer2 left'.peer)) (sym long) both_p;
           answers = answers_more done refl;
           longer = λ n e. Each-append (λ path. length path ≡ n + 1) below (told_all window mine theirs) (before.longer n (Each-left (λ path. length path ≡ n) done window e)) (long_told_all n window mine theirs (Each-right (λ path. length path ≡ n) done window e));
           is = λ u v.

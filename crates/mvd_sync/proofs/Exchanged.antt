@@ -10,7 +10,7 @@ use Rattle.mvd_site.specs.Answer.{is_too_large}
 use Rattle.mvd_site.specs.Held.{AreHeld, States}
 use Rattle.mvd_sync.specs.Carries.{Carried}
 use Rattle.mvd_sync.specs.Exchanges.{Done, IsHeldByEither, keys_next}
-use Rattle.mvd_sync.specs.Meetings.{done_of, held_keys, noted, pair_of, taken_from}
+use Rattle.mvd_sync.specs.Meetings.{done_of, held_keys, noted, pushed_pair, taken_from}
 use Rattle.mvd_sync.specs.Questions.{ComesToEnd, IsOfKey, Keeps, TakesIn, TakesInFirst, with_left}
 use Rattle.mvd_peer.specs.Windows.{ForEach}
 use Rattle.mvd_peer.specs.PushedStates.{ComesByPushes, Each}
@@ -74,7 +74,7 @@ module _ {L P : Type 0} (l : SideOf L) (p : SideOf P) (number : Option ℕ) (ent
     n_p = length (held_keys AtPeer entries)
 
     abbrev pairs_l : List (List ℕ × State)
-    pairs_l = filter_map (pair_of AtLocal) ms
+    pairs_l = filter_map (pushed_pair AtLocal) ms
 
     keep_l : l.is_faithful local → Keeps l local local1
     keep_l t = (plan.from_local.right t).kept
@@ -144,10 +144,10 @@ module _ {L P : Type 0} (l : SideOf L) (p : SideOf P) (number : Option ℕ) (ent
       after = noted AtLocal (map (taken_from AtLocal) ms) c.told
 
       abbrev pairs_p : List (List ℕ × State)
-      pairs_p = filter_map (pair_of AtPeer) after
+      pairs_p = filter_map (pushed_pair AtPeer) after
 
-      same_pairs : filter_map (pair_of AtPeer) ms1 ≡ pairs_p
-      same_pairs = ap (filter_map (pair_of AtPeer)) c.is
+      same_pairs : filter_map (pushed_pair AtPeer) ms1 ≡ pairs_p
+      same_pairs = ap (filter_map (pushed_pair AtPeer)) c.is
 
       from_l : Each (λ q. l.can_give q.0 q.1 × Rattle.mvd_keys.specs.State.IsValid q.1) pairs_p
       from_l = gives l p number entries left left1 local local1 peer peer1 ms plan l.can_give c.told (λ k s h. h.0)
@@ -191,8 +191,8 @@ module _ {L P : Type 0} (l : SideOf L) (p : SideOf P) (number : Option ℕ) (ent
       beside_l t silent = ((took_l t).still, pushed_none (l.states local) (l.states local2) (comes_l (λ _ _. ⊥) (no_pulls silent) t))
 
       -- the peer came to an end
-      pub ends_at_peer : {A : Type 0} → (left' : Questions) (peer2 : P) (refusal : Refusal) → ComesToEnd p (TakesInFirst p (filter_map (pair_of AtPeer) ms1) peer1 peer2 refusal) (length (filter_map (pair_of AtPeer) ms1)) (with_left peer1 left1.peer) peer2 refusal
-          → (filter_map (pair_of AtPeer) ms1 ≡ [] → peer2 ≡ peer1) → ExchangesAllBy {A = A} l p number entries left left' local local2 peer peer2 (Err (Peer refusal))
+      pub ends_at_peer : {A : Type 0} → (left' : Questions) (peer2 : P) (refusal : Refusal) → ComesToEnd p (TakesInFirst p (filter_map (pushed_pair AtPeer) ms1) peer1 peer2 refusal) (length (filter_map (pushed_pair AtPeer) ms1)) (with_left peer1 left1.peer) peer2 refusal
+          → (filter_map (pushed_pair AtPeer) ms1 ≡ [] → peer2 ≡ peer1) → ExchangesAllBy {A = A} l p number entries left left' local local2 peer peer2 (Err (Peer refusal))
       ends_at_peer {A} left' peer2 refusal e' alone =
           let e : ComesToEnd p (TakesInFirst p pairs_p peer1 peer2 refusal) (length pairs_p) (with_left peer1 left1.peer) peer2 refusal = subst (λ qs. ComesToEnd p (TakesInFirst p qs peer1 peer2 refusal) (length qs) (with_left peer1 left1.peer) peer2 refusal) same_pairs e' in
           record {

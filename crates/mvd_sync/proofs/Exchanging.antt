@@ -6,9 +6,9 @@ use Rattle.mvd_dots.specs.declared.refusals.Refusal.{Refusal}
 use Rattle.mvd_dots.specs.declared.refusals.Refusal.TheVariants.{Broken, Memory}
 use Rattle.mvd_keys.specs.State.{State}
 use Rattle.mvd_site.specs.Held.{States}
-use Rattle.mvd_sync.specs.Exchanges.{Adds, AreNext, Counts, Done, Exchanging, given_keys, keys_done, keys_next, left_keys}
+use Rattle.mvd_sync.specs.Exchanges.{CountsDone, AreNext, Counts, Done, Exchanging, given_keys, keys_done, keys_next, left_keys}
 use Rattle.mvd_sync.specs.Meetings.{done_of}
-use Rattle.mvd_sync.specs.Session.{AreDistinct, Changes}
+use Rattle.mvd_sync.specs.Session.{AreDistinct, ChangesSide}
 use Rattle.mvd_peer.specs.Sides.{SideOf}
 use Rattle.mvd_sync.specs.Faults.{of_memory}
 use Rattle.mvd_sync.specs.declared.cursor.Entry.{Entry}
@@ -53,7 +53,7 @@ as_many ms es h =
     omega (arith, a, b, c, d)
 
 -- a change that ends by another fault
-changes_still : {A B : Type 0} (T : Type 0) (broken : SyncFault) (C : List ℕ → State → Type 0) (old new : States) (x : A) (fault : SyncFault) → Changes T broken C old new (Ok x) → Changes {A = B} T broken C old new (Err fault)
+changes_still : {A B : Type 0} (T : Type 0) (broken : SyncFault) (C : List ℕ → State → Type 0) (old new : States) (x : A) (fault : SyncFault) → ChangesSide T broken C old new (Ok x) → ChangesSide {A = B} T broken C old new (Err fault)
 changes_still T broken C old new x fault c = record { after_ok = tt; after_fault = λ _. c.after_ok; pushes = c.pushes }
 
 module _ {L P : Type 0} (l : SideOf L) (p : SideOf P) {A B : Type 0} (next : List Entry) (left left' : Questions) (local local' : L) (peer peer' : P) (before after : Exchanging) where
@@ -100,7 +100,7 @@ module _ {L P : Type 0} (l : SideOf L) (p : SideOf P) {A B : Type 0} (next : Lis
     }
 
     -- all are exchanged, and counted
-    pub exchanges_all : (x : B) → Adds (map done_of made.items) (record before { waiting = [] }) after → ExchangesBy {A = B} l p next left left' local local' peer peer' before after (Ok x)
+    pub exchanges_all : (x : B) → CountsDone (map done_of made.items) (record before { waiting = [] }) after → ExchangesBy {A = B} l p next left left' local local' peer peer' before after (Ok x)
     exchanges_all x adds =
         let now = map done_of made.items in
         let count = all_count now in

@@ -6,14 +6,14 @@ use Rattle.mvd_dots.specs.declared.refusals.Refusal.TheVariants.{Memory}
 use Rattle.mvd_sync.specs.Questions.{ComesToEnd, Keeps, with_left}
 use Rattle.mvd_peer.specs.Sides.{SideOf}
 use Rattle.mvd_sync.specs.Faults.{of_memory}
-use Rattle.mvd_sync.specs.Walk.{Reads}
+use Rattle.mvd_sync.specs.Walk.{ReadsSide}
 use Rattle.mvd_sync.specs.declared.asking.Questions.{Questions}
 use Rattle.mvd_sync.specs.declared.report.SyncFault.TheVariants.{Local, Peer}
 use Rattle.mvd_sync.proofs.Compose.{blames_later, keeps_on}
 use Rattle.mvd_sync.proofs.Positions.{ReadsEndBy}
 
 module _ {L P : Type 0} (l : SideOf L) (p : SideOf P) (most n m left_l left_p : ℕ) (left : Questions) (local local1 : L) (peer peer1 : P)
-    (first : Reads l n (with_left local left.local) (with_left local1 left_l)) (second : Reads p m (with_left peer left.peer) (with_left peer1 left_p)) (few_l : n ≤ most) (few_p : m ≤ most) (refusal : Refusal) where
+    (first : ReadsSide l n (with_left local left.local) (with_left local1 left_l)) (second : ReadsSide p m (with_left peer left.peer) (with_left peer1 left_p)) (few_l : n ≤ most) (few_p : m ≤ most) (refusal : Refusal) where
   pub local_fails : (on : (m n : ℕ) (old mid new : L) → l.follows m old mid → l.follows n mid new → l.follows (m + n) old new) (k : ℕ) (local2 : L) → n + k ≤ most → ComesToEnd l (Keeps l local1 local2) k (with_left local1 left_l) local2 refusal
       → ReadsEndBy l p (λ asked. asked ≤ most) left local local2 peer peer1 (Local refusal)
   local_fails on k local2 small e = record {

@@ -6,10 +6,10 @@ use Rattle.mvd_keys.specs.Writes.{Key}
 use Rattle.mvd_site.specs.Held.{States}
 use Rattle.mvd_sync.specs.Questions.{with_left}
 use Rattle.mvd_sync.specs.Exchanges.{Exchanging}
-use Rattle.mvd_sync.specs.Session.{Changes}
+use Rattle.mvd_sync.specs.Session.{ChangesSide}
 use Rattle.mvd_sync.specs.Faults.{IsFaultOf}
 use Rattle.mvd_peer.specs.Sides.{IsSilent, SideOf}
-use Rattle.mvd_sync.specs.Walk.{Reads}
+use Rattle.mvd_sync.specs.Walk.{ReadsSide}
 use Rattle.mvd_sync.specs.declared.cursor.Entry.{Entry}
 use Rattle.mvd_sync.specs.declared.asking.Questions.{Questions}
 use Rattle.mvd_sync.specs.declared.report.SyncFault.{SyncFault}
@@ -30,11 +30,11 @@ if_fault (Err fault) f h = f fault h
 
 -- ---- a side that changes
 
-pub changes_none : {A : Type 0} (T : Type 0) (broken : SyncFault) (can_give : Key → State → Type 0) (old new : States) (result : Result A SyncFault) → T → new ≡ old → Changes T broken can_give old new result
+pub changes_none : {A : Type 0} (T : Type 0) (broken : SyncFault) (can_give : Key → State → Type 0) (old new : States) (result : Result A SyncFault) → T → new ≡ old → ChangesSide T broken can_give old new result
 changes_none T broken can_give old new (Ok x) t same = record { after_ok = t; after_fault = tt; pushes = λ _. no_pushes can_give old new same }
 changes_none T broken can_give old new (Err fault) t same = record { after_ok = tt; after_fault = λ _. t; pushes = λ _. no_pushes can_give old new same }
 
-pub changes_on : {A B : Type 0} (T U : Type 0) (broken : SyncFault) (can_give : Key → State → Type 0) (old mid new : States) (x : A) (result : Result B SyncFault) → Changes T broken can_give old mid (Ok x) → (T → Changes U broken can_give mid new result) → Changes U broken can_give old new result
+pub changes_on : {A B : Type 0} (T U : Type 0) (broken : SyncFault) (can_give : Key → State → Type 0) (old mid new : States) (x : A) (result : Result B SyncFault) → ChangesSide T broken can_give old mid (Ok x) → (T → ChangesSide U broken can_give mid new result) → ChangesSide U broken can_give old new result
 changes_on T U broken can_give old mid new x result first then =
     let t : T = first.after_ok in
     let second = then t in
@@ -106,7 +106,7 @@ module _ {L P : Type 0} (l : SideOf L) (p : SideOf P) where
   }
 
   -- questions that change nothing
-  unfoldable pub goes_of_reads : {A : Type 0} (x : A) (n m : ℕ) (left left' : Questions) (local local' : L) (peer peer' : P) (e : Exchanging) → Reads l n (with_left local left.local) (with_left local' left'.local) → Reads p m (with_left peer left.peer) (with_left peer' left'.peer)
+  unfoldable pub goes_of_reads : {A : Type 0} (x : A) (n m : ℕ) (left left' : Questions) (local local' : L) (peer peer' : P) (e : Exchanging) → ReadsSide l n (with_left local left.local) (with_left local' left'.local) → ReadsSide p m (with_left peer left.peer) (with_left peer' left'.peer)
       → GoesBy l p left left' local local' peer peer' e e (Ok x)
   goes_of_reads x n m left left' local local' peer peer' e r q = record {
     course = record {

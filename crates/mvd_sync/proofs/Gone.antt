@@ -13,10 +13,10 @@ use Rattle.mvd_site.specs.Held.{States}
 use Rattle.mvd_tree.proofs.KeyDigests.{get-digests_of}
 use Rattle.mvd_tree.proofs.Under.{keys_same}
 use Rattle.mvd_tree.specs.HashTree.{KeyDigests, is_under}
-use Rattle.mvd_tree.specs.Page.{is_after, rest_of}
+use Rattle.mvd_tree.specs.Page.{is_after, keys_after}
 use Rattle.mvd_tree.specs.States.{key_digest}
 use Rattle.mvd_peer.specs.Sides.{two}
-use Rattle.mvd_sync.specs.Answers.{IsListing, IsPageOf, ListingValue, TakesLesser}
+use Rattle.mvd_sync.specs.Answers.{IsListing, IsBucketPage, ListingValue, TakesLesser}
 use Rattle.mvd_sync.specs.Buckets.{IsSpent, waits_if}
 use Rattle.mvd_sync.specs.Exchanges.{AreNext, Done, IsNext, keys_done, keys_next}
 use Rattle.mvd_sync.specs.Session.{AreDistinct, IsIn, is_member}
@@ -31,9 +31,9 @@ use Rattle.mvd_sync.proofs.Rest.{Heads, after_trans, at_head, gap, get-rest, hea
 
 -- ---- what is left depends on the keys that are left
 
-pub rest_same : (m n : KeyDigests) (path : List ℕ) (after : Option (List ℕ)) → ((q : List ℕ) → IsTrue (is_under path q) → is_after after q ≡ true → get m q ≡ get n q) → rest_of m path after ≡ rest_of n path after
+pub rest_same : (m n : KeyDigests) (path : List ℕ) (after : Option (List ℕ)) → ((q : List ℕ) → IsTrue (is_under path q) → is_after after q ≡ true → get m q ≡ get n q) → keys_after m path after ≡ keys_after n path after
 rest_same m n path after same =
-    same_map nat_list_cmp_total keys_same (rest_of m path after) (rest_of n path after) (λ q.
+    same_map nat_list_cmp_total keys_same (keys_after m path after) (keys_after n path after) (λ q.
     get-rest m path after q
     ∙ elim (is_under path q) as (λ u. is_under path q ≡ u → cond (u && is_after after q) (get m q) None ≡ cond (u && is_after after q) (get n q) None) [
       | false ↦ λ _. refl
@@ -48,9 +48,9 @@ pub digests_same : (a a' : States) (q : List ℕ) → get a' q ≡ get a q → g
 digests_same a a' q e = get-digests_of spelled a' q ∙ ap (option_map (key_digest spelled q)) e ∙ sym (get-digests_of spelled a q)
 
 -- a page of states that are the same there
-pub page_same : (a a' : States) (path : List ℕ) (after : Option (List ℕ)) (page : List (Key × List ℕ)) (more : Bool) → ((q : List ℕ) → IsTrue (is_under path q) → is_after after q ≡ true → get a' q ≡ get a q) → IsPageOf (digests a') path after page more → IsPageOf (digests a) path after page more
+pub page_same : (a a' : States) (path : List ℕ) (after : Option (List ℕ)) (page : List (Key × List ℕ)) (more : Bool) → ((q : List ℕ) → IsTrue (is_under path q) → is_after after q ≡ true → get a' q ≡ get a q) → IsBucketPage (digests a') path after page more → IsBucketPage (digests a) path after page more
 page_same a a' path after page more same h =
-    let e : rest_of (digests a') path after ≡ rest_of (digests a) path after = rest_same (digests a') (digests a) path after (λ q u i. digests_same a a' q (same q u i)) in
+    let e : keys_after (digests a') path after ≡ keys_after (digests a) path after = rest_same (digests a') (digests a) path after (λ q u i. digests_same a a' q (same q u i)) in
     record {
       is = h.is ∙ ap (λ m. take 1000 (entries m)) e;
       goes_on = h.goes_on ∙ ap (λ m. nat_lt 1000 (length (entries m))) e;
@@ -60,7 +60,7 @@ page_same a a' path after page more same h =
 
 -- so many keys are held in a bucket
 abbrev pub held_at : States → List ℕ → ℕ
-held_at a path = length (entries (rest_of (digests a) path None))
+held_at a path = length (entries (keys_after (digests a) path None))
 
 -- Behind so many further pages, each for a thousand keys: as many more keys are left after the page, if it goes on
 pub record AreCounted (a : States) (path : List ℕ) (after : Option (List ℕ)) (listing : ListingValue) (pages : ℕ) : Type 0 where
@@ -68,7 +68,7 @@ pub record AreCounted (a : States) (path : List ℕ) (after : Option (List ℕ))
   pub many : 1000 * pages ≤ held_at a path
   pub more : listing.1 ≡ true → 1000 * (pages + 1) + length listed.later ≤ held_at a path
 
-pub first_counted : (a : States) (path : List ℕ) (listing : ListingValue) → IsPageOf (digests a) path None listing.0 listing.1 → AreCounted a path None listing 0
+pub first_counted : (a : States) (path : List ℕ) (listing : ListingValue) → IsBucketPage (digests a) path None listing.0 listing.1 → AreCounted a path None listing 0
 first_counted a path listing h =
     let listed = listing_of_page (digests a) path None listing.0 listing.1 h in
     record {
@@ -76,14 +76,14 @@ first_counted a path listing h =
       many = omega arith;
       more = λ on.
           let n = ap length listed.is ∙ length-append listing.0 listed.later in
-          let k = ap length h.is ∙ length-take 1000 (entries (rest_of (digests a) path None)) in
+          let k = ap length h.is ∙ length-take 1000 (entries (keys_after (digests a) path None)) in
           let long : nat_lt 1000 (held_at a path) ≡ true = sym h.goes_on ∙ on in
           let large : 1000 < held_at a path = grind (arith, nat_tests) in
           omega (arith, n, k, large);
     }
 
 -- a further page
-pub next_counted : (a : States) (path : List ℕ) (after : Option (List ℕ)) (old new : ListingValue) (pages : ℕ) → AreCounted a path after old pages → IsSpent old → IsPageOf (digests a) path after new.0 new.1 → AreCounted a path after new (pages + 1)
+pub next_counted : (a : States) (path : List ℕ) (after : Option (List ℕ)) (old new : ListingValue) (pages : ℕ) → AreCounted a path after old pages → IsSpent old → IsBucketPage (digests a) path after new.0 new.1 → AreCounted a path after new (pages + 1)
 next_counted a path after old new pages c spent h =
     let listed = listing_of_page (digests a) path after new.0 new.1 h in
     let before = c.more spent.1 in
@@ -91,7 +91,7 @@ next_counted a path after old new pages c spent h =
       listed = listed;
       many = omega (arith, before);
       more = λ on.
-          let all = entries (rest_of (digests a) path after) in
+          let all = entries (keys_after (digests a) path after) in
           let n : length all ≡ length new.0 + length listed.later = ap length listed.is ∙ length-append new.0 listed.later in
           let k : length new.0 ≡ min 1000 (length all) = ap length h.is ∙ length-take 1000 all in
           let was : length all ≡ length c.listed.later = ap length c.listed.is ∙ ap (λ xs. length (xs ++ c.listed.later)) spent.0 in
@@ -101,7 +101,7 @@ next_counted a path after old new pages c spent h =
     }
 
 -- one more page, if it was needed
-pub counted_fill : (a : States) (path : List ℕ) (after : Option (List ℕ)) (old new : ListingValue) (pages asked : ℕ) → AreCounted a path after old pages → asked ≤ 1 → (1 ≤ asked → IsSpent old) → (asked ≡ 0 → new ≡ old) → (1 ≤ asked → IsPageOf (digests a) path after new.0 new.1) → AreCounted a path after new (pages + asked)
+pub counted_fill : (a : States) (path : List ℕ) (after : Option (List ℕ)) (old new : ListingValue) (pages asked : ℕ) → AreCounted a path after old pages → asked ≤ 1 → (1 ≤ asked → IsSpent old) → (asked ≡ 0 → new ≡ old) → (1 ≤ asked → IsBucketPage (digests a) path after new.0 new.1) → AreCounted a path after new (pages + asked)
 counted_fill a path after old new pages zero c one needed same page = subst (λ listing. AreCounted a path after listing (pages + 0)) (sym (same refl)) (subst (AreCounted a path after old) (omega arith) c)
 counted_fill a path after old new pages (suc zero) c one needed same page = next_counted a path after old new pages c (needed (omega arith)) (page (omega arith))
 counted_fill a path after old new pages (suc (suc n)) c one needed same page = absurd (omega (arith, one))
@@ -126,7 +126,7 @@ pub record Gone (a b : States) (done : List Done) (waiting : List Entry) (path :
   pub next : AreNext a b done (waiting ++ found)
   pub all : (key : Key) → IsTrue (is_under path key) → is_after upto key ≡ false → get (digests a) key ≢ get (digests b) key → IsIn (keys_next found) key
 
-pub gone_begins : (a b : States) (done : List Done) (waiting : List Entry) (path : List ℕ) (mine theirs : ListingValue) → AreNext a b done waiting → IsPageOf (digests a) path None mine.0 mine.1 → IsPageOf (digests b) path None theirs.0 theirs.1 → Gone a b done waiting path None mine theirs [] 0 0
+pub gone_begins : (a b : States) (done : List Done) (waiting : List Entry) (path : List ℕ) (mine theirs : ListingValue) → AreNext a b done waiting → IsBucketPage (digests a) path None mine.0 mine.1 → IsBucketPage (digests b) path None theirs.0 theirs.1 → Gone a b done waiting path None mine theirs [] 0 0
 gone_begins a b done waiting path mine theirs next p q = record {
   first = first_counted a path mine p;
   second = first_counted b path theirs q;
@@ -288,8 +288,8 @@ module _ (a b : States) (done : List Done) (waiting : List Entry) (path : List �
 
 -- ---- at its end
 
-none_left : (m : KeyDigests) (path : List ℕ) (upto : Option (List ℕ)) → entries (rest_of m path upto) ≡ [] → (key : List ℕ) → IsTrue (is_under path key) → is_after upto key ≡ true → get m key ≡ None
-none_left m path upto e key u h = sym (get-rest m path upto key ∙ ap (λ x. cond x (get m key) None) (λ i. u i && h i)) ∙ get-entries (rest_of m path upto) key ∙ ap (find (slice_cmp nat_cmp) key) e
+none_left : (m : KeyDigests) (path : List ℕ) (upto : Option (List ℕ)) → entries (keys_after m path upto) ≡ [] → (key : List ℕ) → IsTrue (is_under path key) → is_after upto key ≡ true → get m key ≡ None
+none_left m path upto e key u h = sym (get-rest m path upto key ∙ ap (λ x. cond x (get m key) None) (λ i. u i && h i)) ∙ get-entries (keys_after m path upto) key ∙ ap (find (slice_cmp nat_cmp) key) e
 
 -- all keys of the bucket that differ are found
 pub gone_ends : (a b : States) (done : List Done) (waiting : List Entry) (path : List ℕ) (upto : Option (List ℕ)) (mine theirs : ListingValue) (found : List Entry) (i j : ℕ) → Gone a b done waiting path upto mine theirs found i j

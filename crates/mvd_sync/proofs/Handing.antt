@@ -4,7 +4,7 @@ use Rattle.std.specs.Prelude.{Result, IfSome, is_some}
 use Rattle.std.specs.List.{cons_option}
 use Rattle.mvd_dots.specs.declared.refusals.Refusal.{Refusal}
 use Rattle.mvd_keys.specs.State.{IsValid, State}
-use Rattle.mvd_sync.specs.Meetings.{ArePlans, Trades, clash, first_if, has, held_keys, is_held, meet, noted, pair_of, rest_if, taken_from, wanted}
+use Rattle.mvd_sync.specs.Meetings.{ArePlans, Trades, clash, first_if, has, held_keys, is_held, meet, noted, pushed_pair, rest_if, taken_from, wanted}
 use Rattle.mvd_peer.specs.Windows.{ForEach}
 use Rattle.mvd_peer.specs.PushedStates.{Each}
 use Rattle.mvd_sync.specs.declared.cursor.Entry.{Entry}
@@ -74,13 +74,13 @@ one_pair : (P : List ℕ × State → Type 0) (key : List ℕ) (w : Option State
 one_pair P key None ps h each = each
 one_pair P key (Some s) ps h each = (h, each)
 
-pub pulls_good : (P : List ℕ → State → Type 0) (ms : List Meeting) → Each (λ (m : Meeting). IfSome m.pull (P m.key)) ms → Each (λ p. P p.0 p.1) (filter_map (pair_of AtLocal) ms)
+pub pulls_good : (P : List ℕ → State → Type 0) (ms : List Meeting) → Each (λ (m : Meeting). IfSome m.pull (P m.key)) ms → Each (λ p. P p.0 p.1) (filter_map (pushed_pair AtLocal) ms)
 pulls_good P [] h = tt
-pulls_good P (m ∷ ms) h = one_pair (λ p. P p.0 p.1) m.key (wanted AtLocal m) (filter_map (pair_of AtLocal) ms) (unless (P m.key) (is_some m.refused) m.pull h.0) (pulls_good P ms h.1)
+pulls_good P (m ∷ ms) h = one_pair (λ p. P p.0 p.1) m.key (wanted AtLocal m) (filter_map (pushed_pair AtLocal) ms) (unless (P m.key) (is_some m.refused) m.pull h.0) (pulls_good P ms h.1)
 
-pub gives_good : (P : List ℕ → State → Type 0) (ms : List Meeting) → Each (λ (m : Meeting). IfSome m.give (P m.key)) ms → Each (λ p. P p.0 p.1) (filter_map (pair_of AtPeer) ms)
+pub gives_good : (P : List ℕ → State → Type 0) (ms : List Meeting) → Each (λ (m : Meeting). IfSome m.give (P m.key)) ms → Each (λ p. P p.0 p.1) (filter_map (pushed_pair AtPeer) ms)
 gives_good P [] h = tt
-gives_good P (m ∷ ms) h = one_pair (λ p. P p.0 p.1) m.key (wanted AtPeer m) (filter_map (pair_of AtPeer) ms) (unless (P m.key) (is_some m.refused) m.give h.0) (gives_good P ms h.1)
+gives_good P (m ∷ ms) h = one_pair (λ p. P p.0 p.1) m.key (wanted AtPeer m) (filter_map (pushed_pair AtPeer) ms) (unless (P m.key) (is_some m.refused) m.give h.0) (gives_good P ms h.1)
 
 -- what the peer is to take is what it was, after the local side was asked
 pub gives_noted : (P : List ℕ → Option State → Type 0) (ms : List Meeting) (ts : List (Result (Unit {0}) Refusal)) → Each (λ (m : Meeting). P m.key m.give) ms → Each (λ (m : Meeting). P m.key m.give) (noted AtLocal (map (taken_from AtLocal) ms) ts)

@@ -8,7 +8,7 @@ use Rattle.std.specs.FinMap.{contains_key-keys, entries, entries_sorted, get, ke
 use Rattle.mvd_tree.proofs.KeyDigests.{get-digests_of}
 use Rattle.mvd_tree.specs.States.{key_digest}
 use Rattle.mvd_tree.specs.HashTree.{KeyDigests, is_under, path_of_key}
-use Rattle.mvd_tree.specs.Page.{is_after, rest_of}
+use Rattle.mvd_tree.specs.Page.{is_after, keys_after}
 use Rattle.mvd_site.specs.Answer.{digests, spelled}
 use Rattle.mvd_site.specs.Held.{States}
 use Rattle.mvd_sync.specs.Buckets.{held_in}
@@ -23,7 +23,7 @@ use Rattle.mvd_sync.proofs.Sessions.{few_keys}
 use Rattle.mvd_sync.proofs.Taking.{any_member, each_member, held_member, sorted_distinct}
 
 abbrev rest_at : States → List ℕ → KeyDigests
-rest_at a path = rest_of (digests a) path None
+rest_at a path = keys_after (digests a) path None
 
 abbrev keys_at : States → List ℕ → List (List ℕ)
 keys_at a path = map (λ e. e.0) (entries (rest_at a path))

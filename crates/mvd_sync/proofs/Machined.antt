@@ -8,9 +8,9 @@ use Rattle.mvd_dots.specs.declared.refusals.Refusal.{Refusal}
 use Rattle.mvd_dots.specs.declared.refusals.Refusal.TheVariants.{Memory}
 use Rattle.mvd_peer.specs.PushedStates.{Each}
 use Rattle.mvd_sync.specs.Answers.{ListingValue}
-use Rattle.mvd_sync.specs.Exchanges.{Adds, Done as DoneKey, Exchanging, IsHeldByEither}
+use Rattle.mvd_sync.specs.Exchanges.{CountsDone, Done as DoneKey, Exchanging, IsHeldByEither}
 use Rattle.mvd_sync.specs.Level.{GoesDown, IsDown, Level, along, down, next_nodes}
-use Rattle.mvd_sync.specs.Machines.{Asks, AsksFor, Begins, Carried, FromTurn, FromWalk, GoesAlone, HasNext, HasRoom, Hears, HearsAt, IsFit, IsFitting, IsQuiet, Machining, Settles, Stands, TakesShares, Went, both, counts, count_of, ends, equal, fills, goes as took, goes_on, hears, here, in_flight, is_same, last, none_found, of_local, of_other, of_peer, of_side, on, quiet, share_of, stage_after, stays, turns, waits}
+use Rattle.mvd_sync.specs.Machines.{StageAsks, AsksForNext, TurnBegins, CarriedOn, FromTurn, FromWalk, GoesAlone, HasNext, HasRoomLeft, StageHears, HearsAt, IsFit, IsFitting, IsQuiet, Machining, SettlesFound, StageStands, TakesShares, StageWent, both, counts, wanted_count, ends, equal, fills, goes as took, goes_on, hears, here, in_flight, is_same, last, none_found, of_local, of_other, of_peer, of_side, on, quiet, share_of, stage_after, stays, turns, waits}
 use Rattle.mvd_sync.specs.Meetings.{ArePlans, done_of, held_keys, noted, rest_if, taken_from}
 use Rattle.mvd_sync.specs.OneTurn.{untold}
 use Rattle.mvd_sync.specs.Walk.{told_all}
@@ -45,10 +45,10 @@ pub noted_long : (side : Side) (ms : List Meeting) (told : List (Result (Unit {0
 noted_long side [] told = refl
 noted_long side (m ∷ ms) told = ap suc (noted_long side ms (rest_if m.asked told))
 
-counts_room : (ds : List DoneKey) (old new : Exchanging) → Adds ds old new → new.keys + new.refused ≡ old.keys + old.refused + length ds
+counts_room : (ds : List DoneKey) (old new : Exchanging) → CountsDone ds old new → new.keys + new.refused ≡ old.keys + old.refused + length ds
 counts_room ds old new adds = let n = all_count ds in omega (arith, n, adds.keys, adds.refused)
 
-settles_room : (walk : Walking) (found : Option Entry) (old new : Exchanging) (stage : Stage) → Settles walk found old new stage → new.keys + new.refused + in_flight stage ≡ old.keys + old.refused
+settles_room : (walk : Walking) (found : Option Entry) (old new : Exchanging) (stage : Stage) → SettlesFound walk found old new stage → new.keys + new.refused + in_flight stage ≡ old.keys + old.refused
 settles_room walk found old new stage (none_found none same is) =
     let k = ap (λ (w : Exchanging). w.keys) same in
     let r = ap (λ (w : Exchanging). w.refused) same in
@@ -70,7 +70,7 @@ settles_room walk found old new stage (fills e entries some differs list long sa
     let f = ap in_flight is in
     omega (arith, k, r, f)
 
-begins_room : (walk : Walking) (side : Side) (ms : List Meeting) (stage : Stage) → Begins walk side ms stage → in_flight stage ≡ length ms
+begins_room : (walk : Walking) (side : Side) (ms : List Meeting) (stage : Stage) → TurnBegins walk side ms stage → in_flight stage ≡ length ms
 begins_room walk side ms stage b = ap in_flight b.is ∙ ap length b.begun.keys ∙ length-map ms (taken_from side)
 
 pub alone_room : (work : Exchanging) (stage : Stage) (work' : Exchanging) (stage' : Stage) → GoesAlone work stage work' stage' → work'.keys + work'.refused + in_flight stage' ≤ work.keys + work.refused + in_flight stage
@@ -121,7 +121,7 @@ size_at (Carries walk turn count) = 1 + size_of walk + size_of_turn turn.side
 size_at Done = 0
 size_at (Failed fault) = 0
 
-settles_small : (walk : Walking) (found : Option Entry) (old new : Exchanging) (stage : Stage) → Settles walk found old new stage → size_at stage ≤ 1 + size_of walk
+settles_small : (walk : Walking) (found : Option Entry) (old new : Exchanging) (stage : Stage) → SettlesFound walk found old new stage → size_at stage ≤ 1 + size_of walk
 settles_small walk found old new stage (none_found none same is) = let n = ap size_at is in omega (arith, n)
 settles_small walk found old new stage (equal e some differs same is) = let n = ap size_at is in omega (arith, n)
 settles_small walk found old new stage (waits e some differs same low is) = let n = ap size_at is in omega (arith, n)
@@ -191,26 +191,26 @@ same_waits old new same w = subst (λ (es : List Entry). (length es < 1000) × E
 none_waits : (work : Exchanging) → work.waiting ≡ [] → Waits work
 none_waits work none = subst (λ (es : List Entry). (length es < 1000) × Each IsHeldByEither es) (sym none) (omega arith, tt)
 
-settles_fit : (walk : Walking) (found : Option Entry) (old new : Exchanging) (stage : Stage) → Settles walk found old new stage → Waits old → IsHeld found → IsHeld walk.entry → Waits new × Stands stage
-settles_fit walk found old new stage (none_found none same is) w f held = (same_waits old new (ap (λ (w : Exchanging). w.waiting) same) w, subst Stands (sym is) held)
-settles_fit walk found old new stage (equal e some differs same is) w f held = (same_waits old new (ap (λ (w : Exchanging). w.waiting) same) w, subst Stands (sym is) held)
+settles_fit : (walk : Walking) (found : Option Entry) (old new : Exchanging) (stage : Stage) → SettlesFound walk found old new stage → Waits old → IsHeld found → IsHeld walk.entry → Waits new × StageStands stage
+settles_fit walk found old new stage (none_found none same is) w f held = (same_waits old new (ap (λ (w : Exchanging). w.waiting) same) w, subst StageStands (sym is) held)
+settles_fit walk found old new stage (equal e some differs same is) w f held = (same_waits old new (ap (λ (w : Exchanging). w.waiting) same) w, subst StageStands (sym is) held)
 settles_fit walk found old new stage (waits e some differs same low is) w f held = (
   (low, subst (Each IsHeldByEither) (sym (ap (λ (w : Exchanging). w.waiting) same)) (Each-append IsHeldByEither old.waiting (e ∷ []) w.1 (subst IsHeld some f, tt))),
-  subst Stands (sym is) held,
+  subst StageStands (sym is) held,
 )
 settles_fit walk found old new stage (fills e entries some differs list long same is) w f held =
     let n = ap length list in
     let m = length-append old.waiting (e ∷ []) in
     let l = w.0 in (
       none_waits new (ap (λ (w : Exchanging). w.waiting) same),
-      subst Stands (sym is) (held, omega (arith, n, m, l), subst (Each IsHeldByEither) (sym list) (Each-append IsHeldByEither old.waiting (e ∷ []) w.1 (subst IsHeld some f, tt))),
+      subst StageStands (sym is) (held, omega (arith, n, m, l), subst (Each IsHeldByEither) (sym list) (Each-append IsHeldByEither old.waiting (e ∷ []) w.1 (subst IsHeld some f, tt))),
     )
 
-begins_stands : (walk : Walking) (side : Side) (ms : List Meeting) (stage : Stage) → Begins walk side ms stage → IsHeld walk.entry → Stands stage
-begins_stands walk side ms stage b held = subst Stands (sym b.is) (held, b.window, let n = ap length b.begun.fresh in omega (arith, n))
+begins_stands : (walk : Walking) (side : Side) (ms : List Meeting) (stage : Stage) → TurnBegins walk side ms stage → IsHeld walk.entry → StageStands stage
+begins_stands walk side ms stage b held = subst StageStands (sym b.is) (held, b.window, let n = ap length b.begun.fresh in omega (arith, n))
 
-alone_stands : (work : Exchanging) (stage : Stage) (work' : Exchanging) (stage' : Stage) → GoesAlone work stage work' stage' → Waits work → Stands stage → Waits work' × Stands stage'
-alone_stands work (Descends level) work' stage' g w s = (same_waits work work' (ap (λ (w : Exchanging). w.waiting) g.0) w, subst Stands (sym g.1) tt)
+alone_stands : (work : Exchanging) (stage : Stage) (work' : Exchanging) (stage' : Stage) → GoesAlone work stage work' stage' → Waits work → StageStands stage → Waits work' × StageStands stage'
+alone_stands work (Descends level) work' stage' g w s = (same_waits work work' (ap (λ (w : Exchanging). w.waiting) g.0) w, subst StageStands (sym g.1) tt)
 alone_stands work (Walks walk) work' stage' (goes_on walk' found g settles) w s =
     let held = goes_held walk found walk' g s in
     settles_fit walk' found work work' stage' settles w held.0 held.1
@@ -218,14 +218,14 @@ alone_stands work (Walks walk) work' stage' (last entries walked more list same 
     let n = ap length list in
     let l = w.0 in (
       none_waits work' (ap (λ (w : Exchanging). w.waiting) same),
-      subst Stands (sym is) (s, omega (arith, n, l), subst (Each IsHeldByEither) (sym list) w.1),
+      subst StageStands (sym is) (s, omega (arith, n, l), subst (Each IsHeldByEither) (sym list) w.1),
     )
-alone_stands work (Walks walk) work' stage' (ends walked none same is) w s = (none_waits work' (ap (λ (w : Exchanging). w.waiting) same), subst Stands (sym is) tt)
+alone_stands work (Walks walk) work' stage' (ends walked none same is) w s = (none_waits work' (ap (λ (w : Exchanging). w.waiting) same), subst StageStands (sym is) tt)
 alone_stands work (Carries walk turn count) work' stage' (turns side same begins) w s = (
   same_waits work work' (ap (λ (w : Exchanging). w.waiting) same) w,
   begins_stands walk AtPeer (noted AtLocal turn.meetings.items turn.told.items) stage' begins s.0,
 )
-alone_stands work (Carries walk turn count) work' stage' (counts side adds is) w s = (same_waits work work' adds.waiting w, subst Stands (sym is) s.0)
+alone_stands work (Carries walk turn count) work' stage' (counts side adds is) w s = (same_waits work work' adds.waiting w, subst StageStands (sym is) s.0)
 alone_stands work (Meets walk entries) work' stage' never w s = absurd never
 alone_stands work Done work' stage' never w s = absurd never
 alone_stands work (Failed fault) work' stage' never w s = absurd never
@@ -247,10 +247,10 @@ quiet_fits left work (Carries walk turn count) q f = f
 quiet_fits left work Done q f = f
 quiet_fits left work (Failed fault) q f = absurd q
 
-pub quiet_room : (left : Questions) (work : Exchanging) (stage : Stage) → IsQuiet stage → IsFit left work stage → HasRoom work stage
+pub quiet_room : (left : Questions) (work : Exchanging) (stage : Stage) → IsQuiet stage → IsFit left work stage → HasRoomLeft work stage
 quiet_room left work stage q f = let room = (quiet_fits left work stage q f).room in omega (arith, room)
 
-pub went_fit : (left : Questions) (work : Exchanging) (stage : Stage) {work' : Exchanging} {stage' : Stage} → Went work stage work' stage' → IsFit left work stage → IsFit left work' stage'
+pub went_fit : (left : Questions) (work : Exchanging) (stage : Stage) {work' : Exchanging} {stage' : Stage} → StageWent work stage work' stage' → IsFit left work stage → IsFit left work' stage'
 went_fit left work stage (here work' stage' same is) fit = subst (λ w. IsFit left w stage') (sym same) (subst (λ s. IsFit left work s) (sym is) fit)
 went_fit left work stage (on mid work' stage1 stage' went q g) fit =
     let f = quiet_fits left mid stage1 q (went_fit left work stage went fit) in
@@ -267,15 +267,15 @@ Each-drop P (suc n) [] h = tt
 Each-drop P (suc n) (x ∷ xs) h = Each-drop P n xs h.1
 
 -- a level of which both sides told stays in form
-goes_down_fit : (level : Level) (mine theirs : List Node) (after : Level) → GoesDown level mine theirs after → Stands (Descends level) → Stands (Descends after)
+goes_down_fit : (level : Level) (mine theirs : List Node) (after : Level) → GoesDown level mine theirs after → StageStands (Descends level) → StageStands (Descends after)
 goes_down_fit level mine theirs after (along more is) s =
     let deep = Each-append (λ path. length path ≡ level.depth + 1) level.below (told_all (next_nodes level) mine theirs) s.1
     (long_told_all level.depth (next_nodes level) mine theirs (Each-take (λ path. length path ≡ level.depth) 64 level.rest s.0)) in
-    subst (λ (l : Level). Stands (Descends l)) (sym is) (Each-drop (λ path. length path ≡ level.depth) 64 level.rest s.0, deep)
+    subst (λ (l : Level). StageStands (Descends l)) (sym is) (Each-drop (λ path. length path ≡ level.depth) 64 level.rest s.0, deep)
 goes_down_fit level mine theirs after (down none is) s =
     let deep = Each-append (λ path. length path ≡ level.depth + 1) level.below (told_all (next_nodes level) mine theirs) s.1
     (long_told_all level.depth (next_nodes level) mine theirs (Each-take (λ path. length path ≡ level.depth) 64 level.rest s.0)) in
-    subst (λ (l : Level). Stands (Descends l)) (sym is) (deep, tt)
+    subst (λ (l : Level). StageStands (Descends l)) (sym is) (deep, tt)
 
 stays_same : (stage stage' : Stage) (mine theirs : Result (Unit {0}) Refusal) → Ok stage' ≡ stays stage mine theirs → stage' ≡ stage
 stays_same stage stage' (Err refusal) theirs is = absurd (cc)
@@ -287,7 +287,7 @@ own_count : (side : Side) (count : ℕ) → cond (is_same side side) count 0 ≡
 own_count AtLocal count = refl
 own_count AtPeer count = refl
 
-share_wanted : (side : Side) (stage : Stage) (left left' : Questions) (shares : Shares) → TakesShares stage left left' shares → (share_of side shares).wanted ≡ count_of side stage
+share_wanted : (side : Side) (stage : Stage) (left left' : Questions) (shares : Shares) → TakesShares stage left left' shares → (share_of side shares).wanted ≡ wanted_count side stage
 share_wanted AtLocal stage left left' shares takes = takes.wanted.0
 share_wanted AtPeer stage left left' shares takes = takes.wanted.1
 
@@ -312,7 +312,7 @@ heard_fit left work (Descends level) answers left' work' stage' shares fit takes
       let f = ap in_flight g.2 in
       let room = fit.room in
       let w = same_waits work work' (ap (λ (w : Exchanging). w.waiting) h.0) (fit.short, fit.held) in
-      record { room = omega (arith, a, b, k, r, f, room); short = w.0; held = w.1; stands = subst Stands (sym g.2) (goes_down_fit level mine.items theirs.items g.0 g.1 fit.stands) }
+      record { room = omega (arith, a, b, k, r, f, room); short = w.0; held = w.1; stands = subst StageStands (sym g.2) (goes_down_fit level mine.items theirs.items g.0 g.1 fit.stands) }
   | of_local refusal why is ↦ absurd (cc)
   | of_peer mine refusal read why is ↦ absurd (cc)
 ]
@@ -370,7 +370,7 @@ heard_fit left work (Carries walk turn count) answers left' work' stage' shares 
         room = omega (arith, a, b, k, r, f, m, room);
         short = w.0;
         held = w.1;
-        stands = subst Stands (sym same) (fit.stands.0, pushed.window, omega (arith, own.0, own.1, n, l, c, p, low, d, fits));
+        stands = subst StageStands (sym same) (fit.stands.0, pushed.window, omega (arith, own.0, own.1, n, l, c, p, low, d, fits));
       }
   | of_other refusal why is ↦ absurd (cc)
   | of_side refusal why is ↦ absurd (cc)
@@ -378,7 +378,7 @@ heard_fit left work (Carries walk turn count) answers left' work' stage' shares 
 heard_fit left work Done answers left' work' stage' shares fit takes h = absurd h
 heard_fit left work (Failed fault) answers left' work' stage' shares fit takes h = absurd h
 
-asks_fits : (left : Questions) (work : Exchanging) (stage : Stage) → Asks stage → IsFit left work stage → IsFitting left work stage
+asks_fits : (left : Questions) (work : Exchanging) (stage : Stage) → StageAsks stage → IsFit left work stage → IsFitting left work stage
 asks_fits left work (Descends level) q f = f
 asks_fits left work (Walks walk) q f = f
 asks_fits left work (Meets walk entries) q f = f
@@ -386,11 +386,11 @@ asks_fits left work (Carries walk turn count) q f = f
 asks_fits left work Done q f = f
 asks_fits left work (Failed fault) q f = absurd q
 
-pub asks_stands : (left : Questions) (work : Exchanging) (stage : Stage) → Asks stage → IsFit left work stage → Stands stage
+pub asks_stands : (left : Questions) (work : Exchanging) (stage : Stage) → StageAsks stage → IsFit left work stage → StageStands stage
 asks_stands left work stage q f = (asks_fits left work stage q f).stands
 
 pub hears_fit : (left : Questions) (work : Exchanging) (stage : Stage) (answers : Answers) (left' : Questions) (work' : Exchanging) (result : Result Stage SyncFault)
-    → Hears left work stage answers left' work' result → IsFit left work stage → IsFit left' work' (stage_after result)
+    → StageHears left work stage answers left' work' result → IsFit left work stage → IsFit left' work' (stage_after result)
 hears_fit left work stage answers left' work' (Err fault) h fit = tt
 hears_fit left work stage answers left' work' (Ok stage') (quiet still same same' is) fit =
     subst (λ l. IsFit l work' stage') (sym same) (subst (λ w. IsFit left w stage') (sym same') (subst (λ s. IsFit left work s) (sym (stays_same stage stage' _ _ is)) fit))
@@ -412,7 +412,7 @@ not_so true P is = (λ never. absurd (cc), λ no. absurd (no (is.0 refl)))
 not_so false P is = (λ _ p. (let h = is.1 p in absurd (cc)), λ _. refl)
 
 -- what does not go on without a question asks one, unless it is done or has failed
-pub asks_of : (stage : Stage) → (IsQuiet stage → ⊥) → stage ≢ Done → ((fault : SyncFault) → stage ≢ Failed fault) → Asks stage
+pub asks_of : (stage : Stage) → (IsQuiet stage → ⊥) → stage ≢ Done → ((fault : SyncFault) → stage ≢ Failed fault) → StageAsks stage
 asks_of (Descends level) loud done failed = loud
 asks_of (Walks walk) loud done failed = loud
 asks_of (Meets walk entries) loud done failed = tt
@@ -425,7 +425,7 @@ asks_of (Failed fault) loud done failed = absurd (failed fault refl)
 pub asks_high : (level : Level) → (IsDown level → ⊥) → level.depth < 3
 asks_high level loud = elim (cases_lt level.depth 3) [ inl less ↦ less | inr more ↦ absurd (loud (inl more)) ]
 
-pub asks_short : (level : Level) → (IsDown level → ⊥) → Stands (Descends level) → Each (λ path. length path < 3) (next_nodes level)
+pub asks_short : (level : Level) → (IsDown level → ⊥) → StageStands (Descends level) → Each (λ path. length path < 3) (next_nodes level)
 asks_short level loud s =
     let high = asks_high level loud in
     Each-weaker (λ path. length path ≡ level.depth) (λ path. length path < 3) (λ path e. omega (arith, e, high)) (next_nodes level) (Each-take (λ path. length path ≡ level.depth) 64 level.rest s.0)
@@ -447,25 +447,25 @@ told_found walk mine theirs found walk' held told = (told_held walk mine theirs 
 
 -- what a machine took, as its value tells it
 pub took_told : (inside at : Machining) (stage : Stage) (answers : Answers) (left' : Questions) (work' : Exchanging) (result r : Result Stage SyncFault)
-    → inside ≡ at → stage ≡ inside.stage → result ≡ r → Hears inside.left inside.work stage answers left' work' result → Hears at.left at.work at.stage answers left' work' r
+    → inside ≡ at → stage ≡ inside.stage → result ≡ r → StageHears inside.left inside.work stage answers left' work' result → StageHears at.left at.work at.stage answers left' work' r
 took_told inside at stage answers left' work' result r view same is h =
-    subst (λ (m : Machining). Hears m.left m.work m.stage answers left' work' r) view
-    (subst (λ s. Hears inside.left inside.work s answers left' work' r) same (subst (λ x. Hears inside.left inside.work stage answers left' work' x) is h))
+    subst (λ (m : Machining). StageHears m.left m.work m.stage answers left' work' r) view
+    (subst (λ s. StageHears inside.left inside.work s answers left' work' r) same (subst (λ x. StageHears inside.left inside.work stage answers left' work' x) is h))
 
 pub took_fit : (left : Questions) (work : Exchanging) (first stage after : Stage) (answers : Answers) (left' : Questions) (work' : Exchanging) (result : Result Stage SyncFault)
-    → stage ≡ first → result ≡ Ok after → IsFit left work first → Hears left work stage answers left' work' result → IsFit left' work' after
+    → stage ≡ first → result ≡ Ok after → IsFit left work first → StageHears left work stage answers left' work' result → IsFit left' work' after
 took_fit left work first stage after answers left' work' result same is fit h =
     subst (λ r. IsFit left' work' (stage_after r)) is (hears_fit left work stage answers left' work' result h (subst (λ s. IsFit left work s) (sym same) fit))
 
 -- ---- a machine goes on
 
-settles_never : (walk : Walking) (found : Option Entry) (old new : Exchanging) (stage : Stage) (fault : SyncFault) → Settles walk found old new stage → stage ≡ Failed fault → ⊥
+settles_never : (walk : Walking) (found : Option Entry) (old new : Exchanging) (stage : Stage) (fault : SyncFault) → SettlesFound walk found old new stage → stage ≡ Failed fault → ⊥
 settles_never walk found old new stage fault (none_found none same is) failed = absurd (cc)
 settles_never walk found old new stage fault (equal e some differs same is) failed = absurd (cc)
 settles_never walk found old new stage fault (waits e some differs same low is) failed = absurd (cc)
 settles_never walk found old new stage fault (fills e entries some differs list long same is) failed = absurd (cc)
 
-begins_never : (walk : Walking) (side : Side) (ms : List Meeting) (stage : Stage) (fault : SyncFault) → Begins walk side ms stage → stage ≡ Failed fault → ⊥
+begins_never : (walk : Walking) (side : Side) (ms : List Meeting) (stage : Stage) (fault : SyncFault) → TurnBegins walk side ms stage → stage ≡ Failed fault → ⊥
 begins_never walk side ms stage fault b failed = let is = b.is in absurd (cc)
 
 alone_never : (work : Exchanging) (stage : Stage) (work' : Exchanging) (stage' : Stage) (fault : SyncFault) → GoesAlone work stage work' stage' → stage' ≡ Failed fault → ⊥
@@ -480,19 +480,19 @@ alone_never work Done work' stage' fault never failed = absurd never
 alone_never work (Failed f) work' stage' fault never failed = absurd never
 
 -- a machine has failed only by an answer
-failed_before : (work : Exchanging) (stage : Stage) {work' : Exchanging} {stage' : Stage} (fault : SyncFault) → Went work stage work' stage' → stage' ≡ Failed fault → stage ≡ Failed fault
+failed_before : (work : Exchanging) (stage : Stage) {work' : Exchanging} {stage' : Stage} (fault : SyncFault) → StageWent work stage work' stage' → stage' ≡ Failed fault → stage ≡ Failed fault
 failed_before work stage fault (here work' stage' same is) failed = sym is ∙ failed
 failed_before work stage fault (on mid work' stage1 stage' went q g) failed = absurd (alone_never mid stage1 work' stage' fault g failed)
 
-pub went_view : (inside at : Machining) (stage : Stage) (work' : Exchanging) (stage' : Stage) → inside ≡ at → stage ≡ inside.stage → Went inside.work stage work' stage' → Went at.work at.stage work' stage'
+pub went_view : (inside at : Machining) (stage : Stage) (work' : Exchanging) (stage' : Stage) → inside ≡ at → stage ≡ inside.stage → StageWent inside.work stage work' stage' → StageWent at.work at.stage work' stage'
 went_view inside at stage work' stage' view same went =
-    subst (λ (m : Machining). Went m.work m.stage work' stage') view (subst (λ s. Went inside.work s work' stage') same went)
+    subst (λ (m : Machining). StageWent m.work m.stage work' stage') view (subst (λ s. StageWent inside.work s work' stage') same went)
 
-pub next_of : (old now : Machining) (result : Result (Option Step) SyncFault) → now.left ≡ old.left → Went old.work old.stage now.work now.stage → (IsQuiet now.stage → ⊥) → IfOk result (AsksFor now) → IfOk result (HasNext old now)
+pub next_of : (old now : Machining) (result : Result (Option Step) SyncFault) → now.left ≡ old.left → StageWent old.work old.stage now.work now.stage → (IsQuiet now.stage → ⊥) → IfOk result (AsksForNext now) → IfOk result (HasNext old now)
 next_of old now (Ok step) left went loud asks = record { left = left; went = went; loud = loud; asks = asks }
 next_of old now (Err fault) left went loud asks = tt
 
-pub ends_of : (old now : Machining) (result : Result (Option Step) SyncFault) → Went old.work old.stage now.work now.stage
+pub ends_of : (old now : Machining) (result : Result (Option Step) SyncFault) → StageWent old.work old.stage now.work now.stage
     → IfErr result (λ fault. (fault ≡ Local Memory) ⊎ (now.stage ≡ Failed fault)) → IfErr result (λ fault. (fault ≡ Local Memory) ⊎ (old.stage ≡ Failed fault))
 ends_of old now (Ok step) went why = tt
 ends_of old now (Err fault) went (inl memory) = inl memory
@@ -508,6 +508,6 @@ pub was_true : (b : Bool) → not b ≡ false → b ≡ true
 was_true true is = refl
 was_true false is = absurd (cc)
 
-pub walk_settles : (work : Exchanging) (walk walk' : Walking) (found : Option Entry) (work' : Exchanging) (result : Result Stage Refusal) → GoesTo walk found walk' → IfOk result (Settles walk' found work work') → IfOk result (FromWalk work walk work')
+pub walk_settles : (work : Exchanging) (walk walk' : Walking) (found : Option Entry) (work' : Exchanging) (result : Result Stage Refusal) → GoesTo walk found walk' → IfOk result (SettlesFound walk' found work work') → IfOk result (FromWalk work walk work')
 walk_settles work walk walk' found work' (Ok stage) g settles = goes_on walk' found g settles
 walk_settles work walk walk' found work' (Err refusal) g settles = tt

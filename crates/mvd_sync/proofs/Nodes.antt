@@ -19,7 +19,7 @@ use Rattle.mvd_tree.proofs.Lists.{begins-more}
 use Rattle.mvd_tree.proofs.Under.{digest_above-same}
 use Rattle.mvd_sync.specs.Session.{AreDistinct, is_member}
 use Rattle.mvd_peer.specs.PushedStates.{Each}
-use Rattle.mvd_sync.specs.Nodes.{children_of, differing_children, differs_at, has_below, told_children}
+use Rattle.mvd_sync.specs.Nodes.{child_paths, differing_children, differs_at, has_below, told_children}
 use Rattle.mvd_keys.specs.Key.{key_cmp}
 use Rattle.mvd_tree.specs.Page.{children_digests}
 use Rattle.mvd_tree.specs.States.{digests_of, key_digest}
@@ -129,7 +129,7 @@ pub record IsChildOf (path child : List ℕ) : Type 0 where
   pub longer : length child ≡ length path + 1
   pub begins : IsTrue (begins path child)
 
-are_children : (path : List ℕ) → Each (IsChildOf path) (children_of path)
+are_children : (path : List ℕ) → Each (IsChildOf path) (child_paths path)
 are_children path = Each-map (IsChildOf path) (λ d. path ++ d ∷ []) digits (Each-all (λ d. IsChildOf path (path ++ d ∷ [])) (λ d. record { longer = length-append path (d ∷ []); begins = begins-longer path d }) digits)
 
 last_of : (path : List ℕ) (d : ℕ) → get_or (path ++ d ∷ []) (length path) 0 ≡ d
@@ -160,7 +160,7 @@ rising_distinct : (path : List ℕ) (n : ℕ) (ds : List ℕ) → Rise n ds → 
 rising_distinct path n [] r = tt
 rising_distinct path n (d ∷ ds) r = (other_children path d (suc d) ds (omega arith) r.1, rising_distinct path (suc d) ds r.1)
 
-pub distinct_children : (path : List ℕ) → AreDistinct (children_of path)
+pub distinct_children : (path : List ℕ) → AreDistinct (child_paths path)
 distinct_children path = rising_distinct path 0 digits sixteen_rise
 
 -- ---- the children of several nodes
@@ -190,18 +190,18 @@ IsBelowOne paths k = (path : List ℕ) × (is_member paths path ≡ true) × IsC
 member_itself : (k : List ℕ) → eq_by_cmp (slice_cmp nat_cmp) k k ≡ true
 member_itself k = (Equal-is (slice_cmp nat_cmp k k)).1 (tied_itself nat_list_cmp_total k)
 
-below_one : (paths : List (List ℕ)) → Each (IsBelowOne paths) (flat_map children_of paths)
+below_one : (paths : List (List ℕ)) → Each (IsBelowOne paths) (flat_map child_paths paths)
 below_one [] = tt
 below_one (p ∷ ps) =
-    Each-append (IsBelowOne (p ∷ ps)) (children_of p) (flat_map children_of ps)
-    (Each-weaker (IsChildOf p) (IsBelowOne (p ∷ ps)) (λ k c. (p, or_first (eq_by_cmp (slice_cmp nat_cmp) p p) (is_member ps p) (member_itself p), c)) (children_of p) (are_children p))
-    (Each-weaker (IsBelowOne ps) (IsBelowOne (p ∷ ps)) (λ k c. (c.0, or_second (eq_by_cmp (slice_cmp nat_cmp) c.0 p) (is_member ps c.0) c.1, c.2)) (flat_map children_of ps) (below_one ps))
+    Each-append (IsBelowOne (p ∷ ps)) (child_paths p) (flat_map child_paths ps)
+    (Each-weaker (IsChildOf p) (IsBelowOne (p ∷ ps)) (λ k c. (p, or_first (eq_by_cmp (slice_cmp nat_cmp) p p) (is_member ps p) (member_itself p), c)) (child_paths p) (are_children p))
+    (Each-weaker (IsBelowOne ps) (IsBelowOne (p ∷ ps)) (λ k c. (c.0, or_second (eq_by_cmp (slice_cmp nat_cmp) c.0 p) (is_member ps c.0) c.1, c.2)) (flat_map child_paths ps) (below_one ps))
 
 -- all of one length
 abbrev pub AreLong : ℕ → List (List ℕ) → Type 0
 AreLong n paths = Each (λ path. length path ≡ n) paths
 
-pub distinct-below : (n : ℕ) (paths : List (List ℕ)) → AreLong n paths → AreDistinct paths → AreDistinct (flat_map children_of paths)
+pub distinct-below : (n : ℕ) (paths : List (List ℕ)) → AreLong n paths → AreDistinct paths → AreDistinct (flat_map child_paths paths)
 distinct-below n [] l d = tt
 distinct-below n (p ∷ ps) l d =
     distinct-append (IsChildOf p) (IsBelowOne ps)
@@ -210,12 +210,12 @@ distinct-below n (p ∷ ps) l d =
     let same : p ≡ e.0 = begins-one p e.0 k (l.0 ∙ sym long) c.begins e.2.begins in
     let none : is_member ps p ≡ false = d.0 in
     absurd (true≢false (sym e.1 ∙ ap (is_member ps) (sym same) ∙ none)))
-    (children_of p) (flat_map children_of ps) (are_children p) (below_one ps) (distinct_children p) (distinct-below n ps l.1 d.1)
+    (child_paths p) (flat_map child_paths ps) (are_children p) (below_one ps) (distinct_children p) (distinct-below n ps l.1 d.1)
 
-pub long-below : (n : ℕ) (paths : List (List ℕ)) → AreLong n paths → AreLong (n + 1) (flat_map children_of paths)
+pub long-below : (n : ℕ) (paths : List (List ℕ)) → AreLong n paths → AreLong (n + 1) (flat_map child_paths paths)
 long-below n paths l =
-    Each-flat_map (λ k. length k ≡ n + 1) children_of paths
-    (Each-weaker (λ path. length path ≡ n) (λ path. Each (λ k. length k ≡ n + 1) (children_of path)) (λ path e. Each-weaker (IsChildOf path) (λ k. length k ≡ n + 1) (λ k c. c.longer ∙ ap (λ m. m + 1) e) (children_of path) (are_children path)) paths l)
+    Each-flat_map (λ k. length k ≡ n + 1) child_paths paths
+    (Each-weaker (λ path. length path ≡ n) (λ path. Each (λ k. length k ≡ n + 1) (child_paths path)) (λ path e. Each-weaker (IsChildOf path) (λ k. length k ≡ n + 1) (λ k c. c.longer ∙ ap (λ m. m + 1) e) (child_paths path) (are_children path)) paths l)
 
 -- ---- as many nodes as keys
 
@@ -302,10 +302,10 @@ differing_has_key spelled a b ks all path h =
 
 -- ---- a key whose nodes differ is below the children that differ
 
-any-children : (n : ℕ) (paths : List (List ℕ)) (k : List ℕ) → n < 3 → AreLong n paths → has_below paths k ≡ true → has_below (flat_map children_of paths) k ≡ true
+any-children : (n : ℕ) (paths : List (List ℕ)) (k : List ℕ) → n < 3 → AreLong n paths → has_below paths k ≡ true → has_below (flat_map child_paths paths) k ≡ true
 any-children n [] k short l h = h
 any-children n (p ∷ ps) k short l h =
-    list_any-append (λ path. is_under path k) (children_of p) (flat_map children_of ps)
+    list_any-append (λ path. is_under path k) (child_paths p) (flat_map child_paths ps)
     ∙ elim (or_cases (is_under p k) (has_below ps k) h) [
       | inl u ↦
           let d = get_or (path_of_key k) (length p) 0 in
@@ -314,10 +314,10 @@ any-children n (p ∷ ps) k short l h =
           let long = length-map digits (λ d. p ++ d ∷ []) in
           let three = place_length k in
           let more = begins-more p (path_of_key k) (omega (arith, three, short, l.0)) u in
-          let at : get_or (children_of p) d [] ≡ p ++ d ∷ [] = get_or-map (λ d. p ++ d ∷ []) digits d 0 [] (omega (arith, small, sixteen)) ∙ ap (λ d. p ++ d ∷ []) (digit_at d small) in
-          or_first (has_below (children_of p) k) (has_below (flat_map children_of ps) k)
-          (list_any_at (λ path. is_under path k) (children_of p) d [] (omega (arith, small, sixteen, long)) (ap (λ path. is_under path k) at ∙ more))
-      | inr r ↦ or_second (has_below (children_of p) k) (has_below (flat_map children_of ps) k) (any-children n ps k short l.1 r)
+          let at : get_or (child_paths p) d [] ≡ p ++ d ∷ [] = get_or-map (λ d. p ++ d ∷ []) digits d 0 [] (omega (arith, small, sixteen)) ∙ ap (λ d. p ++ d ∷ []) (digit_at d small) in
+          or_first (has_below (child_paths p) k) (has_below (flat_map child_paths ps) k)
+          (list_any_at (λ path. is_under path k) (child_paths p) d [] (omega (arith, small, sixteen, long)) (ap (λ path. is_under path k) at ∙ more))
+      | inr r ↦ or_second (has_below (child_paths p) k) (has_below (flat_map child_paths ps) k) (any-children n ps k short l.1 r)
     ]
 
 pub whole_below : (a b : KeyDigests) (n : ℕ) (paths : List (List ℕ)) (k : List ℕ) → n < 3 → AreLong n paths → ((path : List ℕ) → length path ≤ 3 → IsTrue (is_under path k) → differs_at a b path ≡ true) → has_below paths k ≡ true → has_below (differing_children a b paths) k ≡ true
@@ -327,8 +327,8 @@ whole_below a b n paths k short l differ h =
     let first = any-filter U D paths (Each-weaker (λ path. length path ≡ n) (λ path. U path ≡ true → D path ≡ true) (λ path e u. differ path (omega (arith, e, short)) u) paths l) h in
     let kept = Each-filter (λ path. length path ≡ n) D paths l in
     let second = any-children n (filter D paths) k short kept first in
-    any-filter U D (flat_map children_of (filter D paths))
-    (Each-weaker (λ path. length path ≡ n + 1) (λ path. U path ≡ true → D path ≡ true) (λ path e u. differ path (omega (arith, e, short)) u) (flat_map children_of (filter D paths)) (long-below n (filter D paths) kept))
+    any-filter U D (flat_map child_paths (filter D paths))
+    (Each-weaker (λ path. length path ≡ n + 1) (λ path. U path ≡ true → D path ≡ true) (λ path e u. differ path (omega (arith, e, short)) u) (flat_map child_paths (filter D paths)) (long-below n (filter D paths) kept))
     second
 
 -- ---- what is told of nodes
@@ -336,9 +336,9 @@ whole_below a b n paths k short l differ h =
 pub differing_children-append : (a b : KeyDigests) (ps qs : List (List ℕ)) → differing_children a b (ps ++ qs) ≡ differing_children a b ps ++ differing_children a b qs
 differing_children-append a b ps qs =
     let D = differs_at a b in
-    ap (λ xs. filter D (flat_map children_of xs)) (filter-append D ps qs)
-    ∙ ap (filter D) (flat_map-append children_of (filter D ps) (filter D qs))
-    ∙ filter-append D (flat_map children_of (filter D ps)) (flat_map children_of (filter D qs))
+    ap (λ xs. filter D (flat_map child_paths xs)) (filter-append D ps qs)
+    ∙ ap (filter D) (flat_map-append child_paths (filter D ps) (filter D qs))
+    ∙ filter-append D (flat_map child_paths (filter D ps)) (flat_map child_paths (filter D qs))
 
 filter-map : {X Y : Type 0} (test : Y → Bool) (other : X → Bool) (f : X → Y) (xs : List X) → Each (λ x. test (f x) ≡ other x) xs → filter test (map f xs) ≡ map f (filter other xs)
 filter-map test other f [] e = refl
@@ -359,12 +359,12 @@ told-is a b path mine theirs own children own' children' =
     let f : ℕ → List ℕ = λ d. path ++ d ∷ [] in
     let g : ℕ → Bool = λ d. not (bytes_eq (get_or mine.1 d []) (get_or theirs.1 d [])) in
     let same : bytes_eq mine.0 theirs.0 ≡ bytes_eq (node_digest a path) (node_digest b path) = λ i. bytes_eq (own i) (own' i) in
-    let all : filter D (children_of path) ≡ map f (filter g digits) =
+    let all : filter D (child_paths path) ≡ map f (filter g digits) =
     filter-map D g f digits (Each-weaker (λ d. d < 16) (λ d. D (f d) ≡ g d) (λ d small. let p = child_digest a path d small mine.1 children in let q = child_digest b path d small theirs.1 children' in sym (λ i. not (bytes_eq (p i) (q i)))) digits small_digits) in
     ap (λ b. cond b [] (map f (filter g digits))) same
-    ∙ elim (bytes_eq (node_digest a path) (node_digest b path)) as (λ x. cond x [] (map f (filter g digits)) ≡ filter D (flat_map children_of (cond (not x) (path ∷ []) []))) [
+    ∙ elim (bytes_eq (node_digest a path) (node_digest b path)) as (λ x. cond x [] (map f (filter g digits)) ≡ filter D (flat_map child_paths (cond (not x) (path ∷ []) []))) [
       | true ↦ refl
-      | false ↦ sym (ap (filter D) (append-nil (children_of path)) ∙ all)
+      | false ↦ sym (ap (filter D) (append-nil (child_paths path)) ∙ all)
     ]
 
 -- the children told of the first digits

@@ -10,7 +10,7 @@ use Rattle.mvd_keys.proofs.Joins.{clashes_turned, join_commutes, join_empty_left
 use Rattle.mvd_site.specs.Answer.{is_too_large}
 use Rattle.mvd_site.specs.Held.{States, state_at}
 use Rattle.mvd_sync.specs.Exchanges.{IsNext, keys_next}
-use Rattle.mvd_sync.specs.Meetings.{ArePlans, Trades, clash, first_if, has, held_keys, is_held, meet, noted, or_empty, pair_of, refusal_of, rest_if, taken_from, wanted}
+use Rattle.mvd_sync.specs.Meetings.{ArePlans, Trades, clash, first_if, has, held_keys, is_held, meet, noted, or_empty, pushed_pair, noted_refusal, rest_if, taken_from, wanted}
 use Rattle.mvd_sync.specs.Olds.{HasUnseen}
 use Rattle.mvd_peer.specs.Windows.{ForEach}
 use Rattle.mvd_sync.specs.Questions.{IsOfKey}
@@ -119,9 +119,9 @@ pair_of_wanted : (key : List ℕ) (w : Option State) (ps : List (List ℕ × Sta
 pair_of_wanted key None ps = refl
 pair_of_wanted key (Some s) ps = refl
 
-pub pairs_same : (side : Side) (ms : List Meeting) → filter_map (pair_of side) ms ≡ pairs_of (asks_of side ms)
+pub pairs_same : (side : Side) (ms : List Meeting) → filter_map (pushed_pair side) ms ≡ pairs_of (asks_of side ms)
 pairs_same side [] = refl
-pairs_same side (m ∷ ms) = pair_of_wanted m.key (wanted side m) (filter_map (pair_of side) ms) ∙ ap (with_pair m.key (wanted side m)) (pairs_same side ms)
+pairs_same side (m ∷ ms) = pair_of_wanted m.key (wanted side m) (filter_map (pushed_pair side) ms) ∙ ap (with_pair m.key (wanted side m)) (pairs_same side ms)
 
 pub asked_keys : (side : Side) (ms : List Meeting) → ask_keys (asks_of side ms) ≡ map (λ (m : Meeting). m.key) ms
 asked_keys side [] = refl
@@ -169,7 +169,7 @@ module _ (most : ℕ) (a b x new : States) where
   Local_after m = Pulled most a b new m.key m.give m.refused
 
   abbrev Head : (m : Meeting) → Option State → List (Result (Unit {0}) Refusal) → Type 0
-  Head m w ts = Pulled most a b new m.key m.give (refusal_of AtLocal m.refused (first_if (is_some w) ts))
+  Head m w ts = Pulled most a b new m.key m.give (noted_refusal AtLocal m.refused (first_if (is_some w) ts))
 
   local_head : (m : Meeting) (w : Option State) (qs : List Ask) (ts : List (Result (Unit {0}) Refusal)) → get x m.key ≡ get a m.key → is_too_large (state_at b m.key) ≡ false → Each IsOfKey ts
       → Wants (state_at a m.key) (state_at b m.key) w m.give m.refused → EachTook (AreTooMany most a b) x new ((m.key, w) ∷ qs) ts → Head m w ts × EachTook (AreTooMany most a b) x new qs (rest_if (is_some w) ts) × Each IsOfKey (rest_if (is_some w) ts)
@@ -216,7 +216,7 @@ module _ (most_local most : ℕ) (number : Option ℕ) (a b a' y new : States) w
 
   peer_head : (key : List ℕ) (refused : Option (Side × Refusal)) (w : Option State) (qs : List Ask) (ts : List (Result (Unit {0}) Refusal)) → get a key ≢ get b key → get y key ≡ get b key → is_too_large (state_at a key) ≡ false → IsValid (state_at a key) → IsValid (state_at b key) → Each IsOfKey ts
       → Wants_peer most_local a b a' key w refused → EachTook (AreTooMany most a b) y new ((key, w) ∷ qs) ts
-      → CameToBy most_local most number a b a' new key (refusal_of AtPeer refused (first_if (is_some w) ts)) × EachTook (AreTooMany most a b) y new qs (rest_if (is_some w) ts) × Each IsOfKey (rest_if (is_some w) ts)
+      → CameToBy most_local most number a b a' new key (noted_refusal AtPeer refused (first_if (is_some w) ts)) × EachTook (AreTooMany most a b) y new qs (rest_if (is_some w) ts) × Each IsOfKey (rest_if (is_some w) ts)
   peer_head key refused None qs ts differ same short v u one (not_asked refusal e r still why) took_it =
       (came_at key (Some (AtLocal, refusal)) refused r (differ, still, took_it.0 ∙ same, cannot_locally most_local most number a b key refusal why), took_it.1, one)
   peer_head key refused None qs ts differ same short v u one (it_has e r h is j) took_it =

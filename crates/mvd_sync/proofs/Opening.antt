@@ -5,7 +5,7 @@ use Rattle.std.proofs.lemmas.List.{drop-drop, length-map, length-take}
 use Rattle.mvd_dots.specs.declared.refusals.Refusal.TheVariants.{BadBody}
 use Rattle.mvd_peer.specs.Sides.{two}
 use Rattle.mvd_sync.specs.Answers.{ListingValue, TakesLesser}
-use Rattle.mvd_sync.specs.Walking.{Closes, ComeAfter, EndsTelling, GoesTo, IsTold, PageQuestion, TakesNext, Walking, WantsPage, closes, ends, filled_both, first_page, fills, moves, of_mine, of_theirs, opened, opens, pages_next, tells, waits}
+use Rattle.mvd_sync.specs.Walking.{ClosesBucket, ComeAfter, EndsTelling, GoesTo, IsTold, PageQuestion, TakesNext, Walking, WantsPage, closes, ends, filled_both, first_page, fills, moves, of_mine, of_theirs, opened_buckets, opens, pages_next, tells, waits}
 use Rattle.mvd_sync.specs.declared.cursor.Entry.{Entry}
 use Rattle.mvd_sync.specs.declared.report.SyncFault.TheVariants.{Local, Peer}
 use Rattle.mvd_sync.specs.declared.walking.Bucket.{Bucket}
@@ -23,7 +23,7 @@ module _ (at : Walking) (rest : List (List ℕ)) (bucket : Option Bucket) (later
   no_entry : entry ≡ None
   no_entry = ap (λ (w : Walking). w.entry) view ∙ unasked
 
-  pub closes_to : (b : Bucket) (more : List Bucket) (found : Option Bucket) → later ≡ b ∷ more → found ≡ Some b → Closes at (record { rest = rest; bucket = found; later = more; entry = entry })
+  pub closes_to : (b : Bucket) (more : List Bucket) (found : Option Bucket) → later ≡ b ∷ more → found ≡ Some b → ClosesBucket at (record { rest = rest; bucket = found; later = more; entry = entry })
   closes_to b more found is same = moves b more (sym (ap (λ (w : Walking). w.later) view) ∙ is) (λ i. record { rest = ap (λ (w : Walking). w.rest) view i; bucket = same i; later = more; entry = no_entry i })
 
 -- ---- the buckets of a window
@@ -38,7 +38,7 @@ drop_window k n xs = sym (drop-drop (length (take n (drop k xs))) k xs) ∙ afte
     after_window (suc n) [] = refl
     after_window (suc n) (x ∷ xs) = after_window n xs
 
-pub some_opened : (asked : List PageQuestion) (mine theirs : List ListingValue) → asked ≢ [] → length mine ≡ length asked → length theirs ≡ length asked → opened asked mine theirs ≢ []
+pub some_opened : (asked : List PageQuestion) (mine theirs : List ListingValue) → asked ≢ [] → length mine ≡ length asked → length theirs ≡ length asked → opened_buckets asked mine theirs ≢ []
 some_opened [] mine theirs some m t none = some refl
 some_opened (q ∷ asked) [] theirs some m t none = absurd (omega (arith, m))
 some_opened (q ∷ asked) (x ∷ mine) [] some m t none = absurd (omega (arith, t))
@@ -48,14 +48,14 @@ some_asked : (rest : List (List ℕ)) → rest ≢ [] → map first_page (take 6
 some_asked [] some none = some refl
 some_asked (path ∷ rest) some none = absurd (cc)
 
-pub some_window : (at : Walking) (asked : List PageQuestion) (mine theirs : List ListingValue) → asked ≡ map first_page (take 64 at.rest) → at.rest ≢ [] → length mine ≡ length (take 64 at.rest) → length theirs ≡ length (take 64 at.rest) → opened asked mine theirs ≢ []
+pub some_window : (at : Walking) (asked : List PageQuestion) (mine theirs : List ListingValue) → asked ≡ map first_page (take 64 at.rest) → at.rest ≢ [] → length mine ≡ length (take 64 at.rest) → length theirs ≡ length (take 64 at.rest) → opened_buckets asked mine theirs ≢ []
 some_window at asked mine theirs is some m t =
     let n = ap length is ∙ length-map (take 64 at.rest) first_page in
     some_opened asked mine theirs (λ none. some_asked at.rest some (sym is ∙ none)) (m ∙ sym n) (t ∙ sym n)
 
 -- ---- the walk goes on
 
-pub closes_same : (at mid new : Walking) → mid.later ≡ at.later → mid.rest ≡ at.rest → Closes mid new → Closes at new
+pub closes_same : (at mid new : Walking) → mid.later ≡ at.later → mid.rest ≡ at.rest → ClosesBucket mid new → ClosesBucket at new
 closes_same at mid new later rest (moves b more is new_is) = moves b more (sym later ∙ is) (new_is ∙ (λ i. record { rest = rest i; bucket = Some b; later = more; entry = None }))
 closes_same at mid new later rest (ends none new_is) = ends (sym later ∙ none) (new_is ∙ (λ i. record { rest = rest i; bucket = None; later = []; entry = None }))
 
@@ -69,14 +69,14 @@ module _ (at : Walking) (rest : List (List ℕ)) (bucket : Option Bucket) (later
   pub goes_waits : (b' : Bucket) (e : Entry) → TakesNext b e b' → WantsPage b' → GoesTo at None (record { rest = rest; bucket = Some b'; later = later; entry = Some e })
   goes_waits b' e takes spent = waits b b' e here takes spent refl (ap (λ (w : Walking). record w { bucket = Some b'; entry = Some e }) view)
 
-  pub goes_closes : (b' : Bucket) (new : Walking) → (b.mine.0 ≡ []) × (b.theirs.0 ≡ []) → Closes (record { rest = rest; bucket = Some b'; later = later; entry = entry }) new → GoesTo at None new
+  pub goes_closes : (b' : Bucket) (new : Walking) → (b.mine.0 ≡ []) × (b.theirs.0 ≡ []) → ClosesBucket (record { rest = rest; bucket = Some b'; later = later; entry = entry }) new → GoesTo at None new
   goes_closes b' new none closed = closes b here none.0 none.1 refl (closes_same at (record { rest = rest; bucket = Some b'; later = later; entry = entry }) new (ap (λ (w : Walking). w.later) view) (ap (λ (w : Walking). w.rest) view) closed)
 
 -- ---- with what was told
 
 module _ (at : Walking) (begun : ℕ) (paths : List (List ℕ)) (later : List Bucket) (entry : Option Entry) (asked : List PageQuestion) (mine theirs : List ListingValue)
     (view : record { rest = drop begun paths; bucket = None; later = later; entry = entry } ≡ at) (none : entry ≡ None) (is : asked ≡ map first_page (take 64 (drop begun paths)))
-    (found : Option Bucket) (more : List Bucket) (all : opened asked mine theirs ≡ option_to_list found ++ more) (last : found ≡ None → opened asked mine theirs ≡ []) (some : opened asked mine theirs ≢ []) where
+    (found : Option Bucket) (more : List Bucket) (all : opened_buckets asked mine theirs ≡ option_to_list found ++ more) (last : found ≡ None → opened_buckets asked mine theirs ≡ []) (some : opened_buckets asked mine theirs ≢ []) where
   counted : length asked ≡ length (take 64 (drop begun paths))
   counted = ap length is ∙ length-map (take 64 (drop begun paths)) first_page
 
@@ -110,7 +110,7 @@ module _ (at : Walking) (begun : ℕ) (paths : List (List ℕ)) (later : List Bu
       let rest : drop begun paths ≡ at.rest = ap (λ (w : Walking). w.rest) view in
       let window : asked ≡ map first_page (take 64 at.rest) = is ∙ ap (λ r. map first_page (take 64 r)) rest in
       opens b more (sym (ap (λ (w : Walking). w.bucket) view))
-      (ap (λ qs. opened qs mine theirs) (sym window) ∙ all ∙ ap (λ (o : Option Bucket). option_to_list o ++ more) first.1)
+      (ap (λ qs. opened_buckets qs mine theirs) (sym window) ∙ all ∙ ap (λ (o : Option Bucket). option_to_list o ++ more) first.1)
       refl (λ i. record { rest = (still ∙ ap (drop 64) rest) i; bucket = first.1 i; later = more; entry = none i })
 
 module _ (at : Walking) (mine theirs : List ListingValue) (e : Entry) (waits : at.entry ≡ Some e) where

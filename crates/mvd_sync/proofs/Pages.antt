@@ -9,8 +9,8 @@ use Rattle.std.proofs.lemmas.Bool.Decides.{nat_tests}
 use Rattle.std.proofs.lemmas.List.{take-append-drop}
 use Rattle.mvd_tree.specs.HashTree.{KeyDigests}
 use Rattle.mvd_tree.proofs.Under.{keys_same}
-use Rattle.mvd_tree.specs.Page.{rest_of, page_of, is_more_after_page}
-use Rattle.mvd_sync.specs.Answers.{IsListing, IsPageOf, PageEntry, TakesLesser, of_first, of_second, of_both, order_of_first}
+use Rattle.mvd_tree.specs.Page.{keys_after, bucket_page, is_more_after_page}
+use Rattle.mvd_sync.specs.Answers.{IsListing, IsBucketPage, PageEntry, TakesLesser, of_first, of_second, of_both, order_of_first}
 use Rattle.mvd_peer.specs.Sides.{two}
 use Rattle.mvd_sync.specs.declared.cursor.Entry.{Entry}
 
@@ -20,18 +20,18 @@ pub no_entries : {A : Type 0} (xs : List A) → length xs ≡ 0 → xs ≡ []
 no_entries [] e = refl
 no_entries (x ∷ xs) e = absurd (omega arith)
 
-pub fresh_listing : (held : KeyDigests) (path : List ℕ) (after : Option (List ℕ)) (page : List PageEntry) (more : Bool) → page ≡ page_of held path after → more ≡ is_more_after_page held path after → IsListing held path after page more
+pub fresh_listing : (held : KeyDigests) (path : List ℕ) (after : Option (List ℕ)) (page : List PageEntry) (more : Bool) → page ≡ bucket_page held path after → more ≡ is_more_after_page held path after → IsListing held path after page more
 fresh_listing held path after page more p m = record {
-  later = drop 1000 (entries (rest_of held path after));
-  is = sym (take-append-drop 1000 (entries (rest_of held path after))) ∙ ap (λ xs. xs ++ drop 1000 (entries (rest_of held path after))) (sym p);
+  later = drop 1000 (entries (keys_after held path after));
+  is = sym (take-append-drop 1000 (entries (keys_after held path after))) ∙ ap (λ xs. xs ++ drop 1000 (entries (keys_after held path after))) (sym p);
   ended = λ e.
-      let n = length-drop 1000 (entries (rest_of held path after)) in
-      let few : nat_lt 1000 (length (entries (rest_of held path after))) ≡ false = sym m ∙ e in
-      let small : length (entries (rest_of held path after)) ≤ 1000 = grind (arith, nat_tests) in
+      let n = length-drop 1000 (entries (keys_after held path after)) in
+      let few : nat_lt 1000 (length (entries (keys_after held path after))) ≡ false = sym m ∙ e in
+      let small : length (entries (keys_after held path after)) ≤ 1000 = grind (arith, nat_tests) in
       no_entries _ (omega (arith, n, small));
 }
 
-pub listing_of_page : (held : KeyDigests) (path : List ℕ) (after : Option (List ℕ)) (page : List PageEntry) (more : Bool) → IsPageOf held path after page more → IsListing held path after page more
+pub listing_of_page : (held : KeyDigests) (path : List ℕ) (after : Option (List ℕ)) (page : List PageEntry) (more : Bool) → IsBucketPage held path after page more → IsListing held path after page more
 listing_of_page held path after page more h = fresh_listing held path after page more h.is h.goes_on
 
 -- ---- which key comes next

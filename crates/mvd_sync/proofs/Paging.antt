@@ -12,7 +12,7 @@ use Rattle.mvd_site.specs.Answer.{digests}
 use Rattle.mvd_tree.specs.HashTree.{KeyDigests}
 use Rattle.mvd_peer.specs.Sides.{SideOf, Sides, Two, two}
 use Rattle.mvd_peer.specs.Windows.{ForEach}
-use Rattle.mvd_sync.specs.Answers.{IsPageOf, ListingValue, PageEntry, Rises, StartsAfter, is_spent}
+use Rattle.mvd_sync.specs.Answers.{IsBucketPage, ListingValue, PageEntry, PageRises, StartsAfter, is_spent}
 use Rattle.mvd_sync.specs.Buckets.{IsSpent}
 use Rattle.mvd_sync.specs.Faults.{IsFaultOf, of_answer, of_memory}
 use Rattle.mvd_sync.specs.Questions.{ComesToEnd, Fills, Keeps, TellsPages, with_left}
@@ -46,12 +46,12 @@ is_less Less h = refl
 is_less Equal h = absurd (cc)
 is_less Greater h = absurd (cc)
 
-starts : (key : Key) (page : List PageEntry) → Rises (Some key) page → StartsAfter key page
+starts : (key : Key) (page : List PageEntry) → PageRises (Some key) page → StartsAfter key page
 starts key [] h = tt
 starts key (e ∷ page) h = is_less (key_cmp key e.0) h.0
 
 -- a faithful side tells a page that comes after the key
-pub told_after : (held : KeyDigests) (asked : Bool) (path : List ℕ) (key : Key) (pages : List ListingValue) → ForEach {Q = PageQuestion} (λ q page. IsPageOf held q.0 q.1 page.0 page.1) (cond asked ((path, Some key) ∷ []) []) pages → ComeAfter key pages
+pub told_after : (held : KeyDigests) (asked : Bool) (path : List ℕ) (key : Key) (pages : List ListingValue) → ForEach {Q = PageQuestion} (λ q page. IsBucketPage held q.0 q.1 page.0 page.1) (cond asked ((path, Some key) ∷ []) []) pages → ComeAfter key pages
 told_after held false path key [] h = tt
 told_after held false path key (x ∷ pages) h = absurd h
 told_after held true path key [] h = absurd h
@@ -138,10 +138,10 @@ module _ {L P : Type 0} (l : SideOf L) (p : SideOf P) (at : Walking) (left : Que
       → EndsTelling at mine theirs fault → IsFaultOf (BlamesBy l left.local (length (pages_of AtLocal at)) 0 local local') (BlamesBy p left.peer (length (pages_of AtPeer at)) 0 peer peer') fault
   telling_blames mine theirs left_l left_p fault told told' (of_mine b e is waits before bad) =
       subst (IsFaultOf (BlamesBy l left.local (length (pages_of AtLocal at)) 0 local local') (BlamesBy p left.peer (length (pages_of AtPeer at)) 0 peer peer')) (sym bad)
-      (of_answer refl (λ t. before (told_after (digests (l.states local)) (is_spent b.mine) b.path e.key mine (subst (λ qs. ForEach {Q = PageQuestion} (λ q page. IsPageOf (digests (l.states local)) q.0 q.1 page.0 page.1) qs mine) (mine_asked at b e is waits) (told.right t).right))))
+      (of_answer refl (λ t. before (told_after (digests (l.states local)) (is_spent b.mine) b.path e.key mine (subst (λ qs. ForEach {Q = PageQuestion} (λ q page. IsBucketPage (digests (l.states local)) q.0 q.1 page.0 page.1) qs mine) (mine_asked at b e is waits) (told.right t).right))))
   telling_blames mine theirs left_l left_p fault told told' (of_theirs b e is waits before bad) =
       subst (IsFaultOf (BlamesBy l left.local (length (pages_of AtLocal at)) 0 local local') (BlamesBy p left.peer (length (pages_of AtPeer at)) 0 peer peer')) (sym bad)
-      (of_answer refl (λ t. before (told_after (digests (p.states peer)) (is_spent b.theirs) b.path e.key theirs (subst (λ qs. ForEach {Q = PageQuestion} (λ q page. IsPageOf (digests (p.states peer)) q.0 q.1 page.0 page.1) qs theirs) (theirs_asked at b e is waits) (told'.right t).right))))
+      (of_answer refl (λ t. before (told_after (digests (p.states peer)) (is_spent b.theirs) b.path e.key theirs (subst (λ qs. ForEach {Q = PageQuestion} (λ q page. IsBucketPage (digests (p.states peer)) q.0 q.1 page.0 page.1) qs theirs) (theirs_asked at b e is waits) (told'.right t).right))))
   telling_blames mine theirs left_l left_p fault told told' (of_no_memory is) =
       subst (IsFaultOf (BlamesBy l left.local (length (pages_of AtLocal at)) 0 local local') (BlamesBy p left.peer (length (pages_of AtPeer at)) 0 peer peer')) (sym is) (of_memory refl)
 

@@ -6,7 +6,7 @@ use Rattle.std.proofs.lemmas.List.{map-append}
 use Rattle.std.proofs.lemmas.List.Elements.{filter_map-append}
 use Rattle.mvd_keys.specs.State.{IsValid, State, empty_state}
 use Rattle.mvd_keys.proofs.Joins.{apart_empty, empty_apart}
-use Rattle.mvd_sync.specs.Meetings.{ArePlans, IsPlan, first_if, meet, or_empty, pair_of, rest_if, taken_from, wanted}
+use Rattle.mvd_sync.specs.Meetings.{ArePlans, IsPlan, first_if, meet, or_empty, pushed_pair, rest_if, taken_from, wanted}
 use Rattle.mvd_sync.specs.Olds.{HasUnseen}
 use Rattle.mvd_sync.specs.declared.cursor.Entry.{Entry}
 use Rattle.mvd_sync.specs.declared.meetings.Meeting.{Meeting}
@@ -49,12 +49,12 @@ key_taken AtLocal m = refl
 key_taken AtPeer m = refl
 
 -- one more was taken out
-pub pairs_more : (side : Side) (ms : List Meeting) (m n : Meeting) (ps qs : List (List ℕ × State)) (state : Option State) → ps ≡ filter_map (pair_of side) ms → state ≡ wanted side m → n ≡ taken_from side m → qs ≡ ps ++ cons_option (option_map (λ s. (n.key, s)) state) [] → qs ≡ filter_map (pair_of side) (ms ++ m ∷ [])
+pub pairs_more : (side : Side) (ms : List Meeting) (m n : Meeting) (ps qs : List (List ℕ × State)) (state : Option State) → ps ≡ filter_map (pushed_pair side) ms → state ≡ wanted side m → n ≡ taken_from side m → qs ≡ ps ++ cons_option (option_map (λ s. (n.key, s)) state) [] → qs ≡ filter_map (pushed_pair side) (ms ++ m ∷ [])
 pairs_more side ms m n ps qs state p w t q =
     q ∙ ap (λ xs. xs ++ cons_option (option_map (λ s. (n.key, s)) state) []) p
-    ∙ ap (λ k. filter_map (pair_of side) ms ++ cons_option (option_map (λ s. (k, s)) state) []) (ap (λ (v : Meeting). v.key) t ∙ key_taken side m)
-    ∙ ap (λ o. filter_map (pair_of side) ms ++ cons_option (option_map (λ s. (m.key, s)) o) []) w
-    ∙ sym (filter_map-append (pair_of side) ms (m ∷ []))
+    ∙ ap (λ k. filter_map (pushed_pair side) ms ++ cons_option (option_map (λ s. (k, s)) state) []) (ap (λ (v : Meeting). v.key) t ∙ key_taken side m)
+    ∙ ap (λ o. filter_map (pushed_pair side) ms ++ cons_option (option_map (λ s. (m.key, s)) o) []) w
+    ∙ sym (filter_map-append (pushed_pair side) ms (m ∷ []))
 
 pub asked_more : (side : Side) (ms : List Meeting) (m n : Meeting) (xs ys : List Meeting) → xs ≡ map (taken_from side) ms → n ≡ taken_from side m → ys ≡ xs ++ n ∷ [] → ys ≡ map (taken_from side) (ms ++ m ∷ [])
 asked_more side ms m n xs ys p t q =

@@ -4,7 +4,7 @@ use Rattle.mvd_dots.specs.declared.refusals.Refusal.{Refusal}
 use Rattle.mvd_keys.specs.Writes.{Key}
 use Rattle.mvd_site.specs.Held.{States}
 use Rattle.mvd_sync.specs.Answers.{ListingValue}
-use Rattle.mvd_sync.specs.Buckets.{FillEnds, FillsBoth, Finds, Goes, GoesOnWithin, GoesOver, GoesThrough, Settles, SettlesAll, reading}
+use Rattle.mvd_sync.specs.Buckets.{FillEnds, FillsBoth, Finds, Goes, GoesOnWithin, GoesOver, GoesThrough, SettlesKey, SettlesAll, reading}
 use Rattle.mvd_sync.specs.Carries.{ExchangesAll, Planned}
 use Rattle.mvd_sync.specs.Exchanges.{CameTo, Done, Exchanges, Exchanging, GoesOn, IsDone, JoinsSome, SoFar, Stand, moment}
 use Rattle.mvd_sync.specs.Session.{After, Before, Course, HaveAnswered, Joins, Meets, ReportsDone, Session, after_of, asking, both}
@@ -110,7 +110,7 @@ abbrev pub GoesBy : {L P A : Type 0} → SideOf L → SideOf P → (left left' :
 GoesBy l p left left' local local' peer peer' before after = Goes (sides l p) (moment local peer left before) (moment local' peer' left' after)
 
 abbrev pub SettlesBy : {L P A : Type 0} → SideOf L → SideOf P → Entry → (left left' : Questions) (local local' : L) (peer peer' : P) (before after : Exchanging) → Result A SyncFault → Type 0
-SettlesBy l p e left left' local local' peer peer' before after = Settles (sides l p) e (moment local peer left before) (moment local' peer' left' after)
+SettlesBy l p e left left' local local' peer peer' before after = SettlesKey (sides l p) e (moment local peer left before) (moment local' peer' left' after)
 
 abbrev pub GoesThroughBy : {L P A : Type 0} → SideOf L → SideOf P → (States → States → Type 0) → List (List ℕ) → ℕ → (left left' : Questions) (local local' : L) (peer peer' : P) (before after : Exchanging) → Result A SyncFault → Type 0
 GoesThroughBy l p Told paths firsts left left' local local' peer peer' before after =

@@ -13,7 +13,7 @@ use Rattle.std.specs.FinMap.{get, entries, entries_sorted, get-entries, get-reta
 use Rattle.std.specs.FinMap.Entries.{below_all}
 use Rattle.mvd_tree.specs.HashTree.{KeyDigests, is_under}
 use Rattle.mvd_tree.proofs.Under.{keys_same}
-use Rattle.mvd_tree.specs.Page.{is_after, rest_of}
+use Rattle.mvd_tree.specs.Page.{is_after, keys_after}
 use Rattle.mvd_sync.specs.Answers.{IsListing, PageEntry, StartsAfter, TakesLesser, of_first, of_second, of_both}
 use Rattle.mvd_peer.specs.Sides.{two}
 use Rattle.mvd_sync.specs.declared.cursor.Entry.{Entry}
@@ -66,8 +66,8 @@ below_later x k (f ∷ t) l h = both _ _ (subst (λ o. T (is_lt o)) (sym (nat_li
 
 -- ---- what is left after a key
 
-pub get-rest : (m : KeyDigests) (path : List ℕ) (b : Option (List ℕ)) (q : List ℕ) → get (rest_of m path b) q ≡ cond (is_under path q && is_after b q) (get m q) None
-unfolding rest_of
+pub get-rest : (m : KeyDigests) (path : List ℕ) (b : Option (List ℕ)) (q : List ℕ) → get (keys_after m path b) q ≡ cond (is_under path q && is_after b q) (get m q) None
+unfolding keys_after
 get-rest m path b q = get-retain_keys m (λ key. is_under path key && is_after b key) q (λ x tie. ap (λ key. is_under path key && is_after b key) (sym (keys_same q x tie)))
 
 none_of : {X : Type 0} (a : Bool) (o : Option X) → cond (a && false) o None ≡ None
@@ -81,7 +81,7 @@ with_head k (Some digest) t = (k, digest) ∷ t
 
 -- after b there is nothing before k, this digest or none at k, and then t
 pub record HeadIs (m : KeyDigests) (path : List ℕ) (b : Option (List ℕ)) (k : List ℕ) (digest : Option (List ℕ)) (t : List PageEntry) : Type 0 where
-  pub is : entries (rest_of m path b) ≡ with_head k digest t
+  pub is : entries (keys_after m path b) ≡ with_head k digest t
   pub after : T (below_all (slice_cmp nat_cmp) k t)
   pub sorted : T (is_sorted (slice_cmp nat_cmp) t)
 
@@ -94,8 +94,8 @@ found_at_head k None t h = found_after k t k h (λ l. let e : Equal ≡ Less = s
 found_at_head k (Some digest) t h = ap (λ o. cond (is_eq o) (Some digest) (find (slice_cmp nat_cmp) k t)) (tied_itself nat_list_cmp_total k)
 
 module _ (m : KeyDigests) (path : List ℕ) (b : Option (List ℕ)) (k : List ℕ) (digest : Option (List ℕ)) (t : List PageEntry) (head : HeadIs m path b k digest t) where
-  pub found_rest : (q : List ℕ) → get (rest_of m path b) q ≡ find (slice_cmp nat_cmp) q (with_head k digest t)
-  found_rest q = get-entries (rest_of m path b) q ∙ ap (find (slice_cmp nat_cmp) q) head.is
+  pub found_rest : (q : List ℕ) → get (keys_after m path b) q ≡ find (slice_cmp nat_cmp) q (with_head k digest t)
+  found_rest q = get-entries (keys_after m path b) q ∙ ap (find (slice_cmp nat_cmp) q) head.is
 
   inside : (q : List ℕ) → IsTrue (is_under path q) → is_after b q ≡ true → get m q ≡ find (slice_cmp nat_cmp) q (with_head k digest t)
   inside q u h = sym (get-rest m path b q ∙ ap (λ x. cond x (get m q) None) ((λ i. u i && h i))) ∙ found_rest q
@@ -109,9 +109,9 @@ module _ (m : KeyDigests) (path : List ℕ) (b : Option (List ℕ)) (k : List �
   at_head u h = inside k u h ∙ found_at_head k digest t head.after
 
   -- what is left after k is t, also where k itself has changed
-  pub left_after : is_after b k ≡ true → (m' : KeyDigests) → ((q : List ℕ) → slice_cmp nat_cmp k q ≡ Less → get m' q ≡ get m q) → entries (rest_of m' path (Some k)) ≡ t
+  pub left_after : is_after b k ≡ true → (m' : KeyDigests) → ((q : List ℕ) → slice_cmp nat_cmp k q ≡ Less → get m' q ≡ get m q) → entries (keys_after m' path (Some k)) ≡ t
   left_after h m' kept =
-      let same : rest_of m' path (Some k) ≡ from_sorted t = same_map nat_list_cmp_total keys_same _ _ (λ q.
+      let same : keys_after m' path (Some k) ≡ from_sorted t = same_map nat_list_cmp_total keys_same _ _ (λ q.
       get-rest m' path (Some k) q
       ∙ elim (is_lt (slice_cmp nat_cmp k q)) as (λ x. is_lt (slice_cmp nat_cmp k q) ≡ x → cond (is_under path q && x) (get m' q) None ≡ find (slice_cmp nat_cmp) q t) [
         | true ↦ λ e.
@@ -127,10 +127,10 @@ module _ (m : KeyDigests) (path : List ℕ) (b : Option (List ℕ)) (k : List �
 -- ---- from the listing of a side
 
 -- the taken entry is the first of what is left
-head_taken : (m : KeyDigests) (path : List ℕ) (b : Option (List ℕ)) (k : List ℕ) (xs xs' later : List PageEntry) (e : PageEntry) → entries (rest_of m path b) ≡ xs ++ later → xs ≡ e ∷ xs' → k ≡ e.0 → HeadIs m path b k (Some e.1) (xs' ++ later)
+head_taken : (m : KeyDigests) (path : List ℕ) (b : Option (List ℕ)) (k : List ℕ) (xs xs' later : List PageEntry) (e : PageEntry) → entries (keys_after m path b) ≡ xs ++ later → xs ≡ e ∷ xs' → k ≡ e.0 → HeadIs m path b k (Some e.1) (xs' ++ later)
 head_taken m path b k xs xs' later e is p same =
-    let all : entries (rest_of m path b) ≡ e ∷ (xs' ++ later) = is ∙ ap (λ ys. ys ++ later) p in
-    let sorted : T (is_sorted (slice_cmp nat_cmp) (e ∷ (xs' ++ later))) = subst (λ ys. T (is_sorted (slice_cmp nat_cmp) ys)) all (entries_sorted (rest_of m path b)) in
+    let all : entries (keys_after m path b) ≡ e ∷ (xs' ++ later) = is ∙ ap (λ ys. ys ++ later) p in
+    let sorted : T (is_sorted (slice_cmp nat_cmp) (e ∷ (xs' ++ later))) = subst (λ ys. T (is_sorted (slice_cmp nat_cmp) ys)) all (entries_sorted (keys_after m path b)) in
     record {
       is = all ∙ ap (λ k. (k, e.1) ∷ (xs' ++ later)) (sym same);
       after = subst (λ k. T (below_all (slice_cmp nat_cmp) k (xs' ++ later))) (sym same) (front _ _ sorted);
@@ -138,12 +138,12 @@ head_taken m path b k xs xs' later e is p same =
     }
 
 -- a later entry is the first of what is left
-head_left : (m : KeyDigests) (path : List ℕ) (b : Option (List ℕ)) (k : List ℕ) (ys later : List PageEntry) → entries (rest_of m path b) ≡ ys ++ later → StartsAfter k ys → (ys ≡ [] → later ≡ []) → HeadIs m path b k None (ys ++ later)
+head_left : (m : KeyDigests) (path : List ℕ) (b : Option (List ℕ)) (k : List ℕ) (ys later : List PageEntry) → entries (keys_after m path b) ≡ ys ++ later → StartsAfter k ys → (ys ≡ [] → later ≡ []) → HeadIs m path b k None (ys ++ later)
 head_left m path b k [] later is starts ended =
     let none = ended refl in
     record { is = is; after = subst (λ ys. T (below_all (slice_cmp nat_cmp) k ys)) (sym none) tt; sorted = subst (λ ys. T (is_sorted (slice_cmp nat_cmp) ys)) (sym none) tt }
 head_left m path b k (f ∷ ys) later is starts ended =
-    let sorted : T (is_sorted (slice_cmp nat_cmp) (f ∷ (ys ++ later))) = subst (λ zs. T (is_sorted (slice_cmp nat_cmp) zs)) is (entries_sorted (rest_of m path b)) in
+    let sorted : T (is_sorted (slice_cmp nat_cmp) (f ∷ (ys ++ later))) = subst (λ zs. T (is_sorted (slice_cmp nat_cmp) zs)) is (entries_sorted (keys_after m path b)) in
     record {
       is = is;
       after = both _ _ (subst (λ o. T (is_lt o)) (sym starts) tt) (below_later k f.0 (ys ++ later) starts (front _ _ sorted));

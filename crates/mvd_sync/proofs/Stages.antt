@@ -8,10 +8,10 @@ use Rattle.mvd_dots.specs.declared.refusals.Refusal.TheVariants.{Broken}
 use Rattle.mvd_keys.specs.State.{IsValid, State}
 use Rattle.mvd_site.specs.Held.{States}
 use Rattle.mvd_sync.specs.Exchanges.{IsHeldByEither, keys_next}
-use Rattle.mvd_sync.specs.Meetings.{ArePlans, held_keys, is_held, noted, pair_of, rest_if, taken_from}
+use Rattle.mvd_sync.specs.Meetings.{ArePlans, held_keys, is_held, noted, pushed_pair, rest_if, taken_from}
 use Rattle.mvd_peer.specs.Windows.{ForEach}
 use Rattle.mvd_sync.specs.Questions.{TakesInFirst, TakesIn}
-use Rattle.mvd_sync.specs.Session.{Changes}
+use Rattle.mvd_sync.specs.Session.{ChangesSide}
 use Rattle.mvd_peer.specs.PushedStates.{ComesByPushes, Each, pushed_all}
 use Rattle.mvd_peer.specs.Sides.{HasAnswered, IsSilent, SideOf}
 use Rattle.mvd_sync.specs.declared.cursor.Entry.{Entry}
@@ -51,10 +51,10 @@ cons_short : {X : Type 0} (o : Option X) (xs : List X) (n : ℕ) → length xs �
 cons_short None xs n h = omega (arith, h)
 cons_short (Some x) xs n h = omega (arith, h)
 
-pub pairs_short : (side : Side) (ms : List Meeting) → length (filter_map (pair_of side) ms) ≤ length ms
+pub pairs_short : (side : Side) (ms : List Meeting) → length (filter_map (pushed_pair side) ms) ≤ length ms
 pairs_short side [] = omega arith
 pairs_short side (m ∷ ms) =
-    let rest = cons_short (pair_of side m) (filter_map (pair_of side) ms) (length ms) (pairs_short side ms) in
+    let rest = cons_short (pushed_pair side m) (filter_map (pushed_pair side) ms) (length ms) (pairs_short side ms) in
     omega (arith, rest)
 
 pub same_length : (ms : List Meeting) (es : List Entry) → meeting_keys ms ≡ keys_next es → length ms ≡ length es
@@ -96,23 +96,23 @@ module _ {S : Type 0} (s : SideOf S) (C : List ℕ → State → Type 0) (pairs 
       let f = t.pushes in
       subst (ComesByPushes C (s.states old)) (sym (f.4 still)) (comes_by C (s.most_keys old) (s.states old) (take f.0 pairs) f.1 f.2 (each_first (λ p. C p.0 p.1 × IsValid p.1) f.0 pairs good) f.3)
 
-pub changes_by : {A : Type 0} (T : Type 0) (broken : SyncFault) (C : List ℕ → State → Type 0) (old new : States) (result : Result A SyncFault) → T → ComesByPushes C old new → Changes T broken C old new result
+pub changes_by : {A : Type 0} (T : Type 0) (broken : SyncFault) (C : List ℕ → State → Type 0) (old new : States) (result : Result A SyncFault) → T → ComesByPushes C old new → ChangesSide T broken C old new result
 changes_by T broken C old new (Ok x) t c = record { after_ok = t; after_fault = tt; pushes = λ _. c }
 changes_by T broken C old new (Err fault) t c = record { after_ok = tt; after_fault = λ _. t; pushes = λ _. c }
 
-pub changes_first : {A : Type 0} (T : Type 0) (named : Refusal → SyncFault) (C : List ℕ → State → Type 0) (old new : States) (refusal : Refusal) → (refusal ≢ Broken → T) → (T → ComesByPushes C old new) → Changes {A = A} T (named Broken) C old new (Err (named refusal))
+pub changes_first : {A : Type 0} (T : Type 0) (named : Refusal → SyncFault) (C : List ℕ → State → Type 0) (old new : States) (refusal : Refusal) → (refusal ≢ Broken → T) → (T → ComesByPushes C old new) → ChangesSide {A = A} T (named Broken) C old new (Err (named refusal))
 changes_first T named C old new refusal still c = record { after_ok = tt; after_fault = λ other. still (λ e. other (ap named e)); pushes = c }
 
 -- ---- what was handed over
 
 module _ {L P : Type 0} (l : SideOf L) (p : SideOf P) (number : Option ℕ) (entries : List Entry) (left left1 : Questions) (local local1 : L) (peer peer1 : P) (ms : List Meeting)
     (plan : PlannedBy l p number entries left left1 local local1 peer peer1 ms) (G : List ℕ → State → Type 0) where
-  pub pulls : ((k : List ℕ) (s : State) → p.can_give k s × HasAnswered p.follows p.can_answer peer peer1 → G k s) → Each (λ p. G p.0 p.1 × IsValid p.1) (filter_map (pair_of AtLocal) ms)
+  pub pulls : ((k : List ℕ) (s : State) → p.can_give k s × HasAnswered p.follows p.can_answer peer peer1 → G k s) → Each (λ p. G p.0 p.1 × IsValid p.1) (filter_map (pushed_pair AtLocal) ms)
   pulls f = pulls_good (λ k s. G k s × IsValid s) ms
       (pulls_given G number entries plan.mine plan.theirs ms (each_may (λ k s. p.can_give k s × HasAnswered p.follows p.can_answer peer peer1) G f (held_keys AtPeer entries) plan.theirs plan.from_peer.may) plan.plans)
 
   pub gives : (told : List (Result (Unit {0}) Refusal)) → ((k : List ℕ) (s : State) → l.can_give k s × HasAnswered l.follows l.can_answer local local1 → G k s)
-      → Each (λ p. G p.0 p.1 × IsValid p.1) (filter_map (pair_of AtPeer) (noted AtLocal (map (taken_from AtLocal) ms) told))
+      → Each (λ p. G p.0 p.1 × IsValid p.1) (filter_map (pushed_pair AtPeer) (noted AtLocal (map (taken_from AtLocal) ms) told))
   gives told f =
       let Good : List ℕ → State → Type 0 = λ k s. G k s × IsValid s in
       gives_good Good (noted AtLocal (map (taken_from AtLocal) ms) told) (gives_noted (λ k o. Rattle.std.specs.Prelude.IfSome o (Good k)) ms told

@@ -11,9 +11,9 @@ use Rattle.mvd_keys.specs.State.{State}
 use Rattle.mvd_keys.specs.Writes.{Key}
 use Rattle.mvd_peer.specs.Windows.{ForEach}
 use Rattle.mvd_sync.specs.Meetings.{held_keys, is_held}
-use Rattle.mvd_sync.specs.Made.{Passes, ReadsAll}
+use Rattle.mvd_sync.specs.Made.{PassesFault, ReadsAll}
 use Rattle.mvd_sync.specs.Questions.{IsWindow, push_bytes}
-use Rattle.mvd_sync.specs.Steps.{AreSmall, Wanted, cut, only_gets, only_nodes, only_pages, only_pushes}
+use Rattle.mvd_sync.specs.Steps.{AreSmall, Wanted, cut_wanted, only_gets, only_nodes, only_pages, only_pushes}
 use Rattle.mvd_sync.specs.Tellings.{IsRead, of_answer, of_questions}
 use Rattle.mvd_sync.specs.Walking.{PageQuestion, Walking, first_page, is_asked, pages_next, pages_of}
 use Rattle.mvd_sync.specs.declared.cursor.Entry.{Entry}
@@ -30,16 +30,16 @@ take_least left count xs e = elim (cases_lt left (length xs)) [
   | inr more ↦ take_all count xs (omega (arith, e, more)) ∙ sym (take_all left xs more)
 ]
 
-pub cut_nodes : (left count : ℕ) (xs ys : List (List ℕ)) → count ≡ min left (length xs) → ys ≡ take count xs → only_nodes ys ≡ cut left (only_nodes xs)
+pub cut_nodes : (left count : ℕ) (xs ys : List (List ℕ)) → count ≡ min left (length xs) → ys ≡ take count xs → only_nodes ys ≡ cut_wanted left (only_nodes xs)
 cut_nodes left count xs ys e is = λ i. record { nodes = (is ∙ take_least left count xs e) i; pages = sym (take-nil left) i; gets = sym (take-nil left) i; pushes = sym (take-nil left) i }
 
-pub cut_pages : (left count : ℕ) (xs ys : List PageQuestion) → count ≡ min left (length xs) → ys ≡ take count xs → only_pages ys ≡ cut left (only_pages xs)
+pub cut_pages : (left count : ℕ) (xs ys : List PageQuestion) → count ≡ min left (length xs) → ys ≡ take count xs → only_pages ys ≡ cut_wanted left (only_pages xs)
 cut_pages left count xs ys e is = λ i. record { nodes = sym (take-nil left) i; pages = (is ∙ take_least left count xs e) i; gets = sym (take-nil left) i; pushes = sym (take-nil left) i }
 
-pub cut_gets : (left count : ℕ) (xs ys : List Key) → count ≡ min left (length xs) → ys ≡ take count xs → only_gets ys ≡ cut left (only_gets xs)
+pub cut_gets : (left count : ℕ) (xs ys : List Key) → count ≡ min left (length xs) → ys ≡ take count xs → only_gets ys ≡ cut_wanted left (only_gets xs)
 cut_gets left count xs ys e is = λ i. record { nodes = sym (take-nil left) i; pages = sym (take-nil left) i; gets = (is ∙ take_least left count xs e) i; pushes = sym (take-nil left) i }
 
-pub cut_pushes : (left count : ℕ) (xs ys : List (Key × State)) → count ≡ min left (length xs) → ys ≡ take count xs → only_pushes ys ≡ cut left (only_pushes xs)
+pub cut_pushes : (left count : ℕ) (xs ys : List (Key × State)) → count ≡ min left (length xs) → ys ≡ take count xs → only_pushes ys ≡ cut_wanted left (only_pushes xs)
 cut_pushes left count xs ys e is = λ i. record { nodes = sym (take-nil left) i; pages = sym (take-nil left) i; gets = sym (take-nil left) i; pushes = (is ∙ take_least left count xs e) i }
 
 -- ---- and not too many
@@ -100,7 +100,7 @@ each_long P (q ∷ qs) (b ∷ bs) h = ap suc (each_long P qs bs h.1)
 pub read_long : {A B : Type 0} (IsOf : A → B → Type 0) (IsNone : A → Type 0) (told : Result (List (Result A Refusal)) Refusal) (share : Share) (read : Vec B Global) → IsRead IsOf IsNone told share (Ok read)
     → share.asked ≤ share.wanted → length read.items ≡ share.wanted
 read_long IsOf IsNone told share read h low =
-    let n = each_long (Passes IsOf) h.answers read.items h.each in
+    let n = each_long (PassesFault IsOf) h.answers read.items h.each in
     let c = h.counted in
     let w = h.whole in
     omega (arith, n, c, w, low)

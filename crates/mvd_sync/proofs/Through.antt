@@ -18,7 +18,7 @@ use Rattle.mvd_sync.specs.Nodes.{has_below}
 use Rattle.mvd_sync.specs.Session.{AreDistinct, IsIn, is_member}
 use Rattle.mvd_peer.specs.PushedStates.{Each}
 use Rattle.mvd_peer.specs.Sides.{SideOf}
-use Rattle.mvd_sync.specs.Walk.{Reads}
+use Rattle.mvd_sync.specs.Walk.{ReadsSide}
 use Rattle.mvd_sync.specs.declared.cursor.Entry.{Entry}
 use Rattle.mvd_sync.specs.declared.asking.Questions.{Questions}
 use Rattle.mvd_sync.specs.declared.report.SyncFault.{SyncFault}
@@ -258,7 +258,7 @@ module _ {L P : Type 0} (l : SideOf L) (p : SideOf P)
 
   -- the first pages were told by both, and their buckets gone over
   pub window_through : {A : Type 0} (paths : List (List ℕ)) (mine theirs : List ListingValue) (n : ℕ) (left mid left' : Questions) (local local1 local2 : L) (peer peer1 peer2 : P) (before after : Exchanging) (result : Result A SyncFault)
-      → Reads l n (with_left local left.local) (with_left local1 mid.local) → Reads p n (with_left peer left.peer) (with_left peer1 mid.peer)
+      → ReadsSide l n (with_left local left.local) (with_left local1 mid.local) → ReadsSide p n (with_left peer left.peer) (with_left peer1 mid.peer)
       → (l.is_faithful local → ArePages (digests (l.states local)) paths mine) → (p.is_faithful peer → ArePages (digests (p.states peer)) paths theirs)
       → GoesThroughBy l p (λ a b. ArePages (digests a) paths mine × ArePages (digests b) paths theirs) paths 0 mid left' local1 local2 peer1 peer2 before after result
       → GoesOverBy l p paths n left left' local local2 peer peer2 before after result

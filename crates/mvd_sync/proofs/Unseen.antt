@@ -4,7 +4,7 @@ use Rattle.std.specs.Prelude.{IsTrue, Option, Some, None}
 use Rattle.std.specs.FinSet as set
 use Rattle.mvd_dots.specs.Dot.{DotValue}
 use Rattle.mvd_dots.specs.Entry.{Among, EntryValue, HasCounter, IsEntry}
-use Rattle.mvd_dots.specs.Context.{AreEntriesOf, DotSet, Holds, IsEntryAt}
+use Rattle.mvd_dots.specs.Context.{AreEntriesOf, DotSet, HoldsDot, IsEntryAt}
 use Rattle.mvd_dots.proofs.EntryLists.{place_of_site}
 use Rattle.mvd_keys.specs.State.{State, empty_state}
 use Rattle.mvd_sync.specs.Olds.{HasUnseen}
@@ -12,17 +12,17 @@ use Rattle.mvd_dots.proofs.Members.{some_dot}
 use Rattle.mvd_dots.proofs.Sets.{empty_holds}
 
 -- no entry of the site, no dot of it
-pub no_entry : (dots : DotSet) (es : List EntryValue) (site : ℕ) → AreEntriesOf dots es → ((k : ℕ) (d : EntryValue) → k < length es → (get_or es k d).site ≡ site → ⊥) → (n : ℕ) → Holds dots site n → ⊥
+pub no_entry : (dots : DotSet) (es : List EntryValue) (site : ℕ) → AreEntriesOf dots es → ((k : ℕ) (d : EntryValue) → k < length es → (get_or es k d).site ≡ site → ⊥) → (n : ℕ) → HoldsDot dots site n → ⊥
 no_entry dots es site of_set none n holds =
     let d : EntryValue = record { site = 0; base = 0; loose = [] } in
-    let at = place_of_site es site n d (subst (λ s. Holds s site n) (sym of_set.same) holds) in
+    let at = place_of_site es site n d (subst (λ s. HoldsDot s site n) (sym of_set.same) holds) in
     none at.0 d at.1 at.2
 
 -- an entry has a dot
-pub not_empty : (e : EntryValue) → IsEntry e → ((n : ℕ) → HasCounter e.base e.loose n → Holds set.empty e.site n) → ⊥
+pub not_empty : (e : EntryValue) → IsEntry e → ((n : ℕ) → HasCounter e.base e.loose n → HoldsDot set.empty e.site n) → ⊥
 not_empty e form all = let some = some_dot e form in empty_holds e.site some.0 (all some.0 some.1)
 
-pub not_missing : (e : EntryValue) (dots : DotSet) → IsEntry e → ((n : ℕ) → Holds dots e.site n → ⊥) → ((n : ℕ) → HasCounter e.base e.loose n → Holds dots e.site n) → ⊥
+pub not_missing : (e : EntryValue) (dots : DotSet) → IsEntry e → ((n : ℕ) → HoldsDot dots e.site n → ⊥) → ((n : ℕ) → HasCounter e.base e.loose n → HoldsDot dots e.site n) → ⊥
 not_missing e dots form none all = let some = some_dot e form in none some.0 (all some.0 some.1)
 
 -- ---- all of them, or one that is not
@@ -73,7 +73,7 @@ not_both : (b : Bool) → not b ≡ true → b ≡ true → ⊥
 not_both true h e = absurd (true≢false (sym h))
 not_both false h e = absurd (true≢false (sym e))
 
-module _ (site : ℕ) (mine theirs : State) (e : EntryValue) (at : IsEntryAt theirs.context site e) (r : Bool) (is : IsTrue r ↔ ((n : ℕ) → HasCounter e.base e.loose n → Holds mine.context e.site n)) where
+module _ (site : ℕ) (mine theirs : State) (e : EntryValue) (at : IsEntryAt theirs.context site e) (r : Bool) (is : IsTrue r ↔ ((n : ℕ) → HasCounter e.base e.loose n → HoldsDot mine.context e.site n)) where
   -- a dot of the site is unseen just where not all of them are seen
   pub unseen_there : IsTrue (not r) → HasUnseen (Some site) mine theirs
   unfolding dot_at
@@ -81,19 +81,19 @@ module _ (site : ℕ) (mine theirs : State) (e : EntryValue) (at : IsEntryAt the
       elim (all_counters (λ n. set.contains mine.context (dot_at e.site n)) e.base e.loose) [
         | inl all ↦ absurd (not_both r h (is.1 all))
         | inr found ↦
-            (dot_at e.site found.0, at.at, subst (λ s. Holds theirs.context s found.0) (sym at.at) (at.back found.0 found.1), found.2)
+            (dot_at e.site found.0, at.at, subst (λ s. HoldsDot theirs.context s found.0) (sym at.at) (at.back found.0 found.1), found.2)
       ]
 
   pub unseen_back : HasUnseen (Some site) mine theirs → IsTrue (not r)
   unseen_back (dot, same, there, not_here) =
       not_true r (λ h.
-      let held : Holds theirs.context site dot.counter = subst (λ s. Holds theirs.context s dot.counter) same there in
-      let here : Holds mine.context dot.site dot.counter = subst (λ s. Holds mine.context s dot.counter) (at.at ∙ sym same) (is.0 h dot.counter (at.there dot.counter held)) in
+      let held : HoldsDot theirs.context site dot.counter = subst (λ s. HoldsDot theirs.context s dot.counter) same there in
+      let here : HoldsDot mine.context dot.site dot.counter = subst (λ s. HoldsDot mine.context s dot.counter) (at.at ∙ sym same) (is.0 h dot.counter (at.there dot.counter held)) in
       true≢false (sym here ∙ not_here))
 
 -- where the peer has no dot of the site, none is unseen
-pub none_unseen : (site : ℕ) (mine theirs : State) → ((n : ℕ) → Holds theirs.context site n → ⊥) → HasUnseen (Some site) mine theirs → ⊥
-none_unseen site mine theirs none (dot, same, there, not_here) = none dot.counter (subst (λ s. Holds theirs.context s dot.counter) same there)
+pub none_unseen : (site : ℕ) (mine theirs : State) → ((n : ℕ) → HoldsDot theirs.context site n → ⊥) → HasUnseen (Some site) mine theirs → ⊥
+none_unseen site mine theirs none (dot, same, there, not_here) = none dot.counter (subst (λ s. HoldsDot theirs.context s dot.counter) same there)
 
 pub nothing_unseen : (number : Option ℕ) (mine : State) → HasUnseen number mine empty_state → ⊥
 nothing_unseen None mine h = h

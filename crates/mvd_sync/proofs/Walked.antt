@@ -14,8 +14,8 @@ use Rattle.mvd_sync.specs.Buckets.{ArePages, GoesThrough}
 use Rattle.mvd_sync.specs.Exchanges.{Moment, moment}
 use Rattle.mvd_sync.specs.Questions.{Fills, with_left}
 use Rattle.mvd_sync.specs.Session.{Asking}
-use Rattle.mvd_sync.specs.Walk.{Reads, local_of, peer_of}
-use Rattle.mvd_sync.specs.Walking.{Closes, GoesTo, IsWalked, PageQuestion, TakesNext, Walking, WantsPage, closes, ends, first_page, moves, opened, pages_next, tells, waits}
+use Rattle.mvd_sync.specs.Walk.{ReadsSide, local_of, peer_of}
+use Rattle.mvd_sync.specs.Walking.{ClosesBucket, GoesTo, IsWalked, PageQuestion, TakesNext, Walking, WantsPage, closes, ends, first_page, moves, opened_buckets, pages_next, tells, waits}
 use Rattle.mvd_sync.specs.declared.asking.Questions.{Questions}
 use Rattle.mvd_sync.specs.declared.cursor.Entry.{Entry}
 use Rattle.mvd_sync.specs.declared.report.SyncFault.{SyncFault}
@@ -81,8 +81,8 @@ pub record Before {L P : Type 0} (l : SideOf L) (p : SideOf P) (paths rest : Lis
   pub theirs_is : theirs ≡ theirs_gone ++ theirs_of (first ∷ later)
   pub long : (length mine_gone ≡ length gone) × (length theirs_gone ≡ length gone)
   pub over : Over l p done begin mid (Ok (tt {0}))
-  pub local_side : Reads l (length window) (local_of mid.now) (local_of told)
-  pub peer_side : Reads p (length window) (peer_of mid.now) (peer_of told)
+  pub local_side : ReadsSide l (length window) (local_of mid.now) (local_of told)
+  pub peer_side : ReadsSide p (length window) (peer_of mid.now) (peer_of told)
   pub local_told : l.is_faithful mid.now.at.local → ArePages (digests (l.states mid.now.at.local)) window mine
   pub peer_told : p.is_faithful mid.now.at.peer → ArePages (digests (p.states mid.now.at.peer)) window theirs
   pub through : Through l p (Told l p window mine theirs) gone 0 (later_at l p mid told) now (Ok (tt {0}))
@@ -122,7 +122,7 @@ WalksOn l p paths begin now found at = MatchOption found (Walked l p paths begin
 
 -- buckets that are opened with their pages
 pub opened_is : (window : List (List ℕ)) (mine theirs : List ListingValue) → length mine ≡ length window → length theirs ≡ length window
-    → (paths_of (opened (map first_page window) mine theirs) ≡ window) × (mine_of (opened (map first_page window) mine theirs) ≡ mine) × (theirs_of (opened (map first_page window) mine theirs) ≡ theirs)
+    → (paths_of (opened_buckets (map first_page window) mine theirs) ≡ window) × (mine_of (opened_buckets (map first_page window) mine theirs) ≡ mine) × (theirs_of (opened_buckets (map first_page window) mine theirs) ≡ theirs)
 opened_is [] [] [] m t = (refl, refl, refl)
 opened_is [] (x ∷ mine) theirs m t = absurd (omega (arith, m))
 opened_is [] [] (y ∷ theirs) m t = absurd (omega (arith, t))
@@ -172,7 +172,7 @@ not_true : (b : Bool) → (b ≡ true → ⊥) → b ≡ false
 not_true true no_way = absurd (no_way refl)
 not_true false no_way = refl
 
-pub nothing_read : {S : Type 0} (s : SideOf S) (self : (x : S) → s.follows 0 x x) (left : ℕ) (at : S) → Reads s 0 (with_left at left) (with_left at left)
+pub nothing_read : {S : Type 0} (s : SideOf S) (self : (x : S) → s.follows 0 x x) (left : ℕ) (at : S) → ReadsSide s 0 (with_left at left) (with_left at left)
 nothing_read s self left at = record { spent = omega arith; follows = self at; kept = λ t. record { still = t; states = refl } }
 
 -- a listing that is not to be filled
@@ -279,7 +279,7 @@ module _ {L P : Type 0} (l : SideOf L) (p : SideOf P)
 
     -- no key of the bucket is left
     before_closes : (rest : List (List ℕ)) (first : Bucket) (later : List Bucket) (mid new : Moment L P) (at : Walking) → Before l p paths rest first later begin mid
-        → Through l p (Told l p (first.path ∷ []) (first.mine ∷ []) (first.theirs ∷ [])) (first.path ∷ []) 0 mid new (Ok (tt {0})) → Closes (record { rest = rest; bucket = Some first; later = later; entry = None }) at → Walked l p paths begin new at
+        → Through l p (Told l p (first.path ∷ []) (first.mine ∷ []) (first.theirs ∷ [])) (first.path ∷ []) 0 mid new (Ok (tt {0})) → ClosesBucket (record { rest = rest; bucket = Some first; later = later; entry = None }) at → Walked l p paths begin new at
     before_closes rest first later mid new at w one (moves b later' is new_is) =
         let paths_is = ap paths_of is in
         let mine_is = ap mine_of is in

@@ -10,7 +10,7 @@ use Rattle.mvd_sync.specs.Exchanges.{IsHeldByEither, Moment, moment}
 use Rattle.mvd_sync.specs.Questions.{Fills, TellsPages, with_left}
 use Rattle.mvd_sync.specs.Session.{Asking}
 use Rattle.mvd_sync.specs.Walk.{ReadsEnd, local_of, peer_of}
-use Rattle.mvd_sync.specs.Walking.{GoesTo, IsTold, PageQuestion, PagesEnd, PagesTold, TakesNext, TellsBoth, Walking, closes, ends, filled, filled_both, fills, first_page, is_asked, moves, opened, opens, pages_next, pages_of, tells, waits}
+use Rattle.mvd_sync.specs.Walking.{GoesTo, IsTold, PageQuestion, PagesEnd, PagesTold, TakesNext, TellsBoth, Walking, closes, ends, filled, filled_both, fills, first_page, is_asked, moves, opened_buckets, opens, pages_next, pages_of, tells, waits}
 use Rattle.mvd_sync.specs.declared.asking.Questions.{Questions}
 use Rattle.mvd_sync.specs.declared.cursor.Entry.{Entry}
 use Rattle.mvd_sync.specs.declared.report.Side.TheVariants.{Local as AtLocal, Peer as AtPeer}
@@ -74,7 +74,7 @@ module _ {L P : Type 0} (l : SideOf L) (p : SideOf P)
     (paths : List (List ℕ)) (begin now : Moment L P) (at : Walking) where
   -- the first pages of a window were told
   told_opens : (done : List (List ℕ)) (mine theirs : List ListingValue) (asked : Asking L P) (b : Bucket) (later : List Bucket) → paths ≡ done ++ at.rest → at.bucket ≡ None → Over l p done begin now (Ok (tt {0})) → PagesTold (sides l p) at mine theirs now.now asked
-      → opened (map first_page (take 64 at.rest)) mine theirs ≡ b ∷ later → Walked l p paths begin (later_at l p now asked) (record { rest = drop 64 at.rest; bucket = Some b; later = later; entry = None })
+      → opened_buckets (map first_page (take 64 at.rest)) mine theirs ≡ b ∷ later → Walked l p paths begin (later_at l p now asked) (record { rest = drop 64 at.rest; bucket = Some b; later = later; entry = None })
   told_opens done mine theirs asked b later is none over told all =
       let window = take 64 at.rest in
       let T = HasAnswered l.follows l.can_answer now.now.at.local asked.at.local in
@@ -326,7 +326,7 @@ goes_smaller at found at' (closes b some none none' told (ends is new_is)) =
 abbrev pub AreShort : List ListingValue → Type 0
 AreShort pages = Each (λ (page : ListingValue). length page.0 < 2 ^ 64) pages
 
-opened_small : (window : List (List ℕ)) (mine theirs : List ListingValue) → AreShort mine → AreShort theirs → size_of_all (opened (map first_page window) mine theirs) ≤ 2 ^ 66 * length window
+opened_small : (window : List (List ℕ)) (mine theirs : List ListingValue) → AreShort mine → AreShort theirs → size_of_all (opened_buckets (map first_page window) mine theirs) ≤ 2 ^ 66 * length window
 opened_small [] mine theirs m t = omega arith
 opened_small (q ∷ window) [] theirs m t = omega arith
 opened_small (q ∷ window) (x ∷ mine) [] m t = omega arith

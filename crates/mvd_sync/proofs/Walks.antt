@@ -10,11 +10,11 @@ use Rattle.mvd_tree.proofs.Apart.{same_state, same_states_under}
 use Rattle.mvd_tree.specs.HashTree.{is_under}
 use Rattle.mvd_tree.specs.Hashed.{HashesTellApart}
 use Rattle.mvd_sync.specs.Questions.{with_left}
-use Rattle.mvd_sync.specs.Nodes.{children_of, differing_children, differs_at, has_below}
+use Rattle.mvd_sync.specs.Nodes.{child_paths, differing_children, differs_at, has_below}
 use Rattle.mvd_sync.specs.Session.{AreDistinct, HasAllThatDiffer}
 use Rattle.mvd_peer.specs.PushedStates.{Each}
 use Rattle.mvd_peer.specs.Sides.{SideOf}
-use Rattle.mvd_sync.specs.Walk.{Reads}
+use Rattle.mvd_sync.specs.Walk.{ReadsSide}
 use Rattle.mvd_sync.specs.declared.asking.Questions.{Questions}
 use Rattle.mvd_sync.specs.declared.report.SyncFault.{SyncFault}
 use Rattle.mvd_sync.proofs.Compose.{answered_later, answered_still}
@@ -46,8 +46,8 @@ pub level_below : (a b : States) (n : ℕ) (paths : List (List ℕ)) → AreHeld
 level_below a b n paths p q low long at =
     let D = differs_at (digests a) (digests b) in
     record {
-      distinct = distinct-filter D (flat_map children_of (filter D paths)) (distinct-below n (filter D paths) (Each-filter (λ path. length path ≡ n) D paths long) (distinct-filter D paths at.distinct));
-      differ = λ _. Each-passes D (flat_map children_of (filter D paths));
+      distinct = distinct-filter D (flat_map child_paths (filter D paths)) (distinct-below n (filter D paths) (Each-filter (λ path. length path ≡ n) D paths long) (distinct-filter D paths at.distinct));
+      differ = λ _. Each-passes D (flat_map child_paths (filter D paths));
       whole = λ apart key differ. whole_below (digests a) (digests b) n paths key low long (λ path short u. nodes_differ a b p q apart key differ path short u) (at.whole apart key differ);
     }
 
@@ -74,8 +74,8 @@ few_end (suc (suc (suc n))) asked paths more most low a b = absurd (omega (arith
 -- it has come so many levels down
 pub record Walks {L P : Type 0} (l : SideOf L) (p : SideOf P) (n : ℕ) (left left' : Questions) (local local' : L) (peer peer' : P) (paths : List (List ℕ)) : Type 0 where
   pub asked : ℕ
-  pub local_side : Reads l asked (with_left local left.local) (with_left local' left'.local)
-  pub peer_side : Reads p asked (with_left peer left.peer) (with_left peer' left'.peer)
+  pub local_side : ReadsSide l asked (with_left local left.local) (with_left local' left'.local)
+  pub peer_side : ReadsSide p asked (with_left peer left.peer) (with_left peer' left'.peer)
   pub answers : 1 ≤ n → HaveAnsweredBy l p local local' peer peer'
   pub some : n ≡ 0 → paths ≢ []
   pub long : AreLong n paths

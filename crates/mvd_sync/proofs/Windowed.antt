@@ -10,7 +10,7 @@ use Rattle.mvd_keys.specs.State.{IsValid, State, empty_state}
 use Rattle.mvd_site.specs.Answer.{is_too_large}
 use Rattle.mvd_site.specs.Held.{AreHeld, States, state_at}
 use Rattle.mvd_sync.specs.Exchanges.{AreNext, Done, keys_done, keys_next}
-use Rattle.mvd_sync.specs.Meetings.{ArePlans, done_of, held_keys, noted, pair_of, rest_if, taken_from, wanted}
+use Rattle.mvd_sync.specs.Meetings.{ArePlans, done_of, held_keys, noted, pushed_pair, rest_if, taken_from, wanted}
 use Rattle.mvd_sync.specs.Olds.{HasUnseen}
 use Rattle.mvd_peer.specs.Windows.{ForEach}
 use Rattle.mvd_sync.specs.Questions.{IsOfKey}
@@ -170,7 +170,7 @@ module _ (ml mp : ℕ) (number : Option ℕ) (a b x y x' y' : States) (done : Li
   pub distinct_keys : AreDistinct (meeting_keys ms)
   distinct_keys = subst AreDistinct (sym all_planned.keys) (distinct_later (keys_done done) (keys_next es) next.distinct)
 
-  module _ (first : Pushes ml x (filter_map (pair_of AtLocal) ms) told x') (one : Each IsOfKey told) where
+  module _ (first : Pushes ml x (filter_map (pushed_pair AtLocal) ms) told x') (one : Each IsOfKey told) where
     pub local_phase : Phase ml a b x x x' (asks_of AtLocal ms) told
     local_phase = phase ml a b x (asks_of AtLocal ms) x told x' (subst AreDistinct (sym (asked_keys AtLocal ms)) distinct_keys)
         (each_ask (λ k. get x k ≡ get x k) AtLocal ms (each_meeting (λ k. get x k ≡ get x k) ms (each_in (λ k. get x k ≡ get x k) (meeting_keys ms) (λ k _. refl))))
@@ -189,7 +189,7 @@ module _ (ml mp : ℕ) (number : Option ℕ) (a b x y x' y' : States) (done : Li
           subst IsValid (same_state y b m.key h.1.1) (valid_at y held_b m.key),
         )) ms (each_both (IsPlanned number a b) (λ (m : Meeting). (get x m.key ≡ get a m.key) × (get y m.key ≡ get b m.key)) ms all_planned.each still_keys)
 
-    module _ (second : Pushes mp y (filter_map (pair_of AtPeer) (noted AtLocal (map (taken_from AtLocal) ms) told)) told' y') (also_one : Each IsOfKey told') where
+    module _ (second : Pushes mp y (filter_map (pushed_pair AtPeer) (noted AtLocal (map (taken_from AtLocal) ms) told)) told' y') (also_one : Each IsOfKey told') where
       pub peer_phase : Phase mp a b y y y' (asks_of AtPeer (noted AtLocal (map (taken_from AtLocal) ms) told)) told'
       peer_phase =
           let after = noted AtLocal (map (taken_from AtLocal) ms) told in

@@ -7,7 +7,7 @@ use Rattle.std.specs.FinMap.{entries}
 use Rattle.mvd_keys.specs.Key.{key_cmp}
 use Rattle.mvd_keys.specs.Writes.{Key}
 use Rattle.mvd_tree.specs.HashTree.{KeyDigests}
-use Rattle.mvd_tree.specs.Page.{is_after, is_more_after_page, page_of, rest_of}
+use Rattle.mvd_tree.specs.Page.{is_after, is_more_after_page, bucket_page, keys_after}
 use Rattle.mvd_peer.specs.Sides.{Two}
 use Rattle.mvd_sync.specs.declared.cursor.Entry.{Entry}
 
@@ -24,26 +24,26 @@ abbrev pub is_spent : ListingValue → Bool
 is_spent listing = (length listing.0 == 0) && listing.1
 
 -- the keys of a page strictly rise, from after a key on
-abbrev pub Rises : Option (List ℕ) → List PageEntry → Type 0
-Rises after [] = Unit {0}
-Rises after (e ∷ es) = IsTrue (is_after after e.0) × Rises (Some e.0) es
+abbrev pub PageRises : Option (List ℕ) → List PageEntry → Type 0
+PageRises after [] = Unit {0}
+PageRises after (e ∷ es) = IsTrue (is_after after e.0) × PageRises (Some e.0) es
 
 -- a page that a faithful side may tell: its keys rise, and there are more only after a key
 pub record IsPage (after : Option (List ℕ)) (page : List PageEntry) (more : Bool) : Type 0 where
-  pub rises : Rises after page
+  pub rises : PageRises after page
   pub ended : page ≡ [] → more ≡ false
 
 -- what a faithful side tells of a bucket after a key: so many of its entries as a page has, and whether there are more
-pub record IsPageOf (held : KeyDigests) (path : List ℕ) (after : Option (List ℕ)) (page : List PageEntry)
+pub record IsBucketPage (held : KeyDigests) (path : List ℕ) (after : Option (List ℕ)) (page : List PageEntry)
     (more : Bool) : Type 0 where
-  pub is : page ≡ page_of held path after
+  pub is : page ≡ bucket_page held path after
   pub goes_on : more ≡ is_more_after_page held path after
 
 -- these are the first entries of a bucket after a key, and unless there is more all of them
 pub record IsListing (held : KeyDigests) (path : List ℕ) (after : Option (List ℕ)) (page : List PageEntry)
     (more : Bool) : Type 0 where
   pub later : List PageEntry
-  pub is : entries (rest_of held path after) ≡ page ++ later
+  pub is : entries (keys_after held path after) ≡ page ++ later
   pub ended : more ≡ false → later ≡ []
 
 -- the first entry of a list comes after a key

@@ -4,10 +4,10 @@ use Rattle.std.specs.Prelude.{Option, None, IsTrue, Result, OnOk, MatchResult}
 use Rattle.std.specs.FinMap.{entries, get}
 use Rattle.mvd_keys.specs.Writes.{Key}
 use Rattle.mvd_tree.specs.HashTree.{KeyDigests}
-use Rattle.mvd_tree.specs.Page.{rest_of}
+use Rattle.mvd_tree.specs.Page.{keys_after}
 use Rattle.mvd_site.specs.Answer.{digests}
 use Rattle.mvd_site.specs.Held.{States}
-use Rattle.mvd_sync.specs.Answers.{IsPageOf, ListingValue}
+use Rattle.mvd_sync.specs.Answers.{IsBucketPage, ListingValue}
 use Rattle.mvd_sync.specs.Exchanges.{AreNext, Counts, Done, Exchanging, GoesOn, JoinsSome, Moment, SoFar, Spends, Stand}
 use Rattle.mvd_sync.specs.Exchanges.{began, keys_done, keys_next, stand_at}
 use Rattle.mvd_sync.specs.Nodes.{has_below}
@@ -50,7 +50,7 @@ AreElsewhere paths keys = Each (λ key. has_below paths key ≡ false) keys
 -- how many keys are held in the buckets
 abbrev pub held_in : States → List (List ℕ) → ℕ
 held_in states [] = 0
-held_in states (path ∷ paths) = length (entries (rest_of (digests states) path None)) + held_in states paths
+held_in states (path ∷ paths) = length (entries (keys_after (digests states) path None)) + held_in states paths
 
 -- the first of the keys that are next were exchanged, by at most two questions to each side for each, and `most`
 -- besides
@@ -135,7 +135,7 @@ pub record SettlesAll {A : Type 0} (stand : Stand) (after : After) (asked : Two 
   pub ends : MatchResult result (λ _. GoesOn stand after e) (λ _. JoinsSome stand.before.held after)
 
 -- a key waits, if it differs, or is exchanged with the others
-pub record Settles {L P A : Type 0} (s : Sides L P) (e : Entry) (old new : Moment L P)
+pub record SettlesKey {L P A : Type 0} (s : Sides L P) (e : Entry) (old new : Moment L P)
     (result : Result A SyncFault) : Type 0 where
   pub goes : Goes s old new result
   pub meets : s.local.is_faithful old.now.at.local → s.peer.is_faithful old.now.at.peer
@@ -149,7 +149,7 @@ pub record Settles {L P A : Type 0} (s : Sides L P) (e : Entry) (old new : Momen
 
 -- the first page of each bucket
 abbrev pub ArePages : KeyDigests → List (List ℕ) → List ListingValue → Type 0
-ArePages held paths pages = ForEach (λ path page. IsPageOf held path None page.0 page.1) paths pages
+ArePages held paths pages = ForEach (λ path page. IsBucketPage held path None page.0 page.1) paths pages
 
 -- Buckets are gone over, and what differs in them is exchanged, or waits. `Told` is what is known of the states of
 -- faithful sides before: their first pages, or nothing

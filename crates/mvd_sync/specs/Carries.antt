@@ -5,7 +5,7 @@ use Rattle.mvd_dots.specs.declared.refusals.Refusal.{Refusal}
 use Rattle.mvd_keys.specs.State.{State}
 use Rattle.mvd_site.specs.Held.{States, state_at}
 use Rattle.mvd_sync.specs.Exchanges.{AreNext, Done, JoinsSome, SoFar, Spends, began, keys_done, keys_next}
-use Rattle.mvd_sync.specs.Meetings.{ArePlans, done_of, held_keys, noted, pair_of, taken_from}
+use Rattle.mvd_sync.specs.Meetings.{ArePlans, done_of, held_keys, noted, pushed_pair, taken_from}
 use Rattle.mvd_sync.specs.Questions.{AllAnswered, AnswersEach, IsOfKey, OneAsking, TakesIn}
 use Rattle.mvd_sync.specs.Session.{Asking, Course, after_of, both, both_of}
 use Rattle.mvd_peer.specs.Sides.{HasAnswered, SideOf, Sides}
@@ -38,8 +38,8 @@ pub record Carried {S : Type 0} (s : SideOf S) (name : Side) (before after : Lis
   pub told : List (Result (Unit {0}) Refusal)
   pub is : after ≡ noted name (map (taken_from name) before) told
   pub answered : AllAnswered s (λ _ told. IsOfKey told)
-      (TakesIn s (filter_map (pair_of name) before) told old.at new.at)
-      (filter_map (pair_of name) before) told old new
+      (TakesIn s (filter_map (pushed_pair name) before) told old.at new.at)
+      (filter_map (pushed_pair name) before) told old new
 
 -- THE KEYS OF A WINDOW ARE EXCHANGED
 pub record ExchangesAll {L P A : Type 0} (s : Sides L P) (number : Option ℕ) (entries : List Entry)

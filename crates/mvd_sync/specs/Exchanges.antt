@@ -103,7 +103,7 @@ pub record Counts (done : List Done) (e : Exchanging) : Type 0 where
   pub older : e.older ≡ length (filter (λ d. d.is_old) done)
 
 -- these are counted besides
-pub record Adds (now : List Done) (before after : Exchanging) : Type 0 where
+pub record CountsDone (now : List Done) (before after : Exchanging) : Type 0 where
   pub number : after.number ≡ before.number
   pub waiting : after.waiting ≡ before.waiting
   pub keys : after.keys ≡ before.keys + length (given_keys now)

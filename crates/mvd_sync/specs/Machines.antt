@@ -8,14 +8,14 @@ use Rattle.mvd_keys.specs.State.{State}
 use Rattle.mvd_peer.specs.PushedStates.{Each}
 use Rattle.mvd_peer.specs.Sides.{is_of_key}
 use Rattle.mvd_sync.specs.Answers.{ListingValue}
-use Rattle.mvd_sync.specs.Exchanges.{Adds, Exchanging, IsHeldByEither}
+use Rattle.mvd_sync.specs.Exchanges.{CountsDone, Exchanging, IsHeldByEither}
 use Rattle.mvd_sync.specs.Level.{GoesDown, IsDown, Level, next_nodes}
 use Rattle.mvd_sync.specs.Meetings.{ArePlans, done_of, held_keys, noted}
 use Rattle.mvd_sync.specs.OneTurn.{BeginsTurn, IsSameTurn, untold}
-use Rattle.mvd_sync.specs.Questions.{IsOfKey, IsWindow, Takes}
-use Rattle.mvd_sync.specs.Steps.{IsBounded, Wanted, asked, cut, nothing, only_gets, only_nodes, only_pages, only_pushes}
-use Rattle.mvd_sync.specs.Tellings.{IsNoNode, IsNoPage, IsNodeOf, IsPageOf, IsRead, IsStateOf, never}
-use Rattle.mvd_sync.specs.Tellings.{nodes_told, pages_told, pushes_told, states_told, unasked}
+use Rattle.mvd_sync.specs.Questions.{IsOfKey, IsWindow, TakesBudget}
+use Rattle.mvd_sync.specs.Steps.{IsBoundedWindow, Wanted, asked, cut_wanted, no_question, only_gets, only_nodes, only_pages, only_pushes}
+use Rattle.mvd_sync.specs.Tellings.{IsNoNode, IsNoPage, IsNodeOf, IsListingOf, IsRead, IsStateOf, never}
+use Rattle.mvd_sync.specs.Tellings.{nodes_told, pages_told, pushes_told, states_told, unasked_told}
 use Rattle.mvd_sync.specs.Walking.{EndsTelling, GoesTo, IsTold, IsWalked, Walking, pages_next, pages_of}
 use Rattle.mvd_sync.specs.declared.asked.Step.{Step}
 use Rattle.mvd_sync.specs.declared.asking.Node.{Node}
@@ -48,32 +48,32 @@ is_same AtPeer AtPeer = true
 is_same side other = false
 
 -- what a side is asked next, if as many questions are left
-abbrev pub wanted : Side → Stage → Wanted
-wanted side (Descends level) = only_nodes (next_nodes level)
-wanted side (Walks walk) = only_pages (pages_of side walk)
-wanted side (Meets walk entries) = only_gets (held_keys side entries.items)
-wanted side (Carries walk turn count) = only_pushes (cond (is_same turn.side side) (take count (untold turn)) [])
-wanted side Done = nothing
-wanted side (Failed fault) = nothing
+abbrev pub wanted_at : Side → Stage → Wanted
+wanted_at side (Descends level) = only_nodes (next_nodes level)
+wanted_at side (Walks walk) = only_pages (pages_of side walk)
+wanted_at side (Meets walk entries) = only_gets (held_keys side entries.items)
+wanted_at side (Carries walk turn count) = only_pushes (cond (is_same turn.side side) (take count (untold turn)) [])
+wanted_at side Done = no_question
+wanted_at side (Failed fault) = no_question
 
 -- how many questions these are
-abbrev pub count_of : Side → Stage → ℕ
-count_of side (Descends level) = length (next_nodes level)
-count_of side (Walks walk) = length (pages_of side walk)
-count_of side (Meets walk entries) = length (held_keys side entries.items)
-count_of side (Carries walk turn count) = cond (is_same turn.side side) count 0
-count_of side Done = 0
-count_of side (Failed fault) = 0
+abbrev pub wanted_count : Side → Stage → ℕ
+wanted_count side (Descends level) = length (next_nodes level)
+wanted_count side (Walks walk) = length (pages_of side walk)
+wanted_count side (Meets walk entries) = length (held_keys side entries.items)
+wanted_count side (Carries walk turn count) = cond (is_same turn.side side) count 0
+wanted_count side Done = 0
+wanted_count side (Failed fault) = 0
 
-abbrev pub left_of : Side → Questions → ℕ
-left_of AtLocal left = left.local
-left_of AtPeer left = left.peer
+abbrev pub questions_left : Side → Questions → ℕ
+questions_left AtLocal left = left.local
+questions_left AtPeer left = left.peer
 
 -- A STEP ASKS each side what is next, as far as its questions reach, and not too much at once
 pub record IsStep (now : Machining) (step : Step) : Type 0 where
-  pub local : asked step.local ≡ cut now.left.local (wanted AtLocal now.stage)
-  pub peer : asked step.peer ≡ cut now.left.peer (wanted AtPeer now.stage)
-  pub bounded : IsBounded step.local × IsBounded step.peer
+  pub local : asked step.local ≡ cut_wanted now.left.local (wanted_at AtLocal now.stage)
+  pub peer : asked step.peer ≡ cut_wanted now.left.peer (wanted_at AtPeer now.stage)
+  pub bounded : IsBoundedWindow step.local × IsBoundedWindow step.peer
 
 -- ---- without a question
 
@@ -87,27 +87,27 @@ IsQuiet Done = ⊥
 IsQuiet (Failed fault) = ⊥
 
 -- a side is asked something
-abbrev pub Asks : Stage → Type 0
-Asks (Descends level) = IsDown level → ⊥
-Asks (Walks walk) = pages_next walk.bucket walk.entry walk.rest ≢ []
-Asks (Meets walk entries) = Unit {0}
-Asks (Carries walk turn count) = length turn.told.items < length turn.pairs.items
-Asks Done = ⊥
-Asks (Failed fault) = ⊥
+abbrev pub StageAsks : Stage → Type 0
+StageAsks (Descends level) = IsDown level → ⊥
+StageAsks (Walks walk) = pages_next walk.bucket walk.entry walk.rest ≢ []
+StageAsks (Meets walk entries) = Unit {0}
+StageAsks (Carries walk turn count) = length turn.told.items < length turn.pairs.items
+StageAsks Done = ⊥
+StageAsks (Failed fault) = ⊥
 
 -- The walk has told a key, or none: one that differs waits, and a thousand are exchanged
-pub data Settles (walk : Walking) (found : Option Entry) (old new : Exchanging) (stage : Stage) : Type 0 where
-  none_found : found ≡ None → new ≡ old → stage ≡ Walks walk → Settles walk found old new stage
+pub data SettlesFound (walk : Walking) (found : Option Entry) (old new : Exchanging) (stage : Stage) : Type 0 where
+  none_found : found ≡ None → new ≡ old → stage ≡ Walks walk → SettlesFound walk found old new stage
   equal : (e : Entry) → found ≡ Some e → e.differs ≡ false → new ≡ old → stage ≡ Walks walk
-      → Settles walk found old new stage
+      → SettlesFound walk found old new stage
   waits : (e : Entry) → found ≡ Some e → e.differs ≡ true → new ≡ record old { waiting = old.waiting ++ e ∷ [] }
-      → length new.waiting < 1000 → stage ≡ Walks walk → Settles walk found old new stage
+      → length new.waiting < 1000 → stage ≡ Walks walk → SettlesFound walk found old new stage
   fills : (e : Entry) (entries : Vec Entry Global) → found ≡ Some e → e.differs ≡ true
       → entries.items ≡ old.waiting ++ e ∷ [] → 1000 ≤ length entries.items → new ≡ record old { waiting = [] }
-      → stage ≡ Meets walk entries → Settles walk found old new stage
+      → stage ≡ Meets walk entries → SettlesFound walk found old new stage
 
 -- a side's turn begins
-pub record Begins (walk : Walking) (side : Side) (meetings : List Meeting) (stage : Stage) : Type 0 where
+pub record TurnBegins (walk : Walking) (side : Side) (meetings : List Meeting) (stage : Stage) : Type 0 where
   pub turn : Turn
   pub count : ℕ
   pub begun : BeginsTurn side meetings turn
@@ -116,7 +116,7 @@ pub record Begins (walk : Walking) (side : Side) (meetings : List Meeting) (stag
 
 -- the walk goes on to its next key; after the last those that wait are exchanged; where none waits the session is done
 pub data FromWalk (work : Exchanging) (walk : Walking) (work' : Exchanging) (stage : Stage) : Type 0 where
-  goes_on : (walk' : Walking) (found : Option Entry) → GoesTo walk found walk' → Settles walk' found work work' stage
+  goes_on : (walk' : Walking) (found : Option Entry) → GoesTo walk found walk' → SettlesFound walk' found work work' stage
       → FromWalk work walk work' stage
   last : (entries : Vec Entry Global) → IsWalked walk → work.waiting ≢ [] → entries.items ≡ work.waiting
       → work' ≡ record work { waiting = [] } → stage ≡ Meets walk entries → FromWalk work walk work' stage
@@ -126,8 +126,8 @@ pub data FromWalk (work : Exchanging) (walk : Walking) (work' : Exchanging) (sta
 -- after the local side it is the peer's turn; after the peer's the keys are counted, and the walk goes on
 pub data FromTurn (work : Exchanging) (walk : Walking) (turn : Turn) (work' : Exchanging) (stage : Stage) : Type 0 where
   turns : turn.side ≡ AtLocal → work' ≡ work
-      → Begins walk AtPeer (noted AtLocal turn.meetings.items turn.told.items) stage → FromTurn work walk turn work' stage
-  counts : turn.side ≡ AtPeer → Adds (map done_of (noted AtPeer turn.meetings.items turn.told.items)) work work'
+      → TurnBegins walk AtPeer (noted AtLocal turn.meetings.items turn.told.items) stage → FromTurn work walk turn work' stage
+  counts : turn.side ≡ AtPeer → CountsDone (map done_of (noted AtPeer turn.meetings.items turn.told.items)) work work'
       → stage ≡ Walks walk → FromTurn work walk turn work' stage
 
 -- ONE STEP WITHOUT A QUESTION
@@ -139,10 +139,10 @@ GoesAlone work (Carries walk turn count) work' stage' = FromTurn work walk turn 
 GoesAlone work stage work' stage' = ⊥
 
 -- SO MANY STEPS WITHOUT A QUESTION
-pub data Went (work : Exchanging) (stage : Stage) : Exchanging → Stage → Type 0 where
-  here : (work' : Exchanging) (stage' : Stage) → work' ≡ work → stage' ≡ stage → Went work stage work' stage'
-  on : (mid work' : Exchanging) (stage1 stage' : Stage) → Went work stage mid stage1 → IsQuiet stage1
-      → GoesAlone mid stage1 work' stage' → Went work stage work' stage'
+pub data StageWent (work : Exchanging) (stage : Stage) : Exchanging → Stage → Type 0 where
+  here : (work' : Exchanging) (stage' : Stage) → work' ≡ work → stage' ≡ stage → StageWent work stage work' stage'
+  on : (mid work' : Exchanging) (stage1 stage' : Stage) → StageWent work stage mid stage1 → IsQuiet stage1
+      → GoesAlone mid stage1 work' stage' → StageWent work stage work' stage'
 
 -- ---- with what both sides told
 
@@ -165,13 +165,13 @@ abbrev pub Walked : Exchanging → Walking → Exchanging → List ListingValue 
     → Type 0
 Walked work walk work' mine theirs result = MatchResult result
     (λ stage. (after : Walking) × (found : Option Entry) × IsTold walk mine theirs found after
-    × Settles after found work work' stage) (EndsTelling walk mine theirs)
+    × SettlesFound after found work work' stage) (EndsTelling walk mine theirs)
 
 -- it is planned what each side is to take, and the local one begins
 abbrev pub Met : Option ℕ → Walking → List Entry → List State → List State → Result Stage SyncFault → Type 0
 Met number walk entries mine theirs result = MatchResult result
     (λ stage. (meetings : List Meeting) × ArePlans number entries mine theirs meetings
-    × Begins walk AtLocal meetings stage) (λ fault. fault ≡ Local Memory)
+    × TurnBegins walk AtLocal meetings stage) (λ fault. fault ≡ Local Memory)
 
 -- the side told of its pushes
 pub record Pushed (walk : Walking) (turn : Turn) (told : Result (List (Result (Unit {0}) Refusal)) Refusal) (share : Share)
@@ -208,22 +208,22 @@ abbrev pub other_of : Side → Side
 other_of AtLocal = AtPeer
 other_of AtPeer = AtLocal
 
-abbrev pub told_by : Side → Answers → Option Told
-told_by AtLocal answers = answers.mine
-told_by AtPeer answers = answers.theirs
+abbrev pub told_by_side : Side → Answers → Option Told
+told_by_side AtLocal answers = answers.mine
+told_by_side AtPeer answers = answers.theirs
 
 abbrev pub share_of : Side → Shares → Share
 share_of AtLocal shares = shares.local
 share_of AtPeer shares = shares.peer
 
-pub data Carried (walk : Walking) (turn : Turn) (share : Share) (told other : Option Told)
+pub data CarriedOn (walk : Walking) (turn : Turn) (share : Share) (told other : Option Told)
     (result : Result Stage SyncFault) : Type 0 where
-  goes : (stage : Stage) → unasked other ≡ Ok tt → Pushed walk turn (pushes_told told) share stage → result ≡ Ok stage
-      → Carried walk turn share told other result
-  of_other : (refusal : Refusal) → unasked other ≡ Err refusal
-      → result ≡ Err (fault_at (other_of turn.side) refusal) → Carried walk turn share told other result
+  goes : (stage : Stage) → unasked_told other ≡ Ok tt → Pushed walk turn (pushes_told told) share stage → result ≡ Ok stage
+      → CarriedOn walk turn share told other result
+  of_other : (refusal : Refusal) → unasked_told other ≡ Err refusal
+      → result ≡ Err (fault_at (other_of turn.side) refusal) → CarriedOn walk turn share told other result
   of_side : (refusal : Refusal) → IsUnheard (pushes_told told) share refusal
-      → result ≡ Err (fault_at turn.side refusal) → Carried walk turn share told other result
+      → result ≡ Err (fault_at turn.side refusal) → CarriedOn walk turn share told other result
 
 -- WHAT BECOMES OF IT with what both sides told
 abbrev pub HearsAt : Exchanging → Stage → Shares → Answers → Exchanging → Result Stage SyncFault → Type 0
@@ -231,13 +231,13 @@ HearsAt work (Descends level) shares answers work' result = (work' ≡ work)
     × ReadBoth (IsRead IsNodeOf IsNoNode (nodes_told answers.mine) shares.local)
     (IsRead IsNodeOf IsNoNode (nodes_told answers.theirs) shares.peer) (Descended level) result
 HearsAt work (Walks walk) shares answers work' result =
-    ReadBoth (IsRead IsPageOf IsNoPage (pages_told answers.mine) shares.local)
-    (IsRead IsPageOf IsNoPage (pages_told answers.theirs) shares.peer) (Walked work walk work') result
+    ReadBoth (IsRead IsListingOf IsNoPage (pages_told answers.mine) shares.local)
+    (IsRead IsListingOf IsNoPage (pages_told answers.theirs) shares.peer) (Walked work walk work') result
 HearsAt work (Meets walk entries) shares answers work' result = (work' ≡ work)
     × ReadBoth (IsRead IsStateOf never (states_told answers.mine) shares.local)
     (IsRead IsStateOf never (states_told answers.theirs) shares.peer) (Met work.number walk entries.items) result
 HearsAt work (Carries walk turn count) shares answers work' result = (work' ≡ work)
-    × Carried walk turn (share_of turn.side shares) (told_by turn.side answers) (told_by (other_of turn.side) answers) result
+    × CarriedOn walk turn (share_of turn.side shares) (told_by_side turn.side answers) (told_by_side (other_of turn.side) answers) result
 HearsAt work Done shares answers work' result = ⊥
 HearsAt work (Failed fault) shares answers work' result = ⊥
 
@@ -249,17 +249,17 @@ stays stage (Ok mine) (Ok theirs) = Ok stage
 
 -- the questions are taken from those that are left
 pub record TakesShares (stage : Stage) (left : Questions) (left' : Questions) (shares : Shares) : Type 0 where
-  pub local : Takes left.local left'.local (count_of AtLocal stage) shares.local.asked
-  pub peer : Takes left.peer left'.peer (count_of AtPeer stage) shares.peer.asked
-  pub wanted : (shares.local.wanted ≡ count_of AtLocal stage) × (shares.peer.wanted ≡ count_of AtPeer stage)
+  pub local : TakesBudget left.local left'.local (wanted_count AtLocal stage) shares.local.asked
+  pub peer : TakesBudget left.peer left'.peer (wanted_count AtPeer stage) shares.peer.asked
+  pub wanted : (shares.local.wanted ≡ wanted_count AtLocal stage) × (shares.peer.wanted ≡ wanted_count AtPeer stage)
 
 -- THE ANSWERS ARE TAKEN: nothing was asked, or it had failed; or the questions are spent, and it goes on or ends
-pub data Hears (left : Questions) (work : Exchanging) (stage : Stage) (answers : Answers) (left' : Questions)
+pub data StageHears (left : Questions) (work : Exchanging) (stage : Stage) (answers : Answers) (left' : Questions)
     (work' : Exchanging) (result : Result Stage SyncFault) : Type 0 where
-  quiet : (Asks stage → ⊥) → left' ≡ left → work' ≡ work → result ≡ stays stage (unasked answers.mine) (unasked answers.theirs)
-      → Hears left work stage answers left' work' result
-  hears : (shares : Shares) → Asks stage → TakesShares stage left left' shares
-      → HearsAt work stage shares answers work' result → Hears left work stage answers left' work' result
+  quiet : (StageAsks stage → ⊥) → left' ≡ left → work' ≡ work → result ≡ stays stage (unasked_told answers.mine) (unasked_told answers.theirs)
+      → StageHears left work stage answers left' work' result
+  hears : (shares : Shares) → StageAsks stage → TakesShares stage left left' shares
+      → HearsAt work stage shares answers work' result → StageHears left work stage answers left' work' result
 
 -- the stage after it
 abbrev pub stage_after : Result Stage SyncFault → Stage
@@ -273,26 +273,26 @@ abbrev pub in_flight : Stage → ℕ
 in_flight (Carries walk turn count) = length turn.meetings.items
 in_flight stage = 0
 
-abbrev pub HasRoom : Exchanging → Stage → Type 0
-HasRoom work stage = work.keys + work.refused + in_flight stage < 2 ^ 64
+abbrev pub HasRoomLeft : Exchanging → Stage → Type 0
+HasRoomLeft work stage = work.keys + work.refused + in_flight stage < 2 ^ 64
 
-abbrev pub Stands : Stage → Type 0
-Stands (Descends level) = Each (λ path. length path ≡ level.depth) level.rest
+abbrev pub StageStands : Stage → Type 0
+StageStands (Descends level) = Each (λ path. length path ≡ level.depth) level.rest
     × Each (λ path. length path ≡ level.depth + 1) level.below
-Stands (Walks walk) = IfSome walk.entry IsHeldByEither
-Stands (Meets walk entries) = IfSome walk.entry IsHeldByEither × (length entries.items ≤ 1000)
+StageStands (Walks walk) = IfSome walk.entry IsHeldByEither
+StageStands (Meets walk entries) = IfSome walk.entry IsHeldByEither × (length entries.items ≤ 1000)
     × Each IsHeldByEither entries.items
-Stands (Carries walk turn count) = IfSome walk.entry IsHeldByEither × IsWindow (untold turn) count
+StageStands (Carries walk turn count) = IfSome walk.entry IsHeldByEither × IsWindow (untold turn) count
     × (length turn.told.items ≤ length turn.pairs.items)
-Stands Done = Unit {0}
-Stands (Failed fault) = Unit {0}
+StageStands Done = Unit {0}
+StageStands (Failed fault) = Unit {0}
 
 -- each key that is counted took a question at least, fewer than a thousand wait, and it stands so
 pub record IsFitting (left : Questions) (work : Exchanging) (stage : Stage) : Type 0 where
   pub room : work.keys + work.refused + in_flight stage + left.local + left.peer ≤ 20000000
   pub short : length work.waiting < 1000
   pub held : Each IsHeldByEither work.waiting
-  pub stands : Stands stage
+  pub stands : StageStands stage
 
 abbrev pub IsFit : Questions → Exchanging → Stage → Type 0
 IsFit left work (Failed fault) = Unit {0}
@@ -307,25 +307,25 @@ pub record Starts (number : Option ℕ) (questions : ℕ) (now : Machining) : Ty
   pub stage : now.stage ≡ Descends (record { depth = 0; rest = [] ∷ []; below = [] })
 
 -- what is asked now, or nothing where the session is done
-abbrev pub AsksFor : Machining → Option Step → Type 0
-AsksFor now None = now.stage ≡ Done
-AsksFor now (Some step) = IsStep now step × Asks now.stage
+abbrev pub AsksForNext : Machining → Option Step → Type 0
+AsksForNext now None = now.stage ≡ Done
+AsksForNext now (Some step) = IsStep now step × StageAsks now.stage
 
 -- IT WENT ON without a question, as far as it could, and so it asks, or is done
 pub record HasNext (old new : Machining) (step : Option Step) : Type 0 where
   pub left : new.left ≡ old.left
-  pub went : Went old.work old.stage new.work new.stage
+  pub went : StageWent old.work old.stage new.work new.stage
   pub loud : IsQuiet new.stage → ⊥
-  pub asks : AsksFor new step
+  pub asks : AsksForNext new step
 
-abbrev pub told_of : Result Stage SyncFault → Result (Unit {0}) SyncFault
-told_of (Ok stage) = Ok tt
-told_of (Err fault) = Err fault
+abbrev pub stage_told : Result Stage SyncFault → Result (Unit {0}) SyncFault
+stage_told (Ok stage) = Ok tt
+stage_told (Err fault) = Err fault
 
 -- IT TOOK THE ANSWERS, and goes on with them, or ended by a fault
 pub record TakesTold (old : Machining) (mine theirs : Option Told) (new : Machining)
     (result : Result (Unit {0}) SyncFault) : Type 0 where
   pub after : Result Stage SyncFault
-  pub hears : Hears old.left old.work old.stage (record { mine = mine; theirs = theirs }) new.left new.work after
+  pub hears : StageHears old.left old.work old.stage (record { mine = mine; theirs = theirs }) new.left new.work after
   pub stage : new.stage ≡ stage_after after
-  pub is : result ≡ told_of after
+  pub is : result ≡ stage_told after

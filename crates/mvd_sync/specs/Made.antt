@@ -6,9 +6,9 @@ use Rattle.mvd_dots.specs.declared.refusals.Refusal.TheVariants.{BadBody, Memory
 use Rattle.mvd_peer.specs.Windows.{ForEach}
 
 -- what was made of an answer, which is no refusal
-abbrev pub Passes : {A B : Type 0} → (A → B → Type 0) → Result A Refusal → B → Type 0
-Passes IsOf (Ok a) b = IsOf a b
-Passes IsOf (Err refusal) b = ⊥
+abbrev pub PassesFault : {A B : Type 0} → (A → B → Type 0) → Result A Refusal → B → Type 0
+PassesFault IsOf (Ok a) b = IsOf a b
+PassesFault IsOf (Err refusal) b = ⊥
 
 -- why it was not made of all: memory was refused, or one is a refusal, or nothing is made of one (33)
 abbrev pub EndsMaking : {A : Type 0} → (A → Type 0) → List (Result A Refusal) → Refusal → Type 0
@@ -20,7 +20,7 @@ EndsMaking {A} IsNone told refusal = (refusal ≡ Memory)
 abbrev pub ReadsAll : {A B : Type 0} → (A → B → Type 0) → (A → Type 0) → Result (Vec (Result A Refusal) Global) Refusal
     → ℕ → ℕ → Result (Vec B Global) Refusal → Type 0
 ReadsAll IsOf IsNone (Ok told) taken wanted (Ok read) =
-    ForEach (Passes IsOf) told.items read.items × (wanted ≤ taken)
+    ForEach (PassesFault IsOf) told.items read.items × (wanted ≤ taken)
 ReadsAll IsOf IsNone (Ok told) taken wanted (Err refusal) =
     EndsMaking IsNone told.items refusal ⊎ ((refusal ≡ TooManyRequests) × (taken < wanted))
 ReadsAll IsOf IsNone (Err refusal) taken wanted result = result ≡ Err refusal

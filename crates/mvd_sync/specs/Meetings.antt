@@ -72,8 +72,8 @@ abbrev pub wanted : Side → Meeting → Option State
 wanted AtLocal m = cond (is_some m.refused) None m.pull
 wanted AtPeer m = cond (is_some m.refused) None m.give
 
-abbrev pub pair_of : Side → Meeting → Option (Key × State)
-pair_of side m = option_map (λ s. (m.key, s)) (wanted side m)
+abbrev pub pushed_pair : Side → Meeting → Option (Key × State)
+pushed_pair side m = option_map (λ s. (m.key, s)) (wanted side m)
 
 -- it was taken out
 abbrev pub taken_from : Side → Meeting → Meeting
@@ -82,15 +82,15 @@ taken_from AtPeer m = record m { give = None; asked = is_some (wanted AtPeer m) 
 
 -- ---- what it told
 
-abbrev pub refusal_of : Side → Option (Side × Refusal) → Option (Result (Unit {0}) Refusal) → Option (Side × Refusal)
-refusal_of side refused (Some (Err refusal)) = Some (side, refusal)
-refusal_of side refused told = refused
+abbrev pub noted_refusal : Side → Option (Side × Refusal) → Option (Result (Unit {0}) Refusal) → Option (Side × Refusal)
+noted_refusal side refused (Some (Err refusal)) = Some (side, refusal)
+noted_refusal side refused told = refused
 
 -- the answers are of the meetings that were asked, in their order
 abbrev pub noted : Side → List Meeting → List (Result (Unit {0}) Refusal) → List Meeting
 noted side [] told = []
 noted side (m ∷ ms) told =
-    record m { refused = refusal_of side m.refused (first_if m.asked told) } ∷ noted side ms (rest_if m.asked told)
+    record m { refused = noted_refusal side m.refused (first_if m.asked told) } ∷ noted side ms (rest_if m.asked told)
 
 abbrev pub done_of : Meeting → Done
 done_of m = record { key = m.key; is_old = m.is_old; refused = m.refused }

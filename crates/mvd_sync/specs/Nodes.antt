@@ -9,12 +9,12 @@ abbrev pub differs_at : KeyDigests → KeyDigests → List ℕ → Bool
 differs_at a b path = not (bytes_eq (node_digest a path) (node_digest b path))
 
 -- the children of a node above the buckets
-abbrev pub children_of : List ℕ → List (List ℕ)
-children_of path = map (λ d. path ++ d ∷ []) digits
+abbrev pub child_paths : List ℕ → List (List ℕ)
+child_paths path = map (λ d. path ++ d ∷ []) digits
 
 -- the children that differ of the nodes that differ
 abbrev pub differing_children : KeyDigests → KeyDigests → List (List ℕ) → List (List ℕ)
-differing_children a b paths = filter (differs_at a b) (flat_map children_of (filter (differs_at a b) paths))
+differing_children a b paths = filter (differs_at a b) (flat_map child_paths (filter (differs_at a b) paths))
 
 -- whether one of the nodes has the key below it
 abbrev pub has_below : List (List ℕ) → Key → Bool

@@ -2,7 +2,7 @@
 use Rattle.std.specs.Prelude.{◌≡◌, List, [], length, drop, map, filter_map}
 use Rattle.mvd_keys.specs.State.{State}
 use Rattle.mvd_keys.specs.Writes.{Key}
-use Rattle.mvd_sync.specs.Meetings.{pair_of, taken_from}
+use Rattle.mvd_sync.specs.Meetings.{pushed_pair, taken_from}
 use Rattle.mvd_sync.specs.declared.meetings.Meeting.{Meeting}
 use Rattle.mvd_sync.specs.declared.report.Side.{Side}
 use Rattle.mvd_sync.specs.declared.turn.Turn.{Turn}
@@ -11,7 +11,7 @@ use Rattle.mvd_sync.specs.declared.turn.Turn.{Turn}
 pub record BeginsTurn (side : Side) (meetings : List Meeting) (turn : Turn) : Type 0 where
   pub of_side : turn.side ≡ side
   pub keys : turn.meetings.items ≡ map (taken_from side) meetings
-  pub takes : turn.pairs.items ≡ filter_map (pair_of side) meetings
+  pub takes : turn.pairs.items ≡ filter_map (pushed_pair side) meetings
   pub fresh : turn.told.items ≡ []
 
 -- the turn of the same side, to take the same

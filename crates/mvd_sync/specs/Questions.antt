@@ -9,7 +9,7 @@ use Rattle.mvd_tree.specs.HashTree.{KeyDigests, node_digest}
 use Rattle.mvd_tree.specs.Page.{children_digests}
 use Rattle.mvd_wire.specs.Codecs.{spell_state}
 use Rattle.mvd_site.specs.Answer.{digests}
-use Rattle.mvd_sync.specs.Answers.{IsPage, IsPageOf, ListingValue}
+use Rattle.mvd_sync.specs.Answers.{IsPage, IsBucketPage, ListingValue}
 use Rattle.mvd_sync.specs.Faults.{Blames}
 use Rattle.mvd_peer.specs.Sides.{HasAnswered, SideOf, is_of_key, is_of_question}
 use Rattle.mvd_peer.specs.Windows.{ForEach, Pushes, PushesFirst}
@@ -26,7 +26,7 @@ abbrev pub with_left : {S : Type 0} → S → ℕ → OneAsking S
 with_left at left = record { at = at; left = left }
 
 -- as many as were wanted, or all that were left, are taken
-pub record Takes (left left' wanted taken : ℕ) : Type 0 where
+pub record TakesBudget (left left' wanted taken : ℕ) : Type 0 where
   pub spent : left ≡ left' + taken
   pub most : taken ≤ wanted
   pub all : taken < wanted → left' ≡ 0
@@ -88,7 +88,7 @@ abbrev pub TellsPages : {S : Type 0} → SideOf S → List (List ℕ × Option K
 TellsPages s asked pages old new =
     AllAnswered s (λ q page. IsPage None page.0 page.1 × (length page.0 < 2 ^ 64)
     × HasAnswered s.follows s.can_answer old.at new.at)
-    (AnswersEach s (λ q page. IsPageOf (digests (s.states old.at)) q.0 q.1 page.0 page.1) asked pages old.at new.at)
+    (AnswersEach s (λ q page. IsBucketPage (digests (s.states old.at)) q.0 q.1 page.0 page.1) asked pages old.at new.at)
     asked pages old new
 
 -- A listing of the keys of a bucket after a key was filled, by a question more where it had come to its end and there
@@ -105,7 +105,7 @@ pub record Fills {S : Type 0} (s : SideOf S) (path : List ℕ) (after : Option K
   pub ended : listing'.0 ≡ [] → listing'.1 ≡ false
   pub kept : s.is_faithful old.at → Keeps s old.at new.at
   pub page : s.is_faithful old.at → 1 ≤ asked →
-      IsPageOf (digests (s.states old.at)) path after listing'.0 listing'.1
+      IsBucketPage (digests (s.states old.at)) path after listing'.0 listing'.1
 
 -- ---- answers
 

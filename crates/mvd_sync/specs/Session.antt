@@ -26,7 +26,7 @@ use Rattle.mvd_sync.specs.declared.report.SyncFault.TheVariants.{Local, Peer}
 
 -- a faithful side stays faithful, unless the fault is its own `Broken`; while it is faithful, its states come by pushes
 -- of what can be given
-pub record Changes {A : Type 0} (still_true : Type 0) (broken : SyncFault) (can_give : Key → State → Type 0)
+pub record ChangesSide {A : Type 0} (still_true : Type 0) (broken : SyncFault) (can_give : Key → State → Type 0)
     (old new : States) (result : Result A SyncFault) : Type 0 where
   pub after_ok : OnOk result still_true
   pub after_fault : IfErr result (λ fault. fault ≢ broken → still_true)
@@ -223,9 +223,9 @@ pub record Course {L P A : Type 0} (s : Sides L P) (old : Asking L P) (new : Two
         new = new.peer;
       })))
   -- whatever the other is, a faithful side changes by pushes of states that the other may give, and by nothing else
-  pub local_side : s.local.is_faithful old.at.local → Changes (s.local.is_faithful new.local) (Local Broken)
+  pub local_side : s.local.is_faithful old.at.local → ChangesSide (s.local.is_faithful new.local) (Local Broken)
       s.peer.can_give (s.local.states old.at.local) (s.local.states new.local) result
-  pub peer_side : s.peer.is_faithful old.at.peer → Changes (s.peer.is_faithful new.peer) (Peer Broken)
+  pub peer_side : s.peer.is_faithful old.at.peer → ChangesSide (s.peer.is_faithful new.peer) (Peer Broken)
       s.local.can_give (s.peer.states old.at.peer) (s.peer.states new.peer) result
   -- beside a side that answers nothing a faithful one keeps its states: beside a silent local side the peer, and the
   -- other way round

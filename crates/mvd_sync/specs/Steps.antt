@@ -14,8 +14,8 @@ pub record Wanted : Type 0 where
   pub gets : List Key
   pub pushes : List (Key × State)
 
-abbrev pub nothing : Wanted
-nothing = record { nodes = []; pages = []; gets = []; pushes = [] }
+abbrev pub no_question : Wanted
+no_question = record { nodes = []; pages = []; gets = []; pushes = [] }
 
 abbrev pub only_nodes : List (List ℕ) → Wanted
 only_nodes paths = record { nodes = paths; pages = []; gets = []; pushes = [] }
@@ -31,7 +31,7 @@ only_pushes pairs = record { nodes = []; pages = []; gets = []; pushes = pairs }
 
 -- what a window asks
 abbrev pub asked : Option Window → Wanted
-asked None = nothing
+asked None = no_question
 asked (Some (Nodes paths)) = only_nodes paths.items
 asked (Some (Pages pages)) = only_pages pages.items
 asked (Some (Gets keys)) = only_gets keys.items
@@ -44,8 +44,8 @@ count_in (Gets keys) = length keys.items
 count_in (Pushes pairs) = length pairs.items
 
 -- the first of the questions, as many as are left
-abbrev pub cut : ℕ → Wanted → Wanted
-cut left w = record {
+abbrev pub cut_wanted : ℕ → Wanted → Wanted
+cut_wanted left w = record {
   nodes = take left w.nodes;
   pages = take left w.pages;
   gets = take left w.gets;
@@ -57,9 +57,9 @@ abbrev pub AreSmall : List (Key × State) → Type 0
 AreSmall pairs = 1 < length pairs → sum_by push_bytes pairs ≤ 1048576
 
 -- NO WINDOW IS EMPTY, AND NONE IS LARGE
-abbrev pub IsBounded : Option Window → Type 0
-IsBounded None = Unit {0}
-IsBounded (Some (Nodes paths)) = (1 ≤ length paths.items) × (length paths.items ≤ 64)
-IsBounded (Some (Pages pages)) = (1 ≤ length pages.items) × (length pages.items ≤ 64)
-IsBounded (Some (Gets keys)) = (1 ≤ length keys.items) × (length keys.items ≤ 1000)
-IsBounded (Some (Pushes pairs)) = (1 ≤ length pairs.items) × AreSmall pairs.items
+abbrev pub IsBoundedWindow : Option Window → Type 0
+IsBoundedWindow None = Unit {0}
+IsBoundedWindow (Some (Nodes paths)) = (1 ≤ length paths.items) × (length paths.items ≤ 64)
+IsBoundedWindow (Some (Pages pages)) = (1 ≤ length pages.items) × (length pages.items ≤ 64)
+IsBoundedWindow (Some (Gets keys)) = (1 ≤ length keys.items) × (length keys.items ≤ 1000)
+IsBoundedWindow (Some (Pushes pairs)) = (1 ≤ length pairs.items) × AreSmall pairs.items

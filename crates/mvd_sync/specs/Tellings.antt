@@ -7,7 +7,7 @@ use Rattle.mvd_keys.specs.State.{State}
 use Rattle.mvd_peer.specs.Windows.{ForEach}
 use Rattle.mvd_wire.specs.declared.reply.Digests.{Digests}
 use Rattle.mvd_sync.specs.Answers.{IsPage, ListingValue, PageEntry}
-use Rattle.mvd_sync.specs.Made.{EndsMaking, Passes}
+use Rattle.mvd_sync.specs.Made.{EndsMaking, PassesFault}
 use Rattle.mvd_sync.specs.declared.asking.Node.{Node}
 use Rattle.mvd_sync.specs.declared.telling.Share.{Share}
 use Rattle.mvd_sync.specs.declared.telling.Told.{Told}
@@ -49,10 +49,10 @@ pushes_told (Some (Refused refusal)) = Err refusal
 pushes_told (Some told) = Err BadBody
 
 -- a side that was asked nothing tells nothing
-abbrev pub unasked : Option Told → Result (Unit {0}) Refusal
-unasked None = Ok tt
-unasked (Some (Refused refusal)) = Err refusal
-unasked (Some told) = Err BadBody
+abbrev pub unasked_told : Option Told → Result (Unit {0}) Refusal
+unasked_told None = Ok tt
+unasked_told (Some (Refused refusal)) = Err refusal
+unasked_told (Some told) = Err BadBody
 
 -- ---- what is made of an answer
 
@@ -62,8 +62,8 @@ IsNodeOf digests node = (node.own ≡ digests.own) × (digests.children ≡ Some
 abbrev pub IsNoNode : Digests → Type 0
 IsNoNode digests = digests.children ≡ None
 
-abbrev pub IsPageOf : Page → ListingValue → Type 0
-IsPageOf page listing = (listing ≡ (page.0.items, page.1)) × IsPage None listing.0 listing.1 × (length listing.0 < 2 ^ 64)
+abbrev pub IsListingOf : Page → ListingValue → Type 0
+IsListingOf page listing = (listing ≡ (page.0.items, page.1)) × IsPage None listing.0 listing.1 × (length listing.0 < 2 ^ 64)
 
 abbrev pub IsNoPage : Page → Type 0
 IsNoPage page = IsPage None page.0.items page.1 → ⊥
@@ -95,7 +95,7 @@ pub record AllRead {A B : Type 0} (IsOf : A → B → Type 0) (told : Result (Li
   pub is : told ≡ Ok answers
   pub counted : length answers ≡ share.asked
   pub whole : share.wanted ≤ share.asked
-  pub each : ForEach (Passes IsOf) answers read
+  pub each : ForEach (PassesFault IsOf) answers read
 
 -- THE ANSWERS OF A WINDOW, as they were read
 abbrev pub IsRead : {A B : Type 0} → (A → B → Type 0) → (A → Type 0) → Result (List (Result A Refusal)) Refusal → Share

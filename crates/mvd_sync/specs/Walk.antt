@@ -32,7 +32,7 @@ abbrev pub peer_of : {L P : Type 0} → Asking L P → OneAsking P
 peer_of a = with_left a.at.peer a.left.peer
 
 -- So many questions were made to a side, and taken from those that were left
-pub record Reads {S : Type 0} (s : SideOf S) (asked : ℕ) (old new : OneAsking S) : Type 0 where
+pub record ReadsSide {S : Type 0} (s : SideOf S) (asked : ℕ) (old new : OneAsking S) : Type 0 where
   pub spent : old.left ≡ new.left + asked
   pub follows : s.follows asked old.at new.at
   pub kept : s.is_faithful old.at → Keeps s old.at new.at
@@ -80,8 +80,8 @@ told_all paths mine theirs = []
 -- sides these are the children that differ
 pub record Descends {L P : Type 0} (s : Sides L P) (paths : List (List ℕ)) (old new : Asking L P)
     (below : List (List ℕ)) : Type 0 where
-  pub local_side : Reads s.local (length paths) (local_of old) (local_of new)
-  pub peer_side : Reads s.peer (length paths) (peer_of old) (peer_of new)
+  pub local_side : ReadsSide s.local (length paths) (local_of old) (local_of new)
+  pub peer_side : ReadsSide s.peer (length paths) (peer_of old) (peer_of new)
   pub answers : paths ≢ [] → HaveAnswered s old.at new.at
   pub longer : (n : ℕ) → Each (λ path. length path ≡ n) paths → Each (λ path. length path ≡ n + 1) below
   pub is : s.local.is_faithful old.at.local → s.peer.is_faithful old.at.peer →
@@ -105,8 +105,8 @@ AreFewFor s at Few = s.local.is_faithful at.local → s.peer.is_faithful at.peer
 -- questions, and one for each bucket, are at most one for the root and three for each key that differs
 pub record FindsBuckets {L P : Type 0} (s : Sides L P) (old new : Asking L P) (buckets : List (List ℕ)) : Type 0 where
   pub asked : ℕ
-  pub local_side : Reads s.local asked (local_of old) (local_of new)
-  pub peer_side : Reads s.peer asked (peer_of old) (peer_of new)
+  pub local_side : ReadsSide s.local asked (local_of old) (local_of new)
+  pub peer_side : ReadsSide s.peer asked (peer_of old) (peer_of new)
   pub answers : HaveAnswered s old.at new.at
   pub deep : Each (λ path. length path ≡ 3) buckets
   pub right : s.local.is_faithful old.at.local → s.peer.is_faithful old.at.peer →

@@ -64,10 +64,10 @@ pub record TakesNext (old : Bucket) (e : Entry) (new : Bucket) : Type 0 where
   pub more : (new.mine.1 ≡ old.mine.1) × (new.theirs.1 ≡ old.theirs.1)
 
 -- the next bucket is gone over, or none is there
-pub data Closes (old new : Walking) : Type 0 where
+pub data ClosesBucket (old new : Walking) : Type 0 where
   moves : (b : Bucket) (later : List Bucket) → old.later ≡ b ∷ later
-      → new ≡ record { rest = old.rest; bucket = Some b; later = later; entry = None } → Closes old new
-  ends : old.later ≡ [] → new ≡ record { rest = old.rest; bucket = None; later = []; entry = None } → Closes old new
+      → new ≡ record { rest = old.rest; bucket = Some b; later = later; entry = None } → ClosesBucket old new
+  ends : old.later ≡ [] → new ≡ record { rest = old.rest; bucket = None; later = []; entry = None } → ClosesBucket old new
 
 -- THE WALK GOES ON: the next key of the bucket is told, or waits for a page after it; or none is left
 pub data GoesTo (old : Walking) (found : Option Entry) (new : Walking) : Type 0 where
@@ -75,15 +75,15 @@ pub data GoesTo (old : Walking) (found : Option Entry) (new : Walking) : Type 0 
       → new ≡ record old { bucket = Some b' } → GoesTo old found new
   waits : (b b' : Bucket) (e : Entry) → old.bucket ≡ Some b → TakesNext b e b' → WantsPage b' → found ≡ None
       → new ≡ record old { bucket = Some b'; entry = Some e } → GoesTo old found new
-  closes : (b : Bucket) → old.bucket ≡ Some b → b.mine.0 ≡ [] → b.theirs.0 ≡ [] → found ≡ None → Closes old new
+  closes : (b : Bucket) → old.bucket ≡ Some b → b.mine.0 ≡ [] → b.theirs.0 ≡ [] → found ≡ None → ClosesBucket old new
       → GoesTo old found new
 
 -- ---- with what both sides told
 
 -- the buckets whose first pages these are
-abbrev pub opened : List PageQuestion → (mine theirs : List ListingValue) → List Bucket
-opened (q ∷ asked) (m ∷ mine) (t ∷ theirs) = record { path = q.0; mine = m; theirs = t } ∷ opened asked mine theirs
-opened asked mine theirs = []
+abbrev pub opened_buckets : List PageQuestion → (mine theirs : List ListingValue) → List Bucket
+opened_buckets (q ∷ asked) (m ∷ mine) (t ∷ theirs) = record { path = q.0; mine = m; theirs = t } ∷ opened_buckets asked mine theirs
+opened_buckets asked mine theirs = []
 
 -- a listing after the page that was told, if it was asked for
 abbrev pub filled : ListingValue → List ListingValue → ListingValue
@@ -101,7 +101,7 @@ ComeAfter key (page ∷ pages) = StartsAfter key page.0
 -- THE PAGES THAT WERE ASKED FOR WERE TOLD: the first of the buckets is gone over; or the key that waited is told
 pub data IsTold (old : Walking) (mine theirs : List ListingValue) (found : Option Entry) (new : Walking) : Type 0 where
   opens : (b : Bucket) (later : List Bucket) → old.bucket ≡ None
-      → opened (map first_page (take 64 old.rest)) mine theirs ≡ b ∷ later → found ≡ None
+      → opened_buckets (map first_page (take 64 old.rest)) mine theirs ≡ b ∷ later → found ≡ None
       → new ≡ record { rest = drop 64 old.rest; bucket = Some b; later = later; entry = None }
       → IsTold old mine theirs found new
   fills : (b : Bucket) (e : Entry) → old.bucket ≡ Some b → old.entry ≡ Some e → ComeAfter e.key mine

@@ -2,7 +2,7 @@
 ghost use Rattle.std.specs.Prelude.{◌≡◌, ◌≤◌, ◌<◌, length, min, take, IfOk, IfErr};
 ghost use Rattle.std.specs.Option.{option_copied};
 ghost use Rattle.mvd_sync.specs.Meetings.{held_keys};
-ghost use Rattle.mvd_sync.specs.Steps.{AreSmall, IsBounded, asked, count_in, cut};
+ghost use Rattle.mvd_sync.specs.Steps.{AreSmall, IsBoundedWindow, asked, count_in, cut_wanted};
 ghost use Rattle.mvd_sync.specs.Steps.{only_gets, only_nodes, only_pages, only_pushes};
 
 use crate::asking::take;
@@ -109,8 +109,8 @@ fn copy_pairs(alloc: Global, pairs: &[(Key, KeyState)]) -> Result<Vec<(Key, KeyS
 /// The window of the first of these nodes, as many as are left.
 pub fn nodes_window(alloc: Global, paths: &[Path], left: u64) -> Result<Option<Window>, Refusal>
     requires few { length paths.now ≤ 64 }
-    ensures asked { IfOk result (λ window. asked window ≡ cut left (only_nodes paths.now)) }
-    ensures bounded { IfOk result IsBounded }
+    ensures asked { IfOk result (λ window. asked window ≡ cut_wanted left (only_nodes paths.now)) }
+    ensures bounded { IfOk result IsBoundedWindow }
     ensures memory { IfErr result (λ refusal. refusal ≡ Refusal.Memory) }
 {
     let count = most(left, paths.len());
@@ -127,8 +127,8 @@ pub fn pages_window(
     left: u64,
 ) -> Result<Option<Window>, Refusal>
     requires few { length pages.now ≤ 64 }
-    ensures asked { IfOk result (λ window. asked window ≡ cut left (only_pages pages.now)) }
-    ensures bounded { IfOk result IsBounded }
+    ensures asked { IfOk result (λ window. asked window ≡ cut_wanted left (only_pages pages.now)) }
+    ensures bounded { IfOk result IsBoundedWindow }
     ensures memory { IfErr result (λ refusal. refusal ≡ Refusal.Memory) }
 {
     let count = most(left, pages.len());
@@ -146,8 +146,8 @@ pub fn gets_window(
     left: u64,
 ) -> Result<Option<Window>, Refusal>
     requires few { length entries.now ≤ 1000 }
-    ensures asked { IfOk result (λ window. asked window ≡ cut left (only_gets (held_keys side entries.now))) }
-    ensures bounded { IfOk result IsBounded }
+    ensures asked { IfOk result (λ window. asked window ≡ cut_wanted left (only_gets (held_keys side entries.now))) }
+    ensures bounded { IfOk result IsBoundedWindow }
     ensures memory { IfErr result (λ refusal. refusal ≡ Refusal.Memory) }
 {
     let mut keys = keys_held(alloc, entries, side)?;
@@ -166,8 +166,8 @@ pub fn pushes_window(
     left: u64,
 ) -> Result<Option<Window>, Refusal>
     requires small { AreSmall pairs.now }
-    ensures asked { IfOk result (λ window. asked window ≡ cut left (only_pushes pairs.now)) }
-    ensures bounded { IfOk result IsBounded }
+    ensures asked { IfOk result (λ window. asked window ≡ cut_wanted left (only_pushes pairs.now)) }
+    ensures bounded { IfOk result IsBoundedWindow }
     ensures memory { IfErr result (λ refusal. refusal ≡ Refusal.Memory) }
 {
     let count = most(left, pairs.len());

@@ -5,7 +5,7 @@ ghost use Rattle.mvd_site.specs.Answer.{digests};
 ghost use Rattle.mvd_site.specs.Held.{state_at};
 ghost use Rattle.mvd_sync.specs.Made.{ReadsAll};
 ghost use Rattle.mvd_sync.specs.Questions.{AllAnswered, AnswersEach, ComesToEnd, IsInner, IsOfKey, IsWindow};
-ghost use Rattle.mvd_sync.specs.Questions.{Keeps, Takes, TellsPages, with_left, push_bytes};
+ghost use Rattle.mvd_sync.specs.Questions.{Keeps, TakesBudget, TellsPages, with_left, push_bytes};
 ghost use Rattle.mvd_peer.specs.PushedStates.{Each};
 ghost use Rattle.mvd_peer.specs.PeerSides.{side_of};
 ghost use Rattle.mvd_peer.specs.Sides.{HasAnswered, is_of_key};
@@ -27,7 +27,7 @@ pub struct Questions {
 
 /// How many of so many questions are still left, which are taken.
 pub fn take(left: &mut u64, wanted: usize) -> usize
-    ensures { Takes left.old left.new wanted result }
+    ensures { TakesBudget left.old left.new wanted result }
 {
     let taken = if *left < wanted as u64 {
         *left as usize

@@ -1,6 +1,6 @@
 //! The keys that differ in the buckets.
 ghost use Rattle.std.specs.Prelude.{◌≡◌, ◌≢◌, ◌<◌, ◌+◌, ◌^◌, ◌∷◌, ◌++◌, [], length, IfOk, IfErr};
-ghost use Rattle.mvd_sync.specs.Buckets.{GoesOver, Settles};
+ghost use Rattle.mvd_sync.specs.Buckets.{GoesOver, SettlesKey};
 ghost use Rattle.mvd_sync.specs.Exchanges.{IsHeldByEither, moment};
 ghost use Rattle.mvd_sync.specs.Session.{asking};
 ghost use Rattle.mvd_sync.specs.Walking.{PagesEnd, TellsBoth, pages_next, pages_of};
@@ -29,7 +29,7 @@ fn settle<L: Peer, P: Peer>(
     requires waiting { length exchange.old.waiting < 1000 }
     requires room { exchange.old.keys + exchange.old.refused + left.old.local + left.old.peer + 1000 < 2 ^ 64 }
     ensures { let s = sides_of L.Peer P.Peer in
-        Settles s entry (moment local.old peer.old left.old exchange.old)
+        SettlesKey s entry (moment local.old peer.old left.old exchange.old)
         (moment local.new peer.new left.new exchange.new) result }
 {
     if entry.differs {

@@ -2,7 +2,7 @@
 ghost use Rattle.std.specs.Prelude.{◌≡◌, ◌+◌, ◌-◌, ◌*◌, [], ◌∷◌, length, IfOk, IfErr, IfSome, IfNone, OnSome};
 ghost use Rattle.std.specs.Prelude.{None, ◌<◌, ◌^◌, OnOk, OnErr, MatchOption, option_copied, true, IsTrue, ◌↔◌};
 ghost use Rattle.mvd_tree.specs.Page.{is_after};
-ghost use Rattle.mvd_sync.specs.Answers.{IsPage, Rises, StartsAfter, TakesLesser, is_spent, order_of_first};
+ghost use Rattle.mvd_sync.specs.Answers.{IsPage, PageRises, StartsAfter, TakesLesser, is_spent, order_of_first};
 ghost use Rattle.mvd_peer.specs.Sides.{two};
 
 use crate::levels::is_same;
@@ -50,7 +50,7 @@ fn comes_after(last: Option<&Key>, key: &Key) -> bool
 
 /// Whether the keys of a page strictly rise.
 fn rises(page: &[(Key, [u8; 32])]) -> bool
-    ensures { IsTrue result ↔ Rises None page.now }
+    ensures { IsTrue result ↔ PageRises None page.now }
 {
     let mut last = None;
     for (key, _) in page {

@@ -1,8 +1,8 @@
 //! The exchange of keys, one window after another.
 ghost use Rattle.std.specs.Prelude.{◌≡◌, ◌<◌, ◌+◌, ◌^◌, ◌++◌, ◌∷◌, [], length, map, filter_map, IfOk, IfErr, OnOk};
 ghost use Rattle.std.specs.Prelude.{cond, ◌≤◌, ◌↔◌, IsTrue};
-ghost use Rattle.mvd_sync.specs.Exchanges.{Adds, Exchanges, IsHeldByEither, moment};
-ghost use Rattle.mvd_sync.specs.Meetings.{done_of, held_keys, pair_of};
+ghost use Rattle.mvd_sync.specs.Exchanges.{CountsDone, Exchanges, IsHeldByEither, moment};
+ghost use Rattle.mvd_sync.specs.Meetings.{done_of, held_keys, pushed_pair};
 ghost use Rattle.mvd_sync.specs.Questions.{ComesToEnd, Keeps, TakesInFirst, with_left};
 ghost use Rattle.mvd_peer.specs.PushedStates.{Each};
 ghost use Rattle.mvd_sync.specs.Session.{asking};
@@ -127,11 +127,11 @@ fn carry<S: Peer>(
         IfOk result (λ after. Carried s name meetings.items after.items
         (with_left side.old left.old) (with_left side.new left.new)) }
     ensures ended { let s = side_of S.Peer in
-        let pairs = filter_map (pair_of name) meetings.items in
+        let pairs = filter_map (pushed_pair name) meetings.items in
         IfErr result
         (λ refusal. ComesToEnd s (TakesInFirst s pairs side.old side.new refusal) (length pairs)
         (with_left side.old left.old) side.new refusal) }
-    ensures unasked { IfErr result (λ _. filter_map (pair_of name) meetings.items ≡ [] → side.new ≡ side.old) }
+    ensures unasked { IfErr result (λ _. filter_map (pushed_pair name) meetings.items ≡ [] → side.new ≡ side.old) }
 {
     let mut turn = match Turn::new(alloc, meetings, name) {
         Ok(turn) => turn,
@@ -301,7 +301,7 @@ impl Exchange {
     /// Counts the keys of a window, and names the first that were refused.
     pub fn tell(&mut self, meetings: Vec<Meeting>) -> Result<(), Refusal>
         requires room { self.old.keys + self.old.refused + length meetings.items < 2 ^ 64 }
-        ensures adds { OnOk result (Adds (map done_of meetings.items) self.old self.new) }
+        ensures adds { OnOk result (CountsDone (map done_of meetings.items) self.old self.new) }
         ensures number { self.new.number ≡ self.old.number }
         ensures memory { IfErr result (λ refusal. refusal ≡ Refusal.Memory) }
     {
@@ -319,7 +319,7 @@ impl Exchange {
         refused: Option<(Side, Refusal)>,
     ) -> Result<(), Refusal>
         requires room { self.old.keys + self.old.refused + 1 < 2 ^ 64 }
-        ensures adds { OnOk result (Adds (record { key = key; is_old = is_old; refused = refused } ∷ [])
+        ensures adds { OnOk result (CountsDone (record { key = key; is_old = is_old; refused = refused } ∷ [])
             self.old self.new) }
         ensures number { self.new.number ≡ self.old.number }
         ensures memory { IfErr result (λ refusal. refusal ≡ Refusal.Memory) }

@@ -4,14 +4,14 @@ ghost use Rattle.mvd_peer.specs.PushedStates.{Each};
 ghost use Rattle.mvd_sync.specs.Level.{next_nodes};
 ghost use Rattle.mvd_sync.specs.Exchanges.{IsHeldByEither};
 ghost use Rattle.mvd_sync.specs.declared.meetings.Meeting.{Meeting};
-ghost use Rattle.mvd_sync.specs.Machines.{Asks, Begins, Carried, Descended, Hears, HearsAt, IsFit, IsUnheard, Met, Pushed};
-ghost use Rattle.mvd_sync.specs.Machines.{ReadBoth, Stands, TakesShares, Walked, count_of, fault_at};
+ghost use Rattle.mvd_sync.specs.Machines.{StageAsks, TurnBegins, CarriedOn, Descended, StageHears, HearsAt, IsFit, IsUnheard, Met, Pushed};
+ghost use Rattle.mvd_sync.specs.Machines.{ReadBoth, StageStands, TakesShares, Walked, wanted_count, fault_at};
 ghost use Rattle.mvd_sync.specs.Machines.{is_same, other_of, share_of};
-ghost use Rattle.mvd_sync.specs.Machines.{stays, told_by};
+ghost use Rattle.mvd_sync.specs.Machines.{stays, told_by_side};
 ghost use Rattle.mvd_sync.specs.Meetings.{ArePlans};
 ghost use Rattle.mvd_sync.specs.OneTurn.{untold};
-ghost use Rattle.mvd_sync.specs.Tellings.{IsNoNode, IsNoPage, IsNodeOf, IsPageOf, IsRead, IsStateOf, never};
-ghost use Rattle.mvd_sync.specs.Tellings.{nodes_told, pages_told, pushes_told, states_told, unasked};
+ghost use Rattle.mvd_sync.specs.Tellings.{IsNoNode, IsNoPage, IsNodeOf, IsListingOf, IsRead, IsStateOf, never};
+ghost use Rattle.mvd_sync.specs.Tellings.{nodes_told, pages_told, pushes_told, states_told, unasked_told};
 ghost use Rattle.mvd_sync.specs.Walking.{pages_next, pages_of};
 
 use crate::asking::{Questions, are_all, window};
@@ -43,7 +43,7 @@ fn pushes_for(turn: &Turn, count: usize, side: Side) -> usize
 
 /// How many questions to a side are next.
 fn wanted_of(stage: &Stage, side: Side) -> usize
-    ensures { result ≡ count_of side stage.now }
+    ensures { result ≡ wanted_count side stage.now }
 {
     match stage {
         Stage::Descends(descent) => descent.window().len(),
@@ -99,8 +99,8 @@ fn hear_pages(
     requires local_most { shares.local.asked ≤ shares.local.wanted }
     requires peer { shares.peer.wanted ≡ length (pages_of Side.Peer walk) }
     requires peer_most { shares.peer.asked ≤ shares.peer.wanted }
-    ensures { ReadBoth (IsRead IsPageOf IsNoPage (pages_told answers.mine) shares.local)
-        (IsRead IsPageOf IsNoPage (pages_told answers.theirs) shares.peer)
+    ensures { ReadBoth (IsRead IsListingOf IsNoPage (pages_told answers.mine) shares.local)
+        (IsRead IsListingOf IsNoPage (pages_told answers.theirs) shares.peer)
         (Walked exchange.old walk exchange.new) result }
 {
     let mine = match read_pages(alloc, answers.mine, shares.local) {
@@ -174,7 +174,7 @@ fn meet(
     theirs: Vec<KeyState>,
 ) -> Result<Stage, Refusal>
     ensures met { IfOk result (λ stage. (meetings : List Meeting)
-        × ArePlans number entries.items mine.items theirs.items meetings × Begins walk Side.Local meetings stage) }
+        × ArePlans number entries.items mine.items theirs.items meetings × TurnBegins walk Side.Local meetings stage) }
     ensures memory { IfErr result (λ refusal. refusal ≡ Refusal.Memory) }
 {
     let meetings = plan_all(alloc, number, entries, mine, theirs)?;
@@ -247,7 +247,7 @@ fn hear_side(
     requires fits { length turn.told.items ≤ length turn.pairs.items }
     requires few { share.wanted ≤ length (untold turn) }
     requires most { share.asked ≤ share.wanted }
-    ensures { Carried walk turn share told other result }
+    ensures { CarriedOn walk turn share told other result }
 {
     let side = turn.side;
     match told_nothing(other) {
@@ -271,8 +271,8 @@ fn hear_pushes(
     requires fits { length turn.told.items ≤ length turn.pairs.items }
     requires few { (share_of turn.side shares).wanted ≤ length (untold turn) }
     requires most { (share_of turn.side shares).asked ≤ (share_of turn.side shares).wanted }
-    ensures { Carried walk turn (share_of turn.side shares) (told_by turn.side answers)
-        (told_by (other_of turn.side) answers) result }
+    ensures { CarriedOn walk turn (share_of turn.side shares) (told_by_side turn.side answers)
+        (told_by_side (other_of turn.side) answers) result }
 {
     match turn.side {
         Side::Local => {
@@ -291,7 +291,7 @@ fn hear_pushes(
 
 /// It stays where it is, since nothing was asked.
 fn stay(stage: Stage, answers: Answers) -> Result<Stage, SyncFault>
-    ensures { result ≡ stays stage (unasked answers.mine) (unasked answers.theirs) }
+    ensures { result ≡ stays stage (unasked_told answers.mine) (unasked_told answers.theirs) }
 {
     match told_nothing(answers.mine) {
         Ok(()) => {}
@@ -321,11 +321,11 @@ fn hear_at(
     shares: Shares,
     answers: Answers,
 ) -> Result<Stage, SyncFault>
-    requires asks { Asks stage }
-    requires stands { Stands stage }
-    requires local { shares.local.wanted ≡ count_of Side.Local stage }
+    requires asks { StageAsks stage }
+    requires stands { StageStands stage }
+    requires local { shares.local.wanted ≡ wanted_count Side.Local stage }
     requires local_most { shares.local.asked ≤ shares.local.wanted }
-    requires peer { shares.peer.wanted ≡ count_of Side.Peer stage }
+    requires peer { shares.peer.wanted ≡ wanted_count Side.Peer stage }
     requires peer_most { shares.peer.asked ≤ shares.peer.wanted }
     ensures { HearsAt exchange.old stage shares answers exchange.new result }
 {
@@ -349,7 +349,7 @@ pub fn hear(
     answers: Answers,
 ) -> Result<Stage, SyncFault>
     requires fit { IsFit left.old exchange.old stage }
-    ensures { Hears left.old exchange.old stage answers left.new exchange.new result }
+    ensures { StageHears left.old exchange.old stage answers left.new exchange.new result }
 {
     if !stage.asks() {
         return stay(stage, answers);

@@ -1,8 +1,9 @@
 //! A session as a machine: what it asks next of each side, and what it takes of their answers. It waits for nobody.
 ghost use Rattle.std.specs.Prelude.{◌≡◌, ◌⊎◌, ◌≤◌, [], cond, length, take, IfOk, IfErr, OnOk};
-ghost use Rattle.mvd_sync.specs.Machines.{AsksFor, HasNext, IsQuiet, IsStep, Stands, Starts, TakesTold, Went, is_same, wanted};
+ghost use Rattle.mvd_sync.specs.Machines.{AsksForNext, HasNext, IsQuiet, IsStep, StageStands, Starts, TakesTold, StageWent, is_same};
+ghost use Rattle.mvd_sync.specs.Machines.{wanted_at};
 ghost use Rattle.mvd_sync.specs.OneTurn.{untold};
-ghost use Rattle.mvd_sync.specs.Steps.{IsBounded, asked, cut};
+ghost use Rattle.mvd_sync.specs.Steps.{IsBoundedWindow, asked, cut_wanted};
 
 use crate::asked::{Step, Window, gets_window, nodes_window, pages_window, pushes_window};
 use crate::asking::Questions;
@@ -57,9 +58,9 @@ fn pushes_next(turn: &Turn, count: usize, side: Side) -> &[(Key, KeyState)]
 
 /// What a side is asked next, where so many questions are left for it.
 fn window_of(alloc: Global, stage: &Stage, left: u64, side: Side) -> Result<Option<Window>, Refusal>
-    requires { Stands stage.now }
-    ensures asked { IfOk result (λ window. asked window ≡ cut left (wanted side stage.now)) }
-    ensures bounded { IfOk result IsBounded }
+    requires { StageStands stage.now }
+    ensures asked { IfOk result (λ window. asked window ≡ cut_wanted left (wanted_at side stage.now)) }
+    ensures bounded { IfOk result IsBoundedWindow }
     ensures memory { IfErr result (λ refusal. refusal ≡ Refusal.Memory) }
 {
     match stage {
@@ -113,7 +114,7 @@ impl Machine {
     /// Goes on as far as can be without a question.
     fn advance(&mut self) -> Result<(), SyncFault>
         ensures left { OnOk result (self.new.left ≡ self.old.left) }
-        ensures went { OnOk result (Went self.old.work self.old.stage self.new.work self.new.stage) }
+        ensures went { OnOk result (StageWent self.old.work self.old.stage self.new.work self.new.stage) }
         ensures loud { OnOk result (IsQuiet self.new.stage → ⊥) }
         ensures memory { IfErr result (λ fault. fault ≡ SyncFault.Local Refusal.Memory) }
     {
@@ -133,7 +134,7 @@ impl Machine {
     /// The questions that are next.
     fn step(&self) -> Result<Option<Step>, SyncFault>
         requires loud { IsQuiet self.now.stage → ⊥ }
-        ensures step { IfOk result (AsksFor self.now) }
+        ensures step { IfOk result (AsksForNext self.now) }
         ensures ended { IfErr result
             (λ fault. (fault ≡ SyncFault.Local Refusal.Memory) ⊎ (self.now.stage ≡ Stage.Failed fault)) }
     {

@@ -1,6 +1,6 @@
 //! What a session makes of the answers of a side.
 ghost use Rattle.std.specs.Prelude.{◌≡◌, IfOk, IfErr};
-ghost use Rattle.mvd_sync.specs.Made.{EndsMaking, Passes};
+ghost use Rattle.mvd_sync.specs.Made.{EndsMaking, PassesFault};
 ghost use Rattle.mvd_peer.specs.Windows.{ForEach};
 
 use mvd_dots::Refusal;
@@ -36,7 +36,7 @@ pub fn made_all<A: Drop, B: Made<A>>(
     alloc: Global,
     told: Vec<Result<A, Refusal>>,
 ) -> Result<Vec<B>, Refusal>
-    ensures made { IfOk result (λ all. ForEach (Passes B.is_of) told.items all.items) }
+    ensures made { IfOk result (λ all. ForEach (PassesFault B.is_of) told.items all.items) }
     ensures ended { IfErr result (EndsMaking B.is_none told.items) }
 {
     let mut all = Vec::with_capacity(alloc, told.len())?;

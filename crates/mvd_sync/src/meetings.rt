@@ -1,7 +1,8 @@
 //! The keys of a window: what each side is to take of them, and how they were refused.
-ghost use Rattle.std.specs.Prelude.{◌≡◌, length, map, filter_map, IfOk, OnOk, IfErr, None, Some, false, option_map, ◌++◌, []};
+ghost use Rattle.std.specs.Prelude.{◌≡◌, length, map, filter_map, IfOk, OnOk, IfErr, None, Some, false, option_map, ◌++◌};
+ghost use Rattle.std.specs.Prelude.{[]};
 ghost use Rattle.std.specs.List.{cons_option};
-ghost use Rattle.mvd_sync.specs.Meetings.{ArePlans, IsPlan, first_if, held_keys, is_held, noted, pair_of, rest_if};
+ghost use Rattle.mvd_sync.specs.Meetings.{ArePlans, IsPlan, first_if, held_keys, is_held, noted, pushed_pair, rest_if};
 ghost use Rattle.mvd_sync.specs.Meetings.{taken_from, wanted};
 
 use crate::cursor::Entry;
@@ -215,7 +216,7 @@ pub fn taken(
     side: Side,
 ) -> Result<(Vec<Meeting>, Vec<(Key, KeyState)>), Refusal>
     ensures meetings { IfOk result (λ r. r.0.items ≡ map (taken_from side) meetings.items) }
-    ensures pairs { IfOk result (λ r. r.1.items ≡ filter_map (pair_of side) meetings.items) }
+    ensures pairs { IfOk result (λ r. r.1.items ≡ filter_map (pushed_pair side) meetings.items) }
     ensures memory { IfErr result (λ refusal. refusal ≡ Refusal.Memory) }
 {
     let mut asked = Vec::with_capacity(alloc, meetings.len())?;

@@ -1,7 +1,7 @@
 //! Whether a local file is older than what its peers saw of it.
 ghost use Rattle.std.specs.Prelude.{ℕ, ◌↔◌, IsTrue, IfSome, IfNone, unwrap_or, Some};
 ghost use Rattle.std.specs.Option.{option_copied};
-ghost use Rattle.mvd_dots.specs.Context.{Holds, IsEntryAt};
+ghost use Rattle.mvd_dots.specs.Context.{HoldsDot, IsEntryAt};
 ghost use Rattle.mvd_dots.specs.Entry.{HasCounter, IsEntry};
 ghost use Rattle.mvd_keys.specs.State.{empty_state};
 ghost use Rattle.mvd_sync.specs.Olds.{HasUnseen};
@@ -12,7 +12,7 @@ use mvd_keys::KeyState;
 /// The entry of a site, where it has a dot.
 fn entry_at(seen: &Context, site: u32) -> Option<&Entry>
     ensures found { IfSome result (λ entry. IsEntryAt seen.now site entry.now) }
-    ensures missing { IfNone result ((n : ℕ) → Holds seen.now site n → ⊥) }
+    ensures missing { IfNone result ((n : ℕ) → HoldsDot seen.now site n → ⊥) }
 {
     for entry in seen.entries() {
         if entry.site == site {
@@ -26,7 +26,7 @@ fn entry_at(seen: &Context, site: u32) -> Option<&Entry>
 fn has_entry(seen: &Context, entry: &Entry) -> bool
     requires { IsEntry entry.now }
     ensures { IsTrue result ↔ ((n : ℕ) → HasCounter entry.now.base entry.now.loose n
-        → Holds seen.now entry.now.site n) }
+        → HoldsDot seen.now entry.now.site n) }
 {
     match entry_at(seen, entry.site) {
         Some(held) => held.includes(entry),
@@ -38,7 +38,7 @@ fn has_entry(seen: &Context, entry: &Entry) -> bool
 fn has_seen(mine: Option<&KeyState>, entry: &Entry) -> bool
     requires { IsEntry entry.now }
     ensures { IsTrue result ↔ ((n : ℕ) → HasCounter entry.now.base entry.now.loose n
-        → Holds (unwrap_or (option_copied mine.entry) empty_state).context entry.now.site n) }
+        → HoldsDot (unwrap_or (option_copied mine.entry) empty_state).context entry.now.site n) }
 {
     match mine {
         Some(mine) => has_entry(mine.context(), entry),

@@ -1,7 +1,7 @@
 //! How far a session has come between two windows of questions: a value that knows no side.
 ghost use Rattle.std.specs.Prelude.{◌≡◌, ◌↔◌, ◌+◌, ◌<◌, ◌^◌, [], length, IsTrue, IfOk, IfErr, IfSome};
 ghost use Rattle.mvd_sync.specs.Exchanges.{IsHeldByEither};
-ghost use Rattle.mvd_sync.specs.Machines.{Asks, Begins, FromTurn, FromWalk, GoesAlone, HasRoom, IsQuiet, Settles, Went};
+ghost use Rattle.mvd_sync.specs.Machines.{StageAsks, TurnBegins, FromTurn, FromWalk, GoesAlone, HasRoomLeft, IsQuiet, SettlesFound, StageWent};
 ghost use Rattle.mvd_sync.specs.Walking.{pages_next};
 
 use crate::asking::window;
@@ -47,7 +47,7 @@ impl Stage {
 
     /// Whether a side is asked something.
     pub fn asks(&self) -> bool
-        ensures { IsTrue result ↔ Asks self.now }
+        ensures { IsTrue result ↔ StageAsks self.now }
     {
         match self {
             Stage::Descends(descent) => !descent.is_done(),
@@ -67,7 +67,7 @@ pub fn settle(
     found: Option<Entry>,
 ) -> Result<Stage, Refusal>
     requires held { IfSome found IsHeldByEither }
-    ensures settles { IfOk result (Settles walk found exchange.old exchange.new) }
+    ensures settles { IfOk result (SettlesFound walk found exchange.old exchange.new) }
     ensures memory { IfErr result (λ refusal. refusal ≡ Refusal.Memory) }
 {
     let Some(entry) = found else {
@@ -90,7 +90,7 @@ pub fn begin(
     meetings: Vec<Meeting>,
     side: Side,
 ) -> Result<Stage, Refusal>
-    ensures begins { IfOk result (Begins walk side meetings.items) }
+    ensures begins { IfOk result (TurnBegins walk side meetings.items) }
     ensures memory { IfErr result (λ refusal. refusal ≡ Refusal.Memory) }
 {
     let turn = Turn::new(alloc, meetings, side)?;
@@ -141,7 +141,7 @@ fn after_turn(
 /// Goes on by one step without a question.
 fn go_on(alloc: Global, exchange: &mut Exchange, stage: Stage) -> Result<Stage, Refusal>
     requires quiet { IsQuiet stage }
-    requires room { HasRoom exchange.old stage }
+    requires room { HasRoomLeft exchange.old stage }
     ensures goes { IfOk result (GoesAlone exchange.old stage exchange.new) }
     ensures memory { IfErr result (λ refusal. refusal ≡ Refusal.Memory) }
 {
@@ -155,8 +155,8 @@ fn go_on(alloc: Global, exchange: &mut Exchange, stage: Stage) -> Result<Stage, 
 
 /// Goes on as far as can be without a question.
 pub fn go_far(alloc: Global, exchange: &mut Exchange, stage: Stage) -> Result<Stage, Refusal>
-    requires room { IsQuiet stage → HasRoom exchange.old stage }
-    ensures went { IfOk result (Went exchange.old stage exchange.new) }
+    requires room { IsQuiet stage → HasRoomLeft exchange.old stage }
+    ensures went { IfOk result (StageWent exchange.old stage exchange.new) }
     ensures loud { IfOk result (λ after. IsQuiet after → ⊥) }
     ensures memory { IfErr result (λ refusal. refusal ≡ Refusal.Memory) }
 {

@@ -1,9 +1,9 @@
 //! What a side told of a window, as a session reads it.
 ghost use Rattle.std.specs.Prelude.{◌≡◌, IfOk, IfErr, MatchResult, Ok, Err};
-ghost use Rattle.mvd_sync.specs.Made.{Passes};
-ghost use Rattle.mvd_sync.specs.Questions.{Takes};
-ghost use Rattle.mvd_sync.specs.Tellings.{IsNoNode, IsNoPage, IsNodeOf, IsPageOf, IsRead, IsStateOf, as_list, never};
-ghost use Rattle.mvd_sync.specs.Tellings.{nodes_told, pages_told, pushes_told, states_told, unasked};
+ghost use Rattle.mvd_sync.specs.Made.{PassesFault};
+ghost use Rattle.mvd_sync.specs.Questions.{TakesBudget};
+ghost use Rattle.mvd_sync.specs.Tellings.{IsNoNode, IsNoPage, IsNodeOf, IsListingOf, IsRead, IsStateOf, as_list, never};
+ghost use Rattle.mvd_sync.specs.Tellings.{nodes_told, pages_told, pushes_told, states_told, unasked_told};
 
 use crate::asking::{Node, read_all, take};
 use crate::cursor::Listing;
@@ -47,7 +47,7 @@ pub struct Answers {
 
 /// The share of a side in a window, of the questions that are left for it.
 pub fn spend(left: &mut u64, wanted: usize) -> Share
-    ensures takes { Takes left.old left.new wanted result.asked }
+    ensures takes { TakesBudget left.old left.new wanted result.asked }
     ensures wanted { result.wanted ≡ wanted }
 {
     Share {
@@ -58,7 +58,7 @@ pub fn spend(left: &mut u64, wanted: usize) -> Share
 
 /// That a side told nothing that was not asked: answers are 33, and a refusal is its own.
 pub fn told_nothing(told: Option<Told>) -> Result<(), Refusal>
-    ensures { result ≡ unasked told }
+    ensures { result ≡ unasked_told told }
 {
     match told {
         None => Ok(()),
@@ -142,7 +142,7 @@ pub fn read_nodes(alloc: Global, told: Option<Told>, share: Share) -> Result<Vec
 
 /// The pages that a side told.
 pub fn read_pages(alloc: Global, told: Option<Told>, share: Share) -> Result<Vec<Listing>, Refusal>
-    ensures { IsRead IsPageOf IsNoPage (pages_told told) share result }
+    ensures { IsRead IsListingOf IsNoPage (pages_told told) share result }
 {
     read(alloc, pages_in(alloc, told), share)
 }

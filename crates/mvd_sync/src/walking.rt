@@ -1,8 +1,8 @@
 //! A walk over the buckets that differ: a value that knows no side.
 ghost use Rattle.std.specs.Prelude.{◌≡◌, ◌≢◌, ◌↔◌, [], ◌∷◌, length, map, take, Some, None, IfOk, IfErr, IsTrue};
 ghost use Rattle.std.specs.Prelude.{IfNone, IfSome, OnOk};
-ghost use Rattle.mvd_sync.specs.Walking.{Closes, ComeAfter, EndsTelling, GoesTo, IsTold, IsWalked, TakesNext, WantsPage};
-ghost use Rattle.mvd_sync.specs.Walking.{filled, filled_both, first_page, opened, pages_next, pages_of};
+ghost use Rattle.mvd_sync.specs.Walking.{ClosesBucket, ComeAfter, EndsTelling, GoesTo, IsTold, IsWalked, TakesNext, WantsPage};
+ghost use Rattle.mvd_sync.specs.Walking.{filled, filled_both, first_page, opened_buckets, pages_next, pages_of};
 
 use crate::cursor::{self, Entry, Listing};
 use crate::levels::first_of;
@@ -100,7 +100,7 @@ fn open(
     theirs: Vec<Listing>,
 ) -> Result<VecDeque<Bucket>, Refusal>
     requires lengths { (length mine.items ≡ length asked.now) × (length theirs.items ≡ length asked.now) }
-    ensures opened { IfOk result (λ buckets. buckets.items ≡ opened asked.now mine.items theirs.items) }
+    ensures opened { IfOk result (λ buckets. buckets.items ≡ opened_buckets asked.now mine.items theirs.items) }
     ensures memory { IfErr result (λ refusal. refusal ≡ Refusal.Memory) }
 {
     let mut buckets = VecDeque::new(alloc);
@@ -220,7 +220,7 @@ impl BucketWalk {
     fn close(&mut self) -> Result<(), Refusal>
         requires some { self.old.bucket ≢ None }
         requires unasked { self.old.entry ≡ None }
-        ensures closes { OnOk result (Closes self.old self.new) }
+        ensures closes { OnOk result (ClosesBucket self.old self.new) }
         ensures memory { IfErr result (λ refusal. refusal ≡ Refusal.Memory) }
     {
         match self.later.pop_front() {

@@ -8,7 +8,7 @@ use Rattle.std.proofs.lemmas.List.{ext_get_or, length-map, take_min}
 use Rattle.std.specs.FinMap.{entries, empty, retain_keys}
 use Rattle.mvd_tree.specs.HashTree.{KeyDigests, digits, digest_above}
 use Rattle.mvd_tree.specs.Kept.{kept_node, digest_or_zeros}
-use Rattle.mvd_tree.specs.Page.{children_digests, rest_of, is_after}
+use Rattle.mvd_tree.specs.Page.{children_digests, keys_after, is_after}
 use Rattle.mvd_tree.specs.Layout.{IsPath, path_of_one, path_of_two, path_of_three, gathered, AreApart, KeepsLevel}
 use Rattle.mvd_tree.proofs.KeptNodes.{digest_above-kept}
 use Rattle.mvd_tree.proofs.Gathered.{rest_in_bucket}
@@ -76,11 +76,11 @@ children_two held nodes (a ∷ b ∷ c ∷ path) kept p n m = absurd (omega arit
 
 -- the keys of a bucket after a key
 pub rest_three : (bs : List KeyDigests) (path : List ℕ) (after : Option (List ℕ)) (b : KeyDigests) → length bs ≡ 4096 → AreApart bs → IsPath path → 3 ≤ length path
-    → b ≡ get_or bs ((get_or path 0 0 * 16 + get_or path 1 0) * 16 + get_or path 2 0) b → entries (retain_keys b (is_after after)) ≡ entries (rest_of (gathered bs) path after)
+    → b ≡ get_or bs ((get_or path 0 0 * 16 + get_or path 1 0) * 16 + get_or path 2 0) b → entries (retain_keys b (is_after after)) ≡ entries (keys_after (gathered bs) path after)
 rest_three bs path after b all apart p n e =
     let at = at_three path p n in
     ap (λ m. entries (retain_keys m (is_after after))) (e ∙ any_default bs _ b empty (omega (arith, all, at.within)))
-    ∙ ap entries (sym (rest_in_bucket bs apart _ after)) ∙ ap (λ path. entries (rest_of (gathered bs) path after)) (sym at.is)
+    ∙ ap entries (sym (rest_in_bucket bs apart _ after)) ∙ ap (λ path. entries (keys_after (gathered bs) path after)) (sym at.is)
 
 -- the digests of sixteen nodes, one by one
 pub all_told : (nodes : List (Option (List ℕ))) (digests : List (List ℕ)) → length nodes ≡ 16 → length digests ≡ 16 → ((k : ℕ) → k < 16 → get_or digests k [] ≡ digest_or_zeros (get_or nodes k None)) → digests ≡ map digest_or_zeros nodes

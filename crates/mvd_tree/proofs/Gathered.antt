@@ -16,7 +16,7 @@ use Rattle.mvd_dots.specs.declared.refusals.Refusal.TheVariants.{BadPath}
 use Rattle.mvd_keys.specs.Path.{path_of}
 use Rattle.mvd_tree.specs.HashTree.{KeyDigests, path_of_key, begins, is_under, under}
 use Rattle.mvd_tree.specs.Change.{changed}
-use Rattle.mvd_tree.specs.Page.{is_after, rest_of}
+use Rattle.mvd_tree.specs.Page.{is_after, keys_after}
 use Rattle.mvd_tree.specs.Layout.{bucket_of, path_of_one, path_of_two, path_of_three, gathered, AreApart}
 use Rattle.mvd_tree.proofs.Under.{keys_same, get-under}
 use Rattle.mvd_tree.proofs.Bytes.{bytes-sha256}
@@ -161,8 +161,8 @@ two_tests false true o = refl
 two_tests false false o = refl
 
 -- the keys under a bucket's path after a key are the bucket's after it
-pub rest_in_bucket : (bs : List KeyDigests) → AreApart bs → (n : ℕ) (after : Option (List ℕ)) → rest_of (gathered bs) (path_of_three n) after ≡ retain_keys (get_or bs n empty) (is_after after)
-unfolding rest_of
+pub rest_in_bucket : (bs : List KeyDigests) → AreApart bs → (n : ℕ) (after : Option (List ℕ)) → keys_after (gathered bs) (path_of_three n) after ≡ retain_keys (get_or bs n empty) (is_after after)
+unfolding keys_after
 rest_in_bucket bs apart n after =
     let test : List ℕ → Bool = λ key. is_under (path_of_three n) key && is_after after key in
     same_map nat_list_cmp_total keys_same _ _ (λ q.

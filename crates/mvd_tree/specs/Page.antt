@@ -15,12 +15,12 @@ is_after None key = true
 is_after (Some after) key = is_lt (key_cmp after key)
 
 -- the keys under a path that come after a key, with their digests
-unfoldable pub rest_of : KeyDigests → List ℕ → Option (List ℕ) → KeyDigests
-rest_of held path after = retain_keys held (λ key. is_under path key && is_after after key)
+unfoldable pub keys_after : KeyDigests → List ℕ → Option (List ℕ) → KeyDigests
+keys_after held path after = retain_keys held (λ key. is_under path key && is_after after key)
 
 -- a page of a bucket: its first thousand entries after a key, and whether more are left
-abbrev pub page_of : KeyDigests → List ℕ → Option (List ℕ) → List (List ℕ × List ℕ)
-page_of held path after = take 1000 (entries (rest_of held path after))
+abbrev pub bucket_page : KeyDigests → List ℕ → Option (List ℕ) → List (List ℕ × List ℕ)
+bucket_page held path after = take 1000 (entries (keys_after held path after))
 
 abbrev pub is_more_after_page : KeyDigests → List ℕ → Option (List ℕ) → Bool
-is_more_after_page held path after = nat_lt 1000 (length (entries (rest_of held path after)))
+is_more_after_page held path after = nat_lt 1000 (length (entries (keys_after held path after)))

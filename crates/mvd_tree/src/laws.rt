@@ -2,7 +2,8 @@
 ghost use Rattle.std.specs.Prelude.{◌≡◌, ℕ, ◌+◌, List, [], ◌∷◌, Option};
 ghost use Rattle.mvd_tree.specs.Counted.{keys_beside};
 ghost use Rattle.mvd_tree.specs.HashTree.{KeyDigests};
-ghost use Rattle.mvd_tree.specs.Hashed.{ChangeLeavesOtherNodes, EqualNodesHoldEqualKeys, EqualNodesHoldEqualStates, EqualRootsAreOfEqualMaps, NodesDependOnKeysUnder};
+ghost use Rattle.mvd_tree.specs.Hashed.{ChangeLeavesOtherNodes, EqualNodesHoldEqualKeys, EqualNodesHoldEqualStates};
+ghost use Rattle.mvd_tree.specs.Hashed.{EqualRootsAreOfEqualMaps, NodesDependOnKeysUnder};
 ghost use Rattle.mvd_tree.specs.Touched.{count_touched, inner_touched, keys_touched};
 
 /// A node's digest depends on the keys under it alone.

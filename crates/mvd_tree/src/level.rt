@@ -1,5 +1,7 @@
 //! What is kept of the nodes of one depth, and of the SHA-256 computations of the nodes over them.
-ghost use Rattle.std.specs.Prelude.{◌≡◌, ℕ, ◌<◌, ◌≤◌, ◌+◌, ◌*◌, ◌/◌, ◌%◌, List, Option, flat_map, slice_range, slice_set, length, IfOk};
+ghost use Rattle.std.specs.Prelude.{◌≡◌, ℕ, ◌<◌, ◌≤◌, ◌+◌, ◌*◌, ◌/◌, ◌%◌, List, Option};
+ghost use Rattle.std.specs.Prelude.{flat_map, slice_range, slice_set};
+ghost use Rattle.std.specs.Prelude.{length, IfOk};
 ghost use Rattle.mvd_digest.specs.Counted.{Absorbed, Hashes};
 ghost use Rattle.mvd_tree.specs.Kept.{digest_or_zeros, kept_inner};
 ghost use Rattle.mvd_tree.specs.Layout.{AreOver};

@@ -1,6 +1,7 @@
 //! Changes of keys: their buckets and the nodes over those, each of which is made anew once. It takes memory for the
 //! keys that are put in alone.
-ghost use Rattle.std.specs.Prelude.{◌≡◌, ℕ, ◌<◌, ◌+◌, ◌*◌, ◌/◌, List, IfErr, OnErr, OnOk, length, map, nat_eq, slice_index_or, slice_range, take};
+ghost use Rattle.std.specs.Prelude.{◌≡◌, ℕ, ◌<◌, ◌+◌, ◌*◌, ◌/◌, List, IfErr, OnErr, OnOk, length, map, nat_eq};
+ghost use Rattle.std.specs.Prelude.{slice_index_or, slice_range, take};
 ghost use Rattle.std.specs.FinMap.{empty, entries, len};
 ghost use Rattle.std.specs.List.{sum_by};
 ghost use Rattle.std.specs.Set.{is_member};

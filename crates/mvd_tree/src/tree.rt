@@ -1,12 +1,14 @@
 //! The tree that is kept: the digests of the held keys, and those of the nodes over them.
-ghost use Rattle.std.specs.Prelude.{◌≡◌, ◌≢◌, ◌<◌, ◌≤◌, ◌+◌, ◌-◌, ◌*◌, T, length, IfOk, IfErr, OnOk, OnErr, option_copied, Some, None, Err};
+ghost use Rattle.std.specs.Prelude.{◌≡◌, ◌≢◌, ◌<◌, ◌≤◌, ◌+◌, ◌-◌, ◌*◌, T, length, IfOk};
+ghost use Rattle.std.specs.Prelude.{IfErr, OnOk, OnErr, option_copied};
+ghost use Rattle.std.specs.Prelude.{Some, None, Err};
 ghost use Rattle.std.specs.FinMap.{empty, entries, is_sorted, from_entries};
 ghost use Rattle.mvd_keys.specs.Key.{key_cmp};
 ghost use Rattle.mvd_tree.specs.HashTree.{node_digest};
 ghost use Rattle.mvd_tree.specs.Kept.{kept_node};
 ghost use Rattle.mvd_digest.specs.Counted.{Hashes};
 ghost use Rattle.mvd_tree.specs.Counted.{key_bytes};
-ghost use Rattle.mvd_tree.specs.Page.{children_digests, rest_of, page_of, is_more_after_page};
+ghost use Rattle.mvd_tree.specs.Page.{children_digests, keys_after, bucket_page, is_more_after_page};
 ghost use Rattle.mvd_tree.specs.Layout.{IsPath};
 ghost use Rattle.mvd_tree.specs.Touched.{ChangesAll};
 
@@ -178,7 +180,7 @@ impl Tree {
     /// The entries of a bucket after a key.
     fn entries_after(&self, path: &Path, after: Option<&Key>) -> &[(Key, [u8; 32])]
         requires { length path.now ≡ 3 }
-        ensures { result.now ≡ entries (rest_of self.now path.now (option_copied after.entry)) }
+        ensures { result.now ≡ entries (keys_after self.now path.now (option_copied after.entry)) }
     {
         let digits = digits_of(path);
         let number = (digits[0] as usize * 16 + digits[1] as usize) * 16 + digits[2] as usize;
@@ -193,7 +195,7 @@ impl Tree {
         after: Option<&Key>,
     ) -> Result<(Vec<(Key, [u8; 32])>, bool), Refusal>
         ensures path { IfOk result (λ _. length path.now ≡ 3) }
-        ensures page { IfOk result (λ page. page.0.items ≡ page_of self.now path.now (option_copied after.entry)) }
+        ensures page { IfOk result (λ page. page.0.items ≡ bucket_page self.now path.now (option_copied after.entry)) }
         ensures more { IfOk result (λ page. page.1 ≡ is_more_after_page self.now path.now (option_copied after.entry)) }
         ensures bad_path { length path.now ≢ 3 → result ≡ Err Refusal.BadPath }
         ensures err { length path.now ≡ 3 → IfErr result (λ refusal. refusal ≡ Refusal.Memory) }

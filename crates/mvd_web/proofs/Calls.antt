@@ -10,11 +10,11 @@ use Rattle.mvd_dots.specs.declared.refusals.Refusal.TheVariants.{Memory}
 use Rattle.http_server.specs.declared.state.State.{State}
 use Rattle.mvd_http.specs.declared.fields.Answer.{Answer}
 use Rattle.mvd_http.specs.declared.http_fault.Fault.{Fault}
-use Rattle.mvd_web.specs.Asked.{Keeps}
+use Rattle.mvd_web.specs.Asked.{KeepsAsked}
 use Rattle.mvd_web.specs.Ends.{fault_in}
 use Rattle.mvd_web.specs.Response.{fault_bytes, response_bytes}
-use Rattle.mvd_web.specs.Steps.{Drops, Moves, PassesAll, PassesOn, Quiet, Reads, ReadsNone, ReadsOne, Settles}
-use Rattle.mvd_web.specs.Web.{LooksIf, MayRest, Queues, RespondsTo, Stays, Takes, TellsAll, WebValue, first_cause, is_closed, is_free, manner_of, said_of, stopped_by, unasked, with_waits}
+use Rattle.mvd_web.specs.Steps.{Drops, StepsOn, PassesAll, PassesOn, Quiet, ReadsOn, ReadsNone, ReadsOne, Settles}
+use Rattle.mvd_web.specs.Web.{LooksIf, MayRest, Queues, RespondsTo, NothingCame, TakesRequest, TellsAll, WebValue, first_cause, is_closed, is_free, manner_of, said_of, stopped_by, unasked, with_waits}
 use Rattle.mvd_web.specs.declared.taken.Asked.{Asked}
 use Rattle.mvd_web.specs.declared.desk.Desk.{Desk}
 use Rattle.mvd_web.specs.declared.response.Manner.{Manner}
@@ -25,34 +25,34 @@ use Rattle.mvd_web.specs.declared.response.Manner.{Manner}
 pub record CalledOnce (old new : Desk) (calls : List Call) : Type 0 where
   pub call : Call
   pub one : calls ≡ call ∷ []
-  pub keeps : Keeps old call.0 call.1 new
+  pub keeps : KeepsAsked old call.0 call.1 new
 
-pub at_most_one : (old new : Desk) (calls : List Call) → Chain Keeps old calls new → ((calls ≡ []) × (new ≡ old)) ⊎ CalledOnce old new calls
+pub at_most_one : (old new : Desk) (calls : List Call) → Chain KeepsAsked old calls new → ((calls ≡ []) × (new ≡ old)) ⊎ CalledOnce old new calls
 at_most_one old new [] h = inl (refl, h)
-at_most_one old new (c ∷ []) (next, k, e) = inr (record { call = c; one = refl; keeps = subst (λ d. Keeps old c.0 c.1 d) (sym e) k })
+at_most_one old new (c ∷ []) (next, k, e) = inr (record { call = c; one = refl; keeps = subst (λ d. KeepsAsked old c.0 c.1 d) (sym e) k })
 at_most_one old new (c ∷ d ∷ calls) (next, k, (later, l, h)) = absurd (cc (k.kept, l.none))
 
 took : (before after : Desk) (old new : WebValue) (calls : List Call) → new.heard.calls ≡ old.heard.calls ++ calls → old.asked ≡ before.asked → new.asked ≡ after.asked → before.asked ≡ None
-    → Quiet old new → Rests new.config new.heard → ((calls ≡ []) × (after ≡ before)) ⊎ CalledOnce before after calls → Reads old (is_some new.asked) new
+    → Quiet old new → Rests new.config new.heard → ((calls ≡ []) × (after ≡ before)) ⊎ CalledOnce before after calls → ReadsOn old (is_some new.asked) new
 took before after old new calls e p q none quiet rests (inl (n, s)) =
     let still : new.asked ≡ None = q ∙ ap (λ (d : Desk). d.asked) s ∙ none in
-    subst (λ o. Reads old (is_some o) new) (sym still) (record { calls = e ∙ ap (λ l. old.heard.calls ++ l) n ∙ append-nil old.heard.calls; asked = still ∙ sym (p ∙ none); rests = rests; quiet = quiet })
+    subst (λ o. ReadsOn old (is_some o) new) (sym still) (record { calls = e ∙ ap (λ l. old.heard.calls ++ l) n ∙ append-nil old.heard.calls; asked = still ∙ sym (p ∙ none); rests = rests; quiet = quiet })
 took before after old new calls e p q none quiet rests (inr once) =
     let kept : new.asked ≡ Some once.keeps.asked = q ∙ once.keeps.kept in
-    subst (λ o. Reads old (is_some o) new) (sym kept)
+    subst (λ o. ReadsOn old (is_some o) new) (sym kept)
     (record { call = once.call; calls = e ∙ ap (λ l. old.heard.calls ++ l) once.one; plain = once.keeps.plain; asked = once.keeps.asked; kept = kept; asks = once.keeps.asks; quiet = quiet })
 
 -- a desk that kept nothing reads one request or none
-pub reads : (before after : Desk) (old new : WebValue) → Calls Keeps before after old.heard.calls new.heard.calls → old.asked ≡ before.asked → new.asked ≡ after.asked
-    → before.asked ≡ None → Quiet old new → Rests new.config new.heard → Reads old (is_some new.asked) new
+pub reads : (before after : Desk) (old new : WebValue) → Calls KeepsAsked before after old.heard.calls new.heard.calls → old.asked ≡ before.asked → new.asked ≡ after.asked
+    → before.asked ≡ None → Quiet old new → Rests new.config new.heard → ReadsOn old (is_some new.asked) new
 reads before after old new (calls, e, chain) p q none quiet rests = took before after old new calls e p q none quiet rests (at_most_one before after calls chain)
 
 -- ---- one call after another
 
-pub stays_then : (a b c : WebValue) → Stays a b → Stays b c → Stays a c
+pub stays_then : (a b c : WebValue) → NothingCame a b → NothingCame b c → NothingCame a c
 stays_then a b c one two = record { config = two.config ∙ one.config; received = two.received ∙ one.received; ended = two.ended ∙ one.ended }
 
-pub takes_one : (a b c : WebValue) → IsTrue (is_free a) → ReadsOne a b → Drops b c → c.heard.pending ≡ [] → Takes a true c
+pub takes_one : (a b c : WebValue) → IsTrue (is_free a) → ReadsOne a b → Drops b c → c.heard.pending ≡ [] → TakesRequest a true c
 takes_one a b c free one two none = (
   free,
   record {
@@ -77,7 +77,7 @@ tells : (told queued : List ℕ) (a b c : WebValue) → b.stopped ≡ a.stopped 
 tells told queued a b c was rests same (inl (s, none, settles, whole)) = inl (s ∙ was, none, may_rest told b c rests same settles, whole)
 tells told queued a b c was rests same (inr (s, part)) = inr (s ∙ ap (λ o. first_cause o Memory) was, part)
 
-pub takes_none : (a b c : WebValue) → IsTrue (is_free a) → ReadsNone a b → PassesOn b c → Takes a false c
+pub takes_none : (a b c : WebValue) → IsTrue (is_free a) → ReadsNone a b → PassesOn b c → TakesRequest a false c
 takes_none a b c free one two = subst (λ f. LooksIf f a c) (sym free) (record {
   calls = two.calls ∙ one.calls;
   asked = two.asked ∙ one.asked;
@@ -89,7 +89,7 @@ takes_none a b c free one two = subst (λ f. LooksIf f a c) (sym free) (record {
   stays = stays_then a b c one.quiet.stays two.stays;
 })
 
-pub moves_then : (a b c : WebValue) → Moves a b → Moves b c → Moves a c
+pub moves_then : (a b c : WebValue) → StepsOn a b → StepsOn b c → StepsOn a c
 moves_then a b c one two = record {
   part = one.part ++ two.part;
   split = rw (one.split, two.split) (simp append_assoc);
@@ -126,7 +126,7 @@ free_at (Some refusal) asked room h = absurd (cc h)
 pub free_desk : (w : WebValue) → IsTrue (is_free w) → w.asked ≡ None
 free_desk w free = free_at w.stopped w.asked (nat_lt (length w.waits) 262144) free
 
-pub not_free : (w : WebValue) (free : Bool) → free ≡ is_free w → free ≡ false → Takes w false w
+pub not_free : (w : WebValue) (free : Bool) → free ≡ is_free w → free ≡ false → TakesRequest w false w
 not_free w free e is = subst (λ f. LooksIf f w w) (sym is ∙ e) refl
 
 none_waits : (xs : List ℕ) (b : Bool) → (IsTrue b ↔ (0 < length xs)) → b ≡ false → xs ≡ []
@@ -157,7 +157,7 @@ pub on_ok : {T E : Type 0} (r : Result T E) (P : Type 0) → is_err r ≡ false 
 on_ok (Ok x) P e h = h
 on_ok (Err x) P e h = absurd (cc e)
 
-pub moved_all : (old mid : WebValue) → Moves (record old { rests = false }) mid → mid.heard.pending ≡ [] → 0 < length old.heard.pending → fault_in old.heard.state ≡ None → PassesOn old mid
+pub moved_all : (old mid : WebValue) → StepsOn (record old { rests = false }) mid → mid.heard.pending ≡ [] → 0 < length old.heard.pending → fault_in old.heard.state ≡ None → PassesOn old mid
 moved_all old mid m none some well = record {
   told = m.part;
   sent = m.sent;
@@ -169,7 +169,7 @@ moved_all old mid m none some well = record {
   stays = record { config = m.stays.config; received = m.stays.received; ended = m.stays.ended };
 }
 
-pub moved_some : (old mid new : WebValue) → Moves (record old { rests = false }) mid → new ≡ stopped_by mid Memory → PassesOn old new
+pub moved_some : (old mid new : WebValue) → StepsOn (record old { rests = false }) mid → new ≡ stopped_by mid Memory → PassesOn old new
 moved_some old mid new m e = subst (λ w. PassesOn old w) (sym e) (record {
   told = m.part;
   sent = m.sent;
@@ -232,7 +232,7 @@ drops_piece old mid piece config heard chunk handed same d =
 
 -- a piece of what was pending is handed out, and queued
 pub moves_piece : (old mid : WebValue) (piece waits : List ℕ) (config : Config) (heard : History) → IsChunkOf piece mid.heard.pending → waits ≡ mid.waits ++ piece → heard ≡ after_sent mid.heard (length piece)
-    → config ≡ mid.config → Moves old mid → Moves old (record mid { config = config; heard = heard; waits = waits })
+    → config ≡ mid.config → StepsOn old mid → StepsOn old (record mid { config = config; heard = heard; waits = waits })
 moves_piece old mid piece waits config heard chunk queued handed same m =
     let next : WebValue = record mid { config = config; heard = heard; waits = waits } in
     moves_then old mid next m (record {

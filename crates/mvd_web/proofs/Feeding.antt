@@ -3,13 +3,13 @@ use Rattle.std.proofs.Common.{arith, rules, ◌≡◌, ◌∙◌, ◌++◌, ◌+
 use Rattle.std.proofs.lemmas.List.{length-append}
 use Rattle.http_server.specs.History.{after_read}
 use Rattle.mvd_dots.specs.declared.refusals.Refusal.TheVariants.{Memory}
-use Rattle.mvd_web.specs.Web.{EndsInput, Feeds, WebValue, at_end, fed, heard_more, stopped_by}
+use Rattle.mvd_web.specs.Web.{EndsInput, Feeds, WebValue, at_end, web_fed, heard_more, stopped_by}
 
 -- a front of the bytes came, and in so many reads no byte was missed
 pub record Feeding (old : WebValue) (bytes rest : List ℕ) (reads : ℕ) (now : WebValue) : Type 0 where
   pub front : List ℕ
   pub joined : bytes ≡ front ++ rest
-  pub same : now ≡ fed old front
+  pub same : now ≡ web_fed old front
   pub left : old.heard.ended ≡ false → length rest + reads ≤ length bytes
 
 -- what a read of a slice says
@@ -36,7 +36,7 @@ begins old bytes = record {
 }
 
 further_at : (old : WebValue) (front more : List ℕ) → (if old.heard.ended then old.heard.ended else (length more == 0)) ≡ old.heard.ended
-    → record (fed old front) { heard = after_read (heard_more old.heard front) more } ≡ fed old (front ++ more)
+    → record (web_fed old front) { heard = after_read (heard_more old.heard front) more } ≡ web_fed old (front ++ more)
 further_at old front more e =
     let r : (old.heard.received ++ front) ++ more ≡ old.heard.received ++ (front ++ more) = simp append_assoc in
     let u : (old.heard.unread ++ front) ++ more ≡ old.heard.unread ++ (front ++ more) = simp append_assoc in

@@ -22,8 +22,8 @@ use Rattle.mvd_web.specs.declared.taken.Asked.{Asked}
 use Rattle.mvd_web.specs.declared.desk.Desk.{Desk}
 
 -- the value of the first field of a name
-abbrev pub field_in : List ℕ → Entries FieldValue → Option (List ℕ)
-field_in name fields = option_map (λ value. value.bytes) (get fields (lowercase name))
+abbrev pub header_in : List ℕ → Entries FieldValue → Option (List ℕ)
+header_in name fields = option_map (λ value. value.bytes) (get fields (lowercase name))
 
 -- the target's own host, or that of the field
 abbrev pub host_or : Option (List ℕ) → Option (List ℕ) → Option (List ℕ)
@@ -31,7 +31,7 @@ host_or (Some authority) field = Some authority
 host_or None field = field
 
 abbrev pub host_of : Parts → Option (List ℕ)
-host_of parts = host_or (uri_authority parts.uri) (field_in (codes "host") parts.headers)
+host_of parts = host_or (uri_authority parts.uri) (header_in (codes "host") parts.headers)
 
 abbrev pub path_or : Option (List ℕ) → List ℕ
 path_or None = []
@@ -72,14 +72,14 @@ NamesHost parts = HasHosts parts 1 ⊎ (HasHosts parts 0 × (parts.version ≡ H
 -- whether its response has no body
 pub record IsAskedBy (request : Request (List ℕ)) (asked : Asked) : Type 0 where
   pub question : IsQuestion (head_of request).method (target_of (head_of request))
-      (field_in (codes "mvd-context") (head_of request).headers) (body_of request) asked.question ⊎ HasLost asked
-  pub token : (asked.token ≡ bearer_of (field_in (codes "authorization") (head_of request).headers)) ⊎ HasLost asked
+      (header_in (codes "mvd-context") (head_of request).headers) (body_of request) asked.question ⊎ HasLost asked
+  pub token : (asked.token ≡ bearer_of (header_in (codes "authorization") (head_of request).headers)) ⊎ HasLost asked
   pub host : IsTrue asked.names_host ↔ NamesHost (head_of request)
-  pub own : asked.is_own ≡ is_own (host_of (head_of request)) (field_in (codes "origin") (head_of request).headers)
+  pub own : asked.is_own ≡ is_own (host_of (head_of request)) (header_in (codes "origin") (head_of request).headers)
   pub head : asked.is_head ≡ bytes_eq (head_of request).method (codes "HEAD")
 
 -- The desk kept nothing, and keeps what the request asks. Its own response is plain: the kit's connection is not closed for it.
-pub record Keeps (old : Desk) (request : Request (List ℕ)) (response : Response) (new : Desk) : Type 0 where
+pub record KeepsAsked (old : Desk) (request : Request (List ℕ)) (response : Response) (new : Desk) : Type 0 where
   pub none : old.asked ≡ None
   pub asked : Asked
   pub kept : new.asked ≡ Some asked

@@ -25,13 +25,13 @@ refusal_of why.BodyTooLarge = refusal.FrameTooLong
 refusal_of _ = refusal.BadBody
 
 -- why no further request is taken
-abbrev pub ending_of : State → Option Ending
-ending_of Open = None
-ending_of (Closing Asked) = Some ending.Bye
-ending_of (Closing EndOfInput) = Some ending.End
-ending_of (Closing (Refused cause)) = Some (ending.Stopped (refusal_of cause))
-ending_of Upgraded = Some ending.Bye
-ending_of Aborted = Some (ending.Stopped refusal.Memory)
+abbrev pub ending_of_state : State → Option Ending
+ending_of_state Open = None
+ending_of_state (Closing Asked) = Some ending.Bye
+ending_of_state (Closing EndOfInput) = Some ending.End
+ending_of_state (Closing (Refused cause)) = Some (ending.Stopped (refusal_of cause))
+ending_of_state Upgraded = Some ending.Bye
+ending_of_state Aborted = Some (ending.Stopped refusal.Memory)
 
 -- ---- the fault that is told of a request which the kit's connection refuses
 

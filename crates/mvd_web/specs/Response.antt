@@ -4,7 +4,7 @@ use Rattle.std.specs.Fmt.{decimal}
 use Rattle.http1.specs.Fields.{Header}
 use Rattle.http1.specs.Head.{response_text}
 use Rattle.http1_typed.specs.Parts.{reason_of}
-use Rattle.mvd_http.specs.Faults.{answer_of, text_of}
+use Rattle.mvd_http.specs.Faults.{answer_of, fault_text}
 use Rattle.mvd_http.specs.Fields.{fields_for}
 use Rattle.mvd_http.specs.declared.fields.Answer.{Answer}
 use Rattle.mvd_http.specs.declared.http_fault.Fault.{Fault}
@@ -16,11 +16,11 @@ persistence true = (codes "connection", codes "close")
 persistence false = (codes "connection", codes "keep-alive")
 
 -- the fields that frame a body whose length has these digits; a 204 has no body, and says no length
-abbrev pub framed : ℕ → List ℕ → Bool → List Header
-framed status digits is_last = persistence is_last ∷ (if status == 204 then [] else (codes "content-length", digits) ∷ [])
+abbrev pub framing_fields : ℕ → List ℕ → Bool → List Header
+framing_fields status digits is_last = persistence is_last ∷ (if status == 204 then [] else (codes "content-length", digits) ∷ [])
 
 abbrev pub framing_of : ℕ → ℕ → Bool → List Header
-framing_of status length is_last = framed status (decimal length) is_last
+framing_of status length is_last = framing_fields status (decimal length) is_last
 
 abbrev pub head_bytes : Answer → ℕ → Bool → List ℕ
 head_bytes answer length is_last =
@@ -41,4 +41,4 @@ response_bytes answer body manner =
 
 -- the response to a request that is refused: no other follows
 abbrev pub fault_bytes : Fault → List ℕ
-fault_bytes fault = response_bytes (answer_of fault) (text_of fault) (record { is_last = true; is_head = false })
+fault_bytes fault = response_bytes (answer_of fault) (fault_text fault) (record { is_last = true; is_head = false })

@@ -5,12 +5,12 @@ use Rattle.http_server.specs.History.{Rests}
 use Rattle.http_server.specs.Response.{IsResponse}
 use Rattle.mvd_dots.specs.declared.refusals.Refusal.TheVariants.{Memory}
 use Rattle.mvd_web.specs.Asked.{IsAskedBy}
-use Rattle.mvd_web.specs.Web.{Stays, WebValue, first_cause, said}
+use Rattle.mvd_web.specs.Web.{NothingCame, WebValue, first_cause, web_said}
 use Rattle.mvd_web.specs.declared.taken.Asked.{Asked}
 
 -- reading hands nothing out, and queues nothing
 pub record Quiet (old new : WebValue) : Type 0 where
-  pub stays : Stays old new
+  pub stays : NothingCame old new
   pub sent : new.heard.sent ≡ old.heard.sent
   pub waits : new.waits ≡ old.waits
   pub stopped : new.stopped ≡ old.stopped
@@ -30,9 +30,9 @@ pub record ReadsNone (old new : WebValue) : Type 0 where
   pub rests : Rests new.config new.heard
   pub quiet : Quiet old new
 
-abbrev pub Reads : WebValue → Bool → WebValue → Type 0
-Reads old true new = ReadsOne old new
-Reads old false new = ReadsNone old new
+abbrev pub ReadsOn : WebValue → Bool → WebValue → Type 0
+ReadsOn old true new = ReadsOne old new
+ReadsOn old false new = ReadsNone old new
 
 -- what the kit's connection handed out is not queued
 pub record Drops (old new : WebValue) : Type 0 where
@@ -44,10 +44,10 @@ pub record Drops (old new : WebValue) : Type 0 where
   pub asked : new.asked ≡ old.asked
   pub waits : new.waits ≡ old.waits
   pub stopped : new.stopped ≡ old.stopped
-  pub stays : Stays old new
+  pub stays : NothingCame old new
 
 -- it is
-pub record Moves (old new : WebValue) : Type 0 where
+pub record StepsOn (old new : WebValue) : Type 0 where
   pub part : List ℕ
   pub split : old.heard.pending ≡ part ++ new.heard.pending
   pub sent : new.heard.sent ≡ old.heard.sent ++ part
@@ -57,7 +57,7 @@ pub record Moves (old new : WebValue) : Type 0 where
   pub asked : new.asked ≡ old.asked
   pub stopped : new.stopped ≡ old.stopped
   pub rests : new.rests ≡ old.rests
-  pub stays : Stays old new
+  pub stays : NothingCame old new
 
 -- after it nothing is left, and where there was nothing, nothing is to be looked at
 abbrev pub Settles : List ℕ → WebValue → WebValue → Type 0
@@ -66,7 +66,7 @@ Settles (b ∷ bs) old new = new.rests ≡ false
 
 abbrev pub PassesAll : WebValue → List ℕ → List ℕ → WebValue → Type 0
 PassesAll old told queued new =
-    ((new.stopped ≡ old.stopped) × (new.heard.pending ≡ []) × Settles told old new × (queued ≡ said new told))
+    ((new.stopped ≡ old.stopped) × (new.heard.pending ≡ []) × Settles told old new × (queued ≡ web_said new told))
     ⊎ ((new.stopped ≡ first_cause old.stopped Memory) × ((queued ≡ told) ⊎ (queued ≡ [])))
 
 pub record PassesOn (old new : WebValue) : Type 0 where
@@ -77,4 +77,4 @@ pub record PassesOn (old new : WebValue) : Type 0 where
   pub calls : new.heard.calls ≡ old.heard.calls
   pub asked : new.asked ≡ old.asked
   pub ends : PassesAll old told queued new
-  pub stays : Stays old new
+  pub stays : NothingCame old new

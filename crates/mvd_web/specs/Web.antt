@@ -13,7 +13,7 @@ use Rattle.mvd_dots.specs.declared.refusals.Refusal.TheVariants.{Memory}
 use Rattle.mvd_http.specs.declared.fields.Answer.{Answer}
 use Rattle.mvd_http.specs.declared.http_fault.Fault.{Fault}
 use Rattle.mvd_web.specs.Asked.{IsAskedBy}
-use Rattle.mvd_web.specs.Ends.{ending_of, fault_in}
+use Rattle.mvd_web.specs.Ends.{ending_of_state, fault_in}
 use Rattle.mvd_web.specs.Response.{fault_bytes, response_bytes}
 use Rattle.mvd_web.specs.declared.taken.Asked.{Asked}
 use Rattle.mvd_web.specs.declared.response.Manner.{Manner}
@@ -58,7 +58,7 @@ ended None ending = ending
 ended (Some refusal) ending = Some (Stopped refusal)
 
 abbrev pub web_ending : WebValue → Option Ending
-web_ending w = ended w.stopped (ending_of w.heard.state)
+web_ending w = ended w.stopped (ending_of_state w.heard.state)
 
 -- it was stopped, or no request follows and each was answered, with all its bytes
 abbrev pub IsOver : WebValue → Type 0
@@ -71,8 +71,8 @@ abbrev pub is_free : WebValue → Bool
 is_free w = is_none w.stopped && (is_none w.asked && nat_lt (length w.waits) 262144)
 
 -- all that came was looked at, and more is wanted
-abbrev pub WantsInput : WebValue → Type 0
-WantsInput w = IsTrue w.rests × IsTrue (is_free w) × WantsRead w.config w.heard
+abbrev pub WantsBytes : WebValue → Type 0
+WantsBytes w = IsTrue w.rests × IsTrue (is_free w) × WantsRead w.config w.heard
 
 -- there is something to look at
 abbrev pub is_awake : WebValue → Bool
@@ -82,13 +82,13 @@ is_awake w = not w.rests && is_free w
 abbrev pub heard_more : History → List ℕ → History
 heard_more h bytes = record h { received = h.received ++ bytes; unread = h.unread ++ bytes }
 
-abbrev pub fed : WebValue → List ℕ → WebValue
-fed w bytes = record w { heard = heard_more w.heard bytes; rests = false }
+abbrev pub web_fed : WebValue → List ℕ → WebValue
+web_fed w bytes = record w { heard = heard_more w.heard bytes; rests = false }
 
 -- all bytes came, unless the input was at its end; or those of a front, and the connection is stopped for want of memory
 abbrev pub FeedsFront : WebValue → List ℕ → List ℕ → WebValue → Type 0
 FeedsFront old front rest new =
-    ((new ≡ fed old front) × (old.heard.ended ≡ false → rest ≡ [])) ⊎ (new ≡ stopped_by (fed old front) Memory)
+    ((new ≡ web_fed old front) × (old.heard.ended ≡ false → rest ≡ [])) ⊎ (new ≡ stopped_by (web_fed old front) Memory)
 
 abbrev pub Feeds : WebValue → List ℕ → WebValue → Type 0
 Feeds old bytes new = (front : List ℕ) × (rest : List ℕ) × (bytes ≡ front ++ rest) × FeedsFront old front rest new
@@ -103,7 +103,7 @@ EndsInput old new = (new ≡ at_end old) ⊎ (new ≡ stopped_by (record old { r
 -- ---- requests
 
 -- nothing came, and the limits are the same
-pub record Stays (old new : WebValue) : Type 0 where
+pub record NothingCame (old new : WebValue) : Type 0 where
   pub config : new.config ≡ old.config
   pub received : new.heard.received ≡ old.heard.received
   pub ended : new.heard.ended ≡ old.heard.ended
@@ -120,7 +120,7 @@ pub record TakesOne (old new : WebValue) : Type 0 where
   pub waits : new.waits ≡ old.waits
   pub none_left : new.heard.pending ≡ []
   pub stopped : new.stopped ≡ old.stopped
-  pub stays : Stays old new
+  pub stays : NothingCame old new
 
 -- where nothing was told, each whole request that came was read
 abbrev pub MayRest : List ℕ → WebValue → Type 0
@@ -133,13 +133,13 @@ said_of None told = told
 said_of (Some fault) [] = []
 said_of (Some fault) (b ∷ bs) = fault_bytes fault
 
-abbrev pub said : WebValue → List ℕ → List ℕ
-said w told = said_of (fault_in w.heard.state) told
+abbrev pub web_said : WebValue → List ℕ → List ℕ
+web_said w told = said_of (fault_in w.heard.state) told
 
 -- all that was to be said is queued; or the connection is stopped for want of memory, and what was handed out is queued, or nothing
 abbrev pub TellsAll : WebValue → List ℕ → List ℕ → WebValue → Type 0
 TellsAll old told queued new =
-    ((new.stopped ≡ old.stopped) × (new.heard.pending ≡ []) × MayRest told new × (queued ≡ said new told))
+    ((new.stopped ≡ old.stopped) × (new.heard.pending ≡ []) × MayRest told new × (queued ≡ web_said new told))
     ⊎ ((new.stopped ≡ first_cause old.stopped Memory) × ((queued ≡ told) ⊎ (queued ≡ [])))
 
 -- no request was read
@@ -151,16 +151,16 @@ pub record TakesNone (old new : WebValue) : Type 0 where
   pub queued : List ℕ
   pub waits : new.waits ≡ old.waits ++ queued
   pub tells : TellsAll old told queued new
-  pub stays : Stays old new
+  pub stays : NothingCame old new
 
 -- where no request may be taken, nothing is done
 abbrev pub LooksIf : Bool → WebValue → WebValue → Type 0
 LooksIf false old new = new ≡ old
 LooksIf true old new = TakesNone old new
 
-abbrev pub Takes : WebValue → Bool → WebValue → Type 0
-Takes old true new = IsTrue (is_free old) × TakesOne old new
-Takes old false new = LooksIf (is_free old) old new
+abbrev pub TakesRequest : WebValue → Bool → WebValue → Type 0
+TakesRequest old true new = IsTrue (is_free old) × TakesOne old new
+TakesRequest old false new = LooksIf (is_free old) old new
 
 -- ---- responses
 
@@ -191,5 +191,5 @@ RespondsTo (Some asked) old answer body new =
     Queues (unasked old) (response_bytes answer body (manner_of old asked)) new
 
 -- so many of the waiting bytes left
-abbrev pub sent : WebValue → ℕ → WebValue
-sent w count = record w { waits = drop count w.waits }
+abbrev pub web_sent : WebValue → ℕ → WebValue
+web_sent w count = record w { waits = drop count w.waits }

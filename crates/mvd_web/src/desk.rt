@@ -1,5 +1,5 @@
 //! What keeps a request until it is answered.
-ghost use Rattle.mvd_web.specs.Asked.{Keeps};
+ghost use Rattle.mvd_web.specs.Asked.{KeepsAsked};
 
 use crate::taken::{Asked, asked_by};
 use bytes::Bytes;
@@ -15,7 +15,7 @@ pub(crate) struct Desk {
 }
 
 impl Service for Desk {
-    ghost answers = { Keeps };
+    ghost answers = { KeepsAsked };
 
     fn call(
         &mut self,

@@ -3,7 +3,7 @@ ghost use Rattle.std.specs.Prelude.{◌≡◌, ◌++◌, OnOk, OnErr, IfOk};
 ghost use Rattle.http1.specs.Head.{header_parts, pairs, response_text};
 ghost use Rattle.http1_typed.specs.Parts.{reason_of};
 ghost use Rattle.http_server.specs.Response.{fields as pairs_of, fields_of};
-ghost use Rattle.mvd_web.specs.Response.{framed, framing_of, persistence as persistence_told, response_bytes, body_sent};
+ghost use Rattle.mvd_web.specs.Response.{framing_fields, framing_of, persistence as persistence_told, response_bytes, body_sent};
 
 use bytes::BytesMut;
 use http::{HeaderName, HeaderValue, StatusCode};
@@ -58,7 +58,7 @@ fn listed<'a>(
     is_last: bool,
 ) -> Result<Vec<Header<'a>>, AllocError>
     ensures { IfOk result (λ list. pairs list.items ≡
-        fields_of filled.now ++ framed filled.now.status digits.now is_last) }
+        fields_of filled.now ++ framing_fields filled.now.status digits.now is_last) }
 {
     let mut list = own_fields(alloc, &filled.headers)?;
     list.push(persistence(is_last))?;

@@ -4,7 +4,8 @@ ghost use Rattle.http.specs.Request.{body_of, head_of};
 ghost use Rattle.http_header.specs.HeaderMap.{get_all};
 ghost use Rattle.mvd_dots.specs.Answer.{IsAnswer};
 ghost use Rattle.mvd_http.specs.Asked.{IsQuestion};
-ghost use Rattle.mvd_web.specs.Asked.{IsAskedBy, NamesHost, bearer_of, bearer_text, field_in as field_told, host_of as host_told, target_of as target_told};
+ghost use Rattle.mvd_web.specs.Asked.{IsAskedBy, NamesHost, bearer_of, bearer_text, header_in as field_told};
+ghost use Rattle.mvd_web.specs.Asked.{host_of as host_told, target_of as target_told};
 
 use bytes::Bytes;
 use http::{HeaderValue, Request, Version};

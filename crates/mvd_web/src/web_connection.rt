@@ -1,5 +1,6 @@
 //! One connection: from the bytes that came to the bytes that leave.
-ghost use Rattle.std.specs.Prelude.{◌≡◌, ◌<◌, ◌≤◌, ◌↔◌, [], length, true, Some, None, IsTrue, OnOk, option_copied, option_map};
+ghost use Rattle.std.specs.Prelude.{◌≡◌, ◌<◌, ◌≤◌, ◌↔◌, [], length, true, Some, None, IsTrue, OnOk, option_copied};
+ghost use Rattle.std.specs.Prelude.{option_map};
 ghost use Rattle.mvd_web.specs.Response.{response_bytes};
 ghost use Rattle.mvd_web.specs.declared.taken.Asked.{Asked};
 
@@ -37,8 +38,9 @@ pub struct WebConnection {
 impl WebConnection {
     ghost use Rattle.mvd_web.specs.Ends.{fault_in as fault_told};
     ghost use Rattle.mvd_web.specs.Inside.{web_of};
-    ghost use Rattle.mvd_web.specs.Web.{EndsInput, Feeds, IsNew, IsOver, Queues, RespondsTo, Takes, WantsInput, is_awake, is_closed, is_free as free_now, sent, stopped_by, unasked, web_ending};
-    ghost use Rattle.mvd_web.specs.Steps.{Drops, Moves, PassesOn, Reads};
+    ghost use Rattle.mvd_web.specs.Web.{EndsInput, Feeds, IsNew, IsOver, Queues, RespondsTo, TakesRequest, WantsBytes};
+    ghost use Rattle.mvd_web.specs.Web.{is_awake, is_closed, is_free as free_now, web_sent, stopped_by, unasked, web_ending};
+    ghost use Rattle.mvd_web.specs.Steps.{Drops, StepsOn, PassesOn, ReadsOn};
 
     /// A connection on which nothing happened yet. The keys hide in which order a peer's fields are kept.
     pub fn new(alloc: Global, keys: RandomState) -> WebConnection
@@ -63,7 +65,7 @@ impl WebConnection {
     /// Whether more bytes are wanted: all that came was looked at, no request waits for its answer, and there is room
     /// for responses.
     pub fn wants_input(&self) -> bool
-        ensures { IsTrue result ↔ WantsInput (web_of self.now) }
+        ensures { IsTrue result ↔ WantsBytes (web_of self.now) }
     {
         self.rests && self.is_free() && self.parser.wants_read()
     }
@@ -121,7 +123,7 @@ impl WebConnection {
     /// Takes the next request, where no other waits for its answer. Whether one was taken. Where none was, what the
     /// parser answers for itself is queued, and for a request that it refuses the response that names the fault.
     pub fn next(&mut self) -> bool
-        ensures { Takes (web_of self.old) result (web_of self.new) }
+        ensures { TakesRequest (web_of self.old) result (web_of self.new) }
     {
         if self.is_free() {
             return self.look();
@@ -132,7 +134,7 @@ impl WebConnection {
     /// The same, where a request may be taken.
     fn look(&mut self) -> bool
         requires { free_now (web_of self.old) ≡ true }
-        ensures { Takes (web_of self.old) result (web_of self.new) }
+        ensures { TakesRequest (web_of self.old) result (web_of self.new) }
     {
         if self.advance() {
             self.drop_pending();
@@ -246,7 +248,7 @@ impl WebConnection {
     /// Tells that so many of the waiting bytes left.
     pub fn sent(&mut self, count: usize)
         requires { count ≤ length (web_of self.old).waits }
-        ensures { web_of self.new ≡ sent (web_of self.old) count }
+        ensures { web_of self.new ≡ web_sent (web_of self.old) count }
     {
         self.output.advance(count);
     }
@@ -274,7 +276,7 @@ impl WebConnection {
     /// Reads at most one request. Whether one was read.
     fn advance(&mut self) -> bool
         requires { (web_of self.old).asked ≡ None }
-        ensures { Reads (web_of self.old) result (web_of self.new) }
+        ensures { ReadsOn (web_of self.old) result (web_of self.new) }
     {
         self.parser.advance(&mut self.desk);
         self.desk.asked.is_some()
@@ -282,7 +284,7 @@ impl WebConnection {
 
     /// What the parser answers for itself leaves as it is.
     fn move_pending(&mut self) -> Result<(), AllocError>
-        ensures moved { Moves (web_of self.old) (web_of self.new) }
+        ensures moved { StepsOn (web_of self.old) (web_of self.new) }
         ensures all { OnOk result ((web_of self.new).heard.pending ≡ []) }
     {
         while self.parser.wants_write() {

@@ -1,6 +1,7 @@
 //! How an HTTP connection ends, in the words of the other connections, and what is said of a request that is none.
 ghost use Rattle.std.specs.Prelude.{◌≡◌};
-ghost use Rattle.mvd_web.specs.Ends.{ending_of as ending_told, fault_in as fault_told, fault_of as fault_named, part_fault as part_named, read_fault as read_named, refusal_of as refusal_told};
+ghost use Rattle.mvd_web.specs.Ends.{ending_of_state as ending_told, fault_in as fault_told, fault_of as fault_named};
+ghost use Rattle.mvd_web.specs.Ends.{part_fault as part_named, read_fault as read_named, refusal_of as refusal_told};
 
 use http_server::{Reason, State};
 use http1::ReadError;

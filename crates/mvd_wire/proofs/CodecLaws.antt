@@ -20,7 +20,7 @@ use Rattle.mvd_wire.specs.Token.{token_of_bytes}
 use Rattle.mvd_wire.specs.declared.version.Version.{Version}
 use Rattle.mvd_wire.specs.declared.version.Version.TheVariants.{First, Second}
 use Rattle.mvd_wire.specs.Codec.{Codec, byte, number, raw, followed, checked, accepted, named}
-use Rattle.mvd_wire.specs.Codecs.{Layout, layout1, layout2, layout_of, dot, loose_from, loose_above, entry, entries, context, key, document_of_bytes, document, path, prefix, token, comes_after, sibling, siblings, unlimited_state, state}
+use Rattle.mvd_wire.specs.Codecs.{Layout, layout1, layout2, layout_of, dot, loose_from, loose_above, entry, entries, context_codec, key, document_of_bytes, document, path, prefix, token, comes_after, sibling, siblings_codec, unlimited_state, state_codec}
 use Rattle.mvd_wire.proofs.Laws.{IsLawful, IsWide, Takes, wide16, wide32, wide64, bind_ok, ok_is, passed_ok, lawful_byte, lawful_number, lawful_raw, lawful_followed, lawful_checked, lawful_accepted, lawful_named, lawful_counted}
 use Rattle.mvd_wire.proofs.Entries.{entries_form}
 use Rattle.mvd_dots.proofs.Canonical.{set_of-entries_of, entries_of-set_of, AreInRange-set_of}
@@ -154,8 +154,8 @@ module _ (v : Layout) (wide : IsWideLayout v) where
   form_of es fits = entries_form v 0 es wide.narrow fits.1.1
 
   context_takes : (bytes : List ℕ) (x : DotSet × List ℕ) (es : List EntryValue) (rest : List ℕ) → Takes bytes ((entries v).spell es) rest → (entries v).Fits es → (set_of es, rest) ≡ x
-      → Takes bytes ((context v).spell x.0) x.1 × (context v).Fits x.0
-  unfolding context
+      → Takes bytes ((context_codec v).spell x.0) x.1 × (context_codec v).Fits x.0
+  unfolding context_codec
   context_takes bytes x es rest taken fits is =
       let form = form_of es fits in
       let same = entries_of-set_of es form in
@@ -163,8 +163,8 @@ module _ (v : Layout) (wide : IsWideLayout v) where
       (subst (λ fs. Takes bytes ((entries v).spell fs) rest) (sym same) taken, (AreInRange-set_of es form, subst (λ fs. (entries v).Fits fs) (sym same) fits)) in
       subst (λ (y : DotSet × List ℕ). Takes bytes ((entries v).spell (entries_of y.0)) y.1 × (AreInRange y.0 × (entries v).Fits (entries_of y.0))) is at
 
-  pub lawful_context : IsLawful (context v)
-  unfolding context
+  pub lawful_context : IsLawful (context_codec v)
+  unfolding context_codec
   lawful_context = record {
     again = λ dots rest fits. rw (lawful_entries.again (entries_of dots) rest fits.1, set_of-entries_of dots fits.0) refl;
     takes = λ bytes x fits e.
@@ -180,17 +180,17 @@ module _ (v : Layout) (wide : IsWideLayout v) where
       (lawful_checked BadBody (λ d. comes_after previous d && contains dots d) (dot v) lawful_dot)
       (λ _. lawful_document)
 
-  pub lawful_siblings : (dots : DotSet) → IsLawful (siblings v dots)
-  unfolding siblings
+  pub lawful_siblings : (dots : DotSet) → IsLawful (siblings_codec v dots)
+  unfolding siblings_codec
   lawful_siblings dots = lawful_counted (sibling v dots) (λ _ s. Some s.0) (lawful_sibling dots) (number w16) None (lawful_number w16 wide16)
 
   pub lawful_unlimited_state : IsLawful (unlimited_state v)
   unfolding unlimited_state
   lawful_unlimited_state =
-      lawful_named (λ s. (s.context, pairs s.siblings)) (λ p. record { siblings = from_entries p.1; context = p.0 }) (followed (context v) (siblings v))
+      lawful_named (λ s. (s.context, pairs s.siblings)) (λ p. record { siblings = from_entries p.1; context = p.0 }) (followed (context_codec v) (siblings_codec v))
       (λ p fits. ap (λ ps. (p.0, ps)) (siblings_back v p.0 p.1 fits.1)) (λ s. ap (λ m. record { siblings = m; context = s.context }) (pairs_back s.siblings))
-      (lawful_followed (context v) (siblings v) lawful_context lawful_siblings)
+      (lawful_followed (context_codec v) (siblings_codec v) lawful_context lawful_siblings)
 
-  pub lawful_state : IsLawful (state v)
-  unfolding state
+  pub lawful_state : IsLawful (state_codec v)
+  unfolding state_codec
   lawful_state = lawful_checked StateTooLarge (λ s. leb (length ((unlimited_state v).spell s)) v.limit) (unlimited_state v) lawful_unlimited_state

@@ -4,7 +4,7 @@ use Rattle.std.proofs.lemmas.Bool.{leb-true, ltb-true}
 use Rattle.std.specs.Int.{byte_len}
 use Rattle.mvd_dots.specs.declared.dots.TheConstants.{COUNTER_MAX}
 use Rattle.mvd_dots.specs.Entry.{EntryValue, IsEntry, RisesAbove, AllBelow, HasDot}
-use Rattle.mvd_dots.specs.Context.{DotSet, Holds, AreEntriesAbove, entry_dots, set_of}
+use Rattle.mvd_dots.specs.Context.{DotSet, HoldsDot, AreEntriesAbove, entry_dots, set_of}
 use Rattle.std.specs.FinSet as set
 use Rattle.mvd_dots.specs.declared.refusals.Refusal.{Refusal}
 use Rattle.mvd_dots.specs.declared.refusals.Refusal.TheVariants.{Memory}
@@ -12,7 +12,7 @@ use Rattle.mvd_dots.proofs.Sets.{union-empty, union_empty_left, union_assoc, hol
 use Rattle.mvd_dots.proofs.Members.{set_of-nil, set_of-cons, holds_entry}
 use Rattle.mvd_keys.proofs.Lists.{and_true}
 use Rattle.mvd_wire.specs.Codec.{◌>>=◌, number, FitEach, read_each}
-use Rattle.mvd_wire.specs.Codecs.{Layout, entry, loose_from, loose_above, dots_read, entries, context}
+use Rattle.mvd_wire.specs.Codecs.{Layout, entry, loose_from, loose_above, dots_read, entries, context_codec}
 
 -- ---- what fits is in the form of entries
 
@@ -102,12 +102,12 @@ counted_dots n (Ok x) = refl
 counted_dots n (Err f) = refl
 
 -- a context is its number of entries and then its entries
-pub context_read : (v : Layout) (n : ℕ) (bytes rest : List ℕ) → (number v.entries).read bytes ≡ Ok (n, rest) → (context v).read bytes ≡ dots_read (read_each (entry v) (λ _ e. e.site) 0 n rest)
-unfolding context entries
+pub context_read : (v : Layout) (n : ℕ) (bytes rest : List ℕ) → (number v.entries).read bytes ≡ Ok (n, rest) → (context_codec v).read bytes ≡ dots_read (read_each (entry v) (λ _ e. e.site) 0 n rest)
+unfolding context_codec entries
 context_read v n bytes rest e = rw e (counted_dots n (read_each (entry v) (λ _ e. e.site) 0 n rest))
 
 -- a set whose sites are at most one number, and one entry of a site above it
-pub sites_after : (dots : DotSet) (low : ℕ) (e : EntryValue) → ((site n : ℕ) → Holds dots site n → site ≤ low) → low < e.site → (site n : ℕ) → Holds (set.union dots (entry_dots e)) site n → site ≤ e.site
+pub sites_after : (dots : DotSet) (low : ℕ) (e : EntryValue) → ((site n : ℕ) → HoldsDot dots site n → site ≤ low) → low < e.site → (site n : ℕ) → HoldsDot (set.union dots (entry_dots e)) site n → site ≤ e.site
 sites_after dots low e within above site n there =
     elim (holds_union dots (entry_dots e) site n there) [
       | inl old ↦ let k = within site n old in omega arith

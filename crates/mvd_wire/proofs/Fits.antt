@@ -32,7 +32,7 @@ use Rattle.mvd_keys.proofs.Lists.{and_true}
 use Rattle.mvd_keys.proofs.Rising.{first_true, second_true}
 use Rattle.mvd_wire.specs.Codec.{number, raw, FitEach}
 use Rattle.mvd_wire.specs.Prefix.{is_prefix}
-use Rattle.mvd_wire.specs.Codecs.{layout2, state_limit, dot, key, prefix, token, document, loose_from, loose_above, entry, entries, context, comes_after, sibling, siblings, unlimited_state, state, spell_state, spell_entry, spell_sibling}
+use Rattle.mvd_wire.specs.Codecs.{layout2, state_limit, dot, key, prefix, token, document, loose_from, loose_above, entry, entries, context_codec, comes_after, sibling, siblings_codec, unlimited_state, state_codec, spell_state, spell_entry, spell_sibling}
 use Rattle.mvd_wire.proofs.Spellings.{length_entry, length_sibling, length_context, length_state}
 
 -- ---- keys, prefixes, tokens
@@ -145,14 +145,14 @@ sixteen_each (e ∷ es) =
     let parts : length (flat_map spell_entry (e ∷ es)) ≡ 8 * length e.loose + 16 + length (flat_map spell_entry es) = rw (flat_map-cons, length-append, length_entry e) refl in
     omega (arith, parts, sixteen_each es)
 
-fitting : (ds : DotSet) → AreInRange ds → length (entries_of ds) < 2 ^ 32 → FitEach (entry layout2) (λ _ e. e.site) 0 (entries_of ds) → (context layout2).Fits ds
-unfolding context entries number
+fitting : (ds : DotSet) → AreInRange ds → length (entries_of ds) < 2 ^ 32 → FitEach (entry layout2) (λ _ e. e.site) 0 (entries_of ds) → (context_codec layout2).Fits ds
+unfolding context_codec entries number
 fitting ds ranged few each = (ranged, (few, (refl, each)))
 
-pub context_fits : (dots : DotSet) → AreInRange dots → length ((context layout2).spell dots) < 2 ^ 32 → (context layout2).Fits dots
+pub context_fits : (dots : DotSet) → AreInRange dots → length ((context_codec layout2).spell dots) < 2 ^ 32 → (context_codec layout2).Fits dots
 context_fits dots in_range short =
     let es = entries_of dots in
-    let all : length ((context layout2).spell dots) ≡ length (flat_map spell_entry es) + 4 = length_context dots in
+    let all : length ((context_codec layout2).spell dots) ≡ length (flat_map spell_entry es) + 4 = length_context dots in
     let form = (AreEntriesOf-entries_of dots in_range).form in
     fitting dots in_range (omega (arith, sixteen_each es, all, short)) (entries_fit 0 es form (omega (arith, all, short)))
 
@@ -192,16 +192,16 @@ eighteen_each (s ∷ ss) documents =
     let parts : length (flat_map spell_sibling (pairs_of (s ∷ ss))) ≡ length s.document + 16 + length (flat_map spell_sibling (pairs_of ss)) = rw (flat_map-cons, length-append, length_sibling (pair_of s)) refl in
     omega (arith, parts, two_at_least s.document (documents 0 s (omega arith)), eighteen_each ss (λ k x lt. documents (suc k) x (omega arith)))
 
-parts_fit : (dots : DotSet) (ss : List Sibling) → AreParts ss dots → AreInRange dots → All (λ s. document.Fits s.document) ss → length ss < 2 ^ 16 → (siblings layout2 dots).Fits (pairs_of ss)
-unfolding siblings number
+parts_fit : (dots : DotSet) (ss : List Sibling) → AreParts ss dots → AreInRange dots → All (λ s. document.Fits s.document) ss → length ss < 2 ^ 16 → (siblings_codec layout2 dots).Fits (pairs_of ss)
+unfolding siblings_codec number
 parts_fit dots ss parts in_range documents few =
     (rw (length-map ss pair_of) few, (refl, siblings_fit dots in_range None ss tt (holds _ parts.rising) (tests_of_parts dots ss parts) documents))
 
 -- a state that is not too long has a spelling
-pub state_fits : (s : State) (ss : List Sibling) → pairs_of ss ≡ pairs s.siblings → AreParts ss s.context → AreInRange s.context → All (λ s. document.Fits s.document) ss → length (spell_state s) ≤ state_limit → (state layout2).Fits s
-unfolding state spell_state unlimited_state
+pub state_fits : (s : State) (ss : List Sibling) → pairs_of ss ≡ pairs s.siblings → AreParts ss s.context → AreInRange s.context → All (λ s. document.Fits s.document) ss → length (spell_state s) ≤ state_limit → (state_codec layout2).Fits s
+unfolding state_codec spell_state unlimited_state
 state_fits s ss same parts in_range documents short =
     let all = length_state s in
     let each : 18 * length ss ≤ length (flat_map spell_sibling (pairs s.siblings)) = rw (← same) (eighteen_each ss documents) in
     let fit = parts_fit s.context ss parts in_range documents (omega (arith, all, each, short)) in
-    ((context_fits s.context in_range (omega (arith, all, short)), subst (λ ps. (siblings layout2 s.context).Fits ps) same fit), le-leb _ _ short)
+    ((context_fits s.context in_range (omega (arith, all, short)), subst (λ ps. (siblings_codec layout2 s.context).Fits ps) same fit), le-leb _ _ short)

@@ -8,7 +8,7 @@ use Rattle.std.proofs.lemmas.Nat.{be_bytes_2, be_bytes_4, be_bytes_8, from_be_by
 use Rattle.mvd_dots.specs.declared.refusals.Refusal.{Refusal}
 use Rattle.mvd_dots.specs.declared.refusals.Refusal.TheVariants.{BadBody}
 use Rattle.mvd_dots.specs.Answer.{IsAnswer}
-use Rattle.mvd_wire.specs.Codec.{◌>>=◌, Codec, byte, number, raw, followed, checked, accepted, named, named_where, read_each, spell_each, FitEach, each, counted, whole, Gives, Spells, IsPrefixFree}
+use Rattle.mvd_wire.specs.Codec.{◌>>=◌, Codec, byte, number, raw, followed, checked, accepted, named, named_where, read_each, spell_each, FitEach, each, with_count, whole, Gives, Spells, IsPrefixFree}
 
 abbrev pub IsBytes : List ℕ → Type 0
 IsBytes bytes = (i : ℕ) → get_or bytes i 0 < 256
@@ -241,7 +241,7 @@ module _ {S X : Type 0} (kind : S → Codec X) (next : S → X → S) (law : (s 
     takes = λ bytes xs fits e. each_takes s n bytes xs fits e;
   }
 
-  pub lawful_counted : (count : Codec ℕ) (s : S) → IsLawful count → IsLawful (counted kind next count s)
+  pub lawful_counted : (count : Codec ℕ) (s : S) → IsLawful count → IsLawful (with_count kind next count s)
   lawful_counted count s counts =
       lawful_named (λ xs. (length xs, xs)) (λ p. p.1) (followed count (each kind next s))
       (λ p fits. ap (λ (n : ℕ). (n, p.1)) fits.1.0) (λ xs. refl)

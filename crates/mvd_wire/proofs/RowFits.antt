@@ -17,7 +17,7 @@ use Rattle.mvd_keys.specs.Path.{is_digit, is_path}
 use Rattle.mvd_keys.proofs.Lists.{and_true}
 use Rattle.mvd_wire.specs.Codec.{◌>>=◌, Codec, byte, number, raw, FitEach, read_each, spell_each}
 use Rattle.mvd_wire.specs.Codecs.{path}
-use Rattle.mvd_wire.specs.Rows.{field, view_name, term_text, sum, ends, row, spot, key_entry, digest, children, children_of, flag, item_of, items, page, page_limit}
+use Rattle.mvd_wire.specs.Rows.{field, view_name, term_text_codec, sum, ends, row_codec, spot_codec, key_entry, digest, children, children_of, flag, item_of, items, page, page_limit}
 use Rattle.mvd_wire.proofs.Fits.{key_fits, dot_fits}
 use Rattle.mvd_wire.proofs.Spellings.{spell_each-flat_map}
 
@@ -44,8 +44,8 @@ path_fits p is =
     let few : length p ≤ 3 = leb-true _ _ some in
     ((omega arith, some), (refl, rw is refl))
 
-pub term_text_fits : (t : List ℕ) → IsUtf8 t → length t ≤ 512 → term_text.Fits t
-unfolding term_text raw number
+pub term_text_fits : (t : List ℕ) → IsUtf8 t → length t ≤ 512 → term_text_codec.Fits t
+unfolding term_text_codec raw number
 term_text_fits t text few =
     let short : leb (length t) 512 ≡ true = le-leb _ _ few in
     ((omega arith, short), (refl, rw (is_utf8-from_IsUtf8 t text, short) refl))
@@ -56,16 +56,16 @@ sum_fits z fits =
     let below = Fits-of_z {w = w128} {z = z} fits in
     (fits, (omega (arith, below), omega (arith, below)))
 
-pub spot_fits : (k : List ℕ) (d : DotValue) → is_key k ≡ true → IsDot d → spot.Fits (k, d)
-unfolding spot
+pub spot_fits : (k : List ℕ) (d : DotValue) → is_key k ≡ true → IsDot d → spot_codec.Fits (k, d)
+unfolding spot_codec
 spot_fits k d is dot_is = (key_fits k is, dot_fits d dot_is)
 
 pub key_entry_fits : (k d : List ℕ) → is_key k ≡ true → length d ≡ 32 → key_entry.Fits (k, d)
 unfolding key_entry digest raw
 key_entry_fits k d is long = (key_fits k is, long)
 
-pub row_fits : (count : ℕ) (z : ℤ) (e : Option (ℤ × ℤ)) → count < 2 ^ 64 → sum.Fits z → ends.Fits e → row.Fits (record { count = count; sum = z; ends = e })
-unfolding row number
+pub row_fits : (count : ℕ) (z : ℤ) (e : Option (ℤ × ℤ)) → count < 2 ^ 64 → sum.Fits z → ends.Fits e → row_codec.Fits (record { count = count; sum = z; ends = e })
+unfolding row_codec number
 row_fits count z e few fits ends_fit = (few, (fits, ends_fit))
 
 -- ---- lists

@@ -12,7 +12,7 @@ use Rattle.mvd_keys.specs.Path.{is_path}
 use Rattle.mvd_keys.specs.State.{State, Text}
 use Rattle.mvd_keys.proofs.Lists.{and_true}
 use Rattle.mvd_wire.specs.Codec.{number, optional, raw}
-use Rattle.mvd_wire.specs.Codecs.{layout2, state_limit, dot, key, document, context, path, prefix, token, state, spell_state}
+use Rattle.mvd_wire.specs.Codecs.{layout2, state_limit, dot, key, document, context_codec, path, prefix, token, state_codec, spell_state}
 use Rattle.mvd_wire.specs.Frames.{frame_limit}
 use Rattle.mvd_wire.specs.declared.request.Request.TheVariants.{Get, Node, Bucket, Push, Keys, Conflicts, Hello}
 use Rattle.mvd_wire.specs.declared.reply.Reply.{Reply}
@@ -111,26 +111,26 @@ hello_is_short t fits =
 pub push_is_short : (k : Text) (s : State) → is_key k ≡ true → length (spell_state s) ≤ state_limit → request_frame (Push k s) ≡ Ok (request_bytes (Push k s))
 unfolding push spell_state
 push_is_short k s is short =
-    let all : length (push.spell (k, s)) ≡ length (key.spell k) + length ((state layout2).spell s) = length-append (key.spell k) ((state layout2).spell s) in
-    let state_few : leb (length ((state layout2).spell s)) state_limit ≡ true = le-leb _ _ short in
+    let all : length (push.spell (k, s)) ≡ length (key.spell k) + length ((state_codec layout2).spell s) = length-append (key.spell k) ((state_codec layout2).spell s) in
+    let state_few : leb (length ((state_codec layout2).spell s)) state_limit ≡ true = le-leb _ _ short in
     let few : leb (length (push.spell (k, s)) + 1) frame_limit ≡ true = le-leb _ _ (omega (arith, short_key k is, all, short)) in
     rw (state_few, few) refl
 
-pub push_fits : (k : Text) (s : State) → is_key k ≡ true → (state layout2).Fits s → push.Fits (k, s)
+pub push_fits : (k : Text) (s : State) → is_key k ≡ true → (state_codec layout2).Fits s → push.Fits (k, s)
 unfolding push
 push_fits k s is fits = (key_fits k is, fits)
 
 pub put_fits : (k : Text) (c : DotSet) (d : Text) → is_key k ≡ true → AreInRange c → IsDocument d → length d ≤ 65536 → length (put.spell (k, (c, d))) < frame_limit → put.Fits (k, (c, d))
 unfolding put
 put_fits k c d is in_range document_is few short =
-    let all = length-append (key.spell k) ((context layout2).spell c ++ document.spell d) in
-    let rest = length-append ((context layout2).spell c) (document.spell d) in
+    let all = length-append (key.spell k) ((context_codec layout2).spell c ++ document.spell d) in
+    let rest = length-append ((context_codec layout2).spell c) (document.spell d) in
     (key_fits k is, (context_fits c in_range (omega (arith, all, rest, short)), document_fits d document_is few))
 
 pub delete_fits : (k : Text) (c : DotSet) → is_key k ≡ true → AreInRange c → length (delete.spell (k, c)) < frame_limit → delete.Fits (k, c)
 unfolding delete
 delete_fits k c is in_range short =
-    let all = length-append (key.spell k) ((context layout2).spell c) in
+    let all = length-append (key.spell k) ((context_codec layout2).spell c) in
     (key_fits k is, context_fits c in_range (omega (arith, all, short)))
 
 -- ---- replies

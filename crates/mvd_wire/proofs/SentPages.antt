@@ -12,7 +12,7 @@ use Rattle.mvd_keys.specs.declared.places.Place.{Place}
 use Rattle.mvd_wire.specs.Codec.{Codec, raw}
 use Rattle.mvd_wire.specs.Codecs.{dot}
 use Rattle.mvd_wire.specs.Frames.{frame_limit}
-use Rattle.mvd_wire.specs.Rows.{children, digest, digests, ends, flag, key_count, key_entry, page, page_limit, place, row, spot, sum, term, term_text, view_row, whole_number}
+use Rattle.mvd_wire.specs.Rows.{children, digest, digests_codec, ends, flag, key_count, key_entry, page, page_limit, place, row_codec, spot_codec, sum, term, term_text_codec, view_row, whole_number}
 use Rattle.mvd_wire.specs.declared.reply.Digests.{Digests}
 use Rattle.mvd_wire.specs.declared.reply.RowValue.{RowValue}
 use Rattle.mvd_wire.specs.declared.reply.Reply.TheVariants as reply
@@ -81,13 +81,13 @@ short_children : (ds : Option (List (List ℕ))) → IfSome ds (λ ds. (length d
 short_children None are = rw no_children_is (omega arith)
 short_children (Some ds) are = rw (children_is ds are.0) (omega (arith, are.0, items_short (λ d. d) ds (each_weaker _ _ short_digest ds are.1)))
 
-length_digests : (d : Digests) → length (digests.spell d) ≡ length d.own + length (children.spell d.children)
-unfolding digests digest raw
+length_digests : (d : Digests) → length (digests_codec.spell d) ≡ length d.own + length (children.spell d.children)
+unfolding digests_codec digest raw
 length_digests d = length-append d.own (children.spell d.children)
 
 pub digests_can_be_sent : (d : Digests) → AreDigests d → CanBeSent (reply.Digests d)
 digests_can_be_sent d are =
-    let short : leb (length (digests.spell d) + 1) frame_limit ≡ true = le-leb _ _ (omega (arith, length_digests d, are.own, short_children d.children are.children)) in
+    let short : leb (length (digests_codec.spell d) + 1) frame_limit ≡ true = le-leb _ _ (omega (arith, length_digests d, are.own, short_children d.children are.children)) in
     rw short refl
 
 -- ---- indexes and views
@@ -102,7 +102,7 @@ unfolding whole_number
 length_whole z = (sized_number (cast_unsigned w64 z)).2
 
 short_term : (t : Term) → IsShortTerm t → length (term.spell t) ≤ 515
-unfolding term term_text raw
+unfolding term term_text_codec raw
 short_term Null is = omega arith
 short_term False is = omega arith
 short_term True is = omega arith
@@ -114,7 +114,7 @@ pub record IsShortPlace (p : Place) : Type 0 where
   pub key : is_key p.key ≡ true
 
 short_place : (p : Place) → IsShortPlace p → length (place.spell p) ≤ 700
-unfolding place spot dot
+unfolding place spot_codec dot
 short_place p is = simp length-append (omega (arith, short_term p.term is.term, short_key p.key is.key, (sized_number p.dot.site).1, (sized_number p.dot.counter).2))
 
 pub places_can_be_sent : (ps : List Place) (more : Bool) → AllByRecursion IsShortPlace ps → length ps ≤ page_limit → CanBeSent (reply.Places ps more)
@@ -132,13 +132,13 @@ unfolding ends
 short_ends None = omega arith
 short_ends (Some e) = simp length-append (omega (arith, length_whole e.0, length_whole e.1))
 
-short_row : (r : RowValue) → length (row.spell r) ≤ 41
-unfolding row
+short_row : (r : RowValue) → length (row_codec.spell r) ≤ 41
+unfolding row_codec
 short_row r = simp length-append (omega (arith, (sized_number r.count).2, length_sum r.sum, short_ends r.ends))
 
 pub row_can_be_sent : (r : RowValue) → CanBeSent (reply.Row r)
 row_can_be_sent r =
-    let short : leb (length (row.spell r) + 1) frame_limit ≡ true = le-leb _ _ (omega (arith, short_row r)) in
+    let short : leb (length (row_codec.spell r) + 1) frame_limit ≡ true = le-leb _ _ (omega (arith, short_row r)) in
     rw short refl
 
 abbrev ViewRow : Type 0

@@ -13,7 +13,7 @@ use Rattle.mvd_keys.proofs.Parts.{is_true, holds, entries_of_pairs, parts_of_tes
 use Rattle.mvd_keys.proofs.Lists.{and_true}
 use Rattle.mvd_keys.proofs.Rising.{Pair, both_true, less_of, below_less}
 use Rattle.mvd_wire.specs.Codec.{FitEach}
-use Rattle.mvd_wire.specs.Codecs.{Layout, sibling, siblings, comes_after}
+use Rattle.mvd_wire.specs.Codecs.{Layout, sibling, siblings_codec, comes_after}
 
 module _ (v : Layout) (dots : DotSet) where
   after_is : (previous : Option DotValue) (p : Pair) → (sibling v dots previous).Fits p → (comes_after previous p.0 ≡ true) × (contains dots p.0 ≡ true)
@@ -34,16 +34,16 @@ module _ (v : Layout) (dots : DotSet) where
   seen previous [] fits = refl
   seen previous (s ∷ ss) fits = rw ((after_is previous (pair_of s) fits.0).1) (seen (Some s.dot) ss fits.1)
 
-  pub siblings_sorted : (ps : List Pair) → (siblings v dots).Fits ps → is_sorted dot_cmp ps ≡ true
-  unfolding siblings
+  pub siblings_sorted : (ps : List Pair) → (siblings_codec v dots).Fits ps → is_sorted dot_cmp ps ≡ true
+  unfolding siblings_codec
   siblings_sorted ps fits = is_true _ (sorted None ps fits.1.1)
 
   -- siblings that were read make a state with the context
-  pub siblings_parts : (ss : List Sibling) → (siblings v dots).Fits (pairs_of ss) → AreParts ss dots
-  unfolding siblings
+  pub siblings_parts : (ss : List Sibling) → (siblings_codec v dots).Fits (pairs_of ss) → AreParts ss dots
+  unfolding siblings_codec
   siblings_parts ss fits = parts_of_tests dots ss (siblings_sorted (pairs_of ss) fits) (seen None ss fits.1.1)
 
-  pub siblings_back : (ps : List Pair) → (siblings v dots).Fits ps → pairs (from_entries {R = dot_cmp} ps) ≡ ps
+  pub siblings_back : (ps : List Pair) → (siblings_codec v dots).Fits ps → pairs (from_entries {R = dot_cmp} ps) ≡ ps
   siblings_back ps fits = entries_of_pairs ps (siblings_sorted ps fits)
 
 pub pairs_back : (m : FinMap dot_cmp Text) → from_entries (pairs m) ≡ m

@@ -14,7 +14,7 @@ use Rattle.mvd_dots.proofs.Canonical.{entries_are}
 use Rattle.mvd_keys.specs.State.{State, Text, empty_state, pair_of, pairs_of}
 use Rattle.mvd_keys.specs.declared.siblings.Sibling.{Sibling}
 use Rattle.mvd_wire.specs.Codec.{Codec, number, raw, spell_each}
-use Rattle.mvd_wire.specs.Codecs.{layout2, dot, document, loose_from, loose_above, entry, entries, context, sibling, siblings, unlimited_state, state, spell_state, spell_entry, spell_sibling}
+use Rattle.mvd_wire.specs.Codecs.{layout2, dot, document, loose_from, loose_above, entry, entries, context_codec, sibling, siblings_codec, unlimited_state, state_codec, spell_state, spell_entry, spell_sibling}
 
 pub spell_each-flat_map : {S X : Type 0} (kind : S → Codec X) (next : S → X → S) (f : X → List ℕ) → ((s : S) (x : X) → (kind s).spell x ≡ f x) → (s : S) (xs : List X) → spell_each kind next s xs ≡ flat_map f xs
 spell_each-flat_map kind next f same s [] = refl
@@ -29,17 +29,17 @@ pub entries_is : (es : List EntryValue) → (entries layout2).spell es ≡ (numb
 unfolding entries
 entries_is es = ap (λ (t : List ℕ). (number w32).spell (length es) ++ t) (spell_each-flat_map (entry layout2) (λ _ e. e.site) spell_entry entry_is 0 es)
 
-pub context_is : (dots : DotSet) → (context layout2).spell dots ≡ (number w32).spell (length (entries_of dots)) ++ flat_map spell_entry (entries_of dots)
-unfolding context
+pub context_is : (dots : DotSet) → (context_codec layout2).spell dots ≡ (number w32).spell (length (entries_of dots)) ++ flat_map spell_entry (entries_of dots)
+unfolding context_codec
 context_is dots = entries_is (entries_of dots)
 
 sibling_is : (dots : DotSet) (previous : Option DotValue) (s : DotValue × Text) → (sibling layout2 dots previous).spell s ≡ spell_sibling s
 unfolding sibling
 sibling_is dots previous s = refl
 
-pub state_is : (s : State) → spell_state s ≡ (context layout2).spell s.context ++ ((number w16).spell (length (pairs s.siblings)) ++ flat_map spell_sibling (pairs s.siblings))
-unfolding spell_state state unlimited_state siblings
-state_is s = ap (λ (t : List ℕ). (context layout2).spell s.context ++ ((number w16).spell (length (pairs s.siblings)) ++ t)) (spell_each-flat_map (sibling layout2 s.context) (λ _ x. Some x.0) spell_sibling (sibling_is s.context) None (pairs s.siblings))
+pub state_is : (s : State) → spell_state s ≡ (context_codec layout2).spell s.context ++ ((number w16).spell (length (pairs s.siblings)) ++ flat_map spell_sibling (pairs s.siblings))
+unfolding spell_state state_codec unlimited_state siblings_codec
+state_is s = ap (λ (t : List ℕ). (context_codec layout2).spell s.context ++ ((number w16).spell (length (pairs s.siblings)) ++ t)) (spell_each-flat_map (sibling layout2 s.context) (λ _ x. Some x.0) spell_sibling (sibling_is s.context) None (pairs s.siblings))
 
 -- ---- lengths
 
@@ -68,12 +68,12 @@ length_entry e =
     let n = sized_number (length e.loose) in
     simp (length-append, length_loose) (omega (arith, a.1, b.2, n.1))
 
-pub length_context : (dots : DotSet) → length ((context layout2).spell dots) ≡ length (flat_map spell_entry (entries_of dots)) + 4
+pub length_context : (dots : DotSet) → length ((context_codec layout2).spell dots) ≡ length (flat_map spell_entry (entries_of dots)) + 4
 length_context dots =
     let n = sized_number (length (entries_of dots)) in
     rw (context_is dots, length-append) (omega (arith, n.1))
 
-pub length_state : (s : State) → length (spell_state s) ≡ length ((context layout2).spell s.context) + 2 + length (flat_map spell_sibling (pairs s.siblings))
+pub length_state : (s : State) → length (spell_state s) ≡ length ((context_codec layout2).spell s.context) + 2 + length (flat_map spell_sibling (pairs s.siblings))
 length_state s =
     let n = sized_number (length (pairs s.siblings)) in
     rw (state_is s, length-append, length-append) (omega (arith, n.0))

@@ -11,7 +11,7 @@ use Rattle.mvd_dots.specs.Entry.{EntryValue}
 use Rattle.mvd_dots.specs.Context.{DotSet, entries_of}
 use Rattle.mvd_keys.specs.State.{State, Text}
 use Rattle.mvd_wire.specs.Codec.{Codec, Spells, number, spell_each, FitEach}
-use Rattle.mvd_wire.specs.Codecs.{layout1, layout2, state_limit, dot, document, loose_above, entry, entries, context, sibling, siblings, unlimited_state, state, spell_state}
+use Rattle.mvd_wire.specs.Codecs.{layout1, layout2, state_limit, dot, document, loose_above, entry, entries, context_codec, sibling, siblings_codec, unlimited_state, state_codec, spell_state}
 use Rattle.mvd_wire.proofs.Spellings.{sized_number}
 
 -- ---- what fits the first version fits the second
@@ -28,8 +28,8 @@ entries_widen : (previous : ℕ) (es : List EntryValue) → FitEach (entry layou
 entries_widen previous [] fits = tt
 entries_widen previous (e ∷ es) fits = (entry_widens previous e fits.0, entries_widen e.site es fits.1)
 
-context_widens : (dots : DotSet) → (context layout1).Fits dots → (context layout2).Fits dots
-unfolding context entries
+context_widens : (dots : DotSet) → (context_codec layout1).Fits dots → (context_codec layout2).Fits dots
+unfolding context_codec entries
 context_widens dots fits = (fits.0, (narrow (length (entries_of dots)) fits.1.0, (fits.1.1.0, entries_widen 0 (entries_of dots) fits.1.1.1)))
 
 sibling_widens : (dots : DotSet) (previous : Option DotValue) (p : DotValue × Text) → (sibling layout1 dots previous).Fits p → (sibling layout2 dots previous).Fits p
@@ -40,8 +40,8 @@ each_sibling_widens : (dots : DotSet) (previous : Option DotValue) (ps : List (D
 each_sibling_widens dots previous [] fits = tt
 each_sibling_widens dots previous (p ∷ ps) fits = (sibling_widens dots previous p fits.0, each_sibling_widens dots (Some p.0) ps fits.1)
 
-siblings_widen : (dots : DotSet) (ps : List (DotValue × Text)) → (siblings layout1 dots).Fits ps → (siblings layout2 dots).Fits ps
-unfolding siblings
+siblings_widen : (dots : DotSet) (ps : List (DotValue × Text)) → (siblings_codec layout1 dots).Fits ps → (siblings_codec layout2 dots).Fits ps
+unfolding siblings_codec
 siblings_widen dots ps fits = (fits.0, (fits.1.0, each_sibling_widens dots None ps fits.1.1))
 
 -- ---- the lengths: seven bytes become at most eight
@@ -68,15 +68,15 @@ module _ {S X : Type 0} (old new : S → Codec X) (next : S → X → S) (one : 
   each_stretched s (x ∷ xs) =
       omega (arith, length-append ((new s).spell x) (spell_each new next (next s x) xs), length-append ((old s).spell x) (spell_each old next (next s x) xs), one s x, each_stretched (next s x) xs)
 
-context_stretched : (dots : DotSet) → 7 * length ((context layout2).spell dots) ≤ 8 * length ((context layout1).spell dots) + 12
-unfolding context entries
+context_stretched : (dots : DotSet) → 7 * length ((context_codec layout2).spell dots) ≤ 8 * length ((context_codec layout1).spell dots) + 12
+unfolding context_codec entries
 context_stretched dots =
     let es = entries_of dots in
     let count = sized_number (length es) in
     simp length-append (omega (arith, count.0, count.1, each_stretched (entry layout1) (entry layout2) (λ _ e. e.site) entry_stretched 0 es))
 
-siblings_stretched : (dots : DotSet) (ps : List (DotValue × Text)) → 7 * length ((siblings layout2 dots).spell ps) ≤ 8 * length ((siblings layout1 dots).spell ps)
-unfolding siblings
+siblings_stretched : (dots : DotSet) (ps : List (DotValue × Text)) → 7 * length ((siblings_codec layout2 dots).spell ps) ≤ 8 * length ((siblings_codec layout1 dots).spell ps)
+unfolding siblings_codec
 siblings_stretched dots ps =
     let count = sized_number (length ps) in
     simp length-append (omega (arith, count.0, each_stretched (sibling layout1 dots) (sibling layout2 dots) (λ _ s. Some s.0) (sibling_stretched dots) None ps))
@@ -85,25 +85,25 @@ state_stretched : (s : State) → 7 * length ((unlimited_state layout2).spell s)
 unfolding unlimited_state
 state_stretched s =
     let ps = pairs s.siblings in
-    omega (arith, length-append ((context layout2).spell s.context) ((siblings layout2 s.context).spell ps), length-append ((context layout1).spell s.context) ((siblings layout1 s.context).spell ps), context_stretched s.context, siblings_stretched s.context ps)
+    omega (arith, length-append ((context_codec layout2).spell s.context) ((siblings_codec layout2 s.context).spell ps), length-append ((context_codec layout1).spell s.context) ((siblings_codec layout1 s.context).spell ps), context_stretched s.context, siblings_stretched s.context ps)
 
 -- ---- states
 
-state_fits_anew : (s : State) → (unlimited_state layout1).Fits s → length ((unlimited_state layout1).spell s) ≤ 1000000 → (state layout2).Fits s × (length (spell_state s) ≤ state_limit)
-unfolding state spell_state unlimited_state
+state_fits_anew : (s : State) → (unlimited_state layout1).Fits s → length ((unlimited_state layout1).spell s) ≤ 1000000 → (state_codec layout2).Fits s × (length (spell_state s) ≤ state_limit)
+unfolding state_codec spell_state unlimited_state
 state_fits_anew s fits short =
     let long : length ((unlimited_state layout2).spell s) ≤ state_limit = omega (arith, state_stretched s, short) in
     (((context_widens s.context fits.0, siblings_widen s.context (pairs s.siblings) fits.1), le-leb _ _ long), long)
 
-pub old_state_is_short : (s : State) → (state layout1).Fits s → (state layout2).Fits s × (length (spell_state s) ≤ state_limit)
-unfolding state
+pub old_state_is_short : (s : State) → (state_codec layout1).Fits s → (state_codec layout2).Fits s × (length (spell_state s) ≤ state_limit)
+unfolding state_codec
 old_state_is_short s fits = state_fits_anew s fits.0 (leb-true _ _ fits.1)
 
 -- a state that was read so
-pub was_spelled : (bytes : List ℕ) (r : Result State Refusal) → IfOk r (λ s. Spells (state layout1) s bytes) → IfOk r (λ s. (state layout2).Fits s)
+pub was_spelled : (bytes : List ℕ) (r : Result State Refusal) → IfOk r (λ s. Spells (state_codec layout1) s bytes) → IfOk r (λ s. (state_codec layout2).Fits s)
 was_spelled bytes (Ok s) found = (old_state_is_short s found.0).0
 was_spelled bytes (Err e) found = tt
 
-pub was_short : (bytes : List ℕ) (r : Result State Refusal) → IfOk r (λ s. Spells (state layout1) s bytes) → IfOk r (λ s. length (spell_state s) ≤ state_limit)
+pub was_short : (bytes : List ℕ) (r : Result State Refusal) → IfOk r (λ s. Spells (state_codec layout1) s bytes) → IfOk r (λ s. length (spell_state s) ≤ state_limit)
 was_short bytes (Ok s) found = (old_state_is_short s found.0).1
 was_short bytes (Err e) found = tt

@@ -131,8 +131,8 @@ module _ {S X : Type 0} (kind : S → Codec X) (next : S → X → S) where
   }
 
   -- their number, and the values
-  abbrev pub counted : Codec ℕ → S → Codec (List X)
-  counted count s = named (λ xs. (length xs, xs)) (λ p. p.1) (followed count (each s))
+  abbrev pub with_count : Codec ℕ → S → Codec (List X)
+  with_count count s = named (λ xs. (length xs, xs)) (λ p. p.1) (followed count (each s))
 
 -- all of the bytes
 abbrev pub whole : {X : Type 0} → Codec X → List ℕ → Result X Refusal

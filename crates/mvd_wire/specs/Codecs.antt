@@ -21,7 +21,7 @@ use Rattle.mvd_wire.specs.Prefix.{prefix_of_text}
 use Rattle.mvd_wire.specs.Token.{token_of_bytes}
 use Rattle.mvd_wire.specs.declared.version.Version.{Version}
 use Rattle.mvd_wire.specs.declared.version.Version.TheVariants.{First, Second}
-use Rattle.mvd_wire.specs.Codec.{Codec, ◌>>=◌, byte, number, raw, followed, checked, accepted, named, counted}
+use Rattle.mvd_wire.specs.Codec.{Codec, ◌>>=◌, byte, number, raw, followed, checked, accepted, named, with_count}
 
 -- the greatest length of a spelled state, in bytes
 abbrev pub state_limit : ℕ
@@ -57,7 +57,7 @@ unfoldable pub loose_from : ℕ → Codec ℕ
 loose_from least = checked BadContext (λ n. nat_le least n && nat_le n COUNTER_MAX) (number w64)
 
 unfoldable pub loose_above : ℕ → Codec (List ℕ)
-loose_above base = counted loose_from (λ _ n. n + 1) (number w32) (base + 2)
+loose_above base = with_count loose_from (λ _ n. n + 1) (number w32) (base + 2)
 
 -- the entry of a site above the one before; it has a base or a loose counter
 unfoldable pub entry : Layout → ℕ → Codec EntryValue
@@ -68,15 +68,15 @@ entry v previous = checked BadContext (λ e. nat_lt 0 (e.base + length e.loose))
     loose_above)))
 
 unfoldable pub entries : Layout → Codec (List EntryValue)
-entries v = counted (entry v) (λ _ e. e.site) (number v.entries) 0
+entries v = with_count (entry v) (λ _ e. e.site) (number v.entries) 0
 
 -- the dots of entries that were read
 abbrev pub dots_read : Result (List EntryValue × List ℕ) Refusal → Result (DotSet × List ℕ) Refusal
 dots_read found = found >>= λ x. Ok (set_of x.0, x.1)
 
 -- a set of dots, by its entries
-unfoldable pub context : Layout → Codec DotSet
-context v = record {
+unfoldable pub context_codec : Layout → Codec DotSet
+context_codec v = record {
   spell = λ dots. (entries v).spell (entries_of dots);
   Fits = λ dots. AreInRange dots × (entries v).Fits (entries_of dots);
   read = λ bytes. dots_read ((entries v).read bytes);
@@ -127,20 +127,20 @@ sibling v dots previous = followed
     document)
 
 -- by rising dot
-unfoldable pub siblings : Layout → DotSet → Codec (List (DotValue × Text))
-siblings v dots = counted (sibling v dots) (λ _ s. Some s.0) (number w16) None
+unfoldable pub siblings_codec : Layout → DotSet → Codec (List (DotValue × Text))
+siblings_codec v dots = with_count (sibling v dots) (λ _ s. Some s.0) (number w16) None
 
 unfoldable pub unlimited_state : Layout → Codec State
 unlimited_state v = named (λ s. (s.context, pairs s.siblings)) (λ p. record { siblings = from_entries p.1; context = p.0 }) (followed
-    (context v) (λ dots.
-    siblings v dots))
+    (context_codec v) (λ dots.
+    siblings_codec v dots))
 
-unfoldable pub state : Layout → Codec State
-state v = checked StateTooLarge (λ s. nat_le (length ((unlimited_state v).spell s)) v.limit) (unlimited_state v)
+unfoldable pub state_codec : Layout → Codec State
+state_codec v = checked StateTooLarge (λ s. nat_le (length ((unlimited_state v).spell s)) v.limit) (unlimited_state v)
 
 -- the spelling of a key's state
 unfoldable pub spell_state : State → List ℕ
-spell_state = (state layout2).spell
+spell_state = (state_codec layout2).spell
 
 -- what a state with a spelling is: each sibling's dot was seen, all dots are within the limits, each document is
 -- the text of its own value, and the spelling is not too long

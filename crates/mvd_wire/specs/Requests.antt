@@ -10,27 +10,27 @@ use Rattle.mvd_dots.specs.Dot.{DotValue}
 use Rattle.mvd_docs.specs.declared.term.Term.{Term}
 use Rattle.mvd_keys.specs.declared.places.Place.{Place}
 use Rattle.mvd_wire.specs.Codec.{Codec, followed, nothing, optional, tagged}
-use Rattle.mvd_wire.specs.Codecs.{layout2, key, context, document, path, prefix, token, state, spell_state, state_limit}
-use Rattle.mvd_wire.specs.Rows.{field, view_name, term, spot, place}
+use Rattle.mvd_wire.specs.Codecs.{layout2, key, context_codec, document, path, prefix, token, state_codec, spell_state, state_limit}
+use Rattle.mvd_wire.specs.Rows.{field, view_name, term, spot_codec, place}
 use Rattle.mvd_wire.specs.Frames.{spell_frame, frame_limit}
 
 unfoldable pub put : Codec (Text × (DotSet × Text))
-put = followed key (λ _. followed (context layout2) (λ _. document))
+put = followed key (λ _. followed (context_codec layout2) (λ _. document))
 
 unfoldable pub delete : Codec (Text × DotSet)
-delete = followed key (λ _. context layout2)
+delete = followed key (λ _. context_codec layout2)
 
 unfoldable pub push : Codec (Text × State)
-push = followed key (λ _. state layout2)
+push = followed key (λ _. state_codec layout2)
 
-unfoldable pub find : Codec (Text × (Term × Option (Text × DotValue)))
-find = followed field (λ _. followed term (λ _. optional spot))
+unfoldable pub find_codec : Codec (Text × (Term × Option (Text × DotValue)))
+find_codec = followed field (λ _. followed term (λ _. optional spot_codec))
 
-unfoldable pub row_of_view : Codec (Text × Term)
-row_of_view = followed view_name (λ _. term)
+unfoldable pub row_of_view_codec : Codec (Text × Term)
+row_of_view_codec = followed view_name (λ _. term)
 
-unfoldable pub rows_of_view : Codec (Text × Option Term)
-rows_of_view = followed view_name (λ _. optional term)
+unfoldable pub rows_of_view_codec : Codec (Text × Option Term)
+rows_of_view_codec = followed view_name (λ _. optional term)
 
 unfoldable pub bucket : Codec (List ℕ × Option Text)
 bucket = followed path (λ _. optional key)
@@ -41,46 +41,46 @@ range = followed field (λ _. followed term (λ _. followed term (λ _. optional
 unfoldable pub keys_of_prefix : Codec (Text × Option Text)
 keys_of_prefix = followed prefix (λ _. optional key)
 
-abbrev pub kind_of : Request → ℕ
-kind_of (Get k) = 0x21
-kind_of (Put k c d) = 0x22
-kind_of (Delete k c) = 0x23
-kind_of (Find f t after) = 0x24
-kind_of (Row v t) = 0x25
-kind_of (Rows v after) = 0x26
-kind_of (Node p) = 0x27
-kind_of (Bucket p after) = 0x28
-kind_of (Push k s) = 0x29
-kind_of (Range f from to after) = 0x2A
-kind_of (Keys p after) = 0x2B
-kind_of (Conflicts after) = 0x2C
-kind_of (Hello t) = 0x2D
-kind_of Bye = 0x2F
+abbrev pub request_kind : Request → ℕ
+request_kind (Get k) = 0x21
+request_kind (Put k c d) = 0x22
+request_kind (Delete k c) = 0x23
+request_kind (Find f t after) = 0x24
+request_kind (Row v t) = 0x25
+request_kind (Rows v after) = 0x26
+request_kind (Node p) = 0x27
+request_kind (Bucket p after) = 0x28
+request_kind (Push k s) = 0x29
+request_kind (Range f from to after) = 0x2A
+request_kind (Keys p after) = 0x2B
+request_kind (Conflicts after) = 0x2C
+request_kind (Hello t) = 0x2D
+request_kind Bye = 0x2F
 
-abbrev pub payload_of : Request → List ℕ
-payload_of (Get k) = key.spell k
-payload_of (Put k c d) = put.spell (k, (c, d))
-payload_of (Delete k c) = delete.spell (k, c)
-payload_of (Find f t after) = find.spell (f, (t, after))
-payload_of (Row v t) = row_of_view.spell (v, t)
-payload_of (Rows v after) = rows_of_view.spell (v, after)
-payload_of (Node p) = path.spell p
-payload_of (Bucket p after) = bucket.spell (p, after)
-payload_of (Push k s) = push.spell (k, s)
-payload_of (Range f from to after) = range.spell (f, (from, (to, after)))
-payload_of (Keys p after) = keys_of_prefix.spell (p, after)
-payload_of (Conflicts after) = (optional key).spell after
-payload_of (Hello t) = token.spell t
-payload_of Bye = []
+abbrev pub request_payload : Request → List ℕ
+request_payload (Get k) = key.spell k
+request_payload (Put k c d) = put.spell (k, (c, d))
+request_payload (Delete k c) = delete.spell (k, c)
+request_payload (Find f t after) = find_codec.spell (f, (t, after))
+request_payload (Row v t) = row_of_view_codec.spell (v, t)
+request_payload (Rows v after) = rows_of_view_codec.spell (v, after)
+request_payload (Node p) = path.spell p
+request_payload (Bucket p after) = bucket.spell (p, after)
+request_payload (Push k s) = push.spell (k, s)
+request_payload (Range f from to after) = range.spell (f, (from, (to, after)))
+request_payload (Keys p after) = keys_of_prefix.spell (p, after)
+request_payload (Conflicts after) = (optional key).spell after
+request_payload (Hello t) = token.spell t
+request_payload Bye = []
 
 -- what has a spelling
 abbrev pub IsRequest : Request → Type 0
 IsRequest (Get k) = key.Fits k
 IsRequest (Put k c d) = put.Fits (k, (c, d))
 IsRequest (Delete k c) = delete.Fits (k, c)
-IsRequest (Find f t after) = find.Fits (f, (t, after))
-IsRequest (Row v t) = row_of_view.Fits (v, t)
-IsRequest (Rows v after) = rows_of_view.Fits (v, after)
+IsRequest (Find f t after) = find_codec.Fits (f, (t, after))
+IsRequest (Row v t) = row_of_view_codec.Fits (v, t)
+IsRequest (Rows v after) = rows_of_view_codec.Fits (v, after)
 IsRequest (Node p) = path.Fits p
 IsRequest (Bucket p after) = bucket.Fits (p, after)
 IsRequest (Push k s) = push.Fits (k, s)
@@ -96,9 +96,9 @@ request_of =
     tagged 0x21 key Get
     (tagged 0x22 put (λ p. Put p.0 p.1.0 p.1.1)
     (tagged 0x23 delete (λ p. Delete p.0 p.1)
-    (tagged 0x24 find (λ p. Find p.0 p.1.0 p.1.1)
-    (tagged 0x25 row_of_view (λ p. Row p.0 p.1)
-    (tagged 0x26 rows_of_view (λ p. Rows p.0 p.1)
+    (tagged 0x24 find_codec (λ p. Find p.0 p.1.0 p.1.1)
+    (tagged 0x25 row_of_view_codec (λ p. Row p.0 p.1)
+    (tagged 0x26 rows_of_view_codec (λ p. Rows p.0 p.1)
     (tagged 0x27 path Node
     (tagged 0x28 bucket (λ p. Bucket p.0 p.1)
     (tagged 0x29 push (λ p. Push p.0 p.1)
@@ -111,7 +111,7 @@ request_of =
 
 -- the kind byte and the payload are the spelling of the request
 abbrev pub SpellsRequest : Request → ℕ → List ℕ → Type 0
-SpellsRequest r kind payload = IsRequest r × (kind ≡ kind_of r) × (payload ≡ payload_of r)
+SpellsRequest r kind payload = IsRequest r × (kind ≡ request_kind r) × (payload ≡ request_payload r)
 
 -- the frame of a kind byte and a payload, where it is not too long
 abbrev pub framed : ℕ → List ℕ → Result (List ℕ) Refusal
@@ -127,16 +127,16 @@ within_limit s answer = if nat_le (length (spell_state s)) state_limit then answ
 
 -- the frame of a request, however long it is
 abbrev pub request_bytes : Request → List ℕ
-request_bytes r = spell_frame (record { kind = kind_of r; payload = payload_of r })
+request_bytes r = spell_frame (record { kind = request_kind r; payload = request_payload r })
 
 -- the frame of a request, where nothing in it is too long
 abbrev pub request_frame : Request → Result (List ℕ) Refusal
 request_frame (Get k) = framed 0x21 (key.spell k)
 request_frame (Put k c d) = framed 0x22 (put.spell (k, (c, d)))
 request_frame (Delete k c) = framed 0x23 (delete.spell (k, c))
-request_frame (Find f t after) = framed 0x24 (find.spell (f, (t, after)))
-request_frame (Row v t) = framed 0x25 (row_of_view.spell (v, t))
-request_frame (Rows v after) = framed 0x26 (rows_of_view.spell (v, after))
+request_frame (Find f t after) = framed 0x24 (find_codec.spell (f, (t, after)))
+request_frame (Row v t) = framed 0x25 (row_of_view_codec.spell (v, t))
+request_frame (Rows v after) = framed 0x26 (rows_of_view_codec.spell (v, after))
 request_frame (Node p) = framed 0x27 (path.spell p)
 request_frame (Bucket p after) = framed 0x28 (bucket.spell (p, after))
 request_frame (Range f from to after) = framed 0x2A (range.spell (f, (from, (to, after))))

@@ -13,7 +13,7 @@ use Rattle.mvd_docs.specs.TermText.{term_text_of}
 use Rattle.mvd_keys.specs.declared.places.Place.{Place}
 use Rattle.mvd_wire.specs.declared.reply.RowValue.{RowValue}
 use Rattle.mvd_wire.specs.declared.reply.Digests.{Digests}
-use Rattle.mvd_wire.specs.Codec.{Codec, ◌>>=◌, byte, number, raw, followed, checked, accepted, named, named_where, counted, nothing, optional, variant}
+use Rattle.mvd_wire.specs.Codec.{Codec, ◌>>=◌, byte, number, raw, followed, checked, accepted, named, named_where, with_count, nothing, optional, variant}
 use Rattle.mvd_wire.specs.Codecs.{layout2, dot, key}
 
 -- ---- names
@@ -44,8 +44,8 @@ whole_number = record {
 abbrev pub text_of_bytes : List ℕ → Result (List ℕ) Refusal
 text_of_bytes bytes = if is_utf8 bytes then term_text_of bytes else Err BadTerm
 
-unfoldable pub term_text : Codec (List ℕ)
-term_text = named (λ t. (length t, t)) (λ p. p.1) (followed
+unfoldable pub term_text_codec : Codec (List ℕ)
+term_text_codec = named (λ t. (length t, t)) (λ p. p.1) (followed
     (checked BadTerm (λ n. nat_le n 512) (number w16)) (λ n.
     accepted text_of_bytes (raw n)))
 
@@ -54,11 +54,11 @@ spell_term Null = 0 ∷ []
 spell_term False = 1 ∷ []
 spell_term True = 2 ∷ []
 spell_term (Whole z) = 3 ∷ whole_number.spell z
-spell_term (Text t) = 4 ∷ term_text.spell t
+spell_term (Text t) = 4 ∷ term_text_codec.spell t
 
 abbrev pub IsTerm : Term → Type 0
 IsTerm (Whole z) = whole_number.Fits z
-IsTerm (Text t) = term_text.Fits t
+IsTerm (Text t) = term_text_codec.Fits t
 IsTerm _ = Unit {0}
 
 -- the term behind a tag
@@ -68,7 +68,7 @@ term_behind =
     (variant 1 nothing (λ _. False)
     (variant 2 nothing (λ _. True)
     (variant 3 whole_number Whole
-    (variant 4 term_text Text
+    (variant 4 term_text_codec Text
     (λ _ _. Err BadTerm)))))
 
 unfoldable pub term : Codec Term
@@ -80,11 +80,11 @@ term = record {
 
 -- ---- places
 
-unfoldable pub spot : Codec (List ℕ × DotValue)
-spot = followed key (λ _. dot layout2)
+unfoldable pub spot_codec : Codec (List ℕ × DotValue)
+spot_codec = followed key (λ _. dot layout2)
 
 unfoldable pub place : Codec Place
-place = named (λ p. (p.term, (p.key, p.dot))) (λ p. record { term = p.0; key = p.1.0; dot = p.1.1 }) (followed term (λ _. spot))
+place = named (λ p. (p.term, (p.key, p.dot))) (λ p. record { term = p.0; key = p.1.0; dot = p.1.1 }) (followed term (λ _. spot_codec))
 
 -- ---- rows of a view
 
@@ -96,11 +96,11 @@ unfoldable pub ends : Codec (Option (ℤ × ℤ))
 ends = optional (followed whole_number (λ _. whole_number))
 
 -- how many, their sum, and the ends
-unfoldable pub row : Codec RowValue
-row = named (λ r. (r.count, (r.sum, r.ends))) (λ p. record { count = p.0; sum = p.1.0; ends = p.1.1 }) (followed (number w64) (λ _. followed sum (λ _. ends)))
+unfoldable pub row_codec : Codec RowValue
+row_codec = named (λ r. (r.count, (r.sum, r.ends))) (λ p. record { count = p.0; sum = p.1.0; ends = p.1.1 }) (followed (number w64) (λ _. followed sum (λ _. ends)))
 
 unfoldable pub view_row : Codec (Term × ℕ × ℤ × Option (ℤ × ℤ))
-view_row = named (λ r. (r.0, record { count = r.1; sum = r.2; ends = r.3 })) (λ p. (p.0, p.1.count, p.1.sum, p.1.ends)) (followed term (λ _. row))
+view_row = named (λ r. (r.0, record { count = r.1; sum = r.2; ends = r.3 })) (λ p. (p.0, p.1.count, p.1.sum, p.1.ends)) (followed term (λ _. row_codec))
 
 -- ---- digests
 
@@ -128,10 +128,10 @@ item_of kind _ = kind
 -- none for a bucket, else sixteen
 unfoldable pub children : Codec (Option (List (List ℕ)))
 children = named_where (λ c. MatchOption c ⊤ (λ ds. length ds ≡ 16)) list_of children_of
-    (counted (item_of digest) (λ s _. s) (checked BadBody (λ n. n == 0 || n == 16) byte) tt)
+    (with_count (item_of digest) (λ s _. s) (checked BadBody (λ n. n == 0 || n == 16) byte) tt)
 
-unfoldable pub digests : Codec Digests
-digests = named (λ d. (d.own, d.children)) (λ p. record { own = p.0; children = p.1 }) (followed digest (λ _. children))
+unfoldable pub digests_codec : Codec Digests
+digests_codec = named (λ d. (d.own, d.children)) (λ p. record { own = p.0; children = p.1 }) (followed digest (λ _. children))
 
 -- ---- lists of a reply: whether more follow, at most 1,000 items, and the items
 
@@ -145,7 +145,7 @@ abbrev pub item_count : Codec ℕ
 item_count = checked BadBody (λ n. nat_le n page_limit) (number w16)
 
 unfoldable pub items : {X : Type 0} → Codec X → Codec (List X)
-items kind = counted (item_of kind) (λ s _. s) item_count tt
+items kind = with_count (item_of kind) (λ s _. s) item_count tt
 
 -- a list of items, and whether more follow
 unfoldable pub page : {X : Type 0} → Codec X → Codec (List X × Bool)

@@ -3,7 +3,7 @@ ghost use Rattle.std.specs.Prelude.{◌+◌, ◌<◌, ◌^◌, IfOk};
 ghost use Rattle.mvd_dots.specs.Entry.{EntryValue, IsEntry};
 ghost use Rattle.mvd_dots.specs.Context.{set_of};
 ghost use Rattle.mvd_wire.specs.Codec.{Gives, Codec, each, number};
-ghost use Rattle.mvd_wire.specs.Codecs.{loose_from, loose_above, entry, entries, context, dots_read, layout_of};
+ghost use Rattle.mvd_wire.specs.Codecs.{loose_from, loose_above, entry, entries, context_codec, dots_read, layout_of};
 
 use crate::number_bytes::{u16_at, u32_at, u64_at};
 use crate::values::site_at;
@@ -119,13 +119,13 @@ fn each_entry_at(
     Ok((context, rest))
 }
 
-#[tactic(auto, unfolding(crate::specs::Codecs::context, crate::specs::Codecs::entries))]
+#[tactic(auto, unfolding(crate::specs::Codecs::context_codec, crate::specs::Codecs::entries))]
 pub fn context_at(
     alloc: Global,
     version: Version,
     bytes: &[u8],
 ) -> Result<(Context, &[u8]), Refusal>
-    ensures { Gives (λ x. (x.0, x.1.now)) result ((context (layout_of version)).read bytes.now) }
+    ensures { Gives (λ x. (x.0, x.1.now)) result ((context_codec (layout_of version)).read bytes.now) }
 {
     let (count, rest) = count_at(version, bytes)?;
     each_entry_at(alloc, version, count, rest)

@@ -1,7 +1,7 @@
 //! Keys and the states of keys, spelled.
 ghost use Rattle.std.specs.Prelude.{Ok, IfOk};
 ghost use Rattle.mvd_wire.specs.Codec.{Gives, Codec, Spells, spelled_within};
-ghost use Rattle.mvd_wire.specs.Codecs.{layout2, key, state, state_limit};
+ghost use Rattle.mvd_wire.specs.Codecs.{layout2, key, state_codec, state_limit};
 
 use crate::lengths::state_length;
 use crate::limits::STATE_LIMIT;
@@ -24,8 +24,8 @@ pub fn encode_key(alloc: Global, value: &Key) -> Result<Vec<u8>, Refusal>
 #[tactic(auto, unfolding(crate::specs::Codecs::spell_state))]
 pub fn encode_state(alloc: Global, value: &KeyState) -> Result<Vec<u8>, Refusal>
     ensures exact { Gives (λ v. v.items) result
-        (spelled_within Refusal.StateTooLarge state_limit (state layout2) value.now) }
-    ensures spells { IfOk result (λ v. Spells (state layout2) value.now v.items) }
+        (spelled_within Refusal.StateTooLarge state_limit (state_codec layout2) value.now) }
+    ensures spells { IfOk result (λ v. Spells (state_codec layout2) value.now v.items) }
 {
     if state_length(value) > STATE_LIMIT {
         return Err(Refusal::StateTooLarge);

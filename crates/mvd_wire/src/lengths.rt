@@ -4,7 +4,8 @@ ghost use Rattle.std.specs.List.{All, flat_map};
 ghost use Rattle.mvd_dots.specs.Context.{AreInRange};
 ghost use Rattle.mvd_keys.specs.State.{pair_of, pairs_of};
 ghost use Rattle.mvd_wire.specs.Codec.{Codec};
-ghost use Rattle.mvd_wire.specs.Codecs.{layout2, context, document, spell_entry, spell_sibling, spell_state, state as spelled, state_limit};
+ghost use Rattle.mvd_wire.specs.Codecs.{layout2, context_codec, document, spell_entry, spell_sibling, spell_state};
+ghost use Rattle.mvd_wire.specs.Codecs.{state_codec as spelled, state_limit};
 
 use mvd_dots::{Context, Entry};
 use mvd_keys::{KeyState, Sibling};
@@ -47,7 +48,7 @@ fn entries_length(entries: &[Entry]) -> u64
 }
 
 fn context_length(value: &Context) -> u64
-    ensures length { result ≡ min (length ((context layout2).spell value.now)) (2 ^ 64 - 1) }
+    ensures length { result ≡ min (length ((context_codec layout2).spell value.now)) (2 ^ 64 - 1) }
     ensures in_range { AreInRange value.now }
 {
     entries_length(value.entries()).saturating_add(4)

@@ -3,7 +3,8 @@ ghost use Rattle.std.specs.Prelude.{◌≡◌, ◌≤◌, ◌+◌, length, IfOk,
 ghost use Rattle.mvd_dots.specs.Answer.{IsAnswer};
 ghost use Rattle.mvd_keys.specs.State.{AreParts, State, pair_of, pairs_of};
 ghost use Rattle.mvd_wire.specs.Codec.{Gives, Codec, each, whole, Spells};
-ghost use Rattle.mvd_wire.specs.Codecs.{comes_after, sibling, siblings, unlimited_state, state, layout_of, layout1, layout2, Layout, spell_state, state_limit};
+ghost use Rattle.mvd_wire.specs.Codecs.{comes_after, sibling, siblings_codec, unlimited_state, state_codec, layout_of};
+ghost use Rattle.mvd_wire.specs.Codecs.{layout1, layout2, Layout, spell_state, state_limit};
 
 use crate::context_bytes::context_at;
 use crate::limits::{OLD_STATE_LIMIT, STATE_LIMIT};
@@ -69,7 +70,7 @@ fn each_sibling_at<'a>(
     Ok((siblings, rest))
 }
 
-#[tactic(auto, unfolding(crate::specs::Codecs::siblings))]
+#[tactic(auto, unfolding(crate::specs::Codecs::siblings_codec))]
 fn list_of_siblings_at<'a>(
     alloc: Global,
     version: Version,
@@ -77,7 +78,7 @@ fn list_of_siblings_at<'a>(
     bytes: &'a [u8],
 ) -> Result<(Vec<Sibling>, &'a [u8]), Refusal>
     ensures { Gives (λ x. (pairs_of x.0.items, x.1.now)) result
-        ((siblings (layout_of version) context.now).read bytes.now) }
+        ((siblings_codec (layout_of version) context.now).read bytes.now) }
 {
     let (count, rest) = u16_at(bytes)?;
     each_sibling_at(alloc, version, context, count, rest)
@@ -91,7 +92,7 @@ fn siblings_at<'a>(
     bytes: &'a [u8],
 ) -> Result<(Vec<Sibling>, &'a [u8]), Refusal>
     ensures read { Gives (λ x. (pairs_of x.0.items, x.1.now)) result
-        ((siblings (layout_of version) context.now).read bytes.now) }
+        ((siblings_codec (layout_of version) context.now).read bytes.now) }
     ensures parts { IfOk result (λ x. AreParts x.0.items context.now) }
 {
     list_of_siblings_at(alloc, version, context, bytes)
@@ -133,9 +134,9 @@ fn limit_of(version: Version) -> u64
     }
 }
 
-#[tactic(auto, unfolding(crate::specs::Codecs::state))]
+#[tactic(auto, unfolding(crate::specs::Codecs::state_codec))]
 pub fn state_at(alloc: Global, version: Version, bytes: &[u8]) -> Result<(KeyState, &[u8]), Refusal>
-    ensures { Gives (λ x. (x.0, x.1.now)) result ((state (layout_of version)).read bytes.now) }
+    ensures { Gives (λ x. (x.0, x.1.now)) result ((state_codec (layout_of version)).read bytes.now) }
 {
     let (state, rest) = unlimited_state_at(alloc, version, bytes)?;
     if (bytes.len() - rest.len()) as u64 > limit_of(version) {
@@ -146,7 +147,7 @@ pub fn state_at(alloc: Global, version: Version, bytes: &[u8]) -> Result<(KeySta
 
 /// The state that all of the bytes spell.
 fn decode(alloc: Global, version: Version, bytes: &[u8]) -> Result<KeyState, Refusal>
-    ensures { IsAnswer result (whole (state (layout_of version)) bytes.now) }
+    ensures { IsAnswer result (whole (state_codec (layout_of version)) bytes.now) }
 {
     let (state, rest) = state_at(alloc, version, bytes)?;
     if !rest.is_empty() {
@@ -158,22 +159,22 @@ fn decode(alloc: Global, version: Version, bytes: &[u8]) -> Result<KeyState, Ref
 /// The state that all of the bytes spell.
 pub fn decode_state(alloc: Global, bytes: &[u8]) -> Result<KeyState, Refusal>
     // What is decoded is spelled so.
-    ensures found { IfOk result (λ s. Spells (state layout2) s bytes.now) }
+    ensures found { IfOk result (λ s. Spells (state_codec layout2) s bytes.now) }
     // What is spelled so is decoded, unless memory runs out.
-    ensures only { (s : State) → Spells (state layout2) s bytes.now → IsAnswer result (Ok s) }
+    ensures only { (s : State) → Spells (state_codec layout2) s bytes.now → IsAnswer result (Ok s) }
     // Which refusal it is.
-    ensures exact { IsAnswer result (whole (state layout2) bytes.now) }
+    ensures exact { IsAnswer result (whole (state_codec layout2) bytes.now) }
 {
     decode(alloc, Version::Second, bytes)
 }
 
 /// The state that all of the bytes spell in the first version of the format.
 pub fn decode_old_state(alloc: Global, bytes: &[u8]) -> Result<KeyState, Refusal>
-    ensures found { IfOk result (λ s. Spells (state layout1) s bytes.now) }
-    ensures only { (s : State) → Spells (state layout1) s bytes.now → IsAnswer result (Ok s) }
-    ensures exact { IsAnswer result (whole (state layout1) bytes.now) }
+    ensures found { IfOk result (λ s. Spells (state_codec layout1) s bytes.now) }
+    ensures only { (s : State) → Spells (state_codec layout1) s bytes.now → IsAnswer result (Ok s) }
+    ensures exact { IsAnswer result (whole (state_codec layout1) bytes.now) }
     // What is decoded has a spelling in the second version too, which is not too long.
-    ensures spelled { IfOk result (λ s. (state layout2).Fits s) }
+    ensures spelled { IfOk result (λ s. (state_codec layout2).Fits s) }
     ensures short { IfOk result (λ s. length (spell_state s) ≤ state_limit) }
 {
     decode(alloc, Version::First, bytes)

@@ -8,7 +8,8 @@ ghost use Rattle.mvd_docs.specs.Document.{IsDocument};
 ghost use Rattle.mvd_keys.specs.Key.{is_key};
 ghost use Rattle.mvd_keys.specs.State.{pair_of, pairs_of};
 ghost use Rattle.mvd_wire.specs.Codec.{Codec, number};
-ghost use Rattle.mvd_wire.specs.Codecs.{layout2, dot, key, prefix, token, document, context, spell_entry, spell_sibling, spell_state};
+ghost use Rattle.mvd_wire.specs.Codecs.{layout2, dot, key, prefix, token, document, context_codec, spell_entry};
+ghost use Rattle.mvd_wire.specs.Codecs.{spell_sibling, spell_state};
 
 use crate::prefix::Prefix;
 use crate::token::Token;
@@ -132,7 +133,7 @@ fn write_entries(out: &mut Vec<u8>, entries: &[Entry]) -> Result<(), AllocError>
 }
 
 pub fn write_context(out: &mut Vec<u8>, value: &Context) -> Result<(), AllocError>
-    ensures bytes { OnOk result (out.new.items ≡ out.old.items ++ (context layout2).spell value.now) }
+    ensures bytes { OnOk result (out.new.items ≡ out.old.items ++ (context_codec layout2).spell value.now) }
     ensures in_range { AreInRange value.now }
 {
     let entries = value.entries();

@@ -11,7 +11,7 @@ use Rattle.mvd_wire.specs.declared.reply.Reply.{Reply}
 use Rattle.mvd_wire.specs.declared.reply.Reply.TheVariants.{Refused}
 use Rattle.mvd_site.specs.Answer.{states_of}
 use Rattle.mvd_site.specs.Config.{ConfigValue}
-use Rattle.mvd_site.specs.FromStates.{IsClash as PushesClash, unless_broken}
+use Rattle.mvd_site.specs.FromStates.{IsClashingPush as PushesClash, unless_broken}
 use Rattle.mvd_site.specs.Held.{States, state_at}
 use Rattle.mvd_site.specs.Known.{MayReply}
 use Rattle.mvd_site.proofs.Answered.{answered}
@@ -30,21 +30,21 @@ use Rattle.mvd_world.specs.declared.steps.Step.{Step}
 use Rattle.mvd_world.specs.declared.steps.Step.TheVariants.{Write as Write_at, Ask, Send, Receive, Session}
 use Rattle.mvd_world.specs.declared.steps.Outcome.{Outcome}
 use Rattle.mvd_world.specs.declared.steps.Outcome.TheVariants.{Replied, Sent as Sent_as, Met, Failed, NoSuch}
-use Rattle.mvd_world.specs.Machine.{Answers, IsClash, IsNoClash, IsOwn, IsSound, Knowledge, MayFail, MayStep, Receives, Setting, Takes, all_asked, is_site, it_refused, may_be, two_sites}
+use Rattle.mvd_world.specs.Machine.{AnswersAtSite, IsClashFault, IsNoClash, IsOwn, IsConsistent, Knowledge, MayFail, MayStep, Receives, Setting, Takes, all_asked, is_site, it_refused, may_be, two_sites}
 use Rattle.mvd_world.proofs.Sound.{asked_step, found, own_step}
 
 -- ---- what was made agrees
 
-pub agree_made : (world : Knowledge) → IsSound world → Agree world.made
+pub agree_made : (world : Knowledge) → IsConsistent world → Agree world.made
 agree_made world sound key dot seen also_seen document other here there = (sound.one_put key dot seen also_seen document other here there).1
 
 abbrev pub WasMade : Knowledge → List Write → Type 0
 WasMade world V = (w : Write) → Contains V w → Contains world.made w
 
-pub agree_within : (world : Knowledge) (V : List Write) → IsSound world → WasMade world V → Agree V
+pub agree_within : (world : Knowledge) (V : List Write) → IsConsistent world → WasMade world V → Agree V
 agree_within world V sound part = Agree-part V world.made part (agree_made world sound)
 
-pub apart_within : (world : Knowledge) (V W : List Write) (key : Key) → IsSound world → WasMade world V → WasMade world W → clashes (state key V) (state key W) ≡ false
+pub apart_within : (world : Knowledge) (V W : List Write) (key : Key) → IsConsistent world → WasMade world V → WasMade world W → clashes (state key V) (state key W) ≡ false
 apart_within world V W key sound first second =
     clashes-state key V W (agree_within world (V ++ W) sound (λ w here. ⊎_elim (first w) (second w) (Contains-append_cases V W w here)))
 
@@ -72,11 +72,11 @@ failed_is f g e = cc
 pub reply_apart : (reply : Reply) → reply ≢ Refused DotClash → IsNoClash (Replied reply)
 reply_apart reply other = record { reply = λ e. other (replied_is reply (Refused DotClash) e); fault = λ fault e is. cc; keys = λ report e. absurd (cc) }
 
-answers_apart : (setting : Setting) (before : Knowledge) (site : ℕ) (request : Request) (reply : Reply) (after : Knowledge) → IsOwn request → Answers setting before site request reply after → IsNoClash (Replied reply)
+answers_apart : (setting : Setting) (before : Knowledge) (site : ℕ) (request : Request) (reply : Reply) (after : Knowledge) → IsOwn request → AnswersAtSite setting before site request reply after → IsNoClash (Replied reply)
 answers_apart setting before site request reply after own told = reply_apart reply (λ e. own_apart (states_of (before.known site)) request own
     (reply_clash told.config (before.known site) (before.broken site) request reply told.broken told.replies e))
 
-receives_apart : (setting : Setting) (before : Knowledge) (site message : ℕ) (reply : Reply) (after : Knowledge) → IsSound before → Receives setting before site message reply after → IsNoClash (Replied reply)
+receives_apart : (setting : Setting) (before : Knowledge) (site message : ℕ) (reply : Reply) (after : Knowledge) → IsConsistent before → Receives setting before site message reply after → IsNoClash (Replied reply)
 receives_apart setting before site message reply after sound told = reply_apart reply (λ e.
     let key = told.sending.key in
     let W = before.known site in
@@ -87,7 +87,7 @@ receives_apart setting before site message reply after sound told = reply_apart 
 
 -- ---- nor does a session
 
-no_states_clash : (before : Knowledge) (local peer : ℕ) → IsSound before → (key : Key) → clashes (state_at (states_of (before.known local)) key) (state_at (states_of (before.known peer)) key) ≡ false
+no_states_clash : (before : Knowledge) (local peer : ℕ) → IsConsistent before → (key : Key) → clashes (state_at (states_of (before.known local)) key) (state_at (states_of (before.known peer)) key) ≡ false
 no_states_clash before local peer sound key =
     let V = before.known local in
     let W = before.known peer in
@@ -105,7 +105,7 @@ is_none : (a b held : States) (broken : Bool) → MayFail a b held broken DotCla
 is_none a b held broken (it_refused site key told) = true≢false key
 is_none a b held broken (all_asked e many) = absurd (cc)
 
-fault_apart : (a b : States) (mine theirs : Bool) (fault : SyncFault) → IsFaultOf (MayFail a b a mine) (MayFail a b b theirs) fault → IsClash fault → ⊥
+fault_apart : (a b : States) (mine theirs : Bool) (fault : SyncFault) → IsFaultOf (MayFail a b a mine) (MayFail a b b theirs) fault → IsClashFault fault → ⊥
 fault_apart a b mine theirs fault fails is = ⊎_elim
     (λ e. is_none a b a mine (subst (IsFaultOf (MayFail a b a mine) (MayFail a b b theirs)) e fails))
     (λ e. is_none a b b theirs (subst (IsFaultOf (MayFail a b a mine) (MayFail a b b theirs)) e fails))
@@ -118,7 +118,7 @@ not_sent_apart : (broken : Bool) → Refused (unless_broken broken Broken Memory
 not_sent_apart true e = cc
 not_sent_apart false e = cc
 
-takes_apart : (setting : Setting) (before : Knowledge) (step : Step) (outcome : Outcome) (after : Knowledge) → IsSound before → may_be (is_site setting) (length before.messages) step ≡ true → Takes setting before step outcome after → IsNoClash outcome
+takes_apart : (setting : Setting) (before : Knowledge) (step : Step) (outcome : Outcome) (after : Knowledge) → IsConsistent before → may_be (is_site setting) (length before.messages) step ≡ true → Takes setting before step outcome after → IsNoClash outcome
 takes_apart setting before (Write_at site request) (Replied reply) after sound may told = answers_apart setting before site request reply after (own_step _ request may) told
 takes_apart setting before (Ask site request) (Replied reply) after sound may told = answers_apart setting before site request reply after (asked_step _ request may) told
 takes_apart setting before (Send site key) (Sent_as number) after sound may told = record { reply = λ e. cc; fault = λ fault e is. cc; keys = λ report e. absurd (cc) }
@@ -137,13 +137,13 @@ takes_apart setting before (Session local peer) (Met report) after sound may tol
 }
 takes_apart setting before (Session local peer) (Failed fault) after sound may told = record {
   reply = λ e. cc;
-  fault = λ other e is. fault_apart (states_of (before.known local)) (states_of (before.known peer)) told.local_broken told.peer_broken fault told.fails (subst IsClash (sym (failed_is fault other e)) is);
+  fault = λ other e is. fault_apart (states_of (before.known local)) (states_of (before.known peer)) told.local_broken told.peer_broken fault told.fails (subst IsClashFault (sym (failed_is fault other e)) is);
   keys = λ report e. absurd (cc);
 }
 takes_apart setting before step outcome after sound may told = absurd told
 
 -- no step is answered that two documents of one dot clash
-pub step_apart : (setting : Setting) (before : Knowledge) (step : Step) (outcome : Outcome) (after : Knowledge) → IsSound before → MayStep setting before step outcome after → IsNoClash outcome
+pub step_apart : (setting : Setting) (before : Knowledge) (step : Step) (outcome : Outcome) (after : Knowledge) → IsConsistent before → MayStep setting before step outcome after → IsNoClash outcome
 step_apart setting before step outcome after sound =
     elim (may_be (is_site setting) (length before.messages) step) as (λ b. may_be (is_site setting) (length before.messages) step ≡ b → MatchBool b (Takes setting before step outcome after) ((outcome ≡ NoSuch) × (after ≡ before)) → IsNoClash outcome) [
       | true ↦ λ may told. takes_apart setting before step outcome after sound may told

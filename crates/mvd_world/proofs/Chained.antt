@@ -7,12 +7,12 @@ use Rattle.mvd_site.proofs.Alike.{from_states}
 use Rattle.mvd_world.specs.declared.steps.Step.{Step}
 use Rattle.mvd_world.specs.declared.steps.Outcome.{Outcome}
 use Rattle.mvd_world.specs.declared.worlds.World.{World}
-use Rattle.mvd_world.specs.Machine.{IsNoClash, Knowledge, MayStep, Runs, Setting, nothing_yet}
+use Rattle.mvd_world.specs.Machine.{IsNoClash, Knowledge, MayStep, RunsSteps, Setting, nothing_yet}
 use Rattle.mvd_world.specs.Worlds.{AlikeWhereSame, AreShort, IsWorld, StandForKnown, Steps}
 use Rattle.mvd_world.proofs.Apart.{agree_within, step_apart}
 
-runs_push : (setting : Setting) (before middle after : Knowledge) (steps : List Step) (step : Step) (outcomes : List Outcome) (outcome : Outcome) → Runs setting before steps outcomes middle → MayStep setting middle step outcome after →
-    Runs setting before (steps ++ step ∷ []) (outcomes ++ outcome ∷ []) after
+runs_push : (setting : Setting) (before middle after : Knowledge) (steps : List Step) (step : Step) (outcomes : List Outcome) (outcome : Outcome) → RunsSteps setting before steps outcomes middle → MayStep setting middle step outcome after →
+    RunsSteps setting before (steps ++ step ∷ []) (outcomes ++ outcome ∷ []) after
 runs_push setting before middle after [] step [] outcome runs may = (after, subst (λ w. MayStep setting w step outcome after) runs may, refl)
 runs_push setting before middle after (s ∷ steps) step (o ∷ outcomes) outcome runs may = (runs.0, runs.1, runs_push setting runs.0 middle after steps step outcomes outcome runs.2 may)
 runs_push setting before middle after [] step (o ∷ outcomes) outcome runs may = absurd runs
@@ -25,7 +25,7 @@ all_push P (y ∷ xs) x all here = (all.0, all_push P xs x all.1 here)
 -- what is known of a world after some steps
 pub record SoFar (setting : Setting) (steps : List Step) (outcomes : List Outcome) (world : World) : Type 0 where
   pub end : Knowledge
-  pub runs : Runs setting nothing_yet steps outcomes end
+  pub runs : RunsSteps setting nothing_yet steps outcomes end
   pub stands : IsWorld setting world end
   pub apart : AllByRecursion IsNoClash outcomes
   pub short : AreShort world
@@ -47,7 +47,7 @@ one_more setting steps step outcomes outcome old new so_far takes short =
 -- ---- what follows
 
 pub leads_to : (setting : Setting) (steps : List Step) (outcomes : List Outcome) (world : World) (Holds : Knowledge → Type 0) → SoFar setting steps outcomes world → ((end : Knowledge) → IsWorld setting world end → Holds end)
-    → (end : Knowledge) × (Runs setting nothing_yet steps outcomes end × (IsWorld setting world end × Holds end))
+    → (end : Knowledge) × (RunsSteps setting nothing_yet steps outcomes end × (IsWorld setting world end × Holds end))
 leads_to setting steps outcomes world Holds so_far follows = (so_far.end, (so_far.runs, (so_far.stands, follows so_far.end so_far.stands)))
 
 pub stand : (setting : Setting) (world : World) (end : Knowledge) → IsWorld setting world end → StandForKnown world end

@@ -8,8 +8,8 @@ use Rattle.mvd_site.specs.Sites.{SiteStands, SiteValue}
 use Rattle.std.proofs.lemmas.List.{length-set}
 use Rattle.mvd_sync.specs.declared.report.Report.{Report}
 use Rattle.mvd_sync.specs.declared.report.SyncFault.{SyncFault}
-use Rattle.mvd_world.specs.Machine.{Knowledge, Sending, Setting, becomes, learns}
-use Rattle.mvd_world.specs.Worlds.{AreSites, Exchange, IsSiteOf, TwoMeet}
+use Rattle.mvd_world.specs.Machine.{Knowledge, SentMessage, Setting, becomes, learns}
+use Rattle.mvd_world.specs.Worlds.{AreSites, ExchangeSites, IsSiteOf, TwoMeet}
 
 -- an element of a list in which one was replaced
 pub set_cases : {X : Type 0} (xs : List X) (i : ℕ) (y : X) (j : ℕ) (x : X) → slice_get (slice_set xs i y) j ≡ Some x → ((j ≡ i) × (y ≡ x)) ⊎ ((j ≢ i) × (slice_get xs j ≡ Some x))
@@ -43,7 +43,7 @@ becomes_other : (broken : ℕ → Bool) (site : ℕ) (now : Bool) (other : ℕ) 
 becomes_other broken site now other apart = ⊎_elim (λ same. absurd (apart same.1)) (λ no. ap (λ b. if b then now else broken other) no.0) (eqb_tells other site)
 
 -- one site changed, and learnt of more
-pub sites_changed : (setting : Setting) (sites : List SiteValue) (before : Knowledge) (index number : ℕ) (s s' : SiteValue) (added : List Write) (messages : List Sending) (made : List Write) →
+pub sites_changed : (setting : Setting) (sites : List SiteValue) (before : Knowledge) (index number : ℕ) (s s' : SiteValue) (added : List Write) (messages : List SentMessage) (made : List Write) →
     AreSites setting before sites → index + 1 ≡ number → slice_get sites index ≡ Some s → s'.config ≡ s.config → SiteStands s' (before.known number ++ added) →
     AreSites setting (record { known = learns before.known number added; broken = becomes before.broken number s'.broken; messages = messages; made = made }) (slice_set sites index s')
 sites_changed setting sites before index number s s' added messages made are at here config stands i x found =
@@ -93,7 +93,7 @@ get_push (z ∷ xs) y (suc i) x h = ⊎_elim (λ old. inl old) (λ new. inr (ap 
 
 -- two sites of a list met, each in its part
 pub met_front : (sites front back : List SiteValue) (a b a' b' : SiteValue) (local peer : ℕ) (result : Result Report SyncFault) → sites ≡ front ++ back → length front ≡ peer → slice_get front local ≡ Some a → slice_get back 0 ≡ Some b →
-    a'.config ≡ a.config → b'.config ≡ b.config → Exchange a b a' b' result → TwoMeet sites (slice_set front local a' ++ slice_set back 0 b') local peer result
+    a'.config ≡ a.config → b'.config ≡ b.config → ExchangeSites a b a' b' result → TwoMeet sites (slice_set front local a' ++ slice_set back 0 b') local peer result
 met_front sites front back a b a' b' local peer result parts at first second config config' exchange =
     let long : length (slice_set front local a') ≡ peer = length-set front local a' ∙ at in
     record {
@@ -111,7 +111,7 @@ met_front sites front back a b a' b' local peer result parts at first second con
     }
 
 pub met_back : (sites front back : List SiteValue) (a b a' b' : SiteValue) (local peer : ℕ) (result : Result Report SyncFault) → sites ≡ front ++ back → length front ≡ local → slice_get back 0 ≡ Some a → slice_get front peer ≡ Some b →
-    a'.config ≡ a.config → b'.config ≡ b.config → Exchange a b a' b' result → TwoMeet sites (slice_set front peer b' ++ slice_set back 0 a') local peer result
+    a'.config ≡ a.config → b'.config ≡ b.config → ExchangeSites a b a' b' result → TwoMeet sites (slice_set front peer b' ++ slice_set back 0 a') local peer result
 met_back sites front back a b a' b' local peer result parts at first second config config' exchange =
     record {
       first = a;

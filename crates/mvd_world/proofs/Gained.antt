@@ -32,7 +32,7 @@ use Rattle.mvd_peer.proofs.JoinLaws.{join_absorbs, valid_at}
 use Rattle.mvd_sync.proofs.Positions.{BlamesBy, ReportsDoneBy, SessionBy}
 use Rattle.mvd_peer.proofs.SiteSides.{is_broken}
 use Rattle.mvd_world.specs.Machine.{BreaksBy, FailsFor, MayFail, ToldAtOnce, all_asked, it_refused, writes_in}
-use Rattle.mvd_world.specs.Worlds.{Exchange}
+use Rattle.mvd_world.specs.Worlds.{ExchangeSites}
 
 -- ---- the writes of several keys
 
@@ -195,7 +195,7 @@ fails_for a b local peer local' peer' i j v w (Err (Peer refusal)) first second 
 
 -- ---- and what it does
 
-pub sites_meet : (local peer local' peer' : SiteValue) (result : Result Report SyncFault) → IsTrue_side local → IsTrue_side peer → AreHeld local'.states → AreHeld peer'.states → SessionBy site_side site_side 10000000 local local' peer peer' result → Exchange local peer local' peer' result
+pub sites_meet : (local peer local' peer' : SiteValue) (result : Result Report SyncFault) → IsTrue_side local → IsTrue_side peer → AreHeld local'.states → AreHeld peer'.states → SessionBy site_side site_side 10000000 local local' peer peer' result → ExchangeSites local peer local' peer' result
 sites_meet local peer local' peer' result first second held held' session V W stands stands' =
     let m = session.meets first second in
     let mine = session.course.local_side first in
@@ -231,7 +231,7 @@ still_stands site V W stands whole = subst (Stands site.states) (sym (ap (λ X. 
 stays : (was : Bool) (told : SyncFault) (result : Result Report SyncFault) → BreaksBy was was told result
 stays was told result = (λ broken. broken, λ whole broken. absurd (true≢false (sym broken ∙ whole)))
 
-pub nothing_met : (local peer : SiteValue) (fault : SyncFault) → ToldAtOnce local.broken peer.broken [] (Err fault) → ((a b : States) → IsFaultOf (MayFail a b a local.broken) (MayFail a b b peer.broken) fault) → Exchange local peer local peer (Err fault)
+pub nothing_met : (local peer : SiteValue) (fault : SyncFault) → ToldAtOnce local.broken peer.broken [] (Err fault) → ((a b : States) → IsFaultOf (MayFail a b a local.broken) (MayFail a b b peer.broken) fault) → ExchangeSites local peer local peer (Err fault)
 nothing_met local peer fault at_once fails V W first second = record {
   joined = [];
   given = [];

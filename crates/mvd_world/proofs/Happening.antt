@@ -16,25 +16,25 @@ use Rattle.mvd_world.specs.declared.steps.Step.{Step}
 use Rattle.mvd_world.specs.declared.steps.Step.TheVariants.{Write as Write_at, Ask, Send, Receive, Session}
 use Rattle.mvd_world.specs.declared.steps.Outcome.{Outcome}
 use Rattle.mvd_world.specs.declared.steps.Outcome.TheVariants.{Replied, Sent as Sent_as, Met, Failed, NoSuch}
-use Rattle.mvd_world.specs.Machine.{Answers, Event, Happen, HaveOwnDots, IsNoClash, IsOwn, IsSound, IsStored, Knowledge, MayHappen, Reopened, Reopens, Runs, Setting, Stepped, Stores, Takes, becomes, events_of, is_site, may_be, nothing_yet, told_put}
+use Rattle.mvd_world.specs.Machine.{AnswersAtSite, WorldEvent, StepsHappen, HaveOwnDots, IsNoClash, IsOwn, IsConsistent, IsStepStored, Knowledge, MayHappen, Reopened, ReopensSite, RunsSteps, Setting, Stepped, Stores, Takes, becomes, world_events, is_site, may_be, nothing_yet, told_put}
 use Rattle.mvd_world.proofs.Apart.{reply_apart, step_apart}
 use Rattle.mvd_world.proofs.Sound.{IsNew-adds, answers_new, found, own_step, sound_after, sound_learns, sound_makes, sound_start}
 
 -- ---- what happens keeps it sound
 
-stored_write : (setting : Setting) (before : Knowledge) (site : ℕ) (request : Request) (added : List Write) (after : Knowledge) → IsSound before → IsOwn request → Stores setting before site request added (before.made ++ added) after → IsSound after
-stored_write setting before site request added after sound own stored = subst IsSound (sym stored.is)
+stored_write : (setting : Setting) (before : Knowledge) (site : ℕ) (request : Request) (added : List Write) (after : Knowledge) → IsConsistent before → IsOwn request → Stores setting before site request added (before.made ++ added) after → IsConsistent after
+stored_write setting before site request added after sound own stored = subst IsConsistent (sym stored.is)
     (sound_makes before site added (becomes before.broken site true) sound
     (IsNew-adds stored.config before site request (answer stored.config (before.known site) request) added sound (setting.numbers site stored.config stored.setup) own (λ dot told. refl) stored.adds))
 
-sound_stored : (setting : Setting) (before : Knowledge) (step : Step) (after : Knowledge) → IsSound before → may_be (is_site setting) (length before.messages) step ≡ true → IsStored setting before step after → IsSound after
+sound_stored : (setting : Setting) (before : Knowledge) (step : Step) (after : Knowledge) → IsConsistent before → may_be (is_site setting) (length before.messages) step ≡ true → IsStepStored setting before step after → IsConsistent after
 sound_stored setting before (Write_at site request) after sound may stored = stored_write setting before site request stored.0 after sound (own_step _ request may) stored.1
-sound_stored setting before (Receive site message) after sound may stored = subst IsSound (sym stored.2.is)
+sound_stored setting before (Receive site message) after sound may stored = subst IsConsistent (sym stored.2.is)
     (sound_learns before site stored.0.writes (becomes before.broken site true) sound (λ w here. sound.sent stored.0 w (found before.messages (message - 1) stored.0 stored.1) here))
 sound_stored setting before step after sound may stored = absurd stored
 
-sound_reopens : (setting : Setting) (before : Knowledge) (site : ℕ) (after : Knowledge) → IsSound before → Reopens setting before site after → IsSound after
-sound_reopens setting before site after sound opened = subst IsSound (sym opened.is) (record {
+sound_reopens : (setting : Setting) (before : Knowledge) (site : ℕ) (after : Knowledge) → IsConsistent before → ReopensSite setting before site after → IsConsistent after
+sound_reopens setting before site after sound opened = subst IsConsistent (sym opened.is) (record {
   known = sound.known;
   sent = sound.sent;
   of_key = sound.of_key;
@@ -42,24 +42,24 @@ sound_reopens setting before site after sound opened = subst IsSound (sym opened
   own = sound.own;
 })
 
-pub sound_happens : (setting : Setting) (before : Knowledge) (event : Event) (after : Knowledge) → IsSound before → MayHappen setting before event after → IsSound after
+pub sound_happens : (setting : Setting) (before : Knowledge) (event : WorldEvent) (after : Knowledge) → IsConsistent before → MayHappen setting before event after → IsConsistent after
 sound_happens setting before (Stepped step outcome) after sound happens = ⊎_elim
     (λ took. sound_after setting before step outcome after sound took)
     (λ stored. sound_stored setting before step after sound stored.may stored.stored)
     happens
 sound_happens setting before (Reopened site) after sound happens = sound_reopens setting before site after sound happens
 
-pub sound_events : (setting : Setting) (before : Knowledge) (events : List Event) (end : Knowledge) → IsSound before → Happen setting before events end → IsSound end
-sound_events setting before [] end sound happen = subst IsSound (sym happen) sound
+pub sound_events : (setting : Setting) (before : Knowledge) (events : List WorldEvent) (end : Knowledge) → IsConsistent before → StepsHappen setting before events end → IsConsistent end
+sound_events setting before [] end sound happen = subst IsConsistent (sym happen) sound
 sound_events setting before (event ∷ events) end sound happen = sound_events setting happen.0 events end (sound_happens setting before event happen.0 sound happen.1) happen.2
 
-pub happens_apart : (setting : Setting) (before : Knowledge) (step : Step) (outcome : Outcome) (after : Knowledge) → IsSound before → MayHappen setting before (Stepped step outcome) after → IsNoClash outcome
+pub happens_apart : (setting : Setting) (before : Knowledge) (step : Step) (outcome : Outcome) (after : Knowledge) → IsConsistent before → MayHappen setting before (Stepped step outcome) after → IsNoClash outcome
 happens_apart setting before step outcome after sound happens = ⊎_elim
     (λ took. step_apart setting before step outcome after sound took)
     (λ stored. subst IsNoClash (sym stored.told) (reply_apart (Refused Broken) (λ e. cc)))
     happens
 
-pub steps_happen : (setting : Setting) (before : Knowledge) (steps : List Step) (outcomes : List Outcome) (end : Knowledge) → Runs setting before steps outcomes end → Happen setting before (events_of steps outcomes) end
+pub steps_happen : (setting : Setting) (before : Knowledge) (steps : List Step) (outcomes : List Outcome) (end : Knowledge) → RunsSteps setting before steps outcomes end → StepsHappen setting before (world_events steps outcomes) end
 steps_happen setting before [] [] end runs = runs
 steps_happen setting before (step ∷ steps) (outcome ∷ outcomes) end runs = (runs.0, inl runs.1, steps_happen setting runs.0 steps outcomes end runs.2)
 steps_happen setting before [] (outcome ∷ outcomes) end runs = absurd runs
@@ -80,7 +80,7 @@ takes_grow setting before (Session local peer) (Met report) after w told here = 
 takes_grow setting before (Session local peer) (Failed fault) after w told here = as_made after _ w told.is here
 takes_grow setting before step outcome after w told here = absurd told
 
-stored_grow : (setting : Setting) (before : Knowledge) (step : Step) (after : Knowledge) (w : Write) → IsStored setting before step after → Contains before.made w → Contains after.made w
+stored_grow : (setting : Setting) (before : Knowledge) (step : Step) (after : Knowledge) (w : Write) → IsStepStored setting before step after → Contains before.made w → Contains after.made w
 stored_grow setting before (Write_at site request) after w stored here = as_made after _ w stored.1.is (Contains-append_left before.made stored.0 w here)
 stored_grow setting before (Receive site message) after w stored here = as_made after _ w stored.2.is here
 stored_grow setting before step after w stored here = absurd stored
@@ -89,7 +89,7 @@ step_grow : (b : Bool) (setting : Setting) (before : Knowledge) (step : Step) (o
 step_grow true setting before step outcome after w told here = takes_grow setting before step outcome after w told here
 step_grow false setting before step outcome after w told here = as_made after before w told.1 here
 
-happens_grow : (setting : Setting) (before : Knowledge) (event : Event) (after : Knowledge) (w : Write) → MayHappen setting before event after → Contains before.made w → Contains after.made w
+happens_grow : (setting : Setting) (before : Knowledge) (event : WorldEvent) (after : Knowledge) (w : Write) → MayHappen setting before event after → Contains before.made w → Contains after.made w
 happens_grow setting before (Stepped step outcome) after w happens here = ⊎_elim
     (λ took. step_grow (may_be (is_site setting) (length before.messages) step) setting before step outcome after w took here)
     (λ stored. stored_grow setting before step after w stored.stored here)
@@ -103,7 +103,7 @@ record Mints (before after : Knowledge) (key : Key) (seen : DotSet) (document : 
   fresh : (also_seen : DotSet) (other : Text) → Contains before.made (Wrote key dot also_seen other) → ⊥
   made : Contains after.made (Wrote key dot seen document)
 
-mints : (setting : Setting) (before : Knowledge) (site : ℕ) (key : Key) (seen : DotSet) (document : Text) (dot : DotValue) (after : Knowledge) → IsSound before → Answers setting before site (Put key seen document) (Written dot) after → Mints before after key seen document dot
+mints : (setting : Setting) (before : Knowledge) (site : ℕ) (key : Key) (seen : DotSet) (document : Text) (dot : DotValue) (after : Knowledge) → IsConsistent before → AnswersAtSite setting before site (Put key seen document) (Written dot) after → Mints before after key seen document dot
 mints setting before site key seen document dot after sound told =
     let new = answers_new setting before site (Put key seen document) (Written dot) after sound refl told in
     let here : Contains told.added (Wrote key dot seen document) = subst (λ W. Contains W (Wrote key dot seen document)) (sym told.adds) (Contains-head (Wrote key dot seen document) []) in
@@ -112,23 +112,23 @@ mints setting before site key seen document dot after sound told =
       made = as_made after _ (Wrote key dot seen document) told.is (Contains-append_right before.made told.added (Wrote key dot seen document) here);
     }
 
-step_mints : (b : Bool) (setting : Setting) (before : Knowledge) (site : ℕ) (key : Key) (seen : DotSet) (document : Text) (dot : DotValue) (after : Knowledge) → IsSound before →
-    MatchBool b (Answers setting before site (Put key seen document) (Written dot) after) ((Replied (Written dot) ≡ NoSuch) × (after ≡ before)) → Mints before after key seen document dot
+step_mints : (b : Bool) (setting : Setting) (before : Knowledge) (site : ℕ) (key : Key) (seen : DotSet) (document : Text) (dot : DotValue) (after : Knowledge) → IsConsistent before →
+    MatchBool b (AnswersAtSite setting before site (Put key seen document) (Written dot) after) ((Replied (Written dot) ≡ NoSuch) × (after ≡ before)) → Mints before after key seen document dot
 step_mints true setting before site key seen document dot after sound told = mints setting before site key seen document dot after sound told
 step_mints false setting before site key seen document dot after sound told = absurd (let e : Replied (Written dot) ≡ NoSuch = told.0 in cc)
 
-event_mints : (setting : Setting) (before : Knowledge) (event : Event) (site : ℕ) (key : Key) (seen : DotSet) (document : Text) (dot : DotValue) (after : Knowledge) → IsSound before → event ≡ told_put site key seen document dot →
+event_mints : (setting : Setting) (before : Knowledge) (event : WorldEvent) (site : ℕ) (key : Key) (seen : DotSet) (document : Text) (dot : DotValue) (after : Knowledge) → IsConsistent before → event ≡ told_put site key seen document dot →
     MayHappen setting before event after → Mints before after key seen document dot
 event_mints setting before event site key seen document dot after sound is happens = ⊎_elim
     (λ took. step_mints (may_be (is_site setting) (length before.messages) (Write_at site (Put key seen document))) setting before site key seen document dot after sound took)
     (λ stored. absurd (let e : Replied (Written dot) ≡ Replied (Refused Broken) = stored.told in cc))
     (subst (λ e. MayHappen setting before e after) is happens)
 
-first_is : (event told : Event) → Some event ≡ Some told → event ≡ told
+first_is : (event told : WorldEvent) → Some event ≡ Some told → event ≡ told
 first_is event told e = cc
 
 -- a dot of a put that was made is told to none of that key later
-never_again : (setting : Setting) (before : Knowledge) (events : List Event) (end : Knowledge) (j site : ℕ) (key : Key) (seen also_seen : DotSet) (document other : Text) (dot : DotValue) → IsSound before → Happen setting before events end →
+never_again : (setting : Setting) (before : Knowledge) (events : List WorldEvent) (end : Knowledge) (j site : ℕ) (key : Key) (seen also_seen : DotSet) (document other : Text) (dot : DotValue) → IsConsistent before → StepsHappen setting before events end →
     slice_get events j ≡ Some (told_put site key seen document dot) → Contains before.made (Wrote key dot also_seen other) → ⊥
 never_again setting before [] end j site key seen also_seen document other dot sound happen at made = cc
 never_again setting before (event ∷ events) end zero site key seen also_seen document other dot sound happen at made =
@@ -137,7 +137,7 @@ never_again setting before (event ∷ events) end (suc j) site key seen also_see
     never_again setting happen.0 events end j site key seen also_seen document other dot (sound_happens setting before event happen.0 sound happen.1) happen.2 at
     (happens_grow setting before event happen.0 (Wrote key dot also_seen other) happen.1 made)
 
-own_dots : (setting : Setting) (before : Knowledge) (events : List Event) (end : Knowledge) → IsSound before → Happen setting before events end → HaveOwnDots events
+own_dots : (setting : Setting) (before : Knowledge) (events : List WorldEvent) (end : Knowledge) → IsConsistent before → StepsHappen setting before events end → HaveOwnDots events
 own_dots setting before [] end sound happen i j site other_site key seen other_seen document other dot other_dot apart first second same = absurd (cc)
 own_dots setting before (event ∷ events) end sound happen zero zero site other_site key seen other_seen document other dot other_dot apart first second same = absurd (apart refl)
 own_dots setting before (event ∷ events) end sound happen zero (suc j) site other_site key seen other_seen document other dot other_dot apart first second same =
@@ -151,8 +151,8 @@ own_dots setting before (event ∷ events) end sound happen (suc i) zero site ot
 own_dots setting before (event ∷ events) end sound happen (suc i) (suc j) site other_site key seen other_seen document other dot other_dot apart first second same =
     own_dots setting happen.0 events end (sound_happens setting before event happen.0 sound happen.1) happen.2 i j site other_site key seen other_seen document other dot other_dot (λ e. apart (ap suc e)) first second same
 
-pub own_dots_of_events : (setting : Setting) (events : List Event) (end : Knowledge) → Happen setting nothing_yet events end → HaveOwnDots events
+pub own_dots_of_events : (setting : Setting) (events : List WorldEvent) (end : Knowledge) → StepsHappen setting nothing_yet events end → HaveOwnDots events
 own_dots_of_events setting events end happen = own_dots setting nothing_yet events end sound_start happen
 
-pub own_dots_of_steps : (setting : Setting) (steps : List Step) (outcomes : List Outcome) (end : Knowledge) → Runs setting nothing_yet steps outcomes end → HaveOwnDots (events_of steps outcomes)
-own_dots_of_steps setting steps outcomes end runs = own_dots_of_events setting (events_of steps outcomes) end (steps_happen setting nothing_yet steps outcomes end runs)
+pub own_dots_of_steps : (setting : Setting) (steps : List Step) (outcomes : List Outcome) (end : Knowledge) → RunsSteps setting nothing_yet steps outcomes end → HaveOwnDots (world_events steps outcomes)
+own_dots_of_steps setting steps outcomes end runs = own_dots_of_events setting (world_events steps outcomes) end (steps_happen setting nothing_yet steps outcomes end runs)

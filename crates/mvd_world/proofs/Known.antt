@@ -29,7 +29,7 @@ use Rattle.mvd_world.specs.declared.steps.Outcome.TheVariants.{Replied}
 use Rattle.mvd_world.specs.declared.steps.Step.TheVariants.{Receive}
 use Rattle.mvd_world.specs.declared.worlds.Message.{Message}
 use Rattle.mvd_world.specs.declared.worlds.World.{World}
-use Rattle.mvd_world.specs.Machine.{IsSound, Knowledge, Sending, Setting}
+use Rattle.mvd_world.specs.Machine.{IsConsistent, Knowledge, SentMessage, Setting}
 use Rattle.mvd_world.specs.Worlds.{AcceptsAgain, HasNothingNew, IsSiteOf, IsWorld, KnownChangesNothing, StaysTheSame, message_of}
 use Rattle.mvd_world.proofs.Apart.{WasMade, agree_within, apart_within}
 use Rattle.mvd_world.proofs.Leading.{message_at, site_of}
@@ -95,7 +95,7 @@ same_with : (V W : List Write) → ((w : Write) → Contains W w → Contains V 
 same_with V W part w = (λ here. ⊎_elim (λ old. old) (part w) (Contains-append_cases V W w here), Contains-append_left V W w)
 
 -- by the states that the world's sets tell of
-pub nothing_new : (setting : Setting) (old : World) (before : Knowledge) (number message : ℕ) (s : SiteValue) (sending : Sending) → IsWorld setting old before → IsSiteOf setting before number s →
+pub nothing_new : (setting : Setting) (old : World) (before : Knowledge) (number message : ℕ) (s : SiteValue) (sending : SentMessage) → IsWorld setting old before → IsSiteOf setting before number s →
     slice_get before.messages (message - 1) ≡ Some sending → ((w : Write) → Contains sending.writes w → Contains (before.known number) w) → HasNothingNew s (message_of sending)
 nothing_new setting old before number message s sending world site sent part whole =
     let V = before.known number in
@@ -139,7 +139,7 @@ pub stays_the_same : (old new : World) (number message : ℕ) (s : SiteValue) (m
 stays_the_same old new number message s m reply repeats x y at at' nothing =
     repeats.same (subst₂ HasNothingNew (one_found old.sites.items (number - 1) x s at repeats.here) (one_found old.messages.items (message - 1) y m at' repeats.there) nothing)
 
-apart_known : (before : Knowledge) (number message : ℕ) (s : SiteValue) (setting : Setting) (sending : Sending) → IsSound before → IsSiteOf setting before number s → slice_get before.messages (message - 1) ≡ Some sending →
+apart_known : (before : Knowledge) (number message : ℕ) (s : SiteValue) (setting : Setting) (sending : SentMessage) → IsConsistent before → IsSiteOf setting before number s → slice_get before.messages (message - 1) ≡ Some sending →
     s.broken ≡ false → clashes (state_at s.states sending.key) (state sending.key sending.writes) ≡ false
 apart_known before number message s setting sending sound site sent whole =
     ap (λ t. clashes t (state sending.key sending.writes)) (state_at-stands s.states (before.known number) sending.key (site.stands whole))

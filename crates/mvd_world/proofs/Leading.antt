@@ -33,7 +33,7 @@ use Rattle.mvd_sync.specs.declared.report.SyncFault.{SyncFault}
 use Rattle.mvd_sync.specs.declared.report.SyncFault.TheVariants.{Local, Peer}
 use Rattle.mvd_world.specs.declared.worlds.Message.{Message}
 use Rattle.mvd_world.specs.declared.worlds.World.{World}
-use Rattle.mvd_world.specs.Machine.{Answers, BreaksBy, IsOwn, IsSound, Knowledge, Meets, Receives, Sending, Sends, SendsNot, Setting, ToldAtOnce, becomes, config_of, config_where, is_numbered, learns, nothing_yet, received, setting_of, writes_in, two_sites}
+use Rattle.mvd_world.specs.Machine.{AnswersAtSite, BreaksBy, IsOwn, IsConsistent, Knowledge, MeetSites, Receives, SentMessage, Sends, SendsNot, Setting, ToldAtOnce, becomes, config_of, config_where, is_numbered, learns, nothing_yet, received, setting_of, writes_in, two_sites}
 use Rattle.mvd_world.specs.Worlds.{AreAll, AreSites, IsSiteOf, IsWorld, Leads, TwoMeet, message_of}
 use Rattle.mvd_world.proofs.Changed.{get_push, learns_here, learns_other, set_other, sites_changed}
 use Rattle.mvd_world.proofs.Sound.{found as found_in, sound_answers, sound_meets, sound_receives, sound_sends}
@@ -67,7 +67,7 @@ pub record SiteChanges (old new : World) (number : ℕ) (s s' : SiteValue) : Typ
 -- the world after it, where the sets are sound
 world_changed : (setting : Setting) (old new : World) (before : Knowledge) (number : ℕ) (s s' : SiteValue) (added made : List Write) → IsWorld setting old before → SiteChanges old new number s s' →
     SiteStands s' (before.known number ++ added) →
-    (after : Knowledge) → after ≡ record { known = learns before.known number added; broken = becomes before.broken number s'.broken; messages = before.messages; made = made } → IsSound after → IsWorld setting new after
+    (after : Knowledge) → after ≡ record { known = learns before.known number added; broken = becomes before.broken number s'.broken; messages = before.messages; made = made } → IsConsistent after → IsWorld setting new after
 world_changed setting old new before number s s' added made world change stands after is sound = record {
   all = still_all setting old.sites.items new.sites.items (ap length change.sites ∙ length-set old.sites.items change.index s') world.all;
   sites = subst₂ (AreSites setting) (sym is) (sym change.sites)
@@ -79,11 +79,11 @@ world_changed setting old new before number s s' added made world change stands 
 -- ---- a site's reply to a request of its own
 
 pub answers_lead : (old new : World) (number : ℕ) (s s' : SiteValue) (request : Request) (reply : Reply) → SiteChanges old new number s s' → IsOwn request → AnswersOne s s' request reply → (added : List Write) × Adds request reply added →
-    Leads old new (λ setting before after. Answers setting before number request reply after)
+    Leads old new (λ setting before after. AnswersAtSite setting before number request reply after)
 answers_lead old new number s s' request reply change own one choice setting before world =
     let site = site_of setting before old.sites.items change.index number s world.sites change.at change.here in
     let after : Knowledge = record { known = learns before.known number choice.0; broken = becomes before.broken number s'.broken; messages = before.messages; made = before.made ++ choice.0 } in
-    let told : Answers setting before number request reply after = record {
+    let told : AnswersAtSite setting before number request reply after = record {
       config = s.config;
       setup = site.config;
       broken = s'.broken;
@@ -107,7 +107,7 @@ received_adds key writes Done of = (of, refl)
 received_adds key writes reply of = refl
 
 -- a message of the world stands for one that was sent
-pub message_at : (ms : List Sending) (i : ℕ) (m : Message) → slice_get (map message_of ms) i ≡ Some m → (sending : Sending) × (slice_get ms i ≡ Some sending) × (m ≡ message_of sending)
+pub message_at : (ms : List SentMessage) (i : ℕ) (m : Message) → slice_get (map message_of ms) i ≡ Some m → (sending : SentMessage) × (slice_get ms i ≡ Some sending) × (m ≡ message_of sending)
 message_at [] i m h = cc
 message_at (sending ∷ ms) zero m h = (sending, refl, cc)
 message_at (sending ∷ ms) (suc i) m h = message_at ms i m h
@@ -149,7 +149,7 @@ pub sends_lead : (old new : World) (number index : ℕ) (s : SiteValue) (key : K
 sends_lead old new number index s key m count at here whole is same_sites grown counted setting before world =
     let site = site_of setting before old.sites.items index number s world.sites at here in
     let W = before.known number in
-    let sending : Sending = record { key = key; writes = writes_of key W } in
+    let sending : SentMessage = record { key = key; writes = writes_of key W } in
     let after : Knowledge = record { known = before.known; broken = before.broken; messages = before.messages ++ sending ∷ []; made = before.made } in
     let stands_for : m ≡ message_of sending = is ∙ ap (λ s. record { key = key; state = s }) (state_at-stands s.states W key (site.stands whole) ∙ state-own key W) in
     let messages : new.messages.items ≡ map message_of after.messages = grown ∙ ap₂ (λ ms x. ms ++ x ∷ []) world.messages stands_for ∙ sym (map-append message_of before.messages (sending ∷ [])) in
@@ -178,7 +178,7 @@ first_other : (i j : ℕ) (local peer : ℕ) → i + 1 ≡ local → j + 1 ≡ p
 first_other i j local peer at at' two same = two (omega (arith, at, at', same))
 
 pub meets_lead : (old new : World) (local peer i j : ℕ) (result : Result Report SyncFault) → i + 1 ≡ local → j + 1 ≡ peer → local ≢ peer → TwoMeet old.sites.items new.sites.items i j result → new.messages.items ≡ old.messages.items →
-    Leads old new (λ setting before after. Meets setting before local peer result after)
+    Leads old new (λ setting before after. MeetSites setting before local peer result after)
 meets_lead old new local peer i j result at at' two both same_messages setting before world =
     let mine = site_of setting before old.sites.items i local both.first world.sites at both.first_is in
     let theirs = site_of setting before old.sites.items j peer both.second world.sites at' both.second_is in
@@ -191,7 +191,7 @@ meets_lead old new local peer i j result at at' two both same_messages setting b
     let there : first.known peer ≡ W = learns_other before.known local more peer (λ e. two (sym e)) in
     let back = writes_in does.given (first.known local) in
     let after : Knowledge = record { known = learns first.known peer back; broken = becomes first.broken peer both.second'.broken; messages = before.messages; made = before.made } in
-    let told : Meets setting before local peer result after = record {
+    let told : MeetSites setting before local peer result after = record {
       mine = both.first.config;
       theirs = both.second.config;
       setup = mine.config;

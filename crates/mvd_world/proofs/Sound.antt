@@ -27,7 +27,7 @@ use Rattle.mvd_world.specs.declared.steps.Step.{Step}
 use Rattle.mvd_world.specs.declared.steps.Step.TheVariants.{Write as Write_at, Ask, Send, Receive, Session}
 use Rattle.mvd_world.specs.declared.steps.Outcome.{Outcome}
 use Rattle.mvd_world.specs.declared.steps.Outcome.TheVariants.{Replied, Sent as Sent_as, Met, Failed, NoSuch}
-use Rattle.mvd_world.specs.Machine.{Answers, IsSound, Knowledge, MayStep, Meets, OnePutPerDot, Receives, Runs, Sending, Sends, Setting, Takes, becomes, IsOwn, is_site, is_write, learns, may_be, nothing_yet, received, writes_in}
+use Rattle.mvd_world.specs.Machine.{AnswersAtSite, IsConsistent, Knowledge, MayStep, MeetSites, OnePutPerDot, Receives, RunsSteps, SentMessage, Sends, Setting, Takes, becomes, IsOwn, is_site, is_write, learns, may_be, nothing_yet, received, writes_in}
 
 -- ---- what is known
 
@@ -53,8 +53,8 @@ from_filter p (v ∷ W) w here =
 
 -- ---- learning what was made
 
-pub sound_learns : (before : Knowledge) (site : ℕ) (more : List Write) (broken : ℕ → Bool) → IsSound before → ((w : Write) → Contains more w → Contains before.made w) →
-    IsSound (record { known = learns before.known site more; broken = broken; messages = before.messages; made = before.made })
+pub sound_learns : (before : Knowledge) (site : ℕ) (more : List Write) (broken : ℕ → Bool) → IsConsistent before → ((w : Write) → Contains more w → Contains before.made w) →
+    IsConsistent (record { known = learns before.known site more; broken = broken; messages = before.messages; made = before.made })
 sound_learns before site more broken sound part = record {
   known = λ other w here. ⊎_elim (λ old. sound.known other w old) (λ new. part w new) (learned before.known site more other w here);
   sent = sound.sent;
@@ -87,7 +87,7 @@ IsNew-delete before site key seen = record {
   one_put = λ k dot s t d o here there. let e : Deleted key seen ≡ Wrote k dot s d = only _ _ here in cc;
 }
 
-IsNew-put : (before : Knowledge) (site : ℕ) (key : Key) (dot : DotValue) (seen : DotSet) (document : Text) → IsSound before →
+IsNew-put : (before : Knowledge) (site : ℕ) (key : Key) (dot : DotValue) (seen : DotSet) (document : Text) → IsConsistent before →
     mint site (union (context key (before.known site)) seen) ≡ Some dot → IsNew before site (Wrote key dot seen document ∷ [])
 IsNew-put before site key dot seen document sound minted =
     let mine : dot.site ≡ site = (minted_next site _ dot minted).own in
@@ -123,7 +123,7 @@ may_written config known true request reply true may dot written = absurd (let f
 abbrev pub IsAnswered : ConfigValue → List Write → Request → Reply → Type 0
 IsAnswered config known request reply = (dot : DotValue) → reply ≡ Written dot → reply ≡ answer config known request
 
-pub IsNew-adds : (config : ConfigValue) (before : Knowledge) (site : ℕ) (request : Request) (reply : Reply) (added : List Write) → IsSound before → site ≡ config.site → IsOwn request →
+pub IsNew-adds : (config : ConfigValue) (before : Knowledge) (site : ℕ) (request : Request) (reply : Reply) (added : List Write) → IsConsistent before → site ≡ config.site → IsOwn request →
     IsAnswered config (before.known site) request reply → Adds request reply added → IsNew before site added
 IsNew-adds config before site (Put key seen document) (Written dot) added sound number own told adds = subst (IsNew before site) (sym adds)
     (IsNew-put before site key dot seen document sound
@@ -134,8 +134,8 @@ IsNew-adds config before site (Delete key seen) Done added sound number own told
 IsNew-adds config before site (Push key pushed) reply added sound number own told adds = cc
 IsNew-adds config before site request reply added sound number own told adds = IsNew-none before site added adds
 
-pub sound_makes : (before : Knowledge) (site : ℕ) (added : List Write) (broken : ℕ → Bool) → IsSound before → IsNew before site added →
-    IsSound (record { known = learns before.known site added; broken = broken; messages = before.messages; made = before.made ++ added })
+pub sound_makes : (before : Knowledge) (site : ℕ) (added : List Write) (broken : ℕ → Bool) → IsConsistent before → IsNew before site added →
+    IsConsistent (record { known = learns before.known site added; broken = broken; messages = before.messages; made = before.made ++ added })
 sound_makes before site added broken sound new = record {
   known = λ other w here. ⊎_elim (λ old. Contains-append_left before.made added w (sound.known other w old)) (λ more. Contains-append_right before.made added w more) (learned before.known site added other w here);
   sent = λ sending w there here. Contains-append_left before.made added w (sound.sent sending w there here);
@@ -154,25 +154,25 @@ sound_makes before site added broken sound new = record {
 -- ---- each step
 
 -- what an answered request adds is new
-pub answers_new : (setting : Setting) (before : Knowledge) (site : ℕ) (request : Request) (reply : Reply) (after : Knowledge) → IsSound before → IsOwn request → (told : Answers setting before site request reply after) → IsNew before site told.added
+pub answers_new : (setting : Setting) (before : Knowledge) (site : ℕ) (request : Request) (reply : Reply) (after : Knowledge) → IsConsistent before → IsOwn request → (told : AnswersAtSite setting before site request reply after) → IsNew before site told.added
 answers_new setting before site request reply after sound own told =
     IsNew-adds told.config before site request reply told.added sound (setting.numbers site told.config told.setup) own
     (may_written told.config (before.known site) (before.broken site) request reply told.broken told.replies) told.adds
 
-pub sound_answers : (setting : Setting) (before : Knowledge) (site : ℕ) (request : Request) (reply : Reply) (after : Knowledge) → IsSound before → IsOwn request → Answers setting before site request reply after → IsSound after
-sound_answers setting before site request reply after sound own told = subst IsSound (sym told.is)
+pub sound_answers : (setting : Setting) (before : Knowledge) (site : ℕ) (request : Request) (reply : Reply) (after : Knowledge) → IsConsistent before → IsOwn request → AnswersAtSite setting before site request reply after → IsConsistent after
+sound_answers setting before site request reply after sound own told = subst IsConsistent (sym told.is)
     (sound_makes before site told.added (becomes before.broken site told.broken) sound (answers_new setting before site request reply after sound own told))
 
-pub sound_sends : (before : Knowledge) (site : ℕ) (key : Key) (number : ℕ) (after : Knowledge) → IsSound before → Sends before site key number after → IsSound after
-sound_sends before site key number after sound sends = subst IsSound (sym sends.is) (record {
+pub sound_sends : (before : Knowledge) (site : ℕ) (key : Key) (number : ℕ) (after : Knowledge) → IsConsistent before → Sends before site key number after → IsConsistent after
+sound_sends before site key number after sound sends = subst IsConsistent (sym sends.is) (record {
   known = sound.known;
   sent = λ sending w there here. ⊎_elim
       (λ old. sound.sent sending w old here)
-      (λ new. sound.known site w (from_filter _ (before.known site) w (subst (λ (m : Sending). Contains m.writes w) (sym new) here)))
+      (λ new. sound.known site w (from_filter _ (before.known site) w (subst (λ (m : SentMessage). Contains m.writes w) (sym new) here)))
       (Contains-push_cases before.messages _ sending there);
   of_key = λ sending there. ⊎_elim
       (λ old. sound.of_key sending old)
-      (λ new. subst (λ (m : Sending). AreOf m.key m.writes) new (AreOf-writes_of key (before.known site)))
+      (λ new. subst (λ (m : SentMessage). AreOf m.key m.writes) new (AreOf-writes_of key (before.known site)))
       (Contains-push_cases before.messages _ sending there);
   one_put = sound.one_put;
   own = sound.own;
@@ -188,16 +188,16 @@ received_part : (reply : Reply) (writes : List Write) (w : Write) → Contains (
 received_part Done writes w here = here
 received_part reply writes w here = absurd (none_empty w here)
 
-pub sound_receives : (setting : Setting) (before : Knowledge) (site message : ℕ) (reply : Reply) (after : Knowledge) → IsSound before → Receives setting before site message reply after → IsSound after
-sound_receives setting before site message reply after sound told = subst IsSound (sym told.is)
+pub sound_receives : (setting : Setting) (before : Knowledge) (site message : ℕ) (reply : Reply) (after : Knowledge) → IsConsistent before → Receives setting before site message reply after → IsConsistent after
+sound_receives setting before site message reply after sound told = subst IsConsistent (sym told.is)
     (sound_learns before site (received reply told.sending.writes) (becomes before.broken site told.broken) sound
     (λ w here. sound.sent told.sending w (found before.messages (message - 1) told.sending told.sent) (received_part reply told.sending.writes w here)))
 
-pub sound_meets : (setting : Setting) (before : Knowledge) (local peer : ℕ) (result : Result Report SyncFault) (after : Knowledge) → IsSound before → Meets setting before local peer result after → IsSound after
+pub sound_meets : (setting : Setting) (before : Knowledge) (local peer : ℕ) (result : Result Report SyncFault) (after : Knowledge) → IsConsistent before → MeetSites setting before local peer result after → IsConsistent after
 sound_meets setting before local peer result after sound told =
     let first : Knowledge = record { known = learns before.known local (writes_in told.joined (before.known peer)); broken = before.broken; messages = before.messages; made = before.made } in
-    let sound_first : IsSound first = sound_learns before local (writes_in told.joined (before.known peer)) before.broken sound (λ w here. sound.known peer w (from_filter _ (before.known peer) w here)) in
-    subst IsSound (sym told.is)
+    let sound_first : IsConsistent first = sound_learns before local (writes_in told.joined (before.known peer)) before.broken sound (λ w here. sound.known peer w (from_filter _ (before.known peer) w here)) in
+    subst IsConsistent (sym told.is)
     (sound_learns first peer (writes_in told.given (first.known local)) (becomes (becomes before.broken local told.local_broken) peer told.peer_broken) sound_first
     (λ w here. sound_first.known local w (from_filter _ (first.known local) w here)))
 
@@ -215,24 +215,24 @@ asked_step true request h = ap (λ c. is_write request || c) h ∙ or-true (is_w
     or-true false = refl
 asked_step false request h = cc
 
-sound_takes : (setting : Setting) (before : Knowledge) (step : Step) (outcome : Outcome) (after : Knowledge) → IsSound before → may_be (is_site setting) (length before.messages) step ≡ true → Takes setting before step outcome after → IsSound after
+sound_takes : (setting : Setting) (before : Knowledge) (step : Step) (outcome : Outcome) (after : Knowledge) → IsConsistent before → may_be (is_site setting) (length before.messages) step ≡ true → Takes setting before step outcome after → IsConsistent after
 sound_takes setting before (Write_at site request) (Replied reply) after sound may told = sound_answers setting before site request reply after sound (own_step _ request may) told
 sound_takes setting before (Ask site request) (Replied reply) after sound may told = sound_answers setting before site request reply after sound (asked_step _ request may) told
 sound_takes setting before (Send site key) (Sent_as number) after sound may told = sound_sends before site key number after sound told
-sound_takes setting before (Send site key) (Replied reply) after sound may told = subst IsSound (sym told.is) sound
+sound_takes setting before (Send site key) (Replied reply) after sound may told = subst IsConsistent (sym told.is) sound
 sound_takes setting before (Receive site message) (Replied reply) after sound may told = sound_receives setting before site message reply after sound told
 sound_takes setting before (Session local peer) (Met report) after sound may told = sound_meets setting before local peer (Ok report) after sound told
 sound_takes setting before (Session local peer) (Failed fault) after sound may told = sound_meets setting before local peer (Err fault) after sound told
 sound_takes setting before step outcome after sound may told = absurd told
 
-pub sound_after : (setting : Setting) (before : Knowledge) (step : Step) (outcome : Outcome) (after : Knowledge) → IsSound before → MayStep setting before step outcome after → IsSound after
+pub sound_after : (setting : Setting) (before : Knowledge) (step : Step) (outcome : Outcome) (after : Knowledge) → IsConsistent before → MayStep setting before step outcome after → IsConsistent after
 sound_after setting before step outcome after sound =
-    elim (may_be (is_site setting) (length before.messages) step) as (λ b. may_be (is_site setting) (length before.messages) step ≡ b → MatchBool b (Takes setting before step outcome after) ((outcome ≡ NoSuch) × (after ≡ before)) → IsSound after) [
+    elim (may_be (is_site setting) (length before.messages) step) as (λ b. may_be (is_site setting) (length before.messages) step ≡ b → MatchBool b (Takes setting before step outcome after) ((outcome ≡ NoSuch) × (after ≡ before)) → IsConsistent after) [
       | true ↦ λ may told. sound_takes setting before step outcome after sound may told
-      | false ↦ λ _ same. subst IsSound (sym same.1) sound
+      | false ↦ λ _ same. subst IsConsistent (sym same.1) sound
     ] refl
 
-pub sound_start : IsSound nothing_yet
+pub sound_start : IsConsistent nothing_yet
 sound_start = record {
   known = λ site w here. here;
   sent = λ sending w there here. absurd (no_message sending there);
@@ -241,11 +241,11 @@ sound_start = record {
   own = λ key dot seen document here. here;
 }
   where
-    no_message : (sending : Sending) → Contains [] sending → ⊥
+    no_message : (sending : SentMessage) → Contains [] sending → ⊥
     no_message sending there = absurd (omega arith)
 
-pub sound_run : (setting : Setting) (before : Knowledge) (steps : List Step) (outcomes : List Outcome) (after : Knowledge) → IsSound before → Runs setting before steps outcomes after → IsSound after
-sound_run setting before [] [] after sound runs = subst IsSound (sym runs) sound
+pub sound_run : (setting : Setting) (before : Knowledge) (steps : List Step) (outcomes : List Outcome) (after : Knowledge) → IsConsistent before → RunsSteps setting before steps outcomes after → IsConsistent after
+sound_run setting before [] [] after sound runs = subst IsConsistent (sym runs) sound
 sound_run setting before (step ∷ steps) (outcome ∷ outcomes) after sound runs =
     sound_run setting runs.0 steps outcomes after (sound_after setting before step outcome runs.0 sound runs.1) runs.2
 sound_run setting before [] (outcome ∷ outcomes) after sound runs = absurd runs

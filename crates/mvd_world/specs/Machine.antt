@@ -19,7 +19,7 @@ use Rattle.mvd_site.specs.Answer.{answer, is_question, states_of}
 use Rattle.mvd_site.specs.Config.{ConfigValue}
 use Rattle.mvd_site.specs.FromStates.{unless_broken}
 use Rattle.mvd_site.specs.Held.{States}
-use Rattle.mvd_site.specs.Known.{Adds, Changes, MayReply}
+use Rattle.mvd_site.specs.Known.{Adds, ChangesKey, MayReply}
 use Rattle.mvd_sync.specs.Session.{AreFew, Before, CanMeet, HasAllThatDiffer, IsIn, ReportsDone, is_member}
 use Rattle.mvd_peer.specs.PushedStates.{Each}
 use Rattle.mvd_sync.specs.Faults.{IsFaultOf}
@@ -71,7 +71,7 @@ setting_of count max_keys defs = record {
 -- ---- what is known
 
 -- a message is the state of a key: here the writes of the key that it stands for
-pub record Sending : Type 0 where
+pub record SentMessage : Type 0 where
   pub key : Key
   pub writes : List Write
 
@@ -80,7 +80,7 @@ pub record Sending : Type 0 where
 pub record Knowledge : Type 0 where
   pub known : ℕ → List Write
   pub broken : ℕ → Bool
-  pub messages : List Sending
+  pub messages : List SentMessage
   pub made : List Write
 
 -- at first nothing is known, nothing was sent, and nothing made
@@ -122,7 +122,7 @@ may_be there messages (Session local peer) = there local && (there peer && not (
 
 -- A write or a question: the site replies as one site does (its answer, or 20, or 22), and learns of what the request
 -- added, which is made now
-pub record Answers (setting : Setting) (before : Knowledge) (site : ℕ) (request : Request) (reply : Reply)
+pub record AnswersAtSite (setting : Setting) (before : Knowledge) (site : ℕ) (request : Request) (reply : Reply)
     (after : Knowledge) : Type 0 where
   pub config : ConfigValue
   pub setup : setting.configs site ≡ Some config
@@ -164,7 +164,7 @@ pub record Receives (setting : Setting) (before : Knowledge) (site message : ℕ
   pub config : ConfigValue
   pub setup : setting.configs site ≡ Some config
   pub broken : Bool
-  pub sending : Sending
+  pub sending : SentMessage
   pub sent : slice_get before.messages (message - 1) ≡ Some sending
   pub replies : MayReply config (before.known site) (before.broken site)
       (Push sending.key (state sending.key sending.writes)) reply broken
@@ -218,7 +218,7 @@ two_sites mine theirs number V W = record {
 -- A session of two sites: the states of some keys, which differ and do not clash, are joined on the local site, and
 -- those of a part of them on the peer. With no fault these and the refused keys are all that differ, each refused for
 -- its cause
-pub record Meets (setting : Setting) (before : Knowledge) (local peer : ℕ) (result : Result Report SyncFault)
+pub record MeetSites (setting : Setting) (before : Knowledge) (local peer : ℕ) (result : Result Report SyncFault)
     (after : Knowledge) : Type 0 where
   pub mine : ConfigValue
   pub theirs : ConfigValue
@@ -246,13 +246,13 @@ pub record Meets (setting : Setting) (before : Knowledge) (local peer : ℕ) (re
 
 -- a step that may be, with its outcome
 abbrev pub Takes : Setting → Knowledge → Step → Outcome → Knowledge → Type 0
-Takes setting before (Written_at site request) (Replied reply) after = Answers setting before site request reply after
-Takes setting before (Ask site request) (Replied reply) after = Answers setting before site request reply after
+Takes setting before (Written_at site request) (Replied reply) after = AnswersAtSite setting before site request reply after
+Takes setting before (Ask site request) (Replied reply) after = AnswersAtSite setting before site request reply after
 Takes setting before (Send site key) (Sent_as number) after = Sends before site key number after
 Takes setting before (Send site key) (Replied reply) after = SendsNot before site reply after
 Takes setting before (Receive site message) (Replied reply) after = Receives setting before site message reply after
-Takes setting before (Session local peer) (Met report) after = Meets setting before local peer (Ok report) after
-Takes setting before (Session local peer) (Failed fault) after = Meets setting before local peer (Err fault) after
+Takes setting before (Session local peer) (Met report) after = MeetSites setting before local peer (Ok report) after
+Takes setting before (Session local peer) (Failed fault) after = MeetSites setting before local peer (Err fault) after
 Takes setting before step outcome after = ⊥
 
 -- any step: one that may not be is answered so, and changes nothing
@@ -262,11 +262,11 @@ MayStep setting before step outcome after =
     ((outcome ≡ NoSuch) × (after ≡ before))
 
 -- steps with their outcomes, one after the other
-abbrev pub Runs : Setting → Knowledge → List Step → List Outcome → Knowledge → Type 0
-Runs setting before [] [] after = after ≡ before
-Runs setting before (step ∷ steps) (outcome ∷ outcomes) after =
-    (between : Knowledge) × MayStep setting before step outcome between × Runs setting between steps outcomes after
-Runs setting before steps outcomes after = ⊥
+abbrev pub RunsSteps : Setting → Knowledge → List Step → List Outcome → Knowledge → Type 0
+RunsSteps setting before [] [] after = after ≡ before
+RunsSteps setting before (step ∷ steps) (outcome ∷ outcomes) after =
+    (between : Knowledge) × MayStep setting before step outcome between × RunsSteps setting between steps outcomes after
+RunsSteps setting before steps outcomes after = ⊥
 
 -- ---- sites that break and are opened again
 
@@ -276,7 +276,7 @@ pub record Stores (setting : Setting) (before : Knowledge) (site : ℕ) (request
     (after : Knowledge) : Type 0 where
   pub config : ConfigValue
   pub setup : setting.configs site ≡ Some config
-  pub changes : Changes config (before.known site) request
+  pub changes : ChangesKey config (before.known site) request
   pub adds : Adds request (answer config (before.known site) request) added
   pub is : after ≡ record {
     known = learns before.known site added;
@@ -286,54 +286,54 @@ pub record Stores (setting : Setting) (before : Knowledge) (site : ℕ) (request
   }
 
 -- a write is made by that, and a message is known; what a session had stored when it ended is among what it joined
-abbrev pub IsStored : Setting → Knowledge → Step → Knowledge → Type 0
-IsStored setting before (Written_at site request) after =
+abbrev pub IsStepStored : Setting → Knowledge → Step → Knowledge → Type 0
+IsStepStored setting before (Written_at site request) after =
     (added : List Write) × Stores setting before site request added (before.made ++ added) after
-IsStored setting before (Receive site message) after =
-    (sending : Sending) × (slice_get before.messages (message - 1) ≡ Some sending)
+IsStepStored setting before (Receive site message) after =
+    (sending : SentMessage) × (slice_get before.messages (message - 1) ≡ Some sending)
     × Stores setting before site (Push sending.key (state sending.key sending.writes)) sending.writes before.made after
-IsStored setting before step after = ⊥
+IsStepStored setting before step after = ⊥
 
 -- the step was told that its site is broken, and was stored
 pub record MayStore (setting : Setting) (before : Knowledge) (step : Step) (outcome : Outcome)
     (after : Knowledge) : Type 0 where
   pub may : may_be (is_site setting) (length before.messages) step ≡ true
   pub told : outcome ≡ Replied (Refused Broken)
-  pub stored : IsStored setting before step after
+  pub stored : IsStepStored setting before step after
 
 -- a site is opened again: it is whole, and knows what it has stored
-pub record Reopens (setting : Setting) (before : Knowledge) (site : ℕ) (after : Knowledge) : Type 0 where
+pub record ReopensSite (setting : Setting) (before : Knowledge) (site : ℕ) (after : Knowledge) : Type 0 where
   pub there : is_site setting site ≡ true
   pub is : after ≡ record before { broken = becomes before.broken site false }
 
 -- what happens to sites that are stored: a step with its outcome, or a site is opened again
-pub data Event : Type 0 where
-  Stepped : Step → Outcome → Event
-  Reopened : ℕ → Event
+pub data WorldEvent : Type 0 where
+  Stepped : Step → Outcome → WorldEvent
+  Reopened : ℕ → WorldEvent
 
-abbrev pub MayHappen : Setting → Knowledge → Event → Knowledge → Type 0
+abbrev pub MayHappen : Setting → Knowledge → WorldEvent → Knowledge → Type 0
 MayHappen setting before (Stepped step outcome) after =
     MayStep setting before step outcome after ⊎ MayStore setting before step outcome after
-MayHappen setting before (Reopened site) after = Reopens setting before site after
+MayHappen setting before (Reopened site) after = ReopensSite setting before site after
 
 -- events, one after the other
-abbrev pub Happen : Setting → Knowledge → List Event → Knowledge → Type 0
-Happen setting before [] after = after ≡ before
-Happen setting before (event ∷ events) after =
-    (between : Knowledge) × MayHappen setting before event between × Happen setting between events after
+abbrev pub StepsHappen : Setting → Knowledge → List WorldEvent → Knowledge → Type 0
+StepsHappen setting before [] after = after ≡ before
+StepsHappen setting before (event ∷ events) after =
+    (between : Knowledge) × MayHappen setting before event between × StepsHappen setting between events after
 
 -- steps with their outcomes, as events
-abbrev pub events_of : List Step → List Outcome → List Event
-events_of [] outcomes = []
-events_of (step ∷ steps) [] = []
-events_of (step ∷ steps) (outcome ∷ outcomes) = Stepped step outcome ∷ events_of steps outcomes
+abbrev pub world_events : List Step → List Outcome → List WorldEvent
+world_events [] outcomes = []
+world_events (step ∷ steps) [] = []
+world_events (step ∷ steps) (outcome ∷ outcomes) = Stepped step outcome ∷ world_events steps outcomes
 
 -- a put that was told its dot
-abbrev pub told_put : ℕ → Key → DotSet → Text → DotValue → Event
+abbrev pub told_put : ℕ → Key → DotSet → Text → DotValue → WorldEvent
 told_put site key seen document dot = Stepped (Written_at site (Put key seen document)) (Replied (Written dot))
 
 -- two puts of one key, at different places among the events, were told different dots
-abbrev pub HaveOwnDots : List Event → Type 0
+abbrev pub HaveOwnDots : List WorldEvent → Type 0
 HaveOwnDots events =
     (i j site other_site : ℕ) (key : Key) (seen other_seen : DotSet) (document other : Text) (dot other_dot : DotValue)
     → i ≢ j → slice_get events i ≡ Some (told_put site key seen document dot)
@@ -349,21 +349,21 @@ OnePutPerDot made = (key : Key) (dot : DotValue) (seen also_seen : DotSet) (docu
 
 -- what is known or sent was made, each dot is of one put, and each site knows its own puts, also once it is opened
 -- again
-pub record IsSound (world : Knowledge) : Type 0 where
+pub record IsConsistent (world : Knowledge) : Type 0 where
   pub known : (site : ℕ) (write : Write) → Contains (world.known site) write → Contains world.made write
-  pub sent : (sending : Sending) (write : Write) → Contains world.messages sending → Contains sending.writes write
+  pub sent : (sending : SentMessage) (write : Write) → Contains world.messages sending → Contains sending.writes write
       → Contains world.made write
-  pub of_key : (sending : Sending) → Contains world.messages sending → AreOf sending.key sending.writes
+  pub of_key : (sending : SentMessage) → Contains world.messages sending → AreOf sending.key sending.writes
   pub one_put : OnePutPerDot world.made
   pub own : (key : Key) (dot : DotValue) (seen : DotSet) (document : Text) →
       Contains world.made (Wrote key dot seen document) → Contains (world.known dot.site) (Wrote key dot seen document)
 
 -- a fault by which two states of a key clash
-abbrev pub IsClash : SyncFault → Type 0
-IsClash fault = (fault ≡ Local DotClash) ⊎ (fault ≡ Peer DotClash)
+abbrev pub IsClashFault : SyncFault → Type 0
+IsClashFault fault = (fault ≡ Local DotClash) ⊎ (fault ≡ Peer DotClash)
 
 -- what was told refuses no two documents of one dot: no reply, no session, and no key of a session
 pub record IsNoClash (outcome : Outcome) : Type 0 where
   pub reply : outcome ≡ Replied (Refused DotClash) → ⊥
-  pub fault : (fault : SyncFault) → outcome ≡ Failed fault → IsClash fault → ⊥
+  pub fault : (fault : SyncFault) → outcome ≡ Failed fault → IsClashFault fault → ⊥
   pub keys : (report : Report) → outcome ≡ Met report → Each (λ l. l.refusal ≢ DotClash) report.first_refused

@@ -22,7 +22,7 @@ use Rattle.mvd_world.specs.declared.steps.Outcome.{Outcome}
 use Rattle.mvd_world.specs.declared.steps.Outcome.TheVariants.{Replied}
 use Rattle.mvd_world.specs.declared.worlds.Message.{Message}
 use Rattle.mvd_world.specs.declared.worlds.World.{World}
-use Rattle.mvd_world.specs.Machine.{BreaksBy, FailsFor, IsSound, Knowledge, MayStep, Runs, Sending, Setting, ToldAtOnce}
+use Rattle.mvd_world.specs.Machine.{BreaksBy, FailsFor, IsConsistent, Knowledge, MayStep, RunsSteps, SentMessage, Setting, ToldAtOnce}
 use Rattle.mvd_world.specs.Machine.{is_numbered, is_site, may_be, nothing_yet, two_sites, writes_in}
 
 -- the site of this number, with what it was set up with, and the writes that its states stand for unless it is broken
@@ -37,7 +37,7 @@ site_at world number =
     if is_numbered (length world.sites.items) number then slice_get world.sites.items (number - 1) else None
 
 -- a message as it is kept
-abbrev pub message_of : Sending → Message
+abbrev pub message_of : SentMessage → Message
 message_of sending = record { key = sending.key; state = state sending.key sending.writes }
 
 -- sites numbered from 1
@@ -54,7 +54,7 @@ pub record IsWorld (setting : Setting) (world : World) (knowledge : Knowledge) :
   pub all : AreAll setting world.sites.items
   pub sites : AreSites setting knowledge world.sites.items
   pub messages : world.messages.items ≡ map message_of knowledge.messages
-  pub sound : IsSound knowledge
+  pub sound : IsConsistent knowledge
 
 -- from whatever sets the world stood for, it comes to stand for sets of which this holds
 abbrev pub Leads : World → World → (Setting → Knowledge → Knowledge → Type 0) → Type 0
@@ -82,7 +82,7 @@ StaysTheSame old new step = ⊤
 
 -- the message was sent, and the site knows each write that it stands for
 pub record KnowsMessage (knowledge : Knowledge) (site message : ℕ) : Type 0 where
-  pub sending : Sending
+  pub sending : SentMessage
   pub sent : slice_get knowledge.messages (message - 1) ≡ Some sending
   pub known : (write : Write) → Contains sending.writes write → Contains (knowledge.known site) write
 
@@ -121,8 +121,8 @@ pub record SitesMeet (V W : List Write) (local peer local' peer' : SiteValue)
   pub peer_stands : SiteStands peer' (W ++ writes_in given (V ++ writes_in joined W))
 
 -- the same, whatever they stood for
-abbrev pub Exchange : SiteValue → SiteValue → SiteValue → SiteValue → Result Report SyncFault → Type 0
-Exchange local peer local' peer' result =
+abbrev pub ExchangeSites : SiteValue → SiteValue → SiteValue → SiteValue → Result Report SyncFault → Type 0
+ExchangeSites local peer local' peer' result =
     (V W : List Write) → SiteStands local V → SiteStands peer W → SitesMeet V W local peer local' peer' result
 
 -- two sites of a list meet, and the others are as they were
@@ -136,7 +136,7 @@ pub record TwoMeet (old new : List SiteValue) (local peer : ℕ) (result : Resul
   pub new_is : new ≡ slice_set (slice_set old local first') peer second'
   pub first_config : first'.config ≡ first.config
   pub second_config : second'.config ≡ second.config
-  pub exchange : Exchange first second first' second' result
+  pub exchange : ExchangeSites first second first' second' result
 
 -- ---- a run
 
@@ -150,7 +150,7 @@ pub record AreAlike (a b : SiteValue) : Type 0 where
 -- for, and of the world and them this holds
 abbrev pub LeadTo : Setting → List Step → World × Vec Outcome Global → (World → Knowledge → Type 0) → Type 0
 LeadTo setting steps done Holds = (end : Knowledge)
-    × (Runs setting nothing_yet steps done.1.items end × (IsWorld setting done.0 end × Holds done.0 end))
+    × (RunsSteps setting nothing_yet steps done.1.items end × (IsWorld setting done.0 end × Holds done.0 end))
 
 -- each site that is not broken stands for what it knows, which is a part of what was made
 abbrev pub StandForKnown : World → Knowledge → Type 0

@@ -2,7 +2,7 @@
 ghost use Rattle.std.specs.Prelude.{◌≡◌, ◌≤◌, ◌<◌, IfErr, IfOk, length, ⊤};
 ghost use Rattle.std.specs.List.{AllByRecursion};
 ghost use Rattle.mvd_dots.specs.declared.refusals.Refusal.TheVariants.{Memory};
-ghost use Rattle.mvd_world.specs.Machine.{HaveOwnDots, IsNoClash, OnePutPerDot, events_of, setting_of};
+ghost use Rattle.mvd_world.specs.Machine.{HaveOwnDots, IsNoClash, OnePutPerDot, world_events, setting_of};
 ghost use Rattle.mvd_world.specs.Worlds.{AlikeWhereSame, AreShort, LeadTo, StandForKnown};
 
 use crate::steps::{Outcome, Step};
@@ -31,7 +31,7 @@ pub fn run_world(
     ensures one_put { let s = setting_of count max_keys defs in
         IfOk result (λ done. LeadTo s steps.now done (λ _ end. OnePutPerDot end.made)) }
     // Two puts of one key, at different steps, are told different dots.
-    ensures dots { IfOk result (λ done. HaveOwnDots (events_of steps.now done.1.items)) }
+    ensures dots { IfOk result (λ done. HaveOwnDots (world_events steps.now done.1.items)) }
     // Each site that is not broken stands for what it knows, and that was made.
     ensures stand { let s = setting_of count max_keys defs in
         IfOk result (λ done. LeadTo s steps.now done StandForKnown) }

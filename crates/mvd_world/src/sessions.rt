@@ -1,6 +1,6 @@
 //! Sessions of two sites of one world.
 ghost use Rattle.std.specs.Prelude.{◌≡◌, ◌≢◌, ◌<◌, length};
-ghost use Rattle.mvd_world.specs.Worlds.{Exchange, TwoMeet};
+ghost use Rattle.mvd_world.specs.Worlds.{ExchangeSites, TwoMeet};
 
 use mvd_dots::Refusal;
 use mvd_site::Site;
@@ -9,7 +9,7 @@ use std::alloc::Global;
 
 /// A session of two sites. A broken side is told at once.
 fn session(alloc: Global, local: &mut Site, peer: &mut Site) -> Result<Report, SyncFault>
-    ensures exchange { Exchange local.old peer.old local.new peer.new result }
+    ensures exchange { ExchangeSites local.old peer.old local.new peer.new result }
     ensures local_config { local.new.config ≡ local.old.config }
     ensures peer_config { peer.new.config ≡ peer.old.config }
 {

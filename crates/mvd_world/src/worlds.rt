@@ -6,7 +6,7 @@ ghost use Rattle.mvd_dots.specs.declared.refusals.Refusal.TheVariants.{Memory};
 ghost use Rattle.mvd_site.specs.Answer.{is_question};
 ghost use Rattle.mvd_world.specs.declared.steps.Step.TheVariants.{Receive, Send as Send_step};
 ghost use Rattle.mvd_world.specs.declared.steps.Outcome.TheVariants.{NoSuch, Replied};
-ghost use Rattle.mvd_world.specs.Machine.{Answers, IsOwn, Meets, Receives, Takes, is_numbered, is_write, may_be};
+ghost use Rattle.mvd_world.specs.Machine.{AnswersAtSite, IsOwn, MeetSites, Receives, Takes, is_numbered, is_write, may_be};
 ghost use Rattle.mvd_world.specs.Machine.{nothing_yet, setting_of};
 ghost use Rattle.mvd_world.specs.Worlds.{AreShort, IsWorld, KnownChangesNothing, Leads, StaysTheSame, Steps, site_at};
 
@@ -124,7 +124,7 @@ impl World {
         requires within { site ≤ length self.old.sites.items }
         requires own { IsOwn request.now }
         ensures leads { Leads self.old self.new (λ setting before after.
-            Answers setting before site request.now result after) }
+            AnswersAtSite setting before site request.now result after) }
         ensures short { AreShort self.old → AreShort self.new }
     {
         let site = &mut self.sites[site as usize - 1];
@@ -191,7 +191,7 @@ impl World {
         requires some_peer { 1 ≤ peer }
         requires within_peer { peer ≤ length self.old.sites.items }
         requires two { local ≢ peer }
-        ensures leads { Leads self.old self.new (λ setting before after. Meets setting before local peer result after) }
+        ensures leads { Leads self.old self.new (λ setting before after. MeetSites setting before local peer result after) }
         ensures short { AreShort self.old → AreShort self.new }
     {
         sync_at(

@@ -3,9 +3,9 @@ ghost use Rattle.std.specs.Prelude.{◌≡◌, ◌⊎◌, ℕ, IfOk, IfErr, Ok, 
 ghost use Rattle.mvd_dots.specs.declared.refusals.Refusal.TheVariants.{Broken, Memory};
 ghost use Rattle.mvd_wire.specs.declared.reply.Reply.{Reply};
 ghost use Rattle.mvd_wire.specs.declared.reply.Reply.TheVariants.{State, Done, Digests as Told, Keys, Refused};
-ghost use Rattle.mvd_wire.specs.Replies.{kind_of};
-ghost use Rattle.mvd_remote.specs.LinkWindows.{Answers, IsOfKind};
-ghost use Rattle.mvd_remote.specs.Lines.{IsSettled};
+ghost use Rattle.mvd_wire.specs.Replies.{reply_kind};
+ghost use Rattle.mvd_remote.specs.LinkWindows.{IsToldBy, IsOfKind};
+ghost use Rattle.mvd_remote.specs.Lines.{LeavesNothingOpen};
 ghost use Rattle.mvd_peer.specs.Windows.{ForEach};
 
 use super::refusal_in;
@@ -30,7 +30,7 @@ pub trait Answer: Sized + Drop {
     /// What a reply of this kind tells, or the refusal that it is.
     fn of(reply: Reply) -> Result<Self, Refusal>
         ensures told { IfOk result (λ answer. reply ≡ as_reply answer) }
-        ensures refused { (kind_of reply ≡ of_kind) ⊎ (kind_of reply ≡ 0xEE) →
+        ensures refused { (reply_kind reply ≡ of_kind) ⊎ (reply_kind reply ≡ 0xEE) →
             IfErr result (λ refusal. reply ≡ Refused refusal) };
 }
 
@@ -106,8 +106,8 @@ impl Answer for () {
 /// want of memory for a reply.
 fn answer_of<A: Answer>(reply: Result<Reply, Refusal>) -> Result<Result<A, Refusal>, Refusal>
     requires { IsOfKind A.of_kind reply }
-    ensures told { IfOk result (Answers A.as_reply reply) }
-    ensures settled { IfOk result (IsSettled reply) }
+    ensures told { IfOk result (IsToldBy A.as_reply reply) }
+    ensures settled { IfOk result (LeavesNothingOpen reply) }
     ensures ended { IfErr result (λ refusal. (refusal ≡ Memory) ⊎
         ((refusal ≡ Broken) × ((reply ≡ Ok (Refused Broken)) ⊎ (reply ≡ Err Broken)))) }
 {
@@ -128,8 +128,8 @@ pub fn answers<A: Answer>(
     replies: Vec<Result<Reply, Refusal>>,
 ) -> Result<Vec<Result<A, Refusal>>, Refusal>
     requires { All (IsOfKind A.of_kind) replies.items }
-    ensures told { IfOk result (λ told. ForEach (Answers A.as_reply) replies.items told.items) }
-    ensures settled { IfOk result (λ told. ForEach IsSettled replies.items told.items) }
+    ensures told { IfOk result (λ told. ForEach (IsToldBy A.as_reply) replies.items told.items) }
+    ensures settled { IfOk result (λ told. ForEach LeavesNothingOpen replies.items told.items) }
     ensures ended { IfErr result (λ refusal. (refusal ≡ Memory) ⊎ ((refusal ≡ Broken) ×
         (Contains replies.items (Ok (Refused Broken)) ⊎ Contains replies.items (Err Broken)))) }
 {

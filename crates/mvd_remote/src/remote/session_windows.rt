@@ -3,7 +3,7 @@ ghost use Rattle.std.specs.Prelude.{◌≡◌, ◌∷◌, [], IfErr, IfOk, map};
 ghost use Rattle.mvd_dots.specs.declared.refusals.Refusal.TheVariants.{Memory};
 ghost use Rattle.mvd_wire.specs.declared.request.Request.TheVariants.{Bucket, Bye, Get, Hello, Node, Push};
 ghost use Rattle.mvd_remote.specs.LinkWindows.{frames_of};
-ghost use Rattle.mvd_remote.specs.Lines.{AreSpelled};
+ghost use Rattle.mvd_remote.specs.Lines.{HaveFrames};
 
 use super::window::Window;
 use mvd_dots::Refusal;
@@ -16,7 +16,7 @@ impl Window {
     /// The questions for nodes.
     pub fn nodes(alloc: Global, paths: &[Path]) -> Result<Self, Refusal>
         ensures frames { IfOk result (λ window. window ≡ frames_of (map (λ path. Node path) paths.now)) }
-        ensures spelled { IfOk result (λ _. AreSpelled (map (λ path. Node path) paths.now)) }
+        ensures spelled { IfOk result (λ _. HaveFrames (map (λ path. Node path) paths.now)) }
         ensures memory { IfErr result (λ refusal. refusal ≡ Memory) }
     {
         let mut window = Window::new(alloc, paths.len())?;
@@ -29,7 +29,7 @@ impl Window {
     /// The questions for pages of buckets, each after a key.
     pub fn pages(alloc: Global, asked: &[(Path, Option<Key>)]) -> Result<Self, Refusal>
         ensures frames { IfOk result (λ window. window ≡ frames_of (map (λ q. Bucket q.0 q.1) asked.now)) }
-        ensures spelled { IfOk result (λ _. AreSpelled (map (λ q. Bucket q.0 q.1) asked.now)) }
+        ensures spelled { IfOk result (λ _. HaveFrames (map (λ q. Bucket q.0 q.1) asked.now)) }
         ensures memory { IfErr result (λ refusal. refusal ≡ Memory) }
     {
         let mut window = Window::new(alloc, asked.len())?;
@@ -42,7 +42,7 @@ impl Window {
     /// The questions for the states of keys.
     pub fn gets(alloc: Global, keys: &[Key]) -> Result<Self, Refusal>
         ensures frames { IfOk result (λ window. window ≡ frames_of (map (λ key. Get key) keys.now)) }
-        ensures spelled { IfOk result (λ _. AreSpelled (map (λ key. Get key) keys.now)) }
+        ensures spelled { IfOk result (λ _. HaveFrames (map (λ key. Get key) keys.now)) }
         ensures memory { IfErr result (λ refusal. refusal ≡ Memory) }
     {
         let mut window = Window::new(alloc, keys.len())?;
@@ -55,7 +55,7 @@ impl Window {
     /// Pushes.
     pub fn pushes(alloc: Global, pairs: &[(Key, KeyState)]) -> Result<Self, Refusal>
         ensures frames { IfOk result (λ window. window ≡ frames_of (map (λ pair. Push pair.0 pair.1) pairs.now)) }
-        ensures spelled { IfOk result (λ _. AreSpelled (map (λ pair. Push pair.0 pair.1) pairs.now)) }
+        ensures spelled { IfOk result (λ _. HaveFrames (map (λ pair. Push pair.0 pair.1) pairs.now)) }
         ensures memory { IfErr result (λ refusal. refusal ≡ Memory) }
     {
         let mut window = Window::new(alloc, pairs.len())?;

@@ -3,9 +3,10 @@ ghost use Rattle.std.specs.Prelude.{◌≡◌, ◌≢◌, Err, List, ℕ, Result
 ghost use Rattle.std.specs.Prelude.{IfErr, MatchResult, All};
 ghost use Rattle.mvd_dots.specs.declared.refusals.Refusal.TheVariants.{Memory};
 ghost use Rattle.mvd_wire.specs.Codec.{Gives};
-ghost use Rattle.mvd_remote.specs.LinkWindows.{Answered, AsksAll, IsOfKind, RefusesAll, TakesTurn, TakeTurns, TurnBreaks};
+ghost use Rattle.mvd_remote.specs.LinkWindows.{AnswersInTurn, AsksAll, IsOfKind, RefusesAll, AnswersTurn, TakeTurns};
+ghost use Rattle.mvd_remote.specs.LinkWindows.{TurnBreaks};
 ghost use Rattle.mvd_remote.specs.LinkWindows.{and_frame, frames_of};
-ghost use Rattle.mvd_remote.specs.Lines.{AreSpelled, DueTurn, DueTurns, KeepsConfig};
+ghost use Rattle.mvd_remote.specs.Lines.{HaveFrames, DueTurn, DueTurns, KeepsConfig};
 ghost use Rattle.mvd_remote.specs.Lines.{TellsAllTruly, TookTurns, line_of, refused_of};
 ghost use Rattle.mvd_remote.specs.Links.{ReadCause};
 ghost use Rattle.mvd_remote.specs.Remotes.{AsksAllTruly, EndsTruly, link_of, queries};
@@ -80,7 +81,7 @@ impl<L: Line> Remote<L> {
     fn turn(&mut self, none: Option<Refusal>, kind: u8) -> Result<Result<Reply, Refusal>, Refusal>
         requires { refused_of self.old ≡ None }
         ensures told { IfOk result
-            (λ told. TakesTurn kind none told (L.remaining (line_of self.old)) (L.remaining (line_of self.new))) }
+            (λ told. AnswersTurn kind none told (L.remaining (line_of self.old)) (L.remaining (line_of self.new))) }
         ensures of_kind { IfOk result (IsOfKind kind) }
         ensures goes_on { OnOk result (refused_of self.new ≡ None) }
         ensures broke { IfErr result (λ refusal. ReadCause
@@ -141,11 +142,11 @@ impl<L: Line> Remote<L> {
     ) -> Result<Vec<Result<Reply, Refusal>>, Refusal>
         requires { refused_of self.old ≡ None }
         ensures sent { MatchResult result
-            (λ replies. Answered kind window.now replies.items (link_of L.Line self.old) (link_of L.Line self.new))
+            (λ replies. AnswersInTurn kind window.now replies.items (link_of L.Line self.old) (link_of L.Line self.new))
             (RefusesAll kind window.now (link_of L.Line self.old) (link_of L.Line self.new)) }
         ensures of_kind { IfOk result (λ replies. All (IsOfKind kind) replies.items) }
         ensures config { KeepsConfig L.far self.old self.new }
-        ensures truth { (requests : List Request) → window.now ≡ frames_of requests → AreSpelled requests →
+        ensures truth { (requests : List Request) → window.now ≡ frames_of requests → HaveFrames requests →
             EndsTruly L.Line (λ config before told. TellsAllTruly config before requests told.items)
             requests self.old self.new result }
     {
@@ -170,7 +171,7 @@ impl<L: Line> Remote<L> {
             (link_of L.Line self.old) (link_of L.Line self.new))
             (RefusesAll A.of_kind window.now (link_of L.Line self.old) (link_of L.Line self.new)) }
         ensures config { KeepsConfig L.far self.old self.new }
-        ensures truth { (requests : List Request) → window.now ≡ frames_of requests → AreSpelled requests →
+        ensures truth { (requests : List Request) → window.now ≡ frames_of requests → HaveFrames requests →
             AsksAllTruly L.Line (queries requests A.as_reply A.of_kind) self.old self.new result }
     {
         let replies = self.send_all(window, A::kind())?;

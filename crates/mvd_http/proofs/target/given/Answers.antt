@@ -3,7 +3,7 @@ use Rattle.std.proofs.lemmas.Iterator.Splits.{YieldsList-from_slice_split}
 use Rattle.std.proofs.lemmas.Iterator.Consumers.{YieldsList-turn, YieldsList-end}
 use Rattle.std.proofs.lemmas.List.{at_drop_more, at_drop_all, length_push}
 use Rattle.std.specs.Slice.Iter as slice
-use Rattle.mvd_http.specs.Paths.{given as value_of, options_of, or_else, value_among, without}
+use Rattle.mvd_http.specs.Paths.{given as value_of, parameters_of, or_else, value_among, without}
 use Rattle.mvd_http.proofs.target.given.Goals as goal
 
 -- what is read from the options that are left, one step on
@@ -23,9 +23,9 @@ returns-in-Some-without c =
 pub loop-option-preserved : goal.loop-option-preserved
 loop-option-preserved c =
     let t = YieldsList-turn (YieldsList-from_slice_split {s = c.into_iter-option-iterator.result} _ (λ b. b == 38) c.args.query.now (ap slice.split_rest c.into_iter-option-iterator.ensures.into_iter_gives ∙ c.split-option-items.ensures.rest) (ap slice.split_done c.into_iter-option-iterator.ensures.into_iter_gives ∙ c.split-option-items.ensures.done) (ap slice.split_callee c.into_iter-option-iterator.ensures.into_iter_gives ∙ c.split-option-items.ensures.closure) (λ x r q k. search (rules, tests))) c.loop-option.yielded _ c.loop-option.yielded_by _ _ c.in-Some.option c.in-Some.is c.next.ensures.steps in
-    ap (λ n. value_among c.args.name.now (drop n (options_of c.args.query.now))) (length_push c.loop-option.yielded c.in-Some.option) ∙ sym (on _ _ _ _ _ t (sym (ap option_copied c.in_default.is) ∙ c.without.ensures)) ∙ c.loop-option.invariant
+    ap (λ n. value_among c.args.name.now (drop n (parameters_of c.args.query.now))) (length_push c.loop-option.yielded c.in-Some.option) ∙ sym (on _ _ _ _ _ t (sym (ap option_copied c.in_default.is) ∙ c.without.ensures)) ∙ c.loop-option.invariant
 
 pub returns : goal.returns
 returns c =
     let t = YieldsList-end (YieldsList-from_slice_split {s = c.into_iter-option-iterator.result} _ (λ b. b == 38) c.args.query.now (ap slice.split_rest c.into_iter-option-iterator.ensures.into_iter_gives ∙ c.split-option-items.ensures.rest) (ap slice.split_done c.into_iter-option-iterator.ensures.into_iter_gives ∙ c.split-option-items.ensures.done) (ap slice.split_callee c.into_iter-option-iterator.ensures.into_iter_gives ∙ c.split-option-items.ensures.closure) (λ x r q k. search (rules, tests))) c.loop-option.yielded _ c.loop-option.yielded_by _ _ c.in-None.is c.next.ensures.steps in
-    sym (at_drop_all (value_among c.args.name.now) (options_of c.args.query.now) (length c.loop-option.yielded) (omega (arith, t.1))) ∙ c.loop-option.invariant
+    sym (at_drop_all (value_among c.args.name.now) (parameters_of c.args.query.now) (length c.loop-option.yielded) (omega (arith, t.1))) ∙ c.loop-option.invariant

@@ -3,7 +3,7 @@ use Rattle.std.specs.FinMap.{entries}
 use Rattle.sqlite.specs.Effect.{Database}
 use Rattle.sqlite.specs.Held.{state}
 use Rattle.sqlite.specs.State.{State}
-use Rattle.mvd_records.specs.Pairs.{entries_of}
+use Rattle.mvd_records.specs.Pairs.{pair_entries}
 use Rattle.mvd_records.specs.Records.{IsSound, HoldsRecords, AreKeys, states_at}
 use Rattle.mvd_records.proofs.Checked.{reads_then, if_err, on_then}
 use Rattle.mvd_records.proofs.loading.load.Given.{Over}
@@ -31,7 +31,7 @@ returns-clause-reads g c =
 
 pub returns-clause-entries : goal.returns-clause-entries
 returns-clause-entries g c marked site it holds =
-    subst (λ (d : Database). IfOk c.read_table.result (λ pairs. entries_of pairs.items ≡ entries (states_at c.args.table d))) (same g c marked site it holds) (c.read_table.ensures.entries marked site it (held g c marked site it holds))
+    subst (λ (d : Database). IfOk c.read_table.result (λ pairs. pair_entries pairs.items ≡ entries (states_at c.args.table d))) (same g c marked site it holds) (c.read_table.ensures.entries marked site it (held g c marked site it holds))
 
 pub returns-clause-whole : goal.returns-clause-whole
 returns-clause-whole g c marked site it holds =

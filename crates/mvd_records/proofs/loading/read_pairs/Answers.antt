@@ -9,7 +9,7 @@ use Rattle.sqlite.proofs.StateLemmas.{survives_then}
 use Rattle.sqlite.proofs.Callers.{unchanged_then}
 use Rattle.sqlite.proofs.InsideLemmas.{unchanged_keeps, keeps_then}
 use Rattle.mvd_records.specs.Records.{IsSound}
-use Rattle.mvd_records.specs.States.{shown_entry}
+use Rattle.mvd_records.specs.States.{shown_row_entry}
 use Rattle.mvd_records.proofs.Calls.{not_shown, sound_before}
 use Rattle.mvd_records.proofs.Streams.{fault_keeps, begun_open, shown_since, begins_since, not_pairs, one_more, all_form}
 use Rattle.mvd_records.proofs.loading.read_pairs.Given.{Over}
@@ -105,7 +105,7 @@ rows-preserved g c =
           let some : row_if c.advance.new.self.has_row now ≡ Some c.in-Some.row.now = sym c.get.ensures ∙ ap option_copied c.in-Some.is in
           let given = subst (Advances g.S.Store before now) some (moved.ok late) c.args.sql.now [] was.0 was.1 in
           (was.0 ++ c.in-Some.row.now ∷ [], given, unchanged_then old (state g.S.Store before) (state g.S.Store now) was.2 (moved.same late), pushed.pushed ∙ (rw was.3 (sym (one_more was.0 c.in-Some.row.now)))));
-      form = rw pushed.pushed (all_form _ (shown_entry c.in-Some.row.now) c.rows.invariant.form pushed.form);
+      form = rw pushed.pushed (all_form _ (shown_row_entry c.in-Some.row.now) c.rows.invariant.form pushed.form);
       rising = pushed.rising c.rows.invariant.rising;
     }
 

@@ -7,8 +7,8 @@ use Rattle.sqlite.specs.Given.{HasGiven, IsPlain}
 use Rattle.sqlite.specs.Listing.{understood}
 use Rattle.mvd_keys.specs.Key.{is_key}
 use Rattle.mvd_records.specs.Records.{IsSound}
-use Rattle.mvd_records.specs.States.{shown_entry}
-use Rattle.mvd_records.specs.Pairs.{entries_of, rises}
+use Rattle.mvd_records.specs.States.{shown_row_entry}
+use Rattle.mvd_records.specs.Pairs.{pair_entries, pairs_rise}
 use Rattle.mvd_records.proofs.loading.read_pairs.Given as goal
 
 abbrev pub invariant-rows : goal.invariant-rows
@@ -19,7 +19,7 @@ invariant-rows g l =
       lender : l.rows.conn.ghost_name ≡ l.initial.rows.conn.ghost_name;
       before : IsSound now → IsSound old;
       survives : Survives old now (CommitsShowing l.sql [] old);
-      given : IsPlain (understood old.now.schema l.sql) → HasCleanDisk now → (rows : List Row) × HasGiven g.S.Store l.sql [] l.rows.conn.now rows × IsUnchanged old now × (entries_of l.pairs.items ≡ map shown_entry rows);
-      form : AllByRecursion (λ e. is_key e.0 ≡ true) (entries_of l.pairs.items);
-      rising : rises (entries_of l.pairs.items);
+      given : IsPlain (understood old.now.schema l.sql) → HasCleanDisk now → (rows : List Row) × HasGiven g.S.Store l.sql [] l.rows.conn.now rows × IsUnchanged old now × (pair_entries l.pairs.items ≡ map shown_row_entry rows);
+      form : AllByRecursion (λ e. is_key e.0 ≡ true) (pair_entries l.pairs.items);
+      rising : pairs_rise (pair_entries l.pairs.items);
     }

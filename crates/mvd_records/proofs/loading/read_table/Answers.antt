@@ -4,8 +4,8 @@ use Rattle.sqlite.specs.Held.{state}
 use Rattle.sqlite.specs.Given.{IsPlain}
 use Rattle.sqlite.specs.Listing.{understood}
 use Rattle.mvd_keys.specs.Key.{is_key}
-use Rattle.mvd_records.specs.Pairs.{rises}
-use Rattle.mvd_records.specs.Records.{IsSettled, IsSound, HoldsRecords}
+use Rattle.mvd_records.specs.Pairs.{pairs_rise}
+use Rattle.mvd_records.specs.Records.{IsQuiescent, IsSound, HoldsRecords}
 use Rattle.mvd_records.proofs.Texts.{load_text, load_plain}
 use Rattle.mvd_records.proofs.Checked.{only_reads, reads_nothing, plain_at, if_both, if_err, on_ok}
 use Rattle.mvd_records.proofs.Loaded.{loaded_table, keys_table, bad_table}
@@ -14,7 +14,7 @@ use Rattle.mvd_records.proofs.loading.read_table.Goals as goal
 use Rattle.mvd_records.proofs.loading.read_table.Goals.{in-Version1, in-Version2}
 
 module _ (g : Over) (c : goal.After-read_pairs g) where
-  settled : IsSettled (state g.S.Store c.args.conn.now)
+  settled : IsQuiescent (state g.S.Store c.args.conn.now)
   settled = c.is_settled.ensures.settled c.if-not-is_settled.false
 
   -- the text is that of the table
@@ -33,7 +33,7 @@ returns-then-not-is_settled-clause-reads g c = reads_nothing (state g.S.Store c.
 
 pub returns-clause-entries : goal.returns-clause-entries
 returns-clause-entries g c version site it holds =
-    if_both c.read_pairs.result _ _ _ (λ pairs shown up. shown.2 ∙ sym (loaded_table c.args.table version site _ (settled g c) holds _ shown.0 shown.1 (subst rises shown.2 up)))
+    if_both c.read_pairs.result _ _ _ (λ pairs shown up. shown.2 ∙ sym (loaded_table c.args.table version site _ (settled g c) holds _ shown.0 shown.1 (subst pairs_rise shown.2 up)))
     ((rw (text_is g c) at c.read_pairs.ensures.shown) it.clean (plain g c version site it holds)) c.read_pairs.ensures.rising
 
 pub returns-clause-keys : goal.returns-clause-keys

@@ -1,11 +1,11 @@
 use Rattle.sqlite.specs.Held.{state}
-use Rattle.mvd_records.specs.Records.{IsSettled}
+use Rattle.mvd_records.specs.Records.{IsQuiescent}
 use Rattle.mvd_records.proofs.Texts.{any_both_text, any_both_plain}
 use Rattle.mvd_records.proofs.Checked.{only_reads, reads_nothing, tells_both, if_ok}
 use Rattle.mvd_records.proofs.statements.has_both.Given.{Over}
 use Rattle.mvd_records.proofs.statements.has_both.Goals as goal
 
-settled : (g : Over) (c : goal.After-shows_any g) → IsSettled (state g.S.Store c.args.conn.now)
+settled : (g : Over) (c : goal.After-shows_any g) → IsQuiescent (state g.S.Store c.args.conn.now)
 settled g c = c.is_settled.ensures.settled c.if-not-is_settled.false
 
 pub returns-clause-reads : goal.returns-clause-reads

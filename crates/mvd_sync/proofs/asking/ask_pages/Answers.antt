@@ -3,7 +3,7 @@ use Rattle.mvd_site.specs.Answer.{digests}
 use Rattle.mvd_peer.specs.PeerSides.{side_of}
 use Rattle.mvd_peer.specs.Sides.{HasAnswered}
 use Rattle.mvd_peer.specs.Windows.{for_pages}
-use Rattle.mvd_sync.specs.Answers.{IsPage, IsPageOf}
+use Rattle.mvd_sync.specs.Answers.{IsPage, IsBucketPage}
 use Rattle.mvd_sync.proofs.Answering.{IsListingOf, ReadOrEnded, page_apart, read_told}
 use Rattle.mvd_sync.proofs.ToldPages.{Told, listing_right, not_bad}
 use Rattle.mvd_sync.proofs.asking.ask_pages.Given.{Over}
@@ -11,13 +11,13 @@ use Rattle.mvd_sync.proofs.asking.ask_pages.Goals as goal
 
 both : (g : Over) (c : goal.After-read_all g) → ReadOrEnded (side_of g.P.Peer) c.args.asked.now c.args.left.now c.take-taken.new.left c.args.side.now c.pages-told.new.self
     (λ _ page. IsPage None page.0 page.1 × (length page.0 < 2 ^ 64) × HasAnswered g.P.Peer.follows g.P.Peer.can_answer c.args.side.now c.pages-told.new.self)
-    (λ q page. IsPageOf (digests (g.P.Peer.states c.args.side.now)) q.0 q.1 page.0 page.1) c.read_all.result
+    (λ q page. IsBucketPage (digests (g.P.Peer.states c.args.side.now)) q.0 q.1 page.0 page.1) c.read_all.result
 both g c =
     let states = g.P.Peer.states c.args.side.now in
     read_told (side_of g.P.Peer) c.args.asked.now c.args.left.now c.take-taken.new.left c.take-taken.result c.args.side.now c.pages-told.new.self c.take-taken.ensures
     (for_pages (g.P.Peer.is_faithful c.args.side.now) states) (λ q. length q.0 ≡ 3) IsListingOf (λ (page : Told). IsPage None page.0.items page.1 → ⊥)
     (λ _ page. IsPage None page.0 page.1 × (length page.0 < 2 ^ 64) × HasAnswered g.P.Peer.follows g.P.Peer.can_answer c.args.side.now c.pages-told.new.self)
-    (λ q page. IsPageOf (digests (g.P.Peer.states c.args.side.now)) q.0 q.1 page.0 page.1)
+    (λ q page. IsBucketPage (digests (g.P.Peer.states c.args.side.now)) q.0 q.1 page.0 page.1)
     (λ _ _ _ _ answered is. (is.1, is.2, answered)) (λ q page listing _. listing_right (digests states) q page listing) (λ q page _. not_bad (digests states) q page) (λ q refusal. page_apart q.0 refusal)
     (λ t. t) (λ t. let k = c.pages-told.ensures.kept t in record { still = k.0; states = k.1 }) c.requires
     c.pages-told.result c.pages-told.ensures.told c.pages-told.ensures.ended c.pages-told.ensures.not_of_question c.read_all.result c.read_all.ensures

@@ -5,7 +5,7 @@ use Rattle.std.proofs.lemmas.List.Elements.{All-append, All-nil}
 use Rattle.mvd_dots.specs.declared.refusals.Refusal.{Refusal}
 use Rattle.mvd_keys.specs.State.{State}
 use Rattle.mvd_keys.specs.Writes.{Key}
-use Rattle.mvd_sync.specs.Meetings.{pair_of}
+use Rattle.mvd_sync.specs.Meetings.{pushed_pair}
 use Rattle.mvd_sync.specs.Questions.{IsOfKey}
 use Rattle.mvd_peer.specs.PeerSides.{side_of}
 use Rattle.mvd_peer.proofs.ManyPushes.{open_not_of_key}
@@ -18,7 +18,7 @@ use Rattle.mvd_sync.proofs.exchange.carry.Goals as goal
 pub returns-in-Err-clause-ended : goal.returns-in-Err-clause-ended
 returns-in-Err-clause-ended g c =
     let s = side_of g.S.Peer in
-    nothing_taken s (filter_map (pair_of c.args.name) c.args.meetings.items) c.args.left.now c.args.side.now c.in-Err.refusal (g.met.S.Peer.follows_self c.args.side.now) c.in-Err.ensures.memory
+    nothing_taken s (filter_map (pushed_pair c.args.name) c.args.meetings.items) c.args.left.now c.args.side.now c.in-Err.refusal (g.met.S.Peer.follows_self c.args.side.now) c.in-Err.ensures.memory
 
 pub loop-turn-init : goal.loop-turn-init
 loop-turn-init g c =
@@ -26,7 +26,7 @@ loop-turn-init g c =
     let begins = c.in-Ok.ensures.begins in
     let none : length c.in-Ok.turn.told.items ≡ 0 = ap length begins.fresh in
     record {
-      front = front_begins s (filter_map (pair_of c.args.name) c.args.meetings.items) c.in-Ok.turn.pairs.items c.in-Ok.turn.told.items c.args.left.now c.args.side.now (g.met.S.Peer.follows_self c.args.side.now) begins.takes begins.fresh;
+      front = front_begins s (filter_map (pushed_pair c.args.name) c.args.meetings.items) c.in-Ok.turn.pairs.items c.in-Ok.turn.told.items c.args.left.now c.args.side.now (g.met.S.Peer.follows_self c.args.side.now) begins.takes begins.fresh;
       of_key = subst (λ (ts : List (Result (Unit {0}) Refusal)). All IsOfKey ts) (sym begins.fresh) (All-nil IsOfKey);
       side = begins.of_side;
       meetings = begins.keys;
@@ -38,7 +38,7 @@ loop-turn-init g c =
 pub returns-in_err-answers-clause-ended : goal.returns-in_err-answers-clause-ended
 returns-in_err-answers-clause-ended g c =
     let s = side_of g.S.Peer in
-    let whole = filter_map (pair_of c.args.name) c.args.meetings.items in
+    let whole = filter_map (pushed_pair c.args.name) c.args.meetings.items in
     let rest = c.rest-rest.result.now in
     let low : c.take-taken.result ≤ length rest = omega arith in
     let front = subst (λ (xs : List (Key × State)). FrontPushed s whole xs c.loop-turn.turn.told.items c.args.left.now c.loop-turn.left c.args.side.now c.loop-turn.side) (sym c.rest-rest.ensures) c.loop-turn.invariant.front in
@@ -48,13 +48,13 @@ returns-in_err-answers-clause-ended g c =
 
 pub returns-in_err-answers-clause-unasked : goal.returns-in_err-answers-clause-unasked
 returns-in_err-answers-clause-unasked g c =
-    let never : filter_map (pair_of c.args.name) c.args.meetings.items ≡ [] → c.push_all.new.self ≡ c.args.side.now = λ none. absurd (some_pairs c.has_more.result (filter_map (pair_of c.args.name) c.args.meetings.items) c.loop-turn.turn.pairs.items c.loop-turn.turn.told.items c.has_more.ensures c.loop-turn-test.true c.loop-turn.invariant.pairs none) in
-    if_err_never _ (filter_map (pair_of c.args.name) c.args.meetings.items ≡ [] → c.push_all.new.self ≡ c.args.side.now) never
+    let never : filter_map (pushed_pair c.args.name) c.args.meetings.items ≡ [] → c.push_all.new.self ≡ c.args.side.now = λ none. absurd (some_pairs c.has_more.result (filter_map (pushed_pair c.args.name) c.args.meetings.items) c.loop-turn.turn.pairs.items c.loop-turn.turn.told.items c.has_more.ensures c.loop-turn-test.true c.loop-turn.invariant.pairs none) in
+    if_err_never _ (filter_map (pushed_pair c.args.name) c.args.meetings.items ≡ [] → c.push_all.new.self ≡ c.args.side.now) never
 
 pub returns-in_err-hear-clause-ended : goal.returns-in_err-hear-clause-ended
 returns-in_err-hear-clause-ended g c =
     let s = side_of g.S.Peer in
-    let whole = filter_map (pair_of c.args.name) c.args.meetings.items in
+    let whole = filter_map (pushed_pair c.args.name) c.args.meetings.items in
     let rest = c.rest-rest.result.now in
     let low : c.take-taken.result ≤ length rest = omega arith in
     let front = subst (λ (xs : List (Key × State)). FrontPushed s whole xs c.loop-turn.turn.told.items c.args.left.now c.loop-turn.left c.args.side.now c.loop-turn.side) (sym c.rest-rest.ensures) c.loop-turn.invariant.front in
@@ -64,13 +64,13 @@ returns-in_err-hear-clause-ended g c =
 
 pub returns-in_err-hear-clause-unasked : goal.returns-in_err-hear-clause-unasked
 returns-in_err-hear-clause-unasked g c =
-    let never : filter_map (pair_of c.args.name) c.args.meetings.items ≡ [] → c.push_all.new.self ≡ c.args.side.now = λ none. absurd (some_pairs c.has_more.result (filter_map (pair_of c.args.name) c.args.meetings.items) c.loop-turn.turn.pairs.items c.loop-turn.turn.told.items c.has_more.ensures c.loop-turn-test.true c.loop-turn.invariant.pairs none) in
-    if_err_never _ (filter_map (pair_of c.args.name) c.args.meetings.items ≡ [] → c.push_all.new.self ≡ c.args.side.now) never
+    let never : filter_map (pushed_pair c.args.name) c.args.meetings.items ≡ [] → c.push_all.new.self ≡ c.args.side.now = λ none. absurd (some_pairs c.has_more.result (filter_map (pushed_pair c.args.name) c.args.meetings.items) c.loop-turn.turn.pairs.items c.loop-turn.turn.told.items c.has_more.ensures c.loop-turn-test.true c.loop-turn.invariant.pairs none) in
+    if_err_never _ (filter_map (pushed_pair c.args.name) c.args.meetings.items ≡ [] → c.push_all.new.self ≡ c.args.side.now) never
 
 pub returns-in_err-are_all-clause-ended : goal.returns-in_err-are_all-clause-ended
 returns-in_err-are_all-clause-ended g c =
     let s = side_of g.S.Peer in
-    let whole = filter_map (pair_of c.args.name) c.args.meetings.items in
+    let whole = filter_map (pushed_pair c.args.name) c.args.meetings.items in
     let rest = c.rest-rest.result.now in
     let low : c.take-taken.result ≤ length rest = omega arith in
     let before = subst (λ (xs : List (Key × State)). FrontPushed s whole xs c.loop-turn.turn.told.items c.args.left.now c.loop-turn.left c.args.side.now c.loop-turn.side) (sym c.rest-rest.ensures) c.loop-turn.invariant.front in
@@ -83,13 +83,13 @@ returns-in_err-are_all-clause-ended g c =
 
 pub returns-in_err-are_all-clause-unasked : goal.returns-in_err-are_all-clause-unasked
 returns-in_err-are_all-clause-unasked g c =
-    let never : filter_map (pair_of c.args.name) c.args.meetings.items ≡ [] → c.push_all.new.self ≡ c.args.side.now = λ none. absurd (some_pairs c.has_more.result (filter_map (pair_of c.args.name) c.args.meetings.items) c.loop-turn.turn.pairs.items c.loop-turn.turn.told.items c.has_more.ensures c.loop-turn-test.true c.loop-turn.invariant.pairs none) in
-    if_err_never _ (filter_map (pair_of c.args.name) c.args.meetings.items ≡ [] → c.push_all.new.self ≡ c.args.side.now) never
+    let never : filter_map (pushed_pair c.args.name) c.args.meetings.items ≡ [] → c.push_all.new.self ≡ c.args.side.now = λ none. absurd (some_pairs c.has_more.result (filter_map (pushed_pair c.args.name) c.args.meetings.items) c.loop-turn.turn.pairs.items c.loop-turn.turn.told.items c.has_more.ensures c.loop-turn-test.true c.loop-turn.invariant.pairs none) in
+    if_err_never _ (filter_map (pushed_pair c.args.name) c.args.meetings.items ≡ [] → c.push_all.new.self ≡ c.args.side.now) never
 
 pub loop-turn-preserved : goal.loop-turn-preserved
 loop-turn-preserved g c =
     let s = side_of g.S.Peer in
-    let whole = filter_map (pair_of c.args.name) c.args.meetings.items in
+    let whole = filter_map (pushed_pair c.args.name) c.args.meetings.items in
     let rest = c.rest-rest.result.now in
     let told = c.loop-turn.turn.told.items in
     let answers = c.in_ok-answers.answers.items in
@@ -136,7 +136,7 @@ loop-turn-smaller g c =
 pub returns-clause-told : goal.returns-clause-told
 returns-clause-told g c =
     let s = side_of g.S.Peer in
-    let whole = filter_map (pair_of c.args.name) c.args.meetings.items in
+    let whole = filter_map (pushed_pair c.args.name) c.args.meetings.items in
     let turn = c.loop-turn.turn in
     let none = none_untold c.has_more.result turn.pairs.items turn.told.items c.has_more.ensures c.loop-turn-test.false in
     let front = subst (λ (xs : List (Key × State)). FrontPushed s whole xs turn.told.items c.args.left.now c.loop-turn.left c.args.side.now c.loop-turn.side) none c.loop-turn.invariant.front in
@@ -146,7 +146,7 @@ returns-clause-told g c =
 pub returns-clause-ended : goal.returns-clause-ended
 returns-clause-ended g c =
     let s = side_of g.S.Peer in
-    let whole = filter_map (pair_of c.args.name) c.args.meetings.items in
+    let whole = filter_map (pushed_pair c.args.name) c.args.meetings.items in
     let turn = c.loop-turn.turn in
     let none = none_untold c.has_more.result turn.pairs.items turn.told.items c.has_more.ensures c.loop-turn-test.false in
     let front = subst (λ (xs : List (Key × State)). FrontPushed s whole xs turn.told.items c.args.left.now c.loop-turn.left c.args.side.now c.loop-turn.side) none c.loop-turn.invariant.front in

@@ -1,7 +1,7 @@
 use Rattle.std.proofs.Common.{◌≡◌, ◌≤◌, ◌-◌, [], length, map, filter_map}
 use Rattle.std.specs.Prelude.{All}
 use Rattle.mvd_peer.specs.PeerSides.{side_of}
-use Rattle.mvd_sync.specs.Meetings.{pair_of, taken_from}
+use Rattle.mvd_sync.specs.Meetings.{pushed_pair, taken_from}
 use Rattle.mvd_sync.specs.Questions.{IsOfKey}
 use Rattle.mvd_sync.specs.OneTurn.{untold}
 use Rattle.mvd_sync.proofs.Pushing.{FrontPushed}
@@ -10,13 +10,13 @@ use Rattle.mvd_sync.proofs.exchange.carry.Given as goal
 -- the pairs that were told were pushed, and each answer is of its key
 abbrev pub invariant-loop-turn : goal.invariant-loop-turn
 invariant-loop-turn g l = record {
-  front : FrontPushed (side_of g.S.Peer) (filter_map (pair_of l.fn.name) l.fn.meetings.items) (untold l.turn) l.turn.told.items l.fn.left l.left l.fn.side l.side;
+  front : FrontPushed (side_of g.S.Peer) (filter_map (pushed_pair l.fn.name) l.fn.meetings.items) (untold l.turn) l.turn.told.items l.fn.left l.left l.fn.side l.side;
   of_key : All IsOfKey l.turn.told.items;
   side : l.turn.side ≡ l.fn.name;
   meetings : l.turn.meetings.items ≡ map (taken_from l.fn.name) l.fn.meetings.items;
-  pairs : l.turn.pairs.items ≡ filter_map (pair_of l.fn.name) l.fn.meetings.items;
+  pairs : l.turn.pairs.items ≡ filter_map (pushed_pair l.fn.name) l.fn.meetings.items;
   fits : length l.turn.told.items ≤ length l.turn.pairs.items;
-  alone : filter_map (pair_of l.fn.name) l.fn.meetings.items ≡ [] → l.side ≡ l.fn.side;
+  alone : filter_map (pushed_pair l.fn.name) l.fn.meetings.items ≡ [] → l.side ≡ l.fn.side;
 }
 
 abbrev pub decreases-loop-turn : goal.decreases-loop-turn

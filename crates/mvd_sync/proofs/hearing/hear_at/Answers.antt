@@ -1,12 +1,12 @@
 use Rattle.std.proofs.Common.{ℕ, Option, refl, subst, sym}
-use Rattle.mvd_sync.specs.Machines.{Asks, HearsAt, Met, ReadBoth, Stands}
+use Rattle.mvd_sync.specs.Machines.{StageAsks, HearsAt, Met, ReadBoth, StageStands}
 use Rattle.mvd_sync.specs.Tellings.{IsRead, IsStateOf, never, states_told}
 use Rattle.mvd_sync.specs.declared.stage.Stage.{Stage}
 use Rattle.mvd_sync.proofs.Machined.{asks_short}
 use Rattle.mvd_sync.proofs.hearing.hear_at.Goals as goal
 
 pub hear_nodes-requires-clause-short : goal.hear_nodes-requires-clause-short
-hear_nodes-requires-clause-short c = asks_short c.in-Descends.descent (subst Asks c.in-Descends.is c.requires.asks) (subst Stands c.in-Descends.is c.requires.stands)
+hear_nodes-requires-clause-short c = asks_short c.in-Descends.descent (subst StageAsks c.in-Descends.is c.requires.asks) (subst StageStands c.in-Descends.is c.requires.stands)
 
 pub returns-in-Descends : goal.returns-in-Descends
 returns-in-Descends c = subst (λ (s : Stage). HearsAt c.args.exchange.now s c.args.shares c.args.answers c.args.exchange.now c.hear_nodes.result) (sym c.in-Descends.is) (refl, c.hear_nodes.ensures)

@@ -1,7 +1,7 @@
 use Rattle.std.proofs.Common.{true≢false, sym, subst}
 use Rattle.std.specs.Prelude.{unwrap_or}
 use Rattle.std.specs.Option.{option_copied}
-use Rattle.mvd_dots.specs.Context.{Holds, IsEntryAt}
+use Rattle.mvd_dots.specs.Context.{HoldsDot, IsEntryAt}
 use Rattle.mvd_keys.specs.State.{empty_state}
 use Rattle.mvd_sync.proofs.Unseen.{none_unseen, unseen_back, unseen_there}
 use Rattle.mvd_sync.proofs.old.has_other.Goals as goal
@@ -10,7 +10,7 @@ pub returns-in-None : goal.returns-in-None
 returns-in-None c = (
   λ never. absurd (true≢false (sym never)),
   λ unseen. absurd (none_unseen c.args.site (unwrap_or (option_copied c.args.mine) empty_state) c.args.theirs.now
-      (λ n h. c.in-None.ensures.missing n (subst (λ s. Holds s c.args.site n) (sym c.context.ensures.same) h)) unseen),
+      (λ n h. c.in-None.ensures.missing n (subst (λ s. HoldsDot s c.args.site n) (sym c.context.ensures.same) h)) unseen),
 )
 
 pub returns-in-Some : goal.returns-in-Some

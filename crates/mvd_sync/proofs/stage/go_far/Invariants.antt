@@ -1,4 +1,4 @@
-use Rattle.mvd_sync.specs.Machines.{HasRoom, IsQuiet, Went}
+use Rattle.mvd_sync.specs.Machines.{HasRoomLeft, IsQuiet, StageWent}
 use Rattle.mvd_sync.proofs.Machined.{size_at}
 use Rattle.mvd_sync.proofs.stage.go_far.Given as goal
 
@@ -7,6 +7,6 @@ decreases-loop-alloc l = size_at l.stage
 
 abbrev pub invariant-loop-alloc : goal.invariant-loop-alloc
 invariant-loop-alloc l = record {
-  went : Went l.fn.exchange l.fn.stage l.exchange l.stage;
-  room : IsQuiet l.stage → HasRoom l.exchange l.stage;
+  went : StageWent l.fn.exchange l.fn.stage l.exchange l.stage;
+  room : IsQuiet l.stage → HasRoomLeft l.exchange l.stage;
 }

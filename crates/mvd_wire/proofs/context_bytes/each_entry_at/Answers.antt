@@ -2,15 +2,15 @@ use Rattle.std.proofs.Common.{◌≡◌, ◌∙◌, ◌-◌, ℕ, List, ap, arit
 use Rattle.std.proofs.lemmas.Result.{err_from_is_err_and}
 use Rattle.std.specs.FinSet as set
 use Rattle.mvd_dots.specs.Entry.{EntryValue}
-use Rattle.mvd_dots.specs.Context.{DotSet, Holds, entry_dots}
+use Rattle.mvd_dots.specs.Context.{DotSet, HoldsDot, entry_dots}
 use Rattle.mvd_dots.proofs.Sets.{empty_holds}
 use Rattle.mvd_wire.specs.Codec.{read_each}
 use Rattle.mvd_wire.specs.Codecs.{entry, layout_of, dots_read}
 use Rattle.mvd_wire.proofs.Entries.{dots_start, dots_go_on, dots_end, dots_done, sites_after}
 use Rattle.mvd_wire.proofs.context_bytes.each_entry_at.Goals as goal
 
-none_in : (dots : DotSet) → dots ≡ set.empty → (site n : ℕ) → Holds dots site n → ⊥
-none_in dots e site n there = empty_holds site n (subst (λ (s : DotSet). Holds s site n) e there)
+none_in : (dots : DotSet) → dots ≡ set.empty → (site n : ℕ) → HoldsDot dots site n → ⊥
+none_in dots e site n there = empty_holds site n (subst (λ (s : DotSet). HoldsDot s site n) e there)
 
 pub loop-init : goal.loop-init
 loop-init c =

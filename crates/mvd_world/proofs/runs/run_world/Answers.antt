@@ -1,7 +1,7 @@
 use Rattle.std.proofs.Common.{[], ◌∷◌, ◌++◌, take, sym, ap, ◌∙◌, subst, subst₂}
 use Rattle.std.specs.Prelude.{⊤}
 use Rattle.std.proofs.lemmas.List.{take_all, take_more}
-use Rattle.mvd_world.specs.Machine.{HaveOwnDots, OnePutPerDot, Setting, events_of, setting_of}
+use Rattle.mvd_world.specs.Machine.{HaveOwnDots, OnePutPerDot, Setting, world_events, setting_of}
 use Rattle.mvd_world.specs.Worlds.{AlikeWhereSame, IsWorld, StandForKnown}
 use Rattle.mvd_world.proofs.Chained.{SoFar, alike, at_first, leads_to, one_more, stand}
 use Rattle.mvd_world.proofs.Happening.{own_dots_of_steps}
@@ -31,7 +31,7 @@ returns-clause-one_put c = leads_to (setting_of c.args.count c.args.max_keys c.a
     (subst (λ l. SoFar (setting_of c.args.count c.args.max_keys c.args.defs) l c.loop-step.outcomes.items c.loop-step.world) (take_all c.loop-step.step-index c.args.steps.now c.loop-step-test.false) c.loop-step.invariant) (λ end (is : IsWorld (setting_of c.args.count c.args.max_keys c.args.defs) c.loop-step.world end). is.sound.one_put)
 
 pub returns-clause-dots : goal.returns-clause-dots
-returns-clause-dots c = subst (λ l. HaveOwnDots (events_of l c.loop-step.outcomes.items)) (take_all c.loop-step.step-index c.args.steps.now c.loop-step-test.false)
+returns-clause-dots c = subst (λ l. HaveOwnDots (world_events l c.loop-step.outcomes.items)) (take_all c.loop-step.step-index c.args.steps.now c.loop-step-test.false)
     (own_dots_of_steps (setting_of c.args.count c.args.max_keys c.args.defs) (take c.loop-step.step-index c.args.steps.now) c.loop-step.outcomes.items c.loop-step.invariant.end c.loop-step.invariant.runs)
 
 pub returns-clause-stand : goal.returns-clause-stand

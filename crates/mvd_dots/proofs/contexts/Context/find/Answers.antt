@@ -1,6 +1,6 @@
 use Rattle.std.proofs.Common.{arith, ap, sym, ◌∙◌, subst, ◌≡◌, ◌<◌, ◌≤◌, length}
 use Rattle.std.specs.List.{AllWithin}
-use Rattle.mvd_dots.specs.Context.{Holds, IsEntryAt, set_of}
+use Rattle.mvd_dots.specs.Context.{HoldsDot, IsEntryAt, set_of}
 use Rattle.mvd_dots.proofs.Canonical.{in_range}
 use Rattle.mvd_dots.proofs.EntryLists.{found_entry, missing_read, missing_past}
 use Rattle.mvd_dots.proofs.contexts.Context.find.Goals as goal
@@ -19,7 +19,7 @@ returns-clause-missing c n holds =
     let es = c.self.inside.entries.items in
     let below : AllWithin (λ v. v.site < c.args.site) es 0 c.place-i.result = subst (λ xs. AllWithin (λ v. v.site < c.args.site) xs 0 c.place-i.result) c.deref.ensures.value c.place-i.ensures.below in
     let above : AllWithin (λ v. c.args.site ≤ v.site) es c.place-i.result (length es) = subst (λ xs. AllWithin (λ v. c.args.site ≤ v.site) xs c.place-i.result (length xs)) c.deref.ensures.value c.place-i.ensures.above in
-    let held : Holds (set_of es) c.args.site n = subst (λ s. Holds s c.args.site n) (sym c.self.view_is) holds in
+    let held : HoldsDot (set_of es) c.args.site n = subst (λ s. HoldsDot s c.args.site n) (sym c.self.view_is) holds in
     elim c.if-i-len.branch [
       | then-i-len+else-entry-site w ↦ missing_read es c.place-i.result c.args.site w.index-entry.result.now c.self.invariant below above (omega (arith, w.if-i-len.true, c.len.ensures, c.self.inside.entries.ok.0)) w.index-entry.ensures (λ e. w.if-entry-site.false (ap (λ v. v.site) w.entry.view_is ∙ e)) n held
       | else-i-len w ↦ missing_past es c.place-i.result c.args.site c.self.invariant below above (omega (arith, w.if-i-len.false, c.len.ensures, c.self.inside.entries.ok.0)) n held

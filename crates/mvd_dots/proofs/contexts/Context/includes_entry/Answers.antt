@@ -1,5 +1,5 @@
 use Rattle.std.proofs.Common.{◌≡◌, sym, ap, subst, ◌∙◌, true≢false}
-use Rattle.mvd_dots.specs.Context.{Holds, IsEntryAt}
+use Rattle.mvd_dots.specs.Context.{HoldsDot, IsEntryAt}
 use Rattle.mvd_dots.proofs.Including.{entry_here, entry_gone}
 use Rattle.mvd_dots.proofs.contexts.Context.includes_entry.Goals as goal
 
@@ -15,5 +15,5 @@ returns-in-Some c =
 pub returns-in-None : goal.returns-in-None
 returns-in-None c = (
   λ h. absurd (true≢false (sym h)),
-  λ is. absurd (entry_gone c.args.self.now c.args.entry.now c.requires (λ n h. c.in-None.ensures.missing n (subst (λ site. Holds c.args.self.now site n) (sym (ap (λ v. v.site) c.entry.view_is)) h)) is),
+  λ is. absurd (entry_gone c.args.self.now c.args.entry.now c.requires (λ n h. c.in-None.ensures.missing n (subst (λ site. HoldsDot c.args.self.now site n) (sym (ap (λ v. v.site) c.entry.view_is)) h)) is),
 )

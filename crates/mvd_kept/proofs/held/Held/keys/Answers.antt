@@ -5,7 +5,7 @@ use Rattle.std.specs.BTreeMap.Range.{entries_between}
 use Rattle.std.specs.declared.ops.Bound.TheVariants.{Unbounded}
 use Rattle.mvd_keys.specs.Key.{key_cmp}
 use Rattle.mvd_kept.specs.Held.{AreHeld}
-use Rattle.mvd_kept.specs.Walk.{first_of, start_of, while_begins}
+use Rattle.mvd_kept.specs.Walk.{first_of, walk_start, while_begins}
 use Rattle.mvd_rows.proofs.Grouped.{same_ok}
 use Rattle.mvd_rows.proofs.Paging.{page_ends, page_full}
 use Rattle.mvd_kept.proofs.Walked.{as_many, keys_page, more_left, one_more, walk_begins, walk_beyond, walk_countable, walk_ends, walk_more, walk_rest}
@@ -16,9 +16,9 @@ pub loop-taken-init : goal.loop-taken-init
 loop-taken-init c =
     let prefix = c.args.prefix.now in
     let after = option_copied c.args.after in
-    let rest : c.walk_from-walk.result.rest ≡ entries_between key_cmp (start_of (first_of prefix after) after) Unbounded (entries c.args.self.now) =
+    let rest : c.walk_from-walk.result.rest ≡ entries_between key_cmp (walk_start (first_of prefix after) after) Unbounded (entries c.args.self.now) =
     walk_begins prefix after c.self.inside.states.entries c.walk_from-walk.result.rest c.args.self.now _ c.walk_from-walk.ensures.ordered c.self.view_is
-    (c.start.ensures ∙ ap (λ f. start_of f after) (sym (same_ok _ _ c.in_ok-first.ensures))) c.walk_from-walk.ensures.rest in
+    (c.start.ensures ∙ ap (λ f. walk_start f after) (sym (same_ok _ _ c.in_ok-first.ensures))) c.walk_from-walk.ensures.rest in
     record {
       split = ap (while_begins prefix) (sym rest) ∙ ap (λ l. l ++ while_begins prefix c.walk_from-walk.result.rest) (sym c.new-page.ensures.items);
       countable = walk_countable c.args.self.now _ c.walk_from-walk.result.rest (subst AreHeld c.self.view_is c.self.invariant) rest;

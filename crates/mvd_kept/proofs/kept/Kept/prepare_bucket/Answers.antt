@@ -1,7 +1,7 @@
 use Rattle.std.proofs.Common.{◌≡◌, ◌≤◌, length, refl, ap, sym, ◌∙◌, subst}
 use Rattle.std.specs.List.{AllByRecursion}
 use Rattle.std.specs.Option.{option_copied}
-use Rattle.mvd_tree.specs.Page.{page_of}
+use Rattle.mvd_tree.specs.Page.{bucket_page}
 use Rattle.mvd_wire.proofs.SentPages.{IsEntry, keys_can_be_sent}
 use Rattle.mvd_kept.specs.Answer.{digests}
 use Rattle.mvd_kept.specs.Held.{AreHeld}
@@ -15,7 +15,7 @@ returns-clause-ready c =
     let path = c.args.path.now in
     let after = option_copied c.args.after in
     let kept : AreHeld states = subst AreHeld (ap (λ (s : SiteValue). s.states) c.self.view_is) c.stands.ensures in
-    let page : c.new.result ≡ page_of (digests states) path after = c.new.ensures ∙ c.in_ok-keys.ensures.keys in
+    let page : c.new.result ≡ bucket_page (digests states) path after = c.new.ensures ∙ c.in_ok-keys.ensures.keys in
     record {
       accepts = refl;
       fits = keys_can_be_sent c.new.result c.in_ok-keys.is_more (subst (AllByRecursion IsEntry) (sym page) (page_entries states kept path after))

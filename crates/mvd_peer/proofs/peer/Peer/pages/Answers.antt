@@ -6,7 +6,7 @@ use Rattle.mvd_site.specs.Answer.{digests}
 use Rattle.mvd_site.specs.Held.{States}
 use Rattle.std.specs.Prelude.{Option}
 use Rattle.mvd_keys.specs.Writes.{Key}
-use Rattle.mvd_tree.specs.Page.{is_more_after_page, page_of}
+use Rattle.mvd_tree.specs.Page.{is_more_after_page, bucket_page}
 use Rattle.mvd_peer.proofs.OneByOne.{always, both_ok, few_more, last_made, one_more_at}
 use Rattle.std.proofs.Common.{take}
 use Rattle.std.proofs.lemmas.List.{take_all}
@@ -37,8 +37,8 @@ loop-path-preserved g c =
           (always _)
           (λ t.
           let k = before.kept t in
-          subst (λ (m : States). IfOk c.bucket-answer.result (λ page. (page.0.items ≡ page_of (digests m) c.loop-path-item.result.0 c.loop-path-item.result.1) × (page.1 ≡ is_more_after_page (digests m) c.loop-path-item.result.0 c.loop-path-item.result.1))) k.1
-          (subst (λ (after : Option Key). IfOk c.bucket-answer.result (λ page. (page.0.items ≡ page_of (digests (g.Self.Peer.states c.loop-path.self)) c.loop-path-item.result.0 after) × (page.1 ≡ is_more_after_page (digests (g.Self.Peer.states c.loop-path.self)) c.loop-path-item.result.0 after))) c.as_ref.ensures.value
+          subst (λ (m : States). IfOk c.bucket-answer.result (λ page. (page.0.items ≡ bucket_page (digests m) c.loop-path-item.result.0 c.loop-path-item.result.1) × (page.1 ≡ is_more_after_page (digests m) c.loop-path-item.result.0 c.loop-path-item.result.1))) k.1
+          (subst (λ (after : Option Key). IfOk c.bucket-answer.result (λ page. (page.0.items ≡ bucket_page (digests (g.Self.Peer.states c.loop-path.self)) c.loop-path-item.result.0 after) × (page.1 ≡ is_more_after_page (digests (g.Self.Peer.states c.loop-path.self)) c.loop-path-item.result.0 after))) c.as_ref.ensures.value
           (both_ok _ _ c.bucket-answer.result (c.bucket-answer.ensures.page k.0) (c.bucket-answer.ensures.more k.0))))
           c.bucket-answer.ensures.refuses c.bucket-answer.ensures.answers (λ t. c.bucket-answer.ensures.not_of_question (before.kept t).0);
       count = grind (arith, length-append, c.push_reserved.ensures.items, before.count);

@@ -1,4 +1,4 @@
-use Rattle.mvd_records.specs.Jobs.{moving, saving, taking}
+use Rattle.mvd_records.specs.Jobs.{moving, saving, one_statement}
 use Rattle.mvd_records.proofs.Transacted.{does_then, refused_as}
 use Rattle.mvd_records.proofs.Moved.{both_moved}
 use Rattle.mvd_records.proofs.moving.MoveJob.run.Goals as goal
@@ -7,7 +7,7 @@ pub returns-clause-done : goal.returns-clause-done
 returns-clause-done g c =
     let key = c.args.self.now.key.now in
     let bytes = c.args.self.now.bytes.now in
-    does_then (taking key) tt (saving key bytes) (moving key bytes) _ _ _ c.put_new.result (record {
+    does_then (one_statement key) tt (saving key bytes) (moving key bytes) _ _ _ c.put_new.result (record {
       makes = λ _ d e f one two version site sound holds. (
           let it = one version site sound holds in
           let end = two version site it.0 it.1.0 in
@@ -18,4 +18,4 @@ returns-clause-done g c =
 
 pub returns-in-Err-clause-done : goal.returns-in-Err-clause-done
 returns-in-Err-clause-done g c =
-    refused_as (taking c.args.self.now.key.now) (moving c.args.self.now.key.now c.args.self.now.bytes.now) _ _ c.in-Err.refusal (λ it. it) (λ _ it. it) c.in-Err.ensures.done
+    refused_as (one_statement c.args.self.now.key.now) (moving c.args.self.now.key.now c.args.self.now.bytes.now) _ _ c.in-Err.refusal (λ it. it) (λ _ it. it) c.in-Err.ensures.done

@@ -1,5 +1,5 @@
 use Rattle.std.proofs.Common.{ℕ, subst}
-use Rattle.mvd_remote.specs.LinkWindows.{Answered}
+use Rattle.mvd_remote.specs.LinkWindows.{AnswersInTurn}
 use Rattle.mvd_remote.specs.Remotes.{link_of}
 use Rattle.mvd_remote.proofs.Lined.{window_answered}
 use Rattle.mvd_remote.proofs.Turns.{all_answered}
@@ -10,7 +10,7 @@ returns-clause-asked g c =
     let old = link_of g.L.Line c.args.self.now in
     let new = link_of g.L.Line c.send_all.new.self in
     all_answered g.A.Answer.as_reply (λ v. v.items) g.A.Answer.of_kind c.args.window.now c.in_ok-replies.replies.items old new c.answers.result
-    (subst (λ (kind : ℕ). Answered kind c.args.window.now c.in_ok-replies.replies.items old new) c.kind.ensures c.in_ok-replies.ensures.sent) c.answers.ensures.told c.answers.ensures.ended
+    (subst (λ (kind : ℕ). AnswersInTurn kind c.args.window.now c.in_ok-replies.replies.items old new) c.kind.ensures c.in_ok-replies.ensures.sent) c.answers.ensures.told c.answers.ensures.ended
 
 pub returns-clause-truth : goal.returns-clause-truth
 returns-clause-truth g c requests is spelled was =

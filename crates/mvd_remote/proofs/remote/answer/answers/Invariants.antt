@@ -1,11 +1,11 @@
-use Rattle.mvd_remote.specs.LinkWindows.{Answers}
-use Rattle.mvd_remote.specs.Lines.{IsSettled}
+use Rattle.mvd_remote.specs.LinkWindows.{IsToldBy}
+use Rattle.mvd_remote.specs.Lines.{LeavesNothingOpen}
 use Rattle.mvd_peer.specs.Windows.{ForEach}
 use Rattle.mvd_remote.proofs.remote.answer.answers.Given as goal
 
 -- what the first replies tell
 abbrev pub invariant-loop-reply : goal.invariant-loop-reply
 invariant-loop-reply g l = record {
-  told : ForEach (Answers g.A.Answer.as_reply) l.yielded l.told.items;
-  settled : ForEach IsSettled l.yielded l.told.items;
+  told : ForEach (IsToldBy g.A.Answer.as_reply) l.yielded l.told.items;
+  settled : ForEach LeavesNothingOpen l.yielded l.told.items;
 }

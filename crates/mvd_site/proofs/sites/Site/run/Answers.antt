@@ -1,7 +1,7 @@
 use Rattle.std.proofs.Common.{◌≡◌, false, ap, sym, ◌∙◌, subst, subst₂, take, refl, ◌++◌, ◌∷◌, [], arith, length-append, length}
 use Rattle.std.proofs.lemmas.List.{take_all, take_more}
 use Rattle.std.specs.FinMap.{empty}
-use Rattle.mvd_kept.specs.Sites.{SiteValue, SiteStands, AnswersAll}
+use Rattle.mvd_kept.specs.Sites.{SiteValue, SiteStands, AnswersFromNothing}
 use Rattle.mvd_kept.proofs.AnsweredAtOnce.{answers_one, keeps_config}
 use Rattle.mvd_kept.proofs.Runs.{AnswersAll-none, AnswersAll-push, HasChoice, HasChoice-push}
 use Rattle.mvd_kept.proofs.Prepare.{Stands-none}
@@ -15,7 +15,7 @@ loop-request-init c =
     let copied : config ≡ c.in_ok-copy.field-0 = cc (c.in_ok-copy.ensures) in
     let stands : SiteStands site [] = λ _. Stands-none site.states (ap (λ (s : SiteValue). s.states) is) in
     record {
-      answers = subst (AnswersAll config site []) (sym c.new-replies.ensures.items) (AnswersAll-none config site (ap (λ (s : SiteValue). s.broken) is) stands);
+      answers = subst (AnswersFromNothing config site []) (sym c.new-replies.ensures.items) (AnswersAll-none config site (ap (λ (s : SiteValue). s.broken) is) stands);
       choice = ([], record { asked = refl; told = sym c.new-replies.ensures.items; fits = tt });
       config = ap (λ (s : SiteValue). s.config) is ∙ sym copied;
       count = ap length c.new-replies.ensures.items;
@@ -27,7 +27,7 @@ loop-request-preserved c =
     let requests = c.args.requests.now in
     let i = c.loop-request.request-index in
     record {
-      answers = subst₂ (AnswersAll config c.answer-reply.new.self)
+      answers = subst₂ (AnswersFromNothing config c.answer-reply.new.self)
           (sym (take_more requests i c.request-item.result c.loop-request-test.true ∙ ap (λ r. take i requests ++ r ∷ []) (sym c.request-item.is)))
           (sym c.in_ok-push.ensures.items)
           (AnswersAll-push config c.loop-request.site c.answer-reply.new.self (take i requests) c.request-item.result c.loop-request.replies.items c.answer-reply.result
@@ -42,4 +42,4 @@ loop-request-preserved c =
 
 pub returns-clause-answers : goal.returns-clause-answers
 returns-clause-answers c =
-    subst (λ l. AnswersAll c.args.config.now c.loop-request.site l c.loop-request.replies.items) (take_all c.loop-request.request-index c.args.requests.now c.loop-request-test.false) c.loop-request.invariant.answers
+    subst (λ l. AnswersFromNothing c.args.config.now c.loop-request.site l c.loop-request.replies.items) (take_all c.loop-request.request-index c.args.requests.now c.loop-request-test.false) c.loop-request.invariant.answers

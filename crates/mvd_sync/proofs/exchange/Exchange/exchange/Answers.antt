@@ -1,5 +1,5 @@
 use Rattle.std.proofs.Common.{◌∙◌, ap, subst, map}
-use Rattle.mvd_sync.specs.Exchanges.{Adds, Exchanging}
+use Rattle.mvd_sync.specs.Exchanges.{CountsDone, Exchanging}
 use Rattle.mvd_sync.specs.Meetings.{done_of}
 use Rattle.mvd_peer.specs.PeerSides.{side_of}
 use Rattle.mvd_sync.proofs.Exchanging.{exchanges_all, exchanges_end, exchanges_memory, none_waits, window_at}
@@ -23,7 +23,7 @@ returns-in-Ok-tell-clause-exchanges g c =
     let none = ap (λ v. v.items) c.replace-entries.ensures.after ∙ c.new.ensures.items in
     exchanges_all l p c.args.self.now.waiting c.args.left.now c.exchange_all.new.left c.args.local.now c.exchange_all.new.local c.args.peer.now c.exchange_all.new.peer c.args.self.now c.tell.new.self c.in-Ok.meetings
     (window_at l p c.self.inside.number c.args.self.now.number c.replace-entries.result.items c.args.self.now.waiting c.args.left.now c.exchange_all.new.left c.args.local.now c.exchange_all.new.local c.args.peer.now c.exchange_all.new.peer _ number entries c.in-Ok.ensures) _
-    (subst (λ b. Adds (map done_of c.in-Ok.meetings.items) b c.tell.new.self) (none_waits _ c.args.self.now c.replace-entries.new.dest.items c.self.view_is none) c.in-Ok-tell.ensures.adds)
+    (subst (λ b. CountsDone (map done_of c.in-Ok.meetings.items) b c.tell.new.self) (none_waits _ c.args.self.now c.replace-entries.new.dest.items c.self.view_is none) c.in-Ok-tell.ensures.adds)
 
 pub returns-in-Err-tell-clause-exchanges : goal.returns-in-Err-tell-clause-exchanges
 returns-in-Err-tell-clause-exchanges g c =

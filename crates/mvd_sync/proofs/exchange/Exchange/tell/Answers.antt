@@ -1,6 +1,6 @@
 use Rattle.std.proofs.Common.{◌∷◌, [], map, sym, subst, arith, length-append}
 use Rattle.std.proofs.lemmas.List.{map-append}
-use Rattle.mvd_sync.specs.Exchanges.{Adds}
+use Rattle.mvd_sync.specs.Exchanges.{CountsDone}
 use Rattle.mvd_sync.specs.Meetings.{done_of}
 use Rattle.mvd_sync.proofs.Counting.{adds_none, adds_on, adds_room}
 use Rattle.mvd_sync.proofs.exchange.Exchange.tell.Goals as goal
@@ -16,7 +16,7 @@ loop-meeting-preserved c =
     let longer = length-append c.loop-meeting.yielded (c.in-Some.meeting ∷ []) in
     let more = adds_room one c.loop-meeting.self c.count.new.self now in
     record {
-      adds = subst (λ ds. Adds ds c.args.self.now c.count.new.self) (sym (map-append done_of c.loop-meeting.yielded (c.in-Some.meeting ∷ [])))
+      adds = subst (λ ds. CountsDone ds c.args.self.now c.count.new.self) (sym (map-append done_of c.loop-meeting.yielded (c.in-Some.meeting ∷ [])))
           (adds_on (map done_of c.loop-meeting.yielded) (one ∷ []) c.args.self.now c.loop-meeting.self c.count.new.self before.adds now);
       room = omega (arith, before.room, more, longer);
     }
@@ -29,7 +29,7 @@ loop-meeting-preserved-in_ok-count c =
     let longer = length-append c.loop-meeting.yielded (c.in-Some.meeting ∷ []) in
     let more = adds_room one c.loop-meeting.self c.count.new.self now in
     record {
-      adds = subst (λ ds. Adds ds c.args.self.now c.count.new.self) (sym (map-append done_of c.loop-meeting.yielded (c.in-Some.meeting ∷ [])))
+      adds = subst (λ ds. CountsDone ds c.args.self.now c.count.new.self) (sym (map-append done_of c.loop-meeting.yielded (c.in-Some.meeting ∷ [])))
           (adds_on (map done_of c.loop-meeting.yielded) (one ∷ []) c.args.self.now c.loop-meeting.self c.count.new.self before.adds now);
       room = omega (arith, before.room, more, longer);
     }

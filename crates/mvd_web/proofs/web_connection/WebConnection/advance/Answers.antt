@@ -1,6 +1,6 @@
 use Rattle.std.proofs.Common.{refl, subst, sym}
 use Rattle.mvd_web.specs.Inside.{web_of}
-use Rattle.mvd_web.specs.Steps.{Reads}
+use Rattle.mvd_web.specs.Steps.{ReadsOn}
 use Rattle.mvd_web.proofs.Calls.{reads}
 use Rattle.mvd_web.proofs.web_connection.WebConnection.advance.Goals as goal
 
@@ -9,7 +9,7 @@ returns c =
     let old = web_of c.args.self.now in
     let new = web_of (record (c.args.self.now) { parser = c.advance.new.self; desk = c.advance.new.service }) in
     let kept = c.advance.ensures in
-    subst (λ b. Reads old b new) (sym c.is_some.ensures)
+    subst (λ b. ReadsOn old b new) (sym c.is_some.ensures)
     (reads c.args.self.now.desk c.advance.new.service old new kept.calls refl refl c.requires (record {
       stays = record { config = kept.config; received = kept.quiet.0; ended = kept.quiet.1 };
       sent = kept.quiet.2;

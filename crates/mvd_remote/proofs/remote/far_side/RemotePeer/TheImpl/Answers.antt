@@ -1,6 +1,6 @@
 use Rattle.std.proofs.Common.{◌≡◌, refl}
 use Rattle.std.specs.Option.{option_copied}
-use Rattle.mvd_tree.specs.Page.{is_more_after_page, page_of}
+use Rattle.mvd_tree.specs.Page.{is_more_after_page, bucket_page}
 use Rattle.mvd_wire.specs.declared.request.Request.TheVariants.{Bucket, Get, Node, Push}
 use Rattle.mvd_wire.specs.declared.reply.Reply.TheVariants.{Digests, Done, Keys, State}
 use Rattle.mvd_site.specs.Answer.{digests}
@@ -35,8 +35,8 @@ pages-tells g c =
     record {
       kept = λ was. let t = c.ensures.truth was in (t.0, window_kept (λ page. Keys page.0.items page.1) far.config (λ q. Bucket q.0 q.1) (λ q. bucket_asks q.0 q.1) (λ v. v.items) c.args.asked.now far.states after.states c.result t.1);
       told = link_asked (λ (r : Remote g.row.L.Denot). r.refused) (RemoteFollows g.L.Line.far) (remote_follows_self g.L.Line.far) (λ page. Keys page.0.items page.1) (λ v. v.items) 0xA8 (λ q. Bucket q.0 q.1) c.args.asked.now c.args.self.now c.new.self.now c.result (link_of g.L.Line c.args.self.now) (link_of g.L.Line c.new.self.now) refl refl (λ over. (c.ensures.stays over.0 over.1).1, c.ensures.config) c.ensures.asked
-          (λ _ _. Unit {0}) (λ q page. (page.0.items ≡ page_of (digests far.states) q.0 q.1) × (page.1 ≡ is_more_after_page (digests far.states) q.0 q.1)) _ (IsTrueRemote g.L.Line.is_true g.L.Line.far c.args.self.now) _ _ (λ _ _. tt)
-          (λ ts. all_right (λ page. Keys page.0.items page.1) far.config (λ q. Bucket q.0 q.1) (λ q. bucket_asks q.0 q.1) (λ q page. (page.0.items ≡ page_of (digests far.states) q.0 q.1) × (page.1 ≡ is_more_after_page (digests far.states) q.0 q.1)) far.states (λ q page after h. (h.0, h.1)) c.args.asked.now ts far.states after.states refl)
+          (λ _ _. Unit {0}) (λ q page. (page.0.items ≡ bucket_page (digests far.states) q.0 q.1) × (page.1 ≡ is_more_after_page (digests far.states) q.0 q.1)) _ (IsTrueRemote g.L.Line.is_true g.L.Line.far c.args.self.now) _ _ (λ _ _. tt)
+          (λ ts. all_right (λ page. Keys page.0.items page.1) far.config (λ q. Bucket q.0 q.1) (λ q. bucket_asks q.0 q.1) (λ q page. (page.0.items ≡ bucket_page (digests far.states) q.0 q.1) × (page.1 ≡ is_more_after_page (digests far.states) q.0 q.1)) far.states (λ q page after h. (h.0, h.1)) c.args.asked.now ts far.states after.states refl)
           (λ ts. all_not_of_key (λ page. Keys page.0.items page.1) far.config (λ q. Bucket q.0 q.1) (λ q. bucket_asks q.0 q.1) c.args.asked.now ts far.states after.states) (λ was. (c.ensures.truth was).1);
       ended = link_ends (λ (r : Remote g.row.L.Denot). r.refused) (RemoteFollows g.L.Line.far) (remote_follows_self g.L.Line.far) (λ page. Keys page.0.items page.1) (λ v. v.items) 0xA8 (λ q. Bucket q.0 q.1) c.args.asked.now c.args.self.now c.new.self.now c.result (link_of g.L.Line c.args.self.now) (link_of g.L.Line c.new.self.now) refl refl (λ over. (c.ensures.stays over.0 over.1).1, c.ensures.config) c.ensures.asked;
       not_of_question = λ was. window_not_of_key (λ page. Keys page.0.items page.1) far.config (λ q. Bucket q.0 q.1) (λ q. bucket_asks q.0 q.1) (λ v. v.items) c.args.asked.now far.states after.states c.result (c.ensures.truth was).1;
@@ -92,7 +92,7 @@ bucket-tells g c =
     let new = link_of g.L.Line c.new.self.now in
     record {
       kept = λ was. let t = c.ensures.truth was in (t.0, one_kept (λ page. Keys page.0.items page.1) far.config (Bucket c.args.path.now (option_copied c.args.after)) (bucket_asks c.args.path.now (option_copied c.args.after)) far.states after.states c.result t.1);
-      page = λ was. one_right (λ page. Keys page.0.items page.1) far.config (λ page. page.0.items ≡ page_of (digests far.states) c.args.path.now (option_copied c.args.after)) (Bucket c.args.path.now (option_copied c.args.after)) far.states after.states c.result (λ page h. h.0) (c.ensures.truth was).1;
+      page = λ was. one_right (λ page. Keys page.0.items page.1) far.config (λ page. page.0.items ≡ bucket_page (digests far.states) c.args.path.now (option_copied c.args.after)) (Bucket c.args.path.now (option_copied c.args.after)) far.states after.states c.result (λ page h. h.0) (c.ensures.truth was).1;
       more = λ was. one_right (λ page. Keys page.0.items page.1) far.config (λ page. page.1 ≡ is_more_after_page (digests far.states) c.args.path.now (option_copied c.args.after)) (Bucket c.args.path.now (option_copied c.args.after)) far.states after.states c.result (λ page h. h.1) (c.ensures.truth was).1;
       not_of_question = λ was. one_not_of_key (λ page. Keys page.0.items page.1) far.config (Bucket c.args.path.now (option_copied c.args.after)) (bucket_asks c.args.path.now (option_copied c.args.after)) far.states after.states c.result (c.ensures.truth was).1;
       follows = (λ over. (c.ensures.stays over.0 over.1).1, c.ensures.config);

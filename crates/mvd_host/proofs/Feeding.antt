@@ -5,7 +5,7 @@ use Rattle.std.specs.Option.{option_map}
 use Rattle.std.specs.Borrow.{Bor}
 use Rattle.mvd_keys.specs.Writes.{Key}
 use Rattle.mvd_host.specs.declared.feed.Lasts.{Lasts}
-use Rattle.mvd_host.specs.Feeds.{FeedValue, NotedValue, are_few, fitted, if_few, is_in, keys_in, keys_most, lasts, root_after, root_now, rounds_most, told_from, told_most}
+use Rattle.mvd_host.specs.Feeds.{FeedValue, NotedValue, are_few, fitted, if_few, is_listed, keys_in, keys_most, lasts, root_after, root_now, rounds_most, told_from, told_most}
 use Rattle.mvd_host.specs.Gathered.{Gathers}
 
 -- the last round left the root
@@ -18,7 +18,7 @@ root_after-last root (noted ∷ next ∷ rounds) last some is =
 
 lasts-longer-one : (key : Key) (keys : List Key) → length (lasts keys) ≤ length (lasts (key ∷ keys))
 lasts-longer-one key keys =
-    elim (is_in keys key) as (λ b. length (lasts keys) ≤ length (if b then lasts keys else key ∷ lasts keys)) [ true ↦ omega arith | false ↦ omega arith ]
+    elim (is_listed keys key) as (λ b. length (lasts keys) ≤ length (if b then lasts keys else key ∷ lasts keys)) [ true ↦ omega arith | false ↦ omega arith ]
 
 -- keys before others only add to those that are told
 pub lasts-longer : (front keys : List Key) → length (lasts keys) ≤ length (lasts (front ++ keys))

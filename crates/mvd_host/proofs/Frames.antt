@@ -7,9 +7,9 @@ use Rattle.mvd_wire.specs.Frames.{FrameValue}
 use Rattle.mvd_conn.specs.Guard.{IsShown}
 use Rattle.mvd_conn.specs.declared.guard.Guard.{Guard}
 use Rattle.mvd_conn.proofs.Guarded.{gives_shown}
-use Rattle.mvd_conn.specs.History.{Gives, History, Next, Over, Stops, Waits, after_next, due, is_held_up, next_of, over, released, stepped, stopped, taking}
+use Rattle.mvd_conn.specs.History.{Gives, History, NextTaken, Over, Stops, Waits, after_next, due, is_held_up, next_of, over, released, stepped, stopped, taking}
 use Rattle.mvd_host.specs.Course.{NoneMoved, asked_by}
-use Rattle.mvd_host.specs.Taking.{IsIdle, TakesOn}
+use Rattle.mvd_host.specs.Taking.{HasNoNext, TakesOn}
 
 pub none_moved : (h : History) → NoneMoved h h
 none_moved h = record { came = refl; source = refl; left = refl; failed = refl; guard = refl }
@@ -37,7 +37,7 @@ took_nothing h = same h (released h) (record { taken = refl; answers = refl; mov
 not_true : {A : Type 0} (p q : A) → ◌≡◌ {A = Bool × A} (false, p) (true, q) → ⊥
 not_true p q e = let no : false ≡ true = ap (λ (x : Bool × _). x.0) e in cc
 
-stepped_same : (h : History) (n : Next) (k : History) → ◌≡◌ {A = Bool × History} (false, k) (stepped h n) → Same h k
+stepped_same : (h : History) (n : NextTaken) (k : History) → ◌≡◌ {A = Bool × History} (false, k) (stepped h n) → Same h k
 stepped_same h (Gives f rest) k e = absurd (not_true k (taking h f rest) e)
 stepped_same h Over k e =
     elim (due h == 0) as (λ b. k ≡ cond b (over h) h → Same h k) [
@@ -67,7 +67,7 @@ pub record TookOne (old new : History) : Type 0 where
   pub moved : NoneMoved old new
   pub shown : IsShown old.guard old.taken → IsShown new.guard new.taken
 
-stepped_one : (h : History) (n : Next) (k : History) → next_of h ≡ n → ◌≡◌ {A = Bool × History} (true, k) (stepped h n) → TookOne h k
+stepped_one : (h : History) (n : NextTaken) (k : History) → next_of h ≡ n → ◌≡◌ {A = Bool × History} (true, k) (stepped h n) → TookOne h k
 stepped_one h (Gives f rest) k next e =
     subst (TookOne h) (sym (ap (λ (x : Bool × History). x.1) e)) (record {
       frame = f;
@@ -106,30 +106,30 @@ takes_on old mid new rs more faulty one other = record {
   shown = λ s. other.shown (one.shown s);
 }
 
-idle_step : (h : History) (n : Next) (k : History) → ◌≡◌ {A = Bool × History} (false, k) (stepped (released h) n) → (k ≡ released h) ⊎ IsIdle k
+idle_step : (h : History) (n : NextTaken) (k : History) → ◌≡◌ {A = Bool × History} (false, k) (stepped (released h) n) → (k ≡ released h) ⊎ HasNoNext k
 idle_step h (Gives f rest) k e = absurd (not_true k (taking (released h) f rest) e)
 idle_step h Over k e =
-    elim (due h == 0) as (λ b. k ≡ cond b (over (released h)) (released h) → (k ≡ released h) ⊎ IsIdle k) [
-      | true ↦ λ is. inr (subst IsIdle (sym is) refl)
+    elim (due h == 0) as (λ b. k ≡ cond b (over (released h)) (released h) → (k ≡ released h) ⊎ HasNoNext k) [
+      | true ↦ λ is. inr (subst HasNoNext (sym is) refl)
       | false ↦ λ is. inl is
     ] (ap (λ (x : Bool × History). x.1) e)
 idle_step h (Stops refusal) k e =
-    elim (due h == 0) as (λ b. k ≡ cond b (stopped (released h) refusal) (released h) → (k ≡ released h) ⊎ IsIdle k) [
-      | true ↦ λ is. inr (subst IsIdle (sym is) refl)
+    elim (due h == 0) as (λ b. k ≡ cond b (stopped (released h) refusal) (released h) → (k ≡ released h) ⊎ HasNoNext k) [
+      | true ↦ λ is. inr (subst HasNoNext (sym is) refl)
       | false ↦ λ is. inl is
     ] (ap (λ (x : Bool × History). x.1) e)
 idle_step h Waits k e = inl (ap (λ (x : Bool × History). x.1) e)
 
 -- where nothing comes next, nothing does afterwards
-pub idle_after : (h k : History) → ◌≡◌ {A = Bool × History} (false, k) (after_next h) → IsIdle k
+pub idle_after : (h k : History) → ◌≡◌ {A = Bool × History} (false, k) (after_next h) → HasNoNext k
 idle_after h k e =
-    let on : (k ≡ released h) ⊎ IsIdle k =
-    elim (is_held_up h) as (λ b. ◌≡◌ {A = Bool × History} (false, k) (cond b (false, released h) (stepped (released h) (next_of h))) → (k ≡ released h) ⊎ IsIdle k) [
+    let on : (k ≡ released h) ⊎ HasNoNext k =
+    elim (is_held_up h) as (λ b. ◌≡◌ {A = Bool × History} (false, k) (cond b (false, released h) (stepped (released h) (next_of h))) → (k ≡ released h) ⊎ HasNoNext k) [
       | true ↦ λ is. inl (ap (λ (x : Bool × History). x.1) is)
       | false ↦ λ is. idle_step h (next_of h) k is
     ] e in
     elim on [
-      | inl is ↦ let again : after_next (released h) ≡ (false, released h) = sym e ∙ ap (λ (x : History). (false, x)) is in subst IsIdle (sym is) again
+      | inl is ↦ let again : after_next (released h) ≡ (false, released h) = sym e ∙ ap (λ (x : History). (false, x)) is in subst HasNoNext (sym is) again
       | inr idle ↦ idle
     ]
 

@@ -7,7 +7,7 @@ use Rattle.mvd_keys.proofs.Standing.{Stands-for}
 use Rattle.mvd_site.proofs.Steps.{state_at-stands}
 use Rattle.mvd_site.specs.Held.{AreHeld, States}
 use Rattle.mvd_replica.specs.Replicas.{StoredSite}
-use Rattle.mvd_replica.specs.Turns.{Turn, known_after}
+use Rattle.mvd_replica.specs.Turns.{Turn, known_after_turns}
 use Rattle.mvd_host.specs.Grown.{Grows}
 use Rattle.mvd_host.specs.Round.{Serves}
 
@@ -21,4 +21,4 @@ grows_by old new W V p q key =
 pub turns_grow : (turns : List Turn) (old new : StoredSite) → AreHeld old.site.states → Serves turns old new → Grows old.site.states new.site.states
 turns_grow turns old new held serves =
     let known = Stands-for old.site.states (λ key s found. (held.valid key s found, (held.held key s found).seen)) in
-    grows_by old.site.states new.site.states known.0 (known_after serves.choice.0) known.1 (serves.stands known.0 serves.choice.0 known.1 serves.choice.1)
+    grows_by old.site.states new.site.states known.0 (known_after_turns serves.choice.0) known.1 (serves.stands known.0 serves.choice.0 known.1 serves.choice.1)

@@ -7,11 +7,11 @@ use Rattle.mvd_wire.specs.declared.request.Request.{Request}
 use Rattle.mvd_wire.specs.Frames.{FrameValue}
 use Rattle.mvd_host.specs.Course.{asked_by}
 use Rattle.mvd_conn.specs.History.{History}
-use Rattle.mvd_host.specs.Taking.{AreFaults, Holds, Keeps, TakesMore, TakesOn, TakesRequests}
+use Rattle.mvd_host.specs.Taking.{AreFaults, HoldsTaken, KeepsTaken, TakesMore, TakesOn, TakesRequests}
 use Rattle.mvd_host.proofs.Frames.{none_moved, same, takes_on}
 use Rattle.mvd_host.specs.declared.taking.Taken.{Taken}
 
-pub holds_same : (asked : List (ℕ × Request)) (faults : List (ℕ × FrameValue)) (old new : Taken) → Keeps old new → Holds asked faults old → Holds (asked ++ []) (faults ++ []) new
+pub holds_same : (asked : List (ℕ × Request)) (faults : List (ℕ × FrameValue)) (old new : Taken) → KeepsTaken old new → HoldsTaken asked faults old → HoldsTaken (asked ++ []) (faults ++ []) new
 holds_same asked faults old new same holds = record {
   clients = same.clients ∙ holds.clients ∙ ap (map (λ r. r.0)) (sym (append-nil asked));
   requests_are = same.requests ∙ holds.requests_are ∙ ap (map (λ r. r.1)) (sym (append-nil asked));
@@ -25,7 +25,7 @@ faults_grow (x ∷ fs) [] client f e all one = absurd all
 faults_grow (x ∷ fs) (y ∷ es) client f e all one = (all.0, all.1, faults_grow fs es client f e all.2 one)
 
 pub holds_request : (asked : List (ℕ × Request)) (faults : List (ℕ × FrameValue)) (old new : Taken) (client : ℕ) (r : Request) → new.clients.items ≡ old.clients.items ++ client ∷ [] → new.requests.items ≡ old.requests.items ++ r ∷ [] → new.faults.items ≡ old.faults.items
-    → Holds asked faults old → Holds (asked ++ (client, r) ∷ []) (faults ++ []) new
+    → HoldsTaken asked faults old → HoldsTaken (asked ++ (client, r) ∷ []) (faults ++ []) new
 holds_request asked faults old new client r clients requests same holds = record {
   clients = clients ∙ ap (λ l. l ++ client ∷ []) holds.clients ∙ sym (map-append (λ (x : ℕ × Request). x.0) asked ((client, r) ∷ []));
   requests_are = requests ∙ ap (λ l. l ++ r ∷ []) holds.requests_are ∙ sym (map-append (λ (x : ℕ × Request). x.1) asked ((client, r) ∷ []));
@@ -33,7 +33,7 @@ holds_request asked faults old new client r clients requests same holds = record
 }
 
 pub holds_fault : (asked : List (ℕ × Request)) (faults : List (ℕ × FrameValue)) (old new : Taken) (client : ℕ) (f : FrameValue) (e : Refusal) → new.clients.items ≡ old.clients.items → new.requests.items ≡ old.requests.items → new.faults.items ≡ old.faults.items ++ (client, e) ∷ []
-    → IsAnswer {T = Request} (Err e) (asked_by f) → Holds asked faults old → Holds (asked ++ []) (faults ++ (client, f) ∷ []) new
+    → IsAnswer {T = Request} (Err e) (asked_by f) → HoldsTaken asked faults old → HoldsTaken (asked ++ []) (faults ++ (client, f) ∷ []) new
 holds_fault asked faults old new client f e clients requests grown told holds = record {
   clients = clients ∙ holds.clients ∙ ap (map (λ r. r.0)) (sym (append-nil asked));
   requests_are = requests ∙ holds.requests_are ∙ ap (map (λ r. r.1)) (sym (append-nil asked));
@@ -50,9 +50,9 @@ takes_more client old mid new before between after one other = record {
   faulty = other.faulty;
   conn = takes_on old mid new one.took.requests other.requests other.faulty (subst (λ l. TakesOn one.took.requests l old mid) one.none one.took.conn) other.conn;
   holds = λ asked faults holds.
-      let first : Holds (asked ++ map (λ r. (client, r)) one.took.requests) faults between =
-      subst (λ l. Holds (asked ++ map (λ r. (client, r)) one.took.requests) l between) (ap (λ l. faults ++ map (λ f. (client, f)) l) one.none ∙ append-nil faults) (one.took.holds asked faults holds) in
-      subst (λ l. Holds l (faults ++ map (λ f. (client, f)) other.faulty) after)
+      let first : HoldsTaken (asked ++ map (λ r. (client, r)) one.took.requests) faults between =
+      subst (λ l. HoldsTaken (asked ++ map (λ r. (client, r)) one.took.requests) l between) (ap (λ l. faults ++ map (λ f. (client, f)) l) one.none ∙ append-nil faults) (one.took.holds asked faults holds) in
+      subst (λ l. HoldsTaken l (faults ++ map (λ f. (client, f)) other.faulty) after)
       (append_assoc asked (map (λ r. (client, r)) one.took.requests) (map (λ r. (client, r)) other.requests) ∙ ap (λ l. asked ++ l) (sym (map_both client one.took.requests other.requests)))
       (other.holds (asked ++ map (λ r. (client, r)) one.took.requests) faults first);
 }
@@ -72,7 +72,7 @@ took_no_request client h t = record {
   faults = refl;
 }
 
-pub kept_more : (client : ℕ) (h k : History) (before between after : Taken) → Keeps before between → TakesMore client h k between after → TakesMore client h k before after
+pub kept_more : (client : ℕ) (h k : History) (before between after : Taken) → KeepsTaken before between → TakesMore client h k between after → TakesMore client h k before after
 kept_more client h k before between after same more = record {
   requests = more.requests;
   faulty = more.faulty;
@@ -80,7 +80,7 @@ kept_more client h k before between after same more = record {
   holds = λ asked faults holds. more.holds asked faults (record { clients = same.clients ∙ holds.clients; requests_are = same.requests ∙ holds.requests_are; faults = subst (AreFaults faults) (sym same.faults) holds.faults });
 }
 
-pub kept_requests : (client : ℕ) (h k : History) (before between after : Taken) → Keeps before between → TakesRequests client h k between after → TakesRequests client h k before after
+pub kept_requests : (client : ℕ) (h k : History) (before between after : Taken) → KeepsTaken before between → TakesRequests client h k between after → TakesRequests client h k before after
 unfolding kept_more
 kept_requests client h k before between after same one = record {
   took = kept_more client h k before between after same one.took;
@@ -88,7 +88,7 @@ kept_requests client h k before between after same one = record {
   faults = one.faults ∙ same.faults;
 }
 
-pub kept_nothing : (client : ℕ) (h k : History) (before after : Taken) → Keeps before after → TakesOn [] [] h k → TakesMore client h k before after
+pub kept_nothing : (client : ℕ) (h k : History) (before after : Taken) → KeepsTaken before after → TakesOn [] [] h k → TakesMore client h k before after
 kept_nothing client h k before after same none = record {
   requests = [];
   faulty = [];

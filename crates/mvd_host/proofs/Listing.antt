@@ -10,7 +10,7 @@ use Rattle.mvd_keys.specs.Key.{key_cmp}
 use Rattle.mvd_keys.specs.Writes.{Key}
 use Rattle.mvd_site.specs.Held.{States}
 use Rattle.mvd_keys.proofs.KeyOrder.{same_where_tied}
-use Rattle.mvd_host.specs.Feeds.{FeedValue, NotedValue, after_root, are_few, fitted, if_few, is_in, is_root, keys_in, knows_nothing, knows_root, lasts, noted_behind, noted_in, root_after, root_now, since_start, told_most, told_since}
+use Rattle.mvd_host.specs.Feeds.{FeedValue, NotedValue, after_root, are_few, fitted, if_few, is_listed, is_root, keys_in, knows_nothing, knows_root, lasts, noted_behind, noted_in, root_after, root_now, since_start, told_most, told_since}
 use Rattle.mvd_host.specs.Lists.{AnyByRecursion, ChangesAmong, IsListed, Lists, ListsFrom, ListsIf, ListsOn, root_of}
 use Rattle.mvd_host.proofs.Feeding.{keys_in-append}
 
@@ -27,17 +27,17 @@ or_right : (a b : Bool) → b ≡ true → (a || b) ≡ true
 or_right true b e = refl
 or_right false b e = e
 
-in_front : (first second : List Key) (key : Key) → is_in first key ≡ true → is_in (first ++ second) key ≡ true
-in_front first second key is = list_any-append (λ k. eq_by_cmp key_cmp k key) first second ∙ or_left (is_in first key) (is_in second key) is
+in_front : (first second : List Key) (key : Key) → is_listed first key ≡ true → is_listed (first ++ second) key ≡ true
+in_front first second key is = list_any-append (λ k. eq_by_cmp key_cmp k key) first second ∙ or_left (is_listed first key) (is_listed second key) is
 
-in_back : (first second : List Key) (key : Key) → is_in second key ≡ true → is_in (first ++ second) key ≡ true
-in_back first second key is = list_any-append (λ k. eq_by_cmp key_cmp k key) first second ∙ or_right (is_in first key) (is_in second key) is
+in_back : (first second : List Key) (key : Key) → is_listed second key ≡ true → is_listed (first ++ second) key ≡ true
+in_back first second key is = list_any-append (λ k. eq_by_cmp key_cmp k key) first second ∙ or_right (is_listed first key) (is_listed second key) is
 
 pub changes_none : (states : States) → ChangesAmong [] states states
 changes_none states key = inl refl
 
-changes_by : (first second : List Key) (old mid new : States) (key : Key) → (get old key ≡ get mid key) ⊎ (is_in first key ≡ true) → (get mid key ≡ get new key) ⊎ (is_in second key ≡ true) →
-    (get old key ≡ get new key) ⊎ (is_in (first ++ second) key ≡ true)
+changes_by : (first second : List Key) (old mid new : States) (key : Key) → (get old key ≡ get mid key) ⊎ (is_listed first key ≡ true) → (get mid key ≡ get new key) ⊎ (is_listed second key ≡ true) →
+    (get old key ≡ get new key) ⊎ (is_listed (first ++ second) key ≡ true)
 changes_by first second old mid new key (inl p) (inl q) = inl (p ∙ q)
 changes_by first second old mid new key (inl p) (inr q) = inr (in_back first second key q)
 changes_by first second old mid new key (inr p) q = inr (in_front first second key p)
@@ -133,17 +133,17 @@ noted_lists feed keys root old new changes is = noted_lists_by feed.start feed.r
 
 -- ---- what is told
 
-again_in : (first : Key) (keys : List Key) (key : Key) → is_in keys first ≡ true → (eq_by_cmp key_cmp first key ≡ true) ⊎ (is_in keys key ≡ true) → is_in keys key ≡ true
-again_in first keys key again (inl same) = subst (λ k. is_in keys k ≡ true) (same_where_tied first key same) again
+again_in : (first : Key) (keys : List Key) (key : Key) → is_listed keys first ≡ true → (eq_by_cmp key_cmp first key ≡ true) ⊎ (is_listed keys key ≡ true) → is_listed keys key ≡ true
+again_in first keys key again (inl same) = subst (λ k. is_listed keys k ≡ true) (same_where_tied first key same) again
 again_in first keys key again (inr later) = later
 
 -- a key that is noted is told
-in_lasts : (keys : List Key) (key : Key) → is_in keys key ≡ true → is_in (lasts keys) key ≡ true
+in_lasts : (keys : List Key) (key : Key) → is_listed keys key ≡ true → is_listed (lasts keys) key ≡ true
 in_lasts [] key is = is
 in_lasts (first ∷ keys) key is =
-    elim (is_in keys first) as (λ b. is_in keys first ≡ b → is_in (if b then lasts keys else first ∷ lasts keys) key ≡ true) [
-      | true ↦ λ again. in_lasts keys key (again_in first keys key again (or_true (eq_by_cmp key_cmp first key) (is_in keys key) is))
-      | false ↦ λ once. elim (or_true (eq_by_cmp key_cmp first key) (is_in keys key) is) [ inl here ↦ or_left (eq_by_cmp key_cmp first key) (is_in (lasts keys) key) here | inr later ↦ or_right (eq_by_cmp key_cmp first key) (is_in (lasts keys) key) (in_lasts keys key later) ]
+    elim (is_listed keys first) as (λ b. is_listed keys first ≡ b → is_listed (if b then lasts keys else first ∷ lasts keys) key ≡ true) [
+      | true ↦ λ again. in_lasts keys key (again_in first keys key again (or_true (eq_by_cmp key_cmp first key) (is_listed keys key) is))
+      | false ↦ λ once. elim (or_true (eq_by_cmp key_cmp first key) (is_listed keys key) is) [ inl here ↦ or_left (eq_by_cmp key_cmp first key) (is_listed (lasts keys) key) here | inr later ↦ or_right (eq_by_cmp key_cmp first key) (is_listed (lasts keys) key) (in_lasts keys key later) ]
     ] refl
 
 told_among : (keys : List Key) (old new : States) → ChangesAmong keys old new → ChangesAmong (lasts keys) old new

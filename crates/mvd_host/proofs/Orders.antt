@@ -9,8 +9,8 @@ use Rattle.mvd_wire.specs.declared.request.Request.{Request}
 use Rattle.mvd_wire.specs.Frames.{FrameValue}
 use Rattle.mvd_conn.specs.History.{History}
 use Rattle.mvd_host.specs.Hosts.{client_in}
-use Rattle.mvd_host.specs.Course.{Both, own}
-use Rattle.mvd_host.specs.Taking.{AreFaults, HasFrame, Holds, IsFair, IsNone, TakesFairly, TakesOn, TakesOnly}
+use Rattle.mvd_host.specs.Course.{BothClients, own}
+use Rattle.mvd_host.specs.Taking.{AreFaults, HasTakenFrame, HoldsTaken, IsFair, IsNothingTaken, TakesFairly, TakesOn, TakesOnly}
 use Rattle.mvd_host.specs.Arranging.{Arranged, Arranges, HasPlaces, Lays}
 use Rattle.mvd_host.specs.declared.arranging.Lanes.{Lanes}
 use Rattle.mvd_host.specs.declared.taking.Taken.{Taken}
@@ -182,7 +182,7 @@ lays_joined asked lanes clients requests clients_are requests_are lays = record 
 
 -- ---- what was taken
 
-pub same_count : (asked : List (ℕ × Request)) (faults : List (ℕ × FrameValue)) (taken : Taken) → Holds asked faults taken → length taken.clients.items ≡ length taken.requests.items
+pub same_count : (asked : List (ℕ × Request)) (faults : List (ℕ × FrameValue)) (taken : Taken) → HoldsTaken asked faults taken → length taken.clients.items ≡ length taken.requests.items
 same_count asked faults taken holds =
     ap length holds.clients ∙ length-map asked (λ (x : ℕ × Request). x.0) ∙ sym (ap length holds.requests_are ∙ length-map asked (λ (x : ℕ × Request). x.1))
 
@@ -193,7 +193,7 @@ module _ (ready : List ℕ) (old new : List (ℕ × History)) (before after : Ta
   own_is : (n : ℕ) → own n a.arranged.ordered ≡ own n t.all.requests
   own_is n = a.arranged.own_are n ∙ ap (own n) asked_is
 
-  holds_still : Holds a.arranged.ordered t.all.faulty after
+  holds_still : HoldsTaken a.arranged.ordered t.all.faulty after
   holds_still = record {
     clients = a.arranged.clients_are;
     requests_are = a.arranged.requests_are;
@@ -206,14 +206,14 @@ module _ (ready : List ℕ) (old new : List (ℕ × History)) (before after : Ta
       requests = a.arranged.ordered;
       faulty = t.all.faulty;
       holds = holds_still;
-      takes = λ n. subst (λ l. Both (client_in old n) (client_in new n) (TakesOn l (own n t.all.faulty))) (sym (own_is n)) (t.all.takes n);
+      takes = λ n. subst (λ l. BothClients (client_in old n) (client_in new n) (TakesOn l (own n t.all.faulty))) (sym (own_is n)) (t.all.takes n);
     };
     none = λ n gone. (own_is n ∙ (t.none n gone).0, (t.none n gone).1);
     only = λ n out. (own_is n ∙ (t.only n out).0, (t.only n out).1);
     same = t.same;
   }
 
-  frame_still : (n : ℕ) → HasFrame n t.all.requests t.all.faulty → HasFrame n a.arranged.ordered t.all.faulty
+  frame_still : (n : ℕ) → HasTakenFrame n t.all.requests t.all.faulty → HasTakenFrame n a.arranged.ordered t.all.faulty
   frame_still n (inl some) = inl (λ none. some (sym (own_is n) ∙ none))
   frame_still n (inr some) = inr some
 
@@ -227,7 +227,7 @@ module _ (ready : List ℕ) (old new : List (ℕ × History)) (before after : Ta
   )
 
 -- nothing is nothing, in any order
-pub none_still : (asked : List (ℕ × Request)) (faults : List (ℕ × FrameValue)) (before after : Taken) → Arranges before after → Holds asked faults before → IsNone after → IsNone before
+pub none_still : (asked : List (ℕ × Request)) (faults : List (ℕ × FrameValue)) (before after : Taken) → Arranges before after → HoldsTaken asked faults before → IsNothingTaken after → IsNothingTaken before
 none_still asked faults before after a holds none =
     let same : length before.clients.items ≡ length before.requests.items = same_count asked faults before holds in
     let count : length (zip before.clients.items before.requests.items) ≡ length before.requests.items = zip_length before.clients.items before.requests.items same in

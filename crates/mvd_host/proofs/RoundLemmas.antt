@@ -14,13 +14,13 @@ use Rattle.mvd_conn.specs.declared.guard.Guard.{Guard}
 use Rattle.mvd_conn.specs.History.{History}
 use Rattle.mvd_replica.specs.Turns.{Turn}
 use Rattle.mvd_host.specs.Hosts.{AreKept, IfClient, client_in}
-use Rattle.mvd_host.specs.Course.{AreQueued, Both, IsOut, asked_by, own}
-use Rattle.mvd_host.specs.Taking.{AreFaults, IsFair, IsIdle, IsNone, TakesAll, TakesOn, TakesOnly}
-use Rattle.mvd_host.specs.Queueing.{AreDue, Queues, QueuesOn, refused_all, refused_faults}
+use Rattle.mvd_host.specs.Course.{AreQueued, BothClients, IsOut, asked_by, own}
+use Rattle.mvd_host.specs.Taking.{AreFaults, IsFair, HasNoNext, IsNothingTaken, TakesAllFrames, TakesOn, TakesOnly}
+use Rattle.mvd_host.specs.Queueing.{AreDue, QueuesReplies, QueuesOn, refused_all, refused_faults}
 use Rattle.mvd_site.specs.Sites.{SiteValue}
 use Rattle.mvd_replica.proofs.Positions.{AnswersAll}
 use Rattle.sqlite.specs.State.{State}
-use Rattle.mvd_host.specs.Round.{Course, GoesForward, Round, Side, Spares, turns_of}
+use Rattle.mvd_host.specs.Round.{ClientCourse, GoesForward, Round, Side, Spares, turns_of}
 use Rattle.mvd_host.specs.declared.taking.Taken.{Taken}
 use Rattle.mvd_host.proofs.Own.{both_on, own-append}
 use Rattle.mvd_host.proofs.Positions.{Serves}
@@ -124,7 +124,7 @@ memory_still (r ∷ rs) refusal memory = (record { refusal = refusal; reply = re
 -- ---- the course of each connection
 
 course : (requests : List Request) (faulty : List FrameValue) (first second : List Turn) (h i k : History) → TakesOn requests faulty h i → map (λ t. t.asked) first ≡ map {B = Result Request Refusal} (λ r. Ok r) requests
-    → map (λ t. t.asked) second ≡ map asked_by faulty → QueuesOn (map (λ t. t.reply) first ++ map (λ t. t.reply) second) i k → Course (first ++ second) h k
+    → map (λ t. t.asked) second ≡ map asked_by faulty → QueuesOn (map (λ t. t.reply) first ++ map (λ t. t.reply) second) i k → ClientCourse (first ++ second) h k
 course requests faulty first second h i k took asked faulted queued = record {
   frames = took.frames ++ faulty;
   taken = queued.taken ∙ took.taken;
@@ -136,11 +136,11 @@ course requests faulty first second h i k took asked faulted queued = record {
   shown = λ s. subst₂ (λ (g : Option Guard) (fs : List FrameValue). IsShown g fs) (sym queued.moved.guard) (sym queued.taken) (took.shown s);
 }
 
-module _ (old mid between new : List (ℕ × History)) (taken : Taken) (all : TakesAll old mid taken) (ts : List (ℕ × Turn)) (asked : asks ts ≡ requested all.requests) where
+module _ (old mid between new : List (ℕ × History)) (taken : Taken) (all : TakesAllFrames old mid taken) (ts : List (ℕ × Turn)) (asked : asks ts ≡ requested all.requests) where
   pub faults_after : List (ℕ × Turn)
   faults_after = fault_turns all.faulty taken.faults.items
 
-  pub courses : Queues (tells ts) mid between → Queues (refused_faults taken.faults.items) between new → (n : ℕ) → Both (client_in old n) (client_in new n) (Course (own n (ts ++ faults_after)))
+  pub courses : QueuesReplies (tells ts) mid between → QueuesReplies (refused_faults taken.faults.items) between new → (n : ℕ) → BothClients (client_in old n) (client_in new n) (ClientCourse (own n (ts ++ faults_after)))
   unfolding faults_after
   courses one other n =
       let first = own n ts in
@@ -149,16 +149,16 @@ module _ (old mid between new : List (ℕ × History)) (taken : Taken) (all : Ta
       let f : map (λ t. t.asked) second ≡ map asked_by (own n all.faulty) = sym (own_mapped n (λ (t : Turn). t.asked) (fault_turns all.faulty taken.faults.items)) ∙ ap (own n) (fault_asks all.faulty taken.faults.items all.holds.faults) ∙ own_mapped n asked_by all.faulty in
       let told_first : own n (tells ts) ≡ map (λ t. t.reply) first = own_mapped n (λ (t : Turn). t.reply) ts in
       let told_second : own n (refused_faults taken.faults.items) ≡ map (λ t. t.reply) second = ap (own n) (sym (fault_tells all.faulty taken.faults.items all.holds.faults)) ∙ own_mapped n (λ (t : Turn). t.reply) (fault_turns all.faulty taken.faults.items) in
-      let queued : Both (client_in mid n) (client_in new n) (QueuesOn (map (λ t. t.reply) first ++ map (λ t. t.reply) second)) =
+      let queued : BothClients (client_in mid n) (client_in new n) (QueuesOn (map (λ t. t.reply) first ++ map (λ t. t.reply) second)) =
       both_on (client_in mid n) (client_in between n) (client_in new n) (QueuesOn (map (λ t. t.reply) first)) (QueuesOn (map (λ t. t.reply) second)) (QueuesOn (map (λ t. t.reply) first ++ map (λ t. t.reply) second))
       (on (map (λ t. t.reply) first) (map (λ t. t.reply) second))
-      (subst (λ l. Both (client_in mid n) (client_in between n) (QueuesOn l)) told_first (one n)) (subst (λ l. Both (client_in between n) (client_in new n) (QueuesOn l)) told_second (other n)) in
-      subst (λ l. Both (client_in old n) (client_in new n) (Course l)) (sym (own-append n ts (fault_turns all.faulty taken.faults.items)))
-      (both_on (client_in old n) (client_in mid n) (client_in new n) (TakesOn (own n all.requests) (own n all.faulty)) (QueuesOn (map (λ t. t.reply) first ++ map (λ t. t.reply) second)) (Course (first ++ second))
+      (subst (λ l. BothClients (client_in mid n) (client_in between n) (QueuesOn l)) told_first (one n)) (subst (λ l. BothClients (client_in between n) (client_in new n) (QueuesOn l)) told_second (other n)) in
+      subst (λ l. BothClients (client_in old n) (client_in new n) (ClientCourse l)) (sym (own-append n ts (fault_turns all.faulty taken.faults.items)))
+      (both_on (client_in old n) (client_in mid n) (client_in new n) (TakesOn (own n all.requests) (own n all.faulty)) (QueuesOn (map (λ t. t.reply) first ++ map (λ t. t.reply) second)) (ClientCourse (first ++ second))
       (λ h i k took told. course (own n all.requests) (own n all.faulty) first second h i k took a f told) (all.takes n) queued)
 
   -- as many frames have no reply
-  due_on : (a b : Option History) (rs : List Request) (fs : List FrameValue) (xs : List Reply) → Both a b (TakesOn rs fs) → IfClient a (λ h. length h.answers ≡ length h.taken) → length xs ≡ length rs + length fs → IfClient b (λ h. length h.answers + length xs ≤ length h.taken)
+  due_on : (a b : Option History) (rs : List Request) (fs : List FrameValue) (xs : List Reply) → BothClients a b (TakesOn rs fs) → IfClient a (λ h. length h.answers ≡ length h.taken) → length xs ≡ length rs + length fs → IfClient b (λ h. length h.answers + length xs ≤ length h.taken)
   due_on None None rs fs xs took even is = tt
   due_on None (Some y) rs fs xs took even is = absurd took
   due_on (Some x) None rs fs xs took even is = absurd took
@@ -194,16 +194,16 @@ due_front xs ys clients due n = due_less (own n xs) (own n ys) (client_in client
 
 -- ---- what is true of a host still
 
-pub was : (a : Option History) (k : History) (R : History → History → Type 0) → Both a (Some k) R → (h : History) × (a ≡ Some h) × R h k
+pub was : (a : Option History) (k : History) (R : History → History → Type 0) → BothClients a (Some k) R → (h : History) × (a ≡ Some h) × R h k
 was None k R both = absurd both
 was (Some h) k R both = (h, refl, both)
 
-pub kept_after : (old new : List (ℕ × History)) (admitted : ℕ) (ts : List (ℕ × Turn)) → AreKept old admitted → ((n : ℕ) → Both (client_in old n) (client_in new n) (Course (own n ts))) → AreKept new admitted
+pub kept_after : (old new : List (ℕ × History)) (admitted : ℕ) (ts : List (ℕ × Turn)) → AreKept old admitted → ((n : ℕ) → BothClients (client_in old n) (client_in new n) (ClientCourse (own n ts))) → AreKept new admitted
 kept_after old new admitted ts kept each = record {
-  given = λ n k found. let h = was (client_in old n) k (Course (own n ts)) (subst (λ o. Both (client_in old n) o (Course (own n ts))) found (each n)) in kept.given n h.0 h.1;
+  given = λ n k found. let h = was (client_in old n) k (ClientCourse (own n ts)) (subst (λ o. BothClients (client_in old n) o (ClientCourse (own n ts))) found (each n)) in kept.given n h.0 h.1;
   answered = λ n k found.
-      let h = was (client_in old n) k (Course (own n ts)) (subst (λ o. Both (client_in old n) o (Course (own n ts))) found (each n)) in
-      let c : Course (own n ts) h.0 k = h.2 in
+      let h = was (client_in old n) k (ClientCourse (own n ts)) (subst (λ o. BothClients (client_in old n) o (ClientCourse (own n ts))) found (each n)) in
+      let c : ClientCourse (own n ts) h.0 k = h.2 in
       let even : length h.0.answers ≡ length h.0.taken = kept.answered n h.0 h.1 in
       let answers : length k.answers ≡ length h.0.answers + length c.queued = ap length c.answers ∙ length-append h.0.answers c.queued in
       let taken : length k.taken ≡ length h.0.taken + length c.frames = ap length c.taken ∙ length-append h.0.taken c.frames in
@@ -218,29 +218,29 @@ kept_after old new admitted ts kept each = record {
 pub record Answered (requests : List (ℕ × Request)) (mid between : List (ℕ × History)) (old new : SiteValue) (before after : State) : Type 0 where
   pub ts : List (ℕ × Turn)
   pub asked : asks ts ≡ requested requests
-  pub queued : Queues (tells ts) mid between
+  pub queued : QueuesReplies (tells ts) mid between
   pub serves : Serves (turns_of ts) old new before after
 
 pub ok_tells : (rs : List (ℕ × Request)) (ns : List ℕ) (ts : List Turn) (replies : List Reply) → ns ≡ map (λ (r : ℕ × Request). r.0) rs → map (λ (t : Turn). t.reply) ts ≡ replies → zip ns replies ≡ tells (zip (map (λ (r : ℕ × Request). r.0) rs) ts)
 ok_tells rs ns ts replies same told = ap₂ (λ (a : List ℕ) (b : List Reply). zip a b) same (sym told) ∙ sym (zip_tells (map (λ (r : ℕ × Request). r.0) rs) ts)
 
 pub answered_ok : (rs : List (ℕ × Request)) (requests : List Request) (ns : List ℕ) (replies : List Reply) (mid between : List (ℕ × History)) (old new : SiteValue) (before after : State)
-    → requests ≡ map (λ (r : ℕ × Request). r.1) rs → ns ≡ map (λ (r : ℕ × Request). r.0) rs → AnswersAll requests replies old new before after → Queues (zip ns replies) mid between → Answered rs mid between old new before after
+    → requests ≡ map (λ (r : ℕ × Request). r.1) rs → ns ≡ map (λ (r : ℕ × Request). r.0) rs → AnswersAll requests replies old new before after → QueuesReplies (zip ns replies) mid between → Answered rs mid between old new before after
 answered_ok rs requests ns replies mid between old new before after same numbers a queued =
     let asked : map (λ t. t.asked) a.turns ≡ map {B = Result Request Refusal} (λ r. Ok r) (map (λ (r : ℕ × Request). r.1) rs) = a.asked ∙ ap (λ (l : List Request). map {B = Result Request Refusal} (λ r. Ok r) l) same in
     record {
       ts = zip (map (λ (r : ℕ × Request). r.0) rs) a.turns;
       asked = zip_asks rs a.turns asked;
-      queued = subst (λ l. Queues l mid between) (ok_tells rs ns a.turns replies numbers a.told) queued;
+      queued = subst (λ l. QueuesReplies l mid between) (ok_tells rs ns a.turns replies numbers a.told) queued;
       serves = subst (λ l. Serves l old new before after) (sym (zip_turns rs a.turns asked)) (serves_turns a.turns old new before after a.takes);
     }
 
 pub answered_err : (rs : List (ℕ × Request)) (ns : List ℕ) (refusal : Refusal) (mid between : List (ℕ × History)) (site : SiteValue) (s : State)
-    → ns ≡ map (λ (r : ℕ × Request). r.0) rs → refusal ≡ Memory → Queues (refused_all ns refusal) mid between → Answered rs mid between site site s s
+    → ns ≡ map (λ (r : ℕ × Request). r.0) rs → refusal ≡ Memory → QueuesReplies (refused_all ns refusal) mid between → Answered rs mid between site site s s
 answered_err rs ns refusal mid between site s numbers memory queued = record {
   ts = memory_turns rs refusal;
   asked = memory_asks rs refusal;
-  queued = subst (λ l. Queues l mid between) (ap (λ (l : List ℕ). refused_all l refusal) numbers ∙ sym (memory_tells rs refusal)) queued;
+  queued = subst (λ l. QueuesReplies l mid between) (ap (λ (l : List ℕ). refused_all l refusal) numbers ∙ sym (memory_tells rs refusal)) queued;
   serves = serves_still (turns_of (memory_turns rs refusal)) site s (memory_still rs refusal memory);
 }
 
@@ -257,8 +257,8 @@ answered_none rs ns clients site s numbers none = record {
   serves = serves_none site s;
 }
 
-pub no_faults : (es : List (ℕ × Refusal)) (clients : List (ℕ × History)) → es ≡ [] → Queues (refused_faults es) clients clients
-no_faults es clients none = subst (λ (l : List (ℕ × Refusal)). Queues (refused_faults l) clients clients) (sym none) (queues_none clients)
+pub no_faults : (es : List (ℕ × Refusal)) (clients : List (ℕ × History)) → es ≡ [] → QueuesReplies (refused_faults es) clients clients
+no_faults es clients none = subst (λ (l : List (ℕ × Refusal)). QueuesReplies (refused_faults l) clients clients) (sym none) (queues_none clients)
 
 nothing_mapped : {X Y : Type 0} (f : X → Y) (xs : List X) → map f xs ≡ [] → xs ≡ []
 nothing_mapped f [] nothing = refl
@@ -273,11 +273,11 @@ no_faulty_left [] all = refl
 no_faulty_left (f ∷ fs) all = absurd all
 
 module _ (ready : List ℕ) (old mid between new : List (ℕ × History)) (taken : Taken) (took : TakesOnly ready (length ready) old mid taken) (admitted : ℕ) (site later : SiteValue) (before after : State)
-    (a : Answered took.all.requests mid between site later before after) (queued : Queues (refused_faults taken.faults.items) between new) where
+    (a : Answered took.all.requests mid between site later before after) (queued : QueuesReplies (refused_faults taken.faults.items) between new) where
   all_turns : List (ℕ × Turn)
   all_turns = a.ts ++ fault_turns took.all.faulty taken.faults.items
 
-  round_clients : (n : ℕ) → Both (client_in old n) (client_in new n) (Course (own n all_turns))
+  round_clients : (n : ℕ) → BothClients (client_in old n) (client_in new n) (ClientCourse (own n all_turns))
   unfolding all_turns faults_after
   round_clients = courses old mid between new taken took.all a.ts a.asked a.queued queued
 
@@ -340,20 +340,20 @@ module _ (ready : List ℕ) (old mid between new : List (ℕ × History)) (taken
       untouched (own n (refused_faults taken.faults.items)) (client_in between n) (client_in new n) second (queued n)
       ∙ untouched (own n (tells a.ts)) (client_in mid n) (client_in between n) first (a.queued n)
 
-  fair_turns : IsFair ready (length ready) took.all.requests took.all.faulty mid → (i : ℕ) → i < length ready → (own (slice_index ready i) all_turns ≢ []) ⊎ IfClient (client_in new (slice_index ready i)) IsIdle
+  fair_turns : IsFair ready (length ready) took.all.requests took.all.faulty mid → (i : ℕ) → i < length ready → (own (slice_index ready i) all_turns ≢ []) ⊎ IfClient (client_in new (slice_index ready i)) HasNoNext
   fair_turns fair i below = decide (own (slice_index ready i) all_turns) refl
     where
-      decide : (l : List Turn) → own (slice_index ready i) all_turns ≡ l → (own (slice_index ready i) all_turns ≢ []) ⊎ IfClient (client_in new (slice_index ready i)) IsIdle
+      decide : (l : List Turn) → own (slice_index ready i) all_turns ≡ l → (own (slice_index ready i) all_turns ≢ []) ⊎ IfClient (client_in new (slice_index ready i)) HasNoNext
       decide (t ∷ ts) is = inl (λ none. let no : ◌≡◌ {A = List Turn} (t ∷ ts) [] = sym is ∙ none in absurd (cc))
       decide [] is =
           let none = no_frames (slice_index ready i) is in
           elim (fair i below) [
             | inl (inl some) ↦ absurd (some none.0)
             | inl (inr some) ↦ absurd (some none.1)
-            | inr idle ↦ inr (subst (λ o. IfClient o IsIdle) (sym (same_later (slice_index ready i) none)) idle)
+            | inr idle ↦ inr (subst (λ o. IfClient o HasNoNext) (sym (same_later (slice_index ready i) none)) idle)
           ]
 
-  some_turns : ¬ IsNone taken → all_turns ≢ []
+  some_turns : ¬ IsNothingTaken taken → all_turns ≢ []
   unfolding all_turns
   some_turns some nothing =
       let faults = fault_turns took.all.faulty taken.faults.items in
@@ -365,7 +365,7 @@ module _ (ready : List ℕ) (old mid between new : List (ℕ × History)) (taken
       let others : length taken.faults.items ≡ 0 = ap length (no_fault_left taken.faults.items (subst (λ l. AreFaults l taken.faults.items) faulty took.all.holds.faults)) in
       some (omega (arith, clients, others))
 
-  all_idle : IsNone taken → IsFair ready (length ready) took.all.requests took.all.faulty mid → (i : ℕ) → i < length ready → IfClient (client_in new (slice_index ready i)) IsIdle
+  all_idle : IsNothingTaken taken → IsFair ready (length ready) took.all.requests took.all.faulty mid → (i : ℕ) → i < length ready → IfClient (client_in new (slice_index ready i)) HasNoNext
   all_idle nothing fair i below =
       let requests : took.all.requests ≡ [] = nothing_mapped (λ (r : ℕ × Request). r.0) took.all.requests (sym took.all.holds.clients ∙ no_items taken.clients.items (length taken.faults.items) nothing) in
       let faulty : took.all.faulty ≡ [] = no_faulty_left took.all.faulty (subst (AreFaults took.all.faulty) (later_items (length taken.clients.items) taken.faults.items nothing) took.all.holds.faults) in
@@ -373,7 +373,7 @@ module _ (ready : List ℕ) (old mid between new : List (ℕ × History)) (taken
       elim (fair i below) [
         | inl (inl some) ↦ absurd (some none.0)
         | inl (inr some) ↦ absurd (some none.1)
-        | inr idle ↦ subst (λ o. IfClient o IsIdle) (sym (same_later (slice_index ready i) none)) idle
+        | inr idle ↦ subst (λ o. IfClient o HasNoNext) (sym (same_later (slice_index ready i) none)) idle
       ]
 
   round_spares : Spares ready all_turns (record { clients = old; admitted = admitted }) (record { clients = new; admitted = admitted })
@@ -389,14 +389,14 @@ module _ (ready : List ℕ) (old mid between new : List (ℕ × History)) (taken
   is_round = record { serves = round_serves; clients = round_clients; spares = round_spares; admitted = refl }
 
   -- frames were taken
-  pub round_of : ¬ IsNone taken → (refused : Bool) → (refused ≡ false → IsFair ready (length ready) took.all.requests took.all.faulty mid) → (result : Result Bool Refusal) → result ≡ cond refused (Err Memory) (Ok true)
+  pub round_of : ¬ IsNothingTaken taken → (refused : Bool) → (refused ≡ false → IsFair ready (length ready) took.all.requests took.all.faulty mid) → (result : Result Bool Refusal) → result ≡ cond refused (Err Memory) (Ok true)
       → (turns : List (ℕ × Turn)) × Round ready turns old_side new_side × GoesForward result ready turns new_side.host
   round_of some true fair result is = (all_turns, is_round, subst (λ r. GoesForward r ready all_turns new_side.host) (sym is) (record { fair = tt; some = tt; idle = tt }))
   round_of some false fair result is =
       (all_turns, is_round, subst (λ r. GoesForward r ready all_turns new_side.host) (sym is) (record { fair = fair_turns (fair refl); some = λ _. some_turns some; idle = λ no. absurd (true≢false no) }))
 
   -- none was
-  pub round_none : IsNone taken → (refused : Bool) → (refused ≡ false → IsFair ready (length ready) took.all.requests took.all.faulty mid) → (result : Result Bool Refusal) → result ≡ cond refused (Err Memory) (Ok false)
+  pub round_none : IsNothingTaken taken → (refused : Bool) → (refused ≡ false → IsFair ready (length ready) took.all.requests took.all.faulty mid) → (result : Result Bool Refusal) → result ≡ cond refused (Err Memory) (Ok false)
       → (turns : List (ℕ × Turn)) × Round ready turns old_side new_side × GoesForward result ready turns new_side.host
   round_none none true fair result is = (all_turns, is_round, subst (λ r. GoesForward r ready all_turns new_side.host) (sym is) (record { fair = tt; some = tt; idle = tt }))
   round_none none false fair result is = (

@@ -8,17 +8,17 @@ use Rattle.std.specs.List.{concat}
 use Rattle.std.specs.Map.{set_value}
 use Rattle.mvd_conn.proofs.Hellos.{hello_asks}
 use Rattle.mvd_conn.specs.Guard.{IsShown}
-use Rattle.mvd_conn.specs.Stands.{IsLast, Stands}
+use Rattle.mvd_conn.specs.Stands.{IsLast, HistoryStands}
 use Rattle.mvd_conn.specs.declared.guard.Guard.{Guard}
 use Rattle.mvd_conn.specs.History.{History, last_bytes, new_history}
 use Rattle.mvd_dots.specs.declared.refusals.Refusal.{Refusal}
 use Rattle.mvd_wire.specs.Frames.{FrameValue}
 use Rattle.mvd_wire.specs.declared.request.Request.{Request}
 use Rattle.mvd_replica.specs.Turns.{Turn}
-use Rattle.mvd_host.specs.Hosts.{AdmitsOne, HostValue, Leaves, altered, altered_if, client_in, client_of, new_host, with_client}
-use Rattle.mvd_host.specs.Course.{AreQueued, Both, asked_by, own}
-use Rattle.mvd_host.specs.Round.{Course, Round, turns_of}
-use Rattle.mvd_host.specs.Runs.{Call, Calls, Closes, Comes, Cuts, Feeds, Goes, Happening, HasShown, May, Moment, OneList, Releases, Rounds, Runs, Sends, TellsOwn, after_call, after_one, after_run, side_of, turns_at, turns_in}
+use Rattle.mvd_host.specs.Hosts.{AdmitsOne, HostValue, ClientLeaves, altered, altered_if, client_in, client_of, new_host, with_client}
+use Rattle.mvd_host.specs.Course.{AreQueued, BothClients, asked_by, own}
+use Rattle.mvd_host.specs.Round.{ClientCourse, Round, turns_of}
+use Rattle.mvd_host.specs.Runs.{Call, Calls, Closes, Comes, Cuts, Feeds, Goes, Happening, HasShown, May, HostMoment, OneList, Releases, Rounds, Runs, Sends, TellsOwn, after_call, after_one, after_run, side_at, happened_turns, turns_in}
 use Rattle.mvd_host.proofs.Hosts.{at_is}
 use Rattle.mvd_host.proofs.Own.{own-append}
 use Rattle.mvd_host.proofs.Positions.{Serves}
@@ -114,7 +114,7 @@ tells_call turns call h t = record {
 
 -- ---- what holds from round to round
 
-pub record SoFar {C : Type 0} (f : C → State) (old : Moment C) (turns : List (ℕ × Turn)) (side : Moment C) : Type 0 where
+pub record SoFar {C : Type 0} (f : C → State) (old : HostMoment C) (turns : List (ℕ × Turn)) (side : HostMoment C) : Type 0 where
   pub serves : Serves (turns_of turns) old.site side.site (f old.conn) (f side.conn)
   pub tells : (n : ℕ) (h : History) → client_of side.host n ≡ Some h → TellsOwn (own n turns) h
   pub given : (n : ℕ) (h : History) → client_of side.host n ≡ Some h → n < side.host.admitted
@@ -123,7 +123,7 @@ pub record SoFar {C : Type 0} (f : C → State) (old : Moment C) (turns : List (
 no_client : (n : ℕ) (h : History) → client_of new_host n ≡ Some h → ⊥
 no_client n h found = let no : ◌≡◌ {A = Option History} None (Some h) = found in cc
 
-pub begins : {C : Type 0} (f : C → State) → (side : Moment C) → side.host ≡ new_host → SoFar f side [] side
+pub begins : {C : Type 0} (f : C → State) → (side : HostMoment C) → side.host ≡ new_host → SoFar f side [] side
 begins f side empty = record {
   serves = serves_none side.site (f side.conn);
   tells = λ n h found. absurd (no_client n h (ap (λ host. client_of host n) (sym empty) ∙ found));
@@ -138,7 +138,7 @@ tells_new (Some guard) = record { asked = refl; told = tt; shown = tt }
 tells_none : (guard : Option Guard) (turns : List Turn) (h : History) → turns ≡ [] → h ≡ new_history guard → TellsOwn turns h
 tells_none guard turns h none new = subst (λ l. TellsOwn l h) (sym none) (subst (TellsOwn []) (sym new) (tells_new guard))
 
-came : {C : Type 0} (f : C → State) → (old : Moment C) (turns : List (ℕ × Turn)) (side : Moment C) (n : ℕ) (host : HostValue) (guard : Option Guard) → AdmitsOne guard side.host host n → SoFar f old turns side → SoFar f old turns (record side { host = host })
+came : {C : Type 0} (f : C → State) → (old : HostMoment C) (turns : List (ℕ × Turn)) (side : HostMoment C) (n : ℕ) (host : HostValue) (guard : Option Guard) → AdmitsOne guard side.host host n → SoFar f old turns side → SoFar f old turns (record side { host = host })
 came f old turns side n host guard one s = record {
   serves = s.serves;
   tells = λ q h found. on q h (q == n) refl (sym (one.clients q) ∙ found);
@@ -170,7 +170,7 @@ stayed : (b : Bool) (o : Option History) (h : History) → cond b None o ≡ Som
 stayed true o h found = absurd (let no : ◌≡◌ {A = Option History} None (Some h) = found in cc)
 stayed false o h found = found
 
-left : {C : Type 0} (f : C → State) → (old : Moment C) (turns : List (ℕ × Turn)) (side : Moment C) (n : ℕ) (host : HostValue) → Leaves side.host n host → SoFar f old turns side → SoFar f old turns (record side { host = host })
+left : {C : Type 0} (f : C → State) → (old : HostMoment C) (turns : List (ℕ × Turn)) (side : HostMoment C) (n : ℕ) (host : HostValue) → ClientLeaves side.host n host → SoFar f old turns side → SoFar f old turns (record side { host = host })
 left f old turns side n host one s = record {
   serves = s.serves;
   tells = λ q h found. s.tells q h (stayed (q == n) (client_of side.host q) h (sym (one.clients q) ∙ found));
@@ -178,7 +178,7 @@ left f old turns side n host one s = record {
   later = λ q above. s.later q (subst (λ a. a ≤ q) one.admitted above);
 }
 
-was_called : {C : Type 0} (f : C → State) → (old : Moment C) (turns : List (ℕ × Turn)) (side : Moment C) (n : ℕ) (call : Call) → SoFar f old turns side → SoFar f old turns (record side { host = altered side.host n (after_call call) })
+was_called : {C : Type 0} (f : C → State) → (old : HostMoment C) (turns : List (ℕ × Turn)) (side : HostMoment C) (n : ℕ) (call : Call) → SoFar f old turns side → SoFar f old turns (record side { host = altered side.host n (after_call call) })
 was_called f old turns side n call s =
     let same : (altered side.host n (after_call call)).admitted ≡ side.host.admitted = admitted_called side.host n (after_call call) (client_of side.host n) in
     record {
@@ -188,7 +188,7 @@ was_called f old turns side n call s =
       later = λ q above. s.later q (subst (λ a. a ≤ q) same above);
     }
 
-tells_on : (first second : List Turn) (h k : History) → TellsOwn first h → Course second h k → TellsOwn (first ++ second) k
+tells_on : (first second : List Turn) (h k : History) → TellsOwn first h → ClientCourse second h k → TellsOwn (first ++ second) k
 tells_on first second h k t c = record {
   asked = ap (map asked_by) c.taken ∙ map-append asked_by h.taken c.frames ∙ ap₂ (λ a b. a ++ b) t.asked c.asked ∙ sym (map-append (λ (t : Turn). t.asked) first second);
   told = subst (AreQueued (map (λ (t : Turn). t.reply) (first ++ second))) (sym c.answers)
@@ -201,37 +201,37 @@ none_given : (o : Option History) (n a : ℕ) → a ≤ n → ((h : History) →
 none_given None n a above given = refl
 none_given (Some h) n a above given = absurd (let below : n < a = given h refl in omega (arith, above, below))
 
-answered : {C : Type 0} (f : C → State) → (old : Moment C) (turns : List (ℕ × Turn)) (side : Moment C) (ready : List ℕ) (more : List (ℕ × Turn)) (new : Moment C) → Round ready more (side_of f side) (side_of f new) → SoFar f old turns side → SoFar f old (turns ++ more) new
+answered : {C : Type 0} (f : C → State) → (old : HostMoment C) (turns : List (ℕ × Turn)) (side : HostMoment C) (ready : List ℕ) (more : List (ℕ × Turn)) (new : HostMoment C) → Round ready more (side_at f side) (side_at f new) → SoFar f old turns side → SoFar f old (turns ++ more) new
 answered f old turns side ready more new r s = record {
   serves = subst (λ l. Serves l old.site new.site (f old.conn) (f new.conn)) (sym (map-append (λ (t : ℕ × Turn). t.1) turns more))
       (serves_on (turns_of turns) (turns_of more) old.site side.site new.site (f old.conn) (f side.conn) (f new.conn) s.serves r.serves);
   tells = λ n k found.
-      let h = was (client_of side.host n) k (Course (own n more)) (subst (λ o. Both (client_of side.host n) o (Course (own n more))) found (r.clients n)) in
+      let h = was (client_of side.host n) k (ClientCourse (own n more)) (subst (λ o. BothClients (client_of side.host n) o (ClientCourse (own n more))) found (r.clients n)) in
       subst (λ l. TellsOwn l k) (sym (own-append n turns more)) (tells_on (own n turns) (own n more) h.0 k (s.tells n h.0 h.1) h.2);
   given = λ n k found.
-      let h = was (client_of side.host n) k (Course (own n more)) (subst (λ o. Both (client_of side.host n) o (Course (own n more))) found (r.clients n)) in
+      let h = was (client_of side.host n) k (ClientCourse (own n more)) (subst (λ o. BothClients (client_of side.host n) o (ClientCourse (own n more))) found (r.clients n)) in
       subst (λ a. n < a) (sym r.admitted) (s.given n h.0 h.1);
   later = λ n above.
       let before : side.host.admitted ≤ n = subst (λ a. a ≤ n) r.admitted above in
       own-append n turns more ∙ ap₂ (λ a b. a ++ b) (s.later n before) (r.spares.none n (none_given (client_of side.host n) n side.host.admitted before (s.given n)));
 }
 
-one_more : {C : Type 0} (f : C → State) → (old : Moment C) (turns : List (ℕ × Turn)) (side : Moment C) (x : Happening C) → May f side x → SoFar f old turns side → SoFar f old (turns ++ turns_at x) (after_one side x)
+one_more : {C : Type 0} (f : C → State) → (old : HostMoment C) (turns : List (ℕ × Turn)) (side : HostMoment C) (x : Happening C) → May f side x → SoFar f old turns side → SoFar f old (turns ++ happened_turns x) (after_one side x)
 one_more f old turns side (Comes n host) may s = subst (λ l. SoFar f old l (record side { host = host })) (sym (append-nil turns)) (came f old turns side n host may.0 may.1 s)
 one_more f old turns side (Goes n host) may s = subst (λ l. SoFar f old l (record side { host = host })) (sym (append-nil turns)) (left f old turns side n host may s)
 one_more f old turns side (Calls n call) may s = subst (λ l. SoFar f old l (record side { host = altered side.host n (after_call call) })) (sym (append-nil turns)) (was_called f old turns side n call s)
 one_more f old turns side (Rounds ready more new) may s = answered f old turns side ready more new may s
 
-pub goes_on : {C : Type 0} (f : C → State) → (old : Moment C) (turns : List (ℕ × Turn)) (side : Moment C) (xs : List (Happening C)) → Runs f side xs → SoFar f old turns side → SoFar f old (turns ++ turns_in xs) (after_run side xs)
+pub goes_on : {C : Type 0} (f : C → State) → (old : HostMoment C) (turns : List (ℕ × Turn)) (side : HostMoment C) (xs : List (Happening C)) → Runs f side xs → SoFar f old turns side → SoFar f old (turns ++ turns_in xs) (after_run side xs)
 goes_on f old turns side [] runs s = subst (λ l. SoFar f old l side) (sym (append-nil turns)) s
 goes_on f old turns side (x ∷ xs) runs s =
-    subst (λ l. SoFar f old l (after_run (after_one side x) xs)) (append_assoc turns (turns_at x) (turns_in xs))
-    (goes_on f old (turns ++ turns_at x) (after_one side x) xs runs.1 (one_more f old turns side x runs.0 s))
+    subst (λ l. SoFar f old l (after_run (after_one side x) xs)) (append_assoc turns (happened_turns x) (turns_in xs))
+    (goes_on f old (turns ++ happened_turns x) (after_one side x) xs runs.1 (one_more f old turns side x runs.0 s))
 
-pub so_far : {C : Type 0} (f : C → State) → (side : Moment C) (xs : List (Happening C)) → side.host ≡ new_host → Runs f side xs → SoFar f side (turns_in xs) (after_run side xs)
+pub so_far : {C : Type 0} (f : C → State) → (side : HostMoment C) (xs : List (Happening C)) → side.host ≡ new_host → Runs f side xs → SoFar f side (turns_in xs) (after_run side xs)
 so_far f side xs empty runs = goes_on f side [] side xs runs (begins f side empty)
 
-pub one_list : {C : Type 0} (f : C → State) → (side : Moment C) (xs : List (Happening C)) → side.host ≡ new_host → Runs f side xs → OneList (turns_in xs) (side_of f side) (side_of f (after_run side xs))
+pub one_list : {C : Type 0} (f : C → State) → (side : HostMoment C) (xs : List (Happening C)) → side.host ≡ new_host → Runs f side xs → OneList (turns_in xs) (side_at f side) (side_at f (after_run side xs))
 one_list f side xs empty runs = let s = so_far f side xs empty runs in record { serves = s.serves; clients = s.tells }
 
 -- ---- a client that went
@@ -241,7 +241,7 @@ record IsGone (n : ℕ) (host : HostValue) : Type 0 where
   given : n < host.admitted
   none : client_of host n ≡ None
 
-gone_on : {C : Type 0} (f : C → State) → (n : ℕ) (side : Moment C) (x : Happening C) → May f side x → IsGone n side.host → (own n (turns_at x) ≡ []) × IsGone n (after_one side x).host
+gone_on : {C : Type 0} (f : C → State) → (n : ℕ) (side : HostMoment C) (x : Happening C) → May f side x → IsGone n side.host → (own n (happened_turns x) ≡ []) × IsGone n (after_one side x).host
 gone_on f n side (Comes m host) (guard, one) gone =
     let number = one.number in
     let next = one.next in
@@ -269,27 +269,27 @@ gone_on f n side (Rounds ready more new) may gone = (
   },
 )
   where
-    both_gone : (a b : Option History) → Both a b (Course (own n more)) → a ≡ None → b ≡ None
+    both_gone : (a b : Option History) → BothClients a b (ClientCourse (own n more)) → a ≡ None → b ≡ None
     both_gone None None both is = refl
     both_gone None (Some y) both is = absurd both
     both_gone (Some x) b both is = absurd (let no : ◌≡◌ {A = Option History} (Some x) None = is in cc)
 
-gone_for_good : {C : Type 0} (f : C → State) → (n : ℕ) (side : Moment C) (xs : List (Happening C)) → Runs f side xs → IsGone n side.host → own n (turns_in xs) ≡ []
+gone_for_good : {C : Type 0} (f : C → State) → (n : ℕ) (side : HostMoment C) (xs : List (Happening C)) → Runs f side xs → IsGone n side.host → own n (turns_in xs) ≡ []
 gone_for_good f n side [] runs gone = refl
 gone_for_good f n side (x ∷ xs) runs gone =
     let one = gone_on f n side x runs.0 gone in
-    own-append n (turns_at x) (turns_in xs) ∙ ap₂ (λ a b. a ++ b) one.0 (gone_for_good f n (after_one side x) xs runs.1 one.1)
+    own-append n (happened_turns x) (turns_in xs) ∙ ap₂ (λ a b. a ++ b) one.0 (gone_for_good f n (after_one side x) xs runs.1 one.1)
 
 turns-append : {C : Type 0} (xs ys : List (Happening C)) → turns_in (xs ++ ys) ≡ turns_in xs ++ turns_in ys
 turns-append [] ys = refl
-turns-append (x ∷ xs) ys = ap (λ l. turns_at x ++ l) (turns-append xs ys) ∙ sym (append_assoc (turns_at x) (turns_in xs) (turns_in ys))
+turns-append (x ∷ xs) ys = ap (λ l. happened_turns x ++ l) (turns-append xs ys) ∙ sym (append_assoc (happened_turns x) (turns_in xs) (turns_in ys))
 
-pub tells_gone : {C : Type 0} (f : C → State) → (side : Moment C) (before after : List (Happening C)) (n : ℕ) (host : HostValue) (h : History) → side.host ≡ new_host → Runs f side before → Runs f (after_run side before) (Goes n host ∷ after)
+pub tells_gone : {C : Type 0} (f : C → State) → (side : HostMoment C) (before after : List (Happening C)) (n : ℕ) (host : HostValue) (h : History) → side.host ≡ new_host → Runs f side before → Runs f (after_run side before) (Goes n host ∷ after)
     → client_of (after_run side before).host n ≡ Some h → TellsOwn (own n (turns_in (before ++ Goes n host ∷ after))) h
 tells_gone f side before after n host h empty first second found =
     let s = so_far f side before empty first in
     let mid = after_run side before in
-    let one : Leaves mid.host n host = second.0 in
+    let one : ClientLeaves mid.host n host = second.0 in
     let here : (n == n) ≡ true = grind (arith, nat_tests) in
     let gone : IsGone n host = record { given = subst (λ a. n < a) (sym one.admitted) (s.given n h found); none = one.clients n ∙ ap (λ b. cond b None (client_of mid.host n)) here } in
     let nothing : own n (turns_in after) ≡ [] = gone_for_good f n (record mid { host = host }) after second.1 gone in
@@ -322,5 +322,5 @@ no_answers [] told = refl
 no_answers (a ∷ answers) told = absurd told
 
 -- and before its first turn nothing was told it but its end
-pub told_end : (h : History) → TellsOwn [] h → Stands h → (h.left ++ h.waits ≡ last_bytes h.last) × IsLast h h.last
+pub told_end : (h : History) → TellsOwn [] h → HistoryStands h → (h.left ++ h.waits ≡ last_bytes h.last) × IsLast h h.last
 told_end h own s = (sym s.output ∙ ap (λ (l : List (List ℕ)). concat l ++ last_bytes h.last) (no_answers h.answers own.told), s.last)

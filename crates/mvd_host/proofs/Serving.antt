@@ -13,7 +13,7 @@ use Rattle.mvd_site.proofs.Outcomes.{memory_or_not}
 use Rattle.mvd_site.proofs.Pushes.{refusal_is}
 use Rattle.mvd_site.proofs.Steps.{Stands-nothing}
 use Rattle.mvd_replica.specs.Whole.{leaves_self}
-use Rattle.mvd_replica.specs.Turns.{Event, IsToldElse, MayTell, RepliesOne, Turn}
+use Rattle.mvd_replica.specs.Turns.{TurnEvent, IsToldElse, MayTell, RepliesOne, Turn}
 use Rattle.mvd_replica.proofs.Positions.{TakesTurns, TurnsFollow}
 use Rattle.mvd_replica.proofs.Batched.{TakesTurns-none, TurnsFollow-append}
 use Rattle.mvd_replica.proofs.Breaking.{else_both}
@@ -79,7 +79,7 @@ still_follows turn site s =
 still_turn : (site : SiteValue) (s : State) (asked : Result Request Refusal) (refusal : Refusal) → (refusal ≢ Memory → asked ≡ Err refusal) → Serves (record { asked = asked; reply = Refused refusal } ∷ []) site site s s
 still_turn site s asked refusal exact =
     let turn : Turn = record { asked = asked; reply = Refused refusal } in
-    let event : Event = record { turn = turn; added = [] } in
+    let event : TurnEvent = record { turn = turn; added = [] } in
     record {
       replies = Replies-one site site turn (still_one site asked refusal exact);
       stands = StandsOn-one site site turn (still_one site asked refusal exact);

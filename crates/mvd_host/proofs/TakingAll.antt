@@ -9,8 +9,8 @@ use Rattle.mvd_wire.specs.declared.request.Request.{Request}
 use Rattle.mvd_wire.specs.Frames.{FrameValue}
 use Rattle.mvd_conn.specs.History.{History}
 use Rattle.mvd_host.specs.Hosts.{IfClient, client_in}
-use Rattle.mvd_host.specs.Course.{Both, own}
-use Rattle.mvd_host.specs.Taking.{AreFaults, Extends, HasFrame, Holds, IsFair, IsIdle, IsMore, IsNone, TakesAll, TakesMore, TakesOf, TakesOn, TakesOnly}
+use Rattle.mvd_host.specs.Course.{BothClients, own}
+use Rattle.mvd_host.specs.Taking.{AreFaults, ExtendsTaken, HasTakenFrame, HoldsTaken, IsFair, HasNoNext, IsMore, IsNothingTaken, TakesAllFrames, TakesMore, TakesOf, TakesOn, TakesOnly}
 use Rattle.mvd_host.specs.declared.taking.Taken.{Taken}
 use Rattle.mvd_host.proofs.Frames.{none_moved, same, takes_on, then_none}
 use Rattle.mvd_host.proofs.Holding.{holds_same}
@@ -22,7 +22,7 @@ use Rattle.mvd_host.proofs.Own.{both_on, both_self, own-append, own-other, own-s
 same_there : (n m : ℕ) → (n == m) ≡ true → m ≡ n
 same_there n m is = grind (arith, nat_tests)
 
-pub takes_nothing : (clients : List (ℕ × History)) (taken : Taken) → Holds [] [] taken → TakesAll clients clients taken
+pub takes_nothing : (clients : List (ℕ × History)) (taken : Taken) → HoldsTaken [] [] taken → TakesAllFrames clients clients taken
 takes_nothing clients taken holds = record {
   requests = [];
   faulty = [];
@@ -30,7 +30,7 @@ takes_nothing clients taken holds = record {
   takes = λ n. both_self (client_in clients n) (TakesOn [] []) (λ x. same x x (record { taken = refl; answers = refl; moved = none_moved x }));
 }
 
-module _ (client : ℕ) (old mid new : List (ℕ × History)) (before after : Taken) (all : TakesAll old mid before) (one : TakesOf client mid new before after) where
+module _ (client : ℕ) (old mid new : List (ℕ × History)) (before after : Taken) (all : TakesAllFrames old mid before) (one : TakesOf client mid new before after) where
   more_requests : List (ℕ × Request)
   more_requests = map (λ r. (client, r)) one.requests
 
@@ -52,22 +52,22 @@ module _ (client : ℕ) (old mid new : List (ℕ × History)) (before after : Ta
       ] in
       subst₂ (λ a b. TakesOn a b x z) (sym rs) (sym fs) on
 
-  elsewhere : (n : ℕ) → (n == client) ≡ false → Both (client_in old n) (client_in new n) (TakesOn (own n (all.requests ++ more_requests)) (own n (all.faulty ++ more_faulty)))
+  elsewhere : (n : ℕ) → (n == client) ≡ false → BothClients (client_in old n) (client_in new n) (TakesOn (own n (all.requests ++ more_requests)) (own n (all.faulty ++ more_faulty)))
   unfolding more_requests more_faulty
   elsewhere n apart =
       let rs : own n (all.requests ++ more_requests) ≡ own n all.requests = own-append n all.requests more_requests ∙ ap (λ l. own n all.requests ++ l) (own-other client n one.requests apart) ∙ append-nil (own n all.requests) in
       let fs : own n (all.faulty ++ more_faulty) ≡ own n all.faulty = own-append n all.faulty more_faulty ∙ ap (λ l. own n all.faulty ++ l) (own-other client n one.faulty apart) ∙ append-nil (own n all.faulty) in
-      subst (λ o. Both (client_in old n) o (TakesOn (own n (all.requests ++ more_requests)) (own n (all.faulty ++ more_faulty)))) (sym (one.others n apart))
-      (subst₂ (λ a b. Both (client_in old n) (client_in mid n) (TakesOn a b)) (sym rs) (sym fs) (all.takes n))
+      subst (λ o. BothClients (client_in old n) o (TakesOn (own n (all.requests ++ more_requests)) (own n (all.faulty ++ more_faulty)))) (sym (one.others n apart))
+      (subst₂ (λ a b. BothClients (client_in old n) (client_in mid n) (TakesOn a b)) (sym rs) (sym fs) (all.takes n))
 
-  at : (n : ℕ) (b : Bool) → (n == client) ≡ b → Both (client_in old n) (client_in new n) (TakesOn (own n (all.requests ++ more_requests)) (own n (all.faulty ++ more_faulty)))
+  at : (n : ℕ) (b : Bool) → (n == client) ≡ b → BothClients (client_in old n) (client_in new n) (TakesOn (own n (all.requests ++ more_requests)) (own n (all.faulty ++ more_faulty)))
   at n true is =
       let eq : client ≡ n = same_there n client is in
-      subst (λ m. Both (client_in old m) (client_in new m) (TakesOn (own m (all.requests ++ more_requests)) (own m (all.faulty ++ more_faulty)))) eq
+      subst (λ m. BothClients (client_in old m) (client_in new m) (TakesOn (own m (all.requests ++ more_requests)) (own m (all.faulty ++ more_faulty)))) eq
       (both_on (client_in old client) (client_in mid client) (client_in new client) _ _ _ here (all.takes client) one.one)
   at n false is = elsewhere n is
 
-  pub takes_of : TakesAll old new after
+  pub takes_of : TakesAllFrames old new after
   unfolding more_requests more_faulty
   takes_of = record {
     requests = all.requests ++ more_requests;
@@ -93,7 +93,7 @@ module _ (client : ℕ) (old mid new : List (ℕ × History)) (before after : Ta
         own-append n all.faulty more_faulty ∙ ap₂ (λ a b. a ++ b) none.1 (ap (λ (l : List FrameValue). own n (map {B = ℕ × FrameValue} (λ f. (client, f)) l)) nothing.1),
       )
 
-gone_too : (a b : Option History) (rs : List Request) (fs : List FrameValue) → Both a b (TakesOn rs fs) → a ≡ None → b ≡ None
+gone_too : (a b : Option History) (rs : List Request) (fs : List FrameValue) → BothClients a b (TakesOn rs fs) → a ≡ None → b ≡ None
 gone_too None None rs fs both gone = refl
 gone_too None (Some y) rs fs both gone = absurd both
 gone_too (Some x) b rs fs both gone = absurd (let no : ◌≡◌ {A = Option History} (Some x) None = gone in cc)
@@ -105,7 +105,7 @@ apart_is n m other = by_eq (n == m) refl
     by_eq true is = absurd (other (same_there n m is))
     by_eq false is = is
 
-pub only_nothing : (ready : List ℕ) (clients : List (ℕ × History)) (taken : Taken) → Holds [] [] taken → TakesOnly ready 0 clients clients taken
+pub only_nothing : (ready : List ℕ) (clients : List (ℕ × History)) (taken : Taken) → HoldsTaken [] [] taken → TakesOnly ready 0 clients clients taken
 unfolding takes_nothing
 only_nothing ready clients taken holds = record { all = takes_nothing clients taken holds; none = λ n _. (refl, refl); only = λ n _. (refl, refl); same = λ n _. refl }
 
@@ -145,7 +145,7 @@ takes_here client old new h k before after was is at none more = record {
   requests = more.requests;
   faulty = more.faulty;
   first = λ asked faults holds. inl (own_none client faults before.faults.items holds.faults none);
-  one = subst₂ (λ a b. Both a b (TakesOn more.requests more.faulty)) (sym was) (sym is) more.conn;
+  one = subst₂ (λ a b. BothClients a b (TakesOn more.requests more.faulty)) (sym was) (sym is) more.conn;
   none = λ gone. absurd (let no : ◌≡◌ {A = Option History} (Some h) None = sym was ∙ gone in cc);
   others = λ q apart. at q ∙ ap (λ b. cond b (Some k) (client_in old q)) (at_is client q ∙ apart);
   holds = more.holds;
@@ -156,7 +156,7 @@ takes_nowhere client old new taken is = record {
   requests = [];
   faulty = [];
   first = λ asked faults holds. inr (refl, refl);
-  one = subst (λ l. Both (client_in old client) (client_in l client) (TakesOn [] [])) (sym is) (both_self (client_in old client) (TakesOn [] []) (λ x. same x x (record { taken = refl; answers = refl; moved = none_moved x })));
+  one = subst (λ l. BothClients (client_in old client) (client_in l client) (TakesOn [] [])) (sym is) (both_self (client_in old client) (TakesOn [] []) (λ x. same x x (record { taken = refl; answers = refl; moved = none_moved x })));
   none = λ _. (refl, refl);
   others = λ q apart. ap (λ l. client_in l q) is;
   holds = λ asked faults holds. holds_same asked faults taken taken (record { clients = refl; requests = refl; faults = refl }) holds;
@@ -171,29 +171,29 @@ i_cases i at below = by_eq (i == at) refl
     by_eq true is = inl (grind (arith, nat_tests))
     by_eq false is = inr (grind (arith, nat_tests))
 
-idle_apart : (client : ℕ) (mid new : List (ℕ × History)) → IfClient (client_in new client) IsIdle → ((q : ℕ) → (q == client) ≡ false → client_in new q ≡ client_in mid q)
-    → (n : ℕ) (b : Bool) → (n == client) ≡ b → IfClient (client_in mid n) IsIdle → IfClient (client_in new n) IsIdle
-idle_apart client mid new here others n true is idle = subst (λ m. IfClient (client_in new m) IsIdle) (same_there n client is) here
-idle_apart client mid new here others n false is idle = subst (λ o. IfClient o IsIdle) (sym (others n is)) idle
+idle_apart : (client : ℕ) (mid new : List (ℕ × History)) → IfClient (client_in new client) HasNoNext → ((q : ℕ) → (q == client) ≡ false → client_in new q ≡ client_in mid q)
+    → (n : ℕ) (b : Bool) → (n == client) ≡ b → IfClient (client_in mid n) HasNoNext → IfClient (client_in new n) HasNoNext
+idle_apart client mid new here others n true is idle = subst (λ m. IfClient (client_in new m) HasNoNext) (same_there n client is) here
+idle_apart client mid new here others n false is idle = subst (λ o. IfClient o HasNoNext) (sym (others n is)) idle
 
 none_any : (es : List (ℕ × Refusal)) (client : ℕ) → length es ≡ 0 → list_any (λ (e : ℕ × Refusal). e.0 == client) es ≡ true → ⊥
 none_any [] client none any = true≢false (sym any)
 none_any (e ∷ es) client none any = omega arith
 
-idle_here : (client : ℕ) (new : List (ℕ × History)) (before after : Taken) → IsNone after → Extends before after
-    → (IsMore before after ⊎ ((list_any (λ (e : ℕ × Refusal). e.0 == client) before.faults.items ≡ true) ⊎ IfClient (client_in new client) IsIdle)) → IfClient (client_in new client) IsIdle
+idle_here : (client : ℕ) (new : List (ℕ × History)) (before after : Taken) → IsNothingTaken after → ExtendsTaken before after
+    → (IsMore before after ⊎ ((list_any (λ (e : ℕ × Refusal). e.0 == client) before.faults.items ≡ true) ⊎ IfClient (client_in new client) HasNoNext)) → IfClient (client_in new client) HasNoNext
 idle_here client new before after none grows (inl more) = absurd (omega (arith, none, more))
 idle_here client new before after none grows (inr (inl any)) = absurd (none_any before.faults.items client (let f = grows.faults in omega (arith, none, f)) any)
 idle_here client new before after none grows (inr (inr idle)) = idle
 
-pub idle_all : (ready : List ℕ) (at : ℕ) (mid new : List (ℕ × History)) (before after : Taken) → TakesOf (slice_index ready at) mid new before after → Extends before after → IsNone after
-    → (IsMore before after ⊎ ((list_any (λ (e : ℕ × Refusal). e.0 == slice_index ready at) before.faults.items ≡ true) ⊎ IfClient (client_in new (slice_index ready at)) IsIdle))
-    → (IsNone before → (i : ℕ) → i < at → IfClient (client_in mid (slice_index ready i)) IsIdle) → (i : ℕ) → i < at + 1 → IfClient (client_in new (slice_index ready i)) IsIdle
+pub idle_all : (ready : List ℕ) (at : ℕ) (mid new : List (ℕ × History)) (before after : Taken) → TakesOf (slice_index ready at) mid new before after → ExtendsTaken before after → IsNothingTaken after
+    → (IsMore before after ⊎ ((list_any (λ (e : ℕ × Refusal). e.0 == slice_index ready at) before.faults.items ≡ true) ⊎ IfClient (client_in new (slice_index ready at)) HasNoNext))
+    → (IsNothingTaken before → (i : ℕ) → i < at → IfClient (client_in mid (slice_index ready i)) HasNoNext) → (i : ℕ) → i < at + 1 → IfClient (client_in new (slice_index ready i)) HasNoNext
 idle_all ready at mid new before after took grows none ends so_far i below =
-    let here : IfClient (client_in new (slice_index ready at)) IsIdle = idle_here (slice_index ready at) new before after none grows ends in
-    let before_none : IsNone before = let a = grows.clients in let b = grows.faults in omega (arith, none, a, b) in
+    let here : IfClient (client_in new (slice_index ready at)) HasNoNext = idle_here (slice_index ready at) new before after none grows ends in
+    let before_none : IsNothingTaken before = let a = grows.clients in let b = grows.faults in omega (arith, none, a, b) in
     elim (i_cases i at below) [
-      | inl same ↦ subst (λ j. IfClient (client_in new (slice_index ready j)) IsIdle) (sym same) here
+      | inl same ↦ subst (λ j. IfClient (client_in new (slice_index ready j)) HasNoNext) (sym same) here
       | inr less ↦ idle_apart (slice_index ready at) mid new here took.others (slice_index ready i) (slice_index ready i == slice_index ready at) refl (so_far before_none i less)
     ]
 
@@ -216,7 +216,7 @@ no_items_there : {X : Type 0} (x : X) (xs : List X) → x ∷ xs ≡ [] → ⊥
 no_items_there {X} x xs none = let no : ◌≡◌ {A = List X} (x ∷ xs) [] = none in absurd (cc)
 
 some_frame : (client : ℕ) (rs : List (ℕ × Request)) (fs : List (ℕ × FrameValue)) (more : List Request) (faulty : List FrameValue) → 0 < length more + length faulty
-    → HasFrame client (rs ++ map (λ r. (client, r)) more) (fs ++ map (λ f. (client, f)) faulty)
+    → HasTakenFrame client (rs ++ map (λ r. (client, r)) more) (fs ++ map (λ f. (client, f)) faulty)
 some_frame client rs fs (r ∷ more) faulty some = inl (λ none. no_items_there r more (own_later client rs (r ∷ more) none))
 some_frame client rs fs [] (f ∷ faulty) some = inr (λ none. no_items_there f faulty (own_later client fs (f ∷ faulty) none))
 some_frame client rs fs [] [] some = absurd (omega (arith, some))
@@ -236,7 +236,7 @@ own_any client (f ∷ fs) (e ∷ es) all any none = by_bool (own_any client fs e
         rest (sym (ap (λ b. b || list_any (λ (x : ℕ × Refusal). x.0 == client) es) apart) ∙ any) later
 
 pub fair_of : (ready : List ℕ) (at : ℕ) (old mid new : List (ℕ × History)) (before after : Taken) (so_far : TakesOnly ready at old mid before) (one : TakesOf (slice_index ready at) mid new before after)
-    → (IsMore before after ⊎ ((list_any (λ (e : ℕ × Refusal). e.0 == slice_index ready at) before.faults.items ≡ true) ⊎ IfClient (client_in new (slice_index ready at)) IsIdle))
+    → (IsMore before after ⊎ ((list_any (λ (e : ℕ × Refusal). e.0 == slice_index ready at) before.faults.items ≡ true) ⊎ IfClient (client_in new (slice_index ready at)) HasNoNext))
     → (t : TakesOnly ready (at + 1) old new after) × (IsFair ready at so_far.all.requests so_far.all.faulty mid → IsFair ready (at + 1) t.all.requests t.all.faulty new)
 unfolding takes_of more_requests more_faulty
 fair_of ready at old mid new before after so_far one ends =
@@ -246,7 +246,7 @@ fair_of ready at old mid new before after so_far one ends =
     let Rs : List (ℕ × Request) = rs ++ map (λ r. (client, r)) one.requests in
     let Fs : List (ℕ × FrameValue) = fs ++ map (λ f. (client, f)) one.faulty in
     let held = one.holds rs fs so_far.all.holds in
-    let here : HasFrame client Rs Fs ⊎ IfClient (client_in new client) IsIdle = elim ends [
+    let here : HasTakenFrame client Rs Fs ⊎ IfClient (client_in new client) HasNoNext = elim ends [
       | inl more ↦
           let a : length before.clients.items ≡ length rs = ap length so_far.all.holds.clients ∙ length-map rs (λ (r : ℕ × Request). r.0) in
           let b : length before.faults.items ≡ length fs = faults_long fs before.faults.items so_far.all.holds.faults in
@@ -260,17 +260,17 @@ fair_of ready at old mid new before after so_far one ends =
     ] in (
       only_at ready at old mid new before after so_far one,
       λ fair i below. elim (i_cases i at below) [
-        | inl same ↦ subst (λ j. HasFrame (slice_index ready j) Rs Fs ⊎ IfClient (client_in new (slice_index ready j)) IsIdle) (sym same) here
+        | inl same ↦ subst (λ j. HasTakenFrame (slice_index ready j) Rs Fs ⊎ IfClient (client_in new (slice_index ready j)) HasNoNext) (sym same) here
         | inr less ↦ still ready at mid new before after one rs fs here (slice_index ready i) (slice_index ready i == client) refl (fair i less)
       ],
     )
   where
     still : (ready : List ℕ) (at : ℕ) (mid new : List (ℕ × History)) (before after : Taken) (one : TakesOf (slice_index ready at) mid new before after) (rs : List (ℕ × Request)) (fs : List (ℕ × FrameValue))
-        → (HasFrame (slice_index ready at) (rs ++ map (λ r. (slice_index ready at, r)) one.requests) (fs ++ map (λ f. (slice_index ready at, f)) one.faulty) ⊎ IfClient (client_in new (slice_index ready at)) IsIdle)
-        → (n : ℕ) (b : Bool) → (n == slice_index ready at) ≡ b → (HasFrame n rs fs ⊎ IfClient (client_in mid n) IsIdle)
-        → HasFrame n (rs ++ map (λ r. (slice_index ready at, r)) one.requests) (fs ++ map (λ f. (slice_index ready at, f)) one.faulty) ⊎ IfClient (client_in new n) IsIdle
+        → (HasTakenFrame (slice_index ready at) (rs ++ map (λ r. (slice_index ready at, r)) one.requests) (fs ++ map (λ f. (slice_index ready at, f)) one.faulty) ⊎ IfClient (client_in new (slice_index ready at)) HasNoNext)
+        → (n : ℕ) (b : Bool) → (n == slice_index ready at) ≡ b → (HasTakenFrame n rs fs ⊎ IfClient (client_in mid n) HasNoNext)
+        → HasTakenFrame n (rs ++ map (λ r. (slice_index ready at, r)) one.requests) (fs ++ map (λ f. (slice_index ready at, f)) one.faulty) ⊎ IfClient (client_in new n) HasNoNext
     still ready at mid new before after one rs fs here n true is was =
-        subst (λ m. HasFrame m (rs ++ map (λ r. (slice_index ready at, r)) one.requests) (fs ++ map (λ f. (slice_index ready at, f)) one.faulty) ⊎ IfClient (client_in new m) IsIdle) (same_there n (slice_index ready at) is) here
+        subst (λ m. HasTakenFrame m (rs ++ map (λ r. (slice_index ready at, r)) one.requests) (fs ++ map (λ f. (slice_index ready at, f)) one.faulty) ⊎ IfClient (client_in new m) HasNoNext) (same_there n (slice_index ready at) is) here
     still ready at mid new before after one rs fs here n false is (inl (inl some)) = inl (inl (λ none. some (own_before n rs (map (λ r. (slice_index ready at, r)) one.requests) none)))
     still ready at mid new before after one rs fs here n false is (inl (inr some)) = inl (inr (λ none. some (own_before n fs (map (λ f. (slice_index ready at, f)) one.faulty) none)))
-    still ready at mid new before after one rs fs here n false is (inr idle) = inr (subst (λ o. IfClient o IsIdle) (sym (one.others n is)) idle)
+    still ready at mid new before after one rs fs here n false is (inr idle) = inr (subst (λ o. IfClient o HasNoNext) (sym (one.others n is)) idle)

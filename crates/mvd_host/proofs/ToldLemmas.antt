@@ -6,8 +6,8 @@ use Rattle.mvd_wire.specs.declared.reply.Reply.{Reply}
 use Rattle.mvd_wire.specs.Replies.{CanBeSent}
 use Rattle.mvd_conn.specs.History.{History}
 use Rattle.mvd_host.specs.Hosts.{IfClient, client_in}
-use Rattle.mvd_host.specs.Course.{AreQueued, Both, own}
-use Rattle.mvd_host.specs.Queueing.{AreDue, Queues, QueuesOn}
+use Rattle.mvd_host.specs.Course.{AreQueued, BothClients, own}
+use Rattle.mvd_host.specs.Queueing.{AreDue, QueuesReplies, QueuesOn}
 use Rattle.mvd_host.proofs.Frames.{none_moved}
 use Rattle.mvd_host.proofs.Own.{both_on, both_self, own-append, same_number}
 
@@ -23,7 +23,7 @@ queued_on [] ys (b ∷ bs) cs one other = absurd one
 queued_on (x ∷ xs) ys [] cs one other = absurd one
 queued_on (x ∷ xs) ys (b ∷ bs) cs one other = (one.0, queued_on xs ys bs cs one.1 other)
 
-pub queues_none : (clients : List (ℕ × History)) → Queues [] clients clients
+pub queues_none : (clients : List (ℕ × History)) → QueuesReplies [] clients clients
 queues_none clients n = both_self (client_in clients n) (QueuesOn []) (λ x. record { queued = []; answers = sym (append-nil x.answers); told = tt; taken = refl; moved = none_moved x; none = λ _. refl })
 
 pub no_first : {X : Type 0} (xs ys : List X) → xs ++ ys ≡ [] → xs ≡ []
@@ -35,7 +35,7 @@ no_second [] ys nothing = nothing
 no_second {X} (x ∷ xs) ys nothing = absurd (let no : ◌≡◌ {A = List X} (x ∷ (xs ++ ys)) [] = nothing in cc)
 
 -- where no reply is queued for a client, it is as it was
-pub untouched : (replies : List Reply) (a b : Option History) → replies ≡ [] → Both a b (QueuesOn replies) → b ≡ a
+pub untouched : (replies : List Reply) (a b : Option History) → replies ≡ [] → BothClients a b (QueuesOn replies) → b ≡ a
 untouched replies None None nothing both = refl
 untouched replies None (Some y) nothing both = absurd both
 untouched replies (Some x) None nothing both = absurd both
@@ -51,9 +51,9 @@ on xs ys x y z p q = record {
   none = λ nothing. q.none (no_second xs ys nothing) ∙ p.none (no_first xs ys nothing);
 }
 
-pub queues_on : (xs ys : List (ℕ × Reply)) (old mid new : List (ℕ × History)) → Queues xs old mid → Queues ys mid new → Queues (xs ++ ys) old new
+pub queues_on : (xs ys : List (ℕ × Reply)) (old mid new : List (ℕ × History)) → QueuesReplies xs old mid → QueuesReplies ys mid new → QueuesReplies (xs ++ ys) old new
 queues_on xs ys old mid new p q n =
-    subst (λ l. Both (client_in old n) (client_in new n) (QueuesOn l)) (sym (own-append n xs ys))
+    subst (λ l. BothClients (client_in old n) (client_in new n) (QueuesOn l)) (sym (own-append n xs ys))
     (both_on (client_in old n) (client_in mid n) (client_in new n) (QueuesOn (own n xs)) (QueuesOn (own n ys)) (QueuesOn (own n xs ++ own n ys)) (on (own n xs) (own n ys)) (p n) (q n))
 
 IfClient_so : (o : Option History) (P Q : History → Type 0) → ((h : History) → P h → Q h) → IfClient o P → IfClient o Q
@@ -66,7 +66,7 @@ due_first n r rest clients due =
     (λ h few. let is : length (own n ((n, r) ∷ rest)) ≡ length (r ∷ own n rest) = ap (λ b. length (cond b (r ∷ own n rest) (own n rest))) (same_number n) in omega (arith, few, is)) (due n)
 
 -- what is left due, once replies were queued
-left : (xs ys : List Reply) (a b : Option History) → Both a b (QueuesOn xs) → IfClient a (λ h. length h.answers + length (xs ++ ys) ≤ length h.taken) → IfClient b (λ h. length h.answers + length ys ≤ length h.taken)
+left : (xs ys : List Reply) (a b : Option History) → BothClients a b (QueuesOn xs) → IfClient a (λ h. length h.answers + length (xs ++ ys) ≤ length h.taken) → IfClient b (λ h. length h.answers + length ys ≤ length h.taken)
 left xs ys None None p due = tt
 left xs ys None (Some y) p due = absurd p
 left xs ys (Some x) None p due = absurd p
@@ -76,7 +76,7 @@ left xs ys (Some x) (Some y) p due =
     let all : length (xs ++ ys) ≡ length xs + length ys = length-append xs ys in
     omega (arith, due, grown, taken, all)
 
-pub due_later : (xs ys : List (ℕ × Reply)) (mid new : List (ℕ × History)) → AreDue (xs ++ ys) mid → Queues xs mid new → AreDue ys new
+pub due_later : (xs ys : List (ℕ × Reply)) (mid new : List (ℕ × History)) → AreDue (xs ++ ys) mid → QueuesReplies xs mid new → AreDue ys new
 due_later xs ys mid new due queues n =
     left (own n xs) (own n ys) (client_in mid n) (client_in new n) (queues n)
     (subst (λ l. IfClient (client_in mid n) (λ h. length h.answers + length l ≤ length h.taken)) (own-append n xs ys) (due n))
@@ -85,14 +85,14 @@ due_later xs ys mid new due queues n =
 pub record Queueing (all rest : List (ℕ × Reply)) (old new : List (ℕ × History)) : Type 0 where
   pub done : List (ℕ × Reply)
   pub split : all ≡ done ++ rest
-  pub queued : Queues done old new
+  pub queued : QueuesReplies done old new
   pub due : AreDue rest new
   pub fits : AllByRecursion (λ (r : ℕ × Reply). CanBeSent r.1) rest
 
 pub begins : (all : List (ℕ × Reply)) (clients : List (ℕ × History)) → AreDue all clients → AllByRecursion (λ (r : ℕ × Reply). CanBeSent r.1) all → Queueing all all clients clients
 begins all clients due fits = record { done = []; split = refl; queued = queues_none clients; due = due; fits = fits }
 
-pub goes_on : (all rest next : List (ℕ × Reply)) (n : ℕ) (r : Reply) (old mid new : List (ℕ × History)) → rest ≡ (n, r) ∷ next → Queueing all rest old mid → Queues ((n, r) ∷ []) mid new → Queueing all next old new
+pub goes_on : (all rest next : List (ℕ × Reply)) (n : ℕ) (r : Reply) (old mid new : List (ℕ × History)) → rest ≡ (n, r) ∷ next → Queueing all rest old mid → QueuesReplies ((n, r) ∷ []) mid new → Queueing all next old new
 goes_on all rest next n r old mid new is q one = record {
   done = q.done ++ (n, r) ∷ [];
   split = q.split ∙ ap (λ l. q.done ++ l) is ∙ sym (append_assoc q.done ((n, r) ∷ []) next);
@@ -101,8 +101,8 @@ goes_on all rest next n r old mid new is q one = record {
   fits = (subst (AllByRecursion (λ (x : ℕ × Reply). CanBeSent x.1)) is q.fits).1;
 }
 
-pub ends : (all rest : List (ℕ × Reply)) (old new : List (ℕ × History)) → rest ≡ [] → Queueing all rest old new → Queues all old new
-ends all rest old new none q = subst (λ l. Queues l old new) (sym (q.split ∙ ap (λ l. q.done ++ l) none ∙ append-nil q.done)) q.queued
+pub ends : (all rest : List (ℕ × Reply)) (old new : List (ℕ × History)) → rest ≡ [] → Queueing all rest old new → QueuesReplies all old new
+ends all rest old new none q = subst (λ l. QueuesReplies l old new) (sym (q.split ∙ ap (λ l. q.done ++ l) none ∙ append-nil q.done)) q.queued
 
 pub refusals_fit : {X : Type 0} (f : X → ℕ × Reply) (xs : List X) → ((x : X) → CanBeSent (f x).1) → AllByRecursion (λ (r : ℕ × Reply). CanBeSent r.1) (map f xs)
 refusals_fit f [] each = tt

@@ -19,11 +19,11 @@ abbrev pub IsOut : ℕ → List ℕ → ℕ → Type 0
 IsOut n ready count = (i : ℕ) → i < count → slice_index ready i ≢ n
 
 -- a client that was there is there, and this is true of what its connection was and is
-abbrev pub Both : Option History → Option History → (History → History → Type 0) → Type 0
-Both None None R = ⊤
-Both None (Some new) R = ⊥
-Both (Some old) None R = ⊥
-Both (Some old) (Some new) R = R old new
+abbrev pub BothClients : Option History → Option History → (History → History → Type 0) → Type 0
+BothClients None None R = ⊤
+BothClients None (Some new) R = ⊥
+BothClients (Some old) None R = ⊥
+BothClients (Some old) (Some new) R = R old new
 
 -- what a frame asks, or its fault
 abbrev pub asked_by : FrameValue → Result Request Refusal

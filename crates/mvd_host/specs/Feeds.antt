@@ -82,13 +82,13 @@ since_start start rounds root = if is_root start root then Some (keys_in rounds)
 abbrev pub noted_since : FeedValue → List ℕ → Option (List Key)
 noted_since feed root = option_and_then (λ start. since_start start feed.rounds root) feed.start
 
-abbrev pub is_in : List Key → Key → Bool
-is_in keys key = list_any (λ k. eq_by_cmp key_cmp k key) keys
+abbrev pub is_listed : List Key → Key → Bool
+is_listed keys key = list_any (λ k. eq_by_cmp key_cmp k key) keys
 
 -- each key once, in the order of their last places
 abbrev pub lasts : List Key → List Key
 lasts [] = []
-lasts (key ∷ keys) = if is_in keys key then lasts keys else key ∷ lasts keys
+lasts (key ∷ keys) = if is_listed keys key then lasts keys else key ∷ lasts keys
 
 -- the keys that are told, unless they are too many
 abbrev pub if_few : List Key → Option (List Key)

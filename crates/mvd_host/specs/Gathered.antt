@@ -6,12 +6,12 @@ use Rattle.std.specs.Borrow.{Bor}
 use Rattle.mvd_keys.specs.Key.{key_cmp}
 use Rattle.mvd_keys.specs.Writes.{Key}
 use Rattle.mvd_host.specs.declared.feed.Lasts.{Lasts}
-use Rattle.mvd_host.specs.Feeds.{is_in, lasts, told_most}
+use Rattle.mvd_host.specs.Feeds.{is_listed, lasts, told_most}
 
 -- these keys were met, and they are not too many
 pub record Gathers (gathered : Lasts) (keys : List Key) : Type 0 where
   pub order : reverse (map (λ key. key.now) gathered.found.items) ≡ lasts keys
-  pub members : (q : Bor Key) → contains (λ a b. key_cmp a.now b.now) gathered.seen q ≡ is_in keys q.now
+  pub members : (q : Bor Key) → contains (λ a b. key_cmp a.now b.now) gathered.seen q ≡ is_listed keys q.now
   pub few : length gathered.found.items ≤ told_most
 
 -- these keys were met before those that were met, unless all of them are too many

@@ -51,8 +51,8 @@ altered_if host n (Some h) f = with_client host n (f h)
 abbrev pub altered : HostValue → ℕ → (History → History) → HostValue
 altered host n f = altered_if host n (client_of host n) f
 
-abbrev pub without : HostValue → ℕ → HostValue
-without host n = record host { clients = remove_entry (is_at (nat_cmp n)) host.clients }
+abbrev pub without_client : HostValue → ℕ → HostValue
+without_client host n = record host { clients = remove_entry (is_at (nat_cmp n)) host.clients }
 
 -- a client comes, with a new connection, which may have a guard, and a number of its own; or there is no place for it
 pub record AdmitsOne (guard : Option Guard) (old new : HostValue) (n : ℕ) : Type 0 where
@@ -67,7 +67,7 @@ Admits guard old None new = (new ≡ old) × ((clients_most ≤ length old.clien
 Admits guard old (Some n) new = AdmitsOne guard old new n
 
 -- a client goes, if there is such a one, and the others stay
-pub record Leaves (old : HostValue) (n : ℕ) (new : HostValue) : Type 0 where
+pub record ClientLeaves (old : HostValue) (n : ℕ) (new : HostValue) : Type 0 where
   pub clients : (q : ℕ) → client_of new q ≡ (if q == n then None else client_of old q)
   pub admitted : new.admitted ≡ old.admitted
 

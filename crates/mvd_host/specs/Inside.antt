@@ -5,5 +5,5 @@ use Rattle.mvd_host.specs.Hosts.{AreKept, HostValue}
 abbrev pub value_of : Inside → HostValue
 value_of h = record { clients = h.clients.entries; admitted = h.admitted }
 
-abbrev pub IsKept : Inside → Type 0
-IsKept h = AreKept h.clients.entries h.admitted
+abbrev pub IsKeptHost : Inside → Type 0
+IsKeptHost h = AreKept h.clients.entries h.admitted

@@ -6,7 +6,7 @@ use Rattle.mvd_keys.specs.Writes.{Key}
 use Rattle.mvd_tree.specs.HashTree.{node_digest}
 use Rattle.mvd_site.specs.Answer.{digests}
 use Rattle.mvd_site.specs.Held.{States}
-use Rattle.mvd_host.specs.Feeds.{FeedValue, NotedValue, is_in, keys_in}
+use Rattle.mvd_host.specs.Feeds.{FeedValue, NotedValue, is_listed, keys_in}
 
 -- the root of the hash tree over the states
 unfoldable pub root_of : States → List ℕ
@@ -14,7 +14,7 @@ root_of states = node_digest (digests states) []
 
 -- each key whose state is another than before is among these
 abbrev pub ChangesAmong : List Key → States → States → Type 0
-ChangesAmong keys old new = (key : Key) → (get old key ≡ get new key) ⊎ (is_in keys key ≡ true)
+ChangesAmong keys old new = (key : Key) → (get old key ≡ get new key) ⊎ (is_listed keys key ≡ true)
 
 -- The states that the site had at the moments that are remembered, from the start on; at the last it has those of now. Each had its
 -- root, and the keys that were noted since are all that changed

@@ -5,7 +5,7 @@ use Rattle.mvd_wire.specs.declared.reply.Reply.{Reply}
 use Rattle.mvd_wire.specs.declared.reply.Reply.TheVariants.{Refused}
 use Rattle.mvd_conn.specs.History.{History}
 use Rattle.mvd_host.specs.Hosts.{IfClient, client_in}
-use Rattle.mvd_host.specs.Course.{AreQueued, Both, NoneMoved, own}
+use Rattle.mvd_host.specs.Course.{AreQueued, BothClients, NoneMoved, own}
 
 -- replies were queued on a connection
 pub record QueuesOn (replies : List Reply) (old new : History) : Type 0 where
@@ -17,8 +17,8 @@ pub record QueuesOn (replies : List Reply) (old new : History) : Type 0 where
   pub none : replies ≡ [] → new ≡ old
 
 -- each client's own replies were queued on its connection, in order
-abbrev pub Queues : List (ℕ × Reply) → List (ℕ × History) → List (ℕ × History) → Type 0
-Queues replies old new = (n : ℕ) → Both (client_in old n) (client_in new n) (QueuesOn (own n replies))
+abbrev pub QueuesReplies : List (ℕ × Reply) → List (ℕ × History) → List (ℕ × History) → Type 0
+QueuesReplies replies old new = (n : ℕ) → BothClients (client_in old n) (client_in new n) (QueuesOn (own n replies))
 
 -- as many frames of each client have no reply as it has replies here, or more
 abbrev pub AreDue : {X : Type 0} → List (ℕ × X) → List (ℕ × History) → Type 0

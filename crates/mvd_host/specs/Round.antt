@@ -6,13 +6,13 @@ use Rattle.mvd_wire.specs.Frames.{FrameValue}
 use Rattle.mvd_conn.specs.Guard.{IsShown}
 use Rattle.mvd_conn.specs.History.{History}
 use Rattle.mvd_site.specs.Sites.{SiteValue}
-use Rattle.mvd_replica.specs.Turns.{Event, IsToldElse, Replies, StandsOn, TellsTurns, Turn}
+use Rattle.mvd_replica.specs.Turns.{TurnEvent, IsToldElse, Replies, StandsOn, TellsTurns, Turn}
 use Rattle.mvd_replica.specs.Batch.{TurnsFollow}
 use Rattle.mvd_replica.specs.Replicas.{StoredSite, site_of, store_of}
 use Rattle.mvd_replica.specs.declared.replica.Replica.{Replica}
 use Rattle.mvd_host.specs.Hosts.{HostValue, IfClient, client_of}
-use Rattle.mvd_host.specs.Taking.{IsIdle}
-use Rattle.mvd_host.specs.Course.{AreQueued, Both, IsOut, NoneMoved, asked_by, own}
+use Rattle.mvd_host.specs.Taking.{HasNoNext}
+use Rattle.mvd_host.specs.Course.{AreQueued, BothClients, IsOut, NoneMoved, asked_by, own}
 use Rattle.sqlite.specs.State.{State}
 use Rattle.sqlite_trees.specs.declared.store.Store.{Ghosts}
 
@@ -22,8 +22,8 @@ pub record Side : Type 1 where
   pub site : SiteValue
   pub store : State
 
-abbrev pub side_of : {S : Type 0} {g : Ghosts S} → HostValue → Replica S g → Side
-side_of host replica = record { host = host; site = site_of replica; store = store_of replica }
+abbrev pub host_side : {S : Type 0} {g : Ghosts S} → HostValue → Replica S g → Side
+host_side host replica = record { host = host; site = site_of replica; store = store_of replica }
 
 -- its replica
 abbrev pub stored_in : Side → StoredSite
@@ -40,13 +40,13 @@ pub record Serves (turns : List Turn) (old new : StoredSite) : Type 0 where
   pub replies : Replies old.site new.site turns
   pub stands : StandsOn old.site new.site turns
   pub config : new.site.config ≡ old.site.config
-  pub choice : (events : List Event) × TellsTurns events turns
+  pub choice : (events : List TurnEvent) × TellsTurns events turns
   pub told : new.site.broken ≡ false → AllByRecursion IsToldElse turns
   pub follows : TurnsFollow turns old new
 
 -- The frames that were taken of a connection are those of these turns, in order, and the replies that were queued on it are theirs,
 -- in order. Where there is a guard, the first frame of all shows the token
-pub record Course (turns : List Turn) (old new : History) : Type 0 where
+pub record ClientCourse (turns : List Turn) (old new : History) : Type 0 where
   pub frames : List FrameValue
   pub taken : new.taken ≡ old.taken ++ frames
   pub asked : map asked_by frames ≡ map (λ t. t.asked) turns
@@ -66,15 +66,15 @@ pub record Spares (ready : List ℕ) (turns : List (ℕ × Turn)) (old new : Hos
 -- more only where there was a turn, and where there is no more nothing comes next of any ready client
 pub record GoesForward (result : Result Bool Refusal) (ready : List ℕ) (turns : List (ℕ × Turn)) (new : HostValue) : Type 0 where
   pub fair : OnOk result ((i : ℕ) → i < length ready →
-      (own (slice_index ready i) turns ≢ []) ⊎ IfClient (client_of new (slice_index ready i)) IsIdle)
+      (own (slice_index ready i) turns ≢ []) ⊎ IfClient (client_of new (slice_index ready i)) HasNoNext)
   pub some : IfOk result (λ more. more ≡ true → turns ≢ [])
   pub idle : IfOk result (λ more. more ≡ false → (i : ℕ) → i < length ready →
-      IfClient (client_of new (slice_index ready i)) IsIdle)
+      IfClient (client_of new (slice_index ready i)) HasNoNext)
 
 -- The turns, in order, are served by the replica; each client's own are what its connection took, and was answered. Only ready
 -- clients have turns, and no client is admitted
 pub record Round (ready : List ℕ) (turns : List (ℕ × Turn)) (old new : Side) : Type 0 where
   pub serves : Serves (turns_of turns) (stored_in old) (stored_in new)
-  pub clients : (n : ℕ) → Both (client_of old.host n) (client_of new.host n) (Course (own n turns))
+  pub clients : (n : ℕ) → BothClients (client_of old.host n) (client_of new.host n) (ClientCourse (own n turns))
   pub spares : Spares ready turns old.host new.host
   pub admitted : new.host.admitted ≡ old.host.admitted

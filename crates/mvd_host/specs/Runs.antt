@@ -6,20 +6,20 @@ use Rattle.mvd_conn.specs.declared.guard.Guard.{Guard}
 use Rattle.mvd_conn.specs.History.{History, closed, cut, fed, released, sent}
 use Rattle.mvd_site.specs.Sites.{SiteValue}
 use Rattle.mvd_replica.specs.Turns.{Turn}
-use Rattle.mvd_host.specs.Hosts.{AdmitsOne, HostValue, Leaves, altered, client_of}
+use Rattle.mvd_host.specs.Hosts.{AdmitsOne, HostValue, ClientLeaves, altered, client_of}
 use Rattle.mvd_host.specs.Course.{AreQueued, asked_by, own}
 use Rattle.mvd_host.specs.Round.{Round, Serves, Side, stored_in, turns_of}
 use Rattle.mvd_wire.specs.declared.request.Request.TheVariants.{Hello}
 use Rattle.sqlite.specs.State.{State}
 
 -- a host, and the replica that answers its clients, with its connection
-pub record Moment (C : Type 0) : Type 0 where
+pub record HostMoment (C : Type 0) : Type 0 where
   pub host : HostValue
   pub site : SiteValue
   pub conn : C
 
-abbrev pub side_of : {C : Type 0} → (C → State) → Moment C → Side
-side_of f m = record { host = m.host; site = m.site; store = f m.conn }
+abbrev pub side_at : {C : Type 0} → (C → State) → HostMoment C → Side
+side_at f m = record { host = m.host; site = m.site; store = f m.conn }
 
 -- What happens to one client's connection between rounds: bytes came, memory was refused for them, no more is read of it, bytes left,
 -- or its writer failed
@@ -43,39 +43,39 @@ pub data Happening (C : Type 0) : Type 0 where
   Comes : ℕ → HostValue → Happening C
   Goes : ℕ → HostValue → Happening C
   Calls : ℕ → Call → Happening C
-  Rounds : List ℕ → List (ℕ × Turn) → Moment C → Happening C
+  Rounds : List ℕ → List (ℕ × Turn) → HostMoment C → Happening C
 
 -- what is there afterwards
-abbrev pub after_one : {C : Type 0} → Moment C → Happening C → Moment C
+abbrev pub after_one : {C : Type 0} → HostMoment C → Happening C → HostMoment C
 after_one side (Comes n host) = record side { host = host }
 after_one side (Goes n host) = record side { host = host }
 after_one side (Calls n call) = record side { host = altered side.host n (after_call call) }
 after_one side (Rounds ready turns new) = new
 
 -- a client comes and goes as the host lets it, and a round is one
-abbrev pub May : {C : Type 0} → (C → State) → Moment C → Happening C → Type 0
+abbrev pub May : {C : Type 0} → (C → State) → HostMoment C → Happening C → Type 0
 May f side (Comes n host) = (guard : Option Guard) × AdmitsOne guard side.host host n
-May f side (Goes n host) = Leaves side.host n host
+May f side (Goes n host) = ClientLeaves side.host n host
 May f side (Calls n call) = ⊤
-May f side (Rounds ready turns new) = Round ready turns (side_of f side) (side_of f new)
+May f side (Rounds ready turns new) = Round ready turns (side_at f side) (side_at f new)
 
-abbrev pub turns_at : {C : Type 0} → Happening C → List (ℕ × Turn)
-turns_at (Comes n host) = []
-turns_at (Goes n host) = []
-turns_at (Calls n call) = []
-turns_at (Rounds ready turns new) = turns
+abbrev pub happened_turns : {C : Type 0} → Happening C → List (ℕ × Turn)
+happened_turns (Comes n host) = []
+happened_turns (Goes n host) = []
+happened_turns (Calls n call) = []
+happened_turns (Rounds ready turns new) = turns
 
 -- the turns of all rounds, in order
 abbrev pub turns_in : {C : Type 0} → List (Happening C) → List (ℕ × Turn)
 turns_in [] = []
-turns_in (x ∷ xs) = turns_at x ++ turns_in xs
+turns_in (x ∷ xs) = happened_turns x ++ turns_in xs
 
-abbrev pub after_run : {C : Type 0} → Moment C → List (Happening C) → Moment C
+abbrev pub after_run : {C : Type 0} → HostMoment C → List (Happening C) → HostMoment C
 after_run side [] = side
 after_run side (x ∷ xs) = after_run (after_one side x) xs
 
 -- each of these may happen to what the one before it left
-abbrev pub Runs : {C : Type 0} → (C → State) → Moment C → List (Happening C) → Type 0
+abbrev pub Runs : {C : Type 0} → (C → State) → HostMoment C → List (Happening C) → Type 0
 Runs f side [] = ⊤
 Runs f side (x ∷ xs) = May f side x × Runs f (after_one side x) xs
 

@@ -7,7 +7,7 @@ use Rattle.mvd_wire.specs.Frames.{FrameValue}
 use Rattle.mvd_conn.specs.Guard.{IsShown}
 use Rattle.mvd_conn.specs.History.{History, after_next}
 use Rattle.mvd_host.specs.Hosts.{IfClient, client_in}
-use Rattle.mvd_host.specs.Course.{Both, IsOut, NoneMoved, asked_by, own}
+use Rattle.mvd_host.specs.Course.{BothClients, IsOut, NoneMoved, asked_by, own}
 use Rattle.mvd_host.specs.declared.taking.Taken.{Taken}
 
 -- frames of clients that are no requests, and what each is told: its fault, or want of memory
@@ -27,35 +27,35 @@ pub record TakesOn (requests : List Request) (faulty : List FrameValue) (old new
   pub shown : IsShown old.guard old.taken → IsShown new.guard new.taken
 
 -- nothing comes next
-abbrev pub IsIdle : History → Type 0
-IsIdle h = after_next h ≡ (false, h)
+abbrev pub HasNoNext : History → Type 0
+HasNoNext h = after_next h ≡ (false, h)
 
 -- the requests that were taken, each with its client, and the frames that are no requests
-pub record Holds (requests : List (ℕ × Request)) (faulty : List (ℕ × FrameValue)) (taken : Taken) : Type 0 where
+pub record HoldsTaken (requests : List (ℕ × Request)) (faulty : List (ℕ × FrameValue)) (taken : Taken) : Type 0 where
   pub clients : taken.clients.items ≡ map (λ r. r.0) requests
   pub requests_are : taken.requests.items ≡ map (λ r. r.1) requests
   pub faults : AreFaults faulty taken.faults.items
 
 -- each client's own requests and faults were taken of its connection
-abbrev pub Takes : List (ℕ × Request) → List (ℕ × FrameValue) → List (ℕ × History) → List (ℕ × History) → Type 0
-Takes requests faulty old new = (n : ℕ) → Both (client_in old n) (client_in new n) (TakesOn (own n requests) (own n faulty))
+abbrev pub TakesFrames : List (ℕ × Request) → List (ℕ × FrameValue) → List (ℕ × History) → List (ℕ × History) → Type 0
+TakesFrames requests faulty old new = (n : ℕ) → BothClients (client_in old n) (client_in new n) (TakesOn (own n requests) (own n faulty))
 
 -- frames of one client were taken
 pub record TakesMore (client : ℕ) (old new : History) (before after : Taken) : Type 0 where
   pub requests : List Request
   pub faulty : List FrameValue
   pub conn : TakesOn requests faulty old new
-  pub holds : (asked : List (ℕ × Request)) (faults : List (ℕ × FrameValue)) → Holds asked faults before →
-      Holds (asked ++ map (λ r. (client, r)) requests) (faults ++ map (λ f. (client, f)) faulty) after
+  pub holds : (asked : List (ℕ × Request)) (faults : List (ℕ × FrameValue)) → HoldsTaken asked faults before →
+      HoldsTaken (asked ++ map (λ r. (client, r)) requests) (faults ++ map (λ f. (client, f)) faulty) after
 
 -- there is room for one frame more
-pub record HasRoom (taken : Taken) : Type 0 where
+pub record HasRoomToTake (taken : Taken) : Type 0 where
   pub clients : vec_len taken.clients + 1 ≤ vec_capacity taken.clients
   pub requests : vec_len taken.requests + 1 ≤ vec_capacity taken.requests
   pub faults : vec_len taken.faults + 1 ≤ vec_capacity taken.faults
 
 -- what was taken is the same
-pub record Keeps (old new : Taken) : Type 0 where
+pub record KeepsTaken (old new : Taken) : Type 0 where
   pub clients : new.clients.items ≡ old.clients.items
   pub requests : new.requests.items ≡ old.requests.items
   pub faults : new.faults.items ≡ old.faults.items
@@ -66,7 +66,7 @@ IsMore before after = length before.clients.items + length before.faults.items <
 
 -- a frame was taken, or nothing comes next
 abbrev pub EndsTaking : History → Taken → Taken → Type 0
-EndsTaking new before after = IsMore before after ⊎ IsIdle new
+EndsTaking new before after = IsMore before after ⊎ HasNoNext new
 
 -- only requests of one client were taken
 pub record TakesRequests (client : ℕ) (old new : History) (before after : Taken) : Type 0 where
@@ -78,35 +78,35 @@ pub record TakesRequests (client : ℕ) (old new : History) (before after : Take
 pub record TakesOf (client : ℕ) (old new : List (ℕ × History)) (before after : Taken) : Type 0 where
   pub requests : List Request
   pub faulty : List FrameValue
-  pub first : (asked : List (ℕ × Request)) (faults : List (ℕ × FrameValue)) → Holds asked faults before → (own client faults ≡ []) ⊎ ((requests ≡ []) × (faulty ≡ []))
-  pub one : Both (client_in old client) (client_in new client) (TakesOn requests faulty)
+  pub first : (asked : List (ℕ × Request)) (faults : List (ℕ × FrameValue)) → HoldsTaken asked faults before → (own client faults ≡ []) ⊎ ((requests ≡ []) × (faulty ≡ []))
+  pub one : BothClients (client_in old client) (client_in new client) (TakesOn requests faulty)
   pub none : client_in old client ≡ None → (requests ≡ []) × (faulty ≡ [])
   pub others : (q : ℕ) → (q == client) ≡ false → client_in new q ≡ client_in old q
-  pub holds : (asked : List (ℕ × Request)) (faults : List (ℕ × FrameValue)) → Holds asked faults before →
-      Holds (asked ++ map (λ r. (client, r)) requests) (faults ++ map (λ f. (client, f)) faulty) after
+  pub holds : (asked : List (ℕ × Request)) (faults : List (ℕ × FrameValue)) → HoldsTaken asked faults before →
+      HoldsTaken (asked ++ map (λ r. (client, r)) requests) (faults ++ map (λ f. (client, f)) faulty) after
 
 -- frames of clients were taken, and this is what was taken
-pub record TakesAll (old new : List (ℕ × History)) (taken : Taken) : Type 0 where
+pub record TakesAllFrames (old new : List (ℕ × History)) (taken : Taken) : Type 0 where
   pub requests : List (ℕ × Request)
   pub faulty : List (ℕ × FrameValue)
-  pub holds : Holds requests faulty taken
-  pub takes : Takes requests faulty old new
+  pub holds : HoldsTaken requests faulty taken
+  pub takes : TakesFrames requests faulty old new
 
 -- and of the first of these clients alone: where there is no such client, or it is not looked at, no frame of it was taken
 pub record TakesOnly (ready : List ℕ) (count : ℕ) (old new : List (ℕ × History)) (taken : Taken) : Type 0 where
-  pub all : TakesAll old new taken
+  pub all : TakesAllFrames old new taken
   pub none : (n : ℕ) → client_in old n ≡ None → (own n all.requests ≡ []) × (own n all.faulty ≡ [])
   pub only : (n : ℕ) → IsOut n ready count → (own n all.requests ≡ []) × (own n all.faulty ≡ [])
   pub same : (n : ℕ) → IsOut n ready count → client_in new n ≡ client_in old n
 
 -- a frame of this client was taken
-abbrev pub HasFrame : ℕ → List (ℕ × Request) → List (ℕ × FrameValue) → Type 0
-HasFrame n requests faulty = (own n requests ≢ []) ⊎ (own n faulty ≢ [])
+abbrev pub HasTakenFrame : ℕ → List (ℕ × Request) → List (ℕ × FrameValue) → Type 0
+HasTakenFrame n requests faulty = (own n requests ≢ []) ⊎ (own n faulty ≢ [])
 
 -- of each of the first of these clients a frame was taken, or nothing comes next of it
 abbrev pub IsFair : List ℕ → ℕ → List (ℕ × Request) → List (ℕ × FrameValue) → List (ℕ × History) → Type 0
 IsFair ready count requests faulty new = (i : ℕ) → i < count →
-    HasFrame (slice_index ready i) requests faulty ⊎ IfClient (client_in new (slice_index ready i)) IsIdle
+    HasTakenFrame (slice_index ready i) requests faulty ⊎ IfClient (client_in new (slice_index ready i)) HasNoNext
 
 -- the clients were gone over, and where memory was not refused to one, that was fair
 abbrev pub TakesFairly : Bool → List ℕ → ℕ → List (ℕ × History) → List (ℕ × History) → Taken → Type 0
@@ -114,10 +114,10 @@ TakesFairly refused ready count old new taken = (t : TakesOnly ready count old n
     × (refused ≡ false → IsFair ready count t.all.requests t.all.faulty new)
 
 -- nothing was taken
-abbrev pub IsNone : Taken → Type 0
-IsNone taken = length taken.clients.items + length taken.faults.items ≡ 0
+abbrev pub IsNothingTaken : Taken → Type 0
+IsNothingTaken taken = length taken.clients.items + length taken.faults.items ≡ 0
 
 -- what was taken is there still
-pub record Extends (before after : Taken) : Type 0 where
+pub record ExtendsTaken (before after : Taken) : Type 0 where
   pub clients : length before.clients.items ≤ length after.clients.items
   pub faults : length before.faults.items ≤ length after.faults.items

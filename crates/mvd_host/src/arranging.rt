@@ -6,7 +6,7 @@ ghost use Rattle.std.specs.Ordering.{nat_cmp};
 ghost use Rattle.mvd_wire.specs.declared.request.Request.{Request};
 ghost use Rattle.mvd_host.specs.Arranging.{Arranged, HasPlaces, Lays};
 
-use crate::noting::key_asked;
+use mvd_replica::key_asked;
 use mvd_wire::Request;
 use std::alloc::{AllocError, Global};
 use std::collections::BTreeSet;

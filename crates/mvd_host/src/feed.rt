@@ -1,7 +1,9 @@
 //! The keys that changed of late: those that each round may have changed, and the root of the hash tree after it. A root
 //! tells what a reader knows: states only grow, so one that was never comes again.
-ghost use Rattle.std.specs.Prelude.{◌≡◌, ◌≤◌, IfOk, IfSome, IsOkUnless, OnErr, OnOk, List, [], ℕ, drop, length, map, option_map};
-ghost use Rattle.mvd_host.specs.Feeds.{keys_in, knows_nothing, knows_root, lasts, noted_in, noted_since, root_now, told_from, told_since};
+ghost use Rattle.std.specs.Prelude.{◌≡◌, ◌≤◌, IfOk, IfSome, IsOkUnless, OnErr, OnOk, List, [], ℕ, drop, length, map};
+ghost use Rattle.std.specs.Prelude.{option_map};
+ghost use Rattle.mvd_host.specs.Feeds.{keys_in, knows_nothing, knows_root, lasts, noted_in, noted_since, root_now};
+ghost use Rattle.mvd_host.specs.Feeds.{told_from, told_since};
 ghost use Rattle.mvd_host.specs.Lists.{ChangesAmong, IsListed, Lists, ListsOn, root_of};
 ghost use Rattle.mvd_site.specs.Held.{States};
 

@@ -3,7 +3,7 @@ ghost use Rattle.std.specs.Prelude.{◌≡◌, ◌≤◌, ◌⊎◌, ◌↔◌, 
 ghost use Rattle.std.specs.Option.{option_and_then};
 ghost use Rattle.mvd_dots.specs.declared.refusals.Refusal.TheVariants as Refusal;
 ghost use Rattle.mvd_conn.specs.History.{WantsInput, closed, cut, ending_of, fed, is_done, piece_most, released, sent};
-ghost use Rattle.mvd_conn.specs.Stands.{Stands};
+ghost use Rattle.mvd_conn.specs.Stands.{HistoryStands};
 ghost use Rattle.mvd_conn.specs.declared.ending.Source.TheVariants as Source;
 
 use mvd_conn::{Connection, Ending, Guard};
@@ -30,15 +30,15 @@ impl Model for Host {
 
     ghost Value = { HostValue };
 
-    ghost use Rattle.mvd_host.specs.Inside.{IsKept, value_of};
+    ghost use Rattle.mvd_host.specs.Inside.{IsKeptHost, value_of};
 
     ghost view = { value_of };
 
-    ghost invariant = { IsKept };
+    ghost invariant = { IsKeptHost };
 }
 
 impl Host {
-    ghost use Rattle.mvd_host.specs.Hosts.{Admits, IfClient, IsClient, Leaves, altered, client_of, new_host, without};
+    ghost use Rattle.mvd_host.specs.Hosts.{Admits, IfClient, IsClient, ClientLeaves, altered, client_of, new_host, without_client};
 
     /// A host without clients.
     pub fn new(alloc: Global) -> Host
@@ -76,8 +76,8 @@ impl Host {
 
     /// Lets a client go, whose number is not used again.
     pub fn dismiss(&mut self, client: u64)
-        ensures removed { self.new ≡ without self.old client }
-        ensures leaves { Leaves self.old client self.new }
+        ensures removed { self.new ≡ without_client self.old client }
+        ensures leaves { ClientLeaves self.old client self.new }
     {
         self.clients.remove(&client);
     }
@@ -165,7 +165,7 @@ impl Host {
 
     /// What is true of a client's connection.
     pub fn stands(&self, client: u64)
-        ensures { IfClient (client_of self.now client) Stands }
+        ensures { IfClient (client_of self.now client) HistoryStands }
     {
         if let Some(connection) = self.clients.get(&client) {
             connection.stands();

@@ -1,13 +1,13 @@
 //! Laws of many rounds, each as the contract of an empty function.
 ghost use Rattle.std.specs.Prelude.{◌≡◌, ◌∷◌, ◌++◌, [], ℕ, List, Some};
 ghost use Rattle.mvd_conn.specs.History.{History, last_bytes};
-ghost use Rattle.mvd_conn.specs.Stands.{IsLast, Stands};
+ghost use Rattle.mvd_conn.specs.Stands.{IsLast, HistoryStands};
 ghost use Rattle.mvd_host.specs.Course.{own};
 ghost use Rattle.mvd_host.specs.Grown.{Grows};
 ghost use Rattle.mvd_host.specs.Hosts.{HostValue, client_of, new_host};
 ghost use Rattle.mvd_host.specs.Round.{Round};
-ghost use Rattle.mvd_host.specs.Runs.{Goes, Happening, HasShown, Moment, OneList, Runs};
-ghost use Rattle.mvd_host.specs.Runs.{TellsOwn, after_run, side_of, turns_in};
+ghost use Rattle.mvd_host.specs.Runs.{Goes, Happening, HasShown, HostMoment, OneList, Runs};
+ghost use Rattle.mvd_host.specs.Runs.{TellsOwn, after_run, side_at, turns_in};
 ghost use Rattle.mvd_replica.specs.Turns.{Turn};
 ghost use Rattle.mvd_site.specs.Held.{AreHeld};
 ghost use Rattle.sqlite.specs.Held.{Held, state};
@@ -18,10 +18,10 @@ use sqlite::Alter;
 /// and was told are its own turns of that list, in order. That holds whatever comes between the rounds, and of a
 /// client that went it holds as it was when it went.
 pub fn rounds_are_one_list<S: Alter>()
-    ensures list { (start : Moment (Held S)) (all : List (Happening (Held S))) → start.host ≡ new_host →
+    ensures list { (start : HostMoment (Held S)) (all : List (Happening (Held S))) → start.host ≡ new_host →
         Runs (state S.Store) start all →
-        OneList (turns_in all) (side_of (state S.Store) start) (side_of (state S.Store) (after_run start all)) }
-    ensures gone { (start : Moment (Held S)) (before after : List (Happening (Held S)))
+        OneList (turns_in all) (side_at (state S.Store) start) (side_at (state S.Store) (after_run start all)) }
+    ensures gone { (start : HostMoment (Held S)) (before after : List (Happening (Held S)))
         (n : ℕ) (host : HostValue) (h : History) →
         start.host ≡ new_host → Runs (state S.Store) start before →
         Runs (state S.Store) (after_run start before) (Goes n host ∷ after) →
@@ -33,14 +33,14 @@ pub fn rounds_are_one_list<S: Alter>()
 /// it but why its connection ended, which what came of it decides, and no site.
 pub fn none_before_the_token()
     ensures shown { (turns : List Turn) (h : History) → TellsOwn turns h → HasShown h.guard turns }
-    ensures told { (h : History) → TellsOwn [] h → Stands h →
+    ensures told { (h : History) → TellsOwn [] h → HistoryStands h →
         (h.left ++ h.waits ≡ last_bytes h.last) × IsLast h h.last }
 {}
 
 /// Whatever clients ask in a round, and whatever they push, each key's state afterwards includes its state before: what
 /// the site held it holds, or a write that had seen it replaced it.
 pub fn rounds_only_grow<S: Alter>()
-    ensures { (ready : List ℕ) (turns : List (ℕ × Turn)) (old new : Moment (Held S)) → AreHeld old.site.states →
-        Round ready turns (side_of (state S.Store) old) (side_of (state S.Store) new) →
+    ensures { (ready : List ℕ) (turns : List (ℕ × Turn)) (old new : HostMoment (Held S)) → AreHeld old.site.states →
+        Round ready turns (side_at (state S.Store) old) (side_at (state S.Store) new) →
         Grows old.site.states new.site.states }
 {}

@@ -1,15 +1,15 @@
 //! Requests that are answered, and what a feed notes of them.
-ghost use Rattle.std.specs.Prelude.{◌≡◌, ◌<◌, ◌-◌, ◌^◌, IfOk, false, option_copied};
+ghost use Rattle.std.specs.Prelude.{◌≡◌, ◌<◌, ◌-◌, ◌^◌, IfOk, false};
 ghost use Rattle.mvd_replica.specs.ReplicaCalls.{AnswersMany};
 ghost use Rattle.mvd_replica.specs.Replicas.{site_of};
 ghost use Rattle.mvd_site.specs.Held.{States};
 ghost use Rattle.mvd_host.specs.Lists.{ChangesAmong, ListsOn};
-ghost use Rattle.mvd_host.specs.Noting.{Notes, NotesChanges, key_asked as asked_key, keys_asked};
+ghost use Rattle.mvd_host.specs.Noting.{Notes, NotesChanges, keys_to_change};
 
 use crate::feed::Feed;
 use mvd_dots::Refusal;
 use mvd_keys::Key;
-use mvd_replica::Replica;
+use mvd_replica::{Replica, key_asked};
 use mvd_wire::{Reply, Request};
 use sqlite::Alter;
 use std::alloc::Global;
@@ -49,7 +49,7 @@ impl Feed {
     /// Notes what these requests may have changed, and the root now.
     fn follow<S: Alter>(&mut self, replica: &Replica<S>, requests: &[Request])
         ensures notes { Notes requests.now (site_of replica.now).states self.old self.new }
-        ensures lists { (before : States) → ChangesAmong (keys_asked requests.now) before (site_of replica.now).states →
+        ensures lists { (before : States) → ChangesAmong (keys_to_change requests.now) before (site_of replica.now).states →
             ListsOn self.old before self.new (site_of replica.now).states }
     {
         let Ok(root) = replica.root() else {
@@ -71,19 +71,9 @@ fn is_counted(before: u64, now: u64) -> bool
     now != before || before == u64::MAX
 }
 
-/// The key that a request asks to change.
-pub(crate) fn key_asked(request: &Request) -> Option<&Key>
-    ensures { option_copied result ≡ asked_key request.now }
-{
-    match request {
-        Request::Put(key, ..) | Request::Delete(key, _) | Request::Push(key, _) => Some(key),
-        _ => None,
-    }
-}
-
 /// The keys that requests ask to change.
 fn changed_keys(alloc: Global, requests: &[Request]) -> Result<Vec<Key>, Refusal>
-    ensures { IfOk result (λ keys. keys.items ≡ keys_asked requests.now) }
+    ensures { IfOk result (λ keys. keys.items ≡ keys_to_change requests.now) }
 {
     let mut keys = Vec::new(alloc);
     for request in requests {

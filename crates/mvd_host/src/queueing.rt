@@ -6,7 +6,7 @@ ghost use Rattle.mvd_wire.specs.declared.reply.Reply.{Reply};
 ghost use Rattle.mvd_wire.specs.declared.reply.Reply.TheVariants.{Refused};
 ghost use Rattle.mvd_wire.specs.Replies.{CanBeSent};
 ghost use Rattle.mvd_host.specs.Hosts.{IfClient, client_in};
-ghost use Rattle.mvd_host.specs.Queueing.{AreDue, Queues, refused_faults, refused_all};
+ghost use Rattle.mvd_host.specs.Queueing.{AreDue, QueuesReplies, refused_faults, refused_all};
 
 use mvd_conn::Connection;
 use mvd_dots::Refusal;
@@ -17,7 +17,7 @@ use std::collections::BTreeMap;
 fn queue(clients: &mut BTreeMap<u64, Connection>, client: u64, reply: &Reply)
     requires due { IfClient (client_in clients.old.entries client) (λ h. length h.answers < length h.taken) }
     requires fits { CanBeSent reply.now }
-    ensures queues { Queues ((client, reply.now) ∷ []) clients.old.entries clients.new.entries }
+    ensures queues { QueuesReplies ((client, reply.now) ∷ []) clients.old.entries clients.new.entries }
 {
     if let Some(connection) = clients.get_mut(&client) {
         connection.reply(reply);
@@ -32,7 +32,7 @@ pub(crate) fn queue_replies(
 )
     requires due { AreDue (zip asked.now replies.now) clients.old.entries }
     requires fits { AllByRecursion (λ (r : ℕ × Reply). CanBeSent r.1) (zip asked.now replies.now) }
-    ensures queues { Queues (zip asked.now replies.now) clients.old.entries clients.new.entries }
+    ensures queues { QueuesReplies (zip asked.now replies.now) clients.old.entries clients.new.entries }
 {
     let mut asked = asked;
     let mut replies = replies;
@@ -53,7 +53,7 @@ pub(crate) fn queue_refused(
     refusal: Refusal,
 )
     requires due { AreDue (refused_all asked.now refusal) clients.old.entries }
-    ensures queues { Queues (refused_all asked.now refusal) clients.old.entries clients.new.entries }
+    ensures queues { QueuesReplies (refused_all asked.now refusal) clients.old.entries clients.new.entries }
 {
     let mut asked = asked;
     'queueing: while let Some((client, later)) = asked.split_first() {
@@ -65,7 +65,7 @@ pub(crate) fn queue_refused(
 /// Queues the refusals of frames that are no requests.
 pub(crate) fn queue_faults(clients: &mut BTreeMap<u64, Connection>, faults: &[(u64, Refusal)])
     requires due { AreDue (refused_faults faults.now) clients.old.entries }
-    ensures queues { Queues (refused_faults faults.now) clients.old.entries clients.new.entries }
+    ensures queues { QueuesReplies (refused_faults faults.now) clients.old.entries clients.new.entries }
 {
     let mut faults = faults;
     'queueing: while let Some((fault, later)) = faults.split_first() {

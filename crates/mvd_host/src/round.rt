@@ -14,7 +14,7 @@ use mvd_replica::Replica;
 use sqlite::Alter;
 
 impl Host {
-    ghost use Rattle.mvd_host.specs.Round.{GoesForward, Round, side_of};
+    ghost use Rattle.mvd_host.specs.Round.{GoesForward, Round, host_side};
 
     /// Takes at most 1,024 frames of each ready client, answers them together, queues each reply on its own client's
     /// connection, counts what was done and refused, and notes in the feed which keys may have changed. Gives whether
@@ -28,7 +28,7 @@ impl Host {
         feed: &mut Feed,
     ) -> Result<bool, Refusal>
         ensures round { (turns : List (ℕ × Turn)) × Round ready.now turns
-            (side_of self.old replica.old) (side_of self.new replica.new) ×
+            (host_side self.old replica.old) (host_side self.new replica.new) ×
             GoesForward result ready.now turns self.new }
         ensures memory { IfErr result (λ refusal. refusal ≡ Refusal.Memory) }
         ensures lists { ListsOn feed.old (site_of replica.old).states feed.new (site_of replica.new).states }

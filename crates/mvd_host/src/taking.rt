@@ -1,5 +1,6 @@
 //! The frames that are taken in one round.
-ghost use Rattle.std.specs.Prelude.{◌≡◌, ◌≢◌, ◌+◌, ◌≤◌, ◌<◌, ◌==◌, ◌⊎◌, ◌↔◌, List, ℕ, length, true, false, [], Some};
+ghost use Rattle.std.specs.Prelude.{◌≡◌, ◌≢◌, ◌+◌, ◌≤◌, ◌<◌, ◌==◌, ◌⊎◌, ◌↔◌, List};
+ghost use Rattle.std.specs.Prelude.{ℕ, length, true, false, [], Some};
 ghost use Rattle.std.specs.Prelude.{IsTrue, OnErr, OnOk, IfOk, IfErr, vec_capacity, vec_len, slice_index};
 ghost use Rattle.std.specs.List.{Contains, list_any};
 ghost use Rattle.mvd_dots.specs.Answer.{IsAnswer};
@@ -33,11 +34,12 @@ impl Taken {
     ghost use Rattle.mvd_host.specs.Arranging.{Arranges};
     ghost use Rattle.mvd_host.specs.Course.{own};
     ghost use Rattle.mvd_host.specs.Hosts.{IfClient, client_in};
-    ghost use Rattle.mvd_host.specs.Taking.{EndsTaking, Extends, HasRoom, Holds, IsIdle, Keeps, IsMore, IsNone};
-    ghost use Rattle.mvd_host.specs.Taking.{Takes, TakesFairly, TakesMore, TakesOf, TakesRequests};
+    ghost use Rattle.mvd_host.specs.Taking.{EndsTaking, ExtendsTaken, HasRoomToTake, HoldsTaken, HasNoNext, KeepsTaken, IsMore};
+    ghost use Rattle.mvd_host.specs.Taking.{IsNothingTaken};
+    ghost use Rattle.mvd_host.specs.Taking.{TakesFrames, TakesFairly, TakesMore, TakesOf, TakesRequests};
 
     pub(crate) fn new(alloc: Global) -> Taken
-        ensures { Holds [] [] result }
+        ensures { HoldsTaken [] [] result }
     {
         Taken {
             clients: Vec::new(alloc),
@@ -48,7 +50,7 @@ impl Taken {
 
     /// Whether no frame was taken.
     pub(crate) fn is_none(&self) -> bool
-        ensures { IsTrue result ↔ IsNone self.now }
+        ensures { IsTrue result ↔ IsNothingTaken self.now }
     {
         self.clients.is_empty() && self.faults.is_empty()
     }
@@ -62,8 +64,8 @@ impl Taken {
 
     /// Makes room for one frame more.
     fn make_room(&mut self) -> Result<(), AllocError>
-        ensures same { Keeps self.old self.new }
-        ensures room { OnOk result (HasRoom self.new) }
+        ensures same { KeepsTaken self.old self.new }
+        ensures room { OnOk result (HasRoomToTake self.new) }
     {
         self.clients.reserve(1)?;
         self.requests.reserve(1)?;
@@ -78,9 +80,9 @@ impl Taken {
         client: u64,
         connection: &mut Connection,
     ) -> Result<bool, Refusal>
-        requires room { HasRoom self.old }
+        requires room { HasRoomToTake self.old }
         ensures took { TakesMore client connection.old connection.new self.old self.new }
-        ensures grows { Extends self.old self.new }
+        ensures grows { ExtendsTaken self.old self.new }
         ensures more { IfOk result (λ more. more ≡ true →
             TakesRequests client connection.old connection.new self.old self.new) }
         ensures one { IfOk result (λ more. more ≡ true →
@@ -112,7 +114,7 @@ impl Taken {
         connection: &mut Connection,
     ) -> Result<(), Refusal>
         ensures took { TakesMore client connection.old connection.new self.old self.new }
-        ensures grows { Extends self.old self.new }
+        ensures grows { ExtendsTaken self.old self.new }
         ensures end { OnOk result (EndsTaking connection.new self.old self.new) }
     {
         for _frame in 0..FRAMES_MAX {
@@ -132,10 +134,10 @@ impl Taken {
         client: u64,
     ) -> bool
         ensures took { TakesOf client clients.old.entries clients.new.entries self.old self.new }
-        ensures grows { Extends self.old self.new }
+        ensures grows { ExtendsTaken self.old self.new }
         ensures idle { result ≡ false → IsMore self.old self.new
             ⊎ ((list_any (λ fault. fault.0 == client) self.old.faults.items ≡ true)
-            ⊎ IfClient (client_in clients.new.entries client) IsIdle) }
+            ⊎ IfClient (client_in clients.new.entries client) HasNoNext) }
     {
         if self.has_fault(client) {
             return false;
@@ -165,11 +167,11 @@ impl Taken {
         clients: &mut BTreeMap<u64, Connection>,
         ready: &[u64],
     ) -> bool
-        requires none { Holds [] [] self.old }
+        requires none { HoldsTaken [] [] self.old }
         ensures took { TakesFairly result ready.now (length ready.now) clients.old.entries
             clients.new.entries self.new }
-        ensures idle { result ≡ false → IsNone self.new → (i : ℕ) → i < length ready.now →
-            IfClient (client_in clients.new.entries (slice_index ready.now i)) IsIdle }
+        ensures idle { result ≡ false → IsNothingTaken self.new → (i : ℕ) → i < length ready.now →
+            IfClient (client_in clients.new.entries (slice_index ready.now i)) HasNoNext }
     {
         let refused = self.take_each(alloc, clients, ready);
         self.arrange(alloc);
@@ -183,11 +185,11 @@ impl Taken {
         clients: &mut BTreeMap<u64, Connection>,
         ready: &[u64],
     ) -> bool
-        requires none { Holds [] [] self.old }
+        requires none { HoldsTaken [] [] self.old }
         ensures took { TakesFairly result ready.now (length ready.now) clients.old.entries
             clients.new.entries self.new }
-        ensures idle { result ≡ false → IsNone self.new → (i : ℕ) → i < length ready.now →
-            IfClient (client_in clients.new.entries (slice_index ready.now i)) IsIdle }
+        ensures idle { result ≡ false → IsNothingTaken self.new → (i : ℕ) → i < length ready.now →
+            IfClient (client_in clients.new.entries (slice_index ready.now i)) HasNoNext }
     {
         let mut refused = false;
         for client in ready {

@@ -12,7 +12,7 @@ use Rattle.mvd_site.specs.Sites.{SiteValue}
 use Rattle.mvd_site.proofs.Outcomes.{refused_fits}
 use Rattle.mvd_site.proofs.Pushes.{refusal_is}
 use Rattle.mvd_peer.specs.Sides.{SiteFollows, site_follows_on, site_follows_self}
-use Rattle.mvd_replica.specs.Batch.{AreAmong, HoldsLost, Loses}
+use Rattle.mvd_replica.specs.Batch.{AreAmongTurns, HoldsLost, Loses}
 use Rattle.mvd_replica.specs.Holds.{HoldsSite}
 use Rattle.mvd_replica.specs.Whole.{leaves_on, leaves_self, leaves_wider}
 use Rattle.mvd_replica.specs.Turns.{AreUndoneIn, IsFirstBroken, IsToldElse, RepliesOne, Turn}
@@ -26,7 +26,7 @@ use Rattle.mvd_replica.proofs.Batching.{HasChoice-turn, site_broken, still_stand
 
 -- ---- the records
 
-pub among_more : (requests : List Request) (turns more : List Turn) → AreAmong requests turns → AreAmong requests (turns ++ more)
+pub among_more : (requests : List Request) (turns more : List Turn) → AreAmongTurns requests turns → AreAmongTurns requests (turns ++ more)
 among_more [] turns more all = tt
 among_more (request ∷ requests) [] more all = absurd all
 among_more (request ∷ requests) (turn ∷ turns) more (inl here) = inl (here.0, among_more requests turns more here.1)

@@ -12,13 +12,13 @@ use Rattle.mvd_wire.specs.Replies.{CanBeSent}
 use Rattle.mvd_site.specs.Config.{ConfigValue}
 use Rattle.mvd_site.specs.FromStates.{after_from, answer_from, change_from, with_change}
 use Rattle.mvd_site.specs.Held.{States}
-use Rattle.mvd_site.specs.Known.{Adds, Changes}
+use Rattle.mvd_site.specs.Known.{Adds, ChangesKey}
 use Rattle.mvd_site.specs.Sites.{SiteStands, SiteValue}
 use Rattle.mvd_site.proofs.Answered.{after_stands, answered, changed_alike, with_state-same}
 use Rattle.mvd_site.proofs.Outcomes.{refused_fits}
 use Rattle.mvd_site.proofs.Steps.{Stands-nothing, state_at-stands}
 use Rattle.mvd_replica.specs.Batch.{AnswersOneFrom, TakesAllFrom, TakesFrom}
-use Rattle.mvd_replica.specs.Turns.{AddsAt, Event, IsFirstBroken, IsToldBroken, IsToldElse, MayReplyStored, MayTell, Replies, RepliesOne, StandsOn, Turn}
+use Rattle.mvd_replica.specs.Turns.{AddsAt, TurnEvent, IsFirstBroken, IsToldBroken, IsToldElse, MayReplyStored, MayTell, Replies, RepliesOne, StandsOn, Turn}
 use Rattle.mvd_replica.proofs.Positions.{TakesTurns, TurnsFollow}
 use Rattle.mvd_replica.proofs.Replying.{AddsAt-Refused, HasChoice, HasChoice-append, HasChoice-none, Replies-append, Replies-none, Replies-one, StandsOn-append, StandsOn-none, StandsOn-one}
 use Rattle.sqlite.specs.State.{State}
@@ -29,7 +29,7 @@ some_differs : (m : States) (known : List Write) (o : Option (Key × Keyed)) →
 some_differs m known None stands differs = differs refl
 some_differs m known (Some c) stands differs = λ same. differs (with_state-same m c.0 c.1 (same ∙ sym (state_at-stands m known c.0 stands)))
 
-changes_known : (config : ConfigValue) (m : States) (known : List Write) (request : Request) → Stands m known → after_from config m request ≢ m → Changes config known request
+changes_known : (config : ConfigValue) (m : States) (known : List Write) (request : Request) → Stands m known → after_from config m request ≢ m → ChangesKey config known request
 changes_known config m known request stands differs =
     subst (λ o. IsSomeAnd o (λ c. c.1 ≢ state c.0 known)) (changed_alike config m known request stands)
     (some_differs m known (change_from m request (answer_from config m request)) stands differs)
@@ -186,7 +186,7 @@ module _ (old new : SiteValue) where
 pub HasChoice-turn : (asked : Result Request Refusal) (reply : Reply) → (added : List Write) × AddsAt asked reply added → HasChoice (record { asked = asked; reply = reply } ∷ [])
 HasChoice-turn asked reply one =
     let turn : Turn = record { asked = asked; reply = reply } in
-    let event : Event = record { turn = turn; added = one.0 } in
+    let event : TurnEvent = record { turn = turn; added = one.0 } in
     (event ∷ [], record { told = refl; fits = (one.1, tt) })
 
 -- ---- turns, one after the other

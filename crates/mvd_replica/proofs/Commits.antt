@@ -1,5 +1,5 @@
--- What follows from the relation of a replica's commits. Each lemma says one fact, of one request (`Answers`), of the turns of one
--- commit (`Commits`), or of requests that are answered at once (`AnswersEach`).
+-- What follows from the relation of a replica's commits. Each lemma says one fact, of one request (`AnswersOneRequest`), of the turns of one
+-- commit (`SharesCommit`), or of requests that are answered at once (`AnswersInCommits`).
 use Rattle.std.proofs.Common.{arith, ◌≡◌, ◌≢◌, ◌⊎◌, ◌∙◌, ◌≤◌, ◌<◌, ◌+◌, ◌-◌, ◌^◌, ℕ, List, [], ◌∷◌, ◌++◌, true, false, Result, Ok, flat_map, map, min, refl, sym, ap, subst, inl, inr, true≢false}
 use Rattle.std.specs.List.{AllByRecursion}
 use Rattle.mvd_dots.specs.declared.refusals.Refusal.{Refusal}
@@ -19,8 +19,8 @@ use Rattle.sqlite.specs.Effect.{Database}
 use Rattle.sqlite.proofs.StateLemmas.{survives_weaker}
 use Rattle.sqlite_trees.specs.declared.store.Store.{Ghosts}
 use Rattle.mvd_replica.specs.declared.replica.Replica.{Replica}
-use Rattle.mvd_replica.specs.Batch.{AnswersOneFrom, AreAmong, CountsAlong, HoldsLost, TakesAllFrom}
-use Rattle.mvd_replica.specs.Commits.{AllCommit, Answers, AnswersEach, ChangesNothing, Commits, IsStill}
+use Rattle.mvd_replica.specs.Batch.{AnswersOneFrom, AreAmongTurns, CountsAlong, HoldsLost, TakesAllFrom}
+use Rattle.mvd_replica.specs.Commits.{AllCommit, AnswersOneRequest, AnswersInCommits, ChangesNothing, SharesCommit, IsStill}
 use Rattle.mvd_replica.specs.Holds.{HoldsStates}
 use Rattle.mvd_replica.specs.ReplicaCalls.{CountsCommits, StaysStill, StoresThoughBroken, SurvivesRequest}
 use Rattle.mvd_replica.specs.Replicas.{WasClean, commits_of, committed_of, next_count, site_of, store_of, stored_of}
@@ -49,7 +49,7 @@ lost_alone : (turn broke : Turn) (before later : List Turn) → turn ∷ [] ≡ 
 lost_alone turn broke [] later is = (cc, cc)
 lost_alone turn broke (t ∷ before) later is = let rest : ◌≡◌ {A = List Turn} [] (before ++ broke ∷ later) = cc in absurd (no_more before later broke rest)
 
-among_none : (requests : List Request) → AreAmong requests [] → requests ≡ []
+among_none : (requests : List Request) → AreAmongTurns requests [] → requests ≡ []
 among_none [] all = refl
 among_none (request ∷ requests) all = absurd all
 
@@ -61,7 +61,7 @@ pub lost_request : (request : Request) (reply : Reply) (site : SiteValue) (db : 
 lost_request request reply site db it =
     let lost = it.lost in
     let one = lost_alone (turn_of request reply) lost.broke lost.before lost.later lost.all in
-    let none : lost.rest ≡ [] = among_none lost.rest (subst (AreAmong lost.rest) one.1 lost.among) in
+    let none : lost.rest ≡ [] = among_none lost.rest (subst (AreAmongTurns lost.rest) one.1 lost.among) in
     record {
       request = lost.request;
       asked = the_request lost.request request (sym lost.asked.0 ∙ ap (λ (t : Turn). t.asked) one.0);
@@ -130,7 +130,7 @@ still_turns site (turn ∷ turns) (request ∷ requests) asked all =
 
 module _ {S : Type 0} {g : Ghosts S} where
   -- nothing was stored
-  pub commits_nothing : (turns : List Turn) (old : Replica S g) → TakesAllFrom (site_of old) (site_of old) turns → Commits turns old old
+  pub commits_nothing : (turns : List Turn) (old : Replica S g) → TakesAllFrom (site_of old) (site_of old) turns → SharesCommit turns old old
   commits_nothing turns old takes = record {
     takes = takes;
     counts = inl (refl, refl, λ _. refl);
@@ -145,7 +145,7 @@ module _ {S : Type 0} {g : Ghosts S} where
 
   -- ---- of a commit
 
-  module _ (turns : List Turn) (old new : Replica S g) (it : Commits turns old new) where
+  module _ (turns : List Turn) (old new : Replica S g) (it : SharesCommit turns old new) where
     -- the disk that is clean now was clean before
     pub clean : WasClean old new
     clean disk = omega (arith, it.survives.clean, disk)
@@ -175,7 +175,7 @@ module _ {S : Type 0} {g : Ghosts S} where
 
   -- ---- of one request
 
-  module _ (old new : Replica S g) (request : Request) (reply : Reply) (it : Answers old request reply new) where
+  module _ (old new : Replica S g) (request : Request) (reply : Reply) (it : AnswersOneRequest old request reply new) where
     -- what the site did, from its states
     pub answers_one : AnswersOneFrom (site_of old) (site_of new) request reply
     answers_one = subst (λ s. AnswersOneFrom (site_of old) s request reply) (sym it.takes.2) it.takes.1
@@ -288,7 +288,7 @@ module _ {S : Type 0} {g : Ghosts S} where
     most : commits_of new ≤ commits_of old + count
     least : min (commits_of old + count) (2 ^ 64 - 1) ≤ commits_of new
 
-  one_counts : (turns : List Turn) (old new : Replica S g) → Commits turns old new → CountsTurns turns old new
+  one_counts : (turns : List Turn) (old new : Replica S g) → SharesCommit turns old new → CountsTurns turns old new
   one_counts turns old new it = elim it.counts [
     | inl none ↦ record {
       count = 0;
@@ -328,7 +328,7 @@ module _ {S : Type 0} {g : Ghosts S} where
         least = omega (arith, one.least, other.least);
       }
 
-  module _ (requests : List Request) (replies : List Reply) (old new : Replica S g) (it : AnswersEach requests replies old new) where
+  module _ (requests : List Request) (replies : List Reply) (old new : Replica S g) (it : AnswersInCommits requests replies old new) where
     -- each request is a turn of its own, given from the states that the one before left, and the records follow
     pub answers_all : AnswersAll requests replies (site_of old) (site_of new) (store_of old) (store_of new)
     answers_all = record {

@@ -18,8 +18,8 @@ use Rattle.mvd_replica.specs.declared.serving.Ended.TheVariants as ended
 use Rattle.mvd_replica.specs.Sides.{replica_follows_self}
 use Rattle.mvd_replica.specs.Whole.{leaves_self}
 use Rattle.mvd_replica.specs.Turns.{AreFrames, IsFirstBroken, LeavesTurns, Replies, StandsOn, Turn}
-use Rattle.mvd_replica.specs.Served.{AtBye, AtEnd, AtRefusal, AtWriter, Stops, Went}
-use Rattle.mvd_replica.specs.Steps.{Ends, IsSent, RepliesTo}
+use Rattle.mvd_replica.specs.Served.{AtBye, AtEnd, AtRefusal, AtWriter, StopsServing, Went}
+use Rattle.mvd_replica.specs.Steps.{EndsConversation, IsSent, RepliesTo}
 use Rattle.mvd_replica.proofs.Leaving.{leaves_sent}
 use Rattle.mvd_replica.proofs.Positions.{GoesOut, ReplicaFollows, conversation_at, stored_site}
 use Rattle.std.proofs.KnownBytes.{Appends-nil}
@@ -31,7 +31,7 @@ use Rattle.mvd_replica.proofs.Replying.{Replies-none, Replies-one, RepliesOne-se
 -- ---- the ends
 
 pub at_end : (site : SiteValue) (store : State) (before after output : Option (List ℕ)) → Reads (option_map frame_value) before after (Ok None) frame_at →
-    Ends (conversation_at site store before output) (conversation_at site store after output) (Ok ended.End)
+    EndsConversation (conversation_at site store before output) (conversation_at site store after output) (Ok ended.End)
 at_end site store before after output came = record {
   turns = [];
   ending = AtEnd;
@@ -52,7 +52,7 @@ at_end site store before after output came = record {
   wrote = inl (refl, Appends-nil output);
 }
 
-told : (e : Refusal) (bytes : List ℕ) (left : Option (List ℕ)) → EndsReading e → (e ≢ Memory → e ≢ ReadFailed → frame_at bytes ≡ Err e) → Stops bytes left (AtRefusal e)
+told : (e : Refusal) (bytes : List ℕ) (left : Option (List ℕ)) → EndsReading e → (e ≢ Memory → e ≢ ReadFailed → frame_at bytes ≡ Err e) → StopsServing bytes left (AtRefusal e)
 told e bytes left (inl is) exact = inr (inr (inr (exact (λ h. cc) (λ h. cc))))
 told e bytes left (inr (inl is)) exact = inr (inr (inr (exact (λ h. cc) (λ h. cc))))
 told e bytes left (inr (inr (inl is))) exact = inr (inl is)
@@ -66,7 +66,7 @@ few e (inr (inr (inr is))) h = cc
 
 pub at_refusal : (site : SiteValue) (store : State) (before after output out : Option (List ℕ)) (e : Refusal) (fault : Refusal) → Reads (option_map frame_value) before after (Err e) frame_at → EndsReading e →
     GoesOut output out (reply_bytes (Refused e)) WriteFailed fault e →
-    Ends (conversation_at site store before output) (conversation_at site store after out) (Err fault)
+    EndsConversation (conversation_at site store before output) (conversation_at site store after out) (Err fault)
 at_refusal site store before after output out e fault came which wrote = record {
   turns = [];
   ending = AtRefusal e;
@@ -85,7 +85,7 @@ at_refusal site store before after output out e fault came which wrote = record 
 }
 
 bye_stops : (before after : Option (List ℕ)) (frame : Frame) → Reads (option_map frame_value) before after (Ok (Some frame)) frame_at → request_of frame.kind frame.payload.items ≡ Ok Bye →
-    (bytes : List ℕ) → before ≡ Some bytes → (rest : List ℕ) × AreFrames [] bytes rest × Stops rest after AtBye
+    (bytes : List ℕ) → before ≡ Some bytes → (rest : List ℕ) × AreFrames [] bytes rest × StopsServing rest after AtBye
 bye_stops before after frame came asked bytes known =
     let p : (rest : List ℕ) × (after ≡ Some rest) × (frame_at bytes ≡ Ok (Some (frame_value frame), rest)) = came bytes known in
     (bytes, refl, (frame_value frame, p.0, p.2, asked, p.1))
@@ -93,7 +93,7 @@ bye_stops before after frame came asked bytes known =
 at_bye : (old site : SiteValue) (was store : State) (before after output out : Option (List ℕ)) (frame : Frame) (result : Result Ended Refusal) → Reads (option_map frame_value) before after (Ok (Some frame)) frame_at →
     request_of frame.kind frame.payload.items ≡ Ok Bye → site ≡ old → ReplicaFollows (IsFirstBroken []) old site was store → LeavesTurns [] (stored_site old was) (stored_site site store) →
     GoesOut output out (reply_bytes (if site.broken then Refused Broken else Done)) (Err WriteFailed) result (Ok ended.Bye) →
-    Ends (conversation_at old was before output) (conversation_at site store after out) result
+    EndsConversation (conversation_at old was before output) (conversation_at site store after out) result
 at_bye old site was store before after output out frame result came asked same follows leaves wrote = record {
   turns = [];
   ending = AtBye;
@@ -142,7 +142,7 @@ at_writer : (old new : SiteValue) (was store : State) (before after output out :
     RepliesTo (request_of frame.kind frame.payload.items) old new reply → ReplicaFollows (λ request. request_of frame.kind frame.payload.items ≡ Ok request) old new was store →
     LeavesTurns (record { asked = request_of frame.kind frame.payload.items; reply = reply } ∷ []) (stored_site old was) (stored_site new store) → IsSent reply sent →
     AppendsFront output out (reply_bytes sent) →
-    Ends (conversation_at old was before output) (conversation_at new store after out) (Err WriteFailed)
+    EndsConversation (conversation_at old was before output) (conversation_at new store after out) (Err WriteFailed)
 at_writer old new was store before after output out frame reply sent came replied follows leaves is wrote =
     let asked = request_of frame.kind frame.payload.items in
     let turn : Turn = record { asked = asked; reply = sent } in
@@ -176,14 +176,14 @@ last_is site broken bytes same is = is ∙ ap (λ b. reply_bytes (if b then Refu
 pub at_bye_ok : (old site : SiteValue) (was store : State) (before after output out : Option (List ℕ)) (frame : Frame) (broken : Bool) (bytes : List ℕ) → Reads (option_map frame_value) before after (Ok (Some frame)) frame_at →
     request_of frame.kind frame.payload.items ≡ Ok Bye → site ≡ old → ReplicaFollows (λ request. request_of frame.kind frame.payload.items ≡ Ok request) old site was store → LeavesTurns [] (stored_site old was) (stored_site site store) →
     broken ≡ site.broken → bytes ≡ reply_bytes (if broken then Refused Broken else Done) → Appends output out bytes →
-    Ends (conversation_at old was before output) (conversation_at site store after out) (Ok ended.Bye)
+    EndsConversation (conversation_at old was before output) (conversation_at site store after out) (Ok ended.Bye)
 at_bye_ok old site was store before after output out frame broken bytes came asked same follows leaves is last wrote =
     at_bye old site was store before after output out frame (Ok ended.Bye) came asked same (follows_bye _ old site was store same follows) leaves (inl (refl, subst (Appends output out) (last_is site broken bytes is last) wrote))
 
 pub at_bye_failed : (old site : SiteValue) (was store : State) (before after output out : Option (List ℕ)) (frame : Frame) (broken : Bool) (bytes : List ℕ) (failed : Refusal) → Reads (option_map frame_value) before after (Ok (Some frame)) frame_at →
     request_of frame.kind frame.payload.items ≡ Ok Bye → site ≡ old → ReplicaFollows (λ request. request_of frame.kind frame.payload.items ≡ Ok request) old site was store → LeavesTurns [] (stored_site old was) (stored_site site store) →
     broken ≡ site.broken → bytes ≡ reply_bytes (if broken then Refused Broken else Done) → failed ≡ WriteFailed → AppendsFront output out bytes →
-    Ends (conversation_at old was before output) (conversation_at site store after out) (Err failed)
+    EndsConversation (conversation_at old was before output) (conversation_at site store after out) (Err failed)
 at_bye_failed old site was store before after output out frame broken bytes failed came asked same follows leaves is last why wrote =
     at_bye old site was store before after output out frame (Err failed) came asked same (follows_bye _ old site was store same follows) leaves (inr (ap (λ (r : Refusal). Err r) why, subst (AppendsFront output out) (last_is site broken bytes is last) wrote))
 
@@ -207,10 +207,10 @@ pub at_writer_sent : (old new : SiteValue) (was store : State) (before after out
     RepliesTo (request_of frame.kind frame.payload.items) old new reply → ReplicaFollows (λ request. request_of frame.kind frame.payload.items ≡ Ok request) old new was store →
     LeavesTurns (record { asked = request_of frame.kind frame.payload.items; reply = reply } ∷ []) (stored_site old was) (stored_site new store) →
     ((sent : Reply) × IsSent reply sent × GoesOut {X = Result (Unit {0}) Refusal} output out (reply_bytes sent) (Err WriteFailed) (Err failed) (Ok tt)) →
-    Ends (conversation_at old was before output) (conversation_at new store after out) (Err failed)
+    EndsConversation (conversation_at old was before output) (conversation_at new store after out) (Err failed)
 at_writer_sent old new was store before after output out frame reply failed came replied follows leaves sent =
     let why : (failed ≡ WriteFailed) × AppendsFront output out (reply_bytes sent.0) = fronted output out (reply_bytes sent.0) failed sent.2 in
-    subst (λ (r : Refusal). Ends (conversation_at old was before output) (conversation_at new store after out) (Err r)) (sym why.0)
+    subst (λ (r : Refusal). EndsConversation (conversation_at old was before output) (conversation_at new store after out) (Err r)) (sym why.0)
     (at_writer old new was store before after output out frame reply sent.0 came replied follows leaves sent.1 why.1)
 
 -- a frame that was written, or a front of it

@@ -13,7 +13,7 @@ use Rattle.mvd_records.specs.Records.{IsOurs}
 use Rattle.mvd_replica.specs.declared.serving.Ended.{Ended}
 use Rattle.mvd_replica.specs.Holds.{HoldsStates}
 use Rattle.mvd_replica.specs.Opened.{IsOpened, IsRefused, OpensSite}
-use Rattle.mvd_replica.specs.Served.{Served, Conversation, WentOut, last_bytes, replies_bytes, result_of}
+use Rattle.mvd_replica.specs.Served.{Served, Conversation, WentOut, ending_bytes, replies_bytes, result_of}
 use Rattle.mvd_replica.specs.Readable.{SameStates}
 use Rattle.mvd_replica.proofs.RestoredOrder.{held_just, just_one}
 use Rattle.mvd_replica.proofs.Positions.{GoesOut, GoesOutAfter}
@@ -58,10 +58,10 @@ as_one old new first bytes all failed result wanted same (inr h) =
 
 -- all replies and the last frame were written, or the writer failed after a front of them
 pub served_wrote : (old new : Conversation) (result : Result Ended Refusal) (it : Served old new result) →
-    GoesOut old.output new.output (replies_bytes it.turns ++ last_bytes new.stored.site.broken it.ending) (Err WriteFailed) result (result_of it.ending)
+    GoesOut old.output new.output (replies_bytes it.turns ++ ending_bytes new.stored.site.broken it.ending) (Err WriteFailed) result (result_of it.ending)
 served_wrote old new result it =
     let out : WentOut it.turns it.ending old new result = it.went_out in
-    let last = last_bytes new.stored.site.broken it.ending in
+    let last = ending_bytes new.stored.site.broken it.ending in
     as_one old.output new.output (replies_bytes out.whole) (replies_bytes out.cut ++ last) (replies_bytes it.turns ++ last) (Err WriteFailed) result (result_of it.ending)
     (sym (append_assoc (replies_bytes out.whole) (replies_bytes out.cut) last)
     ∙ ap (λ l. l ++ last) (sym (replies_bytes-append out.whole out.cut) ∙ ap replies_bytes (sym out.all)))

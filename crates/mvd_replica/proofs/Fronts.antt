@@ -8,7 +8,7 @@ use Rattle.mvd_wire.specs.declared.request.Request.{Request}
 use Rattle.mvd_wire.specs.declared.reply.Reply.{Reply}
 use Rattle.sqlite_trees.specs.declared.store.Store.{Ghosts}
 use Rattle.mvd_replica.specs.declared.replica.Replica.{Replica}
-use Rattle.mvd_replica.specs.Commits.{AllCommit, Answers, AnswersEach, Commits, Shares, SharesFront}
+use Rattle.mvd_replica.specs.Commits.{AllCommit, AnswersOneRequest, AnswersInCommits, SharesCommit, Shares, SharesFront}
 use Rattle.mvd_replica.specs.Turns.{Turn}
 
 -- what is left of the requests, as the code has it
@@ -41,10 +41,10 @@ alone_told (t ∷ u ∷ turns) request asked = absurd cc
 module _ {S : Type 0} {g : Ghosts S} where
   -- ---- one request
 
-  pub shares_alone : (request : Request) (before after init : List Reply) (reply : Reply) (old new : Replica S g) → before ≡ [] → after ≡ init ++ reply ∷ [] → Shares (request ∷ []) before after old new → Answers old request reply new
+  pub shares_alone : (request : Request) (before after init : List Reply) (reply : Reply) (old new : Replica S g) → before ≡ [] → after ≡ init ++ reply ∷ [] → Shares (request ∷ []) before after old new → AnswersOneRequest old request reply new
   shares_alone request before after init reply old new none last it =
       let told : map (λ (t : Turn). t.reply) it.turns ≡ init ++ reply ∷ [] = ap (λ l. l ++ map (λ (t : Turn). t.reply) it.turns) (sym none) ∙ sym it.told ∙ last in
-      subst (λ turns. Commits turns old new) (alone_turns it.turns request init reply it.asked told) it.commits
+      subst (λ turns. SharesCommit turns old new) (alone_turns it.turns request init reply it.asked told) it.commits
 
   pub shares_one : (request : Request) (before after : List Reply) (old new : Replica S g) → before ≡ [] → Shares (request ∷ []) before after old new → length after ≡ 1
   shares_one request before after old new none it =
@@ -52,7 +52,7 @@ module _ {S : Type 0} {g : Ghosts S} where
 
   -- the first by itself
   pub front_alone : (requests : List Request) (request : Request) (reply : Reply) (before after : List Reply) (old same new : Replica S g) → 0 < length requests → request ≡ get_or requests 0 request → same ≡ old →
-      after ≡ before ++ reply ∷ [] → Answers same request reply new → SharesFront requests before after old new
+      after ≡ before ++ reply ∷ [] → AnswersOneRequest same request reply new → SharesFront requests before after old new
   front_alone requests request reply before after old same new some is still appended it = (
     1,
     omega arith,
@@ -61,21 +61,21 @@ module _ {S : Type 0} {g : Ghosts S} where
       turns = record { asked = Ok request; reply = reply } ∷ [];
       asked = ap (map (λ (r : Request). Ok r)) (sym (first_taken requests request some is));
       told = appended;
-      commits = subst (λ (r : Replica S g). Answers r request reply new) still it;
+      commits = subst (λ (r : Replica S g). AnswersOneRequest r request reply new) still it;
     },
   )
 
   -- ---- one commit more
 
-  pub each_none : (old : Replica S g) → AnswersEach [] [] old old
+  pub each_none : (old : Replica S g) → AnswersInCommits [] [] old old
   each_none old = record { groups = []; asked = refl; told = refl; commits = refl }
 
-  all_more : (groups : List (List Turn)) (turns : List Turn) (old mid new : Replica S g) → AllCommit groups old mid → Commits turns mid new → AllCommit (groups ++ turns ∷ []) old new
-  all_more [] turns old mid new all one = (new, subst (λ (r : Replica S g). Commits turns r new) all one, refl)
+  all_more : (groups : List (List Turn)) (turns : List Turn) (old mid new : Replica S g) → AllCommit groups old mid → SharesCommit turns mid new → AllCommit (groups ++ turns ∷ []) old new
+  all_more [] turns old mid new all one = (new, subst (λ (r : Replica S g). SharesCommit turns r new) all one, refl)
   all_more (first ∷ groups) turns old mid new all one = (all.0, all.1, all_more groups turns all.0 mid new all.2 one)
 
   module _ (requests : List Request) (told given : List Reply) (old mid new : Replica S g) (few : length told ≤ length requests)
-      (one : AnswersEach (take (length told) requests) told old mid) (front : SharesFront (drop (length told) requests) told given mid new) where
+      (one : AnswersInCommits (take (length told) requests) told old mid) (front : SharesFront (drop (length told) requests) told given mid new) where
     count_front : length front.3.turns ≡ front.0
     count_front =
         sym (length-map front.3.turns (λ (t : Turn). t.asked)) ∙ ap length front.3.asked ∙ length-map (take front.0 (drop (length told) requests)) (λ (r : Request). Ok r)
@@ -97,7 +97,7 @@ module _ {S : Type 0} {g : Ghosts S} where
     all_turns : flat_map (λ turns. turns) (one.groups ++ front.3.turns ∷ []) ≡ flat_map (λ turns. turns) one.groups ++ front.3.turns
     all_turns = flat_map-append (λ turns. turns) one.groups (front.3.turns ∷ []) ∙ ap (λ l. flat_map (λ turns. turns) one.groups ++ l) (append-nil front.3.turns)
 
-    pub front_answers : AnswersEach (take (length given) requests) given old new
+    pub front_answers : AnswersInCommits (take (length given) requests) given old new
     front_answers = record {
       groups = one.groups ++ front.3.turns ∷ [];
       asked = ap (map (λ (t : Turn). t.asked)) all_turns ∙ map-append (λ (t : Turn). t.asked) (flat_map (λ turns. turns) one.groups) front.3.turns ∙ ap₂ (λ a b. a ++ b) one.asked front.3.asked

@@ -12,10 +12,10 @@ use Rattle.mvd_wire.specs.declared.reply.Reply.{Reply}
 use Rattle.mvd_wire.specs.declared.reply.Reply.TheVariants.{Refused}
 use Rattle.mvd_records.specs.Calls.{SavesAll}
 use Rattle.mvd_records.specs.Contents.{Contents, Holds}
-use Rattle.mvd_records.specs.Pairs.{Pair, entries_of}
+use Rattle.mvd_records.specs.Pairs.{Pair, pair_entries}
 use Rattle.mvd_records.specs.Seen.{Seen}
-use Rattle.mvd_records.specs.Records.{HoldsRecords, IsSound, Leaves, SavesState, SavesStates, new_states, old_states, with_pairs}
-use Rattle.mvd_site.specs.Change.{ChangeValue, reply_of}
+use Rattle.mvd_records.specs.Records.{HoldsRecords, IsSound, LeavesTrees, SavesState, SavesStates, new_states, old_states, with_pairs}
+use Rattle.mvd_site.specs.Change.{ChangeValue, change_reply}
 use Rattle.mvd_site.specs.Config.{ConfigValue}
 use Rattle.mvd_site.specs.FromStates.{after_from, answer_from, change_from, with_change as with_changed}
 use Rattle.mvd_site.specs.Held.{IsSpelled, States, state_at}
@@ -27,7 +27,7 @@ use Rattle.mvd_site.specs.Sites.{SiteValue}
 use Rattle.mvd_site.proofs.Outcomes.{change_plain, refused_fits}
 use Rattle.mvd_site.proofs.Pushes.{refusal_is}
 use Rattle.mvd_site.proofs.Runs.{fitting}
-use Rattle.mvd_replica.specs.Groups.{ComesTo, IsApart, IsReply, IsSendable, MayJoin, StandTogether, pairs_in}
+use Rattle.mvd_replica.specs.Groups.{ComesTo, IsApart, IsGivenReply, IsSendable, MayJoin, StandTogether, pairs_in}
 use Rattle.sqlite.specs.Effect.{Database}
 use Rattle.sqlite.specs.State.{State as Shown, Survives}
 use Rattle.sqlite.proofs.StateLemmas.{survives_weaker}
@@ -67,7 +67,7 @@ comes_refused site request refusal whole from broken frugal = (
   },
 )
 
-plain_reply : (request : Request) (reply : Reply) → IsPlain reply → IsValidRequest request → IsReply request reply
+plain_reply : (request : Request) (reply : Reply) → IsPlain reply → IsValidRequest request → IsGivenReply request reply
 plain_reply request reply plain valid = record {
   other = λ bad. true≢false (sym (ap is_refusal bad) ∙ plain.accepts);
   fits = plain.fits;
@@ -82,7 +82,7 @@ comes_answer site request reply from ready valid =
 pub comes_change : (site : SiteValue) (request : Request) (change : ChangeValue) → PreparesFrom site.config site.states request (Ok (Change change)) → IsReady site (Change change) → IsValidRequest request → IsSpelled change.state →
     ComesTo site.config site.states request (Change change) × IsSendable request (Change change)
 comes_change site request change from ready valid spelled =
-    ((from, ready.0), (plain_reply request (reply_of change.dot) (change_plain change.dot) valid, ready.1, spelled))
+    ((from, ready.0), (plain_reply request (change_reply change.dot) (change_plain change.dot) valid, ready.1, spelled))
 
 -- ---- lists, one more
 
@@ -124,7 +124,7 @@ store_many (Ok done) old new pairs group site saves same sound holds =
 
 -- a crash leaves what it left before, or the pairs
 pub survives_one : (old new : Shown) (change : ChangeValue) (group : List Prepared) (key bytes : List ℕ) → key ≡ change.key → bytes ≡ spell_state change.state → group ≡ Change change ∷ [] →
-    Survives old new (λ trees. IsTrue old.is_open × Leaves old (λ version site db. HoldsRecords version site db × SavesState old.committed db key bytes) trees) →
+    Survives old new (λ trees. IsTrue old.is_open × LeavesTrees old (λ version site db. HoldsRecords version site db × SavesState old.committed db key bytes) trees) →
     Survives old new (LeavesPairs old (pairs_in group))
 survives_one old new change group key bytes key-is bytes-is alone it = survives_weaker _ _ _ _ (λ _ trees left. (
   left.0,
@@ -147,13 +147,13 @@ one_only (p ∷ q ∷ group) prepared count is = absurd (omega (arith, count))
 
 module _ (pairs : List Pair) (group : List Prepared) (i : ℕ) (item : Prepared) where
   pub pairs_next : (change : ChangeValue) (pair : Pair) → i < length group → item ≡ get_or group i item → item ≡ Change change → pair.0 ≡ change.key → pair.1.items ≡ spell_state change.state →
-      entries_of pairs ≡ pairs_in (take i group) → entries_of (pairs ++ pair ∷ []) ≡ pairs_in (take (i + 1) group)
+      pair_entries pairs ≡ pairs_in (take i group) → pair_entries (pairs ++ pair ∷ []) ≡ pairs_in (take (i + 1) group)
   pairs_next change pair low is change-is key bytes so_far =
       let last : (pair.0, pair.1.items) ∷ [] ≡ pairs_in (item ∷ []) = ap₂ (λ k b. (k, b) ∷ []) key bytes ∙ sym (ap (λ p. pairs_in (p ∷ [])) change-is) in
       map-append (λ (p : Pair). (p.0, p.1.items)) pairs (pair ∷ []) ∙ ap₂ (λ a b. a ++ b) so_far last ∙ sym (pairs_more (take i group) item)
       ∙ ap pairs_in (ap (λ p. take i group ++ p ∷ []) is ∙ sym (take_more group i item low))
 
-  pub pairs_skip : (reply : Reply) → i < length group → item ≡ get_or group i item → item ≡ Answer reply → entries_of pairs ≡ pairs_in (take i group) → entries_of pairs ≡ pairs_in (take (i + 1) group)
+  pub pairs_skip : (reply : Reply) → i < length group → item ≡ get_or group i item → item ≡ Answer reply → pair_entries pairs ≡ pairs_in (take i group) → pair_entries pairs ≡ pairs_in (take (i + 1) group)
   pairs_skip reply low is reply-is so_far =
       so_far ∙ sym (append-nil (pairs_in (take i group))) ∙ ap (λ l. pairs_in (take i group) ++ l) (sym (ap (λ p. pairs_in (p ∷ [])) reply-is)) ∙ sym (pairs_more (take i group) item)
       ∙ ap pairs_in (ap (λ p. take i group ++ p ∷ []) is ∙ sym (take_more group i item low))

@@ -1,6 +1,6 @@
 -- Requests of one commit: what each comes to after the others.
 use Rattle.std.proofs.lemmas.Bool.Decides.{nat_tests}
-use Rattle.std.proofs.Common.{◌≡◌, ◌≢◌, ◌∙◌, ℕ, ◌+◌, ◌<◌, ◌≤◌, ◌==◌, arith, zero, suc, Bool, true, false, not, ◌&&◌, cond, if◌then◌else◌, List, [], ◌∷◌, ◌++◌, Option, Some, None, Ok, is_some, unwrap_or, refl, sym, ap, subst, inl, inr, length, take, drop, get_or}
+use Rattle.std.proofs.Common.{◌≡◌, ◌≢◌, ◌∙◌, ℕ, ◌+◌, ◌<◌, ◌≤◌, ◌==◌, arith, zero, suc, Bool, true, false, not, ◌&&◌, cond, if◌then◌else◌, List, [], ◌∷◌, ◌++◌, Option, Some, None, Ok, is_some, unwrap_or, refl, sym, ap, ap₂, subst, inl, inr, length, take, drop, get_or, ◌⊎◌}
 use Rattle.std.proofs.lemmas.List.{drop_all, drop_more, take_more}
 use Rattle.std.specs.Prelude.{IfSome}
 use Rattle.std.specs.List.{AllByRecursion}
@@ -28,8 +28,8 @@ use Rattle.mvd_kept.specs.declared.prepared.Prepared.{Prepared}
 use Rattle.mvd_kept.specs.declared.prepared.Prepared.TheVariants.{Answer, Change}
 use Rattle.mvd_site.specs.Sites.{SiteValue, has_no_room}
 use Rattle.mvd_site.proofs.Answered.{with_state-same, with_state-seen}
-use Rattle.mvd_site.proofs.SideBySide.{room_for_both}
 use Rattle.mvd_site.specs.Installs.{MayAllBeIn, MayBeIn, changes_in, is_change, with_group, with_one, with_prepared}
+use Rattle.mvd_replica.specs.Adding.{KeepsRoom}
 use Rattle.mvd_replica.specs.Batch.{asks_change, changes_asked}
 use Rattle.mvd_replica.specs.Groups.{AllComeTo, AreSendable, ComeInOrder, ComesTo, FirstWaits, IsApart, IsElsewhere, IsSendable, MustWait, SeesAny, StandTogether, pairs_in}
 
@@ -60,110 +60,181 @@ module _ (config : ConfigValue) (m n : States) (own : Key) (same : get n own ≡
       ap (λ s. if is_too_large pushed then Refused StateTooLarge else if clashes s pushed then Refused DotClash else within config n own (join s pushed) Done) (same_state m n own same)
       ∙ ap (λ r. if is_too_large pushed then Refused StateTooLarge else if clashes (state_at m own) pushed then Refused DotClash else r) (within_same (join (state_at m own) pushed) Done)
 
-not_full : (b : Bool) (n most : ℕ) → n < most → (not b && (n == most)) ≡ false
-not_full true n most few = refl
-not_full false n most few = grind (arith, nat_tests)
-
-module _ (config : ConfigValue) (m : States) (key : Key) (s : Keyed) (few : map_len m + 1 < config.max_keys) where
-  found_elsewhere : (own : Key) → own ≢ key → get (insert m key s) own ≡ get m own
-  found_elsewhere own apart = get-insert key_total m key s own ∙ ap (λ b. cond b (Some s) (get m own)) (key_apart own key apart)
-
-  room_elsewhere : (own : Key) → has_no_room config (insert m key s) own ≡ has_no_room config m own
-  room_elsewhere own = room_for_both config m key own s few ∙ sym (not_full (is_some (get m own)) (map_len m) config.max_keys (omega (arith, few)))
-
-  pub answer_elsewhere : (request : Request) → IsElsewhere key request → answer_from config (insert m key s) request ≡ answer_from config m request
-  answer_elsewhere (Get own) apart = ap Shown (same_state m (insert m key s) own (found_elsewhere own apart))
-  answer_elsewhere (Put own seen document) apart = answer_put config m (insert m key s) own (found_elsewhere own apart) (room_elsewhere own) seen document
-  answer_elsewhere (Delete own seen) apart = answer_delete config m (insert m key s) own (found_elsewhere own apart) (room_elsewhere own) seen
-  answer_elsewhere (Push own pushed) apart = answer_push config m (insert m key s) own (found_elsewhere own apart) (room_elsewhere own) pushed
-  answer_elsewhere (Hello token) apart = refl
-  answer_elsewhere Bye apart = refl
-  answer_elsewhere request apart = absurd apart
-
-  change_elsewhere : (request : Request) (reply : Reply) → IsElsewhere key request → change_from (insert m key s) request reply ≡ change_from m request reply
-  change_elsewhere (Put own seen document) (Written dot) apart = ap (λ t. Some (own, after_put t dot seen document)) (same_state m (insert m key s) own (found_elsewhere own apart))
-  change_elsewhere (Delete own seen) Done apart = ap (λ t. Some (own, after_delete t seen)) (same_state m (insert m key s) own (found_elsewhere own apart))
-  change_elsewhere (Push own pushed) Done apart = ap (λ t. Some (own, join t pushed)) (same_state m (insert m key s) own (found_elsewhere own apart))
-  change_elsewhere request reply apart = refl
-
-  both_elsewhere : (request : Request) → IsElsewhere key request → change_from (insert m key s) request (answer_from config (insert m key s) request) ≡ change_from m request (answer_from config m request)
-  both_elsewhere request apart = ap (change_from (insert m key s) request) (answer_elsewhere request apart) ∙ change_elsewhere request (answer_from config m request) apart
+-- the request finds the same in both: the state of its key, and whether there is room for it; or it asks for nothing, or both are the same
+abbrev pub FindsAlike : ConfigValue → States → States → Request → Type 0
+FindsAlike config m n (Get own) = get n own ≡ get m own
+FindsAlike config m n (Put own seen document) = (get n own ≡ get m own) × (has_no_room config n own ≡ has_no_room config m own)
+FindsAlike config m n (Delete own seen) = (get n own ≡ get m own) × (has_no_room config n own ≡ has_no_room config m own)
+FindsAlike config m n (Push own pushed) = (get n own ≡ get m own) × (has_no_room config n own ≡ has_no_room config m own)
+FindsAlike config m n (Hello token) = Unit {0}
+FindsAlike config m n Bye = Unit {0}
+FindsAlike config m n request = n ≡ m
 
 -- the key of a change is that of its request
 keyed : (key : Key) (s : Keyed) (c : Key × Keyed) → Some (key, s) ≡ Some c → key ≡ c.0
 keyed key s c is = let same : ◌≡◌ {A = Key × Keyed} (key, s) c = cc in ap (λ p. p.0) same
 
+-- and it is another than one that the request does not see
 changes_elsewhere : (m : States) (key : Key) (request : Request) (reply : Reply) (c : Key × Keyed) → change_from m request reply ≡ Some c → IsElsewhere key request → c.0 ≢ key
 changes_elsewhere m key (Put own seen document) (Written dot) c is apart = λ e. apart (keyed own (after_put (state_at m own) dot seen document) c is ∙ e)
 changes_elsewhere m key (Delete own seen) Done c is apart = λ e. apart (keyed own (after_delete (state_at m own) seen) c is ∙ e)
 changes_elsewhere m key (Push own pushed) Done c is apart = λ e. apart (keyed own (join (state_at m own) pushed) c is ∙ e)
 changes_elsewhere m key request reply c is apart = absurd cc
 
--- and whether it takes memory
-frugal_elsewhere : (config : ConfigValue) (m : States) (key : Key) (s : Keyed) → map_len m + 1 < config.max_keys → (request : Request) → IsElsewhere key request → IsFrugal (insert m key s) request → IsFrugal m request
-frugal_elsewhere config m key s few (Get own) apart frugal = absurd frugal
-frugal_elsewhere config m key s few (Put own seen document) apart frugal = absurd frugal
-frugal_elsewhere config m key s few (Delete own seen) apart frugal = absurd frugal
-frugal_elsewhere config m key s few (Push own pushed) apart frugal =
-    subst (λ t. join_answer t pushed ≡ Ok t) (same_state m (insert m key s) own (found_elsewhere config m key s few own apart)) frugal
-frugal_elsewhere config m key s few (Hello token) apart frugal = tt
-frugal_elsewhere config m key s few Bye apart frugal = tt
-frugal_elsewhere config m key s few request apart frugal = absurd apart
-
 with_still : (n : States) (o : Option (Key × Keyed)) → IfSome o (λ c. c.1 ≡ state_at n c.0) → with_changed n o ≡ n
 with_still n None still = refl
 with_still n (Some c) still = with_state-same n c.0 c.1 still
 
-module _ (config : ConfigValue) (m : States) (key : Key) (s : Keyed) (few : map_len m + 1 < config.max_keys) (request : Request) (apart : IsElsewhere key request) where
-  still_elsewhere : (o : Option (Key × Keyed)) → change_from m request (answer_from config m request) ≡ o → IfSome o (λ c. c.1 ≡ state_at m c.0) → IfSome o (λ c. c.1 ≡ state_at (insert m key s) c.0)
-  still_elsewhere None is still = tt
-  still_elsewhere (Some c) is still =
-      still ∙ sym (same_state m (insert m key s) c.0 (found_elsewhere config m key s few c.0 (changes_elsewhere m key request (answer_from config m request) c is apart)))
+module _ (config : ConfigValue) (m n : States) where
+  answer_alike : (request : Request) → FindsAlike config m n request → answer_from config n request ≡ answer_from config m request
+  answer_alike (Get own) alike = ap Shown (same_state m n own alike)
+  answer_alike (Put own seen document) alike = answer_put config m n own alike.0 alike.1 seen document
+  answer_alike (Delete own seen) alike = answer_delete config m n own alike.0 alike.1 seen
+  answer_alike (Push own pushed) alike = answer_push config m n own alike.0 alike.1 pushed
+  answer_alike (Hello token) alike = refl
+  answer_alike Bye alike = refl
+  answer_alike request alike = ap (λ s. answer_from config s request) alike
 
-  answer_still : (reply : Reply) → PreparesAnswerFrom config m request reply → PreparesAnswerFrom config (insert m key s) request reply
+  change_alike : (request : Request) (reply : Reply) → FindsAlike config m n request → change_from n request reply ≡ change_from m request reply
+  change_alike (Put own seen document) (Written dot) alike = ap (λ t. Some (own, after_put t dot seen document)) (same_state m n own alike.0)
+  change_alike (Delete own seen) Done alike = ap (λ t. Some (own, after_delete t seen)) (same_state m n own alike.0)
+  change_alike (Push own pushed) Done alike = ap (λ t. Some (own, join t pushed)) (same_state m n own alike.0)
+  change_alike request reply alike = refl
+
+  both_alike : (request : Request) → FindsAlike config m n request → change_from n request (answer_from config n request) ≡ change_from m request (answer_from config m request)
+  both_alike request alike = ap (change_from n request) (answer_alike request alike) ∙ change_alike request (answer_from config m request) alike
+
+  -- the key that it changes
+  changed_alike : (request : Request) (reply : Reply) (c : Key × Keyed) → FindsAlike config m n request → change_from m request reply ≡ Some c →
+      (get n c.0 ≡ get m c.0) × (has_no_room config n c.0 ≡ has_no_room config m c.0)
+  changed_alike (Put own seen document) (Written dot) c alike is =
+      subst (λ k. (get n k ≡ get m k) × (has_no_room config n k ≡ has_no_room config m k)) (keyed own (after_put (state_at m own) dot seen document) c is) alike
+  changed_alike (Delete own seen) Done c alike is =
+      subst (λ k. (get n k ≡ get m k) × (has_no_room config n k ≡ has_no_room config m k)) (keyed own (after_delete (state_at m own) seen) c is) alike
+  changed_alike (Push own pushed) Done c alike is =
+      subst (λ k. (get n k ≡ get m k) × (has_no_room config n k ≡ has_no_room config m k)) (keyed own (join (state_at m own) pushed) c is) alike
+  changed_alike request reply c alike is = absurd cc
+
+  -- and whether it takes memory
+  frugal_alike : (request : Request) → FindsAlike config m n request → IsFrugal n request → IsFrugal m request
+  frugal_alike (Get own) alike frugal = absurd frugal
+  frugal_alike (Put own seen document) alike frugal = absurd frugal
+  frugal_alike (Delete own seen) alike frugal = absurd frugal
+  frugal_alike (Push own pushed) alike frugal = subst (λ t. join_answer t pushed ≡ Ok t) (same_state m n own alike.0) frugal
+  frugal_alike (Hello token) alike frugal = tt
+  frugal_alike Bye alike frugal = tt
+  frugal_alike request alike frugal = subst (λ s. IsFrugal s request) alike frugal
+
+module _ (config : ConfigValue) (m n : States) (request : Request) (alike : FindsAlike config m n request) where
+  still_alike : (o : Option (Key × Keyed)) → change_from m request (answer_from config m request) ≡ o → IfSome o (λ c. c.1 ≡ state_at m c.0) → IfSome o (λ c. c.1 ≡ state_at n c.0)
+  still_alike None is still = tt
+  still_alike (Some c) is still = still ∙ sym (same_state m n c.0 (changed_alike config m n request (answer_from config m request) c alike is).0)
+
+  answer_still : (reply : Reply) → PreparesAnswerFrom config m request reply → PreparesAnswerFrom config n request reply
   answer_still reply was =
-      let same = both_elsewhere config m key s few request apart in
-      let still : IfSome (change_from (insert m key s) request (answer_from config (insert m key s) request)) (λ c. c.1 ≡ state_at (insert m key s) c.0) =
-      subst (λ o. IfSome o (λ c. c.1 ≡ state_at (insert m key s) c.0)) (sym same) (still_elsewhere (change_from m request (answer_from config m request)) refl was.still) in
-      record { answers = was.answers ∙ sym (answer_elsewhere config m key s few request apart); still = still; after = with_still (insert m key s) _ still }
+      let same = both_alike config m n request alike in
+      let still : IfSome (change_from n request (answer_from config n request)) (λ c. c.1 ≡ state_at n c.0) =
+      subst (λ o. IfSome o (λ c. c.1 ≡ state_at n c.0)) (sym same) (still_alike (change_from m request (answer_from config m request)) refl was.still) in
+      record { answers = was.answers ∙ sym (answer_alike config m n request alike); still = still; after = with_still n _ still }
 
-  change_still : (change : ChangeValue) → is_empty change.state.context ≡ false → PreparesChangeFrom config m request change → PreparesChangeFrom config (insert m key s) request change
+  change_still : (change : ChangeValue) → is_empty change.state.context ≡ false → PreparesChangeFrom config m request change → PreparesChangeFrom config n request change
   change_still change seen was =
-      let leaves : change_from (insert m key s) request (answer_from config (insert m key s) request) ≡ Some (change.key, change.state) = both_elsewhere config m key s few request apart ∙ was.leaves in
-      let other : change.key ≢ key = changes_elsewhere m key request (answer_from config m request) (change.key, change.state) was.leaves apart in
+      let leaves : change_from n request (answer_from config n request) ≡ Some (change.key, change.state) = both_alike config m n request alike ∙ was.leaves in
+      let found = changed_alike config m n request (answer_from config m request) (change.key, change.state) alike was.leaves in
       record {
-        answers = was.answers ∙ sym (answer_elsewhere config m key s few request apart);
+        answers = was.answers ∙ sym (answer_alike config m n request alike);
         leaves = leaves;
-        differs = λ e. was.differs (e ∙ same_state m (insert m key s) change.key (found_elsewhere config m key s few change.key other));
-        after = ap (with_changed (insert m key s)) leaves ∙ with_state-seen (insert m key s) change.key change.state seen;
+        differs = λ e. was.differs (e ∙ same_state m n change.key found.0);
+        after = ap (with_changed n) leaves ∙ with_state-seen n change.key change.state seen;
       }
 
-  -- what a request comes to, it comes to also after a change of another key
-  pub comes_still : (prepared : Prepared) → IsSendable request prepared → ComesTo config m request prepared → ComesTo config (insert m key s) request prepared
-  comes_still (Answer reply) sendable was = (
+  -- what a request comes to, it comes to also where it finds the same
+  pub comes_alike : (prepared : Prepared) → IsSendable request prepared → ComesTo config m request prepared → ComesTo config n request prepared
+  comes_alike (Answer reply) sendable was = (
     elim was.0 [ inl same ↦ inl (answer_still reply same) | inr memory ↦ inr memory ],
-    λ frugal. was.1 (frugal_elsewhere config m key s few request apart frugal),
+    λ frugal. was.1 (frugal_alike config m n request alike frugal),
   )
-  comes_still (Change change) sendable was = (change_still change sendable.1.seen was.0, room_for_both config m key change.key s few)
+  comes_alike (Change change) sendable was = (
+    change_still change sendable.1.seen was.0,
+    (changed_alike config m n request (answer_from config m request) (change.key, change.state) alike was.0.leaves).1 ∙ was.1,
+  )
 
--- ---- and by changes of others
+-- ---- after changes of others
 
-len_most : (m : States) (key : Key) (s : Keyed) → map_len (insert m key s) ≤ map_len m + 1
-len_most m key s = subst (λ n. n ≤ map_len m + 1) (sym (len-insert key_total m key s)) (elim (is_some (get m key)) as (λ b. cond b (map_len m) (map_len m + 1) ≤ map_len m + 1) [ true ↦ omega arith | false ↦ omega arith ])
+found_elsewhere : (m : States) (key : Key) (s : Keyed) (own : Key) → own ≢ key → get (insert m key s) own ≡ get m own
+found_elsewhere m key s own apart = get-insert key_total m key s own ∙ ap (λ b. cond b (Some s) (get m own)) (key_apart own key apart)
 
-abbrev HasRoom : ConfigValue → States → List Prepared → Type 0
-HasRoom config m group = 0 < changes_in group → map_len m + changes_in group < config.max_keys
+-- where the request sees a key, that has the state that it had
+pub found_after : (own : Key) (request : Request) → ((key : Key) → IsElsewhere key request → own ≢ key) → (group : List Prepared) (m : States) → AllByRecursion (IsApart request) group →
+    get (with_group m group) own ≡ get m own
+found_after own request other [] m apart = refl
+found_after own request other (Answer reply ∷ group) m apart = found_after own request other group m apart.1
+found_after own request other (Change change ∷ group) m apart =
+    found_after own request other group (insert m change.key change.state) apart.1 ∙ found_elsewhere m change.key change.state own (other change.key apart.0)
 
-comes_after : (config : ConfigValue) (group : List Prepared) (m : States) (request : Request) (prepared : Prepared) → IsSendable request prepared → AllByRecursion (IsApart request) group → HasRoom config m group →
-    ComesTo config m request prepared → ComesTo config (with_group m group) request prepared
-comes_after config [] m request prepared sendable apart room comes = comes
-comes_after config (Answer reply ∷ group) m request prepared sendable apart room comes =
-    comes_after config group m request prepared sendable apart.1 (λ some. let few : map_len m + (0 + changes_in group) < config.max_keys = room (omega (arith, some)) in omega (arith, few)) comes
-comes_after config (Change change ∷ group) m request prepared sendable apart room comes =
-    let few : map_len m + (1 + changes_in group) < config.max_keys = room (omega arith) in
-    let grown : map_len (insert m change.key change.state) ≤ map_len m + 1 = len_most m change.key change.state in
-    comes_after config group (insert m change.key change.state) request prepared sendable apart.1 (λ some. omega (arith, few, grown, some))
-    (comes_still config m change.key change.state (omega (arith, few)) request apart.0 prepared sendable comes)
+-- so has the key that it changes
+pub found_changed : (config : ConfigValue) (m : States) (group : List Prepared) (request : Request) (change : ChangeValue) → AllByRecursion (IsApart request) group → PreparesChangeFrom config m request change →
+    get (with_group m group) change.key ≡ get m change.key
+found_changed config m group request change apart was =
+    found_after change.key request (λ key other. changes_elsewhere m key request (answer_from config m request) (change.key, change.state) was.leaves other) group m apart
+
+-- where it sees all keys there is no change
+still_after : (request : Request) → ((key : Key) → IsElsewhere key request → ⊥) → (group : List Prepared) (m : States) → AllByRecursion (IsApart request) group → with_group m group ≡ m
+still_after request never [] m apart = refl
+still_after request never (Answer reply ∷ group) m apart = still_after request never group m apart.1
+still_after request never (Change change ∷ group) m apart = absurd (never change.key apart.0)
+
+len_least : (m : States) (key : Key) (s : Keyed) → map_len m ≤ map_len (insert m key s)
+len_least m key s = subst (λ n. map_len m ≤ n) (sym (len-insert key_total m key s)) (elim (is_some (get m key)) as (λ b. map_len m ≤ cond b (map_len m) (map_len m + 1)) [ true ↦ omega arith | false ↦ omega arith ])
+
+-- no key goes
+pub keys_grow : (group : List Prepared) (m : States) → map_len m ≤ map_len (with_group m group)
+keys_grow [] m = omega arith
+keys_grow (Answer reply ∷ group) m = keys_grow group m
+keys_grow (Change change ∷ group) m =
+    let one : map_len m ≤ map_len (insert m change.key change.state) = len_least m change.key change.state in
+    let later : map_len (insert m change.key change.state) ≤ map_len (with_group (insert m change.key change.state) group) = keys_grow group (insert m change.key change.state) in
+    omega (arith, one, later)
+
+not_full : (b : Bool) (n most : ℕ) → n < most → (not b && (n == most)) ≡ false
+not_full true n most few = refl
+not_full false n most few = grind (arith, nat_tests)
+
+room_alike : (config : ConfigValue) (m n : States) (own : Key) → get n own ≡ get m own → map_len m ≤ map_len n →
+    (map_len n ≡ map_len m) ⊎ (map_len n < config.max_keys) ⊎ (not (is_some (get m own)) ≡ false) → has_no_room config n own ≡ has_no_room config m own
+room_alike config m n own same grows (inl count) = ap₂ (λ (o : Option Keyed) (k : ℕ). not (is_some o) && (k == config.max_keys)) same count
+room_alike config m n own same grows (inr (inl few)) =
+    not_full (is_some (get n own)) (map_len n) config.max_keys few ∙ sym (not_full (is_some (get m own)) (map_len m) config.max_keys (omega (arith, few, grows)))
+room_alike config m n own same grows (inr (inr held)) =
+    ap (λ b. b && (map_len n == config.max_keys)) (ap (λ (o : Option Keyed). not (is_some o)) same ∙ held) ∙ sym (ap (λ b. b && (map_len m == config.max_keys)) held)
+
+-- a request that sees none of them finds the same as long as there is as much room for it
+alike_after : (config : ConfigValue) (m : States) (group : List Prepared) (request : Request) → AllByRecursion (IsApart request) group → KeepsRoom config m (with_group m group) request →
+    FindsAlike config m (with_group m group) request
+alike_after config m group (Get own) apart room = found_after own (Get own) (λ key other. other) group m apart
+alike_after config m group (Put own seen document) apart room =
+    let same : get (with_group m group) own ≡ get m own = found_after own (Put own seen document) (λ key other. other) group m apart in
+    (same, room_alike config m (with_group m group) own same (keys_grow group m) room)
+alike_after config m group (Delete own seen) apart room =
+    let same : get (with_group m group) own ≡ get m own = found_after own (Delete own seen) (λ key other. other) group m apart in
+    (same, room_alike config m (with_group m group) own same (keys_grow group m) room)
+alike_after config m group (Push own pushed) apart room =
+    let same : get (with_group m group) own ≡ get m own = found_after own (Push own pushed) (λ key other. other) group m apart in
+    (same, room_alike config m (with_group m group) own same (keys_grow group m) room)
+alike_after config m group (Hello token) apart room = tt
+alike_after config m group Bye apart room = tt
+alike_after config m group request apart room = still_after request (λ key other. other) group m apart
+
+pub answer_elsewhere : (config : ConfigValue) (m : States) (key : Key) (s : Keyed) (request : Request) → IsElsewhere key request → KeepsRoom config m (insert m key s) request →
+    answer_from config (insert m key s) request ≡ answer_from config m request
+answer_elsewhere config m key s request apart room =
+    let change : ChangeValue = record { key = key; state = s; dot = None } in
+    answer_alike config m (insert m key s) request (alike_after config m (Change change ∷ []) request (apart, tt) room)
+
+comes_after : (config : ConfigValue) (group : List Prepared) (m : States) (request : Request) (prepared : Prepared) → IsSendable request prepared → AllByRecursion (IsApart request) group →
+    KeepsRoom config m (with_group m group) request → ComesTo config m request prepared → ComesTo config (with_group m group) request prepared
+comes_after config group m request prepared sendable apart room comes =
+    comes_alike config m (with_group m group) request (alike_after config m group request apart room) prepared sendable comes
 
 -- ---- one request more
 
@@ -191,7 +262,8 @@ pub together_none : (site : SiteValue) → StandTogether site [] []
 together_none site = record { each = tt; ordered = tt; sendable = tt }
 
 pub together_more : (site : SiteValue) (requests : List Request) (group : List Prepared) (request : Request) (prepared : Prepared) → StandTogether site requests group →
-    ComesTo site.config site.states request prepared × IsSendable request prepared → AllByRecursion (IsApart request) group → HasRoom site.config site.states group →
+    ComesTo site.config site.states request prepared × IsSendable request prepared → AllByRecursion (IsApart request) group →
+    KeepsRoom site.config site.states (with_group site.states group) request →
     StandTogether site (requests ++ request ∷ []) (group ++ prepared ∷ [])
 together_more site requests group request prepared all one apart room = record {
   each = each_more site.config site.states requests group request prepared all.each one.0;
@@ -226,7 +298,7 @@ waits_for_some site [] group waits some = absurd (omega (arith, some))
 waits_for_some site (request ∷ requests) (p ∷ group) waits some = omega arith
 waits_for_some site (request ∷ requests) [] waits some = elim waits [
   | inl many ↦ absurd (omega (arith, many))
-  | inr (inl fills) ↦ absurd (omega (arith, fills.0))
+  | inr (inl lacks) ↦ absurd (omega (arith, lacks.0))
   | inr (inr sees) ↦ absurd (sees tt)
 ]
 

@@ -14,7 +14,7 @@ use Rattle.mvd_peer.proofs.JoinLaws.{nothing_empty}
 use Rattle.mvd_peer.proofs.SiteSides.{not_nothing, removed_same}
 use Rattle.mvd_peer.specs.PushedStates.{ComesByPushes, Each, is_nothing, pushed, pushed_all, put_state}
 use Rattle.mvd_replica.specs.Programs.{KeepsWrites}
-use Rattle.mvd_replica.specs.Turns.{Event, StandsOn, TellsTurns, Turn, known_after}
+use Rattle.mvd_replica.specs.Turns.{TurnEvent, StandsOn, TellsTurns, Turn, known_after_turns}
 
 pub keeps_self : (site : SiteValue) → KeepsWrites site site
 keeps_self site known stands = ([], subst (Stands site.states) (sym (append-nil known)) stands)
@@ -26,8 +26,8 @@ keeps_on old mid new p q known stands =
     (one.0 ++ two.0, subst (Stands new.states) (append_assoc known one.0 two.0) two.1)
 
 -- turns keep what was known
-pub turns_keep : (turns : List Turn) (old new : SiteValue) → StandsOn old new turns → (events : List Event) × TellsTurns events turns → KeepsWrites old new
-turns_keep turns old new stand choice known stands = (known_after choice.0, stand known choice.0 stands choice.1)
+pub turns_keep : (turns : List Turn) (old new : SiteValue) → StandsOn old new turns → (events : List TurnEvent) × TellsTurns events turns → KeepsWrites old new
+turns_keep turns old new stand choice known stands = (known_after_turns choice.0, stand known choice.0 stands choice.1)
 
 -- ---- pushes
 

@@ -11,7 +11,7 @@ use Rattle.mvd_site.specs.Sites.{SiteValue}
 use Rattle.sqlite.specs.Effect.{Database, IsDatabase}
 use Rattle.sqlite.specs.State.{HasCleanDisk, IsLive, State}
 use Rattle.sqlite.specs.Tree.{Trees}
-use Rattle.mvd_replica.specs.Batch.{AreAmong, HoldsLost, lost_requests}
+use Rattle.mvd_replica.specs.Batch.{AreAmongTurns, HoldsLost, lost_requests}
 use Rattle.mvd_replica.specs.Holds.{AreSpelled, HoldsSite, HoldsStates}
 use Rattle.mvd_replica.specs.Replicas.{StoredSite}
 use Rattle.mvd_replica.specs.Steps.{IsSent}
@@ -149,7 +149,7 @@ pub undone_later : (first turns : List Turn) (requests : List Request) → AreUn
 undone_later [] turns requests all = all
 undone_later (turn ∷ first) turns requests all = undone_skip turn (first ++ turns) requests (undone_later first turns requests all)
 
-undone_among : (turns : List Turn) (requests : List Request) → AreAmong requests turns → AreUndoneIn turns requests
+undone_among : (turns : List Turn) (requests : List Request) → AreAmongTurns requests turns → AreUndoneIn turns requests
 undone_among turns [] all = tt
 undone_among [] (request ∷ requests) all = absurd all
 undone_among (turn ∷ turns) (request ∷ requests) (inl here) = inl ((here.0.0, inr here.0.1), undone_among turns requests here.1)

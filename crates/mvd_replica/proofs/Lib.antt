@@ -14,6 +14,7 @@ pub mod Batching
 pub mod Batched
 pub mod Grouping
 pub mod Putting
+pub mod AddedKeys
 pub mod Still
 pub mod Counting
 pub mod Recording

@@ -14,7 +14,7 @@ use Rattle.mvd_keys.specs.State.{State}
 use Rattle.mvd_keys.specs.Writes.{Key}
 use Rattle.mvd_keys.proofs.KeyOrder.{key_total}
 use Rattle.mvd_wire.specs.Codecs.{spell_state}
-use Rattle.mvd_records.specs.States.{States as Stored}
+use Rattle.mvd_records.specs.States.{StoredStates as Stored}
 use Rattle.mvd_records.specs.Records.{EndsMove, HasNone, HoldsRecords, new_states, old_states}
 use Rattle.mvd_site.specs.Config.{ConfigValue}
 use Rattle.mvd_site.specs.Sites.{SiteValue, opened}

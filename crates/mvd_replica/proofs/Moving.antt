@@ -16,14 +16,14 @@ use Rattle.mvd_keys.specs.Writes.{Key}
 use Rattle.mvd_keys.proofs.KeyOrder.{key_total, same_where_tied, tied_itself_key}
 use Rattle.mvd_keys.proofs.Rising.{first_true, second_true}
 use Rattle.mvd_wire.specs.Codec.{IsPrefixFree, Spells}
-use Rattle.mvd_wire.specs.Codecs.{Layout, layout1, layout2, state}
+use Rattle.mvd_wire.specs.Codecs.{Layout, layout1, layout2, state_codec}
 use Rattle.mvd_wire.proofs.CodecLaws.{lawful_state, wide_layout1, wide_layout2}
 use Rattle.mvd_wire.proofs.Laws.{prefix_free}
-use Rattle.mvd_records.specs.Pairs.{Pair, entries_of}
-use Rattle.mvd_records.specs.States.{States as Stored}
+use Rattle.mvd_records.specs.Pairs.{Pair, pair_entries}
+use Rattle.mvd_records.specs.States.{StoredStates as Stored}
 use Rattle.mvd_records.specs.Records.{AreDisjoint, EndsMove, KeepsStates, MovesState, new_states, old_states}
 use Rattle.sqlite.specs.Effect.{Database}
-use Rattle.mvd_replica.specs.Readable.{HasState, IsOldStored, IsStored, Respells, SameStates, SpelledIn}
+use Rattle.mvd_replica.specs.Readable.{HasState, IsOldStored, SpellsHeldState, Respells, SameStates, SpelledIn}
 
 -- ---- an entry of a map
 
@@ -44,23 +44,23 @@ found_among (x ∷ es) e fs h =
     ∙ found_among es e fs (second_true (below_all key_cmp x.0 (es ++ e ∷ fs)) _ h)
 
 -- the pair at a place of those that a map has
-pub found_at : (m : Stored) (pairs : List Pair) (n : ℕ) (p : Pair) → entries_of pairs ≡ entries m → n < length pairs → p ≡ get_or pairs n p → get m p.0 ≡ Some p.1.items
+pub found_at : (m : Stored) (pairs : List Pair) (n : ℕ) (p : Pair) → pair_entries pairs ≡ entries m → n < length pairs → p ≡ get_or pairs n p → get m p.0 ≡ Some p.1.items
 found_at m pairs n p same low is =
     let whole : pairs ≡ take n pairs ++ p ∷ drop (suc n) pairs = split_at pairs n p low ∙ ap (λ x. take n pairs ++ x ∷ drop (suc n) pairs) (sym is) in
-    let parts : entries m ≡ entries_of (take n pairs) ++ (p.0, p.1.items) ∷ entries_of (drop (suc n) pairs) = sym same ∙ ap entries_of whole ∙ map-append (λ (q : Pair). (q.0, q.1.items)) (take n pairs) (p ∷ drop (suc n) pairs) in
+    let parts : entries m ≡ pair_entries (take n pairs) ++ (p.0, p.1.items) ∷ pair_entries (drop (suc n) pairs) = sym same ∙ ap pair_entries whole ∙ map-append (λ (q : Pair). (q.0, q.1.items)) (take n pairs) (p ∷ drop (suc n) pairs) in
     get-entries m p.0 ∙ ap (find key_cmp p.0) parts
-    ∙ found_among (entries_of (take n pairs)) (p.0, p.1.items) (entries_of (drop (suc n) pairs)) (subst (λ l. T (is_sorted key_cmp l)) parts (entries_sorted m))
+    ∙ found_among (pair_entries (take n pairs)) (p.0, p.1.items) (pair_entries (drop (suc n) pairs)) (subst (λ l. T (is_sorted key_cmp l)) parts (entries_sorted m))
 
 -- ---- one state for one spelling
 
-pub spells_one : (layout : Layout) → IsPrefixFree (state layout) → (s t : State) (bytes : List ℕ) → Spells (state layout) s bytes → Spells (state layout) t bytes → s ≡ t
+pub spells_one : (layout : Layout) → IsPrefixFree (state_codec layout) → (s t : State) (bytes : List ℕ) → Spells (state_codec layout) s bytes → Spells (state_codec layout) t bytes → s ≡ t
 spells_one layout free s t bytes one other = (free s t [] [] one.0 other.0 (ap (λ l. l ++ []) (sym one.1 ∙ other.1))).0
 
-pub free1 : IsPrefixFree (state layout1)
-free1 = prefix_free (state layout1) (lawful_state layout1 wide_layout1)
+pub free1 : IsPrefixFree (state_codec layout1)
+free1 = prefix_free (state_codec layout1) (lawful_state layout1 wide_layout1)
 
-pub free2 : IsPrefixFree (state layout2)
-free2 = prefix_free (state layout2) (lawful_state layout2 wide_layout2)
+pub free2 : IsPrefixFree (state_codec layout2)
+free2 = prefix_free (state_codec layout2) (lawful_state layout2 wide_layout2)
 
 pub some_is : (a b : List ℕ) → Some a ≡ Some b → a ≡ b
 some_is a b e = cc
@@ -100,16 +100,16 @@ module _ (a b : Database) (k : Key) (old new : List ℕ) (moves : MovesState a b
     kept_at key s true is (inl h) = absurd (apart key old h.0 (was_at key is) h.1)
     kept_at key s true is (inr h) =
         let same : h.0 ≡ old = some_is h.0 old (sym h.1 ∙ was_at key is) in
-        let one : s ≡ spelled.0 = spells_one layout1 free1 s spelled.0 old (subst (Spells (state layout1) s) same h.2) spelled.1 in
-        inl (new, new_at key true is, subst (λ t. Spells (state layout2) t new) (sym one) spelled.2)
+        let one : s ≡ spelled.0 = spells_one layout1 free1 s spelled.0 old (subst (Spells (state_codec layout1) s) same h.2) spelled.1 in
+        inl (new, new_at key true is, subst (λ t. Spells (state_codec layout2) t new) (sym one) spelled.2)
     kept_at key s false is (inl h) = inl (h.0, new_at key false is ∙ h.1, h.2)
     kept_at key s false is (inr h) = inr (h.0, old_at key false is ∙ h.1, h.2)
 
     only_at : (key : Key) (s : State) (tied : Bool) → eq_by_cmp key_cmp key k ≡ tied → HasState b key s → HasState a key s
     only_at key s true is (inl h) =
         let same : h.0 ≡ new = some_is h.0 new (sym h.1 ∙ new_at key true is) in
-        let one : s ≡ spelled.0 = spells_one layout2 free2 s spelled.0 new (subst (Spells (state layout2) s) same h.2) spelled.2 in
-        inr (old, was_at key is, subst (λ t. Spells (state layout1) t old) (sym one) spelled.1)
+        let one : s ≡ spelled.0 = spells_one layout2 free2 s spelled.0 new (subst (Spells (state_codec layout2) s) same h.2) spelled.2 in
+        inr (old, was_at key is, subst (λ t. Spells (state_codec layout1) t old) (sym one) spelled.1)
     only_at key s true is (inr h) = absurd (none_is_some h.0 (sym (old_at key true is) ∙ h.1))
     only_at key s false is (inl h) = inl (h.0, sym (new_at key false is) ∙ h.1, h.2)
     only_at key s false is (inr h) = inr (h.0, sym (old_at key false is) ∙ h.1, h.2)
@@ -118,8 +118,8 @@ module _ (a b : Database) (k : Key) (old new : List ℕ) (moves : MovesState a b
     new_kept_at key bytes true is found = absurd (apart key old bytes (was_at key is) found)
     new_kept_at key bytes false is found = new_at key false is ∙ found
 
-    new_only_at : (key : Key) (bytes : List ℕ) (tied : Bool) → eq_by_cmp key_cmp key k ≡ tied → get (new_states b) key ≡ Some bytes → (get (new_states a) key ≡ Some bytes) ⊎ IsStored bytes
-    new_only_at key bytes true is found = inr (subst IsStored (some_is new bytes (sym (new_at key true is) ∙ found)) (spelled.0, spelled.2, spelled.3))
+    new_only_at : (key : Key) (bytes : List ℕ) (tied : Bool) → eq_by_cmp key_cmp key k ≡ tied → get (new_states b) key ≡ Some bytes → (get (new_states a) key ≡ Some bytes) ⊎ SpellsHeldState bytes
+    new_only_at key bytes true is found = inr (subst SpellsHeldState (some_is new bytes (sym (new_at key true is) ∙ found)) (spelled.0, spelled.2, spelled.3))
     new_only_at key bytes false is found = inl (sym (new_at key false is) ∙ found)
 
     old_kept_at : (key : Key) (bytes : List ℕ) (tied : Bool) → eq_by_cmp key_cmp key k ≡ tied → get (old_states a) key ≡ Some bytes → (get (old_states b) key ≡ Some bytes) ⊎ IsOldStored bytes

@@ -30,7 +30,7 @@ use Rattle.mvd_peer.proofs.JoinLaws.{nothing_empty}
 use Rattle.mvd_peer.proofs.ManyPushes.{one_push, pushes-append}
 use Rattle.mvd_peer.proofs.Pushes.{more_pushes, no_pushes}
 use Rattle.mvd_peer.proofs.SiteSides.{is_broken, push_cause}
-use Rattle.mvd_replica.specs.Batch.{AnswersOneFrom, AreAmong, HoldsLost, TakesAllFrom, TakesFrom}
+use Rattle.mvd_replica.specs.Batch.{AnswersOneFrom, AreAmongTurns, HoldsLost, TakesAllFrom, TakesFrom}
 use Rattle.mvd_replica.specs.Pushes.{push_of, told_of}
 use Rattle.mvd_replica.specs.Sides.{AnswersFromStored, ArePushes, HoldsBroken, HoldsPushed, IsPush, ReplicaRefuses}
 use Rattle.mvd_replica.specs.Whole.{leaves_wider}
@@ -257,7 +257,7 @@ all_later : (before : List Turn) (turn : Turn) (later : List Turn) → AllByRecu
 all_later [] turn later all = all
 all_later (t ∷ before) turn later all = all_later before turn later all.1
 
-among_pushes : (requests : List Request) (turns : List Turn) → AreAmong requests turns → AllByRecursion AsksPush turns → AllByRecursion IsPush requests
+among_pushes : (requests : List Request) (turns : List Turn) → AreAmongTurns requests turns → AllByRecursion AsksPush turns → AllByRecursion IsPush requests
 among_pushes [] turns among all = tt
 among_pushes (request ∷ requests) [] among all = absurd among
 among_pushes (request ∷ requests) (turn ∷ turns) (inl here) all = (all.0 request here.0.0, among_pushes requests turns here.1 all.1)

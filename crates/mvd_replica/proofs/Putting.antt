@@ -10,7 +10,7 @@ use Rattle.mvd_wire.specs.declared.request.Request.TheVariants.{Bye, Hello, Node
 use Rattle.mvd_wire.specs.declared.reply.Reply.{Reply}
 use Rattle.mvd_wire.specs.declared.reply.Reply.TheVariants.{Done, Refused}
 use Rattle.mvd_wire.specs.Replies.{CanBeSent}
-use Rattle.mvd_site.specs.Change.{ChangeValue, reply_of}
+use Rattle.mvd_site.specs.Change.{ChangeValue, change_reply}
 use Rattle.mvd_site.specs.Config.{ConfigValue}
 use Rattle.mvd_site.specs.FromStates.{AnswersFrom, answer_from, change_from}
 use Rattle.mvd_site.specs.Held.{States, state_at}
@@ -23,9 +23,9 @@ use Rattle.mvd_site.proofs.Answered.{insert_differs}
 use Rattle.mvd_site.proofs.Installed.{broken_stays, states_with, was_whole, whole_after}
 use Rattle.mvd_site.proofs.Outcomes.{change_plain, join_ok, refused_fits}
 use Rattle.mvd_site.proofs.Prepare.{answers_from_answer, answers_from_breaking, answers_from_change}
-use Rattle.mvd_replica.specs.Batch.{AnswersOneFrom, AreAmong, Loses, TakesAllFrom, lost_requests}
+use Rattle.mvd_replica.specs.Batch.{AnswersOneFrom, AreAmongTurns, Loses, TakesAllFrom, lost_requests}
 use Rattle.mvd_site.specs.Installs.{PutsAll, PutsIfWhole, PutsOne, broken_site, with_group, with_one, with_prepared}
-use Rattle.mvd_replica.specs.Groups.{AllComeTo, AreSendable, ComeInOrder, ComesTo, IsAlone, IsReply, IsSendable, StandTogether, pairs_in, reply_unstored}
+use Rattle.mvd_replica.specs.Groups.{AllComeTo, AreSendable, ComeInOrder, ComesTo, IsAlone, IsGivenReply, IsSendable, StandTogether, pairs_in, reply_unstored}
 use Rattle.mvd_replica.specs.Sides.{AnswersFromStored}
 use Rattle.mvd_replica.specs.Whole.{after_all}
 use Rattle.mvd_replica.specs.Turns.{IsToldElse, Turn}
@@ -97,7 +97,7 @@ module _ (old new : SiteValue) (request : Request) where
   }
 
   -- one that was not, and whose reply does not say so
-  one_whole : (reply given : Reply) → old.broken ≡ false → given ≡ reply → IsReply request reply → AnswersFromStored old new request given →
+  one_whole : (reply given : Reply) → old.broken ≡ false → given ≡ reply → IsGivenReply request reply → AnswersFromStored old new request given →
       (IsFrugal old.states request → given ≢ Refused Memory) → AnswersOneFrom old new request given
   one_whole reply given was told is whole frugal = record {
     whole = whole;
@@ -124,7 +124,7 @@ module _ (old new : SiteValue) (request : Request) where
       one_whole told reply was puts.0 sendable (subst (λ s. AnswersFromStored old s request reply) (sym puts.1) (subst (λ x. AnswersFromStored old old request x) (sym puts.0) (inl (answers_same old request told comes))))
       (λ frugal bad. comes.1 frugal (sym puts.0 ∙ bad))
   one_puts (Change change) reply was comes sendable (inl puts) =
-      one_whole (reply_of change.dot) reply was puts.0 sendable.0 (inl (answers_from_change old new request change reply puts.1 puts.0 (λ _. comes.0)))
+      one_whole (change_reply change.dot) reply was puts.0 sendable.0 (inl (answers_from_change old new request change reply puts.1 puts.0 (λ _. comes.0)))
       (λ _ bad. true≢false (sym (ap is_refusal (sym puts.0 ∙ bad)) ∙ (change_plain change.dot).accepts))
   one_puts (Change change) reply was comes sendable (inr puts) = one_breaks change reply was puts.0 puts.1 comes.0
 
@@ -226,13 +226,13 @@ still_end (Change change ∷ group) (x ∷ replies) old new was none all = absur
 
 -- ---- what a break leaves out
 
-among_skip : (requests : List Request) (turn : Turn) (turns : List Turn) → AreAmong requests turns → AreAmong requests (turn ∷ turns)
+among_skip : (requests : List Request) (turn : Turn) (turns : List Turn) → AreAmongTurns requests turns → AreAmongTurns requests (turn ∷ turns)
 among_skip [] turn turns all = tt
 among_skip (request ∷ requests) turn turns all = inr all
 
 -- after the break each request is told 22, and those with a change are the rest of the commit
 abbrev IsRest : ConfigValue → States → List Turn → States → Type 0
-IsRest config m turns after = (rest : List Request) × AreAmong rest turns × (after_all config m rest ≡ after)
+IsRest config m turns after = (rest : List Request) × AreAmongTurns rest turns × (after_all config m rest ≡ after)
 
 rest_of : (config : ConfigValue) (requests : List Request) (group : List Prepared) (replies : List Reply) (m : States) (site new : SiteValue) → site.broken ≡ true → ComeInOrder config m requests group → PutsAll site new group replies →
     IsRest config m (turns_of requests replies) (with_group m group)

@@ -18,7 +18,7 @@ use Rattle.mvd_site.proofs.Pushes.{PushFacts}
 use Rattle.sqlite_trees.specs.declared.store.Store.{Ghosts}
 use Rattle.mvd_replica.specs.declared.replica.Replica.{Replica}
 use Rattle.mvd_replica.specs.Batch.{AnswersOneFrom}
-use Rattle.mvd_replica.specs.Commits.{Answers}
+use Rattle.mvd_replica.specs.Commits.{AnswersOneRequest}
 use Rattle.mvd_replica.specs.ReplicaCalls.{PushesState}
 use Rattle.mvd_replica.proofs.Commits.{answer_follows, answer_still, answer_stored, answer_survives, answer_unstored, answers_one, clean}
 use Rattle.mvd_replica.specs.Replicas.{KeepsCommit, committed_of, site_of, store_of, stored_of}
@@ -47,9 +47,9 @@ module _ {S : Type 0} {g : Ghosts S} where
   -- one that was answered
   pub push_answered : (old new : Replica S g) (key : Key) (pushed : State) (request : Request) (reply : Reply) (result : Result (Unit {0}) Refusal) → (site_of old).broken ≡ false → IsValid pushed →
       ◌≡◌ {A = Result Request Refusal} (Ok (Push key pushed)) (Ok request) → MatchResult result (λ _. is_refusal reply ≡ false) (λ refusal. reply ≡ Refused refusal) →
-      Answers old request reply new → PushesState old key pushed result new
+      AnswersOneRequest old request reply new → PushesState old key pushed result new
   push_answered old new key pushed request reply result whole valid same told it =
-      let asked : Answers old (Push key pushed) reply new = subst (λ (r : Request). Answers old r reply new) (sym (the_request (Push key pushed) request same)) it in
+      let asked : AnswersOneRequest old (Push key pushed) reply new = subst (λ (r : Request). AnswersOneRequest old r reply new) (sym (the_request (Push key pushed) request same)) it in
       let one : AnswersOneFrom (site_of old) (site_of new) (Push key pushed) reply = answers_one old new (Push key pushed) reply asked in
       let is : reply ≡ push_reply result = pushed_reply (site_of old) (site_of new) key pushed reply result whole one.whole told in
       let answer : AnswersFromStored (site_of old) (site_of new) (Push key pushed) (push_reply result) =

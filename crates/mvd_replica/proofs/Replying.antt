@@ -14,17 +14,17 @@ use Rattle.mvd_wire.specs.Replies.{is_short}
 use Rattle.mvd_site.specs.Config.{ConfigValue}
 use Rattle.mvd_site.specs.Known.{Adds}
 use Rattle.mvd_site.specs.Sites.{SiteStands, SiteValue}
-use Rattle.mvd_replica.specs.Turns.{AddsAt, AllTold, AreFrames, Event, GoesOn, MayTell, Replies, RepliesOne, StandsOn, TellsTurns, Turn, known_after}
+use Rattle.mvd_replica.specs.Turns.{AddsAt, AllTold, AreFrames, TurnEvent, IsNoBye, MayTell, Replies, RepliesOne, StandsOn, TellsTurns, Turn, known_after_turns}
 use Rattle.mvd_replica.specs.Steps.{IsSent}
 
-record Split (events : List Event) (first second : List Turn) : Type 0 where
-  pub before : List Event
-  pub after : List Event
+record Split (events : List TurnEvent) (first second : List Turn) : Type 0 where
+  pub before : List TurnEvent
+  pub after : List TurnEvent
   pub all : events ≡ before ++ after
   pub one : TellsTurns before first
   pub other : TellsTurns after second
 
-split : (first second : List Turn) (events : List Event) → TellsTurns events (first ++ second) → Split events first second
+split : (first second : List Turn) (events : List TurnEvent) → TellsTurns events (first ++ second) → Split events first second
 split [] second events tells = record { before = []; after = events; all = refl; one = record { told = refl; fits = tt }; other = tells }
 split (t ∷ first) second [] tells = absurd (let none : ◌≡◌ {A = List Turn} [] (t ∷ (first ++ second)) = tells.told in cc)
 split (t ∷ first) second (e ∷ es) tells =
@@ -40,24 +40,24 @@ split (t ∷ first) second (e ∷ es) tells =
       other = later.other;
     }
 
-AllTold-append : (config : ConfigValue) (known : List Write) (first middle after : Bool) (es fs : List Event) → AllTold config known first es middle → AllTold config (known ++ known_after es) middle fs after →
+AllTold-append : (config : ConfigValue) (known : List Write) (first middle after : Bool) (es fs : List TurnEvent) → AllTold config known first es middle → AllTold config (known ++ known_after_turns es) middle fs after →
     AllTold config known first (es ++ fs) after
 AllTold-append config known first middle after [] fs one other = subst₂ (λ W b. AllTold config W b fs after) (append-nil known) (sym one) other
 AllTold-append config known first middle after (e ∷ es) fs one other = (
   one.0,
   one.1,
-  AllTold-append config (known ++ e.added) one.0 middle after es fs one.2 (subst (λ W. AllTold config W middle fs after) (sym (append_assoc known e.added (known_after es))) other),
+  AllTold-append config (known ++ e.added) one.0 middle after es fs one.2 (subst (λ W. AllTold config W middle fs after) (sym (append_assoc known e.added (known_after_turns es))) other),
 )
 
 pub Replies-append : (old mid new : SiteValue) (first second : List Turn) → mid.config ≡ old.config → Replies old mid first → Replies mid new second → Replies old new (first ++ second)
 Replies-append old mid new first second same one other known events stands tells =
     let p : Split events first second = split first second events tells in
-    let grown : known_after events ≡ known_after p.before ++ known_after p.after = ap known_after p.all ∙ flat_map-append (λ (e : Event). e.added) p.before p.after in
-    let regrouped : known ++ known_after events ≡ (known ++ known_after p.before) ++ known_after p.after = ap (λ l. known ++ l) grown ∙ sym (append_assoc known (known_after p.before) (known_after p.after)) in
-    let past : AllTold old.config known old.broken p.before mid.broken × SiteStands mid (known ++ known_after p.before) = one known p.before stands p.one in
-    let now : AllTold mid.config (known ++ known_after p.before) mid.broken p.after new.broken × SiteStands new ((known ++ known_after p.before) ++ known_after p.after) = other (known ++ known_after p.before) p.after past.1 p.other in (
+    let grown : known_after_turns events ≡ known_after_turns p.before ++ known_after_turns p.after = ap known_after_turns p.all ∙ flat_map-append (λ (e : TurnEvent). e.added) p.before p.after in
+    let regrouped : known ++ known_after_turns events ≡ (known ++ known_after_turns p.before) ++ known_after_turns p.after = ap (λ l. known ++ l) grown ∙ sym (append_assoc known (known_after_turns p.before) (known_after_turns p.after)) in
+    let past : AllTold old.config known old.broken p.before mid.broken × SiteStands mid (known ++ known_after_turns p.before) = one known p.before stands p.one in
+    let now : AllTold mid.config (known ++ known_after_turns p.before) mid.broken p.after new.broken × SiteStands new ((known ++ known_after_turns p.before) ++ known_after_turns p.after) = other (known ++ known_after_turns p.before) p.after past.1 p.other in (
       subst (λ es. AllTold old.config known old.broken es new.broken) (sym p.all)
-          (AllTold-append old.config known old.broken mid.broken new.broken p.before p.after past.0 (subst (λ c. AllTold c (known ++ known_after p.before) mid.broken p.after new.broken) same now.0)),
+          (AllTold-append old.config known old.broken mid.broken new.broken p.before p.after past.0 (subst (λ c. AllTold c (known ++ known_after_turns p.before) mid.broken p.after new.broken) same now.0)),
       subst (SiteStands new) (sym regrouped) now.1,
     )
 
@@ -70,7 +70,7 @@ Replies-one old new turn one known [] stands tells = absurd (let none : ◌≡�
 Replies-one old new turn one known (e ∷ []) stands tells =
     let all : ◌≡◌ {A = List Turn} (e.turn ∷ []) (turn ∷ []) = tells.told in
     let same : e.turn ≡ turn = cc in
-    let same_added : known ++ known_after (e ∷ []) ≡ known ++ e.added = ap (λ l. known ++ l) (append-nil e.added) in
+    let same_added : known ++ known_after_turns (e ∷ []) ≡ known ++ e.added = ap (λ l. known ++ l) (append-nil e.added) in
     let adds : AddsAt turn.asked turn.reply e.added = subst (λ (t : Turn). AddsAt t.asked t.reply e.added) same tells.fits.0 in (
       (new.broken, subst (λ (t : Turn). MayTell old.config known old.broken t.asked t.reply new.broken) (sym same) (one.replies known stands), refl),
       subst (SiteStands new) (sym same_added) (one.stands known e.added stands adds),
@@ -82,9 +82,9 @@ Replies-one old new turn one known (e ∷ f ∷ es) stands tells = absurd (let a
 pub StandsOn-append : (old mid new : SiteValue) (first second : List Turn) → StandsOn old mid first → StandsOn mid new second → StandsOn old new (first ++ second)
 StandsOn-append old mid new first second one other known events stands tells =
     let p : Split events first second = split first second events tells in
-    let grown : known_after events ≡ known_after p.before ++ known_after p.after = ap known_after p.all ∙ flat_map-append (λ (e : Event). e.added) p.before p.after in
-    let regrouped : known ++ known_after events ≡ (known ++ known_after p.before) ++ known_after p.after = ap (λ l. known ++ l) grown ∙ sym (append_assoc known (known_after p.before) (known_after p.after)) in
-    subst (Stands new.states) (sym regrouped) (other (known ++ known_after p.before) p.after (one known p.before stands p.one) p.other)
+    let grown : known_after_turns events ≡ known_after_turns p.before ++ known_after_turns p.after = ap known_after_turns p.all ∙ flat_map-append (λ (e : TurnEvent). e.added) p.before p.after in
+    let regrouped : known ++ known_after_turns events ≡ (known ++ known_after_turns p.before) ++ known_after_turns p.after = ap (λ l. known ++ l) grown ∙ sym (append_assoc known (known_after_turns p.before) (known_after_turns p.after)) in
+    subst (Stands new.states) (sym regrouped) (other (known ++ known_after_turns p.before) p.after (one known p.before stands p.one) p.other)
 
 pub StandsOn-none : (site : SiteValue) → StandsOn site site []
 StandsOn-none site known [] stands tells = subst (Stands site.states) (sym (append-nil known)) stands
@@ -95,7 +95,7 @@ StandsOn-one old new turn one known [] stands tells = absurd (let none : ◌≡�
 StandsOn-one old new turn one known (e ∷ []) stands tells =
     let all : ◌≡◌ {A = List Turn} (e.turn ∷ []) (turn ∷ []) = tells.told in
     let same : e.turn ≡ turn = cc in
-    let same_added : known ++ known_after (e ∷ []) ≡ known ++ e.added = ap (λ l. known ++ l) (append-nil e.added) in
+    let same_added : known ++ known_after_turns (e ∷ []) ≡ known ++ e.added = ap (λ l. known ++ l) (append-nil e.added) in
     let adds : AddsAt turn.asked turn.reply e.added = subst (λ (t : Turn). AddsAt t.asked t.reply e.added) same tells.fits.0 in
     subst (Stands new.states) (sym same_added) (one.keeps known e.added stands adds)
 StandsOn-one old new turn one known (e ∷ f ∷ es) stands tells = absurd (let all : ◌≡◌ {A = List Turn} (e.turn ∷ f.turn ∷ map (λ event. event.turn) es) (turn ∷ []) = tells.told in cc)
@@ -153,20 +153,20 @@ pub AreFrames-append : (first second : List Turn) (bytes mid rest : List ℕ) �
 AreFrames-append [] second bytes mid rest one other = subst (λ b. AreFrames second b rest) (sym one) other
 AreFrames-append (t ∷ first) second bytes mid rest one other = (one.0, one.1, one.2, one.3, AreFrames-append first second one.1 mid rest one.4 other)
 
-pub GoesOn-append : (first second : List Turn) → AllByRecursion GoesOn first → AllByRecursion GoesOn second → AllByRecursion GoesOn (first ++ second)
+pub GoesOn-append : (first second : List Turn) → AllByRecursion IsNoBye first → AllByRecursion IsNoBye second → AllByRecursion IsNoBye (first ++ second)
 GoesOn-append [] second one other = other
 GoesOn-append (t ∷ first) second one other = (one.0, GoesOn-append first second one.1 other)
 
 abbrev pub HasChoice : List Turn → Type 0
-HasChoice turns = (events : List Event) × TellsTurns events turns
+HasChoice turns = (events : List TurnEvent) × TellsTurns events turns
 
 pub HasChoice-none : HasChoice []
 HasChoice-none = ([], record { told = refl; fits = tt })
 
-abbrev Fits : Event → Type 0
+abbrev Fits : TurnEvent → Type 0
 Fits event = AddsAt event.turn.asked event.turn.reply event.added
 
-fits_both : (es fs : List Event) → AllByRecursion Fits es → AllByRecursion Fits fs → AllByRecursion Fits (es ++ fs)
+fits_both : (es fs : List TurnEvent) → AllByRecursion Fits es → AllByRecursion Fits fs → AllByRecursion Fits (es ++ fs)
 fits_both [] fs one other = other
 fits_both (e ∷ es) fs one other = (one.0, fits_both es fs one.1 other)
 
@@ -174,13 +174,13 @@ pub HasChoice-append : (first second : List Turn) → HasChoice first → HasCho
 HasChoice-append first second one other = (
   one.0 ++ other.0,
   record {
-    told = map-append (λ (e : Event). e.turn) one.0 other.0 ∙ ap₂ (λ a b. a ++ b) one.1.told other.1.told;
+    told = map-append (λ (e : TurnEvent). e.turn) one.0 other.0 ∙ ap₂ (λ a b. a ++ b) one.1.told other.1.told;
     fits = fits_both one.0 other.0 one.1.fits other.1.fits;
   },
 )
 
 HasChoice-one : (turn : Turn) (added : List Write) → AddsAt turn.asked turn.reply added → HasChoice (turn ∷ [])
-HasChoice-one turn added adds = let event : Event = record { turn = turn; added = added } in (event ∷ [], record { told = refl; fits = (adds, tt) })
+HasChoice-one turn added adds = let event : TurnEvent = record { turn = turn; added = added } in (event ∷ [], record { told = refl; fits = (adds, tt) })
 
 pub HasChoice-sent : (asked : Result Request Refusal) (reply sent : Reply) → IsSent reply sent → ((added : List Write) × AddsAt asked reply added) → HasChoice (record { asked = asked; reply = sent } ∷ [])
 HasChoice-sent asked reply sent (inl same) one = HasChoice-one (record { asked = asked; reply = sent }) one.0 (subst (λ r. AddsAt asked r one.0) (sym same) one.1)

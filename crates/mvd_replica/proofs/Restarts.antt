@@ -12,10 +12,10 @@ use Rattle.mvd_site.specs.Sites.{SiteValue}
 use Rattle.mvd_replica.specs.Batch.{HoldsLost, lost_requests}
 use Rattle.mvd_replica.specs.File.{HoldsFile}
 use Rattle.mvd_replica.specs.Holds.{HoldsSite, HoldsStates}
-use Rattle.mvd_replica.specs.Restarts.{AddAll, AllAnswered, AreRuns, IsRun, LeavesWholeTurns, Run}
+use Rattle.mvd_replica.specs.Restarts.{AddAll, AllRunsAnswered, AreRuns, IsRun, LeavesWholeTurns, Run}
 use Rattle.mvd_replica.specs.Sides.{HoldsBroken}
 use Rattle.mvd_replica.specs.Whole.{after_all}
-use Rattle.mvd_replica.specs.Turns.{AllTold, Event, IsFirstBroken, IsToldBroken, IsToldElse, LeavesTurns, TellsTurns, Turn, known_after}
+use Rattle.mvd_replica.specs.Turns.{AllTold, TurnEvent, IsFirstBroken, IsToldBroken, IsToldElse, LeavesTurns, TellsTurns, Turn, known_after_turns}
 use Rattle.mvd_replica.proofs.Positions.{ReplicaFollows, TurnsFollow, stored_site}
 use Rattle.mvd_replica.proofs.Follows.{ours_held}
 use Rattle.mvd_replica.proofs.Stops.{held_in_file}
@@ -62,12 +62,12 @@ module _ {C : Type 0} (f : C → State) (site : ℕ) (image : Image) (states : S
   numbered : run.new.config.site ≡ site
   numbered = ap (λ (c : ConfigValue). c.site) configured ∙ number
 
-  module _ (events : List Event) (tells : TellsTurns events run.turns) where
+  module _ (events : List TurnEvent) (tells : TellsTurns events run.turns) where
     pub told : AllTold run.config known false events run.new.broken
     told = subst (λ c. AllTold c known false events run.new.broken) is.config
         (subst (λ b. AllTold run.old.config known b events run.new.broken) is.whole (is.replies known events (λ _. old_stands) tells).0)
 
-    pub new_stands : Stands run.new.states (known ++ known_after events)
+    pub new_stands : Stands run.new.states (known ++ known_after_turns events)
     new_stands = is.stands known events old_stands tells
 
     -- the file holds the states, where the site is not broken
@@ -87,21 +87,21 @@ module _ {C : Type 0} (f : C → State) (site : ℕ) (image : Image) (states : S
         (is.closes site _ (subst (λ n. HoldsStates n (after_all run.new.config run.new.states (lost_requests it.lost)) (f run.after).committed) numbered it.holds))
 
 pub all_answered : {C : Type 0} (f : C → State) (site : ℕ) (image : Image) (states : States) (known : List Write) (runs : List (Run C)) → HoldsFile image site states → Stands states known →
-    AreRuns f site image runs → AllAnswered f site known image runs
+    AreRuns f site image runs → AllRunsAnswered f site known image runs
 all_answered f site image states known [] file stands are = (states, file, stands)
 all_answered f site image states known (run ∷ runs) file stands (from, number, is, rest) = λ events tells. (
   told f site image states known run file stands from number is events tells,
   λ whole.
-      all_answered f site run.left run.new.states (known ++ known_after events) runs
+      all_answered f site run.left run.new.states (known ++ known_after_turns events) runs
       (left_whole f site image states known run file stands from number is events tells whole)
       (new_stands f site image states known run file stands from number is events tells) rest,
   λ broken.
       let it = lost f site image states known run file stands from number is events tells broken in (
         it,
         λ added adds.
-            all_answered f site run.left _ ((known ++ known_after events) ++ added) runs
+            all_answered f site run.left _ ((known ++ known_after_turns events) ++ added) runs
             (left_lost f site image states known run file stands from number is events tells it)
-            (all_stand run.config run.new.states (known ++ known_after events) (lost_requests it.lost) added
+            (all_stand run.config run.new.states (known ++ known_after_turns events) (lost_requests it.lost) added
             (new_stands f site image states known run file stands from number is events tells) adds) rest,
       ),
 )
@@ -116,7 +116,7 @@ left_stands g turns old new before after known events trees leaves stands knows 
       λ image added held adds. (
         after_all new.config new.states it.undone,
         held_in_file image new.config.site _ trees it.left held,
-        all_stand new.config new.states (known ++ known_after events) it.undone added (stands known events knows tells) adds,
+        all_stand new.config new.states (known ++ known_after_turns events) it.undone added (stands known events knows tells) adds,
       ),
     )
 

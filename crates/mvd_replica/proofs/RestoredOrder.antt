@@ -18,16 +18,16 @@ use Rattle.mvd_keys.specs.Writes.{Key}
 use Rattle.mvd_keys.proofs.KeyOrder.{key_antisymmetric, key_total, same_where_tied}
 use Rattle.mvd_keys.proofs.Rising.{first_true, second_true}
 use Rattle.mvd_wire.specs.Codec.{Spells, spelled_within}
-use Rattle.mvd_wire.specs.Codecs.{layout2, spell_state, state, state_limit}
-use Rattle.mvd_records.specs.Pairs.{Pair, entries_of}
-use Rattle.mvd_records.specs.States.{States as Stored}
+use Rattle.mvd_wire.specs.Codecs.{layout2, spell_state, state_codec, state_limit}
+use Rattle.mvd_records.specs.Pairs.{Pair, pair_entries}
+use Rattle.mvd_records.specs.States.{StoredStates as Stored}
 use Rattle.mvd_records.specs.Records.{AreDisjoint, EndsMove, HasNone, IsWhole, KeepsStates, LacksKey, HoldsRecords, MovesState, TellsVersion, marks_of, new_states, old_states}
 use Rattle.mvd_site.specs.Config.{ConfigValue}
 use Rattle.mvd_site.specs.Held.{IsHeldState, States}
 use Rattle.mvd_site.specs.Sites.{SiteValue, opened}
 use Rattle.sqlite.specs.Effect.{Database}
 use Rattle.mvd_replica.specs.Holds.{AreSpelled, HoldsStates, SpellStates}
-use Rattle.mvd_replica.specs.Readable.{AreDamaged, AreInOrder, AreStored, HasJust, HasState, HoldsTooMany, IsOldStored, IsStored, Migrates, Respells, Resumes, SameStates, spelled_entries}
+use Rattle.mvd_replica.specs.Readable.{AreDamaged, AreInOrder, AreStored, HasJust, HasState, HoldsTooMany, IsOldStored, SpellsHeldState, Migrates, Respells, Resumes, SameStates, spelled_entries}
 use Rattle.mvd_replica.proofs.Moving.{Moving, free2, found_at, less_is_no_tie, below_part, new_at, old_at, none_is_some, some_is, spells_one}
 
 -- ---- what is stored
@@ -45,7 +45,7 @@ stored_by P m all key bytes found = among (entries m) all (sym (get-entries m ke
         ] found
 
 -- a pair that is not
-pub not_stored : (P : List ℕ → Type 0) (m : Stored) (pairs : List Pair) (n : ℕ) (p : Pair) (bytes : List ℕ) → entries_of pairs ≡ entries m → n < length pairs → p ≡ get_or pairs n p → bytes ≡ p.1.items → ¬ P bytes →
+pub not_stored : (P : List ℕ → Type 0) (m : Stored) (pairs : List Pair) (n : ℕ) (p : Pair) (bytes : List ℕ) → pair_entries pairs ≡ entries m → n < length pairs → p ≡ get_or pairs n p → bytes ≡ p.1.items → ¬ P bytes →
     ((key : Key) (bytes : List ℕ) → get m key ≡ Some bytes → P bytes) → ⊥
 not_stored P m pairs n p bytes same low is same-bytes wrong all = wrong (subst P (sym same-bytes) (all p.0 p.1.items (found_at m pairs n p same low is)))
 
@@ -57,14 +57,14 @@ not_before (x ∷ es) e fs h =
     ((eq_by_cmp_equiv key_total).symm e.0 x.0 ∙ less_is_no_tie (key_cmp x.0 e.0) (below_part x.0 es e fs (first_true _ _ h)))
     ∙ not_before es e fs (second_true (below_all key_cmp x.0 (es ++ e ∷ fs)) _ h)
 
-pub not_yet : (m : Stored) (pairs done : List Pair) (p : Pair) → entries_of pairs ≡ entries m → map (λ x. x) done ≡ take (length done) pairs → length done < length pairs → p ≡ get_or pairs (length done) p → find key_cmp p.0 (entries_of done) ≡ None
+pub not_yet : (m : Stored) (pairs done : List Pair) (p : Pair) → pair_entries pairs ≡ entries m → map (λ x. x) done ≡ take (length done) pairs → length done < length pairs → p ≡ get_or pairs (length done) p → find key_cmp p.0 (pair_entries done) ≡ None
 not_yet m pairs done p same so_far low is =
     let n = length done in
     let front : done ≡ take n pairs = sym (map-id done) ∙ so_far in
     let whole : pairs ≡ take n pairs ++ p ∷ drop (suc n) pairs = split_at pairs n p low ∙ ap (λ x. take n pairs ++ x ∷ drop (suc n) pairs) (sym is) in
-    let parts : entries m ≡ entries_of (take n pairs) ++ (p.0, p.1.items) ∷ entries_of (drop (suc n) pairs) = sym same ∙ ap entries_of whole ∙ map-append (λ (q : Pair). (q.0, q.1.items)) (take n pairs) (p ∷ drop (suc n) pairs) in
-    ap (λ l. find key_cmp p.0 (entries_of l)) front
-    ∙ not_before (entries_of (take n pairs)) (p.0, p.1.items) (entries_of (drop (suc n) pairs)) (subst (λ l. T (is_sorted key_cmp l)) parts (entries_sorted m))
+    let parts : entries m ≡ pair_entries (take n pairs) ++ (p.0, p.1.items) ∷ pair_entries (drop (suc n) pairs) = sym same ∙ ap pair_entries whole ∙ map-append (λ (q : Pair). (q.0, q.1.items)) (take n pairs) (p ∷ drop (suc n) pairs) in
+    ap (λ l. find key_cmp p.0 (pair_entries l)) front
+    ∙ not_before (pair_entries (take n pairs)) (p.0, p.1.items) (pair_entries (drop (suc n) pairs)) (subst (λ l. T (is_sorted key_cmp l)) parts (entries_sorted m))
 
 -- ---- keys that were moved
 
@@ -75,7 +75,7 @@ pub record Moved (a b : Database) (done : List (Key × List ℕ)) : Type 0 where
   pub read : (key : Key) (bytes : List ℕ) → find key_cmp key done ≡ Some bytes → IsOldStored bytes
   pub kept : (key : Key) (bytes : List ℕ) → get (new_states a) key ≡ Some bytes → get (new_states b) key ≡ Some bytes
   pub from : (key : Key) (bytes : List ℕ) → get (new_states b) key ≡ Some bytes →
-      (get (new_states a) key ≡ Some bytes) ⊎ (IsStored bytes × ((was : List ℕ) × (get (old_states a) key ≡ Some was)))
+      (get (new_states a) key ≡ Some bytes) ⊎ (SpellsHeldState bytes × ((was : List ℕ) × (get (old_states a) key ≡ Some was)))
 
 pub moved_none : (a b : Database) → b ≡ a → Moved a b []
 moved_none a b same = subst (λ d. Moved a d []) (sym same) (record {
@@ -111,9 +111,9 @@ module _ (a b c : Database) (k : Key) (old new : List ℕ) (done : List (Key × 
   kept_at key bytes false is found = new_at b c k old new moves key false is ∙ moved.kept key bytes found
 
   from_at : (key : Key) (bytes : List ℕ) (tied : Bool) → eq_by_cmp key_cmp key k ≡ tied → get (new_states c) key ≡ Some bytes →
-      (get (new_states a) key ≡ Some bytes) ⊎ (IsStored bytes × ((was : List ℕ) × (get (old_states a) key ≡ Some was)))
+      (get (new_states a) key ≡ Some bytes) ⊎ (SpellsHeldState bytes × ((was : List ℕ) × (get (old_states a) key ≡ Some was)))
   from_at key bytes true is found =
-      inr (subst IsStored (some_is new bytes (sym (new_at b c k old new moves key true is) ∙ found)) (spelled.0, spelled.2, spelled.3), (old, ap (get (old_states a)) (same_where_tied key k is) ∙ was))
+      inr (subst SpellsHeldState (some_is new bytes (sym (new_at b c k old new moves key true is) ∙ found)) (spelled.0, spelled.2, spelled.3), (old, ap (get (old_states a)) (same_where_tied key k is) ∙ was))
   from_at key bytes false is found = moved.from key bytes (sym (new_at b c k old new moves key false is) ∙ found)
 
   pub moved_on : Moved a c more
@@ -125,11 +125,11 @@ module _ (a b c : Database) (k : Key) (old new : List ℕ) (done : List (Key × 
     from = λ key bytes found. from_at key bytes (eq_by_cmp key_cmp key k) refl found;
   }
 
-pub moved_more : (a b c : Database) (done : List Pair) (p : Pair) (old new new' : List ℕ) → Moved a b (entries_of done) → AreDisjoint (old_states a) (new_states a) → MovesState b c p.0 new' →
-    get (old_states a) p.0 ≡ Some p.1.items → find key_cmp p.0 (entries_of done) ≡ None → Respells old new → new' ≡ new → old ≡ p.1.items → Moved a c (entries_of (done ++ p ∷ []))
+pub moved_more : (a b c : Database) (done : List Pair) (p : Pair) (old new new' : List ℕ) → Moved a b (pair_entries done) → AreDisjoint (old_states a) (new_states a) → MovesState b c p.0 new' →
+    get (old_states a) p.0 ≡ Some p.1.items → find key_cmp p.0 (pair_entries done) ≡ None → Respells old new → new' ≡ new → old ≡ p.1.items → Moved a c (pair_entries (done ++ p ∷ []))
 moved_more a b c done p old new new' moved apart moves was yet spelled new-is old-is =
     subst (Moved a c) (sym (map-append (λ (q : Pair). (q.0, q.1.items)) done (p ∷ [])))
-    (moved_on a b c p.0 p.1.items new (entries_of done) moved apart (subst (MovesState b c p.0) new-is moves) was yet (subst (λ l. Respells l new) old-is spelled))
+    (moved_on a b c p.0 p.1.items new (pair_entries done) moved apart (subst (MovesState b c p.0) new-is moves) was yet (subst (λ l. Respells l new) old-is spelled))
 
 -- a key that is not moved yet is there
 pub still_there : (a b : Database) (done : List (Key × List ℕ)) (key : Key) (bytes : List ℕ) → Moved a b done → get (old_states a) key ≡ Some bytes → find key_cmp key done ≡ None → LacksKey (old_states b) key → ⊥
@@ -201,11 +201,11 @@ order_after version a b migrates order = record {
   new_stored = λ key bytes found. stored_from key bytes (migrates.from key bytes found);
 }
   where
-    key_from : (key : Key) (bytes : List ℕ) → (get (new_states a) key ≡ Some bytes) ⊎ (IsStored bytes × ((was : List ℕ) × (get (old_states a) key ≡ Some was))) → is_key key ≡ true
+    key_from : (key : Key) (bytes : List ℕ) → (get (new_states a) key ≡ Some bytes) ⊎ (SpellsHeldState bytes × ((was : List ℕ) × (get (old_states a) key ≡ Some was))) → is_key key ≡ true
     key_from key bytes (inl there) = order.new_keys key bytes there
     key_from key bytes (inr moved) = order.old_keys key moved.1.0 moved.1.1
 
-    stored_from : (key : Key) (bytes : List ℕ) → (get (new_states a) key ≡ Some bytes) ⊎ (IsStored bytes × ((was : List ℕ) × (get (old_states a) key ≡ Some was))) → IsStored bytes
+    stored_from : (key : Key) (bytes : List ℕ) → (get (new_states a) key ≡ Some bytes) ⊎ (SpellsHeldState bytes × ((was : List ℕ) × (get (old_states a) key ≡ Some was))) → SpellsHeldState bytes
     stored_from key bytes (inl there) = order.new_stored key bytes there
     stored_from key bytes (inr moved) = moved.0
 
@@ -215,11 +215,11 @@ order_kept version a b keeps order = subst₂ (AreInOrder version) (sym keeps.ol
 pub order_back : (version : ℕ) (a b : Database) → KeepsStates a b → AreInOrder version (old_states b) (new_states b) → AreInOrder version (old_states a) (new_states a)
 order_back version a b keeps order = subst₂ (AreInOrder version) keeps.old_same keeps.new_same order
 
-pub read_order : (version : ℕ) (db : Database) (pairs : List Pair) → version ≡ 2 → IsWhole version (new_states db) (old_states db) (new_states db) → entries_of pairs ≡ entries (new_states db) →
-    AllByRecursion (λ (e : Key × List ℕ). IsStored e.1) (entries_of pairs) → AreInOrder 2 (old_states db) (new_states db)
+pub read_order : (version : ℕ) (db : Database) (pairs : List Pair) → version ≡ 2 → IsWhole version (new_states db) (old_states db) (new_states db) → pair_entries pairs ≡ entries (new_states db) →
+    AllByRecursion (λ (e : Key × List ℕ). SpellsHeldState e.1) (pair_entries pairs) → AreInOrder 2 (old_states db) (new_states db)
 read_order version db pairs two whole same all =
     second_order (old_states db) (new_states db) (subst (λ v. IsWhole v (new_states db) (old_states db) (new_states db)) two whole)
-    (stored_by IsStored (new_states db) (subst (AllByRecursion (λ (e : Key × List ℕ). IsStored e.1)) same all))
+    (stored_by SpellsHeldState (new_states db) (subst (AllByRecursion (λ (e : Key × List ℕ). SpellsHeldState e.1)) same all))
 
 -- ---- a move that was broken off
 
@@ -233,11 +233,11 @@ module _ (version : ℕ) (a b : Database) (done : List (Key × List ℕ)) (moved
     new_stored = λ key bytes found. stored_from key bytes (moved.from key bytes found);
   }
     where
-      key_from : (key : Key) (bytes : List ℕ) → (get (new_states a) key ≡ Some bytes) ⊎ (IsStored bytes × ((was : List ℕ) × (get (old_states a) key ≡ Some was))) → is_key key ≡ true
+      key_from : (key : Key) (bytes : List ℕ) → (get (new_states a) key ≡ Some bytes) ⊎ (SpellsHeldState bytes × ((was : List ℕ) × (get (old_states a) key ≡ Some was))) → is_key key ≡ true
       key_from key bytes (inl there) = order.new_keys key bytes there
       key_from key bytes (inr came) = whole.keys key came.1.0 came.1.1
 
-      stored_from : (key : Key) (bytes : List ℕ) → (get (new_states a) key ≡ Some bytes) ⊎ (IsStored bytes × ((was : List ℕ) × (get (old_states a) key ≡ Some was))) → IsStored bytes
+      stored_from : (key : Key) (bytes : List ℕ) → (get (new_states a) key ≡ Some bytes) ⊎ (SpellsHeldState bytes × ((was : List ℕ) × (get (old_states a) key ≡ Some was))) → SpellsHeldState bytes
       stored_from key bytes (inl there) = order.new_stored key bytes there
       stored_from key bytes (inr came) = came.0
 
@@ -286,19 +286,19 @@ all_more : {X : Type 0} (P : X → Type 0) (xs : List X) (x : X) → AllByRecurs
 all_more P [] x all one = (one, tt)
 all_more P (y ∷ ys) x all one = (all.0, all_more P ys x all.1 one)
 
-pub spelled_more : (before after : List (Key × State)) (done : List Pair) (p : Pair) (s : State) (read : List ℕ) → after ≡ before ++ (p.0, s) ∷ [] → spelled_entries before ≡ entries_of done → spell_state s ≡ read → read ≡ p.1.items →
-    spelled_entries after ≡ entries_of (done ++ p ∷ [])
+pub spelled_more : (before after : List (Key × State)) (done : List Pair) (p : Pair) (s : State) (read : List ℕ) → after ≡ before ++ (p.0, s) ∷ [] → spelled_entries before ≡ pair_entries done → spell_state s ≡ read → read ≡ p.1.items →
+    spelled_entries after ≡ pair_entries (done ++ p ∷ [])
 spelled_more before after done p s read is so_far spelled same =
     ap spelled_entries is ∙ map-append (λ (e : Key × State). (e.0, spell_state e.1)) before ((p.0, s) ∷ [])
-    ∙ ap (λ l. l ++ (p.0, spell_state s) ∷ []) so_far ∙ ap (λ b. entries_of done ++ (p.0, b) ∷ []) (spelled ∙ same) ∙ sym (map-append (λ (q : Pair). (q.0, q.1.items)) done (p ∷ []))
+    ∙ ap (λ l. l ++ (p.0, spell_state s) ∷ []) so_far ∙ ap (λ b. pair_entries done ++ (p.0, b) ∷ []) (spelled ∙ same) ∙ sym (map-append (λ (q : Pair). (q.0, q.1.items)) done (p ∷ []))
 
 pub held_more : (before after : List (Key × State)) (e : Key × State) → after ≡ before ++ e ∷ [] → AllByRecursion (λ (x : Key × State). IsHeldState x.1) before → IsHeldState e.1 → AllByRecursion (λ (x : Key × State). IsHeldState x.1) after
 held_more before after e is all one = subst (AllByRecursion (λ (x : Key × State). IsHeldState x.1)) (sym is) (all_more (λ (x : Key × State). IsHeldState x.1) before e all one)
 
-pub stored_more : (done : List Pair) (p : Pair) (read : List ℕ) → AllByRecursion (λ (x : Key × List ℕ). IsStored x.1) (entries_of done) → IsStored read → read ≡ p.1.items → AllByRecursion (λ (x : Key × List ℕ). IsStored x.1) (entries_of (done ++ p ∷ []))
+pub stored_more : (done : List Pair) (p : Pair) (read : List ℕ) → AllByRecursion (λ (x : Key × List ℕ). SpellsHeldState x.1) (pair_entries done) → SpellsHeldState read → read ≡ p.1.items → AllByRecursion (λ (x : Key × List ℕ). SpellsHeldState x.1) (pair_entries (done ++ p ∷ []))
 stored_more done p read all one same =
-    subst (AllByRecursion (λ (x : Key × List ℕ). IsStored x.1)) (sym (map-append (λ (q : Pair). (q.0, q.1.items)) done (p ∷ [])))
-    (all_more (λ (x : Key × List ℕ). IsStored x.1) (entries_of done) (p.0, p.1.items) all (subst IsStored same one))
+    subst (AllByRecursion (λ (x : Key × List ℕ). SpellsHeldState x.1)) (sym (map-append (λ (q : Pair). (q.0, q.1.items)) done (p ∷ [])))
+    (all_more (λ (x : Key × List ℕ). SpellsHeldState x.1) (pair_entries done) (p.0, p.1.items) all (subst SpellsHeldState same one))
 
 -- ---- a state of version 1
 
@@ -306,11 +306,11 @@ too_long : (short : Bool) (bytes : List ℕ) (e : Refusal) → short ≡ true �
 too_long true bytes e is same = cc
 too_long false bytes e is same = absurd (true≢false (sym is))
 
-pub not_too_long : (s : State) (e : Refusal) → length (spell_state s) ≤ state_limit → (e ≢ Memory → spelled_within StateTooLarge state_limit (state layout2) s ≡ Err e) → e ≢ Memory → ⊥
+pub not_too_long : (s : State) (e : Refusal) → length (spell_state s) ≤ state_limit → (e ≢ Memory → spelled_within StateTooLarge state_limit (state_codec layout2) s ≡ Err e) → e ≢ Memory → ⊥
 unfolding spell_state
 not_too_long s e short exact other =
-    let is : nat_le (length ((state layout2).spell s)) state_limit ≡ true = grind (arith, nat_tests) in
-    too_long (nat_le (length ((state layout2).spell s)) state_limit) ((state layout2).spell s) e is (exact other)
+    let is : nat_le (length ((state_codec layout2).spell s)) state_limit ≡ true = grind (arith, nat_tests) in
+    too_long (nat_le (length ((state_codec layout2).spell s)) state_limit) ((state_codec layout2).spell s) e is (exact other)
 
 -- ---- how opening ends
 
@@ -374,10 +374,10 @@ has_spelled : (db : Database) (states : States) → HasNone (old_states db) → 
 unfolding spell_state
 has_spelled db states none spelled fits key s = (by, back)
   where
-    by_found : (found : Option State) → get states key ≡ found → (bytes : List ℕ) → option_map spell_state found ≡ Some bytes → Spells (state layout2) s bytes → get states key ≡ Some s
+    by_found : (found : Option State) → get states key ≡ found → (bytes : List ℕ) → option_map spell_state found ≡ Some bytes → Spells (state_codec layout2) s bytes → get states key ≡ Some s
     by_found None is bytes same spells = absurd (none_is_some bytes same)
     by_found (Some t) is bytes same spells =
-        let own : Spells (state layout2) t bytes = ((fits key t is).fits, sym (some_is (spell_state t) bytes same)) in
+        let own : Spells (state_codec layout2) t bytes = ((fits key t is).fits, sym (some_is (spell_state t) bytes same)) in
         is ∙ ap (λ (x : State). Some x) (spells_one layout2 free2 t s bytes own spells)
 
     by : HasState db key s → get states key ≡ Some s

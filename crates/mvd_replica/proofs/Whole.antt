@@ -14,8 +14,8 @@ use Rattle.mvd_replica.specs.Replicas.{StoredSite}
 use Rattle.mvd_replica.specs.Sides.{replica_follows_self}
 use Rattle.mvd_replica.specs.Whole.{leaves_on, leaves_self, leaves_wider}
 use Rattle.mvd_replica.specs.Turns.{AreFrames, AreUndoneIn, Turn}
-use Rattle.mvd_replica.specs.Served.{Conversation, Ending, AtBye, AtEnd, AtRefusal, AtWriter, Stops, IsCount, IsCutCount, Served, Takes, Went, frames_most, replies_bytes, last_bytes, result_of}
-use Rattle.mvd_replica.specs.Steps.{Ends, IsLastCount, TakesTurn}
+use Rattle.mvd_replica.specs.Served.{Conversation, Ending, AtBye, AtEnd, AtRefusal, AtWriter, StopsServing, IsCount, IsCutCount, Served, ServesTurns, Went, frames_most, replies_bytes, ending_bytes, result_of}
+use Rattle.mvd_replica.specs.Steps.{EndsConversation, IsLastCount, TakesTurn}
 use Rattle.mvd_replica.proofs.Positions.{GoesOut, GoesOutAfter}
 use Rattle.mvd_replica.proofs.Breaking.{follows_both, told_both}
 use Rattle.mvd_replica.proofs.Leaving.{undone_later, undone_more}
@@ -41,7 +41,7 @@ Went-none conversation = record {
   wrote = Appends-nil conversation.output;
 }
 
-Takes-append : (first second : List Turn) (a b c : StoredSite) → b.site.config ≡ a.site.config → Takes first a b → Takes second b c → Takes (first ++ second) a c
+Takes-append : (first second : List Turn) (a b c : StoredSite) → b.site.config ≡ a.site.config → ServesTurns first a b → ServesTurns second b c → ServesTurns (first ++ second) a c
 Takes-append first second a b c config one other = record {
   replies = Replies-append a.site b.site c.site first second config one.replies other.replies;
   stands = StandsOn-append a.site b.site c.site first second one.stands other.stands;
@@ -85,7 +85,7 @@ counted n count AtEnd room last = omega arith
 counted n count (AtRefusal refusal) room last = inl (omega (arith, last.0), last.1)
 counted n count AtWriter room last = omega arith
 
-pub Served-after : (turns : List Turn) (a b c : Conversation) (result : Result Ended Refusal) → Went turns a b → length turns < FRAMES_MAX → Ends b c result → Served a c result
+pub Served-after : (turns : List Turn) (a b c : Conversation) (result : Result Ended Refusal) → Went turns a b → length turns < FRAMES_MAX → EndsConversation b c result → Served a c result
 Served-after turns a b c result one room last = record {
   turns = turns ++ last.turns;
   ending = last.ending;
@@ -93,14 +93,14 @@ Served-after turns a b c result one room last = record {
   count = subst (λ n. IsCount n last.ending) (sym (length-append turns last.turns)) (counted (length turns) (length last.turns) last.ending (subst (λ m. length turns < m) most room) last.count);
   read = λ bytes known.
       let p : (rest : List ℕ) × (b.input ≡ Some rest) × AreFrames turns bytes rest = one.read bytes known in
-      let q : (rest : List ℕ) × AreFrames last.turns p.0 rest × Stops rest c.input last.ending = last.read p.0 p.1 in
+      let q : (rest : List ℕ) × AreFrames last.turns p.0 rest × StopsServing rest c.input last.ending = last.read p.0 p.1 in
       (q.0, AreFrames-append turns last.turns bytes p.0 q.0 p.2 q.1, q.2);
   went_out = record {
     whole = turns;
     cut = last.turns;
     all = refl;
     count = cut_count (length last.turns) last.ending last.count;
-    wrote = GoesOutAfter-first a.output b.output c.output (replies_bytes turns) (replies_bytes last.turns ++ last_bytes c.stored.site.broken last.ending) (Err WriteFailed) result (result_of last.ending) one.wrote last.wrote;
+    wrote = GoesOutAfter-first a.output b.output c.output (replies_bytes turns) (replies_bytes last.turns ++ ending_bytes c.stored.site.broken last.ending) (Err WriteFailed) result (result_of last.ending) one.wrote last.wrote;
   };
 }
 

@@ -46,10 +46,10 @@ IsWritten (reply.Written dot) = ⊤
 IsWritten (reply.Refused refusal) = ⊤
 IsWritten told = ⊥
 
-abbrev pub IsDone : Reply → Type 0
-IsDone reply.Done = ⊤
-IsDone (reply.Refused refusal) = ⊤
-IsDone told = ⊥
+abbrev pub IsDoneReply : Reply → Type 0
+IsDoneReply reply.Done = ⊤
+IsDoneReply (reply.Refused refusal) = ⊤
+IsDoneReply told = ⊥
 
 abbrev pub ArePlaces : Reply → Type 0
 ArePlaces (reply.Places places more) = ⊤
@@ -74,7 +74,7 @@ AreCounts told = ⊥
 -- the reply is of the kind that a put, a delete or a question of an index, a view or keys asks for
 abbrev pub IsReplyTo : Request → Reply → Type 0
 IsReplyTo (Put key seen document) told = IsWritten told
-IsReplyTo (Delete key seen) told = IsDone told
+IsReplyTo (Delete key seen) told = IsDoneReply told
 IsReplyTo (Find field term after) told = ArePlaces told
 IsReplyTo (Range field from to after) told = ArePlaces told
 IsReplyTo (Row view term) told = IsRow told

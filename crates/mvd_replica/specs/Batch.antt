@@ -19,7 +19,7 @@ use Rattle.mvd_replica.specs.Holds.{HoldsSite, HoldsStates}
 use Rattle.mvd_replica.specs.Replicas.{StoredSite}
 use Rattle.mvd_replica.specs.Sides.{AnswersFromStored}
 use Rattle.mvd_replica.specs.Whole.{after_all}
-use Rattle.mvd_replica.specs.Turns.{Event, IsFirstBroken, IsToldBroken, IsToldElse, LeavesTurns, Replies, StandsOn, TellsTurns, Turn}
+use Rattle.mvd_replica.specs.Turns.{TurnEvent, IsFirstBroken, IsToldBroken, IsToldElse, LeavesTurns, Replies, StandsOn, TellsTurns, Turn}
 use Rattle.sqlite.specs.Effect.{Database}
 use Rattle.sqlite.specs.State.{HasCleanDisk}
 
@@ -69,10 +69,10 @@ CountsAlong old new (turn ∷ turns) count =
 -- ---- the records
 
 -- some of the turns, in order, asked these requests, and each was told 22
-abbrev pub AreAmong : List Request → List Turn → Type 0
-AreAmong [] turns = ⊤
-AreAmong (request ∷ requests) [] = ⊥
-AreAmong (request ∷ requests) (turn ∷ turns) = (IsToldBroken request turn × AreAmong requests turns) ⊎ AreAmong (request ∷ requests) turns
+abbrev pub AreAmongTurns : List Request → List Turn → Type 0
+AreAmongTurns [] turns = ⊤
+AreAmongTurns (request ∷ requests) [] = ⊥
+AreAmongTurns (request ∷ requests) (turn ∷ turns) = (IsToldBroken request turn × AreAmongTurns requests turns) ⊎ AreAmongTurns (request ∷ requests) turns
 
 -- What a site that turns broke has lost: what the first request changes that was told 22, and what some of the later ones change
 -- that were told so
@@ -86,7 +86,7 @@ pub record Loses (turns : List Turn) (site : SiteValue) : Type 0 where
   pub asked : IsToldBroken request broke
   pub changes : after_from site.config site.states request ≢ site.states
   pub rest : List Request
-  pub among : AreAmong rest later
+  pub among : AreAmongTurns rest later
 
 -- the requests that it lost
 abbrev pub lost_requests : {turns : List Turn} {site : SiteValue} → Loses turns site → List Request
@@ -118,7 +118,7 @@ pub record TakesTurns (turns : List Turn) (old new : StoredSite) : Type 0 where
   pub replies : Replies old.site new.site turns
   pub stands : StandsOn old.site new.site turns
   pub config : new.site.config ≡ old.site.config
-  pub choice : (events : List Event) × TellsTurns events turns
+  pub choice : (events : List TurnEvent) × TellsTurns events turns
   pub fits : AllByRecursion (λ turn. CanBeSent turn.reply) turns
   -- a request is told 22 where the site is broken, and one that breaks it is
   pub told : new.site.broken ≡ false → AllByRecursion IsToldElse turns

@@ -39,7 +39,7 @@ module _ {S : Type 0} {g : Ghosts S} where
       (site_of new).broken ≡ true → HoldsLost turns (site_of new) (committed_of new)
 
   -- Turns that share a commit
-  pub record Commits (turns : List Turn) (old new : Replica S g) : Type 0 where
+  pub record SharesCommit (turns : List Turn) (old new : Replica S g) : Type 0 where
     -- each is answered from the states that the one before left, and leaves the states after it
     pub takes : TakesAllFrom (site_of old) (site_of new) turns
     -- there was one commit, or none
@@ -62,15 +62,15 @@ module _ {S : Type 0} {g : Ghosts S} where
   -- ---- requests
 
   -- one request, with its reply
-  abbrev pub Answers : Replica S g → Request → Reply → Replica S g → Type 0
-  Answers old request reply new = Commits (record { asked = Ok request; reply = reply } ∷ []) old new
+  abbrev pub AnswersOneRequest : Replica S g → Request → Reply → Replica S g → Type 0
+  AnswersOneRequest old request reply new = SharesCommit (record { asked = Ok request; reply = reply } ∷ []) old new
 
   -- requests that share a commit, whose replies stand behind those before
   pub record Shares (requests : List Request) (before after : List Reply) (old new : Replica S g) : Type 0 where
     pub turns : List Turn
     pub asked : map (λ turn. turn.asked) turns ≡ map (λ request. Ok request) requests
     pub told : after ≡ before ++ map (λ turn. turn.reply) turns
-    pub commits : Commits turns old new
+    pub commits : SharesCommit turns old new
 
   -- the first of some requests
   abbrev pub SharesFront : List Request → List Reply → List Reply → Replica S g → Replica S g → Type 0
@@ -80,10 +80,10 @@ module _ {S : Type 0} {g : Ghosts S} where
   -- commits, one after the other
   abbrev pub AllCommit : List (List Turn) → Replica S g → Replica S g → Type 0
   AllCommit [] old new = new ≡ old
-  AllCommit (turns ∷ groups) old new = (mid : Replica S g) × Commits turns old mid × AllCommit groups mid new
+  AllCommit (turns ∷ groups) old new = (mid : Replica S g) × SharesCommit turns old mid × AllCommit groups mid new
 
   -- Requests that are answered at once: one turn for each, in order, with its reply, in commits one after the other
-  pub record AnswersEach (requests : List Request) (replies : List Reply) (old new : Replica S g) : Type 0 where
+  pub record AnswersInCommits (requests : List Request) (replies : List Reply) (old new : Replica S g) : Type 0 where
     pub groups : List (List Turn)
     pub asked : map (λ turn. turn.asked) (flat_map (λ turns. turns) groups) ≡ map (λ request. Ok request) requests
     pub told : map (λ turn. turn.reply) (flat_map (λ turns. turns) groups) ≡ replies

@@ -87,7 +87,7 @@ module _ {D : Type 0} {g : Ghosts D} {f : store.Ghosts (FileStore D g)} where
         (trees : Trees) → recovers failed.1 trees → LeavesStates site states trees
 
   -- the files, or a refusal with the store
-  pub record Closes (replica : Replica (FileStore D g) f) (result : Result (Files D) (Error × FileStore D g))
+  pub record ClosesReplica (replica : Replica (FileStore D g) f) (result : Result (Files D) (Error × FileStore D g))
       : Type 0 where
     -- Ok: the file with its log, and the file alone, hold what the records held
     pub closed : IfOk result (ClosesInto replica)

@@ -1,7 +1,7 @@
 -- What the requests of one commit come to, prepared side by side, before anything is changed.
-use Rattle.std.specs.Prelude.{◌≡◌, ◌≢◌, ◌⊎◌, ⊤, ℕ, ◌+◌, ◌<◌, ◌≤◌, false, List, [], ◌∷◌, length}
+use Rattle.std.specs.Prelude.{◌≡◌, ◌≢◌, ◌⊎◌, ⊤, ℕ, ◌≤◌, false, List, [], ◌∷◌, length}
 use Rattle.std.specs.List.{AllByRecursion}
-use Rattle.std.specs.FinMap.{insert, len as map_len}
+use Rattle.std.specs.FinMap.{insert}
 use Rattle.mvd_dots.specs.declared.refusals.Refusal.TheVariants.{Broken, Memory, Store}
 use Rattle.mvd_keys.specs.State.{State}
 use Rattle.mvd_keys.specs.Writes.{Key, Write}
@@ -11,16 +11,17 @@ use Rattle.mvd_wire.specs.declared.request.Request.TheVariants.{Get, Put, Delete
 use Rattle.mvd_wire.specs.declared.reply.Reply.{Reply}
 use Rattle.mvd_wire.specs.declared.reply.Reply.TheVariants.{Refused}
 use Rattle.mvd_wire.specs.Replies.{CanBeSent}
-use Rattle.mvd_site.specs.Change.{ChangeValue, reply_of}
+use Rattle.mvd_site.specs.Change.{ChangeValue, change_reply}
 use Rattle.mvd_site.specs.Config.{ConfigValue}
 use Rattle.mvd_site.specs.FromStates.{answer_from}
 use Rattle.mvd_site.specs.Held.{IsHeldState, IsSpelled, States}
-use Rattle.mvd_site.specs.Installs.{changes_in, with_prepared}
+use Rattle.mvd_site.specs.Installs.{with_group, with_prepared}
 use Rattle.mvd_site.specs.Known.{Adds}
 use Rattle.mvd_site.specs.Prepared.{IsFrugal, PreparesAnswerFrom, PreparesChangeFrom}
 use Rattle.mvd_kept.specs.declared.prepared.Prepared.{Prepared}
 use Rattle.mvd_kept.specs.declared.prepared.Prepared.TheVariants.{Answer, Change}
 use Rattle.mvd_site.specs.Sites.{SiteValue, has_no_room}
+use Rattle.mvd_replica.specs.Adding.{KeepsRoom, LacksRoom}
 
 -- ---- one request
 
@@ -34,10 +35,10 @@ IsElsewhere key (Hello token) = ⊤
 IsElsewhere key Bye = ⊤
 IsElsewhere key request = ⊥
 
--- A request at one key has the same answer after a change of another key, while there is room for a key more
+-- A request at one key has the same answer after a change of another key, as long as there is as much room for it
 abbrev pub AnswersOthersAlike : Type 0
 AnswersOthersAlike = (config : ConfigValue) (states : States) (key : Key) (state : State) (request : Request) →
-    IsElsewhere key request → map_len states + 1 < config.max_keys →
+    IsElsewhere key request → KeepsRoom config states (insert states key state) request →
     answer_from config (insert states key state) request ≡ answer_from config states request
 
 -- it sees nothing of what was prepared
@@ -53,15 +54,15 @@ ComesTo config states request (Answer reply) =
 ComesTo config states request (Change change) = PreparesChangeFrom config states request change × (has_no_room config states change.key ≡ false)
 
 -- the reply can be sent, and there are writes that the request then adds
-pub record IsReply (request : Request) (reply : Reply) : Type 0 where
+pub record IsGivenReply (request : Request) (reply : Reply) : Type 0 where
   pub other : reply ≢ Refused Broken
   pub fits : CanBeSent reply
   pub choice : (added : List Write) × Adds request reply added
 
 -- what holds of it from whatever states
 abbrev pub IsSendable : Request → Prepared → Type 0
-IsSendable request (Answer reply) = IsReply request reply
-IsSendable request (Change change) = IsReply request (reply_of change.dot) × IsHeldState change.state × IsSpelled change.state
+IsSendable request (Answer reply) = IsGivenReply request reply
+IsSendable request (Change change) = IsGivenReply request (change_reply change.dot) × IsHeldState change.state × IsSpelled change.state
 
 -- ---- many
 
@@ -93,22 +94,19 @@ pub record StandTogether (site : SiteValue) (requests : List Request) (group : L
 abbrev pub IsAlone : SiteValue → Request → ChangeValue → Type 0
 IsAlone site request change = ComesTo site.config site.states request (Change change) × IsSendable request (Change change)
 
--- a request may be prepared beside these: it sees none of them, and once they are in there is room for a key more
+-- a request may be prepared beside these: it sees none of them, and once they are in there is as much room for it
 pub record MayJoin (site : SiteValue) (request : Request) (group : List Prepared) : Type 0 where
   pub apart : AllByRecursion (IsApart request) group
-  pub room : 0 < changes_in group → map_len site.states + changes_in group < site.config.max_keys
+  pub room : KeepsRoom site.config site.states (with_group site.states group) request
 
 -- the request may see a key that one of these changes
 abbrev pub SeesAny : Request → List Prepared → Type 0
 SeesAny request group = AllByRecursion (IsApart request) group → ⊥
 
--- once they are in there may be no room for a key more
-abbrev pub MayFill : SiteValue → List Prepared → Type 0
-MayFill site group = (0 < changes_in group) × (site.config.max_keys ≤ map_len site.states + changes_in group)
-
--- A request has to wait until these are put in: they are 1,024, or they may fill the site, or it sees a key that one of them changes
+-- A request has to wait until these are put in: they are 1,024, or there may be less room for it then, or it sees a key that one of
+-- them changes
 abbrev pub MustWait : SiteValue → Request → List Prepared → Type 0
-MustWait site request group = (1024 ≤ length group) ⊎ MayFill site group ⊎ SeesAny request group
+MustWait site request group = (1024 ≤ length group) ⊎ LacksRoom site request group ⊎ SeesAny request group
 
 -- of the requests that are left the first, if there is one, has to wait
 abbrev pub FirstWaits : SiteValue → List Prepared → List Request → Type 0

@@ -6,7 +6,7 @@ use Rattle.mvd_dots.specs.declared.refusals.Refusal.TheVariants.{Broken, Store}
 use Rattle.mvd_keys.specs.State.{State}
 use Rattle.mvd_keys.specs.Writes.{Key}
 use Rattle.mvd_wire.specs.Codecs.{spell_state}
-use Rattle.mvd_records.specs.States.{States as Stored}
+use Rattle.mvd_records.specs.States.{StoredStates as Stored}
 use Rattle.mvd_records.specs.Records.{HasNone, HoldsRecords, SavesState, new_states, old_states}
 use Rattle.mvd_site.specs.Change.{ChangeValue}
 use Rattle.mvd_site.specs.Held.{IsSpelled, States}
@@ -42,6 +42,6 @@ PutsIn old new change (Ok done) = new ≡ changed_site old change
 PutsIn old new change (Err refusal) = ((refusal ≡ Store) × (new ≡ old)) ⊎ ((refusal ≡ Broken) × (new ≡ broken_site old))
 
 -- what is then stored: the change, unless the store refused it
-abbrev pub Stores : {A : Type 0} → Database → Database → ChangeValue → Result A Refusal → Type 0
-Stores old new change (Ok done) = SavesState old new change.key (spell_state change.state)
-Stores old new change (Err refusal) = refusal ≢ Store → SavesState old new change.key (spell_state change.state)
+abbrev pub StoresChange : {A : Type 0} → Database → Database → ChangeValue → Result A Refusal → Type 0
+StoresChange old new change (Ok done) = SavesState old new change.key (spell_state change.state)
+StoresChange old new change (Err refusal) = refusal ≢ Store → SavesState old new change.key (spell_state change.state)

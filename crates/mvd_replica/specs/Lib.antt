@@ -15,6 +15,7 @@ pub mod Steps
 pub mod Sides
 pub mod SideCalls
 pub mod Batch
+pub mod Adding
 pub mod Groups
 pub mod Shared
 pub mod Asks

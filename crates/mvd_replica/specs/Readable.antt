@@ -5,23 +5,23 @@ use Rattle.mvd_dots.specs.declared.refusals.Refusal.TheVariants.{Damaged}
 use Rattle.mvd_keys.specs.State.{State}
 use Rattle.mvd_keys.specs.Writes.{Key}
 use Rattle.mvd_wire.specs.Codec.{Spells}
-use Rattle.mvd_wire.specs.Codecs.{Layout, layout1, layout2, spell_state, state}
-use Rattle.mvd_records.specs.States.{States as Stored}
-use Rattle.mvd_records.specs.Records.{AreApart, AreKeys, HasNone, HoldsRecords, IsWhole, TellsVersion, marks_of, new_states, old_states}
+use Rattle.mvd_wire.specs.Codecs.{Layout, layout1, layout2, spell_state, state_codec}
+use Rattle.mvd_records.specs.States.{StoredStates as Stored}
+use Rattle.mvd_records.specs.Records.{ShareNoKey, AreKeys, HasNone, HoldsRecords, IsWhole, TellsVersion, marks_of, new_states, old_states}
 use Rattle.mvd_site.specs.Held.{IsHeldState, States}
 use Rattle.sqlite.specs.Effect.{Database}
 
 -- the bytes spell a state that a site may hold
-abbrev pub IsStored : List ℕ → Type 0
-IsStored bytes = (s : State) × Spells (state layout2) s bytes × IsHeldState s
+abbrev pub SpellsHeldState : List ℕ → Type 0
+SpellsHeldState bytes = (s : State) × Spells (state_codec layout2) s bytes × IsHeldState s
 
 -- the bytes spell such a state in version 1
 abbrev pub IsOldStored : List ℕ → Type 0
-IsOldStored bytes = (s : State) × Spells (state layout1) s bytes × IsHeldState s
+IsOldStored bytes = (s : State) × Spells (state_codec layout1) s bytes × IsHeldState s
 
 -- what is stored at each key, of version 2 and of version 1
 abbrev pub AreStored : Stored → Type 0
-AreStored stored = (key : Key) (bytes : List ℕ) → get stored key ≡ Some bytes → IsStored bytes
+AreStored stored = (key : Key) (bytes : List ℕ) → get stored key ≡ Some bytes → SpellsHeldState bytes
 
 abbrev pub AreOldStored : Stored → Type 0
 AreOldStored stored = (key : Key) (bytes : List ℕ) → get stored key ≡ Some bytes → IsOldStored bytes
@@ -31,7 +31,7 @@ AreOldStored stored = (key : Key) (bytes : List ℕ) → get stored key ≡ Some
 pub record AreInOrder (version : ℕ) (old new : Stored) : Type 0 where
   pub old_keys : AreKeys old
   pub new_keys : AreKeys new
-  pub tables : AreApart version old new
+  pub tables : ShareNoKey version old new
   pub old_stored : AreOldStored old
   pub new_stored : AreStored new
 
@@ -62,7 +62,7 @@ pub record Migrates (version : ℕ) (old new : Database) : Type 0 where
   pub stored : AreOldStored (old_states old)
   pub kept : (key : Key) (bytes : List ℕ) → get (new_states old) key ≡ Some bytes → get (new_states new) key ≡ Some bytes
   pub from : (key : Key) (bytes : List ℕ) → get (new_states new) key ≡ Some bytes →
-      (get (new_states old) key ≡ Some bytes) ⊎ (IsStored bytes × ((was : List ℕ) × (get (old_states old) key ≡ Some was)))
+      (get (new_states old) key ≡ Some bytes) ⊎ (SpellsHeldState bytes × ((was : List ℕ) × (get (old_states old) key ≡ Some was)))
   pub none : HasNone (old_states new)
 
 -- keys with states, as they are spelled
@@ -71,11 +71,11 @@ spelled_entries = map (λ e. (e.0, spell_state e.1))
 
 -- the bytes of version 1 and those of version 2 spell one state, which a site may hold
 abbrev pub Respells : List ℕ → List ℕ → Type 0
-Respells old new = (s : State) × Spells (state layout1) s old × Spells (state layout2) s new × IsHeldState s
+Respells old new = (s : State) × Spells (state_codec layout1) s old × Spells (state_codec layout2) s new × IsHeldState s
 
 -- the key has this state among stored ones of a version
 abbrev pub SpelledIn : Layout → Stored → Key → State → Type 0
-SpelledIn layout stored key s = (bytes : List ℕ) × (get stored key ≡ Some bytes) × Spells (state layout) s bytes
+SpelledIn layout stored key s = (bytes : List ℕ) × (get stored key ≡ Some bytes) × Spells (state_codec layout) s bytes
 
 -- the key has this state in the records, as version 2 spells it or as version 1 does
 abbrev pub HasState : Database → Key → State → Type 0
@@ -87,7 +87,7 @@ pub record SameStates (a b : Database) : Type 0 where
   pub kept : (key : Key) (s : State) → HasState a key s → HasState b key s
   pub only : (key : Key) (s : State) → HasState b key s → HasState a key s
   pub new_kept : (key : Key) (bytes : List ℕ) → get (new_states a) key ≡ Some bytes → get (new_states b) key ≡ Some bytes
-  pub new_only : (key : Key) (bytes : List ℕ) → get (new_states b) key ≡ Some bytes → (get (new_states a) key ≡ Some bytes) ⊎ IsStored bytes
+  pub new_only : (key : Key) (bytes : List ℕ) → get (new_states b) key ≡ Some bytes → (get (new_states a) key ≡ Some bytes) ⊎ SpellsHeldState bytes
   pub old_kept : (key : Key) (bytes : List ℕ) → get (old_states a) key ≡ Some bytes → (get (old_states b) key ≡ Some bytes) ⊎ IsOldStored bytes
   pub old_only : (key : Key) (bytes : List ℕ) → get (old_states b) key ≡ Some bytes → get (old_states a) key ≡ Some bytes
 

@@ -9,7 +9,7 @@ use Rattle.mvd_dots.specs.declared.refusals.Refusal.TheVariants.{Broken, Damaged
 use Rattle.mvd_keys.specs.State.{IsValid, State, clashes, join}
 use Rattle.mvd_keys.specs.Writes.{Key, Stands, Write}
 use Rattle.mvd_tree.specs.HashTree.{node_digest}
-use Rattle.mvd_tree.specs.Page.{is_more_after_page, page_of}
+use Rattle.mvd_tree.specs.Page.{is_more_after_page, bucket_page}
 use Rattle.mvd_wire.specs.declared.reply.Digests.{Digests}
 use Rattle.mvd_wire.specs.declared.reply.Reply.{Reply}
 use Rattle.mvd_wire.specs.declared.request.Request.{Request}
@@ -27,7 +27,7 @@ use Rattle.sqlite.specs.Held.{Held, state}
 use Rattle.sqlite.specs.State.{Survives}
 use Rattle.sqlite_trees.specs.declared.store.Store.{Ghosts}
 use Rattle.mvd_replica.specs.declared.replica.Replica.{Replica}
-use Rattle.mvd_replica.specs.Commits.{AnswersEach, ChangesNothing}
+use Rattle.mvd_replica.specs.Commits.{AnswersInCommits, ChangesNothing}
 use Rattle.mvd_replica.specs.Batch.{CountsAlong, changes_asked}
 use Rattle.mvd_replica.specs.Holds.{HoldsSite, HoldsStates}
 use Rattle.mvd_replica.specs.Opened.{IsOpened, IsRefused}
@@ -51,13 +51,13 @@ abbrev pub TellsRoot : SiteValue → Result (List ℕ) Refusal → Type 0
 TellsRoot site result = IsAnswer result (root_told site) × (site.broken ≡ true → result ≡ Err Broken)
 
 -- a page of a bucket's keys with their digests, after a key if one is given
-pub record TellsPage (site : SiteValue) (node : List ℕ) (after : Option Key) (result : Result (Vec (Key × List ℕ) Global × Bool) Refusal) : Type 0 where
+pub record TellsBucketPage (site : SiteValue) (node : List ℕ) (after : Option Key) (result : Result (Vec (Key × List ℕ) Global × Bool) Refusal) : Type 0 where
   -- a broken site gives none
   pub whole : IfOk result (λ _. site.broken ≡ false)
   -- it is of a bucket
   pub path : IfOk result (λ _. length node ≡ 3)
   -- the keys with their digests
-  pub keys : IfOk result (λ page. page.0.items ≡ page_of (digests site.states) node after)
+  pub keys : IfOk result (λ page. page.0.items ≡ bucket_page (digests site.states) node after)
   -- whether more follow
   pub more : IfOk result (λ page. page.1 ≡ is_more_after_page (digests site.states) node after)
   -- 22 of a broken site, 14 where the path is of no bucket, 20 otherwise
@@ -178,6 +178,6 @@ module _ {S : Type 0} {g : Ghosts S} where
   pub record AnswersMany (old : Replica S g) (requests : List Request) (result : Result (Vec Reply Global) Refusal)
       (new : Replica S g) : Type 0 where
     -- each request has its reply, in commits one after the other
-    pub answers : IfOk result (λ replies. AnswersEach requests replies.items old new)
+    pub answers : IfOk result (λ replies. AnswersInCommits requests replies.items old new)
     -- the call itself is refused for want of memory alone, and then nothing was done
     pub memory : IfErr result (λ refusal. (refusal ≡ Memory) × (new ≡ old))

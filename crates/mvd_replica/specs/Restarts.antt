@@ -15,7 +15,7 @@ use Rattle.mvd_replica.specs.Holds.{HoldsStates}
 use Rattle.mvd_replica.specs.Replicas.{StoredSite, stored_by}
 use Rattle.mvd_replica.specs.Served.{Served}
 use Rattle.mvd_replica.specs.declared.serving.Ended.{Ended}
-use Rattle.mvd_replica.specs.Turns.{AllTold, AreUndoneIn, Event, LeavesTurns, Replies, StandsOn, TellsTurns, Turn, known_after}
+use Rattle.mvd_replica.specs.Turns.{AllTold, AreUndoneIn, TurnEvent, LeavesTurns, Replies, StandsOn, TellsTurns, Turn, known_after_turns}
 use Rattle.mvd_replica.specs.Whole.{IsAtRest}
 use Rattle.sqlite.specs.Held.{Held, state}
 use Rattle.sqlite.specs.Files.{HoldsDatabase}
@@ -71,20 +71,20 @@ AddAll config known (request ∷ requests) added =
 -- In each run every reply is one that may be given from the writes known then, those of all runs before among them; and the last
 -- file holds states that stand for all that is known. A run in which the site broke has stored what was lost: the change of the
 -- first request that was told 22, and those of some later ones. Their writes are known to the runs after it.
-abbrev pub AllAnswered : {C : Type 0} → (C → State) → ℕ → List Write → Image → List (Run C) → Type 0
-AllAnswered f site known image [] = (states : States) × HoldsFile image site states × Stands states known
-AllAnswered f site known image (run ∷ runs) = (events : List Event) → TellsTurns events run.turns →
+abbrev pub AllRunsAnswered : {C : Type 0} → (C → State) → ℕ → List Write → Image → List (Run C) → Type 0
+AllRunsAnswered f site known image [] = (states : States) × HoldsFile image site states × Stands states known
+AllRunsAnswered f site known image (run ∷ runs) = (events : List TurnEvent) → TellsTurns events run.turns →
     AllTold run.config known false events run.new.broken
-    × (run.new.broken ≡ false → AllAnswered f site (known ++ known_after events) run.left runs)
+    × (run.new.broken ≡ false → AllRunsAnswered f site (known ++ known_after_turns events) run.left runs)
     × (run.new.broken ≡ true → (it : HoldsLost run.turns run.new (f run.after).committed)
-    × ((added : List Write) → AddAll run.config (known ++ known_after events) (lost_requests it.lost) added
-    → AllAnswered f site ((known ++ known_after events) ++ added) run.left runs))
+    × ((added : List Write) → AddAll run.config (known ++ known_after_turns events) (lost_requests it.lost) added
+    → AllRunsAnswered f site ((known ++ known_after_turns events) ++ added) run.left runs))
 
 -- What runs of a site come to, from a file whose states stand for some writes
 abbrev pub AnswersAcrossRestarts : {C : Type 0} → (C → State) → Type 0
 AnswersAcrossRestarts {C} f =
     (site : ℕ) (image : Image) (states : States) (known : List Write) (runs : List (Run C)) →
-    HoldsFile image site states → Stands states known → AreRuns f site image runs → AllAnswered f site known image runs
+    HoldsFile image site states → Stands states known → AreRuns f site image runs → AllRunsAnswered f site known image runs
 
 -- the turns of a connection that was served are turns of a run
 abbrev pub ServesInRun : {S : Type 0} → Ghosts S → Type 0
@@ -98,9 +98,9 @@ ServesInRun {S} g =
 -- that was known, for what the turns added, and for what some requests add that were told 21 or 22, if for any
 abbrev pub LeavesWholeTurns : {S : Type 0} → Ghosts S → Type 0
 LeavesWholeTurns {S} g =
-    (turns : List Turn) (old new : SiteValue) (before after : Held S) (known : List Write) (events : List Event) (trees : Trees) →
+    (turns : List Turn) (old new : SiteValue) (before after : Held S) (known : List Write) (events : List TurnEvent) (trees : Trees) →
     LeavesTurns turns (stored_by g old before) (stored_by g new after) → StandsOn old new turns → Stands old.states known →
     TellsTurns events turns → IsAtRest (stored_by g old before) → HasCleanDisk (state g after) → (state g after).may_leave trees →
     (undone : List Request) × AreUndoneIn turns undone × ((image : Image) (added : List Write) → ∥ HoldsDatabase image trees ∥₁ →
-    AddAll new.config (known ++ known_after events) undone added →
-    (states : States) × HoldsFile image new.config.site states × Stands states ((known ++ known_after events) ++ added))
+    AddAll new.config (known ++ known_after_turns events) undone added →
+    (states : States) × HoldsFile image new.config.site states × Stands states ((known ++ known_after_turns events) ++ added))

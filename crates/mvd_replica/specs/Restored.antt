@@ -6,7 +6,7 @@ use Rattle.mvd_dots.specs.declared.refusals.Refusal.TheVariants.{Damaged, Full, 
 use Rattle.mvd_keys.specs.Writes.{Key, Stands, Write}
 use Rattle.mvd_records.specs.Records.{HasNone, HoldsRecords, IsSound, new_states, old_states}
 use Rattle.mvd_records.specs.Seen.{RecordsValue}
-use Rattle.mvd_records.specs.States.{States as Stored}
+use Rattle.mvd_records.specs.States.{StoredStates as Stored}
 use Rattle.mvd_site.specs.Config.{ConfigValue}
 use Rattle.mvd_site.specs.Sites.{SiteValue}
 use Rattle.sqlite.specs.Effect.{Database}
@@ -19,8 +19,8 @@ use Rattle.mvd_replica.specs.Readable.{AreInOrder, AreStored, HoldsTooMany, Migr
 -- ---- refusals
 
 -- memory was refused, or what is stored is damaged
-abbrev pub IsUnread : Refusal → Type 0
-IsUnread e = (e ≡ Damaged) ⊎ (e ≡ Memory)
+abbrev pub IsUnreadRecord : Refusal → Type 0
+IsUnreadRecord e = (e ≡ Damaged) ⊎ (e ≡ Memory)
 
 -- or the store refused
 abbrev pub IsUnmoved : Refusal → Type 0

@@ -14,7 +14,7 @@ use Rattle.mvd_replica.specs.declared.serving.Ended.{Ended}
 use Rattle.mvd_replica.specs.declared.serving.Ended.TheVariants as ended
 use Rattle.mvd_replica.specs.Replicas.{StoredSite, stored_of}
 use Rattle.mvd_replica.specs.Sides.{ReplicaFollows}
-use Rattle.mvd_replica.specs.Turns.{AreFrames, Event, GoesOn, IsFirstBroken, IsToldElse, LeavesTurns, Replies, StandsOn, TellsTurns, Turn}
+use Rattle.mvd_replica.specs.Turns.{AreFrames, TurnEvent, IsNoBye, IsFirstBroken, IsToldElse, LeavesTurns, Replies, StandsOn, TellsTurns, Turn}
 use Rattle.sqlite_trees.specs.declared.store.Store.{Ghosts}
 
 -- a site with its store, between a reader and a writer: what is left to read, and what was written, where that is known
@@ -43,19 +43,19 @@ result_of (AtRefusal refusal) = Err refusal
 result_of AtWriter = Err WriteFailed
 
 -- the frame that goes out at the end
-abbrev pub last_bytes : Bool → Ending → List ℕ
-last_bytes broken AtBye = reply_bytes (if broken then Refused Broken else Done)
-last_bytes broken AtEnd = []
-last_bytes broken (AtRefusal refusal) = reply_bytes (Refused refusal)
-last_bytes broken AtWriter = []
+abbrev pub ending_bytes : Bool → Ending → List ℕ
+ending_bytes broken AtBye = reply_bytes (if broken then Refused Broken else Done)
+ending_bytes broken AtEnd = []
+ending_bytes broken (AtRefusal refusal) = reply_bytes (Refused refusal)
+ending_bytes broken AtWriter = []
 
 -- why the reading of frames ended at this rest, and what is left unread of it
-abbrev pub Stops : List ℕ → Option (List ℕ) → Ending → Type 0
-Stops rest left AtBye = (frame : FrameValue) × (next : List ℕ) × (frame_at rest ≡ Ok (Some frame, next)) × (request_of frame.kind frame.payload ≡ Ok Bye) × (left ≡ Some next)
-Stops rest left AtEnd = (rest ≡ []) × (left ≡ Some [])
-Stops rest left (AtRefusal refusal) =
+abbrev pub StopsServing : List ℕ → Option (List ℕ) → Ending → Type 0
+StopsServing rest left AtBye = (frame : FrameValue) × (next : List ℕ) × (frame_at rest ≡ Ok (Some frame, next)) × (request_of frame.kind frame.payload ≡ Ok Bye) × (left ≡ Some next)
+StopsServing rest left AtEnd = (rest ≡ []) × (left ≡ Some [])
+StopsServing rest left (AtRefusal refusal) =
     (refusal ≡ Memory) ⊎ ((refusal ≡ ReadFailed) ⊎ (((refusal ≡ TooManyRequests) × (left ≡ Some rest)) ⊎ (frame_at rest ≡ Err refusal)))
-Stops rest left AtWriter = left ≡ Some rest
+StopsServing rest left AtWriter = left ≡ Some rest
 
 -- as many frames of a connection are answered
 abbrev pub frames_most : ℕ
@@ -81,14 +81,14 @@ replies_bytes turns = flat_map (λ turn. reply_bytes turn.reply) turns
 
 -- what is to go out: bytes that do so whole, and others behind them, of which a front may; and the result that is wanted,
 -- and the one where the writer failed
-pub record Sending (X : Type 0) : Type 0 where
+pub record Outgoing (X : Type 0) : Type 0 where
   pub whole : List ℕ
   pub rest : List ℕ
   pub wanted : X
   pub failed : X
 
 -- all of it went out, or the writer failed, behind a front of the rest
-abbrev pub GoesOut : {X : Type 0} → Option (List ℕ) → Sending X → X → Option (List ℕ) → Type 0
+abbrev pub GoesOut : {X : Type 0} → Option (List ℕ) → Outgoing X → X → Option (List ℕ) → Type 0
 GoesOut old sending result new =
     ((result ≡ sending.wanted) × Appends old new (sending.whole ++ sending.rest))
     ⊎ ((result ≡ sending.failed) × ((n : ℕ) × Appends old new (sending.whole ++ take n sending.rest)))
@@ -102,22 +102,22 @@ pub record WentOut (turns : List Turn) (ending : Ending) (old new : Conversation
   pub count : IsCutCount (length cut) ending
   pub wrote : GoesOut old.output (record {
     whole = replies_bytes whole;
-    rest = replies_bytes cut ++ last_bytes new.stored.site.broken ending;
+    rest = replies_bytes cut ++ ending_bytes new.stored.site.broken ending;
     wanted = result_of ending;
     failed = Err WriteFailed;
   }) result new.output
 
 -- What turns of a connection do to a stored site. The records follow the states; where the site broke, no request had
 -- been told 22 before, and they hold the change of the first that was
-pub record Takes (turns : List Turn) (old new : StoredSite) : Type 0 where
+pub record ServesTurns (turns : List Turn) (old new : StoredSite) : Type 0 where
   -- each reply is one that may be given from the writes known then
   pub replies : Replies old.site new.site turns
   -- the states stand for all that is known, also where the site broke
   pub stands : StandsOn old.site new.site turns
   -- there is a choice of what the turns added that fits
-  pub choice : (events : List Event) × TellsTurns events turns
+  pub choice : (events : List TurnEvent) × TellsTurns events turns
   -- none of them is a Bye
-  pub goes_on : AllByRecursion GoesOn turns
+  pub goes_on : AllByRecursion IsNoBye turns
   -- none is told 22, unless the site is broken
   pub told : new.site.broken ≡ false → AllByRecursion IsToldElse turns
   -- the records follow
@@ -131,12 +131,12 @@ pub record Served (old new : Conversation) (result : Result Ended Refusal) : Typ
   pub turns : List Turn
   pub ending : Ending
   -- each reply may be given from the writes known then, and the records follow
-  pub takes : Takes turns old.stored new.stored
+  pub takes : ServesTurns turns old.stored new.stored
   -- at most 1,000,000 turns
   pub count : IsCount (length turns) ending
   -- the bytes that came spell the turns' frames, and then a rest at which it ended so
   pub read : (bytes : List ℕ) → old.input ≡ Some bytes →
-      (rest : List ℕ) × AreFrames turns bytes rest × Stops rest new.input ending
+      (rest : List ℕ) × AreFrames turns bytes rest × StopsServing rest new.input ending
   -- all replies and the last frame were written, or the writer failed: then each reply but the one that was being
   -- written went out whole
   pub went_out : WentOut turns ending old new result
@@ -149,7 +149,7 @@ ServesOver left taken old new result =
 
 -- turns that were taken, after which the connection goes on
 pub record Went (turns : List Turn) (old new : Conversation) : Type 0 where
-  pub takes : Takes turns old.stored new.stored
+  pub takes : ServesTurns turns old.stored new.stored
   pub config : new.stored.site.config ≡ old.stored.site.config
   pub read : (bytes : List ℕ) → old.input ≡ Some bytes →
       (rest : List ℕ) × (new.input ≡ Some rest) × AreFrames turns bytes rest

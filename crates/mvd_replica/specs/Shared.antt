@@ -2,7 +2,7 @@
 use Rattle.std.specs.Prelude.{◌≡◌, ◌⊎◌, ℕ, List, [], Result, IsTrue, OnErr, OnOk}
 use Rattle.mvd_dots.specs.declared.refusals.Refusal.{Refusal}
 use Rattle.mvd_dots.specs.declared.refusals.Refusal.TheVariants.{Memory, Store}
-use Rattle.mvd_records.specs.Records.{HoldsRecords, IsSound, Leaves, SavesStates}
+use Rattle.mvd_records.specs.Records.{HoldsRecords, IsSound, LeavesTrees, SavesStates}
 use Rattle.mvd_records.specs.Seen.{RecordsValue}
 use Rattle.sqlite.specs.Held.{state}
 use Rattle.sqlite.specs.State.{HasCleanDisk, State, Survives}
@@ -17,7 +17,7 @@ WereClean g old new = HasCleanDisk (state g new.conn) → HasCleanDisk (state g 
 -- the store was open, and the trees are those of the records with these pairs, if the records were a site's
 abbrev pub LeavesPairs : State → List (List ℕ × List ℕ) → Trees → Type 0
 LeavesPairs s pairs trees =
-    IsTrue s.is_open × Leaves s (λ version site db. HoldsRecords version site db × SavesStates s.committed db pairs) trees
+    IsTrue s.is_open × LeavesTrees s (λ version site db. HoldsRecords version site db × SavesStates s.committed db pairs) trees
 
 -- a crash leaves what it left before, or these
 abbrev pub SurvivesPairs : {S : Type 0} → Ghosts S → RecordsValue S → List (List ℕ × List ℕ) → RecordsValue S → Type 0

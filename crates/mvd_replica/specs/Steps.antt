@@ -16,7 +16,7 @@ use Rattle.mvd_replica.specs.declared.serving.Ended.{Ended}
 use Rattle.mvd_replica.specs.Replicas.{site_of, stored_of}
 use Rattle.mvd_replica.specs.Sides.{ReplicaFollows}
 use Rattle.mvd_replica.specs.Turns.{AddsAt, AreFrames, IsToldElse, LeavesTurns, RepliesOne, Turn}
-use Rattle.mvd_replica.specs.Served.{AtBye, AtEnd, AtRefusal, AtWriter, Ending, GoesOut, Stops, Takes, Conversation, Went, last_bytes, replies_bytes, result_of}
+use Rattle.mvd_replica.specs.Served.{AtBye, AtEnd, AtRefusal, AtWriter, Ending, GoesOut, StopsServing, ServesTurns, Conversation, Went, ending_bytes, replies_bytes, result_of}
 use Rattle.sqlite_trees.specs.declared.store.Store.{Ghosts}
 
 -- the reply that goes out: want of memory may stand in place of one that needs memory
@@ -72,16 +72,16 @@ turns_at asked None = []
 turns_at asked (Some reply) = record { asked = asked; reply = reply } ∷ []
 
 -- the connection ends here
-pub record Ends (old new : Conversation) (result : Result Ended Refusal) : Type 0 where
+pub record EndsConversation (old new : Conversation) (result : Result Ended Refusal) : Type 0 where
   pub turns : List Turn
   pub ending : Ending
-  pub takes : Takes turns old.stored new.stored
+  pub takes : ServesTurns turns old.stored new.stored
   pub count : IsLastCount (length turns) ending
   pub read : (bytes : List ℕ) → old.input ≡ Some bytes →
-      (rest : List ℕ) × AreFrames turns bytes rest × Stops rest new.input ending
+      (rest : List ℕ) × AreFrames turns bytes rest × StopsServing rest new.input ending
   pub wrote : GoesOut old.output (record {
     whole = [];
-    rest = replies_bytes turns ++ last_bytes new.stored.site.broken ending;
+    rest = replies_bytes turns ++ ending_bytes new.stored.site.broken ending;
     wanted = result_of ending;
     failed = Err WriteFailed;
   }) result new.output
@@ -89,8 +89,8 @@ pub record Ends (old new : Conversation) (result : Result Ended Refusal) : Type 
 -- one turn was taken, or the connection ended
 abbrev pub TakesTurn : Conversation → Conversation → Result (Option Ended) Refusal → Type 0
 TakesTurn old new (Ok None) = (turn : Turn) × Went (turn ∷ []) old new
-TakesTurn old new (Ok (Some ended)) = Ends old new (Ok ended)
-TakesTurn old new (Err fault) = Ends old new (Err fault)
+TakesTurn old new (Ok (Some ended)) = EndsConversation old new (Ok ended)
+TakesTurn old new (Err fault) = EndsConversation old new (Err fault)
 
 module _ {S : Type 0} {g : Ghosts S} where
   -- a replica answers the frame, unless it is a Bye

@@ -11,7 +11,7 @@ use Rattle.mvd_wire.specs.declared.reply.Reply.TheVariants.{Refused}
 use Rattle.mvd_wire.specs.Frames.{FrameValue, frame_at}
 use Rattle.mvd_wire.specs.Requests.{request_of}
 use Rattle.mvd_site.specs.Config.{ConfigValue}
-use Rattle.mvd_site.specs.Known.{Adds, Changes, MayReply}
+use Rattle.mvd_site.specs.Known.{Adds, ChangesKey, MayReply}
 use Rattle.mvd_site.specs.Sites.{SiteStands, SiteValue}
 use Rattle.mvd_replica.specs.Replicas.{StoredSite}
 use Rattle.mvd_replica.specs.Whole.{LeavesWhole}
@@ -19,7 +19,7 @@ use Rattle.mvd_replica.specs.Whole.{LeavesWhole}
 -- the store refused a change, and the site is as it was
 pub record StoreRefused (config : ConfigValue) (known : List Write) (before : Bool) (request : Request) (reply : Reply) (after : Bool) : Type 0 where
   pub told : reply ≡ Refused Store
-  pub changes : Changes config known request
+  pub changes : ChangesKey config known request
   pub whole : before ≡ false
   pub still : after ≡ false
 
@@ -50,21 +50,21 @@ AddsAt (Ok request) reply added = Adds request reply added
 AddsAt (Err fault) reply added = added ≡ []
 
 -- a turn, and one choice of what it added
-pub record Event : Type 0 where
+pub record TurnEvent : Type 0 where
   pub turn : Turn
   pub added : List Write
 
 -- the events are these turns, in order, with a choice that fits
-pub record TellsTurns (events : List Event) (turns : List Turn) : Type 0 where
+pub record TellsTurns (events : List TurnEvent) (turns : List Turn) : Type 0 where
   pub told : map (λ event. event.turn) events ≡ turns
   pub fits : AllByRecursion (λ event. AddsAt event.turn.asked event.turn.reply event.added) events
 
 -- all that the events added
-abbrev pub known_after : List Event → List Write
-known_after events = flat_map (λ event. event.added) events
+abbrev pub known_after_turns : List TurnEvent → List Write
+known_after_turns events = flat_map (λ event. event.added) events
 
 -- each reply is one that may be given from the writes known before it; whether the site is broken goes from reply to reply
-abbrev pub AllTold : ConfigValue → List Write → Bool → List Event → Bool → Type 0
+abbrev pub AllTold : ConfigValue → List Write → Bool → List TurnEvent → Bool → Type 0
 AllTold config known broken [] after = broken ≡ after
 AllTold config known broken (event ∷ events) after =
     (between : Bool) × MayTell config known broken event.turn.asked event.turn.reply between × AllTold config (known ++ event.added) between events after
@@ -72,12 +72,12 @@ AllTold config known broken (event ∷ events) after =
 -- From any writes that the site stood for, and for every choice of what the turns added, each reply is one that may be given
 -- from the writes known before it, and the site stands for all of them afterwards, unless it is broken
 abbrev pub Replies : SiteValue → SiteValue → List Turn → Type 0
-Replies old new turns = (known : List Write) (events : List Event) → SiteStands old known → TellsTurns events turns →
-    AllTold old.config known old.broken events new.broken × SiteStands new (known ++ known_after events)
+Replies old new turns = (known : List Write) (events : List TurnEvent) → SiteStands old known → TellsTurns events turns →
+    AllTold old.config known old.broken events new.broken × SiteStands new (known ++ known_after_turns events)
 
 -- The states themselves, also those of a site that is broken, stand afterwards for what they stood for and what the turns added
 abbrev pub StandsOn : SiteValue → SiteValue → List Turn → Type 0
-StandsOn old new turns = (known : List Write) (events : List Event) → Stands old.states known → TellsTurns events turns → Stands new.states (known ++ known_after events)
+StandsOn old new turns = (known : List Write) (events : List TurnEvent) → Stands old.states known → TellsTurns events turns → Stands new.states (known ++ known_after_turns events)
 
 -- the same of one turn
 pub record RepliesOne (old new : SiteValue) (turn : Turn) : Type 0 where
@@ -132,5 +132,5 @@ abbrev pub LeavesTurns : List Turn → StoredSite → StoredSite → Type 0
 LeavesTurns turns old new = LeavesWhole (AreUndoneIn turns) old new
 
 -- the turn is no Bye
-abbrev pub GoesOn : Turn → Type 0
-GoesOn turn = turn.asked ≡ Ok Bye → ⊥
+abbrev pub IsNoBye : Turn → Type 0
+IsNoBye turn = turn.asked ≡ Ok Bye → ⊥

@@ -1,7 +1,7 @@
 //! Many requests at once, whose changes share commits.
 ghost use Rattle.std.specs.Prelude.{◌≡◌, ◌≤◌, ◌<◌, ◌+◌, IfErr, IfOk, List, OnErr, OnOk, false, length, vec_capacity};
 ghost use Rattle.mvd_wire.specs.declared.request.Request.{Request};
-ghost use Rattle.mvd_replica.specs.Commits.{Answers, Shares, SharesFront};
+ghost use Rattle.mvd_replica.specs.Commits.{AnswersOneRequest, Shares, SharesFront};
 ghost use Rattle.mvd_replica.specs.Groups.{IsAlone, StandTogether};
 ghost use Rattle.mvd_replica.specs.ReplicaCalls.{AnswersMany};
 ghost use Rattle.mvd_replica.specs.Replicas.{site_of};
@@ -15,11 +15,11 @@ use sqlite::Alter;
 
 impl<S: Alter> Replica<S> {
     /// The replies of `answer` to one request after the other. Up to 1,024 requests share a commit, as long as none
-    /// of them could see what one before it changes, a site with those changes has room for one more key, and memory
-    /// is not refused for it. No reply tells of a change that is not committed. Where a commit is refused, each
-    /// change in it is told so, and nothing of it was done. Where putting a change in breaks the site, that request
-    /// and all after it are told so; the records hold its change, and those of some later ones. Where memory is
-    /// refused for the list of replies, nothing was done.
+    /// of them could see what one before it changes, there is room left for a key that it may add, and memory is not
+    /// refused for it. No reply tells of a change that is not committed. Where a commit is refused, each change in it
+    /// is told so, and nothing of it was done. Where putting a change in breaks the site, that request and all after
+    /// it are told so; the records hold its change, and those of some later ones. Where memory is refused for the list
+    /// of replies, nothing was done.
     pub fn answer_all(&mut self, requests: &[Request]) -> Result<Vec<Reply>, Refusal>
         ensures { AnswersMany self.old requests.now result self.new }
     {
@@ -69,7 +69,7 @@ impl<S: Alter> Replica<S> {
         requires whole { (site_of self.old).broken ≡ false }
         requires alone { (request : Request) × IsAlone (site_of self.old) request change }
         ensures ok { IfOk result (λ reply. (request : Request) → IsAlone (site_of self.old) request change →
-            Answers self.old request reply self.new) }
+            AnswersOneRequest self.old request reply self.new) }
         ensures err { IfErr result (λ refusal. (refusal ≡ Refusal.Memory) × (self.new ≡ self.old)) }
     {
         let mut group = Vec::with_capacity(self.alloc, 1)?;

@@ -6,9 +6,9 @@ ghost use Rattle.mvd_site.specs.Answer.{is_question, places_reply, rows_reply};
 ghost use Rattle.mvd_site.specs.FromStates.{push_reply};
 ghost use Rattle.mvd_site.specs.Prepared.{IsFrugal};
 ghost use Rattle.mvd_wire.specs.declared.reply.Reply.TheVariants.{Refused};
-ghost use Rattle.mvd_replica.specs.Asks.{AreCounts, ArePlaces, AreRows, IsDone, IsReplyTo, IsRow, IsWritten};
+ghost use Rattle.mvd_replica.specs.Asks.{AreCounts, ArePlaces, AreRows, IsDoneReply, IsReplyTo, IsRow, IsWritten};
 ghost use Rattle.mvd_replica.specs.Asks.{TellsAnswer, counts_told, put_reply, question_told, row_told};
-ghost use Rattle.mvd_replica.specs.Commits.{Answers};
+ghost use Rattle.mvd_replica.specs.Commits.{AnswersOneRequest};
 ghost use Rattle.mvd_replica.specs.ReplicaCalls.{ReplicaAnswers, TellsRoot};
 ghost use Rattle.mvd_replica.specs.Replicas.{site_of};
 
@@ -39,7 +39,7 @@ impl<S: Alter> Replica<S> {
     /// Writes a document in place of the documents that were seen, and gives its dot. After Ok it is stored, where
     /// the store is sound.
     pub fn put(&mut self, key: Key, seen: Context, document: Document) -> Result<Dot, Refusal>
-        ensures { Answers self.old (Put key seen document) (put_reply result) self.new }
+        ensures { AnswersOneRequest self.old (Put key seen document) (put_reply result) self.new }
     {
         let request = Request::Put(key, seen, document);
         let reply = self.write(&request);
@@ -49,7 +49,7 @@ impl<S: Alter> Replica<S> {
 
     /// Removes the documents that were seen. After Ok that is stored, where the store is sound.
     pub fn delete(&mut self, key: Key, seen: Context) -> Result<(), Refusal>
-        ensures { Answers self.old (Delete key seen) (push_reply result) self.new }
+        ensures { AnswersOneRequest self.old (Delete key seen) (push_reply result) self.new }
     {
         let request = Request::Delete(key, seen);
         let reply = self.write(&request);
@@ -150,7 +150,7 @@ impl<S: Alter> Replica<S> {
 
     /// Has a request answered.
     fn write(&mut self, request: &Request) -> Reply
-        ensures answers { Answers self.old request.now result self.new }
+        ensures answers { AnswersOneRequest self.old request.now result self.new }
         ensures kind { IsReplyTo request.now result }
     {
         self.answer(request)
@@ -188,7 +188,7 @@ fn dot_in(reply: Reply) -> Result<Dot, Refusal>
 
 /// That a delete was taken.
 fn done_in(reply: Reply) -> Result<(), Refusal>
-    requires { IsDone reply }
+    requires { IsDoneReply reply }
     ensures { push_reply result ≡ reply }
 {
     match reply {

@@ -1,6 +1,6 @@
 //! A site in a file: opened from what the file and its log hold, and closed into them.
 ghost use Rattle.std.specs.Prelude.{◌≡◌, IsErrAnd, codes};
-ghost use Rattle.mvd_replica.specs.FileCalls.{Closes, IsNoFile, OpensAsSite};
+ghost use Rattle.mvd_replica.specs.FileCalls.{ClosesReplica, IsNoFile, OpensAsSite};
 ghost use Rattle.sqlite.specs.WalFiles.{image_at};
 
 use crate::replica::Replica;
@@ -49,7 +49,7 @@ impl<D: Disk + Drop> Replica<FileStore<D>> {
     /// now and after a crash. An error gives the store back: a crash leaves of it nothing that it could not leave
     /// before the call.
     pub fn close(self) -> Result<Files<D>, (Error, FileStore<D>)>
-        ensures { Closes self result }
+        ensures { ClosesReplica self result }
     {
         let conn = self.into_connection();
         // Here it is known that the database obeys its schema.

@@ -1,12 +1,14 @@
 //! What requests come to that share a commit: prepared side by side, and stored at once.
-ghost use Rattle.std.specs.Prelude.{◌≡◌, ◌≤◌, ◌<◌, ◌+◌, ◌++◌, [], IfErr, IfOk, drop, false, length, map, take, true, vec_capacity};
+ghost use Rattle.std.specs.Prelude.{◌≡◌, ◌≤◌, ◌<◌, ◌+◌, ◌++◌, [], IfErr, IfOk, drop, false, length, map, take, true};
+ghost use Rattle.std.specs.Prelude.{vec_capacity};
 ghost use Rattle.std.specs.List.{AllByRecursion};
-ghost use Rattle.mvd_records.specs.Pairs.{entries_of};
+ghost use Rattle.mvd_records.specs.Pairs.{pair_entries};
 ghost use Rattle.mvd_dots.specs.declared.refusals.Refusal.TheVariants.{Broken};
 ghost use Rattle.mvd_kept.specs.declared.prepared.Prepared.TheVariants.{Answer};
 ghost use Rattle.mvd_wire.specs.Codecs.{spell_state};
 ghost use Rattle.mvd_wire.specs.declared.reply.Reply.TheVariants.{Refused};
 ghost use Rattle.mvd_site.specs.Installs.{changes_in, is_change};
+ghost use Rattle.mvd_replica.specs.Adding.{CountsKeys};
 ghost use Rattle.mvd_replica.specs.Groups.{ComesTo, FirstWaits, IsApart, IsElsewhere, IsSendable, MayJoin, MustWait};
 ghost use Rattle.mvd_replica.specs.Groups.{SeesAny, StandTogether, pairs_in, reply_unstored};
 ghost use Rattle.mvd_replica.specs.Replicas.{next_count};
@@ -14,6 +16,7 @@ ghost use Rattle.mvd_replica.specs.Restored.{WereSound};
 ghost use Rattle.mvd_replica.specs.Shared.{IsUnstored, StoresNone, StoresOpen, StoresPairs, SurvivesPairs};
 ghost use Rattle.mvd_replica.specs.Shared.{WereClean};
 
+use crate::adding::{SHARING_MAX, keys_added, lacks_room};
 use mvd_dots::Refusal;
 use mvd_keys::Key;
 use mvd_records::Records;
@@ -21,9 +24,6 @@ use mvd_site::{Change, Prepared, Site};
 use mvd_wire::{Reply, Request};
 use sqlite::Alter;
 use std::alloc::Global;
-
-/// As many requests share a commit, so that no request is held against many others.
-const SHARING_MAX: usize = 1_024;
 
 /// Whether the answer to a request can depend on the state of this key.
 fn sees(request: &Request, key: &Key) -> bool
@@ -64,27 +64,33 @@ fn sees_any(request: &Request, group: &[Prepared]) -> bool
     false
 }
 
-/// Whether a request has to wait until these, with so many changes, are put in: it could see one, or
-/// there may be no room then, or they are as many as share a commit.
-fn must_wait(site: &Site, group: &[Prepared], changes: u32, request: &Request) -> bool
+/// Whether a request has to wait until these, with so many changes and keys that they add, are put in: it could see one,
+/// or there may be less room for it then, or they are as many as share a commit.
+fn must_wait(
+    site: &Site,
+    group: &[Prepared],
+    changes: u32,
+    added: u32,
+    request: &Request,
+) -> Result<bool, Refusal>
     requires count { changes ≡ changes_in group.now }
-    requires few { changes ≤ 1000000 }
-    ensures joins { result ≡ false → MayJoin site.now request.now group.now }
-    ensures few { result ≡ false → changes < 1000000 }
-    ensures short { result ≡ false → length group.now < 1024 }
-    ensures waits { result ≡ true → MustWait site.now request.now group.now }
+    requires keys { CountsKeys site.now group.now added }
+    ensures joins { IfOk result (λ waits. waits ≡ false → MayJoin site.now request.now group.now) }
+    ensures short { IfOk result (λ waits. waits ≡ false → length group.now < 1024) }
+    ensures waits { IfOk result (λ waits. waits ≡ true → MustWait site.now request.now group.now) }
+    ensures memory { IfErr result (λ refusal. refusal ≡ Refusal.Memory) }
 {
     if group.len() >= SHARING_MAX {
-        return true;
+        return Ok(true);
     }
     if changes == 0 {
-        return false;
+        return Ok(false);
     }
-    let most = site.config().max_keys();
-    if site.key_count() + changes >= most {
-        return true;
+    let lacks = lacks_room(site, added, request)?;
+    if lacks {
+        return Ok(true);
     }
-    sees_any(request, group)
+    Ok(sees_any(request, group))
 }
 
 /// The number of changes that this is.
@@ -132,11 +138,15 @@ pub fn prepare_all(
 {
     let mut group = Vec::with_capacity(alloc, requests.len().min(SHARING_MAX))?;
     let mut changes: u32 = 0;
+    let mut added: u32 = 0;
     for request in requests {
-        if must_wait(site, &group, changes, request) {
+        let waits = must_wait(site, &group, changes, added, request)?;
+        if waits {
             return Ok(group);
         }
         let prepared = prepare_one(site, request);
+        let adds = keys_added(site, &prepared)?;
+        added += adds;
         changes += changes_of(&prepared);
         group.push_reserved(prepared);
     }
@@ -157,7 +167,7 @@ fn pair_of(alloc: Global, change: &Change) -> Result<(Key, Vec<u8>), Refusal>
 
 /// What is to be stored of these.
 fn pairs_of(alloc: Global, group: &[Prepared]) -> Result<Vec<(Key, Vec<u8>)>, Refusal>
-    ensures pairs { IfOk result (λ pairs. entries_of pairs.items ≡ pairs_in group.now) }
+    ensures pairs { IfOk result (λ pairs. pair_entries pairs.items ≡ pairs_in group.now) }
     ensures memory { IfErr result (λ refusal. refusal ≡ Refusal.Memory) }
 {
     let mut pairs = Vec::new(alloc);

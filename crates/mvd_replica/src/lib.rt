@@ -1,6 +1,7 @@
 //! A site with its records, and the answering of one connection.
 #![tactic(auto)]
 
+mod adding;
 mod batch;
 pub mod calls;
 pub mod file;
@@ -13,6 +14,7 @@ pub mod serving;
 mod side;
 mod turns;
 
+pub use adding::key_asked;
 pub use calls::ViewRows;
 pub use file::{FileFault, open_file};
 pub use replica::Replica;

@@ -34,9 +34,9 @@ pub struct Replica<S: Alter> {
 }
 
 impl<S: Alter> Replica<S> {
-    ghost use Rattle.mvd_replica.specs.Commits.{Answers};
+    ghost use Rattle.mvd_replica.specs.Commits.{AnswersOneRequest};
     ghost use Rattle.mvd_replica.specs.ReplicaCalls.{GivesConnection, OpensReplica, PushesState};
-    ghost use Rattle.mvd_replica.specs.ReplicaCalls.{TellsPage, TellsState, node_told};
+    ghost use Rattle.mvd_replica.specs.ReplicaCalls.{TellsBucketPage, TellsState, node_told};
     ghost use Rattle.mvd_replica.specs.Replicas.{commits_of, site_of, store_of};
 
     /// The replica of a site, with the states that its records hold. Records of version 1 are moved to
@@ -129,7 +129,7 @@ impl<S: Alter> Replica<S> {
     /// `Broken` leaves the site as it was, and the records too, unless the store failed: then the next
     /// open may find the change.
     pub fn answer(&mut self, request: &Request) -> Reply
-        ensures { Answers self.old request.now result self.new }
+        ensures { AnswersOneRequest self.old request.now result self.new }
     {
         match prepare_one(&self.site, request) {
             Prepared::Answer(reply) => reply,
@@ -156,7 +156,7 @@ impl<S: Alter> Replica<S> {
         path: &Path,
         after: Option<&Key>,
     ) -> Result<(Vec<(Key, [u8; 32])>, bool), Refusal>
-        ensures { TellsPage (site_of self.now) path.now (option_copied after.entry) result }
+        ensures { TellsBucketPage (site_of self.now) path.now (option_copied after.entry) result }
     {
         self.site.bucket(path, after)
     }

@@ -2,13 +2,13 @@
 ghost use Rattle.std.specs.Prelude.{◌≡◌, ◌≢◌, IfErr, IfOk, OnOk};
 ghost use Rattle.std.specs.List.{AllByRecursion};
 ghost use Rattle.mvd_wire.specs.Codecs.{spell_state};
-ghost use Rattle.mvd_records.specs.Pairs.{entries_of};
+ghost use Rattle.mvd_records.specs.Pairs.{pair_entries};
 ghost use Rattle.mvd_site.specs.Held.{IsHeldState};
-ghost use Rattle.mvd_replica.specs.Restored.{DamagedIn, HasWrites, IfDamaged, IsFresh, IsUnloaded, IsUnmoved, IsUnread};
+ghost use Rattle.mvd_replica.specs.Restored.{DamagedIn, HasWrites, IfDamaged, IsFresh, IsUnloaded, IsUnmoved, IsUnreadRecord};
 ghost use Rattle.mvd_replica.specs.Restored.{RestoresSite, WereSound};
 ghost use Rattle.mvd_replica.specs.Restored.{LeavesOpen, LoadsFull, LoadsOnly, LoadsOrder, LoadsStates};
 ghost use Rattle.mvd_replica.specs.Restored.{MovesAlike, MovesAll, MovesStates, MovesVersion};
-ghost use Rattle.mvd_replica.specs.Readable.{IsOldStored, IsStored, Respells, spelled_entries};
+ghost use Rattle.mvd_replica.specs.Readable.{IsOldStored, SpellsHeldState, Respells, spelled_entries};
 
 use mvd_dots::Refusal;
 use mvd_keys::{Key, KeyState};
@@ -20,7 +20,7 @@ use std::alloc::Global;
 
 /// Why a stored state is not read: memory was refused, or it is damaged.
 fn unread(refusal: Refusal) -> Refusal
-    ensures either { IsUnread result }
+    ensures either { IsUnreadRecord result }
     ensures damaged { result ≡ Refusal.Damaged → refusal ≢ Refusal.Memory }
 {
     match refusal {
@@ -33,9 +33,9 @@ fn unread(refusal: Refusal) -> Refusal
 fn state_of(alloc: Global, bytes: &[u8]) -> Result<KeyState, Refusal>
     ensures held { IfOk result IsHeldState }
     ensures spelled { IfOk result (λ s. spell_state s ≡ bytes.now) }
-    ensures stored { OnOk result (IsStored bytes.now) }
-    ensures damaged { IfDamaged result (¬ IsStored bytes.now) }
-    ensures refusal { IfErr result IsUnread }
+    ensures stored { OnOk result (SpellsHeldState bytes.now) }
+    ensures damaged { IfDamaged result (¬ SpellsHeldState bytes.now) }
+    ensures refusal { IfErr result IsUnreadRecord }
 {
     match decode_state(alloc, bytes) {
         Ok(state) => {
@@ -50,11 +50,11 @@ fn state_of(alloc: Global, bytes: &[u8]) -> Result<KeyState, Refusal>
 
 /// The keys with the states that are stored, one row after the other.
 fn states_of(alloc: Global, pairs: Vec<(Key, Vec<u8>)>) -> Result<Vec<(Key, KeyState)>, Refusal>
-    ensures spelled { IfOk result (λ states. spelled_entries states.items ≡ entries_of pairs.items) }
+    ensures spelled { IfOk result (λ states. spelled_entries states.items ≡ pair_entries pairs.items) }
     ensures held { IfOk result (λ states. AllByRecursion (λ entry. IsHeldState entry.1) states.items) }
-    ensures stored { OnOk result (AllByRecursion (λ entry. IsStored entry.1) (entries_of pairs.items)) }
-    ensures damaged { DamagedIn result (entries_of pairs.items) }
-    ensures refusal { IfErr result IsUnread }
+    ensures stored { OnOk result (AllByRecursion (λ entry. SpellsHeldState entry.1) (pair_entries pairs.items)) }
+    ensures damaged { DamagedIn result (pair_entries pairs.items) }
+    ensures refusal { IfErr result IsUnreadRecord }
 {
     let mut states = Vec::new(alloc);
     for (key, bytes) in pairs {
@@ -97,7 +97,7 @@ fn load<S: Alter>(alloc: Global, records: &mut Records<S>, config: Config) -> Re
 fn respelled(alloc: Global, bytes: &[u8]) -> Result<Vec<u8>, Refusal>
     ensures spelled { IfOk result (λ spelled. Respells bytes.now spelled.items) }
     ensures damaged { IfDamaged result (¬ IsOldStored bytes.now) }
-    ensures refusal { IfErr result IsUnread }
+    ensures refusal { IfErr result IsUnreadRecord }
 {
     let state = match decode_old_state(alloc, bytes) {
         Ok(state) => state,

@@ -2,7 +2,7 @@
 ghost use Rattle.std.specs.Prelude.{◌≡◌, false, Some, IfErr, IfOk, OnErr};
 ghost use Rattle.std.specs.Option.{option_copied};
 ghost use Rattle.std.proofs.Common.{ap};
-ghost use Rattle.mvd_replica.specs.ReplicaCalls.{TellsPage, TellsState, node_told};
+ghost use Rattle.mvd_replica.specs.ReplicaCalls.{TellsBucketPage, TellsState, node_told};
 ghost use Rattle.mvd_replica.specs.SideCalls.{EndsWindow, IsToldAlike, IsTrueUnlessBroken, IsWindowRefusal, PushesOnSide};
 ghost use Rattle.mvd_replica.specs.SideCalls.{PushesSome, PushesWindow, TellsWindow};
 ghost use Rattle.mvd_peer.specs.Windows.{IsLeftOpen};
@@ -63,7 +63,7 @@ impl<S: Alter> Peer for Replica<S> {
     }
 
     fn bucket(&mut self, path: &Path, after: Option<&Key>) -> Result<Page, Refusal>
-        ensures told { TellsPage (site_of self.old) path.now (option_copied after.entry) result }
+        ensures told { TellsBucketPage (site_of self.old) path.now (option_copied after.entry) result }
         ensures same { self.new ≡ self.old }
     {
         Replica::bucket(self, path, after)

@@ -1,7 +1,9 @@
 use Rattle.std.proofs.Common.{◌∙◌, ◌+◌, ◌++◌, ◌∷◌, [], ap, ap₂, sym, subst, subst₂, take, arith, length, length-append}
 use Rattle.std.proofs.lemmas.List.{take_more}
 use Rattle.mvd_site.specs.Installs.{changes_in}
+use Rattle.mvd_replica.specs.Adding.{CountsKeys}
 use Rattle.mvd_replica.specs.Groups.{MayJoin, MustWait, StandTogether}
+use Rattle.mvd_replica.proofs.AddedKeys.{counts_more, counts_none}
 use Rattle.mvd_replica.proofs.Grouped.{together_joined}
 use Rattle.mvd_replica.proofs.Grouping.{changes_more, next_waits, together_none}
 use Rattle.mvd_replica.proofs.groups.prepare_all.Goals as goal
@@ -12,11 +14,30 @@ loop-request-init c = record {
   changes = sym (ap changes_in c.in_ok-group.ensures.items);
   room = omega (arith, c.in_ok-group.ensures.capacity, c.min.ensures);
   few = omega arith;
+  keys = subst (λ l. CountsKeys c.args.site.now l 0) (sym c.in_ok-group.ensures.items) (counts_none c.args.site.now);
   together = λ whole. subst (StandTogether c.args.site.now []) (sym c.in_ok-group.ensures.items) (together_none c.args.site.now);
 }
 
+pub must_wait-requires-clause-keys : goal.must_wait-requires-clause-keys
+must_wait-requires-clause-keys c = subst (λ l. CountsKeys c.args.site.now l c.loop-request.added) (sym c.deref.ensures.value) c.loop-request.invariant.keys
+
+pub overflow_add-added : goal.overflow_add-added
+overflow_add-added c =
+    let short = c.in_ok-waits.ensures.short c.if-waits.false in
+    let same = ap length c.deref.ensures.value in
+    omega (arith, short, same, c.loop-request.invariant.keys.few, c.in_ok-adds.ensures.counts.few)
+
 pub overflow_add-changes : goal.overflow_add-changes
-overflow_add-changes c = omega (arith, c.must_wait.ensures.few c.if-must_wait.false, c.changes_of-changes.ensures.few)
+overflow_add-changes c =
+    let short = c.in_ok-waits.ensures.short c.if-waits.false in
+    let same = ap length c.deref.ensures.value in
+    omega (arith, short, same, c.loop-request.invariant.few, c.changes_of-changes.ensures.few)
+
+pub push_reserved-requires : goal.push_reserved-requires
+push_reserved-requires c =
+    let short = c.in_ok-waits.ensures.short c.if-waits.false in
+    let same = ap length c.deref.ensures.value in
+    omega (arith, short, same, c.loop-request.invariant.room, c.loop-request.invariant.count, c.loop-request-test.true)
 
 pub loop-request-preserved : goal.loop-request-preserved
 loop-request-preserved c =
@@ -24,20 +45,24 @@ loop-request-preserved c =
     let requests = c.args.requests.now in
     let i = c.loop-request.request-index in
     let group = c.loop-request.group.items in
+    let request = c.request-item.result in
+    let prepared = c.prepare_one-prepared.result in
+    let joins = subst (MayJoin site request) c.deref.ensures.value (c.in_ok-waits.ensures.joins c.if-waits.false) in
     record {
       count = grind (arith, length-append, c.push_reserved.ensures.items, c.loop-request.invariant.count);
-      changes = ap₂ (λ a b. a + b) c.loop-request.invariant.changes c.changes_of-changes.ensures.count
-          ∙ sym (ap changes_in c.push_reserved.ensures.items ∙ changes_more group c.prepare_one-prepared.result);
+      changes = ap₂ (λ a b. a + b) c.loop-request.invariant.changes c.changes_of-changes.ensures.count ∙ sym (ap changes_in c.push_reserved.ensures.items ∙ changes_more group prepared);
       room = omega (arith, c.push_reserved.ensures.capacity, c.loop-request.invariant.room);
-      few = omega (arith, c.must_wait.ensures.few c.if-must_wait.false, c.changes_of-changes.ensures.few);
+      few = grind (arith, length-append, c.push_reserved.ensures.items, c.loop-request.invariant.few, c.changes_of-changes.ensures.few);
+      keys = subst (λ l. CountsKeys site l (c.loop-request.added + c.in_ok-adds.adds)) (sym c.push_reserved.ensures.items)
+          (counts_more site group request prepared c.loop-request.added c.in_ok-adds.adds c.loop-request.invariant.keys joins.apart c.prepare_one-prepared.ensures.broken c.prepare_one-prepared.ensures.comes
+          c.in_ok-adds.ensures.counts);
       together = λ whole.
-          subst₂ (StandTogether site) (sym (take_more requests i c.request-item.result c.loop-request-test.true ∙ ap (λ r. take i requests ++ r ∷ []) (sym c.request-item.is))) (sym c.push_reserved.ensures.items)
-          (together_joined site (take i requests) group c.request-item.result c.prepare_one-prepared.result (c.loop-request.invariant.together whole) (c.prepare_one-prepared.ensures.comes whole)
-          (subst (MayJoin site c.request-item.result) c.deref.ensures.value (c.must_wait.ensures.joins c.if-must_wait.false)));
+          subst₂ (StandTogether site) (sym (take_more requests i request c.loop-request-test.true ∙ ap (λ r. take i requests ++ r ∷ []) (sym c.request-item.is))) (sym c.push_reserved.ensures.items)
+          (together_joined site (take i requests) group request prepared (c.loop-request.invariant.together whole) (c.prepare_one-prepared.ensures.comes whole) joins);
     }
 
-pub returns-then-must_wait-clause-ends : goal.returns-then-must_wait-clause-ends
-returns-then-must_wait-clause-ends c =
+pub returns-then-waits-clause-ends : goal.returns-then-waits-clause-ends
+returns-then-waits-clause-ends c =
     let site = c.args.site.now in
     next_waits site c.args.requests.now c.loop-request.group.items c.loop-request.request-index c.request-item.result c.loop-request.invariant.count c.loop-request-test.true c.request-item.is
-    (subst (MustWait site c.request-item.result) c.deref.ensures.value (c.must_wait.ensures.waits c.if-must_wait.true))
+    (subst (MustWait site c.request-item.result) c.deref.ensures.value (c.in_ok-waits.ensures.waits c.if-waits.true))

@@ -1,5 +1,6 @@
 use Rattle.std.proofs.Common.{◌≡◌, ◌≤◌, false, length, min, take, vec_capacity}
 use Rattle.mvd_site.specs.Installs.{changes_in}
+use Rattle.mvd_replica.specs.Adding.{CountsKeys}
 use Rattle.mvd_replica.specs.Groups.{StandTogether}
 use Rattle.mvd_replica.proofs.groups.prepare_all.Given as goal
 
@@ -9,6 +10,7 @@ invariant-loop-request l = record {
   count : length l.group.items ≡ l.request-index;
   changes : l.changes ≡ changes_in l.group.items;
   room : min (length l.requests) 1024 ≤ vec_capacity l.group;
-  few : l.changes ≤ 1000000;
+  few : l.changes ≤ length l.group.items;
+  keys : CountsKeys l.site l.group.items l.added;
   together : l.site.broken ≡ false → StandTogether l.site (take l.request-index l.requests) l.group.items;
 }

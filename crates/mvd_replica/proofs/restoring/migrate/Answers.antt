@@ -2,7 +2,7 @@ use Rattle.std.proofs.Common.{◌∙◌, Err, Ok, ap, length, rules, sym, subst}
 use Rattle.std.proofs.lemmas.Iterator.Adapters.{YieldsList-from_vec}
 use Rattle.std.proofs.lemmas.Iterator.Consumers.{YieldsList-end, YieldsList-so_far, YieldsList-turn}
 use Rattle.std.proofs.lemmas.List.{map-id}
-use Rattle.mvd_records.specs.Pairs.{entries_of}
+use Rattle.mvd_records.specs.Pairs.{pair_entries}
 use Rattle.mvd_replica.specs.Readable.{IsOldStored}
 use Rattle.mvd_replica.proofs.RestoredOrder.{migrated, moved_more, moved_none, not_stored, not_yet, order_ended, order_moved, order_same, order_then, still_there, whole_old}
 use Rattle.mvd_records.specs.Records.{HoldsRecords}
@@ -107,7 +107,7 @@ returns-in-Err-move_key-clause-order g c number sound holds damaged order =
     let version = c.args.records.now.version in
     let before = c.in-Err-move_key.ensures.commits.before sound in
     let same = loads_entries Version1 _ _ (Ok c.in-Ok.pairs) c.in-Ok.ensures version number (c.loop-key.invariant.since before) holds in
-    still_there _ _ (entries_of c.loop-key.yielded) c.in-Some.key c.in-Some.bytes.items (c.loop-key.invariant.moved number before holds)
+    still_there _ _ (pair_entries c.loop-key.yielded) c.in-Some.key c.in-Some.bytes.items (c.loop-key.invariant.moved number before holds)
     (found_at _ c.in-Ok.pairs.items (length c.loop-key.yielded) (c.in-Some.key, c.in-Some.bytes) same turn.0 turn.1)
     (not_yet _ c.in-Ok.pairs.items c.loop-key.yielded (c.in-Some.key, c.in-Some.bytes) same so_far turn.0 turn.1)
     (moves_damaged {A = Unit {0}} _ _ _ _ (Err c.in-Err-move_key.refusal) c.in-Err-move_key.ensures version number sound (c.loop-key.invariant.kept version number before holds) damaged)
@@ -120,8 +120,8 @@ returns-clause-order g c number sound holds =
     let before = c.finish.ensures.commits.before sound in
     let first = c.loop-key.invariant.since before in
     let now = c.loop-key.invariant.kept version number before holds in
-    migrated c.finish.result _ _ _ version number (entries_of c.loop-key.yielded) (c.loop-key.invariant.moved number before holds)
-    (ap entries_of (sym (map-id c.loop-key.yielded) ∙ end.0) ∙ loads_entries Version1 _ _ (Ok c.in-Ok.pairs) c.in-Ok.ensures version number first holds) (loads_whole Version1 _ _ (Ok c.in-Ok.pairs) c.in-Ok.ensures version number first holds)
+    migrated c.finish.result _ _ _ version number (pair_entries c.loop-key.yielded) (c.loop-key.invariant.moved number before holds)
+    (ap pair_entries (sym (map-id c.loop-key.yielded) ∙ end.0) ∙ loads_entries Version1 _ _ (Ok c.in-Ok.pairs) c.in-Ok.ensures version number first holds) (loads_whole Version1 _ _ (Ok c.in-Ok.pairs) c.in-Ok.ensures version number first holds)
     (finishes_finished _ _ c.finish.result c.finish.ensures version number sound now) (finishes_damaged _ _ c.finish.result c.finish.ensures version number sound now)
 
 pub returns-in-Err-clause-alike : goal.returns-in-Err-clause-alike

@@ -1,7 +1,7 @@
 use Rattle.std.proofs.Common.{◌≡◌, ◌+◌, [], length, true≢false, Ok, ◌∙◌, ℕ, List, map, zip, sym, ap, subst, subst₂}
 use Rattle.mvd_wire.specs.declared.request.Request.{Request}
 use Rattle.mvd_wire.specs.declared.reply.Reply.{Reply}
-use Rattle.mvd_host.specs.Queueing.{AreDue, Queues, refused_all, refused_faults}
+use Rattle.mvd_host.specs.Queueing.{AreDue, QueuesReplies, refused_all, refused_faults}
 use Rattle.mvd_host.proofs.RoundLemmas.{Answered, answered_err, answered_none, answered_ok, due, due_front, memory_asks, memory_tells, memory_turns, no_faults, ok_tells, round_kept, round_none, round_of, tells, zip_asks, zip_fits}
 use Rattle.std.specs.List.{AllByRecursion}
 use Rattle.mvd_dots.specs.declared.refusals.Refusal.{Refusal}
@@ -13,7 +13,7 @@ use Rattle.mvd_host.specs.declared.host.Host.TheInside.{Inside}
 use Rattle.mvd_replica.specs.Turns.{Turn}
 use Rattle.mvd_host.specs.Hosts.{AreKept, HostValue}
 use Rattle.mvd_host.specs.Round.{GoesForward, Round}
-use Rattle.mvd_host.specs.Taking.{IsNone}
+use Rattle.mvd_host.specs.Taking.{IsNothingTaken}
 use Rattle.mvd_host.proofs.Listing.{lists_still}
 use Rattle.mvd_host.proofs.ToldLemmas.{due_later, later_items, no_items}
 use Rattle.mvd_host.proofs.host.Host.round.Goals.{in-Ok, in-Err}
@@ -135,7 +135,7 @@ invariant_of-self-2 g c =
     let later = c.answer.new.replica.site in
     let store = state g.S.Store c.args.replica.now.records.conn in
     let after = state g.S.Store c.answer.new.replica.records.conn in
-    let faults = subst (λ (l : List (ℕ × Refusal)). Queues (refused_faults l) between new) c.deref-2.ensures.value c.queue_faults.ensures.queues in
+    let faults = subst (λ (l : List (ℕ × Refusal)). QueuesReplies (refused_faults l) between new) c.deref-2.ensures.value c.queue_faults.ensures.queues in
     subst (λ n. AreKept new n) (sym admitted) (round_kept c.args.ready.now old mid between new taken took c.self.inside.admitted site later store after a faults c.self.invariant)
 
 pub returns-clause-round : goal.returns-clause-round
@@ -165,8 +165,8 @@ returns-clause-round g c =
     let later = c.answer.new.replica.site in
     let store = state g.S.Store c.args.replica.now.records.conn in
     let after = state g.S.Store c.answer.new.replica.records.conn in
-    let faults = subst (λ (l : List (ℕ × Refusal)). Queues (refused_faults l) between new) c.deref-2.ensures.value c.queue_faults.ensures.queues in
-    let some : ¬ IsNone taken = λ none. true≢false (sym (c.is_none.ensures.1 none) ∙ c.if-is_none.false) in
+    let faults = subst (λ (l : List (ℕ × Refusal)). QueuesReplies (refused_faults l) between new) c.deref-2.ensures.value c.queue_faults.ensures.queues in
+    let some : ¬ IsNothingTaken taken = λ none. true≢false (sym (c.is_none.ensures.1 none) ∙ c.if-is_none.false) in
     subst₂ (λ (h : HostValue) (n : ℕ). (turns : List (ℕ × Turn)) × Round c.args.ready.now turns (record { host = h; site = site; store = store }) (record { host = record { clients = new; admitted = n }; site = later; store = after }) × GoesForward c.told-2.result c.args.ready.now turns (record { clients = new; admitted = n }))
     c.self.view_is (sym admitted) (round_of c.args.ready.now old mid between new taken took c.self.inside.admitted site later store after a faults some c.take_all-refused.result c.take_all-refused.ensures.took.1 c.told-2.result c.told-2.ensures.is)
 

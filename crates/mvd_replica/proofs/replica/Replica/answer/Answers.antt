@@ -1,6 +1,6 @@
 use Rattle.std.proofs.Common.{refl, sym, subst}
 use Rattle.mvd_wire.specs.declared.reply.Reply.TheVariants.{Refused}
-use Rattle.mvd_replica.specs.Commits.{Answers}
+use Rattle.mvd_replica.specs.Commits.{AnswersOneRequest}
 use Rattle.mvd_replica.proofs.Commits.{commits_nothing}
 use Rattle.mvd_replica.proofs.Putting.{one_forgone, one_prepared, whole_change}
 use Rattle.mvd_replica.proofs.replica.Replica.answer.Goals as goal
@@ -26,5 +26,5 @@ pub returns-in-Err : goal.returns-in-Err
 returns-in-Err g c =
     let old = c.args.self.now in
     let whole = whole_change old.site.broken c.in-Change.change c.in-Change.ensures.broken in
-    subst (λ r. Answers old c.args.request.now (Refused c.in-Err.refusal) r) (sym c.in-Err.ensures.err.1)
+    subst (λ r. AnswersOneRequest old c.args.request.now (Refused c.in-Err.refusal) r) (sym c.in-Err.ensures.err.1)
     (commits_nothing _ old (old.site, one_forgone old.site c.args.request.now c.in-Change.change c.in-Err.refusal whole c.in-Err.ensures.err.0 (c.in-Change.ensures.comes whole), refl))

@@ -1,6 +1,6 @@
 use Rattle.std.proofs.Common.{ap, length, take, sym, subst, arith}
 use Rattle.std.proofs.lemmas.List.{take_all}
-use Rattle.mvd_replica.specs.Commits.{AnswersEach, SharesFront}
+use Rattle.mvd_replica.specs.Commits.{AnswersInCommits, SharesFront}
 use Rattle.mvd_replica.proofs.Fronts.{each_none, front_answers, front_grows, front_within, rest_of}
 use Rattle.mvd_replica.proofs.replica.Replica.answer_all.Goals as goal
 
@@ -8,7 +8,7 @@ pub groups-init : goal.groups-init
 groups-init g c =
     let none = c.in_ok-replies.ensures.items in
     record {
-      answers = subst (λ l. AnswersEach (take (length l) c.args.requests.now) l c.args.self.now c.args.self.now) (sym none) (each_none c.args.self.now);
+      answers = subst (λ l. AnswersInCommits (take (length l) c.args.requests.now) l c.args.self.now c.args.self.now) (sym none) (each_none c.args.self.now);
       within = omega (arith, ap length none);
       room = c.in_ok-replies.ensures.capacity;
     }
@@ -40,6 +40,6 @@ pub returns : goal.returns
 returns g c =
     let all = take_all (length c.groups.replies.items) c.args.requests.now (omega (arith, c.groups-test.false, c.len.ensures, c.groups.replies.ok.0)) in
     record {
-      answers = subst (λ l. AnswersEach l c.groups.replies.items c.args.self.now c.groups.self) all c.groups.invariant.answers;
+      answers = subst (λ l. AnswersInCommits l c.groups.replies.items c.args.self.now c.groups.self) all c.groups.invariant.answers;
       memory = tt;
     }

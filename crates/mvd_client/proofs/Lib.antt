@@ -2,4 +2,5 @@ pub mod Watching
 pub mod Syncing
 pub mod Fresh
 pub mod Leading
+pub mod Noting
 pub mod Opened

@@ -1,7 +1,7 @@
 -- A line over which a token was shown.
 use Rattle.std.proofs.Common.{◌≡◌, ℕ, List, [], Option, Some, None, Result, Ok, Err, sym, subst}
 use Rattle.mvd_client.proofs.Fresh.{fresh_is_true}
-use Rattle.mvd_client.specs.LetIn.{EndsShown, GivesIn, IsIn}
+use Rattle.mvd_client.specs.LetIn.{EndsShown, GivesIn, IsLetIn}
 use Rattle.mvd_client.specs.SyncsAt.{AreTrue}
 use Rattle.mvd_dots.specs.declared.refusals.Refusal.{Refusal}
 use Rattle.mvd_remote.specs.Lines.{IsTrueRemote, line_of}
@@ -22,7 +22,7 @@ module _ {L : Type 0} (line : Ghosts L) where
       subst IsFree (sym same) (true.line, true.step asked.2.1)
   shown_free token before after opened (Err refusal) true asked ends = absurd cc
 
-  pub in_free : (token : Option (List ℕ)) (fresh opened : L) → IsFree fresh → IsIn line token fresh opened → IsFree opened
+  pub in_free : (token : Option (List ℕ)) (fresh opened : L) → IsFree fresh → IsLetIn line token fresh opened → IsFree opened
   in_free None fresh opened free is = subst IsFree (sym is) free
   in_free (Some token) fresh opened free is =
       let true_before : IsTrueRemote line.is_true line.far is.before =

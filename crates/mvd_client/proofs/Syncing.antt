@@ -11,7 +11,7 @@ use Rattle.mvd_replica.specs.Sides.{side_follows_self}
 use Rattle.mvd_replica.specs.declared.replica.Replica.{Replica}
 use Rattle.mvd_site.specs.Config.{ConfigValue}
 use Rattle.mvd_site.specs.Held.{States}
-use Rattle.mvd_remote.specs.Lines.{AnswersTruly, SiteReplies}
+use Rattle.mvd_remote.specs.Lines.{AnswersTruly, RepliesFromStates}
 use Rattle.mvd_sync.specs.Session.{After, Before, HasJoined, Meets}
 use Rattle.mvd_sync.specs.declared.report.Report.{Report}
 use Rattle.mvd_sync.specs.declared.report.SyncFault.{SyncFault}
@@ -23,7 +23,7 @@ pub pushed_none : {S : Type 0} {g : Ghosts S} (replica : Replica S g) → Follow
 pushed_none replica = side_follows_self (stored_of replica)
 
 -- a Bye changes nothing at the other end
-bye_replied : (config : ConfigValue) (old new : States) (reply : Reply) → SiteReplies config old Bye reply new → new ≡ old
+bye_replied : (config : ConfigValue) (old new : States) (reply : Reply) → RepliesFromStates config old Bye reply new → new ≡ old
 bye_replied config old new reply (inl h) = h.1
 bye_replied config old new reply (inr (refusal, is, own, inl same)) = same
 bye_replied config old new reply (inr (refusal, is, own, inr broke)) = broke.1

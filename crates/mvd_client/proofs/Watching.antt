@@ -3,7 +3,7 @@ use Rattle.std.proofs.Common.{◌≡◌, ℕ, ◌+◌, List, [], ◌∷◌, ◌+
 use Rattle.std.proofs.Math.Nat.{add-zero}
 use Rattle.std.specs.Result.{IfErr, IfOk}
 use Rattle.mvd_dots.specs.declared.refusals.Refusal.{Refusal}
-use Rattle.mvd_client.specs.Questioned.{Asks, AsksFew, questions}
+use Rattle.mvd_client.specs.Questioned.{AsksMore, AsksFew, questions}
 use Rattle.mvd_keys.specs.Writes.{Key}
 use Rattle.mvd_site.specs.Held.{States}
 use Rattle.mvd_sync.specs.Session.{AreFew, HasAllThatDiffer}
@@ -27,7 +27,7 @@ questions-and (m ∷ ns) n = let later = questions-and ns n in omega arith
 -- a side `T` has a side `S` within, and may have any other in its place; it counts what it is asked
 module _ {S T : Type 0} (inner : T → S) (asked : T → ℕ) (around : T → S → T) (is : (t : T) (s : S) → inner (around t s) ≡ s) (kept : (t : T) (s : S) → asked (around t s) ≡ asked t) (follows : ℕ → S → S → Type 0) (can_refuse : S → Refusal → Type 0) (can_answer : S → Type 0) where
   abbrev Follows : ℕ → T → T → Type 0
-  Follows n a b = Asks follows n (inner a, asked a) (inner b, asked b)
+  Follows n a b = AsksMore follows n (inner a, asked a) (inner b, asked b)
 
   -- any that was on the way within may have been on the way, before all that was counted
   module _ (n : ℕ) (old new : T) (count : asked new ≡ asked old + n) where

@@ -13,7 +13,7 @@ module _ {L : Type 0} (line : Ghosts L) where
   EndsShown (Err refusal) after result = result ≡ Err refusal
 
   -- THE TOKEN IS SHOWN over a line: a Hello with it was asked, and nothing else
-  pub record Shows (token : List ℕ) (fresh : L) (result : Result L Refusal) : Type 0 where
+  pub record ShowsToken (token : List ℕ) (fresh : L) (result : Result L Refusal) : Type 0 where
     pub before : Remote L
     pub after : Remote L
     pub at_line : line_of before ≡ fresh
@@ -24,10 +24,10 @@ module _ {L : Type 0} (line : Ghosts L) where
     pub ends : EndsShown told (line_of after) result
 
   -- a line over which the token was shown, if there is one, and nothing else went
-  abbrev pub IsIn : Option (List ℕ) → L → L → Type 0
-  IsIn None fresh opened = opened ≡ fresh
-  IsIn (Some token) fresh opened = Shows token fresh (Ok opened)
+  abbrev pub IsLetIn : Option (List ℕ) → L → L → Type 0
+  IsLetIn None fresh opened = opened ≡ fresh
+  IsLetIn (Some token) fresh opened = ShowsToken token fresh (Ok opened)
 
   -- the lines that come of those which an address gives
   abbrev pub GivesIn : (L → Type 0) → Option (List ℕ) → L → Type 0
-  GivesIn gives token opened = (fresh : L) × gives fresh × IsIn token fresh opened
+  GivesIn gives token opened = (fresh : L) × gives fresh × IsLetIn token fresh opened

@@ -8,3 +8,4 @@ pub mod Synced
 pub mod SyncsAt
 pub mod Talked
 pub mod Early
+pub mod AskedServer

@@ -35,11 +35,11 @@ MeetsFars near_line far_line near near' far far' result =
     }) result
 
 -- it is of this refusal, by the server at this address; want of memory may be of either end, and names none
-abbrev pub IsAt : SocketAddr → Refusal → Stop → Type 0
-IsAt address refusal stop =
+abbrev pub IsStopAt : SocketAddr → Refusal → Stop → Type 0
+IsStopAt address refusal stop =
     (stop.fault ≡ Stopped refusal) × (refusal ≢ DotClash → refusal ≢ Memory → IsSomeAnd stop.hint (NamesServer address))
 
 -- a session failed by the side that the fault names
 abbrev pub IsFailureOf : SocketAddr → SocketAddr → SyncFault → Failure → Type 0
-IsFailureOf near far (by.Local refusal) failure = (failure.side ≡ side.Local) × IsAt near refusal failure.stop
-IsFailureOf near far (by.Peer refusal) failure = (failure.side ≡ side.Peer) × IsAt far refusal failure.stop
+IsFailureOf near far (by.Local refusal) failure = (failure.side ≡ side.Local) × IsStopAt near refusal failure.stop
+IsFailureOf near far (by.Peer refusal) failure = (failure.side ≡ side.Peer) × IsStopAt far refusal failure.stop

@@ -17,16 +17,16 @@ use Rattle.mvd_hint.specs.declared.hint.Hint.TheVariants as Hint
 use Rattle.mvd_hint.specs.declared.hint.Stop.{Stop}
 
 -- the digest of all that is held
-abbrev pub root_of : States → List ℕ
-root_of states = (node_digests (digests states) []).own
+abbrev pub root_told : States → List ℕ
+root_told states = (node_digests (digests states) []).own
 
 -- how many keys were refused, where some were
-abbrev pub refused_text : ℕ → List ℕ
-refused_text count = if nat_lt 0 count then codes "refused " ++ decimal count ++ codes "\n" else []
+abbrev pub refused_keys_text : ℕ → List ℕ
+refused_keys_text count = if nat_lt 0 count then codes "refused " ++ decimal count ++ codes "\n" else []
 
 -- how many keys a session exchanged and refused, and the digest of all that the site holds then
 abbrev pub session_text : Report → States → List ℕ
-session_text report states = keys_text report.keys ++ (refused_text report.refused ++ root_text (root_of states))
+session_text report states = keys_text report.keys ++ (refused_keys_text report.refused ++ root_text (root_told states))
 
 -- the first of these keys was refused so
 abbrev pub IsOfFirst : List Left → Fault → Type 0
@@ -44,7 +44,7 @@ root_at_text root = codes "root " ++ (socket_text root.address ++ (codes " " ++ 
 
 -- how many keys a session of two servers exchanged and refused, and the digest of all that each of them holds then
 abbrev pub meeting_text : Report → Root → Root → List ℕ
-meeting_text report near far = keys_text report.keys ++ (refused_text report.refused ++ (root_at_text near ++ root_at_text far))
+meeting_text report near far = keys_text report.keys ++ (refused_keys_text report.refused ++ (root_at_text near ++ root_at_text far))
 
 -- how many keys a session with a server exchanged: always, or where there were some
 abbrev pub met_text : SocketAddr → ℕ → Bool → List ℕ

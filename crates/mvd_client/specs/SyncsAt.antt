@@ -22,9 +22,9 @@ use Rattle.mvd_sync.specs.declared.report.SyncFault.TheVariants.{Peer}
 use Rattle.sqlite_trees.specs.declared.store.Store.{Ghosts}
 
 -- what a session and its Bye tell: a Bye that fails is a fault of the peer
-abbrev pub told_by : Report → Result (Unit {0}) Refusal → Result Report SyncFault
-told_by report (Ok done) = Ok report
-told_by report (Err refusal) = Err (Peer refusal)
+abbrev pub report_told : Report → Result (Unit {0}) Refusal → Result Report SyncFault
+report_told report (Ok done) = Ok report
+report_told report (Err refusal) = Err (Peer refusal)
 
 -- what is printed of a session: its report, or nothing, and then the command is stopped as it was
 abbrev pub TellsRan : States → Option (List ℕ) → Option (List ℕ) → Result Report Stop → Result (Unit {0}) Stop → Type 0
@@ -37,7 +37,7 @@ module _ {S : Type 0} {g : Ghosts S} {L W : Type 0} (line : LineGhosts L) (sides
   -- behind a session that ended well comes a Bye, and nothing else; behind another, nothing
   abbrev pub EndsBy : Result Report SyncFault → W → W → Result Report SyncFault → Type 0
   EndsBy (Ok report) mid after told = (bye : Result (Unit {0}) Refusal)
-      × AsksOver line bye_query (over mid) (over after) bye × (told ≡ told_by report bye)
+      × AsksOver line bye_query (over mid) (over after) bye × (told ≡ report_told report bye)
   EndsBy (Err fault) mid after told = (after ≡ mid) × (told ≡ Err fault)
 
   -- ONE SESSION over a line, and a Bye

@@ -1,6 +1,8 @@
 -- A shell over a line to a server.
-use Rattle.std.specs.Prelude.{◌≡◌, ℕ, List, None, Option, Result, Ok, Err}
+use Rattle.std.specs.Prelude.{◌≡◌, ℕ, false, List, None, Option, Result, Ok, Err}
 use Rattle.std.specs.declared.net.socket_addr.SocketAddr.{SocketAddr}
+use Rattle.mvd_client.specs.declared.asked_server.AskedServer.{AskedServer}
+use Rattle.mvd_client.specs.AskedServer.{RepliesNoted, lost_of}
 use Rattle.mvd_client.specs.Stopped.{IsAtServer, IsUndialed}
 use Rattle.mvd_dots.specs.declared.refusals.Refusal.{Refusal}
 use Rattle.mvd_input.specs.declared.fault.Fault.{Fault}
@@ -9,13 +11,12 @@ use Rattle.mvd_wire.specs.declared.reply.Reply.{Reply}
 use Rattle.mvd_wire.specs.declared.request.Request.{Request}
 use Rattle.mvd_hint.specs.declared.hint.Stop.{Stop}
 use Rattle.mvd_remote.specs.Lines.{line_of, refused_of}
-use Rattle.mvd_remote.specs.Remotes.{AsksOver, RepliesFar, bye_query}
+use Rattle.mvd_remote.specs.Remotes.{AsksOver, bye_query}
 use Rattle.mvd_remote.specs.declared.line.Line.{Ghosts}
-use Rattle.mvd_remote.specs.declared.remote.Remote.{Remote}
 
 -- a Bye was asked over the line, and nothing else, and this was told
-abbrev pub SaysBye : {L : Type 0} → Ghosts L → Remote L → Remote L → Result (Unit {0}) Refusal → Type 0
-SaysBye line old new told = AsksOver line bye_query old new told
+abbrev pub SaysBye : {L : Type 0} → Ghosts L → AskedServer L → AskedServer L → Result (Unit {0}) Refusal → Type 0
+SaysBye line old new told = AsksOver line bye_query old.remote new.remote told
 
 -- a command ends as the Bye behind its lines was told
 abbrev pub EndsWithBye : SocketAddr → Result (Unit {0}) Refusal → Result (Unit {0}) Stop → Type 0
@@ -31,12 +32,12 @@ EndsLines Byes address (Ok done) last new result =
 EndsLines Byes address (Err fault) last new result = (new ≡ last) × (stop : Stop) × (result ≡ Err stop) × (stop.fault ≡ fault)
 
 -- The lines are answered, and what they print is told, as a shell does; and then they end so
-pub record ShellsOver {A : Type 0} (Answers : A → A → Request → Reply → Type 0)
+pub record ShellsOver {A : Type 0} (Answers : A → A → Request → Reply → Type 0) (lost : A → ℕ)
     (Byes : A → A → Result (Unit {0}) Refusal → Type 0) (address : SocketAddr) (old new : At A)
     (result : Result (Unit {0}) Stop) : Type 0 where
   pub last : A
   pub told : Result (Unit {0}) Fault
-  pub shells : Shells Answers old (at last new.input new.out) told
+  pub shells : Shells Answers lost old (at last new.input new.out) told
   pub ends : EndsLines Byes address told last new.asked result
 
 -- A SHELL OVER WHAT AN ADDRESS LEADS TO, one of these lines. It leads to none, and nothing is read or printed; or it is a
@@ -45,6 +46,7 @@ pub data ShellsAt {L : Type 0} (line : Ghosts L) (gives : L → Type 0) (address
     (input out input' out' : Option (List ℕ)) (result : Result (Unit {0}) Stop) : Type 0 where
   nobody : (stop : Stop) → result ≡ Err stop → IsUndialed address stop → input' ≡ input → out' ≡ out
       → ShellsAt line gives address input out input' out' result
-  ran : (fresh : L) → gives fresh → (before after : Remote L) → line_of before ≡ fresh → refused_of before ≡ None
-      → ShellsOver (RepliesFar line) (SaysBye line) address (at before input out) (at after input' out') result
+  ran : (fresh : L) → gives fresh → (before after : AskedServer L) → line_of before.remote ≡ fresh
+      → refused_of before.remote ≡ None → before.is_down ≡ false
+      → ShellsOver (RepliesNoted line) lost_of (SaysBye line) address (at before input out) (at after input' out') result
       → ShellsAt line gives address input out input' out' result

@@ -1,7 +1,7 @@
 //! What leads from an address to a line.
 ghost use Rattle.std.specs.Prelude.{IfOk, option_copied};
 ghost use Rattle.std.specs.declared.net.socket_addr.SocketAddr.{SocketAddr};
-ghost use Rattle.mvd_client.specs.LetIn.{GivesIn, Shows};
+ghost use Rattle.mvd_client.specs.LetIn.{GivesIn, ShowsToken};
 ghost use Rattle.mvd_client.specs.Stopped.{StopsUndialed};
 
 use crate::both_ways::{BothWays, Nonblocking};
@@ -115,7 +115,7 @@ pub(crate) fn let_in<D: Dial>(
 /// Shows a token over a line over which nothing went: a Hello, and nothing else. It gives the line, or what was told in
 /// place of Done.
 fn shown<L: Line>(alloc: Global, line: L, token: &Token) -> Result<L, Refusal>
-    ensures { Shows L.Line token.now line result }
+    ensures { ShowsToken L.Line token.now line result }
 {
     let mut remote = Remote::over(alloc, line);
     match remote.hello(token) {

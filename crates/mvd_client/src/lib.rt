@@ -1,6 +1,7 @@
 //! What a command does at its end of a connection to a server: a session, or a shell; and sessions between servers.
 #![tactic(auto)]
 
+mod asked_server;
 mod both_ways;
 mod dial;
 mod ends;

@@ -1,9 +1,10 @@
 //! The commands that meet a server: sessions of a stored site, and shells.
 ghost use Rattle.std.specs.Prelude.{◌≡◌, ◌≢◌, ◌≤◌, ◌+◌, ◌++◌, [], IsErr, OnOk, option_copied, string_bytes};
 ghost use Rattle.std.specs.Io.KnownBytes.{Appends};
+ghost use Rattle.mvd_client.specs.AskedServer.{RepliesNoted, lost_of};
 ghost use Rattle.mvd_client.specs.LetIn.{GivesIn};
 ghost use Rattle.mvd_client.specs.Questioned.{AsksFew, questions};
-ghost use Rattle.mvd_client.specs.Reported.{Reports, StopsLeft, refused_text, root_of, session_text};
+ghost use Rattle.mvd_client.specs.Reported.{Reports, StopsLeft, refused_keys_text, root_told, session_text};
 ghost use Rattle.mvd_client.specs.Stopped.{StopsFaulted};
 ghost use Rattle.mvd_client.specs.Synced.{FollowsPushed, MeetsFar};
 ghost use Rattle.mvd_client.specs.SyncsAt.{AreTrue, MeetsAt, SyncsAt, SyncsFrom, SyncsOver, TellsSession};
@@ -14,8 +15,8 @@ ghost use Rattle.mvd_replica.specs.Replicas.{site_of};
 ghost use Rattle.mvd_replica.specs.Sides.{IsTrueSite};
 ghost use Rattle.mvd_shell.specs.Shell.{at};
 ghost use Rattle.mvd_remote.specs.Lines.{IsTrueRemote, far_of};
-ghost use Rattle.mvd_remote.specs.Remotes.{RepliesFar};
 
+use crate::asked_server::{AskedServer, Noted};
 use crate::dial::{Dial, let_in, undialed};
 use crate::progress::Watched;
 use http_server::Log;
@@ -210,7 +211,7 @@ fn tell_counts<S: Alter + Drop, W: Write>(
 
 /// Adds a line with how many keys were refused, where some were.
 pub(crate) fn print_refused(count: u64, lines: &mut String) -> Result<(), Refusal>
-    ensures { OnOk result (string_bytes lines.new ≡ string_bytes lines.old ++ refused_text count) }
+    ensures { OnOk result (string_bytes lines.new ≡ string_bytes lines.old ++ refused_keys_text count) }
 {
     if count > 0 {
         writeln!(lines, "refused {count}")?;
@@ -239,7 +240,7 @@ fn add_root<S: Alter + Drop>(
     lines: &mut String,
 ) -> Result<(), Refusal>
     ensures { OnOk result (string_bytes lines.new ≡
-        string_bytes lines.old ++ root_text (root_of (site_of replica.now).states)) }
+        string_bytes lines.old ++ root_text (root_told (site_of replica.now).states)) }
 {
     let path = Path::new(alloc, &[])?;
     let digests = replica.node(&path)?;
@@ -247,8 +248,8 @@ fn add_root<S: Alter + Drop>(
 }
 
 /// Answers the lines through the server at an address, to which the token is shown first, if there is one, and says Bye at
-/// their end. Where the connection was lost, each
-/// later line is refused so, and so is the Bye.
+/// their end. Where the connection was lost, a write to which no reply came is told as unknown; each later line is
+/// refused so, and so is the Bye.
 pub fn remote_shell_run<'a, D: Dial, R: BufRead, W: Write>(
     dial: &D,
     alloc: Global,
@@ -267,27 +268,27 @@ pub fn remote_shell_run<'a, D: Dial, R: BufRead, W: Write>(
         Ok(line) => line,
         Err(fault) => return Err(undialed(address, fault)),
     };
-    let mut remote = Remote::over(alloc, line);
-    shell_over(alloc, &mut remote, address, reader, writer)
+    let mut server = AskedServer::over(alloc, line);
+    shell_over(alloc, &mut server, address, reader, writer)
 }
 
 /// The same over a line to that server.
 pub fn shell_over<'a, L: Line, R: BufRead, W: Write>(
     alloc: Global,
-    remote: &mut Remote<L>,
+    server: &mut AskedServer<L>,
     address: SocketAddr,
     reader: &mut R,
     writer: &mut W,
 ) -> Result<(), Stop<'a>>
-    ensures shells { ShellsOver (RepliesFar L.Line) (SaysBye L.Line) address
-        (at remote.old (R.remaining reader.old) (W.contents writer.old))
-        (at remote.new (R.remaining reader.new) (W.contents writer.new)) result }
+    ensures shells { ShellsOver (RepliesNoted L.Line) lost_of (SaysBye L.Line) address
+        (at server.old (R.remaining reader.old) (W.contents writer.old))
+        (at server.new (R.remaining reader.new) (W.contents writer.new)) result }
 {
-    match shell_run(alloc, remote, reader, writer) {
+    match shell_run::<AskedServer<L>, Noted, R, W>(alloc, server, reader, writer) {
         Ok(()) => {}
         Err(fault) => return Err(Stop::in_input(fault, Hint::Script)),
     }
-    match remote.bye() {
+    match server.remote.bye() {
         Ok(()) => Ok(()),
         Err(refusal) => Err(Stop::at_server(address, refusal)),
     }

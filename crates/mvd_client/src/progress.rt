@@ -1,6 +1,6 @@
 //! How far a session is.
 ghost use Rattle.std.specs.Prelude.{◌≡◌};
-ghost use Rattle.mvd_client.specs.Questioned.{Asks, asks_none, asks_on, questions};
+ghost use Rattle.mvd_client.specs.Questioned.{AsksMore, asks_none, asks_on, questions};
 
 use http_server::Log;
 use mvd_dots::Refusal;
@@ -64,7 +64,7 @@ impl<P: Peer + Drop, E: Write> Peer for Watched<'_, P, E> {
 
     ghost can_give = { P.can_give };
 
-    ghost follows = { λ n old new. Asks P.follows n (old.side, questions old.asked.items)
+    ghost follows = { λ n old new. AsksMore P.follows n (old.side, questions old.asked.items)
         (new.side, questions new.asked.items) };
 
     ghost can_refuse = { λ watched. P.can_refuse watched.side };

@@ -1,5 +1,5 @@
 //! Sessions between a server and each of a list, one after the other: once, or again and again.
-ghost use Rattle.std.specs.Prelude.{◌≡◌, ◌≤◌, OnOk};
+ghost use Rattle.std.specs.Prelude.{OnOk};
 ghost use Rattle.std.specs.Io.KnownBytes.{Appends};
 ghost use Rattle.mvd_input.specs.Addresses.{IsAddressList};
 ghost use Rattle.mvd_client.specs.Reported.{met_text};
@@ -10,6 +10,7 @@ use crate::peer_commands::left_with;
 use mvd_dots::Refusal;
 use mvd_hint::Stop;
 use mvd_input::{Fault, Repeat, addresses_of, tell};
+use mvd_meet::{Ended, Pace, are_same};
 use mvd_sync::Left;
 use mvd_wire::Items;
 use std::alloc::Global;
@@ -19,28 +20,16 @@ use std::net::{Net, SocketAddr};
 use std::thread;
 use std::time::{Clock, Duration};
 
-/// The most seconds until a session is tried again, unless the rounds are further apart.
-const MOST_PAUSE: u32 = 60;
-
 /// Where rounds are as many seconds apart, no connection is kept from one to the next.
 const APART: u32 = 60;
 
-/// How a session ended: it exchanged all that it could, it exchanged nothing and left keys, or it failed.
-#[derive(Clone, Copy, PartialEq, Eq)]
-enum Ended {
-    Well,
-    Stuck,
-    Failed,
-}
-
-/// A server of the list: how often it was tried, how the last session with it ended, how many before that ended so in a
-/// row, how many seconds it is still waited for, and which keys were left.
+/// A server of the list: how often it was tried, how the last session with it ended, how many seconds it is still waited
+/// for, and which keys were left.
 #[derive(Drop)]
 struct Partner<T: Read + Write + Drop> {
     end: End<T>,
     tried: u32,
-    last: Ended,
-    row: u32,
+    pace: Pace,
     wait: u32,
     left: Option<Items<Left>>,
 }
@@ -50,8 +39,7 @@ impl<T: Read + Write + Drop> Partner<T> {
         Partner {
             end: End::new(address),
             tried: 0,
-            last: Ended::Well,
-            row: 0,
+            pace: Pace::new(),
             wait: 0,
             left: None,
         }
@@ -67,13 +55,7 @@ impl<T: Read + Write + Drop> Partner<T> {
 
     /// Waits as is due after a session that ended so.
     fn waits(&mut self, ended: Ended, every: u32) {
-        self.row = if ended == self.last {
-            self.row.saturating_add(1)
-        } else {
-            0
-        };
-        self.last = ended;
-        self.wait = pause_after(ended, self.row, every);
+        self.wait = self.pace.after(ended, every);
     }
 
     /// Tells which keys were left, unless the session before left the same.
@@ -87,28 +69,6 @@ impl<T: Read + Write + Drop> Partner<T> {
         }
         self.left = Some(left);
     }
-}
-
-/// Whether the same keys were refused, by the same sides and in the same way.
-fn are_same(first: &[Left], second: &[Left]) -> bool {
-    first.len() == second.len()
-        && first.iter().zip(second).all(|(a, b)| a.key == b.key
-            && a.side == b.side
-            && a.refusal == b.refusal)
-}
-
-/// The seconds until the next session, after one that ended so and so many before it. They double in a row of sessions
-/// that ended badly.
-fn pause_after(ended: Ended, row: u32, every: u32) -> u32
-    ensures { ended ≡ Ended.Well → result ≡ every }
-{
-    let first = match ended {
-        Ended::Well => return every,
-        Ended::Stuck => every.saturating_mul(2),
-        Ended::Failed => 1,
-    };
-    let most = every.max(MOST_PAUSE);
-    first.saturating_mul(1 << row.min(12)).min(most)
 }
 
 /// Runs sessions between the server at an address and each of a list, one after the other. Where nothing is repeated and
@@ -301,11 +261,7 @@ fn meet_partner<'a, N: Net, W: Write, E: Write>(
     partner.end.answers(errors);
     let address = partner.end.address;
     tell_keys(alloc, address, report.keys, terms.verbose, writer)?;
-    let ended = if report.keys == 0 && report.refused > 0 {
-        Ended::Stuck
-    } else {
-        Ended::Well
-    };
+    let ended = Ended::with(&report);
     partner.leaves(report.first_refused, near.address, errors);
     partner.waits(ended, every);
     if every >= APART {

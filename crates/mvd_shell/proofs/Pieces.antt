@@ -9,7 +9,7 @@ use Rattle.std.proofs.lemmas.List.{append-nil, append_cancel_right, length-appen
 use Rattle.mvd_input.specs.declared.fault.Fault.{Fault}
 use Rattle.mvd_input.specs.Hexadecimal.{lines_after, lines_of, onto_first}
 use Rattle.mvd_shell.specs.declared.line_reader.Piece.TheVariants.{End, Last, Part}
-use Rattle.mvd_shell.specs.ReadLine.{IsOneLine, ReadsLine, ReadsPiece}
+use Rattle.mvd_shell.specs.ReadLine.{IsOneLine, ReadsOneLine, ReadsPiece}
 
 -- ---- bytes that are read
 
@@ -168,7 +168,7 @@ goes_on input mid input' old new so_far (part, (one, is, short), read, some) = (
   omega (arith, ap (λ (t : List ℕ). length t) is, length-append old part, some),
 )
 
-pub ends : (input mid input' : Option (List ℕ)) (old new : List ℕ) → SoFar input mid old → ReadsPiece mid input' old new (Ok End) → ReadsLine input input' new (Ok true)
+pub ends : (input mid input' : Option (List ℕ)) (old new : List ℕ) → SoFar input mid old → ReadsPiece mid input' old new (Ok End) → ReadsOneLine input input' new (Ok true)
 ends input mid input' old new so_far (part, (one, is, short), read) =
     let all : old ++ (part ++ 10 ∷ []) ≡ new ++ 10 ∷ [] = sym (append_assoc old part (10 ∷ [])) ∙ ap (λ (t : List ℕ). t ++ 10 ∷ []) (sym is) in (
       subst IsOneLine (sym is) (one_both old part so_far.one one),
@@ -181,7 +181,7 @@ at_end None mid line read none = tt
 at_end (Some x) None line read none = absurd read
 at_end (Some x) (Some y) line read none = read ∙ ap (λ (t : List ℕ). line ++ t) none ∙ append-nil line
 
-pub stops : (input mid input' : Option (List ℕ)) (old new : List ℕ) → SoFar input mid old → ReadsPiece mid input' old new (Ok Last) → ReadsLine input input' new (Ok false)
+pub stops : (input mid input' : Option (List ℕ)) (old new : List ℕ) → SoFar input mid old → ReadsPiece mid input' old new (Ok Last) → ReadsOneLine input input' new (Ok false)
 stops input mid input' old new so_far (same, read, none) = (
   subst IsOneLine (sym same) so_far.one,
   subst (λ (l : List ℕ). length l ≤ 16777216) (sym same) so_far.short,
@@ -189,7 +189,7 @@ stops input mid input' old new so_far (same, read, none) = (
   subst (λ (l : List ℕ). IfSome input (λ all. all ≡ l)) (sym same) (at_end input mid old so_far.read none),
 )
 
-pub fails : (input mid input' : Option (List ℕ)) (old new : List ℕ) (fault : Fault) → SoFar input mid old → ReadsPiece mid input' old new (Err fault) → ReadsLine input input' new (Err fault)
+pub fails : (input mid input' : Option (List ℕ)) (old new : List ℕ) (fault : Fault) → SoFar input mid old → ReadsPiece mid input' old new (Err fault) → ReadsOneLine input input' new (Err fault)
 fails input mid input' old new fault so_far (part, (one, inl read), unread) =
     (old ++ part, (one_both old part so_far.one one, inl (consumes_on input mid input' old part so_far.read read)), unread)
 fails input mid input' old new fault so_far (part, (one, inr read), unread) =

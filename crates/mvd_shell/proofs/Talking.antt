@@ -1,5 +1,5 @@
 -- Pages, asked for and printed one after the other.
-use Rattle.std.proofs.Common.{◌≡◌, ◌∙◌, ℕ, List, [], ◌∷◌, ◌++◌, Option, Some, None, Result, Ok, Err, refl, sym, ap, subst, subst₂, append_assoc, inl, inr, codes, Bor, IfErr}
+use Rattle.std.proofs.Common.{◌≡◌, ◌∙◌, ℕ, List, [], ◌∷◌, ◌++◌, Option, Some, None, Result, Ok, Err, refl, sym, ap, subst, subst₂, append_assoc, inl, inr, codes, Bor, Bool, IfErr, OnOk, ◌==◌}
 use Rattle.std.proofs.lemmas.List.{append-nil}
 use Rattle.mvd_dots.specs.Answer.{IsAnswer, IsReading}
 use Rattle.mvd_dots.specs.Context.{DotSet}
@@ -14,8 +14,8 @@ use Rattle.mvd_print.specs.Added.{Extends, Prints}
 use Rattle.mvd_wire.specs.declared.reply.Reply.{Reply}
 use Rattle.mvd_wire.specs.declared.request.Request.{Request}
 use Rattle.mvd_wire.specs.declared.request.Request.TheVariants.{Get}
-use Rattle.mvd_shell.specs.Asked.{Exchange, IsRequestOf, IsWriteOf, Sees, delete_of, next_asked, put_of, question, shown}
-use Rattle.mvd_shell.specs.Talk.{Answered, Asks, AsksFirst, EndsWith, MayHaveAsked, Shows, ShowsPage, Speaks, SpeaksPages, TellsPage, TellsPages, Turns, text_onto}
+use Rattle.mvd_shell.specs.Asked.{Exchange, IsRequestOf, IsWriteOfLine, Sees, delete_request, next_asked, put_request, question, shown_context}
+use Rattle.mvd_shell.specs.Talk.{AnswersExchanges, AsksInTurn, AsksFirst, EndsWith, MayHaveAsked, Prints_line, ShowsText, ShowsPage, Speaks, SpeaksPages, TellsPage, TellsAllPages, Turns, shell_text, text_onto}
 use Rattle.mvd_shell.specs.Told.{answer_text}
 
 no_memory : {T : Type 0} (answer : Result T Refusal) → IsAnswer (Err Memory) answer
@@ -61,37 +61,37 @@ onto_twice first text (Ok more) = ap Ok (sym (append_assoc first text more))
 onto_twice first text (Err refusal) = refl
 
 module _ {A : Type 0} (Answers : A → A → Request → Reply → Type 0) where
-  pub answered_more : (first : List Exchange) (exchange : Exchange) (old mid new : A) → Answered Answers first old mid → Answers mid new exchange.request exchange.reply → Answered Answers (first ++ exchange ∷ []) old new
-  unfolding Answered
+  pub answered_more : (first : List Exchange) (exchange : Exchange) (old mid new : A) → AnswersExchanges Answers first old mid → Answers mid new exchange.request exchange.reply → AnswersExchanges Answers (first ++ exchange ∷ []) old new
+  unfolding AnswersExchanges
   answered_more [] exchange old mid new same answers = (new, subst (λ (a : A). Answers a new exchange.request exchange.reply) same answers, refl)
   answered_more (x ∷ first) exchange old mid new (between, one, others) answers = (between, one, answered_more first exchange between mid new others answers)
 
-  pub answered_both : (first rest : List Exchange) (old mid new : A) → Answered Answers first old mid → Answered Answers rest mid new → Answered Answers (first ++ rest) old new
-  unfolding Answered
-  answered_both [] rest old mid new same more = subst (λ (a : A). Answered Answers rest a new) same more
+  pub answered_both : (first rest : List Exchange) (old mid new : A) → AnswersExchanges Answers first old mid → AnswersExchanges Answers rest mid new → AnswersExchanges Answers (first ++ rest) old new
+  unfolding AnswersExchanges
+  answered_both [] rest old mid new same more = subst (λ (a : A). AnswersExchanges Answers rest a new) same more
   answered_both (x ∷ first) rest old mid new (between, one, others) more = (between, one, answered_both first rest between mid new others more)
 
   -- the pages that were told, before the one that a request asks for
   pub record SoFar (asked asked' : A) (ask : Ask) (first request : Request) (old new : List ℕ) : Type 0 where
     pub done : List Exchange
     pub printed : List ℕ
-    pub answered : Answered Answers done asked asked'
+    pub answered : AnswersExchanges Answers done asked asked'
     pub shown : new ≡ old ++ printed
-    pub goes_on : (rest : List Exchange) (more : Result (List ℕ) Refusal) → TellsPages ask request rest more → TellsPages ask first (done ++ rest) (text_onto printed more)
+    pub goes_on : (rest : List Exchange) (more : Result (List ℕ) Refusal) → TellsAllPages ask request rest more → TellsAllPages ask first (done ++ rest) (text_onto printed more)
 
   pub begins : (asked : A) (ask : Ask) (request : Request) (old : List ℕ) → SoFar asked asked ask request request old old
-  unfolding Answered
+  unfolding AnswersExchanges
   begins asked ask request old = record {
     done = [];
     printed = [];
     answered = refl;
     shown = sym (append-nil old);
-    goes_on = λ rest more tells. subst (TellsPages ask request rest) (sym (onto_none more)) tells;
+    goes_on = λ rest more tells. subst (TellsAllPages ask request rest) (sym (onto_none more)) tells;
   }
 
   -- a page more, behind which more is left
   pub onward : (asked asked' asked'' : A) (ask : Ask) (first request next : Request) (old mid new : List ℕ) → SoFar asked asked' ask first request old mid → Turns Answers asked' asked'' ask request mid new (Ok (Some next)) → SoFar asked asked'' ask first next old new
-  unfolding TellsPages
+  unfolding TellsAllPages
   onward asked asked' asked'' ask first request next old mid new so_far turns = on turns.tells.page turns.tells.told turns.tells.shows
     where
       exchange : Exchange
@@ -104,13 +104,13 @@ module _ {A : Type 0} (Answers : A → A → Request → Reply → Type 0) where
         printed = so_far.printed ++ text;
         answered = answered_more so_far.done exchange asked asked' asked'' so_far.answered turns.answers;
         shown = is ∙ ap (λ (t : List ℕ). t ++ text) so_far.shown ∙ append_assoc old so_far.printed text;
-        goes_on = λ rest more tells. subst₂ (TellsPages ask first) (sym (append_assoc so_far.done (exchange ∷ []) rest)) (onto_twice so_far.printed text more)
+        goes_on = λ rest more tells. subst₂ (TellsAllPages ask first) (sym (append_assoc so_far.done (exchange ∷ []) rest)) (onto_twice so_far.printed text more)
             (so_far.goes_on (exchange ∷ rest) (text_onto text more) (refl, Ok text, turns.tells.next, told, turns.tells.asked, inr (text, next, more, refl, sym same, tells, refl)));
       }
 
   -- the last page
   pub ends : (asked asked' asked'' : A) (ask : Ask) (first request : Request) (old mid new : List ℕ) (done : Unit {0}) → SoFar asked asked' ask first request old mid → Turns Answers asked' asked'' ask request mid new (Ok None) → SpeaksPages Answers asked asked'' ask first old new (Ok done)
-  unfolding TellsPages
+  unfolding TellsAllPages
   ends asked asked' asked'' ask first request old mid new done so_far turns = on turns.tells.page turns.tells.told turns.tells.shows
     where
       exchange : Exchange
@@ -130,7 +130,7 @@ module _ {A : Type 0} (Answers : A → A → Request → Reply → Type 0) where
 
   -- a page that is refused
   pub refused : (asked asked' asked'' : A) (ask : Ask) (first request : Request) (old mid new : List ℕ) (refusal : Refusal) → SoFar asked asked' ask first request old mid → Turns Answers asked' asked'' ask request mid new (Err refusal) → SpeaksPages Answers asked asked'' ask first old new (Err refusal)
-  unfolding TellsPages
+  unfolding TellsAllPages
   refused asked asked' asked'' ask first request old mid new refusal so_far turns = on turns.tells.page turns.tells.told turns.tells.shows
     where
       exchange : Exchange
@@ -153,12 +153,12 @@ module _ {A : Type 0} (Answers : A → A → Request → Reply → Type 0) where
 
   -- no room for a further page
   pub stops : (asked asked' : A) (ask : Ask) (first request : Request) (old new : List ℕ) → SoFar asked asked' ask first request old new → SpeaksPages Answers asked asked' ask first old new (Err Memory)
-  unfolding TellsPages
+  unfolding TellsAllPages
   stops asked asked' ask first request old new so_far = record {
     told = Err Memory;
     talks = record {
       exchanges = so_far.done ++ [];
-      answered = subst (λ (x : List Exchange). Answered Answers x asked asked') (sym (append-nil so_far.done)) so_far.answered;
+      answered = subst (λ (x : List Exchange). AnswersExchanges Answers x asked asked') (sym (append-nil so_far.done)) so_far.answered;
       tells = so_far.goes_on [] (Err Memory) refl;
     };
     shows = (refl, record { more = so_far.printed; is = so_far.shown });
@@ -173,7 +173,7 @@ module _ {A : Type 0} (Answers : A → A → Request → Reply → Type 0) where
       answered = answered_both first.exchanges then.talks.exchanges asked asked' asked'' first.answered then.talks.answered;
       tells = record { first = first.exchanges; rest = then.talks.exchanges; all = refl; request = Ok request; read = first.read; pages = then.talks.tells };
     };
-    shows = subst (λ (t : List ℕ). Shows then.told t new result) same then.shows;
+    shows = subst (λ (t : List ℕ). ShowsText then.told t new result) same then.shows;
   }
 
   pub reads_none : (asked asked' : A) (ask : Ask) (refusal : Refusal) (old new : List ℕ) → new ≡ old → AsksFirst Answers asked asked' ask (Err refusal) → Speaks Answers asked asked' ask old new (Err refusal)
@@ -190,15 +190,15 @@ module _ {A : Type 0} (Answers : A → A → Request → Reply → Type 0) where
 -- ---- what is asked first
 
 module _ {A : Type 0} (Answers : A → A → Request → Reply → Type 0) where
-  pub answered_none : (a : A) → Answered Answers [] a a
-  unfolding Answered
+  pub answered_none : (a : A) → AnswersExchanges Answers [] a a
+  unfolding AnswersExchanges
   answered_none a = refl
 
-  pub asks_none : (a : A) → Asks Answers a a
-  unfolding Answered
+  pub asks_none : (a : A) → AsksInTurn Answers a a
+  unfolding AnswersExchanges
   asks_none a = record { exchanges = []; answered = refl }
 
-  pub speaks_asks : (old new : A) (ask : Ask) (text text' : List ℕ) (result : Result (Unit {0}) Refusal) → Speaks Answers old new ask text text' result → Asks Answers old new
+  pub speaks_asks : (old new : A) (ask : Ask) (text text' : List ℕ) (result : Result (Unit {0}) Refusal) → Speaks Answers old new ask text text' result → AsksInTurn Answers old new
   speaks_asks old new ask text text' result speaks = record { exchanges = speaks.talks.exchanges; answered = speaks.talks.answered }
 
   pub none_left : (a : A) (ask : Ask) (result : Result (Unit {0}) Refusal) → IfErr result (λ _. MayHaveAsked Answers a a ask)
@@ -209,26 +209,35 @@ module _ {A : Type 0} (Answers : A → A → Request → Reply → Type 0) where
   speaks_left old new ask text text' said (Ok done) speaks = tt
   speaks_left old new ask text text' said (Err refusal) speaks = inr (speaks.told, speaks.talks)
 
-  pub sees_shown : (old new : A) (key other : Key) (reply : Reply) (seen : Result DotSet Refusal) → IsAnswer (Ok other) (Ok key) → Answers old new (Get other) reply → IsAnswer seen (shown reply)
-      → (exchanges : List Exchange) × Answered Answers exchanges old new × Sees key (codes "@") exchanges seen
-  unfolding Answered
+  pub prints_so : (lost : A → ℕ) (old new : A) (ask : Ask) (text text' shown : List ℕ) (said result : Result (Unit {0}) Refusal) (is_known : Bool) → text ≡ [] → is_known ≡ (lost old == lost new) → Speaks Answers old new ask text text' said
+      → ((told : Result (List ℕ) Refusal) → ShowsText told [] text' said → OnOk result (shown ≡ shell_text is_known told)) → OnOk result (Prints_line Answers lost old new ask shown)
+  prints_so lost old new ask text text' shown said (Err refusal) is_known none known speaks shows = tt
+  prints_so lost old new ask text text' shown said (Ok done) is_known none known speaks shows = record {
+    told = speaks.told;
+    talks = speaks.talks;
+    is = shows speaks.told (subst (λ (t : List ℕ). ShowsText speaks.told t text' said) none speaks.shows) ∙ ap (λ (b : Bool). shell_text b speaks.told) known;
+  }
+
+  pub sees_shown : (old new : A) (key other : Key) (reply : Reply) (seen : Result DotSet Refusal) → IsAnswer (Ok other) (Ok key) → Answers old new (Get other) reply → IsAnswer seen (shown_context reply)
+      → (exchanges : List Exchange) × AnswersExchanges Answers exchanges old new × Sees key (codes "@") exchanges seen
+  unfolding AnswersExchanges
   sees_shown old new key other reply seen same answers is = (record { request = Get other; reply = reply } ∷ [], (new, answers, refl), (refl, ap Get (let e : other ≡ key = cc in e), is))
 
-  pub sees_none : (old : A) (key : Key) → (exchanges : List Exchange) × Answered Answers exchanges old old × Sees key (codes "@") exchanges (Err Memory)
+  pub sees_none : (old : A) (key : Key) → (exchanges : List Exchange) × AnswersExchanges Answers exchanges old old × Sees key (codes "@") exchanges (Err Memory)
   sees_none old key = ([], answered_none old, inl refl)
 
-  pub sees_text : (old : A) (key : Key) (text : List ℕ) (seen : Result DotSet Refusal) → (text ≡ codes "@" → ⊥) → IsReading (λ dots. IsTextOf dots text) BadContext seen → (exchanges : List Exchange) × Answered Answers exchanges old old × Sees key text exchanges seen
+  pub sees_text : (old : A) (key : Key) (text : List ℕ) (seen : Result DotSet Refusal) → (text ≡ codes "@" → ⊥) → IsReading (λ dots. IsTextOf dots text) BadContext seen → (exchanges : List Exchange) × AnswersExchanges Answers exchanges old old × Sees key text exchanges seen
   sees_text old key text seen other read = ([], answered_none old, inr (other, read))
 
-  pub unread : (old : A) (key context : List ℕ) (make : Key → DotSet → Result Request Refusal) (refusal : Refusal) → IsAnswer {T = Key} (Err refusal) (key_of_text key) → (exchanges : List Exchange) × Answered Answers exchanges old old × IsWriteOf key context make exchanges (Err refusal)
+  pub unread : (old : A) (key context : List ℕ) (make : Key → DotSet → Result Request Refusal) (refusal : Refusal) → IsAnswer {T = Key} (Err refusal) (key_of_text key) → (exchanges : List Exchange) × AnswersExchanges Answers exchanges old old × IsWriteOfLine key context make exchanges (Err refusal)
   unread old key context make refusal read = ([], answered_none old, (Err refusal, read, (refl, refl)))
 
   pub unseen : (old new : A) (key context : List ℕ) (make : Key → DotSet → Result Request Refusal) (k : Key) (refusal : Refusal) → IsAnswer (Ok k) (key_of_text key)
-      → (exchanges : List Exchange) × Answered Answers exchanges old new × Sees k context exchanges (Err refusal) → (exchanges : List Exchange) × Answered Answers exchanges old new × IsWriteOf key context make exchanges (Err refusal)
+      → (exchanges : List Exchange) × AnswersExchanges Answers exchanges old new × Sees k context exchanges (Err refusal) → (exchanges : List Exchange) × AnswersExchanges Answers exchanges old new × IsWriteOfLine key context make exchanges (Err refusal)
   unseen old new key context make k refusal read (exchanges, answered, sees) = (exchanges, answered, (Ok k, read, (Err refusal, sees, λ not. refl)))
 
   pub seen_so : (old new : A) (key context : List ℕ) (make : Key → DotSet → Result Request Refusal) (k : Key) (seen : DotSet) (request : Result Request Refusal) → IsAnswer (Ok k) (key_of_text key) → IsAnswer request (make k seen)
-      → (exchanges : List Exchange) × Answered Answers exchanges old new × Sees k context exchanges (Ok seen) → (exchanges : List Exchange) × Answered Answers exchanges old new × IsWriteOf key context make exchanges request
+      → (exchanges : List Exchange) × AnswersExchanges Answers exchanges old new × Sees k context exchanges (Ok seen) → (exchanges : List Exchange) × AnswersExchanges Answers exchanges old new × IsWriteOfLine key context make exchanges request
   seen_so old new key context make k seen request read is (exchanges, answered, sees) = (exchanges, answered, (Ok k, read, (Ok seen, sees, is)))
 
   is_question : (a : Ask) (request : Result Request Refusal) → IsAnswer request (question a) → ((key context document : Bor (List ℕ)) → a ≡ ask.Put key context document → ⊥) → ((key context : Bor (List ℕ)) → a ≡ ask.Delete key context → ⊥) → IsRequestOf a [] request
@@ -247,9 +256,9 @@ module _ {A : Type 0} (Answers : A → A → Request → Reply → Type 0) where
   asks_question old a request is not_put not_delete = record { exchanges = []; answered = answered_none old; read = is_question a request is not_put not_delete }
 
   pub asks_put : (old new : A) (a : Ask) (key context document : Bor (List ℕ)) (request : Result Request Refusal) → a ≡ ask.Put key context document
-      → (exchanges : List Exchange) × Answered Answers exchanges old new × IsWriteOf key.now context.now (put_of document.now) exchanges request → AsksFirst Answers old new a request
+      → (exchanges : List Exchange) × AnswersExchanges Answers exchanges old new × IsWriteOfLine key.now context.now (put_request document.now) exchanges request → AsksFirst Answers old new a request
   asks_put old new a key context document request is (exchanges, answered, write) = record { exchanges = exchanges; answered = answered; read = subst (λ (x : Ask). IsRequestOf x exchanges request) (sym is) write }
 
   pub asks_delete : (old new : A) (a : Ask) (key context : Bor (List ℕ)) (request : Result Request Refusal) → a ≡ ask.Delete key context
-      → (exchanges : List Exchange) × Answered Answers exchanges old new × IsWriteOf key.now context.now delete_of exchanges request → AsksFirst Answers old new a request
+      → (exchanges : List Exchange) × AnswersExchanges Answers exchanges old new × IsWriteOfLine key.now context.now delete_request exchanges request → AsksFirst Answers old new a request
   asks_delete old new a key context request is (exchanges, answered, write) = record { exchanges = exchanges; answered = answered; read = subst (λ (x : Ask). IsRequestOf x exchanges request) (sym is) write }

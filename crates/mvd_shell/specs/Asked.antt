@@ -44,19 +44,19 @@ find_asked field term after = then_read (field_of field) (λ f. then_read (term_
 abbrev pub range_asked : List ℕ → List ℕ → Option Place → Result Request Refusal
 range_asked field terms after = then_read (field_of field) (λ f. then_read (pair_of_json terms) (λ t. Ok (Range f t.0 t.1 after)))
 
-abbrev pub row_asked : List ℕ → List ℕ → Result Request Refusal
-row_asked view term = then_read (view_name_of view) (λ v. then_read (term_of_json term) (λ t. Ok (Row v t)))
+abbrev pub row_request : List ℕ → List ℕ → Result Request Refusal
+row_request view term = then_read (view_name_of view) (λ v. then_read (term_of_json term) (λ t. Ok (Row v t)))
 
-abbrev pub rows_asked : List ℕ → Option Term → Result Request Refusal
-rows_asked view after = then_read (view_name_of view) (λ v. Ok (Rows v after))
+abbrev pub rows_request : List ℕ → Option Term → Result Request Refusal
+rows_request view after = then_read (view_name_of view) (λ v. Ok (Rows v after))
 
 -- keys with how many siblings each has, behind a key: those that begin with a prefix, or all where there is none
 abbrev pub prefix_text : Option (Bor (List ℕ)) → List ℕ
 prefix_text None = []
 prefix_text (Some text) = text.now
 
-abbrev pub keys_asked : Option (Bor (List ℕ)) → Option Key → Result Request Refusal
-keys_asked prefix after = then_read (prefix_of_text (prefix_text prefix)) (λ p. Ok (Keys p after))
+abbrev pub keys_request : Option (Bor (List ℕ)) → Option Key → Result Request Refusal
+keys_request prefix after = then_read (prefix_of_text (prefix_text prefix)) (λ p. Ok (Keys p after))
 
 -- the value of a lower-case hexadecimal digit, and of no other byte one that a path may have
 abbrev pub digit_in : ℕ → ℕ
@@ -72,58 +72,58 @@ abbrev pub question : Ask → Result Request Refusal
 question (ask.Put key context document) = Err BadKind
 question (ask.Delete key context) = Err BadKind
 question (ask.Get key) = then_read (key_of_text key.now) (λ k. Ok (Get k))
-question (ask.Row view term) = row_asked view.now term.now
+question (ask.Row view term) = row_request view.now term.now
 question (ask.Node path) = then_read (path_in path.now) (λ p. Ok (Node p))
 question (ask.Find field term) = find_asked field.now term.now None
 question (ask.Range field terms) = range_asked field.now terms.now None
-question (ask.Rows view) = rows_asked view.now None
-question (ask.Keys prefix) = keys_asked prefix None
+question (ask.Rows view) = rows_request view.now None
+question (ask.Keys prefix) = keys_request prefix None
 question ask.Conflicts = Ok (Conflicts None)
 
 -- ---- writes
 
 -- the context of the state that is told
-abbrev pub shown : Reply → Result DotSet Refusal
-shown (reply.State state) = Ok state.context
-shown (reply.Refused refusal) = Err refusal
-shown _ = Err BadKind
+abbrev pub shown_context : Reply → Result DotSet Refusal
+shown_context (reply.State state) = Ok state.context
+shown_context (reply.Refused refusal) = Err refusal
+shown_context _ = Err BadKind
 
 -- A context's text is read. For `@` the state of the key is asked for at that moment, and its context taken, unless memory
 -- was refused for the question.
 abbrev pub Sees : Key → List ℕ → List Exchange → Result DotSet Refusal → Type 0
 Sees key text [] seen = (seen ≡ Err Memory) ⊎ ((text ≢ codes "@") × IsReading (λ dots. IsTextOf dots text) BadContext seen)
-Sees key text (exchange ∷ []) seen = (text ≡ codes "@") × (exchange.request ≡ Get key) × IsAnswer seen (shown exchange.reply)
+Sees key text (exchange ∷ []) seen = (text ≡ codes "@") × (exchange.request ≡ Get key) × IsAnswer seen (shown_context exchange.reply)
 Sees key text exchanges seen = ⊥
 
 -- a write is made of its key, the context that its author saw, and what stands behind that
-abbrev pub IsMade : Result Key Refusal → List ℕ → (Key → DotSet → Result Request Refusal) → List Exchange → Result Request Refusal → Type 0
-IsMade (Err refusal) context make exchanges request = (exchanges ≡ []) × (request ≡ Err refusal)
-IsMade (Ok key) context make exchanges request = (seen : Result DotSet Refusal) × Sees key context exchanges seen × IsAnswer request (then_read seen (make key))
+abbrev pub IsMadeWrite : Result Key Refusal → List ℕ → (Key → DotSet → Result Request Refusal) → List Exchange → Result Request Refusal → Type 0
+IsMadeWrite (Err refusal) context make exchanges request = (exchanges ≡ []) × (request ≡ Err refusal)
+IsMadeWrite (Ok key) context make exchanges request = (seen : Result DotSet Refusal) × Sees key context exchanges seen × IsAnswer request (then_read seen (make key))
 
-abbrev pub IsWriteOf : List ℕ → List ℕ → (Key → DotSet → Result Request Refusal) → List Exchange → Result Request Refusal → Type 0
-IsWriteOf key context make exchanges request = (read : Result Key Refusal) × IsAnswer read (key_of_text key) × IsMade read context make exchanges request
+abbrev pub IsWriteOfLine : List ℕ → List ℕ → (Key → DotSet → Result Request Refusal) → List Exchange → Result Request Refusal → Type 0
+IsWriteOfLine key context make exchanges request = (read : Result Key Refusal) × IsAnswer read (key_of_text key) × IsMadeWrite read context make exchanges request
 
-abbrev pub put_of : List ℕ → Key → DotSet → Result Request Refusal
-put_of document key seen = then_read (document_of document) (λ d. Ok (Put key seen d))
+abbrev pub put_request : List ℕ → Key → DotSet → Result Request Refusal
+put_request document key seen = then_read (document_of document) (λ d. Ok (Put key seen d))
 
-abbrev pub delete_of : Key → DotSet → Result Request Refusal
-delete_of key seen = Ok (Delete key seen)
+abbrev pub delete_request : Key → DotSet → Result Request Refusal
+delete_request key seen = Ok (Delete key seen)
 
-abbrev pub IsQuestionOf : Ask → List Exchange → Result Request Refusal → Type 0
-IsQuestionOf ask exchanges request = (exchanges ≡ []) × IsAnswer request (question ask)
+abbrev pub IsRequestOfLine : Ask → List Exchange → Result Request Refusal → Type 0
+IsRequestOfLine ask exchanges request = (exchanges ≡ []) × IsAnswer request (question ask)
 
 -- the request that a line asks for, with what is asked before it
 abbrev pub IsRequestOf : Ask → List Exchange → Result Request Refusal → Type 0
-IsRequestOf (ask.Put key context document) exchanges request = IsWriteOf key.now context.now (put_of document.now) exchanges request
-IsRequestOf (ask.Delete key context) exchanges request = IsWriteOf key.now context.now delete_of exchanges request
-IsRequestOf (ask.Get key) exchanges request = IsQuestionOf (ask.Get key) exchanges request
-IsRequestOf (ask.Row view term) exchanges request = IsQuestionOf (ask.Row view term) exchanges request
-IsRequestOf (ask.Node path) exchanges request = IsQuestionOf (ask.Node path) exchanges request
-IsRequestOf (ask.Find field term) exchanges request = IsQuestionOf (ask.Find field term) exchanges request
-IsRequestOf (ask.Range field terms) exchanges request = IsQuestionOf (ask.Range field terms) exchanges request
-IsRequestOf (ask.Rows view) exchanges request = IsQuestionOf (ask.Rows view) exchanges request
-IsRequestOf (ask.Keys prefix) exchanges request = IsQuestionOf (ask.Keys prefix) exchanges request
-IsRequestOf ask.Conflicts exchanges request = IsQuestionOf ask.Conflicts exchanges request
+IsRequestOf (ask.Put key context document) exchanges request = IsWriteOfLine key.now context.now (put_request document.now) exchanges request
+IsRequestOf (ask.Delete key context) exchanges request = IsWriteOfLine key.now context.now delete_request exchanges request
+IsRequestOf (ask.Get key) exchanges request = IsRequestOfLine (ask.Get key) exchanges request
+IsRequestOf (ask.Row view term) exchanges request = IsRequestOfLine (ask.Row view term) exchanges request
+IsRequestOf (ask.Node path) exchanges request = IsRequestOfLine (ask.Node path) exchanges request
+IsRequestOf (ask.Find field term) exchanges request = IsRequestOfLine (ask.Find field term) exchanges request
+IsRequestOf (ask.Range field terms) exchanges request = IsRequestOfLine (ask.Range field terms) exchanges request
+IsRequestOf (ask.Rows view) exchanges request = IsRequestOfLine (ask.Rows view) exchanges request
+IsRequestOf (ask.Keys prefix) exchanges request = IsRequestOfLine (ask.Keys prefix) exchanges request
+IsRequestOf ask.Conflicts exchanges request = IsRequestOfLine ask.Conflicts exchanges request
 
 -- ---- pages
 
@@ -144,11 +144,11 @@ next_places (ask.Range field terms) last = behind last (λ place. range_asked fi
 next_places _ last = Ok None
 
 abbrev pub next_rows : Ask → Option Term → Result (Option Request) Refusal
-next_rows (ask.Rows view) last = behind last (λ term. rows_asked view.now (Some term))
+next_rows (ask.Rows view) last = behind last (λ term. rows_request view.now (Some term))
 next_rows _ last = Ok None
 
 abbrev pub next_counts : Ask → Option Key → Result (Option Request) Refusal
-next_counts (ask.Keys prefix) last = behind last (λ key. keys_asked prefix (Some key))
+next_counts (ask.Keys prefix) last = behind last (λ key. keys_request prefix (Some key))
 next_counts ask.Conflicts last = behind last (λ key. Ok (Conflicts (Some key)))
 next_counts _ last = Ok None
 

@@ -1,5 +1,5 @@
 -- What is asked for one line, and what is printed of the replies.
-use Rattle.std.specs.Prelude.{ℕ, ◌≡◌, ◌⊎◌, List, [], ◌∷◌, ◌++◌, Option, Some, None, Result, Ok, Err}
+use Rattle.std.specs.Prelude.{ℕ, ◌≡◌, ◌⊎◌, ◌==◌, Bool, true, false, List, [], ◌∷◌, ◌++◌, Option, Some, None, Result, Ok, Err}
 use Rattle.mvd_dots.specs.Answer.{IsAnswer}
 use Rattle.mvd_dots.specs.declared.refusals.Refusal.{Refusal}
 use Rattle.mvd_dots.specs.declared.refusals.Refusal.TheVariants.{Memory}
@@ -9,22 +9,22 @@ use Rattle.mvd_print.specs.Text.{refused_text}
 use Rattle.mvd_wire.specs.declared.reply.Reply.{Reply}
 use Rattle.mvd_wire.specs.declared.request.Request.{Request}
 use Rattle.mvd_shell.specs.Asked.{Exchange, IsRequestOf, next_asked}
-use Rattle.mvd_shell.specs.Told.{answer_text}
+use Rattle.mvd_shell.specs.Told.{answer_text, unknown_text}
 
 -- something that is asked answers one request after the other
-unfoldable pub Answered : {A : Type 0} → (A → A → Request → Reply → Type 0) → List Exchange → A → A → Type 0
-Answered Answers [] old new = new ≡ old
-Answered {A} Answers (exchange ∷ exchanges) old new = (between : A) × Answers old between exchange.request exchange.reply × Answered Answers exchanges between new
+unfoldable pub AnswersExchanges : {A : Type 0} → (A → A → Request → Reply → Type 0) → List Exchange → A → A → Type 0
+AnswersExchanges Answers [] old new = new ≡ old
+AnswersExchanges {A} Answers (exchange ∷ exchanges) old new = (between : A) × Answers old between exchange.request exchange.reply × AnswersExchanges Answers exchanges between new
 
 -- requests were asked of it, and answered, one after the other
-pub record Asks {A : Type 0} (Answers : A → A → Request → Reply → Type 0) (asked asked' : A) : Type 0 where
+pub record AsksInTurn {A : Type 0} (Answers : A → A → Request → Reply → Type 0) (asked asked' : A) : Type 0 where
   pub exchanges : List Exchange
-  pub answered : Answered Answers exchanges asked asked'
+  pub answered : AnswersExchanges Answers exchanges asked asked'
 
 -- the request that a line asks for, with what is asked before it, seen at what answers
 pub record AsksFirst {A : Type 0} (Answers : A → A → Request → Reply → Type 0) (asked asked' : A) (ask : Ask) (request : Result Request Refusal) : Type 0 where
   pub exchanges : List Exchange
-  pub answered : Answered Answers exchanges asked asked'
+  pub answered : AnswersExchanges Answers exchanges asked asked'
   pub read : IsRequestOf ask exchanges request
 
 -- the text of a page, and then what follows it; a refusal stands in place of all
@@ -41,12 +41,12 @@ EndsWith (Ok text) (Ok (Some request)) told = ⊥
 
 -- A page is asked for and printed, and then the next one, until no more is left. What is told is the text of all, or the
 -- refusal in its place. Where there are no exchanges left, memory was refused.
-unfoldable pub TellsPages : Ask → Request → List Exchange → Result (List ℕ) Refusal → Type 0
-TellsPages ask request [] told = told ≡ Err Memory
-TellsPages ask request (exchange ∷ exchanges) told = (exchange.request ≡ request) × (page : Result (List ℕ) Refusal) × (next : Result (Option Request) Refusal)
+unfoldable pub TellsAllPages : Ask → Request → List Exchange → Result (List ℕ) Refusal → Type 0
+TellsAllPages ask request [] told = told ≡ Err Memory
+TellsAllPages ask request (exchange ∷ exchanges) told = (exchange.request ≡ request) × (page : Result (List ℕ) Refusal) × (next : Result (Option Request) Refusal)
     × IsAnswer page (answer_text ask exchange.reply) × IsAnswer next (next_asked ask exchange.reply)
     × (((exchanges ≡ []) × EndsWith page next told)
-    ⊎ ((text : List ℕ) × (following : Request) × (more : Result (List ℕ) Refusal) × (page ≡ Ok text) × (next ≡ Ok (Some following)) × TellsPages ask following exchanges more × (told ≡ text_onto text more)))
+    ⊎ ((text : List ℕ) × (following : Request) × (more : Result (List ℕ) Refusal) × (page ≡ Ok text) × (next ≡ Ok (Some following)) × TellsAllPages ask following exchanges more × (told ≡ text_onto text more)))
 
 -- what is printed of a page and given back
 abbrev pub ShowsPage : Result (List ℕ) Refusal → Result (Option Request) Refusal → List ℕ → List ℕ → Result (Option Request) Refusal → Type 0
@@ -64,7 +64,7 @@ pub record TellsPage (ask : Ask) (reply : Reply) (old new : List ℕ) (result : 
 -- the request that was read is asked, page after page, or its refusal is told
 abbrev pub TellsRead : Ask → Result Request Refusal → List Exchange → Result (List ℕ) Refusal → Type 0
 TellsRead ask (Err refusal) exchanges told = (exchanges ≡ []) × (told ≡ Err refusal)
-TellsRead ask (Ok request) exchanges told = TellsPages ask request exchanges told
+TellsRead ask (Ok request) exchanges told = TellsAllPages ask request exchanges told
 
 -- What a line asks, with the replies, and what is told of it
 pub record TellsAsk (ask : Ask) (exchanges : List Exchange) (told : Result (List ℕ) Refusal) : Type 0 where
@@ -76,27 +76,37 @@ pub record TellsAsk (ask : Ask) (exchanges : List Exchange) (told : Result (List
   pub pages : TellsRead ask request rest told
 
 -- the text was printed; or the refusal is given back, and the old text still stands first
-abbrev pub Shows : Result (List ℕ) Refusal → List ℕ → List ℕ → Result (Unit {0}) Refusal → Type 0
-Shows (Ok text) old new (Ok done) = new ≡ old ++ text
-Shows (Err refusal) old new (Err other) = (other ≡ refusal) × Extends old new
-Shows told old new result = ⊥
+abbrev pub ShowsText : Result (List ℕ) Refusal → List ℕ → List ℕ → Result (Unit {0}) Refusal → Type 0
+ShowsText (Ok text) old new (Ok done) = new ≡ old ++ text
+ShowsText (Err refusal) old new (Err other) = (other ≡ refusal) × Extends old new
+ShowsText told old new result = ⊥
 
 -- a refusal is printed in place of the text
 abbrev pub told_text : Result (List ℕ) Refusal → List ℕ
 told_text (Ok text) = text
 told_text (Err refusal) = refused_text refusal
 
+-- a refusal is printed as one of a write that may have been done all the same
+abbrev pub lost_text : Result (List ℕ) Refusal → List ℕ
+lost_text (Ok text) = text
+lost_text (Err refusal) = unknown_text refusal
+
+-- what a line prints, where it is known of each write that was asked whether it was done, and where not
+abbrev pub shell_text : Bool → Result (List ℕ) Refusal → List ℕ
+shell_text true told = told_text told
+shell_text false told = lost_text told
+
 -- what was asked and told of a line, seen at what answers and at what is printed
 pub record Talks {A : Type 0} (Answers : A → A → Request → Reply → Type 0) (asked asked' : A) (ask : Ask) (told : Result (List ℕ) Refusal) : Type 0 where
   pub exchanges : List Exchange
-  pub answered : Answered Answers exchanges asked asked'
+  pub answered : AnswersExchanges Answers exchanges asked asked'
   pub tells : TellsAsk ask exchanges told
 
 -- the same of pages alone, from a request on
 pub record TalksPages {A : Type 0} (Answers : A → A → Request → Reply → Type 0) (asked asked' : A) (ask : Ask) (request : Request) (told : Result (List ℕ) Refusal) : Type 0 where
   pub exchanges : List Exchange
-  pub answered : Answered Answers exchanges asked asked'
-  pub tells : TellsPages ask request exchanges told
+  pub answered : AnswersExchanges Answers exchanges asked asked'
+  pub tells : TellsAllPages ask request exchanges told
 
 -- nothing was asked; or all that a line asks, until something was refused
 abbrev pub MayHaveAsked : {A : Type 0} → (A → A → Request → Reply → Type 0) → A → A → Ask → Type 0
@@ -106,12 +116,12 @@ MayHaveAsked Answers asked asked' ask = (asked' ≡ asked) ⊎ ((told : Result (
 pub record Speaks {A : Type 0} (Answers : A → A → Request → Reply → Type 0) (asked asked' : A) (ask : Ask) (old new : List ℕ) (result : Result (Unit {0}) Refusal) : Type 0 where
   pub told : Result (List ℕ) Refusal
   pub talks : Talks Answers asked asked' ask told
-  pub shows : Shows told old new result
+  pub shows : ShowsText told old new result
 
 pub record SpeaksPages {A : Type 0} (Answers : A → A → Request → Reply → Type 0) (asked asked' : A) (ask : Ask) (request : Request) (old new : List ℕ) (result : Result (Unit {0}) Refusal) : Type 0 where
   pub told : Result (List ℕ) Refusal
   pub talks : TalksPages Answers asked asked' ask request told
-  pub shows : Shows told old new result
+  pub shows : ShowsText told old new result
 
 -- a page was asked for and told
 pub record Turns {A : Type 0} (Answers : A → A → Request → Reply → Type 0) (asked asked' : A) (ask : Ask) (request : Request) (old new : List ℕ) (result : Result (Option Request) Refusal) : Type 0 where
@@ -119,8 +129,9 @@ pub record Turns {A : Type 0} (Answers : A → A → Request → Reply → Type 
   pub answers : Answers asked asked' request reply
   pub tells : TellsPage ask reply old new result
 
--- what was printed is what was told of the line
-pub record Prints_line {A : Type 0} (Answers : A → A → Request → Reply → Type 0) (asked asked' : A) (ask : Ask) (text : List ℕ) : Type 0 where
+-- What was printed is what was told of the line. Where more writes are lost behind it than before, it is unknown whether the
+-- line's write was done
+pub record Prints_line {A : Type 0} (Answers : A → A → Request → Reply → Type 0) (lost : A → ℕ) (asked asked' : A) (ask : Ask) (text : List ℕ) : Type 0 where
   pub told : Result (List ℕ) Refusal
   pub talks : Talks Answers asked asked' ask told
-  pub is : text ≡ told_text told
+  pub is : text ≡ shell_text (lost asked == lost asked') told

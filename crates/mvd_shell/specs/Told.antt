@@ -1,5 +1,7 @@
 -- The text of a reply to what a line asks (docs/FORMATS.md, Script), by the texts of replies.
-use Rattle.std.specs.Prelude.{ℕ, Bool, true, false, List, Result}
+use Rattle.std.specs.Prelude.{ℕ, ◌++◌, Bool, true, false, List, Result, codes}
+use Rattle.std.specs.Fmt.{decimal}
+use Rattle.mvd_dots.specs.Refusal.{name_of, number_of}
 use Rattle.mvd_dots.specs.declared.refusals.Refusal.{Refusal}
 use Rattle.mvd_input.specs.declared.command.Ask.{Ask}
 use Rattle.mvd_input.specs.declared.command.Ask.TheVariants.{Put, Delete, Get, Row, Node, Find, Range, Rows, Keys, Conflicts}
@@ -18,6 +20,10 @@ tells_terms (Range _ _) = true
 tells_terms (Rows _) = false
 tells_terms (Keys _) = false
 tells_terms Conflicts = false
+
+-- the number and the name of what a write's reply was lost to
+abbrev pub unknown_text : Refusal → List ℕ
+unknown_text refusal = codes "unknown " ++ decimal (number_of refusal) ++ codes " " ++ name_of refusal ++ codes "\n"
 
 -- the text of a reply to what was asked
 abbrev pub answer_text : Ask → Reply → Result (List ℕ) Refusal

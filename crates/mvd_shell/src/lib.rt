@@ -2,10 +2,12 @@
 #![tactic(auto)]
 
 mod line_reader;
+mod losses;
 mod pages;
 mod shell;
 mod talk;
 mod text_requests;
 
+pub use losses::{Losses, NoLosses};
 pub use shell::shell_run;
 pub use talk::{answer, begin_line, say, settle};

@@ -1,7 +1,7 @@
 //! Lines that come in piece by piece.
 ghost use Rattle.std.specs.Prelude.{◌≡◌, ◌≤◌, ◌++◌, [], IfErr, OnOk, length};
 ghost use Rattle.mvd_input.specs.Ends.{EndsEarly};
-ghost use Rattle.mvd_shell.specs.ReadLine.{IsUnread, ReadsLine, ReadsPiece};
+ghost use Rattle.mvd_shell.specs.ReadLine.{IsUnreadLine, ReadsOneLine, ReadsPiece};
 
 use mvd_dots::Refusal;
 use mvd_input::{Fault, first_line};
@@ -24,7 +24,7 @@ enum Piece {
 /// Takes the next line, without its line feed, and whether it has one: else the input ends behind it.
 pub fn read_line<R: BufRead>(reader: &mut R, line: &mut Vec<u8>) -> Result<bool, Fault>
     requires { line.old.items ≡ [] }
-    ensures read { ReadsLine (R.remaining reader.old) (R.remaining reader.new) line.new.items result }
+    ensures read { ReadsOneLine (R.remaining reader.old) (R.remaining reader.new) line.new.items result }
     ensures ends { IfErr result EndsEarly }
 {
     loop {
@@ -73,7 +73,7 @@ fn add(line: &mut Vec<u8>, part: &[u8]) -> Result<(), Fault>
     requires { length line.old.items ≤ 16777216 }
     ensures added { OnOk result (line.new.items ≡ line.old.items ++ part.now) }
     ensures short { OnOk result (length line.new.items ≤ 16777216) }
-    ensures unread { IfErr result (λ fault. IsUnread fault (line.old.items ++ part.now)) }
+    ensures unread { IfErr result (λ fault. IsUnreadLine fault (line.old.items ++ part.now)) }
     ensures ends { IfErr result EndsEarly }
 {
     if part.len() > LINE_MAX - line.len() {

@@ -4,10 +4,11 @@ ghost use Rattle.std.specs.Io.KnownBytes.{Appends};
 ghost use Rattle.mvd_dots.specs.declared.refusals.Refusal.TheVariants.{Memory, WriteFailed};
 ghost use Rattle.mvd_input.specs.declared.fault.Fault.TheVariants.{Stopped};
 ghost use Rattle.mvd_input.specs.Ends.{EndsEarly};
-ghost use Rattle.mvd_shell.specs.Shell.{MayTell, Shells, TakesLine, TellsLine, at, no_command_text};
-ghost use Rattle.mvd_shell.specs.Talk.{Asks};
+ghost use Rattle.mvd_shell.specs.Shell.{MayTellLine, Shells, ShellTakesLine, TellsLine, at, no_command_text};
+ghost use Rattle.mvd_shell.specs.Talk.{AsksInTurn};
 
 use crate::line_reader::read_line;
+use crate::losses::Losses;
 use crate::talk::answer;
 use mvd_dots::Refusal;
 use mvd_input::{Fault, Typed, tell, text_of, typed_of};
@@ -35,25 +36,25 @@ CTX is - where nothing was read, @ for all that `get K` shows now, or a context.
 
 /// Answers each line of the reader at once, in the words of a script, until the input ends. Empty lines, and those
 /// that begin with `#`, are skipped and counted; a line that is no command is told with its number, counted from 1,
-/// and the next one is read.
+/// and the next one is read. A write of which it is not known whether it was done is told as `unknown`, and not as `refused`.
 ///
 /// It ends as `Stopped` where a line has over 16,777,216 bytes, the reader or the writer fails, or memory is refused
 /// for what is read or printed; and where there are more lines than can be counted. What was told before stays.
-pub fn shell_run<A: Endpoint, R: BufRead, W: Write>(
+pub fn shell_run<A: Endpoint, L: Losses<A>, R: BufRead, W: Write>(
     alloc: Global,
     asked: &mut A,
     reader: &mut R,
     writer: &mut W,
 ) -> Result<(), Fault>
-    ensures told { Shells A.answers (at asked.old (R.remaining reader.old) (W.contents writer.old))
+    ensures told { Shells A.answers L.lost (at asked.old (R.remaining reader.old) (W.contents writer.old))
         (at asked.new (R.remaining reader.new) (W.contents writer.new)) result }
     // Whatever ends it, only requests were asked, one after the other.
-    ensures asked { Asks A.answers asked.old asked.new }
+    ensures asked { AsksInTurn A.answers asked.old asked.new }
     ensures ends { IfErr result EndsEarly }
 {
     let mut out = String::new(alloc);
     for number in 1..u64::MAX {
-        match take_line(alloc, asked, number, reader, writer, &mut out) {
+        match take_line::<A, L, R, W>(alloc, asked, number, reader, writer, &mut out) {
             Ok(true) => {}
             Ok(false) => return Ok(()),
             Err(fault) => return Err(fault),
@@ -64,7 +65,7 @@ pub fn shell_run<A: Endpoint, R: BufRead, W: Write>(
 
 /// Reads the line of this number, answers it, and tells that; and whether another line follows.
 #[tactic(auto, using(crate::proofs::Typing::asks_none))]
-fn take_line<A: Endpoint, R: BufRead, W: Write>(
+fn take_line<A: Endpoint, L: Losses<A>, R: BufRead, W: Write>(
     alloc: Global,
     asked: &mut A,
     number: u64,
@@ -72,14 +73,14 @@ fn take_line<A: Endpoint, R: BufRead, W: Write>(
     writer: &mut W,
     out: &mut String,
 ) -> Result<bool, Fault>
-    ensures told { TakesLine A.answers number (at asked.old (R.remaining reader.old) (W.contents writer.old))
+    ensures told { ShellTakesLine A.answers L.lost number (at asked.old (R.remaining reader.old) (W.contents writer.old))
         (at asked.new (R.remaining reader.new) (W.contents writer.new)) result }
-    ensures asked { Asks A.answers asked.old asked.new }
+    ensures asked { AsksInTurn A.answers asked.old asked.new }
     ensures ends { IfErr result EndsEarly }
 {
     let mut line = Vec::new(alloc);
     match read_line(reader, &mut line) {
-        Ok(goes_on) => match take(alloc, asked, number, &line, out) {
+        Ok(goes_on) => match take::<A, L>(alloc, asked, number, &line, out) {
             Ok(()) => match tell(writer, out) {
                 Ok(()) => Ok(goes_on),
                 Err(fault) => Err(fault),
@@ -92,17 +93,17 @@ fn take_line<A: Endpoint, R: BufRead, W: Write>(
 
 /// Answers the line of this number, and puts what is printed of it in place of what `out` held.
 #[tactic(auto, using(crate::proofs::Typing::asks_none, crate::proofs::Typing::none_told))]
-fn take<A: Endpoint>(
+fn take<A: Endpoint, L: Losses<A>>(
     alloc: Global,
     asked: &mut A,
     number: u64,
     line: &[u8],
     out: &mut String,
 ) -> Result<(), Fault>
-    ensures told { OnOk result (TellsLine A.answers number line.now asked.old asked.new (string_bytes out.new)) }
+    ensures told { OnOk result (TellsLine A.answers L.lost number line.now asked.old asked.new (string_bytes out.new)) }
     ensures memory { IfErr result (λ fault. fault ≡ Stopped Memory) }
-    ensures left { IfErr result (λ _. MayTell A.answers number line.now asked.old asked.new) }
-    ensures asked { Asks A.answers asked.old asked.new }
+    ensures left { IfErr result (λ _. MayTellLine A.answers L.lost number line.now asked.old asked.new) }
+    ensures asked { AsksInTurn A.answers asked.old asked.new }
 {
     out.clear();
     let Some(text) = text_of(line) else {
@@ -113,7 +114,7 @@ fn take<A: Endpoint>(
     }
     match typed_of(text) {
         Some(Typed::Help) => Ok(out.push_str(HELP)?),
-        Some(Typed::Ask(ask)) => Ok(answer(alloc, asked, ask, out)?),
+        Some(Typed::Ask(ask)) => Ok(answer::<A, L>(alloc, asked, ask, out)?),
         None => print_no_command(number, out),
     }
 }

@@ -1,8 +1,10 @@
 //! What is asked by one line, and what is printed of it.
-ghost use Rattle.std.specs.Prelude.{◌≡◌, ℕ, [], IfErr, List, OnOk, Result, string_bytes};
-ghost use Rattle.mvd_shell.specs.Talk.{Asks, MayHaveAsked, Prints_line, Shows, Speaks, SpeaksPages, TellsPage, Turns, told_text};
-ghost use Rattle.mvd_shell.specs.Told.{tells_terms};
+ghost use Rattle.std.specs.Prelude.{◌≡◌, ◌++◌, ℕ, [], IfErr, List, OnOk, Result, string_bytes};
+ghost use Rattle.mvd_shell.specs.Talk.{AsksInTurn, MayHaveAsked, Prints_line, ShowsText, Speaks, SpeaksPages, TellsPage};
+ghost use Rattle.mvd_shell.specs.Talk.{Turns, shell_text, told_text};
+ghost use Rattle.mvd_shell.specs.Told.{tells_terms, unknown_text};
 
+use crate::losses::Losses;
 use crate::pages::next_page;
 use crate::text_requests::request_of;
 use mvd_dots::Refusal;
@@ -11,28 +13,61 @@ use mvd_peer::Endpoint;
 use mvd_print::{print_refusal, print_reply};
 use mvd_wire::{Reply, Request};
 use std::alloc::Global;
+use std::fmt::Write as Print;
 
 /// As long as the longest line that tells of a write, a message, a session or a refusal.
 pub const LINE: usize = 64;
 
 /// Asks, and puts what is printed of it in place of what `out` held: what is answered, of a list page after page, or
-/// only how it is refused.
-#[tactic(auto, using(crate::proofs::Talking::asks_none, crate::proofs::Talking::speaks_asks, crate::proofs::Talking::none_left, crate::proofs::Talking::speaks_left))]
-pub fn answer<A: Endpoint>(
+/// only how it is refused. A write that is lost is told as unknown, with what its reply was lost to.
+#[tactic(auto, using(crate::proofs::Talking::prints_so, crate::proofs::Talking::asks_none, crate::proofs::Talking::speaks_asks, crate::proofs::Talking::none_left, crate::proofs::Talking::speaks_left))]
+pub fn answer<A: Endpoint, L: Losses<A>>(
     alloc: Global,
     asked: &mut A,
     ask: Ask<'_>,
     out: &mut String,
 ) -> Result<(), Refusal>
-    ensures told { OnOk result (Prints_line A.answers asked.old asked.new ask.entry (string_bytes out.new)) }
+    ensures told { OnOk result (Prints_line A.answers L.lost asked.old asked.new ask.entry (string_bytes out.new)) }
     ensures memory { IfErr result (λ refusal. refusal ≡ Refusal.Memory) }
     // Whatever was refused, what was asked was answered.
-    ensures asked { Asks A.answers asked.old asked.new }
+    ensures asked { AsksInTurn A.answers asked.old asked.new }
     ensures left { IfErr result (λ _. MayHaveAsked A.answers asked.old asked.new ask.entry) }
 {
     begin_line(out)?;
+    let before = L::lost(asked);
     let said = say(alloc, asked, ask, out);
-    settle(said, out)
+    let is_known = before == L::lost(asked);
+    end_line(is_known, said, out)
+}
+
+/// Where something was refused, only that is printed: as a refusal, if it is known whether each write was done.
+fn end_line(is_known: bool, said: Result<(), Refusal>, out: &mut String) -> Result<(), Refusal>
+    ensures told { (told : Result (List ℕ) Refusal) → ShowsText told [] (string_bytes out.old) said →
+        OnOk result (string_bytes out.new ≡ shell_text is_known told) }
+    ensures memory { IfErr result (λ refusal. refusal ≡ Refusal.Memory) }
+{
+    if is_known {
+        return settle(said, out);
+    }
+    match said {
+        Ok(()) => Ok(()),
+        Err(refusal) => {
+            out.clear();
+            print_unknown(refusal, out)?;
+            Ok(())
+        }
+    }
+}
+
+/// Prints that it is unknown whether a write was done, and what its reply was lost to.
+fn print_unknown(refusal: Refusal, out: &mut String) -> Result<(), Refusal>
+    ensures text { OnOk result (string_bytes out.new ≡ string_bytes out.old ++ unknown_text refusal) }
+    ensures memory { IfErr result (λ refusal. refusal ≡ Refusal.Memory) }
+{
+    let number = refusal.number();
+    let name = refusal.name();
+    writeln!(out, "unknown {number} {name}")?;
+    Ok(())
 }
 
 /// Takes away what was printed, and makes room: nothing is done for which there is no room to tell it.
@@ -47,7 +82,7 @@ pub fn begin_line(out: &mut String) -> Result<(), Refusal>
 
 /// Where something was refused, only the refusal is printed.
 pub fn settle(said: Result<(), Refusal>, out: &mut String) -> Result<(), Refusal>
-    ensures told { (told : Result (List ℕ) Refusal) → Shows told [] (string_bytes out.old) said →
+    ensures told { (told : Result (List ℕ) Refusal) → ShowsText told [] (string_bytes out.old) said →
         OnOk result (string_bytes out.new ≡ told_text told) }
     ensures memory { IfErr result (λ refusal. refusal ≡ Refusal.Memory) }
 {

@@ -1,8 +1,10 @@
 //! The requests that texts are.
 ghost use Rattle.std.specs.Prelude.{◌≡◌, ◌↔◌, IsTrue, List, codes};
 ghost use Rattle.mvd_dots.specs.Answer.{IsAnswer};
-ghost use Rattle.mvd_shell.specs.Asked.{Exchange, IsWriteOf, Sees, delete_of, digit_in, find_asked, keys_asked, path_in, put_of, question, range_asked, row_asked, rows_asked, shown as shown_by};
-ghost use Rattle.mvd_shell.specs.Talk.{Answered, AsksFirst};
+ghost use Rattle.mvd_shell.specs.Asked.{Exchange, IsWriteOfLine, Sees, delete_request, digit_in, find_asked, keys_request};
+ghost use Rattle.mvd_shell.specs.Asked.{path_in, put_request, question, range_asked, row_request, rows_request};
+ghost use Rattle.mvd_shell.specs.Asked.{shown_context as shown_by};
+ghost use Rattle.mvd_shell.specs.Talk.{AnswersExchanges, AsksFirst};
 
 use mvd_docs::{Document, Field, Term, ViewName};
 use mvd_dots::{Context, Dot, Refusal};
@@ -55,8 +57,8 @@ fn put_in<A: Endpoint>(
     context: &str,
     document: &str,
 ) -> Result<Request, Refusal>
-    ensures { (exchanges : List Exchange) × Answered A.answers exchanges asked.old asked.new
-        × IsWriteOf key.now context.now (put_of document.now) exchanges result }
+    ensures { (exchanges : List Exchange) × AnswersExchanges A.answers exchanges asked.old asked.new
+        × IsWriteOfLine key.now context.now (put_request document.now) exchanges result }
 {
     match Key::read(alloc, key) {
         Ok(key) => match context_of(alloc, asked, &key, context) {
@@ -68,7 +70,7 @@ fn put_in<A: Endpoint>(
 }
 
 fn put_seen(alloc: Global, key: Key, seen: Context, document: &str) -> Result<Request, Refusal>
-    ensures { IsAnswer result (put_of document.now key seen) }
+    ensures { IsAnswer result (put_request document.now key seen) }
 {
     let document = Document::read(alloc, document)?;
     Ok(Request::Put(key, seen, document))
@@ -80,8 +82,8 @@ fn delete_in<A: Endpoint>(
     key: &str,
     context: &str,
 ) -> Result<Request, Refusal>
-    ensures { (exchanges : List Exchange) × Answered A.answers exchanges asked.old asked.new ×
-        IsWriteOf key.now context.now delete_of exchanges result }
+    ensures { (exchanges : List Exchange) × AnswersExchanges A.answers exchanges asked.old asked.new ×
+        IsWriteOfLine key.now context.now delete_request exchanges result }
 {
     match Key::read(alloc, key) {
         Ok(key) => match context_of(alloc, asked, &key, context) {
@@ -99,7 +101,7 @@ fn context_of<A: Endpoint>(
     key: &Key,
     text: &str,
 ) -> Result<Context, Refusal>
-    ensures { (exchanges : List Exchange) × Answered A.answers exchanges asked.old asked.new ×
+    ensures { (exchanges : List Exchange) × AnswersExchanges A.answers exchanges asked.old asked.new ×
         Sees key.now text.now exchanges result }
 {
     if is_at(text) {
@@ -118,7 +120,7 @@ fn is_at(text: &str) -> bool
 
 /// The context that is shown for a key now.
 fn shown_now<A: Endpoint>(alloc: Global, asked: &mut A, key: &Key) -> Result<Context, Refusal>
-    ensures { (exchanges : List Exchange) × Answered A.answers exchanges asked.old asked.new ×
+    ensures { (exchanges : List Exchange) × AnswersExchanges A.answers exchanges asked.old asked.new ×
         Sees key.now (codes "@") exchanges result }
 {
     let Ok(key) = key.copy(alloc) else {
@@ -148,7 +150,7 @@ fn context_in(reply: &Reply) -> Result<Context, Refusal>
 }
 
 fn row_of(alloc: Global, view: &str, term: &str) -> Result<Request, Refusal>
-    ensures { IsAnswer result (row_asked view.now term.now) }
+    ensures { IsAnswer result (row_request view.now term.now) }
 {
     let view = ViewName::read(alloc, view)?;
     Ok(Request::Row(view, Term::read(alloc, term)?))
@@ -183,14 +185,14 @@ pub fn range_of(
 
 /// The rows of a view after that of a term.
 pub fn rows_of(alloc: Global, view: &str, after: Option<Term>) -> Result<Request, Refusal>
-    ensures { IsAnswer result (rows_asked view.now after) }
+    ensures { IsAnswer result (rows_request view.now after) }
 {
     Ok(Request::Rows(ViewName::read(alloc, view)?, after))
 }
 
 /// The keys that begin with a prefix, or all where there is none, after one of them.
 pub fn keys_of(alloc: Global, prefix: Option<&str>, after: Option<Key>) -> Result<Request, Refusal>
-    ensures { IsAnswer result (keys_asked prefix.entry after) }
+    ensures { IsAnswer result (keys_request prefix.entry after) }
 {
     let prefix = Prefix::read(alloc, prefix.unwrap_or(""))?;
     Ok(Request::Keys(prefix, after))

@@ -1,12 +1,12 @@
 use Rattle.mvd_shell.proofs.Talking.{seen_so, unread, unseen}
-use Rattle.mvd_shell.specs.Asked.{put_of}
+use Rattle.mvd_shell.specs.Asked.{put_request}
 use Rattle.mvd_shell.proofs.text_requests.put_in.Goals as goal
 
 pub returns-in-Err : goal.returns-in-Err
-returns-in-Err g c = unread g.A.Endpoint.answers c.args.asked.now c.args.key.now c.args.context.now (put_of c.args.document.now) c.in-Err.refusal c.in-Err.ensures
+returns-in-Err g c = unread g.A.Endpoint.answers c.args.asked.now c.args.key.now c.args.context.now (put_request c.args.document.now) c.in-Err.refusal c.in-Err.ensures
 
 pub returns-in-Err-context_of : goal.returns-in-Err-context_of
-returns-in-Err-context_of g c = unseen g.A.Endpoint.answers c.args.asked.now c.context_of.new.asked c.args.key.now c.args.context.now (put_of c.args.document.now) c.in-Ok.key c.in-Err-context_of.refusal c.in-Ok.ensures c.in-Err-context_of.ensures
+returns-in-Err-context_of g c = unseen g.A.Endpoint.answers c.args.asked.now c.context_of.new.asked c.args.key.now c.args.context.now (put_request c.args.document.now) c.in-Ok.key c.in-Err-context_of.refusal c.in-Ok.ensures c.in-Err-context_of.ensures
 
 pub returns-in-Ok-context_of : goal.returns-in-Ok-context_of
-returns-in-Ok-context_of g c = seen_so g.A.Endpoint.answers c.args.asked.now c.context_of.new.asked c.args.key.now c.args.context.now (put_of c.args.document.now) c.in-Ok.key c.in-Ok-context_of.seen c.put_seen.result c.in-Ok.ensures c.put_seen.ensures c.in-Ok-context_of.ensures
+returns-in-Ok-context_of g c = seen_so g.A.Endpoint.answers c.args.asked.now c.context_of.new.asked c.args.key.now c.args.context.now (put_request c.args.document.now) c.in-Ok.key c.in-Ok-context_of.seen c.put_seen.result c.in-Ok.ensures c.put_seen.ensures c.in-Ok-context_of.ensures

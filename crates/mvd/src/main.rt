@@ -60,10 +60,8 @@ fn refused(rt: &impl Eprint, fault: &OrderFault) -> ExitCode {
         OrderFault::Words(error) => {
             let _ = rt.eprint(error);
         }
-        OrderFault::Range => {
-            let _ = eprintln!(rt;
-                "mvd: bad number\nmvd: `mvd help COMMAND` tells the range of each"
-            );
+        OrderFault::Range { option, most } => {
+            let _ = eprintln!(rt; "mvd: bad number: --{option} is 1 to {most}");
         }
         OrderFault::Stopped(refusal) => return tell_stop(rt, &Stop::from(*refusal)),
     }

@@ -2,7 +2,9 @@
 ghost use Rattle.std.specs.Prelude.{◌≡◌, ◌≢◌, ◌<◌, ◌≤◌, ℕ, IsSomeAnd, None, Some};
 ghost use Rattle.mvd_hint.specs.Named.{NamesServer};
 ghost use Rattle.mvd_dots.specs.Refusal.{number_of};
-ghost use Rattle.mvd_dots.specs.declared.refusals.Refusal.TheVariants.{BadBody, BadKind, Damaged, DotClash, FrameTooLong, Full, Memory, NotAdmitted, ReadFailed, SiteMismatch, Store};
+ghost use Rattle.mvd_dots.specs.declared.refusals.Refusal.TheVariants.{BadBody, BadKind, Damaged, DotClash, FrameTooLong};
+ghost use Rattle.mvd_dots.specs.declared.refusals.Refusal.TheVariants.{Full, Memory, NotAdmitted, ReadFailed, SiteMismatch};
+ghost use Rattle.mvd_dots.specs.declared.refusals.Refusal.TheVariants.{Store};
 ghost use Rattle.mvd_input.specs.declared.fault.Fault.TheVariants.{Stopped};
 ghost use Rattle.mvd_input.specs.declared.fault.Fault.TheVariants as faults;
 
@@ -27,11 +29,11 @@ pub enum Hint<'a> {
     TooLong,
     #[error("{0} cannot be read: --defs names a file of lines `index F` and `view V G S`")]
     NoDefs(&'a str),
-    #[error("{0}: a line is `index F` or `view V G S`, each but once, and at most 16 of either")]
+    #[error("{0}: a line is `index F` or `view V G S`, none of them twice, and at most 16 of either")]
     BadDefs(&'a str),
     #[error("{0} cannot be read: --token-file names a file whose first line is a token")]
     NoToken(&'a str),
-    #[error("{0}: the first line is the token, 16 to 256 printed characters of ASCII without a space")]
+    #[error("{0}: the first line is the token, 16 to 256 printable ASCII characters without a space")]
     BadToken(&'a str),
     #[error("{0} is in use: end the program that has it open, or ask that one through its port")]
     InUse(&'a str),
@@ -39,9 +41,9 @@ pub enum Hint<'a> {
     NoDatabase(&'a str),
     #[error("{0} is missing, but its log is there: put the file back, docs/USING.md tells how")]
     Lost(&'a str),
-    #[error("{0}: {1}; see to its folder, its rights and the disk")]
+    #[error("{0}: {1}; check its folder, its permissions and the disk")]
     Unusable(&'a str, sqlite::Error),
-    #[error("{0} is the file of site {1}: name that site by --site, or another file")]
+    #[error("{0} is the file of site {1}: give that number as --site, or name another file")]
     OtherSite(&'a str, u32),
     #[error("{0} is damaged, or of a later version of mvd: name another file, or a copy of this one")]
     Damaged(&'a str),
@@ -51,7 +53,7 @@ pub enum Hint<'a> {
     Full,
     #[error("{0} is in use: end the program that listens there, or name another port")]
     PortInUse(SocketAddr),
-    #[error("there is no right to listen at {0}: name another --port, of 1024 or more")]
+    #[error("no permission to listen at {0}: name a --port of 1024 or more")]
     NoRight(SocketAddr),
     #[error("{0}: {1}; --address names an address of this machine")]
     NoListener(SocketAddr, io::Error),

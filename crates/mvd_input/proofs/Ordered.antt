@@ -19,7 +19,7 @@ use Rattle.clap.specs.declared.parser.matches.MatchedArg.{MatchedArg}
 use Rattle.clap.specs.declared.parser.matches.ValueSource.{ValueSource}
 use Rattle.clap.specs.declared.parser.matches.SubCommand.{SubCommand}
 use Rattle.clap.specs.declared.parser.matches.ArgMatches.TheViews.{out-ArgMatches, out-SubCommand}
-use Rattle.mvd_input.specs.Orders.{AskFor, Gives, HasBadNumber, IsAddressOf, IsClients, IsDbOf, IsFaultBy, IsOrderOf, IsOutOfRange, IsRepeatOf, IsSeconds, IsSetupOf, IsTimes, IsUnread, ReadsGiven, ReadsOrder, ReadsWords, has_file, is_given, is_repeated, is_word, names_server, sets_up, source_in}
+use Rattle.mvd_input.specs.Orders.{AskFor, GivesNumber, IsAddressOfOrder, IsBadNumber, IsClients, IsDbOf, IsFaultBy, IsOrderOf, IsPeersOf, IsRepeatOf, IsSeconds, IsSetupOf, IsTimes, IsUnreadValue, ReadsGiven, ReadsOrder, ReadsWords, has_file, is_given_option, is_repeated, is_word, most_of, names_server, sets_up, source_in}
 use Rattle.mvd_input.specs.Addresses.{IsAddressList}
 use Rattle.mvd_input.specs.Words.{program}
 use Rattle.mvd_input.specs.declared.order.Order.{Order}
@@ -27,6 +27,7 @@ use Rattle.mvd_input.specs.declared.order.Order.TheVariants.{Sim, Loop, Serve, S
 use Rattle.mvd_input.specs.declared.options.Unread.{Unread}
 use Rattle.mvd_input.specs.declared.options.Unread.TheVariants as unread
 use Rattle.mvd_input.specs.declared.order.Setup.{Setup}
+use Rattle.mvd_input.specs.declared.options.Peers.{Peers}
 use Rattle.mvd_input.specs.declared.options.Repeat.{Repeat}
 use Rattle.mvd_input.specs.declared.order.OrderFault.{OrderFault}
 use Rattle.mvd_input.specs.declared.order.OrderFault.TheVariants.{Words, Range, Stopped}
@@ -35,15 +36,15 @@ use Rattle.mvd_input.specs.declared.order.OrderFault.TheVariants.{Words, Range, 
 
 -- where a part is not meant, the whole is not either
 pub within : {X Y : Type 0} (rows : List Row) (Part : List Row → X → Type 0) (Whole : List Row → Y → Type 0) (why : Unread) → ((y : Y) → Whole rows y → (x : X) × Part rows x)
-    → IsUnread rows Part why → IsUnread rows Whole why
-within rows Part Whole unread.Range part h = h
+    → IsUnreadValue rows Part why → IsUnreadValue rows Whole why
+within rows Part Whole (unread.Range _ _) part h = h
 within rows Part Whole (unread.Text _) part h = λ y w. h (part y w).0 (part y w).1
 
 -- nor where a number is not given
 pub without : {Y : Type 0} (rows : List Row) (option : List ℕ) (most : ℕ) (Whole : List Row → Y → Type 0) (why : Unread)
-    → (IsOutOfRange rows option most → HasBadNumber rows) → ((y : Y) → Whole rows y → (n : ℕ) × Gives rows option n)
-    → ReadsGiven rows option most (Err why) → IsUnread rows Whole why
-without rows option most Whole unread.Range bad part h = bad h
+    → most_of option ≡ Some most → ((y : Y) → Whole rows y → (n : ℕ) × GivesNumber rows option n)
+    → ReadsGiven rows option most (Err why) → IsUnreadValue rows Whole why
+without rows option most Whole (unread.Range told bound) bad part (is, same, h) = rw (is, same) (bad, h)
 without rows option most Whole (unread.Text _) bad part h = λ y w. h (part y w).0 (part y w).1
 
 -- two texts that a test tells apart
@@ -52,13 +53,13 @@ differ a b e f = absurd (cc ((bytes_eq-Decides a b).1 e, f))
 
 -- an address and the seconds of an order
 abbrev pub Meets : List Row → Type 0
-Meets rows = ((address : SocketAddr) × IsAddressOf rows address) × ((idle : ℕ) × IsSeconds rows idle)
+Meets rows = ((address : SocketAddr) × IsAddressOfOrder rows address) × ((idle : ℕ) × IsSeconds rows idle)
 
 pub serve_meets : (rows : List Row) (order : Order) → IsOrderOf (codes "serve") rows order → Meets rows
 serve_meets rows Sim h = differ _ _ h refl
 serve_meets rows (Loop _) h = differ _ _ h.0 refl
-serve_meets rows (Serve _ _ address _ idle _ _ _) h = ((address, h.3), (idle, h.5))
-serve_meets rows (Shell _ _ _) h = differ _ _ h.0 refl
+serve_meets rows (Serve _ _ address _ idle _ _ _ _) h = ((address, h.3), (idle, h.5))
+serve_meets rows (Shell _ _) h = differ _ _ h.0 refl
 serve_meets rows (RemoteShell _ _ _) h = differ _ _ h.0 refl
 serve_meets rows (Sync _ _ _ _ _ _) h = differ _ _ h.0 refl
 serve_meets rows (Meet _ _ _ _ _ _) h = differ _ _ h.0 refl
@@ -66,17 +67,26 @@ serve_meets rows (Meet _ _ _ _ _ _) h = differ _ _ h.0 refl
 pub serve_clients : (rows : List Row) (order : Order) → IsOrderOf (codes "serve") rows order → (clients : ℕ) × IsClients rows clients
 serve_clients rows Sim h = differ _ _ h refl
 serve_clients rows (Loop _) h = differ _ _ h.0 refl
-serve_clients rows (Serve _ _ _ _ _ _ clients _) h = (clients, h.7)
-serve_clients rows (Shell _ _ _) h = differ _ _ h.0 refl
+serve_clients rows (Serve _ _ _ _ _ _ clients _ _) h = (clients, h.7)
+serve_clients rows (Shell _ _) h = differ _ _ h.0 refl
 serve_clients rows (RemoteShell _ _ _) h = differ _ _ h.0 refl
 serve_clients rows (Sync _ _ _ _ _ _) h = differ _ _ h.0 refl
 serve_clients rows (Meet _ _ _ _ _ _) h = differ _ _ h.0 refl
 
+pub serve_peers : (rows : List Row) (order : Order) → IsOrderOf (codes "serve") rows order → (peers : Option Peers) × IsPeersOf rows peers
+serve_peers rows Sim h = differ _ _ h refl
+serve_peers rows (Loop _) h = differ _ _ h.0 refl
+serve_peers rows (Serve _ _ _ _ _ _ _ peers _) h = (peers, h.8)
+serve_peers rows (Shell _ _) h = differ _ _ h.0 refl
+serve_peers rows (RemoteShell _ _ _) h = differ _ _ h.0 refl
+serve_peers rows (Sync _ _ _ _ _ _) h = differ _ _ h.0 refl
+serve_peers rows (Meet _ _ _ _ _ _) h = differ _ _ h.0 refl
+
 pub sync_meets : (rows : List Row) (order : Order) → IsOrderOf (codes "sync") rows order → Meets rows
 sync_meets rows Sim h = differ _ _ h refl
 sync_meets rows (Loop _) h = differ _ _ h.0 refl
-sync_meets rows (Serve _ _ _ _ _ _ _ _) h = differ _ _ h.0 refl
-sync_meets rows (Shell _ _ _) h = differ _ _ h.0 refl
+sync_meets rows (Serve _ _ _ _ _ _ _ _ _) h = differ _ _ h.0 refl
+sync_meets rows (Shell _ _) h = differ _ _ h.0 refl
 sync_meets rows (RemoteShell _ _ _) h = differ _ _ h.0 refl
 sync_meets rows (Sync _ _ address idle _ _) h = ((address, h.3), (idle, h.4))
 sync_meets rows (Meet address _ _ idle _ _) h = ((address, h.3), (idle, h.5))
@@ -84,8 +94,8 @@ sync_meets rows (Meet address _ _ idle _ _) h = ((address, h.3), (idle, h.5))
 pub remote_meets : (rows : List Row) → first_of (codes "db") rows ≡ None → (order : Order) → IsOrderOf (codes "shell") rows order → Meets rows
 remote_meets rows e Sim h = differ _ _ h refl
 remote_meets rows e (Loop _) h = differ _ _ h.0 refl
-remote_meets rows e (Serve _ _ _ _ _ _ _ _) h = differ _ _ h.0 refl
-remote_meets rows e (Shell _ _ _) h = absurd (cc (h.1, e))
+remote_meets rows e (Serve _ _ _ _ _ _ _ _ _) h = differ _ _ h.0 refl
+remote_meets rows e (Shell _ _) h = absurd (cc (h.1, e))
 remote_meets rows e (RemoteShell address idle _) h = ((address, h.2), (idle, h.3))
 remote_meets rows e (Sync _ _ _ _ _ _) h = differ _ _ h.0 refl
 remote_meets rows e (Meet _ _ _ _ _ _) h = differ _ _ h.0 refl
@@ -94,8 +104,8 @@ remote_meets rows e (Meet _ _ _ _ _ _) h = differ _ _ h.0 refl
 pub no_server_beside : (rows : List Row) (db : Text) → first_of (codes "db") rows ≡ Some db → names_server rows ≡ true → (order : Order) → IsOrderOf (codes "shell") rows order → ⊥
 no_server_beside rows db e named Sim h = differ _ _ h refl
 no_server_beside rows db e named (Loop _) h = differ _ _ h.0 refl
-no_server_beside rows db e named (Serve _ _ _ _ _ _ _ _) h = differ _ _ h.0 refl
-no_server_beside rows db e named (Shell _ _ _) h = cc (h.3, named)
+no_server_beside rows db e named (Serve _ _ _ _ _ _ _ _ _) h = differ _ _ h.0 refl
+no_server_beside rows db e named (Shell _ _) h = cc (h.3, named)
 no_server_beside rows db e named (RemoteShell _ _ _) h = cc (h.1, e)
 no_server_beside rows db e named (Sync _ _ _ _ _ _) h = differ _ _ h.0 refl
 no_server_beside rows db e named (Meet _ _ _ _ _ _) h = differ _ _ h.0 refl
@@ -103,8 +113,8 @@ no_server_beside rows db e named (Meet _ _ _ _ _ _) h = differ _ _ h.0 refl
 pub no_setup_beside : (rows : List Row) → first_of (codes "db") rows ≡ None → sets_up rows ≡ true → (order : Order) → IsOrderOf (codes "shell") rows order → ⊥
 no_setup_beside rows e set Sim h = differ _ _ h refl
 no_setup_beside rows e set (Loop _) h = differ _ _ h.0 refl
-no_setup_beside rows e set (Serve _ _ _ _ _ _ _ _) h = differ _ _ h.0 refl
-no_setup_beside rows e set (Shell _ _ _) h = cc (h.1, e)
+no_setup_beside rows e set (Serve _ _ _ _ _ _ _ _ _) h = differ _ _ h.0 refl
+no_setup_beside rows e set (Shell _ _) h = cc (h.1, e)
 no_setup_beside rows e set (RemoteShell _ _ _) h = cc (h.4, set)
 no_setup_beside rows e set (Sync _ _ _ _ _ _) h = differ _ _ h.0 refl
 no_setup_beside rows e set (Meet _ _ _ _ _ _) h = differ _ _ h.0 refl
@@ -113,8 +123,8 @@ no_setup_beside rows e set (Meet _ _ _ _ _ _) h = differ _ _ h.0 refl
 pub no_file_beside : (rows : List Row) (list : Text) → first_of (codes "with") rows ≡ Some list → has_file rows ≡ true → (order : Order) → IsOrderOf (codes "sync") rows order → ⊥
 no_file_beside rows list e named Sim h = differ _ _ h refl
 no_file_beside rows list e named (Loop _) h = differ _ _ h.0 refl
-no_file_beside rows list e named (Serve _ _ _ _ _ _ _ _) h = differ _ _ h.0 refl
-no_file_beside rows list e named (Shell _ _ _) h = differ _ _ h.0 refl
+no_file_beside rows list e named (Serve _ _ _ _ _ _ _ _ _) h = differ _ _ h.0 refl
+no_file_beside rows list e named (Shell _ _) h = differ _ _ h.0 refl
 no_file_beside rows list e named (RemoteShell _ _ _) h = differ _ _ h.0 refl
 no_file_beside rows list e named (Sync _ _ _ _ _ _) h = cc (h.6, e)
 no_file_beside rows list e named (Meet _ _ _ _ _ _) h = cc (h.7, named)
@@ -122,8 +132,8 @@ no_file_beside rows list e named (Meet _ _ _ _ _ _) h = cc (h.7, named)
 pub no_rounds_beside : (rows : List Row) → first_of (codes "with") rows ≡ None → is_repeated rows ≡ true → (order : Order) → IsOrderOf (codes "sync") rows order → ⊥
 no_rounds_beside rows e named Sim h = differ _ _ h refl
 no_rounds_beside rows e named (Loop _) h = differ _ _ h.0 refl
-no_rounds_beside rows e named (Serve _ _ _ _ _ _ _ _) h = differ _ _ h.0 refl
-no_rounds_beside rows e named (Shell _ _ _) h = differ _ _ h.0 refl
+no_rounds_beside rows e named (Serve _ _ _ _ _ _ _ _ _) h = differ _ _ h.0 refl
+no_rounds_beside rows e named (Shell _ _) h = differ _ _ h.0 refl
 no_rounds_beside rows e named (RemoteShell _ _ _) h = differ _ _ h.0 refl
 no_rounds_beside rows e named (Sync _ _ _ _ _ _) h = cc (h.7, named)
 no_rounds_beside rows e named (Meet _ _ _ _ _ _) h = cc (h.1, e)
@@ -132,11 +142,25 @@ no_rounds_beside rows e named (Meet _ _ _ _ _ _) h = cc (h.1, e)
 pub no_list : (rows : List Row) (list : Text) → first_of (codes "with") rows ≡ Some list → (IsAddressList list → ⊥) → (order : Order) → IsOrderOf (codes "sync") rows order → ⊥
 no_list rows list e none Sim h = differ _ _ h refl
 no_list rows list e none (Loop _) h = differ _ _ h.0 refl
-no_list rows list e none (Serve _ _ _ _ _ _ _ _) h = differ _ _ h.0 refl
-no_list rows list e none (Shell _ _ _) h = differ _ _ h.0 refl
+no_list rows list e none (Serve _ _ _ _ _ _ _ _ _) h = differ _ _ h.0 refl
+no_list rows list e none (Shell _ _) h = differ _ _ h.0 refl
 no_list rows list e none (RemoteShell _ _ _) h = differ _ _ h.0 refl
 no_list rows list e none (Sync _ _ _ _ _ _) h = cc (h.6, e)
 no_list rows list e none (Meet _ with _ _ _ _) h = let same : with.now ≡ list = cc (h.1, e) in none (subst IsAddressList same h.2)
+
+-- where peers are told it is told how often they are met, and what they are is a list
+pub peers_every : (rows : List Row) (list : Text) → first_of (codes "peer") rows ≡ Some list → (peers : Option Peers) → IsPeersOf rows peers → (n : ℕ) × GivesNumber rows (codes "every") n
+peers_every rows list e None h = absurd (cc (h.0, e))
+peers_every rows list e (Some peers) h = (peers.every, h.2)
+
+pub no_peers : (rows : List Row) (list : Text) → first_of (codes "peer") rows ≡ Some list → (IsAddressList list → ⊥) → (peers : Option Peers) → IsPeersOf rows peers → ⊥
+no_peers rows list e none None h = cc (h.0, e)
+no_peers rows list e none (Some peers) h = let same : peers.list.now ≡ list = cc (h.0, e) in none (subst IsAddressList same h.1)
+
+-- and only there
+pub only_peers : (rows : List Row) → first_of (codes "peer") rows ≡ None → is_given_option rows (codes "every") ≡ true → (peers : Option Peers) → IsPeersOf rows peers → ⊥
+only_peers rows e given None h = cc (h.1, given)
+only_peers rows e given (Some peers) h = cc (h.0, e)
 
 -- how often servers meet again tells how many rounds there are
 pub repeat_times : (rows : List Row) (repeat : Option Repeat) → IsRepeatOf rows repeat → (times : Option ℕ) × IsTimes rows times
@@ -147,8 +171,8 @@ repeat_times rows (Some repeat) h = (repeat.times, h.1)
 pub meet_repeats : (rows : List Row) (list : Text) → first_of (codes "with") rows ≡ Some list → (order : Order) → IsOrderOf (codes "sync") rows order → (repeat : Option Repeat) × IsRepeatOf rows repeat
 meet_repeats rows list e Sim h = differ _ _ h refl
 meet_repeats rows list e (Loop _) h = differ _ _ h.0 refl
-meet_repeats rows list e (Serve _ _ _ _ _ _ _ _) h = differ _ _ h.0 refl
-meet_repeats rows list e (Shell _ _ _) h = differ _ _ h.0 refl
+meet_repeats rows list e (Serve _ _ _ _ _ _ _ _ _) h = differ _ _ h.0 refl
+meet_repeats rows list e (Shell _ _) h = differ _ _ h.0 refl
 meet_repeats rows list e (RemoteShell _ _ _) h = differ _ _ h.0 refl
 meet_repeats rows list e (Sync _ _ _ _ _ _) h = absurd (cc (h.6, e))
 meet_repeats rows list e (Meet _ _ repeat _ _ _) h = (repeat, h.4)
@@ -157,8 +181,8 @@ pub sync_sets_up : (rows : List Row) → first_of (codes "with") rows ≡ None �
     → ((db : Bor (List ℕ)) × IsDbOf rows db) × ((setup : Setup) × IsSetupOf rows setup)
 sync_sets_up rows e Sim h = differ _ _ h refl
 sync_sets_up rows e (Loop _) h = differ _ _ h.0 refl
-sync_sets_up rows e (Serve _ _ _ _ _ _ _ _) h = differ _ _ h.0 refl
-sync_sets_up rows e (Shell _ _ _) h = differ _ _ h.0 refl
+sync_sets_up rows e (Serve _ _ _ _ _ _ _ _ _) h = differ _ _ h.0 refl
+sync_sets_up rows e (Shell _ _) h = differ _ _ h.0 refl
 sync_sets_up rows e (RemoteShell _ _ _) h = differ _ _ h.0 refl
 sync_sets_up rows e (Sync db setup _ _ _ _) h = ((db, h.1), (setup, h.2))
 sync_sets_up rows e (Meet _ _ _ _ _ _) h = absurd (cc (h.1, e))
@@ -172,7 +196,7 @@ source_row f option = go (find (λ (e : Entry). bytes_eq e.0.now option) f.entri
     go None = refl
     go (Some e) = refl
 
-pub given_by : (f : Found) (option : Text) (o : Option ValueSource) → o ≡ option_and_then (λ (a : MatchedArg). a.source) (matched_of f option) → option_map_or is_word o false ≡ is_given (rows_of f) option
+pub given_by : (f : Found) (option : Text) (o : Option ValueSource) → o ≡ option_and_then (λ (a : MatchedArg). a.source) (matched_of f option) → option_map_or is_word o false ≡ is_given_option (rows_of f) option
 given_by f option o e = ap (λ (s : Option ValueSource). option_map_or is_word s false) (e ∙ source_row f option)
 
 -- ---- the matches are those of the words
@@ -208,12 +232,12 @@ none_asked words e order h = subst (λ s. IsSomeAnd s (λ command. IsOrderOf com
 pub reads_words : (words : List Text) (name : Text) (rows : List Row) (result : Result Order OrderFault) → subcommand_of program words ≡ Some (name, rows)
     → ReadsOrder name rows result → ReadsWords words result
 reads_words words name rows (Ok order) e h = (subst (λ s. IsSomeAnd s (λ command. IsOrderOf command.0 command.1 order)) (sym e) h.0, h.1)
-reads_words words name rows (Err Range) e h = subst (λ s. IsSomeAnd s (λ command. HasBadNumber command.1)) (sym e) h
+reads_words words name rows (Err (Range option most)) e h = subst (λ s. IsSomeAnd s (λ command. IsBadNumber command.1 option.now most)) (sym e) h
 reads_words words name rows (Err (Words _)) e h = λ _ order asked. h order (subst (λ s. IsSomeAnd s (λ command. IsOrderOf command.0 command.1 order)) e asked)
 reads_words words name rows (Err (Stopped _)) e h = h
 
 pub refused_words : (words : List Text) (error : Error) (fault : OrderFault) → (takes program words ≡ true → kind_of error ≡ OutOfMemory)
     → IsFaultBy error fault → ReadsWords words (Err fault)
-refused_words words error Range passes h = absurd h
+refused_words words error (Range _ _) passes h = absurd h
 refused_words words error (Words _) passes h = λ taken order asked. h.1 (passes taken)
 refused_words words error (Stopped _) passes h = h.0

@@ -35,10 +35,10 @@ abbrev pub IsAddressList : List ℕ → Type 0
 IsAddressList list = AreItems 16 (items_of list)
 
 -- the address that an item is, at this IP address where it is a port alone
-abbrev pub IsAt : IpAddr → Item → SocketAddr → Type 0
-IsAt ip (Port port) address = (socket_ip address ≡ ip) × IsPlainSocket address port
-IsAt ip (At own) address = address ≡ own
+abbrev pub IsAddressOf : IpAddr → Item → SocketAddr → Type 0
+IsAddressOf ip (Port port) address = (socket_ip address ≡ ip) × IsPlainSocket address port
+IsAddressOf ip (At own) address = address ≡ own
 
 -- the address that an item's text is
 abbrev pub IsAddress : IpAddr → List ℕ → SocketAddr → Type 0
-IsAddress ip text address = (item : Item) × IsItem text item × IsAt ip item address
+IsAddress ip text address = (item : Item) × IsItem text item × IsAddressOf ip item address

@@ -25,9 +25,9 @@ view_added defs view =
     else Err BadDefs
 
 -- what is added is taken, or it may not be added and nothing changes
-abbrev pub IsTaken : Result Definitions Refusal → Bool → Definitions → Definitions → Type 0
-IsTaken added true old new = added ≡ Ok new
-IsTaken added false old new = (refusal : Refusal) × (added ≡ Err refusal) × (new ≡ old)
+abbrev pub IsDefinitionTaken : Result Definitions Refusal → Bool → Definitions → Definitions → Type 0
+IsDefinitionTaken added true old new = added ≡ Ok new
+IsDefinitionTaken added false old new = (refusal : Refusal) × (added ≡ Err refusal) × (new ≡ old)
 
 -- what a line adds: no other one may stand in the file
 abbrev pub added : Line → Definitions → Result Definitions Refusal
@@ -39,7 +39,8 @@ added (At _ _) defs = Err BadDefs
 
 -- a text in UTF-8 says nothing, and nothing changes, or it spells a line, which adds something
 abbrev pub Defines : List ℕ → Definitions → Definitions → Type 0
-Defines text old new = IsUtf8 text × (((said text ≡ []) × (new ≡ old)) ⊎ ((line : Line) × IsLine line (said text) × (added line old ≡ Ok new)))
+Defines text old new = IsUtf8 text
+    × (((said text ≡ []) × (new ≡ old)) ⊎ ((line : Line) × IsLine line (said text) × (added line old ≡ Ok new)))
 
 abbrev pub DefinesNothing : List ℕ → Definitions → Type 0
 DefinesNothing text old = (new : Definitions) → Defines text old new → ⊥
@@ -52,7 +53,8 @@ DefineAll (line ∷ lines) old new = (next : Definitions) × Defines line old ne
 -- the line of a number, counted from 1, is the first that may not stand
 abbrev pub FailsFirstAt : List (List ℕ) → ℕ → Type 0
 FailsFirstAt lines number = (before : List (List ℕ)) × (line : List ℕ) × (after : List (List ℕ)) × (defs : Definitions)
-    × (lines ≡ before ++ line ∷ after) × (number ≡ length before + 1) × DefineAll before no_definitions defs × DefinesNothing line defs
+    × (lines ≡ before ++ line ∷ after) × (number ≡ length before + 1) × DefineAll before no_definitions defs
+    × DefinesNothing line defs
 
 -- why a file defines nothing: memory is refused, it is too long, or a line is at fault
 abbrev pub HasDefsFault : List ℕ → Fault → Type 0

@@ -24,7 +24,8 @@ lines_after (Some text) = lines_of text
 -- lines spell what their digits decode to, one line after the other
 unfoldable pub Spell : List (List ℕ) → List ℕ → Type 0
 Spell [] bytes = bytes ≡ []
-Spell (line ∷ lines) bytes = (first : List ℕ) × (rest : List ℕ) × (decode_of line ≡ Ok first) × Spell lines rest × (bytes ≡ first ++ rest)
+Spell (line ∷ lines) bytes = (first : List ℕ) × (rest : List ℕ) × (decode_of line ≡ Ok first) × Spell lines rest
+    × (bytes ≡ first ++ rest)
 
 -- lines spell so few bytes that more may follow
 abbrev pub SpellFew : List (List ℕ) → List ℕ → Type 0
@@ -50,4 +51,5 @@ AreJoined text bytes = (length text ≤ 131072) × SpellFew (lines_of text) byte
 abbrev pub HasFault : List ℕ → Fault → Type 0
 HasFault text (Line number) = (length text ≤ 131072) × FailsAt (lines_of text) number (λ line _. IsNoHexadecimal line)
 HasFault text (Stopped refusal) = (refusal ≡ Memory)
-    ⊎ ((refusal ≡ FrameTooLong) × ((131072 < length text) ⊎ ((number : ℕ) × FailsAt (lines_of text) number SpellsTooMany)))
+    ⊎ ((refusal ≡ FrameTooLong)
+    × ((131072 < length text) ⊎ ((number : ℕ) × FailsAt (lines_of text) number SpellsTooMany)))

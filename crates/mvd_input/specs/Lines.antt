@@ -85,16 +85,18 @@ IsCommand (command.Receive message) word rest = (word ≡ codes "recv") × IsSom
 IsCommand (command.Sync peer) word rest = (word ≡ codes "sync") × IsSomeAnd rest (IsNumber peer)
 
 -- behind a command's word stand the site's number and what the command is about
-abbrev pub IsAt : ℕ → Command → List ℕ → List ℕ → Type 0
-IsAt site command word behind =
-    (digits : List ℕ) × (rest : Option (List ℕ)) × (behind ≡ with_rest digits rest) × IsNumber site digits × IsCommand command word rest
+abbrev pub IsSiteLine : ℕ → Command → List ℕ → List ℕ → Type 0
+IsSiteLine site command word behind =
+    (digits : List ℕ) × (rest : Option (List ℕ)) × (behind ≡ with_rest digits rest) × IsNumber site digits
+    × IsCommand command word rest
 
 -- it asks for the whole hash tree's digest, for which `root` stands, too
 abbrev pub IsRoot : Ask → Type 0
 IsRoot ask = IsAsked ask (codes "node") (Some (codes "-"))
 
 abbrev pub IsView : View → List ℕ → Type 0
-IsView view text = (text ≡ spaced view.name.now (spaced view.group.now view.sum.now)) × IsWord view.name.now × IsWord view.group.now
+IsView view text = (text ≡ spaced view.name.now (spaced view.group.now view.sum.now)) × IsWord view.name.now
+    × IsWord view.group.now
 
 -- the text spells the line
 abbrev pub IsLine : Line → List ℕ → Type 0
@@ -103,8 +105,9 @@ IsLine (line.Max count) text = (digits : List ℕ) × (text ≡ spaced (codes "m
 IsLine (line.Index field) text = text ≡ spaced (codes "index") field.now
 IsLine (line.View view) text = (rest : List ℕ) × (text ≡ spaced (codes "view") rest) × IsView view rest
 IsLine (line.At site command) text =
-    ((word : List ℕ) × (behind : List ℕ) × (text ≡ spaced word behind) × IsAt site command word behind)
-    ⊎ ((digits : List ℕ) × (text ≡ spaced (codes "root") digits) × IsNumber site digits × IsCommand command (codes "node") (Some (codes "-")))
+    ((word : List ℕ) × (behind : List ℕ) × (text ≡ spaced word behind) × IsSiteLine site command word behind)
+    ⊎ ((digits : List ℕ) × (text ≡ spaced (codes "root") digits) × IsNumber site digits
+    × IsCommand command (codes "node") (Some (codes "-")))
 
 -- the typed text is that of the question or write
 abbrev pub IsTypedAsk : Ask → List ℕ → Type 0
@@ -128,7 +131,7 @@ abbrev pub IsNoCommand : List ℕ → Option (List ℕ) → Type 0
 IsNoCommand word rest = (command : Command) → IsCommand command word rest → ⊥
 
 abbrev pub IsNoAt : List ℕ → List ℕ → Type 0
-IsNoAt word behind = (site : ℕ) (command : Command) → IsAt site command word behind → ⊥
+IsNoAt word behind = (site : ℕ) (command : Command) → IsSiteLine site command word behind → ⊥
 
 abbrev pub IsNoLine : List ℕ → Type 0
 IsNoLine text = (line : Line) → IsLine line text → ⊥

@@ -1,5 +1,5 @@
 -- What a command line may ask for.
-use Rattle.std.specs.Prelude.{ℕ, Bool, Option, Some, None, ◌≡◌, ◌<◌, ◌≤◌, ◌^◌, ◌⊎◌, ◌↔◌, ◌≢◌, ◌||◌, ⊤, true, false, List, IsSomeAnd, Result, Ok, Err, IsTrue, codes, find, option_and_then, option_map}
+use Rattle.std.specs.Prelude.{ℕ, Bool, Option, Some, None, ◌≡◌, ◌<◌, ◌≤◌, ◌^◌, ◌⊎◌, ◌↔◌, ◌≢◌, ◌||◌, ⊤, true, false, List, [], ◌∷◌, IsSomeAnd, Result, Ok, Err, IsTrue, codes, find, option_and_then, option_map}
 use Rattle.std.specs.Net.Grammar.{IsIpText}
 use Rattle.std.specs.Net.Socket.{socket_ip, socket_port}
 use Rattle.std.specs.Borrow.{Bor}
@@ -23,6 +23,7 @@ use Rattle.mvd_input.specs.declared.order.Order.TheVariants.{Sim, Loop, Serve, S
 use Rattle.mvd_input.specs.declared.order.OrderFault.{OrderFault}
 use Rattle.mvd_input.specs.declared.order.OrderFault.TheVariants.{Words, Range, Stopped}
 use Rattle.mvd_input.specs.declared.order.Setup.{Setup}
+use Rattle.mvd_input.specs.declared.options.Peers.{Peers}
 use Rattle.mvd_input.specs.declared.options.Repeat.{Repeat}
 use Rattle.mvd_input.specs.declared.options.Unread.{Unread}
 use Rattle.mvd_input.specs.declared.options.Unread.TheVariants as unread
@@ -47,22 +48,28 @@ abbrev pub IsPort : Option ℕ → Type 0
 IsPort port = ForSome port (λ n. (1 ≤ n) × (n ≤ 65535))
 
 -- no byte need move for 1..=86,400 seconds
-abbrev pub IsIdle : ℕ → Type 0
-IsIdle seconds = (1 ≤ seconds) × (seconds ≤ 86400)
+abbrev pub IsIdleTime : ℕ → Type 0
+IsIdleTime seconds = (1 ≤ seconds) × (seconds ≤ 86400)
 
 -- servers meet again after 1..=3,600 seconds, and 1..=1,000,000 times where that is counted
 abbrev pub IsRounds : Repeat → Type 0
 IsRounds repeat = (1 ≤ repeat.every) × (repeat.every ≤ 3600) × ForSome repeat.times (λ n. (1 ≤ n) × (n ≤ 1000000))
 
+-- a server meets 1..=16 others by itself, and each again after 1..=3,600 seconds
+abbrev pub ArePeers : Peers → Type 0
+ArePeers peers = IsAddressList peers.list.now × (1 ≤ peers.every) × (peers.every ≤ 3600)
+
 -- a site may be set up with the numbers of an order
 abbrev pub IsInRange : Order → Type 0
 IsInRange Sim = ⊤
 IsInRange (Loop setup) = IsSetUp setup
-IsInRange (Serve _ setup address conns idle http clients _) = IsSetUp setup × HasPort address × AreConnections conns × IsIdle idle × IsPort http × AreClients clients
-IsInRange (Shell _ setup _) = IsSetUp setup
-IsInRange (RemoteShell address idle _) = HasPort address × IsIdle idle
-IsInRange (Sync _ setup address idle _ _) = IsSetUp setup × HasPort address × IsIdle idle
-IsInRange (Meet address with repeat idle _ _) = HasPort address × IsAddressList with.now × ForSome repeat IsRounds × IsIdle idle
+IsInRange (Serve _ setup address conns idle http clients peers _) = IsSetUp setup × HasPort address
+    × AreConnections conns × IsIdleTime idle × IsPort http × AreClients clients × ForSome peers ArePeers
+IsInRange (Shell _ setup) = IsSetUp setup
+IsInRange (RemoteShell address idle _) = HasPort address × IsIdleTime idle
+IsInRange (Sync _ setup address idle _ _) = IsSetUp setup × HasPort address × IsIdleTime idle
+IsInRange (Meet address with repeat idle _ _) = HasPort address × IsAddressList with.now × ForSome repeat IsRounds
+    × IsIdleTime idle
 
 -- ---- the order that the words are
 
@@ -71,44 +78,53 @@ abbrev pub options_of : ArgMatches → List Row
 options_of matches = rows_of (found_of matches)
 
 -- the option's value, which is its default where the words have none, spells this number
-abbrev pub Gives : List Row → List ℕ → ℕ → Type 0
-Gives rows option number = (text : List ℕ) × (first_of option rows ≡ Some text) × IsNumber number text
+abbrev pub GivesNumber : List Row → List ℕ → ℕ → Type 0
+GivesNumber rows option number = (text : List ℕ) × (first_of option rows ≡ Some text) × IsNumber number text
 
 -- the option's number is 0 or too great
 abbrev pub IsOutOfRange : List Row → List ℕ → ℕ → Type 0
-IsOutOfRange rows option most = (number : ℕ) × Gives rows option number × ((number ≡ 0) ⊎ (most < number))
+IsOutOfRange rows option most = (number : ℕ) × GivesNumber rows option number × ((number ≡ 0) ⊎ (most < number))
 
--- the number of an option, or why there is none
+-- the number of an option, or why there is none: the option is told, and the most that it may be
 abbrev pub ReadsNumber : List Row → List ℕ → ℕ → Result (Option ℕ) Unread → Type 0
 ReadsNumber rows option most (Ok None) = first_of option rows ≡ None
-ReadsNumber rows option most (Ok (Some number)) = Gives rows option number × (1 ≤ number) × (number ≤ most)
-ReadsNumber rows option most (Err unread.Range) = IsOutOfRange rows option most
-ReadsNumber rows option most (Err (unread.Text _)) = (text : List ℕ) × (first_of option rows ≡ Some text) × IsNoNumber text
+ReadsNumber rows option most (Ok (Some number)) = GivesNumber rows option number × (1 ≤ number) × (number ≤ most)
+ReadsNumber rows option most (Err (unread.Range told bound)) = (told.now ≡ option) × (bound ≡ most)
+    × IsOutOfRange rows option most
+ReadsNumber rows option most (Err (unread.Text _)) = (text : List ℕ) × (first_of option rows ≡ Some text)
+    × IsNoNumber text
 
 -- the same of a number that the command cannot do without
 abbrev pub ReadsGiven : List Row → List ℕ → ℕ → Result ℕ Unread → Type 0
-ReadsGiven rows option most (Ok number) = Gives rows option number × (1 ≤ number) × (number ≤ most)
-ReadsGiven rows option most (Err unread.Range) = IsOutOfRange rows option most
-ReadsGiven rows option most (Err (unread.Text _)) = (number : ℕ) → Gives rows option number → ⊥
+ReadsGiven rows option most (Ok number) = GivesNumber rows option number × (1 ≤ number) × (number ≤ most)
+ReadsGiven rows option most (Err (unread.Range told bound)) = (told.now ≡ option) × (bound ≡ most)
+    × IsOutOfRange rows option most
+ReadsGiven rows option most (Err (unread.Text _)) = (number : ℕ) → GivesNumber rows option number → ⊥
 
--- some number of the command is out of its range
-abbrev pub HasBadNumber : List Row → Type 0
-HasBadNumber rows = IsOutOfRange rows (codes "site") 4294967295 ⊎ (IsOutOfRange rows (codes "max-keys") 1000000
-    ⊎ (IsOutOfRange rows (codes "port") 65535 ⊎ (IsOutOfRange rows (codes "conns") 1000
-    ⊎ (IsOutOfRange rows (codes "idle") 86400 ⊎ (IsOutOfRange rows (codes "http") 65535
-    ⊎ (IsOutOfRange rows (codes "every") 3600 ⊎ (IsOutOfRange rows (codes "times") 1000000
-    ⊎ IsOutOfRange rows (codes "clients") 10000)))))))
+-- the greatest number that each option may have
+abbrev pub mosts : List (List ℕ × ℕ)
+mosts = (codes "site", 4294967295) ∷ (codes "max-keys", 1000000) ∷ (codes "port", 65535) ∷ (codes "conns", 1000)
+    ∷ (codes "idle", 86400) ∷ (codes "http", 65535) ∷ (codes "every", 3600) ∷ (codes "times", 1000000)
+    ∷ (codes "clients", 10000) ∷ []
 
--- why the values of options mean nothing of a kind: a number is out of its range, or nothing of the kind has these values
-abbrev pub IsUnread : {X : Type 0} → List Row → (List Row → X → Type 0) → Unread → Type 0
-IsUnread rows Means unread.Range = HasBadNumber rows
-IsUnread {X} rows Means (unread.Text _) = (x : X) → Means rows x → ⊥
+abbrev pub most_of : List ℕ → Option ℕ
+most_of option = option_map (λ row. row.1) (find (λ row. bytes_eq row.0 option) mosts)
+
+-- the number of this option is out of its range, whose greatest number is this
+abbrev pub IsBadNumber : List Row → List ℕ → ℕ → Type 0
+IsBadNumber rows option most = (most_of option ≡ Some most) × IsOutOfRange rows option most
+
+-- why the values of options mean nothing of a kind: the number of the option that is told is out of the range that is
+-- told, or nothing of the kind has these values
+abbrev pub IsUnreadValue : {X : Type 0} → List Row → (List Row → X → Type 0) → Unread → Type 0
+IsUnreadValue rows Means (unread.Range option most) = IsBadNumber rows option.now most
+IsUnreadValue {X} rows Means (unread.Text _) = (x : X) → Means rows x → ⊥
 
 -- a site is set up with the values of its options
 pub record IsSetupOf (rows : List Row) (setup : Setup) : Type 0 where
-  pub site : Gives rows (codes "site") setup.site
+  pub site : GivesNumber rows (codes "site") setup.site
   pub defs : first_of (codes "defs") rows ≡ option_map (λ file. file.now) setup.defs
-  pub max_keys : Gives rows (codes "max-keys") setup.max_keys
+  pub max_keys : GivesNumber rows (codes "max-keys") setup.max_keys
 
 -- the file of a database
 abbrev pub IsDbOf : List Row → Bor (List ℕ) → Type 0
@@ -119,32 +135,32 @@ abbrev pub IsIpOf : List Row → IpAddr → Type 0
 IsIpOf rows ip = (text : List ℕ) × (first_of (codes "address") rows ≡ Some text) × IsIpText text ip
 
 -- an address has both
-pub record IsAddressOf (rows : List Row) (address : SocketAddr) : Type 0 where
-  pub port : Gives rows (codes "port") (socket_port address)
+pub record IsAddressOfOrder (rows : List Row) (address : SocketAddr) : Type 0 where
+  pub port : GivesNumber rows (codes "port") (socket_port address)
   pub ip : IsIpOf rows (socket_ip address)
 
 -- how many connections are served, where it is told, and how many seconds no byte need move
 abbrev pub IsConns : List Row → Option ℕ → Type 0
 IsConns rows None = first_of (codes "conns") rows ≡ None
-IsConns rows (Some number) = Gives rows (codes "conns") number
+IsConns rows (Some number) = GivesNumber rows (codes "conns") number
 
 -- the port at which HTTP is served, where it is told
 abbrev pub IsHttp : List Row → Option ℕ → Type 0
 IsHttp rows None = first_of (codes "http") rows ≡ None
-IsHttp rows (Some number) = Gives rows (codes "http") number
+IsHttp rows (Some number) = GivesNumber rows (codes "http") number
 
 -- how many rounds there are, where they are counted
 abbrev pub IsTimes : List Row → Option ℕ → Type 0
 IsTimes rows None = first_of (codes "times") rows ≡ None
-IsTimes rows (Some number) = Gives rows (codes "times") number
+IsTimes rows (Some number) = GivesNumber rows (codes "times") number
 
 -- how often servers meet again, where that is told
 abbrev pub IsRepeatOf : List Row → Option Repeat → Type 0
 IsRepeatOf rows None = (first_of (codes "every") rows ≡ None) × (first_of (codes "times") rows ≡ None)
-IsRepeatOf rows (Some repeat) = Gives rows (codes "every") repeat.every × IsTimes rows repeat.times
+IsRepeatOf rows (Some repeat) = GivesNumber rows (codes "every") repeat.every × IsTimes rows repeat.times
 
 abbrev pub IsSeconds : List Row → ℕ → Type 0
-IsSeconds rows seconds = Gives rows (codes "idle") seconds
+IsSeconds rows seconds = GivesNumber rows (codes "idle") seconds
 
 -- the file with the token, where it is told
 abbrev pub IsTokenFile : List Row → Option (Bor (List ℕ)) → Type 0
@@ -152,7 +168,7 @@ IsTokenFile rows file = first_of (codes "token-file") rows ≡ option_map (λ te
 
 -- how many clients are served at once
 abbrev pub IsClients : List Row → ℕ → Type 0
-IsClients rows clients = Gives rows (codes "clients") clients
+IsClients rows clients = GivesNumber rows (codes "clients") clients
 
 -- an option is among the words, and has not its default
 abbrev pub is_word : ValueSource → Bool
@@ -162,52 +178,63 @@ is_word CommandLine = true
 abbrev pub source_in : List Row → List ℕ → Option ValueSource
 source_in rows option = option_and_then (λ r. r.source) (find (λ r. bytes_eq r.id option) rows)
 
-abbrev pub is_given : List Row → List ℕ → Bool
-is_given rows option = option_map_or is_word (source_in rows option) false
+abbrev pub is_given_option : List Row → List ℕ → Bool
+is_given_option rows option = option_map_or is_word (source_in rows option) false
 
--- the words of a shell name a server, or say how a site is set up
+-- the words of a shell name a server or what is shown to it, or say how a site is set up
 abbrev pub names_server : List Row → Bool
-names_server rows = is_given rows (codes "port") || (is_given rows (codes "address") || is_given rows (codes "idle"))
+names_server rows = is_given_option rows (codes "port") || (is_given_option rows (codes "address") || (is_given_option rows (codes "idle")
+    || is_given_option rows (codes "token-file")))
 
 abbrev pub sets_up : List Row → Bool
-sets_up rows = is_given rows (codes "site") || (is_given rows (codes "defs") || is_given rows (codes "max-keys"))
+sets_up rows = is_given_option rows (codes "site") || (is_given_option rows (codes "defs") || is_given_option rows (codes "max-keys"))
 
 -- the words name a database, or say how a site is set up
 abbrev pub has_file : List Row → Bool
-has_file rows = is_given rows (codes "db") || sets_up rows
+has_file rows = is_given_option rows (codes "db") || sets_up rows
 
 -- the words ask for more than one round
 abbrev pub is_repeated : List Row → Bool
-is_repeated rows = is_given rows (codes "every") || is_given rows (codes "times")
+is_repeated rows = is_given_option rows (codes "every") || is_given_option rows (codes "times")
+
+-- the servers that are met, where they are told: only then is it told how often
+abbrev pub IsPeersOf : List Row → Option Peers → Type 0
+IsPeersOf rows None = (first_of (codes "peer") rows ≡ None) × (is_given_option rows (codes "every") ≡ false)
+IsPeersOf rows (Some peers) = (first_of (codes "peer") rows ≡ Some peers.list.now) × IsAddressList peers.list.now
+    × GivesNumber rows (codes "every") peers.every
+
+-- it is told how far a session is
+abbrev pub IsVerbose : List Row → Bool → Type 0
+IsVerbose rows verbose = IsTrue verbose ↔ (first_of (codes "verbose") rows ≡ Some (codes "true"))
 
 -- the order that a command with the values of its options is
 abbrev pub IsOrderOf : List ℕ → List Row → Order → Type 0
 IsOrderOf name rows Sim = name ≡ codes "sim"
 IsOrderOf name rows (Loop setup) = (name ≡ codes "loop") × IsSetupOf rows setup
-IsOrderOf name rows (Serve db setup address conns idle http clients token_file) = (name ≡ codes "serve") × IsDbOf rows db
-    × IsSetupOf rows setup × IsAddressOf rows address × IsConns rows conns × IsSeconds rows idle × IsHttp rows http × IsClients rows clients
-    × IsTokenFile rows token_file
-IsOrderOf name rows (Shell db setup token_file) = (name ≡ codes "shell") × IsDbOf rows db × IsSetupOf rows setup × (names_server rows ≡ false)
-    × IsTokenFile rows token_file
+IsOrderOf name rows (Serve db setup address conns idle http clients peers token_file) = (name ≡ codes "serve")
+    × IsDbOf rows db × IsSetupOf rows setup × IsAddressOfOrder rows address × IsConns rows conns × IsSeconds rows idle
+    × IsHttp rows http × IsClients rows clients × IsPeersOf rows peers × IsTokenFile rows token_file
+IsOrderOf name rows (Shell db setup) = (name ≡ codes "shell") × IsDbOf rows db × IsSetupOf rows setup
+    × (names_server rows ≡ false)
 IsOrderOf name rows (RemoteShell address idle token_file) = (name ≡ codes "shell") × (first_of (codes "db") rows ≡ None)
-    × IsAddressOf rows address × IsSeconds rows idle × (sets_up rows ≡ false) × IsTokenFile rows token_file
+    × IsAddressOfOrder rows address × IsSeconds rows idle × (sets_up rows ≡ false) × IsTokenFile rows token_file
 IsOrderOf name rows (Sync db setup address idle verbose token_file) = (name ≡ codes "sync") × IsDbOf rows db
-    × IsSetupOf rows setup × IsAddressOf rows address × IsSeconds rows idle × (IsTrue verbose ↔ (first_of (codes "verbose") rows ≡ Some (codes "true")))
+    × IsSetupOf rows setup × IsAddressOfOrder rows address × IsSeconds rows idle × IsVerbose rows verbose
     × (first_of (codes "with") rows ≡ None) × (is_repeated rows ≡ false) × IsTokenFile rows token_file
-IsOrderOf name rows (Meet address with repeat idle verbose token_file) = (name ≡ codes "sync") × (first_of (codes "with") rows ≡ Some with.now)
-    × IsAddressList with.now × IsAddressOf rows address × IsRepeatOf rows repeat × IsSeconds rows idle
-    × (IsTrue verbose ↔ (first_of (codes "verbose") rows ≡ Some (codes "true"))) × (has_file rows ≡ false)
+IsOrderOf name rows (Meet address with repeat idle verbose token_file) = (name ≡ codes "sync")
+    × (first_of (codes "with") rows ≡ Some with.now) × IsAddressList with.now × IsAddressOfOrder rows address
+    × IsRepeatOf rows repeat × IsSeconds rows idle × IsVerbose rows verbose × (has_file rows ≡ false)
     × IsTokenFile rows token_file
 
 -- the order in its ranges, or why there is none
 abbrev pub ReadsOptions : List ℕ → List Row → Result Order Unread → Type 0
 ReadsOptions name rows (Ok order) = IsOrderOf name rows order × IsInRange order
-ReadsOptions name rows (Err why) = IsUnread rows (IsOrderOf name) why
+ReadsOptions name rows (Err why) = IsUnreadValue rows (IsOrderOf name) why
 
 -- the same where memory may be refused
 abbrev pub ReadsOrder : List ℕ → List Row → Result Order OrderFault → Type 0
 ReadsOrder name rows (Ok order) = IsOrderOf name rows order × IsInRange order
-ReadsOrder name rows (Err Range) = HasBadNumber rows
+ReadsOrder name rows (Err (Range option most)) = IsBadNumber rows option.now most
 ReadsOrder name rows (Err (Words _)) = (order : Order) → IsOrderOf name rows order → ⊥
 ReadsOrder name rows (Err (Stopped refusal)) = refusal ≡ Memory
 
@@ -215,16 +242,17 @@ ReadsOrder name rows (Err (Stopped refusal)) = refusal ≡ Memory
 abbrev pub AskFor : List Text → Order → Type 0
 AskFor words order = IsSomeAnd (subcommand_of program words) (λ command. IsOrderOf command.0 command.1 order)
 
--- the order that the words ask for, in its ranges, or why there is none. `Words` comes of no words that `clap` takes and that ask for
--- an order
+-- the order that the words ask for, in its ranges, or why there is none. `Words` comes of no words that `clap` takes
+-- and that ask for an order
 abbrev pub ReadsWords : List Text → Result Order OrderFault → Type 0
 ReadsWords words (Ok order) = AskFor words order × IsInRange order
-ReadsWords words (Err Range) = IsSomeAnd (subcommand_of program words) (λ command. HasBadNumber command.1)
+ReadsWords words (Err (Range option most)) = IsSomeAnd (subcommand_of program words)
+    (λ command. IsBadNumber command.1 option.now most)
 ReadsWords words (Err (Words _)) = takes program words ≡ true → (order : Order) → AskFor words order → ⊥
 ReadsWords words (Err (Stopped refusal)) = refusal ≡ Memory
 
 -- what an error of `clap` becomes
 abbrev pub IsFaultBy : Error → OrderFault → Type 0
-IsFaultBy error Range = ⊥
+IsFaultBy error (Range _ _) = ⊥
 IsFaultBy error (Words told) = (told ≡ error) × (kind_of error ≢ OutOfMemory)
 IsFaultBy error (Stopped refusal) = (refusal ≡ Memory) × (kind_of error ≡ OutOfMemory)

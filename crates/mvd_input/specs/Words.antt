@@ -17,8 +17,8 @@ abbrev pub number_option : Text → Rule
 number_option name = record (text_option name) { parser = Some (Unsigned 0 18446744073709551615) }
 
 -- `--name` alone
-abbrev pub flag : Text → Rule
-flag name = record (new_rule name) { long = Some name; action = Some SetTrue }
+abbrev pub flag_rule : Text → Rule
+flag_rule name = record (new_rule name) { long = Some name; action = Some SetTrue }
 
 -- it has to be given
 abbrev pub needed : Rule → Rule
@@ -60,17 +60,23 @@ clients = by_default (codes "256") (number_option (codes "clients"))
 abbrev pub with : Rule
 with = text_option (codes "with")
 
+abbrev pub peer : Rule
+peer = text_option (codes "peer")
+
 abbrev pub every : Rule
 every = number_option (codes "every")
 
-abbrev pub times : Rule
-times = number_option (codes "times")
+abbrev pub peer_every : Rule
+peer_every = by_default (codes "30") every
+
+abbrev pub times_rule : Rule
+times_rule = number_option (codes "times")
 
 abbrev pub idle : Text → Rule
 idle seconds = by_default seconds (number_option (codes "idle"))
 
 abbrev pub verbose : Rule
-verbose = flag (codes "verbose")
+verbose = flag_rule (codes "verbose")
 
 abbrev pub token_file : Rule
 token_file = text_option (codes "token-file")
@@ -93,7 +99,7 @@ loop_words = leaf (codes "loop") (needed site ∷ defs ∷ max_keys ∷ [])
 
 abbrev pub serve_words : App
 serve_words = leaf (codes "serve")
-    (database ++ needed port ∷ http ∷ conns ∷ idle (codes "300") ∷ clients ∷ token_file ∷ [])
+    (database ++ needed port ∷ http ∷ conns ∷ idle (codes "300") ∷ clients ∷ peer ∷ peer_every ∷ token_file ∷ [])
 
 abbrev pub shell_words : App
 shell_words = leaf (codes "shell")
@@ -101,7 +107,8 @@ shell_words = leaf (codes "shell")
 
 abbrev pub sync_words : App
 sync_words = leaf (codes "sync")
-    (db ∷ site ∷ defs ∷ max_keys ∷ address ∷ needed port ∷ with ∷ every ∷ times ∷ idle (codes "60") ∷ verbose ∷ token_file ∷ [])
+    (db ∷ site ∷ defs ∷ max_keys ∷ address ∷ needed port ∷ with ∷ every ∷ times_rule ∷ idle (codes "60") ∷ verbose
+    ∷ token_file ∷ [])
 
 -- the program: a command has to be given, and `--version` may be
 unfoldable pub program : App

@@ -4,7 +4,7 @@ ghost use Rattle.std.specs.List.{AllZip};
 ghost use Rattle.std.specs.Net.Grammar.{IsSocketText};
 ghost use Rattle.std.specs.Net.Socket.{socket_port};
 ghost use Rattle.std.specs.Option.{option_copied};
-ghost use Rattle.mvd_input.specs.Addresses.{AreItems, IsAddress, IsAddressList, IsAt, IsItem, items_of, items_left};
+ghost use Rattle.mvd_input.specs.Addresses.{AreItems, IsAddress, IsAddressList, IsAddressOf, IsItem, items_of, items_left};
 ghost use Rattle.mvd_input.specs.Lines.{IsNumber};
 
 use crate::command::number_of;
@@ -27,7 +27,7 @@ enum Item {
 impl Item {
     /// The address that it is, at this IP address where it is a port alone.
     fn at(self, ip: IpAddr) -> SocketAddr
-        ensures { IsAt ip self result }
+        ensures { IsAddressOf ip self result }
     {
         match self {
             Item::Port(port) => SocketAddr::new(ip, port),

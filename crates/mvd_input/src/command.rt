@@ -1,6 +1,8 @@
 //! The lines of a script, and those that are typed.
 ghost use Rattle.std.specs.Prelude.{◌≡◌, ◌↔◌, IfNone, IfSome, IsTrue, None, Some, codes};
-ghost use Rattle.mvd_input.specs.Lines.{IsAsked, IsAt, IsCommand, IsLine, IsNoAsk, IsNoAt, IsNoCommand, IsNoLine, IsNoNumber, IsNoTypedAsk, IsNoView, IsNotTyped, IsNumber, IsPadded, IsTyped, IsTypedAsk, IsView, IsWord, spaced};
+ghost use Rattle.mvd_input.specs.Lines.{IsAsked, IsSiteLine, IsCommand, IsLine, IsNoAsk, IsNoAt, IsNoCommand, IsNoLine};
+ghost use Rattle.mvd_input.specs.Lines.{IsNoNumber, IsNoTypedAsk, IsNoView, IsNotTyped, IsNumber, IsPadded, IsTyped};
+ghost use Rattle.mvd_input.specs.Lines.{IsTypedAsk, IsView, IsWord, spaced};
 
 /// A line of a script, as it is written.
 #[derive(Clone, Copy)]
@@ -143,7 +145,7 @@ const ROOT: Ask<'static> = Ask::Node { path: "-" };
 
 /// The command of a name, and the number of its site, which stands first.
 fn at_of<'a>(name: &str, rest: &'a str) -> Option<(u64, Command<'a>)>
-    ensures found { IfSome result (λ at. IsAt at.0 at.1 name.now rest.now) }
+    ensures found { IfSome result (λ at. IsSiteLine at.0 at.1 name.now rest.now) }
     ensures none { IfNone result (IsNoAt name.now rest.now) }
 {
     match parted(rest) {

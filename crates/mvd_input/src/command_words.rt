@@ -14,7 +14,8 @@ const VERSION: &str = "0.2.0, format version 2";
 const FIRST: &str = "\
 Example: echo 'put k - {\"a\":1}' | mvd shell --db a.db --site 1
 
-Where a command is stopped, standard error says `mvd: fault N Name`, and on the next line where that came and what to do about it.
+Where a command is stopped, standard error says `mvd: fault N Name`, and on the next line where that came from and \
+what to do about it.
 docs/USING.md lists the faults.";
 
 const SIM: &str =
@@ -22,31 +23,48 @@ const SIM: &str =
 
 const LOOP: &str =
     "Answers the requests that stand in hexadecimal on standard input. A client and a server meet over one \
-                    connection within this process, and the states are stored in memory. Each reply is printed as one line of \
-                    hexadecimal, and then how the connection ended.";
+                    connection within this process, and the states are stored in memory. Each reply is printed as one \
+                    line of hexadecimal, and then how the connection ended.";
 
 const SERVE: &str =
     "Serves a database to many clients at once. It prints where it listens, how each \
-                     connection ended, and, after the last one, the digest of all that it holds. Each write is stored before \
-                     its reply leaves.";
+                     connection ended, and, after the last one, the digest of all that it holds. Each write is stored \
+                     before its reply leaves.";
+
+const SERVE_EXAMPLES: &str = "\
+Example: mvd serve --db a.db --site 1 --port 7007
+         mvd serve --db a.db --site 1 --port 7007 --http 8080 --peer 7008,192.0.2.1:7007";
 
 const SERVED_IDLE: &str =
     "A connection on which no byte moves for so many seconds ends, 1 to 86400.";
 
+const PEER: &str =
+    "The servers that this one meets by itself while it serves: 1 to 16 items with commas between them, each a port \
+                    at the same IP address, or an address with its port, as 192.0.2.1:7007 or [::1]:7007. Where \
+                    there is a token, it is shown to each of them.";
+
+const PEER_EVERY: &str =
+    "Each peer is met again so many seconds after it was met, 1 to 3600, and sooner where something was written here.";
+
+const EVERY: &str =
+    "The servers meet again so many seconds after they met, 1 to 3600, until it is stopped.";
+
 const IDLE: &str = "A server from which no byte comes for so many seconds is given up, 1 to 86400.";
 
 const SHELL: &str =
-    "Answers the lines of standard input, each at once, on a database or through a server. The line `help` lists what may be asked.";
+    "Answers the lines of standard input, each at once, on a database or through a server. The line `help` lists what \
+                     may be asked.";
 
 const SHELL_USAGE: &str = "\
-mvd shell --db <FILE> --site <N> [--defs <FILE>] [--max-keys <N>] [--token-file <FILE>]
+mvd shell --db <FILE> --site <N> [--defs <FILE>] [--max-keys <N>]
        mvd shell --port <P> [--address <IP>] [--idle <S>] [--token-file <FILE>]";
 
 const SHELL_PORT: &str = "The port of a server, 1 to 65535, in place of a database.";
 
 const SYNC: &str =
-    "Runs a session of a database with a server, or of a server with each of a list, after which both sides hold all that \
-                    one of them held before. It prints how many keys differed, and the digest of all that is held then.";
+    "Runs a session of a database with a server, or of a server with each of a list, after which both sides hold all \
+                    that one of them held before. It prints how many keys crossed, and the digest of all that is held \
+                    then.";
 
 const SYNC_USAGE: &str = "\
 mvd sync --db <FILE> --site <N> --port <P> [--defs <FILE>] [--max-keys <N>] [--address <IP>] [--idle <S>] \
@@ -55,18 +73,16 @@ mvd sync --db <FILE> --site <N> --port <P> [--defs <FILE>] [--max-keys <N>] [--a
                           [--token-file <FILE>]";
 
 const WITH: &str =
-    "The servers that meet the one at the port, in place of a database: 1 to 16 items with commas between them, each a port \
-                    at the same IP address, or an address with its port, as 192.0.2.1:7007 or [::1]:7007.";
+    "The servers that meet the one at the port, in place of a database: 1 to 16 items with commas between them, each a \
+                    port at the same IP address, or an address with its port, as 192.0.2.1:7007 or [::1]:7007.";
 
 const SERVED_TOKEN: &str =
-    "Only who shows the token is served: the first line of this file, 16 to 256 printed characters of ASCII without a space.";
+    "Only who shows the token is served: the first line of this file, 16 to 256 printable ASCII characters without a \
+                    space.";
 
 const TOKEN: &str =
-    "The token that the server wants: the first line of this file, 16 to 256 printed characters of ASCII without a space.";
-
-const SHELL_TOKEN: &str =
-    "The token that a server wants, which is shown to it alone: the first line of this file, 16 to 256 printed characters of \
-                           ASCII without a space.";
+    "The token that the server wants: the first line of this file, 16 to 256 printable ASCII characters without a \
+                    space.";
 
 /// The program's command, with one command below it for each order.
 pub fn command<'a>(alloc: Global) -> Result<Command<'a>, AllocError>
@@ -140,15 +156,11 @@ fn serve_command<'a>(alloc: Global) -> Result<Command<'a>, AllocError>
         conns(alloc),
         idle(alloc, SERVED_IDLE, "300"),
         clients(alloc),
+        peer(alloc),
+        peer_every(alloc),
         token_file(alloc, SERVED_TOKEN),
     ]?;
-    named(
-        alloc,
-        "serve",
-        SERVE,
-        "Example: mvd serve --db a.db --site 1 --port 7007",
-    )
-    .args(options)
+    named(alloc, "serve", SERVE, SERVE_EXAMPLES).args(options)
 }
 
 fn shell_command<'a>(alloc: Global) -> Result<Command<'a>, AllocError>
@@ -162,7 +174,7 @@ fn shell_command<'a>(alloc: Global) -> Result<Command<'a>, AllocError>
         port(alloc, SHELL_PORT).required(false),
         address(alloc),
         idle(alloc, IDLE, "60"),
-        token_file(alloc, SHELL_TOKEN),
+        token_file(alloc, TOKEN),
     ]?;
     named(
         alloc,
@@ -185,7 +197,7 @@ fn sync_command<'a>(alloc: Global) -> Result<Command<'a>, AllocError>
         address(alloc),
         port(alloc, "The port of the server, 1 to 65535."),
         with(alloc),
-        every(alloc),
+        every(alloc, EVERY),
         times(alloc),
         idle(alloc, IDLE, "60"),
         verbose(alloc),
@@ -313,19 +325,26 @@ fn with<'a>(alloc: Global) -> Arg<'a>
     text(alloc, "with", "LIST", WITH)
 }
 
-fn every<'a>(alloc: Global) -> Arg<'a>
+fn peer<'a>(alloc: Global) -> Arg<'a>
+    ensures { rule_of result ≡ spec.peer }
+{
+    text(alloc, "peer", "LIST", PEER)
+}
+
+fn peer_every<'a>(alloc: Global) -> Arg<'a>
+    ensures { rule_of result ≡ spec.peer_every }
+{
+    every(alloc, PEER_EVERY).default_value("30")
+}
+
+fn every<'a>(alloc: Global, help: &'a str) -> Arg<'a>
     ensures { rule_of result ≡ spec.every }
 {
-    number(
-        alloc,
-        "every",
-        "S",
-        "The servers meet again so many seconds after they met, 1 to 3600, until it is stopped.",
-    )
+    number(alloc, "every", "S", help)
 }
 
 fn times<'a>(alloc: Global) -> Arg<'a>
-    ensures { rule_of result ≡ spec.times }
+    ensures { rule_of result ≡ spec.times_rule }
 {
     number(
         alloc,

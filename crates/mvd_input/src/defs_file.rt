@@ -1,8 +1,10 @@
 //! Files of definitions, by the rules of a script's head.
-ghost use Rattle.std.specs.Prelude.{◌≡◌, ◌≢◌, ◌<◌, ◌≤◌, true, false, length, Ok, Err, IfErr, IfNone, IfOk, IfSome, MatchResult, OnErr, OnOk};
+ghost use Rattle.std.specs.Prelude.{◌≡◌, ◌≢◌, ◌<◌, ◌≤◌, true, false, length, Ok, Err, IfErr, IfNone, IfOk, IfSome};
+ghost use Rattle.std.specs.Prelude.{MatchResult, OnErr, OnOk};
 ghost use Rattle.mvd_dots.specs.declared.refusals.Refusal.TheVariants.{FrameTooLong, Memory};
 ghost use Rattle.mvd_input.specs.declared.fault.Fault.TheVariants.{Stopped};
-ghost use Rattle.mvd_input.specs.Definitions.{DefineAll, Defines, DefinesNothing, HasDefsFault, index_added, IsTaken, view_added};
+ghost use Rattle.mvd_input.specs.Definitions.{DefineAll, Defines, DefinesNothing, HasDefsFault, index_added};
+ghost use Rattle.mvd_input.specs.Definitions.{IsDefinitionTaken, view_added};
 ghost use Rattle.mvd_input.specs.Ends.{EndsEarly};
 ghost use Rattle.mvd_input.specs.Hexadecimal.{lines_of};
 ghost use Rattle.mvd_input.specs.Lines.{said};
@@ -84,7 +86,7 @@ pub fn text_of(line: &[u8]) -> Option<&str>
 
 /// Whether this may be one more index, which it is then. Where memory is refused, nothing changes.
 pub fn add_index(alloc: Global, defs: &mut Defs, field: &str) -> Result<bool, Fault>
-    ensures taken { IfOk result (λ is_taken. IsTaken (index_added defs.old field.now) is_taken defs.old defs.new) }
+    ensures taken { IfOk result (λ is_taken. IsDefinitionTaken (index_added defs.old field.now) is_taken defs.old defs.new) }
     ensures memory { IfErr result (λ fault. fault ≡ Stopped Memory) }
     ensures unchanged { OnErr result (defs.new ≡ defs.old) }
     ensures ends { IfErr result EndsEarly }
@@ -94,7 +96,7 @@ pub fn add_index(alloc: Global, defs: &mut Defs, field: &str) -> Result<bool, Fa
 
 /// Whether this may be one more view, which it is then. Where memory is refused, nothing changes.
 pub fn add_view(alloc: Global, defs: &mut Defs, view: View<'_>) -> Result<bool, Fault>
-    ensures taken { IfOk result (λ is_taken. IsTaken (view_added defs.old view.entry) is_taken defs.old defs.new) }
+    ensures taken { IfOk result (λ is_taken. IsDefinitionTaken (view_added defs.old view.entry) is_taken defs.old defs.new) }
     ensures memory { IfErr result (λ fault. fault ≡ Stopped Memory) }
     ensures unchanged { OnErr result (defs.new ≡ defs.old) }
     ensures ends { IfErr result EndsEarly }

@@ -1,5 +1,6 @@
 //! Lines of hexadecimal digits.
-ghost use Rattle.std.specs.Prelude.{◌≡◌, ◌<◌, ◌≤◌, ◌+◌, ◌++◌, ◌∷◌, ◌⊎◌, List, ℕ, Ok, length, IfErr, IfOk, IfSome, MatchResult};
+ghost use Rattle.std.specs.Prelude.{◌≡◌, ◌<◌, ◌≤◌, ◌+◌, ◌++◌, ◌∷◌, ◌⊎◌, List, ℕ, Ok, length, IfErr, IfOk, IfSome};
+ghost use Rattle.std.specs.Prelude.{MatchResult};
 ghost use Rattle.std.specs.Option.{option_copied};
 ghost use Rattle.hex.specs.Hex.{decode_of};
 ghost use Rattle.mvd_dots.specs.declared.refusals.Refusal.TheVariants.{Memory};

@@ -19,6 +19,6 @@ pub use defs_file::{DEFS_MAX, add_index, add_view, read_defs, text_of};
 pub use fault::Fault;
 pub use hexadecimal::{BYTES_MAX, HEX_MAX, first_line, hex_bytes};
 pub use input::{read_input, tell, write_out};
-pub use options::Repeat;
+pub use options::{Peers, Repeat};
 pub use order::{MOST_KEYS, Order, OrderFault, Setup, order_of};
 pub use token_files::{TOKEN_FILE_MAX, token_line};

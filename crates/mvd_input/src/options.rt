@@ -2,8 +2,12 @@
 ghost use Rattle.std.specs.Prelude.{◌≡◌, ◌≤◌, IfErr, IfOk, IfSome, false, option_map};
 ghost use Rattle.std.specs.Option.{option_map_or};
 ghost use Rattle.clap.specs.Words.{first_of};
-ghost use Rattle.mvd_input.specs.Orders.{AreClients, HasPort, IsAddressOf, IsClients, IsConns, IsDbOf, IsHttp, IsIdle, IsIpOf, IsPort, IsRepeatOf, IsRounds, IsSeconds, IsTimes, IsTokenFile, IsUnread, ReadsGiven, ReadsNumber, is_given, is_word, options_of};
+ghost use Rattle.mvd_input.specs.Orders.{AreClients, ArePeers, HasPort, IsAddressOfOrder, IsClients, IsConns, IsDbOf, IsHttp};
+ghost use Rattle.mvd_input.specs.Orders.{IsIdleTime, IsIpOf, IsPeersOf, IsPort, IsRepeatOf, IsRounds, IsSeconds, IsTimes};
+ghost use Rattle.mvd_input.specs.Orders.{IsTokenFile, IsUnreadValue, ReadsGiven, ReadsNumber, is_given_option, is_word};
+ghost use Rattle.mvd_input.specs.Orders.{options_of};
 
+use crate::addresses::is_address_list;
 use crate::command::number_of;
 use clap::ArgMatches;
 use clap::parser::ValueSource;
@@ -21,13 +25,19 @@ const MOST_IDLE: u64 = 86_400;
 /// The most clients that a server may be asked to serve at once.
 const MOST_CLIENTS: u64 = 10_000;
 
-/// The most seconds between two rounds of sessions, and the most rounds.
+/// The most seconds between two sessions, and the most rounds of them.
 const MOST_EVERY: u64 = 3_600;
 
 const MOST_TIMES: u64 = 1_000_000;
 
 /// What a shell needs.
 const NEITHER: &str = "'--db <FILE>' with '--site <N>', or '--port <P>', is missing";
+
+/// What is told of a list of peers that is none, and of what goes with one alone.
+const NO_PEERS: &str =
+    "invalid value for '--peer <LIST>': it is no list of 1 to 16 ports and addresses with ports";
+
+const ONLY_PEERS: &str = "'--every <S>' goes with '--peer <LIST>'";
 
 /// How often servers meet again: so many seconds, 1 to 3,600, after each round, until it is stopped or so many rounds,
 /// 1 to 1,000,000, are done.
@@ -37,18 +47,26 @@ pub struct Repeat {
     pub times: Option<u32>,
 }
 
+/// The servers that a server meets by itself: a list, which `addresses_of` reads. Each is met again so many seconds
+/// after it was met, 1 to 3,600, or sooner.
+#[derive(Clone, Copy, PartialEq, Eq)]
+pub struct Peers<'a> {
+    pub list: &'a str,
+    pub every: u32,
+}
+
 /// Why the options of a command mean no order.
 #[derive(Clone, Copy)]
 pub(crate) enum Unread {
-    /// A number is out of its range.
-    Range,
+    /// The number of this option is out of its range, which is 1 to `most`.
+    Range { option: &'static str, most: u64 },
     /// This is amiss.
     Text(&'static str),
 }
 
 /// Whether an option is among the words, and has not its default.
 pub(crate) fn is_given(matches: &ArgMatches<'_>, option: &str) -> bool
-    ensures { result ≡ is_given (options_of matches.now) option.now }
+    ensures { result ≡ is_given_option (options_of matches.now) option.now }
 {
     is_word(matches.value_source(option))
 }
@@ -74,7 +92,7 @@ pub(crate) fn text_in<'a>(matches: &ArgMatches<'a>, option: &str) -> Option<&'a 
 /// The file of a database.
 pub(crate) fn db_in<'a>(matches: &ArgMatches<'a>) -> Result<&'a str, Unread>
     ensures found { IfOk result (IsDbOf (options_of matches.now)) }
-    ensures fault { IfErr result (IsUnread (options_of matches.now) IsDbOf) }
+    ensures fault { IfErr result (IsUnreadValue (options_of matches.now) IsDbOf) }
 {
     match text_in(matches, "db") {
         Some(db) => Ok(db),
@@ -90,21 +108,29 @@ pub(crate) fn token_file_in<'a>(matches: &ArgMatches<'a>) -> Option<&'a str>
 }
 
 /// The number of an option, where it is given: `Range` where it is 0 or too great.
-fn number_in(matches: &ArgMatches<'_>, option: &str, most: u64) -> Result<Option<u64>, Unread>
+fn number_in(
+    matches: &ArgMatches<'_>,
+    option: &'static str,
+    most: u64,
+) -> Result<Option<u64>, Unread>
     ensures { ReadsNumber (options_of matches.now) option.now most result }
 {
     let Some(text) = text_in(matches, option) else {
         return Ok(None);
     };
     match number_of(text) {
-        Some(number) if number == 0 || number > most => Err(Unread::Range),
+        Some(number) if number == 0 || number > most => Err(Unread::Range { option, most }),
         Some(number) => Ok(Some(number)),
         None => Err(Unread::Text("a number has a sign, or a zero that leads")),
     }
 }
 
 /// The number of an option that is given: `Range` where it is 0 or too great.
-pub(crate) fn given_in(matches: &ArgMatches<'_>, option: &str, most: u64) -> Result<u64, Unread>
+pub(crate) fn given_in(
+    matches: &ArgMatches<'_>,
+    option: &'static str,
+    most: u64,
+) -> Result<u64, Unread>
     ensures { ReadsGiven (options_of matches.now) option.now most result }
 {
     match number_in(matches, option, most)? {
@@ -124,7 +150,7 @@ fn missing(option: &str) -> &'static str {
 pub(crate) fn conns_in(matches: &ArgMatches<'_>) -> Result<Option<u32>, Unread>
     ensures range { IfOk result (λ found. IfSome found (λ n. (1 ≤ n) × (n ≤ 1000))) }
     ensures count { IfOk result (IsConns (options_of matches.now)) }
-    ensures fault { IfErr result (IsUnread (options_of matches.now) IsConns) }
+    ensures fault { IfErr result (IsUnreadValue (options_of matches.now) IsConns) }
 {
     match number_in(matches, "conns", MOST_CONNECTIONS)? {
         Some(number) => Ok(Some(number as u32)),
@@ -136,7 +162,7 @@ pub(crate) fn conns_in(matches: &ArgMatches<'_>) -> Result<Option<u32>, Unread>
 pub(crate) fn http_in(matches: &ArgMatches<'_>) -> Result<Option<u16>, Unread>
     ensures range { IfOk result IsPort }
     ensures port { IfOk result (IsHttp (options_of matches.now)) }
-    ensures fault { IfErr result (IsUnread (options_of matches.now) IsHttp) }
+    ensures fault { IfErr result (IsUnreadValue (options_of matches.now) IsHttp) }
 {
     match number_in(matches, "http", MOST_PORT)? {
         Some(number) => Ok(Some(number as u16)),
@@ -146,9 +172,9 @@ pub(crate) fn http_in(matches: &ArgMatches<'_>) -> Result<Option<u16>, Unread>
 
 /// The seconds for which no byte need move.
 pub(crate) fn idle_in(matches: &ArgMatches<'_>) -> Result<u32, Unread>
-    ensures range { IfOk result IsIdle }
+    ensures range { IfOk result IsIdleTime }
     ensures idle { IfOk result (IsSeconds (options_of matches.now)) }
-    ensures fault { IfErr result (IsUnread (options_of matches.now) IsSeconds) }
+    ensures fault { IfErr result (IsUnreadValue (options_of matches.now) IsSeconds) }
 {
     Ok(given_in(matches, "idle", MOST_IDLE)? as u32)
 }
@@ -157,16 +183,33 @@ pub(crate) fn idle_in(matches: &ArgMatches<'_>) -> Result<u32, Unread>
 pub(crate) fn clients_in(matches: &ArgMatches<'_>) -> Result<u32, Unread>
     ensures range { IfOk result AreClients }
     ensures clients { IfOk result (IsClients (options_of matches.now)) }
-    ensures fault { IfErr result (IsUnread (options_of matches.now) IsClients) }
+    ensures fault { IfErr result (IsUnreadValue (options_of matches.now) IsClients) }
 {
     Ok(given_in(matches, "clients", MOST_CLIENTS)? as u32)
+}
+
+/// The servers that a server meets by itself, where they are told.
+pub(crate) fn peers_in<'a>(matches: &ArgMatches<'a>) -> Result<Option<Peers<'a>>, Unread>
+    ensures range { IfOk result (λ found. IfSome found ArePeers) }
+    ensures peers { IfOk result (IsPeersOf (options_of matches.now)) }
+    ensures fault { IfErr result (IsUnreadValue (options_of matches.now) IsPeersOf) }
+{
+    match text_in(matches, "peer") {
+        Some(list) if is_address_list(list) => {
+            let every = given_in(matches, "every", MOST_EVERY)? as u32;
+            Ok(Some(Peers { list, every }))
+        }
+        Some(_) => Err(Unread::Text(NO_PEERS)),
+        None if is_given(matches, "every") => Err(Unread::Text(ONLY_PEERS)),
+        None => Ok(None),
+    }
 }
 
 /// How often servers meet again, where that is told.
 pub(crate) fn repeat_in(matches: &ArgMatches<'_>) -> Result<Option<Repeat>, Unread>
     ensures range { IfOk result (λ found. IfSome found IsRounds) }
     ensures repeat { IfOk result (IsRepeatOf (options_of matches.now)) }
-    ensures fault { IfErr result (IsUnread (options_of matches.now) IsRepeatOf) }
+    ensures fault { IfErr result (IsUnreadValue (options_of matches.now) IsRepeatOf) }
 {
     let times = times_in(matches)?;
     match number_in(matches, "every", MOST_EVERY)? {
@@ -183,7 +226,7 @@ pub(crate) fn repeat_in(matches: &ArgMatches<'_>) -> Result<Option<Repeat>, Unre
 fn times_in(matches: &ArgMatches<'_>) -> Result<Option<u32>, Unread>
     ensures range { IfOk result (λ found. IfSome found (λ n. (1 ≤ n) × (n ≤ 1000000))) }
     ensures count { IfOk result (IsTimes (options_of matches.now)) }
-    ensures fault { IfErr result (IsUnread (options_of matches.now) IsTimes) }
+    ensures fault { IfErr result (IsUnreadValue (options_of matches.now) IsTimes) }
 {
     match number_in(matches, "times", MOST_TIMES)? {
         Some(number) => Ok(Some(number as u32)),
@@ -194,8 +237,8 @@ fn times_in(matches: &ArgMatches<'_>) -> Result<Option<u32>, Unread>
 /// The address of a server, with its port.
 pub(crate) fn address_in(matches: &ArgMatches<'_>) -> Result<SocketAddr, Unread>
     ensures range { IfOk result HasPort }
-    ensures address { IfOk result (IsAddressOf (options_of matches.now)) }
-    ensures fault { IfErr result (IsUnread (options_of matches.now) IsAddressOf) }
+    ensures address { IfOk result (IsAddressOfOrder (options_of matches.now)) }
+    ensures fault { IfErr result (IsUnreadValue (options_of matches.now) IsAddressOfOrder) }
 {
     let port = given_in(matches, "port", MOST_PORT)? as u16;
     Ok(SocketAddr::new(ip_in(matches)?, port))
@@ -204,7 +247,7 @@ pub(crate) fn address_in(matches: &ArgMatches<'_>) -> Result<SocketAddr, Unread>
 /// The IP address of a server. Its text is read here, since `clap` reads numbers alone.
 fn ip_in(matches: &ArgMatches<'_>) -> Result<IpAddr, Unread>
     ensures found { IfOk result (IsIpOf (options_of matches.now)) }
-    ensures fault { IfErr result (IsUnread (options_of matches.now) IsIpOf) }
+    ensures fault { IfErr result (IsUnreadValue (options_of matches.now) IsIpOf) }
 {
     let Some(text) = text_in(matches, "address") else {
         return Err(Unread::Text("an option is missing"));

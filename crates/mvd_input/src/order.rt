@@ -1,15 +1,16 @@
 //! The command line.
-ghost use Rattle.std.specs.Prelude.{◌≡◌, ◌↔◌, IfErr, IfOk, IsTrue, Some, codes, false};
+ghost use Rattle.std.specs.Prelude.{◌≡◌, IfErr, IfOk, Some, codes, false};
 ghost use Rattle.mvd_input.specs.Addresses.{IsAddressList};
 ghost use Rattle.clap.specs.Walk.{texts};
 ghost use Rattle.clap.specs.Words.{first_of};
-ghost use Rattle.mvd_input.specs.Orders.{IsInRange, IsSetUp, IsSetupOf, IsUnread, ReadsOptions, ReadsOrder, ReadsWords, has_file, is_repeated, names_server, options_of, sets_up};
+ghost use Rattle.mvd_input.specs.Orders.{IsInRange, IsSetUp, IsSetupOf, IsUnreadValue, IsVerbose, ReadsOptions, ReadsOrder};
+ghost use Rattle.mvd_input.specs.Orders.{ReadsWords, has_file, is_repeated, names_server, options_of, sets_up};
 
 use crate::addresses::is_address_list;
 use crate::command_words::{command, command_of};
 use crate::options::{
-    Repeat, Unread, address_in, clients_in, conns_in, db_in, given_in, http_in, idle_in, is_given,
-    repeat_in, text_in, token_file_in,
+    Peers, Repeat, Unread, address_in, clients_in, conns_in, db_in, given_in, http_in, idle_in,
+    is_given, peers_in, repeat_in, text_in, token_file_in,
 };
 use clap::error::ErrorKind;
 use clap::{ArgMatches, Command, Error};
@@ -43,8 +44,9 @@ pub struct Setup<'a> {
 }
 
 /// What a command line asks for. Numbers are in their ranges: those of a site as told there, a port at least 1,
-/// `conns` 1 to 1,000, `idle` 1 to 86,400 seconds, the port `http` at least 1, and `clients` 1 to 10,000. The first line
-/// of a `token_file` is the token that a server asks for, or that it is shown.
+/// `conns` 1 to 1,000, `idle` 1 to 86,400 seconds, the port `http` at least 1, and `clients` 1 to 10,000. The first
+/// line of a `token_file` is the token that a server asks for, or that it is shown. A server meets its `peers` by
+/// itself.
 #[derive(Clone, Copy, PartialEq, Eq)]
 pub enum Order<'a> {
     /// Run a script from standard input.
@@ -60,13 +62,13 @@ pub enum Order<'a> {
         idle: u32,
         http: Option<u16>,
         clients: u32,
+        peers: Option<Peers<'a>>,
         token_file: Option<&'a str>,
     },
     /// Answer the lines of standard input on a database.
     Shell {
         db: &'a str,
         setup: Setup<'a>,
-        token_file: Option<&'a str>,
     },
     /// Answer the lines of standard input through a server.
     RemoteShell {
@@ -99,8 +101,8 @@ pub enum Order<'a> {
 pub enum OrderFault {
     /// Its words are none of the program's, or they ask for help.
     Words(Error),
-    /// A number is out of its range.
-    Range,
+    /// The number of this option, whose name has no `--` here, is out of its range, which is 1 to `most`.
+    Range { option: &'static str, most: u64 },
     /// Memory was refused.
     Stopped(Refusal),
 }
@@ -152,7 +154,7 @@ fn order_in<'a>(
 {
     match read_in(name, matches) {
         Ok(order) => Ok(order),
-        Err(Unread::Range) => Err(OrderFault::Range),
+        Err(Unread::Range { option, most }) => Err(OrderFault::Range { option, most }),
         Err(Unread::Text(message)) => Err(refused(alloc, name, message)?),
     }
 }
@@ -180,6 +182,7 @@ fn serve_of<'a>(matches: &ArgMatches<'a>) -> Result<Order<'a>, Unread>
         idle: idle_in(matches)?,
         http: http_in(matches)?,
         clients: clients_in(matches)?,
+        peers: peers_in(matches)?,
         address: address_in(matches)?,
         token_file: token_file_in(matches),
     })
@@ -223,7 +226,7 @@ fn meet_of<'a>(matches: &ArgMatches<'a>, with: &'a str) -> Result<Order<'a>, Unr
 
 /// Whether it is told how far a session is.
 fn is_verbose(matches: &ArgMatches<'_>) -> bool
-    ensures { IsTrue result ↔ (first_of (codes "verbose") (options_of matches.now) ≡ Some (codes "true")) }
+    ensures { IsVerbose (options_of matches.now) result }
 {
     text_in(matches, "verbose") == Some("true")
 }
@@ -237,7 +240,6 @@ fn shell_of<'a>(matches: &ArgMatches<'a>) -> Result<Order<'a>, Unread>
         Some(db) => Ok(Order::Shell {
             db,
             setup: setup_in(matches)?,
-            token_file: token_file_in(matches),
         }),
         None => Ok(Order::RemoteShell {
             address: address_in(matches)?,
@@ -251,7 +253,10 @@ fn shell_of<'a>(matches: &ArgMatches<'a>) -> Result<Order<'a>, Unread>
 fn names_server(matches: &ArgMatches<'_>) -> bool
     ensures { result ≡ names_server (options_of matches.now) }
 {
-    is_given(matches, "port") || is_given(matches, "address") || is_given(matches, "idle")
+    is_given(matches, "port")
+        || is_given(matches, "address")
+        || is_given(matches, "idle")
+        || is_given(matches, "token-file")
 }
 
 /// Whether the words name a database, or say how a site is set up.
@@ -279,7 +284,7 @@ fn sets_up(matches: &ArgMatches<'_>) -> bool
 fn setup_in<'a>(matches: &ArgMatches<'a>) -> Result<Setup<'a>, Unread>
     ensures range { IfOk result IsSetUp }
     ensures setup { IfOk result (IsSetupOf (options_of matches.now)) }
-    ensures fault { IfErr result (IsUnread (options_of matches.now) IsSetupOf) }
+    ensures fault { IfErr result (IsUnreadValue (options_of matches.now) IsSetupOf) }
 {
     Ok(Setup {
         site: given_in(matches, "site", 4_294_967_295)? as u32,

@@ -1,7 +1,7 @@
 //! Command lines, and what comes of each.
 
-/// What comes of a line: an order of this command, a number that is out of its range, or a refusal or a help that
-/// says this.
+/// What comes of a line: an order of this command, a number of this option that is out of its range, which ends
+/// here, or a refusal or a help that says this.
 #[derive(Clone, Copy)]
 pub enum Wanted {
     Serve,
@@ -12,21 +12,72 @@ pub enum Wanted {
     ServeToken,
     SyncToken,
     MeetToken,
-    ShellToken,
+    Peer,
+    Peers,
+    PeersLeast,
+    PeersMost,
     RemoteShellToken,
     Loop,
     Sim,
     Shell,
     RemoteShell,
-    Range,
+    Range(&'static str, u64),
     Says(&'static str),
 }
 
 const BAD_ADDRESS: &str = "mvd serve --db f --site 1 --port 1 --address here";
 
 const SHELL: &str =
-    "Usage: mvd shell --db <FILE> --site <N> [--defs <FILE>] [--max-keys <N>] [--token-file <FILE>]\n       \
+    "Usage: mvd shell --db <FILE> --site <N> [--defs <FILE>] [--max-keys <N>]\n       \
     mvd shell --port <P>";
+
+/// The longest list.
+pub const SIXTEEN: &str = "1,2,3,4,5,6,7,8,9,10,11,12,13,14,15,9";
+
+/// What stands behind the words of a server, and what comes of both.
+pub const PEERS: &[(&str, Wanted)] = &[
+    ("--peer 2", Wanted::Peer),
+    ("--peer 2,10.0.0.1:7007,[::1]:7007 --every 5", Wanted::Peers),
+    ("--every 1 --peer [::1]:65535", Wanted::PeersLeast),
+    (
+        "--peer 1,2,3,4,5,6,7,8,9,10,11,12,13,14,15,9 --every 3600 --token-file t",
+        Wanted::PeersMost,
+    ),
+    ("--peer 2 --every 0", Wanted::Range("every", 3_600)),
+    ("--peer 2 --every 3601", Wanted::Range("every", 3_600)),
+    (
+        "--peer 2 --every 30 --idle 0",
+        Wanted::Range("idle", 86_400),
+    ),
+    ("--peer 0", Wanted::Says("'--peer <LIST>': it is no list")),
+    ("--peer 65536", Wanted::Says("it is no list")),
+    ("--peer 02", Wanted::Says("it is no list")),
+    ("--peer a:1", Wanted::Says("it is no list")),
+    ("--peer 10.0.0.1:0", Wanted::Says("it is no list")),
+    ("--peer ::1:7", Wanted::Says("it is no list")),
+    ("--peer 2,", Wanted::Says("it is no list")),
+    ("--peer ,2", Wanted::Says("it is no list")),
+    ("--peer 2,,3", Wanted::Says("it is no list")),
+    (
+        "--peer 1,2,3,4,5,6,7,8,9,10,11,12,13,14,15,16,17",
+        Wanted::Says("Usage: mvd serve "),
+    ),
+    ("--peer", Wanted::Says("'--peer <LIST>'")),
+    ("--peer=", Wanted::Says("it is no list")),
+    ("--peer 2 --peer 3", Wanted::Says("'--peer <LIST>'")),
+    ("--peer 2 --every x", Wanted::Says("")),
+    ("--peer 2 --every 05", Wanted::Says("a zero that leads")),
+    (
+        "--every 5",
+        Wanted::Says("'--every <S>' goes with '--peer <LIST>'"),
+    ),
+    (
+        "--every 0",
+        Wanted::Says("'--every <S>' goes with '--peer <LIST>'"),
+    ),
+    ("--with 2", Wanted::Says("'--with'")),
+    ("--help", Wanted::Says("--peer 7008,192.0.2.1:7007")),
+];
 
 pub const LINES: &[(&str, Wanted)] = &[
     (
@@ -64,62 +115,82 @@ pub const LINES: &[(&str, Wanted)] = &[
         Wanted::MeetToken,
     ),
     (
-        "mvd shell --db f --site 2 --max-keys 9 --token-file=t",
-        Wanted::ShellToken,
-    ),
-    (
         "mvd shell --port 7 --token-file t",
         Wanted::RemoteShellToken,
     ),
     // Numbers out of their ranges.
     (
         "mvd serve --db f --site 0 --port 1 --conns 1",
-        Wanted::Range,
+        Wanted::Range("site", 4_294_967_295),
     ),
-    ("mvd serve --db f --site 4294967296 --port 1", Wanted::Range),
-    ("mvd serve --db f --site 1 --port 0", Wanted::Range),
-    ("mvd serve --db f --site 1 --port 65536", Wanted::Range),
+    (
+        "mvd serve --db f --site 4294967296 --port 1",
+        Wanted::Range("site", 4_294_967_295),
+    ),
+    (
+        "mvd serve --db f --site 1 --port 0",
+        Wanted::Range("port", 65_535),
+    ),
+    (
+        "mvd serve --db f --site 1 --port 65536",
+        Wanted::Range("port", 65_535),
+    ),
     (
         "mvd serve --db f --site 1 --port 1 --conns 0",
-        Wanted::Range,
+        Wanted::Range("conns", 1_000),
     ),
     (
         "mvd serve --db f --site 1 --port 1 --http 65536",
-        Wanted::Range,
+        Wanted::Range("http", 65_535),
     ),
     (
         "mvd serve --db f --site 1 --port 1 --conns 1001",
-        Wanted::Range,
+        Wanted::Range("conns", 1_000),
     ),
-    ("mvd serve --db f --site 1 --port 1 --idle 0", Wanted::Range),
+    (
+        "mvd serve --db f --site 1 --port 1 --idle 0",
+        Wanted::Range("idle", 86_400),
+    ),
     (
         "mvd serve --db f --site 1 --port 1 --clients 0",
-        Wanted::Range,
+        Wanted::Range("clients", 10_000),
     ),
     (
         "mvd serve --db f --site 1 --port 1 --clients 10001",
-        Wanted::Range,
+        Wanted::Range("clients", 10_000),
     ),
     (
         "mvd sync --db f --site 1 --port 1 --idle 86401",
-        Wanted::Range,
+        Wanted::Range("idle", 86_400),
     ),
     (
         "mvd sync --db f --site 1 --port 1 --max-keys 0",
-        Wanted::Range,
+        Wanted::Range("max-keys", 1_000_000),
     ),
-    ("mvd sync --port 1 --with 2 --every 0", Wanted::Range),
-    ("mvd sync --port 1 --with 2 --every 3601", Wanted::Range),
+    (
+        "mvd sync --port 1 --with 2 --every 0",
+        Wanted::Range("every", 3_600),
+    ),
+    (
+        "mvd sync --port 1 --with 2 --every 3601",
+        Wanted::Range("every", 3_600),
+    ),
     (
         "mvd sync --port 1 --with 2 --every 1 --times 0",
-        Wanted::Range,
+        Wanted::Range("times", 1_000_000),
     ),
     (
         "mvd sync --port 1 --with 2 --every 1 --times 1000001",
-        Wanted::Range,
+        Wanted::Range("times", 1_000_000),
     ),
-    ("mvd loop --site 1 --max-keys 1000001", Wanted::Range),
-    ("mvd shell --db f --site 0", Wanted::Range),
+    (
+        "mvd loop --site 1 --max-keys 1000001",
+        Wanted::Range("max-keys", 1_000_000),
+    ),
+    (
+        "mvd shell --db f --site 0",
+        Wanted::Range("site", 4_294_967_295),
+    ),
     // Words that are refused, or ask for help.
     ("mvd serve --db f --port 1 --conns 1", Wanted::Says("")),
     ("mvd serve --db f --site x --port 1", Wanted::Says("")),
@@ -205,12 +276,23 @@ pub const LINES: &[(&str, Wanted)] = &[
     ),
     (
         "mvd shell --help",
-        Wanted::Says("The token that a server wants"),
+        Wanted::Says("The token that the server wants"),
     ),
     ("mvd loop --site 1 --idle 1", Wanted::Says("")),
     ("mvd loop --help", Wanted::Says("")),
     ("mvd", Wanted::Says("")),
     ("mvd shell --db f --site 1 --idle 1", Wanted::Says("")),
+    (
+        "mvd shell --db f --site 2 --max-keys 9 --token-file=t",
+        Wanted::Says("a shell has '--db <FILE>' with its options"),
+    ),
+    ("mvd shell --port 1 --peer 2", Wanted::Says("'--peer'")),
+    (
+        "mvd sync --db f --site 1 --port 1 --peer 2",
+        Wanted::Says("'--peer'"),
+    ),
+    ("mvd loop --site 1 --peer 2", Wanted::Says("'--peer'")),
+    ("mvd shell --port 1 --every 2", Wanted::Says("'--every'")),
     ("mvd shell --db f --site 1 --port 7", Wanted::Says("")),
     (
         "mvd shell --db f --site 1 --address 127.0.0.1",

@@ -1,6 +1,6 @@
 //! What command lines ask for.
-use crate::order_lines::{LINES, Wanted};
-use mvd_input::{Order, OrderFault, Repeat, Setup, addresses_of, order_of};
+use crate::order_lines::{LINES, PEERS, SIXTEEN, Wanted};
+use mvd_input::{Order, OrderFault, Peers, Repeat, Setup, addresses_of, order_of};
 use std::alloc::{AllocError, Global};
 use std::net::{IpAddr, Ipv4Addr, SocketAddr};
 use std::test::Fail;
@@ -63,6 +63,22 @@ fn serve_of(
         idle,
         http,
         clients,
+        peers: None,
+        token_file,
+    }
+}
+
+/// A server at port 1 that meets these so often.
+fn peers_of<'a>(list: &'a str, every: u32, token_file: Option<&'a str>) -> Order<'a> {
+    Order::Serve {
+        db: "f",
+        setup: set_up(1, None, 1_000_000),
+        address: address(Ipv4Addr::LOCALHOST, 1),
+        conns: None,
+        idle: 300,
+        http: None,
+        clients: 256,
+        peers: Some(Peers { list, every }),
         token_file,
     }
 }
@@ -86,11 +102,10 @@ fn sync_of(
 }
 
 /// A shell on a database, and one through the server at port 7.
-fn shell_of(token_file: Option<&str>) -> Order<'_> {
+fn shell_of() -> Order<'static> {
     Order::Shell {
         db: "f",
         setup: set_up(2, None, 9),
-        token_file,
     }
 }
 
@@ -109,6 +124,10 @@ fn order_wanted(wanted: Wanted) -> Option<Order<'static>> {
     let order = match wanted {
         Wanted::Serve => serve_of(Some(1), 1, Some(65_535), 10_000, None),
         Wanted::ServeToken => serve_of(None, 300, None, 256, Some("t")),
+        Wanted::Peer => peers_of("2", 30, None),
+        Wanted::Peers => peers_of("2,10.0.0.1:7007,[::1]:7007", 5, None),
+        Wanted::PeersLeast => peers_of("[::1]:65535", 1, None),
+        Wanted::PeersMost => peers_of(SIXTEEN, 3_600, Some("t")),
         Wanted::Sync => sync_of(set_up(u32::MAX, Some("d"), 1), there, 86_400, true, None),
         Wanted::SyncToken => sync_of(set_up(1, None, 1_000_000), here, 60, false, Some("t/u")),
         Wanted::MeetOnce => meet_of("2", None, 60, false, None),
@@ -123,11 +142,10 @@ fn order_wanted(wanted: Wanted) -> Option<Order<'static>> {
         Wanted::MeetToken => meet_of("2", None, 60, false, Some("t")),
         Wanted::Loop => Order::Loop(set_up(7, None, 1_000_000)),
         Wanted::Sim => Order::Sim,
-        Wanted::Shell => shell_of(None),
-        Wanted::ShellToken => shell_of(Some("t")),
+        Wanted::Shell => shell_of(),
         Wanted::RemoteShell => remote_shell_of(None),
         Wanted::RemoteShellToken => remote_shell_of(Some("t")),
-        Wanted::Range | Wanted::Says(_) => return None,
+        Wanted::Range(..) | Wanted::Says(_) => return None,
     };
     Some(order)
 }
@@ -136,10 +154,12 @@ fn is_wanted(order: Order<'_>, wanted: Wanted) -> bool {
     matches!(order_wanted(wanted), Some(other) if other == order)
 }
 
-/// Whether a fault is of a number, or says this.
+/// Whether a fault is of the number of this option, or says this.
 fn is_told(alloc: Global, fault: &OrderFault, wanted: Wanted) -> Result<bool, AllocError> {
     match fault {
-        OrderFault::Range => Ok(matches!(wanted, Wanted::Range)),
+        OrderFault::Range { option, most } => {
+            Ok(matches!(wanted, Wanted::Range(word, last) if word == *option && last == *most))
+        }
         OrderFault::Words(error) => match wanted {
             Wanted::Says(part) => {
                 let text = format!(in alloc; "{error}")?;
@@ -168,14 +188,28 @@ fn lines_ask_for_orders(rt: HostRuntime) -> Result<(), Fail> {
     Ok(())
 }
 
+#[test]
+fn servers_are_told_their_peers(rt: HostRuntime) -> Result<(), Fail> {
+    for (words, wanted) in PEERS {
+        let line = format!(in rt.alloc(); "mvd serve --db f --site 1 --port 1 {words}")?;
+        assert!(rt; comes_of(rt.alloc(), line.as_str(), *wanted)?, "{line}");
+    }
+    Ok(())
+}
+
 /// The last of the addresses of a list at 10.0.0.1, and how many there are.
 fn last_of(alloc: Global, list: &str) -> Result<(usize, Option<SocketAddr>), AllocError> {
     let ip = IpAddr::V4(Ipv4Addr::new(10, 0, 0, 1));
-    let line = format!(in alloc; "mvd sync --port 1 --with {list}")?;
+    let line = format!(in alloc; "mvd serve --db f --site 1 --port 1 --peer {list}")?;
     let words = words_of(alloc, line.as_str())?;
     match order_of(alloc, &words) {
-        Ok(Order::Meet { with, .. }) => {
-            let found = addresses_of(alloc, ip, with)?;
+        Ok(
+            Order::Serve {
+                peers: Some(peers),
+                ..
+            },
+        ) => {
+            let found = addresses_of(alloc, ip, peers.list)?;
             Ok((found.len(), found.last().copied()))
         }
         _ => Ok((0, None)),
@@ -189,6 +223,6 @@ fn lists_have_all_their_addresses(rt: HostRuntime) -> Result<(), Fail> {
     let alloc = rt.alloc();
     assert!(rt; last_of(alloc, "9")? == (1, Some(here)));
     assert!(rt; last_of(alloc, "9,127.0.0.1:7")? == (2, Some(there)));
-    assert!(rt; last_of(alloc, "1,2,3,4,5,6,7,8,9,10,11,12,13,14,15,9")? == (16, Some(here)));
+    assert!(rt; last_of(alloc, SIXTEEN)? == (16, Some(here)));
     Ok(())
 }

@@ -1,7 +1,7 @@
 use Rattle.std.proofs.Common.{codes}
 use Rattle.std.proofs.lemmas.Result.{err_from_is_err_and}
 use Rattle.clap.specs.Words.{found_of, rows_of}
-use Rattle.mvd_input.specs.Orders.{IsAddressOf, IsOrderOf, IsSeconds}
+use Rattle.mvd_input.specs.Orders.{IsAddressOfOrder, IsOrderOf, IsSeconds}
 use Rattle.mvd_input.proofs.Ordered.{within, sync_meets}
 use Rattle.mvd_input.proofs.order.sync_of.Goals as goal
 
@@ -15,4 +15,4 @@ pub returns-in_err-address_in-in-None-2 : goal.returns-in_err-address_in-in-None
 returns-in_err-address_in-in-None-2 c =
     let p = err_from_is_err_and c.from_residual-in_err-address_in-in-None-2.result c.from_residual-in_err-address_in-in-None-2.ensures.1 in
     let rows = rows_of (found_of c.args.matches.now) in
-    rw (p.1, p.2) (within rows IsAddressOf (IsOrderOf (codes "sync")) _ (λ order m. (sync_meets rows order m).0) c.in_err-address_in-in-None-2.ensures.fault)
+    rw (p.1, p.2) (within rows IsAddressOfOrder (IsOrderOf (codes "sync")) _ (λ order m. (sync_meets rows order m).0) c.in_err-address_in-in-None-2.ensures.fault)

@@ -3,7 +3,7 @@ use Rattle.std.proofs.Common.{◌≡◌, ℕ, Bool, List, [], Option, Some, Resu
 use Rattle.std.specs.Prelude.{⊤, IfOk}
 use Rattle.std.specs.Borrow.{Bor}
 use Rattle.std.specs.declared.net.socket_addr.SocketAddr.{SocketAddr}
-use Rattle.mvd_app.specs.Dialed.{HasSynced, HasTalked, IsTokenOf}
+use Rattle.mvd_app.specs.Dialed.{HasSynced, HasTalked, IsTokenOfOrder}
 use Rattle.mvd_app.specs.Stored.{EndsAs}
 use Rattle.mvd_client.specs.LetIn.{GivesIn}
 use Rattle.mvd_client.specs.SyncsAt.{TellsRan, TellsSession}
@@ -29,7 +29,7 @@ worked_so {Q = Q} (Err stop) files broken ended ends q = subst (λ (r : Result (
 
 -- a shell through a server
 pub talked_so : {L : Type 0} (line : LineGhosts L) (gives : L → Type 0) (address : SocketAddr) (file : Option (Bor (List ℕ))) (token : Option (List ℕ)) (input left : Option (List ℕ)) (first : List ℕ)
-    (out : Option (List ℕ)) (result : Result (Unit {0}) Stop) → IsTokenOf file token → first ≡ [] → ShellsAt line (GivesIn line gives token) address input (Some first) left out result →
+    (out : Option (List ℕ)) (result : Result (Unit {0}) Stop) → IsTokenOfOrder file token → first ≡ [] → ShellsAt line (GivesIn line gives token) address input (Some first) left out result →
     IfOk result (λ _. HasTalked line gives address file)
 talked_so line gives address file token input left first out (Ok done) of_file none shells = record {
   token = token;

@@ -6,7 +6,7 @@ use Rattle.mvd_keys.specs.Key.{key_cmp}
 use Rattle.mvd_keys.specs.State.{State as Keyed}
 use Rattle.mvd_keys.specs.Writes.{Key}
 use Rattle.mvd_records.specs.Records.{IsOurs, IsSound, new_states, old_states}
-use Rattle.mvd_records.specs.States.{States as Stored}
+use Rattle.mvd_records.specs.States.{StoredStates as Stored}
 use Rattle.mvd_records.specs.Tables.{no_tables}
 use Rattle.mvd_replica.specs.Opened.{IsOpened}
 use Rattle.mvd_replica.proofs.RestoredOrder.{just_one}

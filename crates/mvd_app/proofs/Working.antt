@@ -9,20 +9,20 @@ use Rattle.mvd_replica.specs.ReplicaCalls.{ReplicaAnswers}
 use Rattle.mvd_replica.specs.Replicas.{site_of, stored_of}
 use Rattle.mvd_replica.specs.declared.replica.Replica.{Replica}
 use Rattle.mvd_shell.specs.Asked.{Exchange}
-use Rattle.mvd_shell.specs.Talk.{Answered, Asks}
+use Rattle.mvd_shell.specs.Talk.{AnswersExchanges, AsksInTurn}
 use Rattle.mvd_server.specs.Rounds.{IsServed}
 use Rattle.sqlite_trees.specs.declared.store.Store.{Ghosts}
 
 module _ {S : Type 0} {g : Ghosts S} where
   -- a shell
-  all_keep : (exchanges : List Exchange) (old new : Replica S g) → Answered ReplicaAnswers exchanges old new → KeepsWrites (site_of old) (site_of new)
-  unfolding Answered
+  all_keep : (exchanges : List Exchange) (old new : Replica S g) → AnswersExchanges ReplicaAnswers exchanges old new → KeepsWrites (site_of old) (site_of new)
+  unfolding AnswersExchanges
   all_keep [] old new same = subst (λ (r : Replica S g). KeepsWrites (site_of old) (site_of r)) (sym same) (keeps_self (site_of old))
   all_keep (exchange ∷ exchanges) old new (between, one, others) =
       keeps_on (site_of old) (site_of between) (site_of new) (λ known stands. (one.choice.0, one.keeps known one.choice.0 stands one.choice.1))
       (all_keep exchanges between new others)
 
-  pub asks_work : (old new : Replica S g) → Asks ReplicaAnswers old new → WorksOn (stored_of old) (stored_of new)
+  pub asks_work : (old new : Replica S g) → AsksInTurn ReplicaAnswers old new → WorksOn (stored_of old) (stored_of new)
   asks_work old new asks =
       let it = follows old new asks in
       record {

@@ -25,8 +25,8 @@ pub record TellsRefusal (file : Bor (List ℕ)) (refusal : Refusal) (owner : Opt
   pub other : (site : ℕ) → refusal ≡ SiteMismatch → owner ≡ Some site →
       stop.hint ≡ Some (Hint.OtherSite file site)
 
--- the file is one of ours: the refusal is told, with the site that its marks name; none is named only where they cannot be
--- read, or name none
+-- the file is one of ours: the refusal is told, with the site that its marks name; none is named only where they cannot
+-- be read, or name none
 pub record TellsOurs (file : Bor (List ℕ)) (refusal : Refusal) (old new : State) (stop : Stop) : Type 0 where
   pub owner : Option ℕ
   pub named : TellsOwner old new owner

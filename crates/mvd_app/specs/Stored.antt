@@ -38,15 +38,17 @@ site_without_keys config = record { config = config; states = no_states; broken 
 
 -- ---- what an order works on
 
--- the file that an order works on, what the site in it is set up with, and the file with the command's token, if it names one
+-- the file that an order works on, what the site in it is set up with, and the file with the command's token, if it
+-- names one
 pub record Filed : Type 0 where
   pub db : Bor (List ℕ)
   pub setup : Setup
   pub token : Option (Bor (List ℕ))
 
 abbrev pub file_in : Order → Option Filed
-file_in (order.Serve db setup address conns idle http clients token) = Some (record { db = db; setup = setup; token = token })
-file_in (order.Shell db setup token) = Some (record { db = db; setup = setup; token = token })
+file_in (order.Serve db setup address conns idle http clients peers token) =
+    Some (record { db = db; setup = setup; token = token })
+file_in (order.Shell db setup) = Some (record { db = db; setup = setup; token = None })
 file_in (order.Sync db setup address idle verbose token) = Some (record { db = db; setup = setup; token = token })
 file_in _ = None
 
@@ -63,8 +65,8 @@ pub record IsConfigFor (setup : Setup) (config : ConfigValue) : Type 0 where
 
 -- ---- the end of the work
 
--- a command is stopped with what its work was stopped with; else, where no file comes back, since the site is broken or its file
--- cannot be closed
+-- a command is stopped with what its work was stopped with; else, where no file comes back, since the site is broken or
+-- its file cannot be closed
 abbrev pub EndsAs : {D : Type 0} → Result (Unit {0}) Stop → Option (Files D) → Bool → Result (Unit {0}) Stop → Type 0
 EndsAs (Err stop) files broken ended = ended ≡ Err stop
 EndsAs (Ok done) (Some files) broken ended = ended ≡ Ok tt
@@ -75,7 +77,8 @@ module _ {D : Type 0} {g : disk.Ghosts D} {f : Ghosts (FileStore D g)} where
   abbrev pub CannotClose : Replica (FileStore D g) f → Type 0
   CannotClose replica = (failed : Error × FileStore D g) × FailsClosing replica failed
 
-  -- the site is whole and its file closed; or there is no such file, since the site is broken or the file cannot be closed
+  -- the site is whole and its file closed; or there is no such file, since the site is broken or the file cannot be
+  -- closed
   abbrev pub ClosesOrNot : Replica (FileStore D g) f → Option (Files D) → Type 0
   ClosesOrNot replica (Some files) = ((site_of replica).broken ≡ false) × ClosesInto replica files
   ClosesOrNot replica None = ((site_of replica).broken ≡ true) ⊎ CannotClose replica
@@ -95,7 +98,8 @@ pub record IsWithoutFile {D : Type 0} (how : Result (Unit {0}) Stop) (ran : Ran 
 module _ {D : Type 0} (g : disk.Ghosts D) where
   -- The site was not opened: its file is lost, which the hint says, and the log is still there; or the files refuse it
   abbrev pub CannotOpen : Image → ConfigValue → Bor (List ℕ) → Stop → Type 0
-  CannotOpen image config db stop = (stop.hint ≡ Some (Hint.Lost db)) ⊎ ((fault : FileFault D g) × FailsFile image config fault)
+  CannotOpen image config db stop = (stop.hint ≡ Some (Hint.Lost db))
+      ⊎ ((fault : FileFault D g) × FailsFile image config fault)
 
 module _ {D : Type 0} {g : disk.Ghosts D} (f : Ghosts (FileStore D g)) where
   -- the site was opened and worked on, which broke it, or its file cannot be closed
@@ -106,8 +110,8 @@ module _ {D : Type 0} {g : disk.Ghosts D} (f : Ghosts (FileStore D g)) where
     pub works : WorksOn (stored_of old) (stored_of new)
     pub ends : ((site_of new).broken ≡ true) ⊎ CannotClose new
 
-  -- WHY NO FILE COMES BACK of a command that works on one: a file of definitions or with a token stopped it, which the order names;
-  -- or the site that is set up so was not opened, or not closed
+  -- WHY NO FILE COMES BACK of a command that works on one: a file of definitions or with a token stopped it, which the
+  -- order names; or the site that is set up so was not opened, or not closed
   abbrev pub HasNoFile : Image → Filed → Stop → Type 0
   HasNoFile image filed stop = NamesFile filed ⊎
       ((config : ConfigValue) × IsConfigFor filed.setup config

@@ -24,8 +24,8 @@ pub fn finish<'a, D: Disk + Drop>(
 ) -> Ran<'a, D>
     // The file comes back, closed, unless the site is broken or it cannot be closed.
     ensures files { ClosesOrNot replica result.files }
-    // The command is stopped with what the work was stopped with; else with 22 where the site is broken, and with 21 where
-    // its file cannot be closed.
+    // The command is stopped with what the work was stopped with; else with 22 where the site is broken, and with 21
+    // where its file cannot be closed.
     ensures ended { EndsAs worked.entry result.files (site_of replica).broken result.ended }
 {
     if replica.is_broken() {

@@ -1,7 +1,7 @@
 //! What a command line asks for, done: with standard input and output, files and sockets.
 ghost use Rattle.std.specs.Prelude.{◌≡◌, IfNone, IfOk, IfSome, IsOk, IsOkAnd, List, None, Ok, Option, Some, option_copied};
 ghost use Rattle.std.specs.Prelude.{ℕ};
-ghost use Rattle.mvd_app.specs.Dialed.{HasMet, HasTalked, HasWorked, IsTokenOf, TellsWork};
+ghost use Rattle.mvd_app.specs.Dialed.{HasMet, HasTalked, HasWorked, IsTokenOfOrder, MayWork, TellsWork};
 ghost use Rattle.mvd_app.specs.Stored.{FollowsAsked, GivesBack, GivesNone, IsConfigFor, IsWithoutFile, file_in};
 ghost use Rattle.mvd_input.specs.Addresses.{IsAddressList};
 ghost use Rattle.mvd_input.specs.Orders.{IsInRange, IsSetUp};
@@ -9,24 +9,24 @@ ghost use Rattle.mvd_replica.specs.Programs.{WorksOn};
 ghost use Rattle.mvd_replica.specs.ReplicaCalls.{ReplicaAnswers};
 ghost use Rattle.mvd_replica.specs.Replicas.{stored_of};
 ghost use Rattle.mvd_rows.specs.Defs.{no_definitions};
-ghost use Rattle.mvd_shell.specs.Talk.{Asks};
+ghost use Rattle.mvd_shell.specs.Talk.{AsksInTurn};
 ghost use Rattle.sqlite.specs.WalFiles.{image_at};
 
 use crate::closing::{Ran, finish};
 use crate::looping::loop_run;
 use crate::opening::opened;
 use crate::output::Output;
+use crate::serve_command::serve_stored;
 use crate::tokens::token_in;
 use crate::typed_lines::{answer_lines, input};
 use mvd_client::{Dial, MeetingTerms, meet_run, remote_shell_run, sync_told};
-use mvd_conn::Guard;
 use mvd_dots::Refusal;
 use mvd_hint::{Hint, Stop};
-use mvd_input::{DEFS_MAX, Fault, Order, Setup, read_defs, read_input};
+use mvd_input::{DEFS_MAX, Fault, Order, Peers, Setup, read_defs, read_input};
 use mvd_replica::Replica;
 use mvd_rows::Defs;
 use mvd_script::sim;
-use mvd_server::{Terms, serve_run};
+use mvd_server::Terms;
 use mvd_site::Config;
 use mvd_wire::Token;
 use sqlite::{Alter, FileFrom, FileStore, Start};
@@ -37,8 +37,8 @@ use std::{fs, io};
 
 /// What is done with a stored site.
 #[derive(Clone, Copy)]
-enum Work {
-    Serve(SocketAddr, Terms),
+enum Work<'a> {
+    Serve(SocketAddr, Terms<'a>, Option<Peers<'a>>),
     Shell,
     Sync(SocketAddr, u32, bool),
 }
@@ -74,6 +74,7 @@ pub fn run<'a, S: Start, D: Dial>(
             idle,
             http,
             clients,
+            peers,
             token_file,
         } => {
             let terms = Terms {
@@ -81,16 +82,14 @@ pub fn run<'a, S: Start, D: Dial>(
                 conns,
                 idle,
                 clients,
-                guard: None,
+                token: None,
+                peers: &[],
+                every: 0,
             };
-            let work = Work::Serve(address, terms);
+            let work = Work::Serve(address, terms, peers);
             run_stored(rt, db, setup, token_file, work, start, dial)
         }
-        Order::Shell {
-            db,
-            setup,
-            token_file,
-        } => run_stored(rt, db, setup, token_file, Work::Shell, start, dial),
+        Order::Shell { db, setup } => run_stored(rt, db, setup, None, Work::Shell, start, dial),
         Order::RemoteShell {
             address,
             idle,
@@ -163,11 +162,12 @@ fn run_stored<'a, S: Start, D: Dial>(
     db: &'a str,
     setup: Setup<'a>,
     token_file: Option<&'a str>,
-    work: Work,
+    work: Work<'_>,
     start: S,
     dial: &D,
 ) -> Ran<'a, FileFrom<S>>
-    requires { IsSetUp setup }
+    requires set_up { IsSetUp setup }
+    requires work { MayWork work }
     ensures kept { IfSome result.files
         (GivesBack ⟦<FileFrom<S> as Disk>⟧ (image_at S.Start)
         (Some (record { db = db.entry; setup = setup.entry; token = token_file.entry }))) }
@@ -176,8 +176,8 @@ fn run_stored<'a, S: Start, D: Dial>(
         (Some (record { db = db.entry; setup = setup.entry; token = token_file.entry })) result.ended) }
     ensures worked { IfOk result.ended (λ _. HasWorked ⟦<FileStore<FileFrom<S>> as Store>⟧ (image_at S.Start)
         setup.entry result.files
-        (λ old new. (token : Option (List ℕ)) × IsTokenOf token_file.entry token ×
-        TellsWork D.Dialed.Line (D.gives dial.now) work token old new (Ok tt))) }
+        (λ old new. (token : Option (List ℕ)) × IsTokenOfOrder token_file.entry token ×
+        TellsWork D.Dialed.Line (D.gives dial.now) work.entry token old new (Ok tt))) }
 {
     let (config, token) = match read_first(rt, setup, token_file) {
         Ok(read) => read,
@@ -230,24 +230,21 @@ fn read_first<'a>(
 fn work_on<'a, S: Alter + Drop, D: Dial>(
     rt: &HostRuntime,
     replica: &mut Replica<S>,
-    work: Work,
+    work: Work<'_>,
     token: Option<&Token>,
     dial: &D,
 ) -> Result<(), Stop<'a>>
+    requires { MayWork work }
     // The site keeps the writes known, and its records follow its states, however it ends.
     ensures works { WorksOn (stored_of replica.old) (stored_of replica.new) }
-    ensures tells { TellsWork D.Dialed.Line (D.gives dial.now) work (option_copied token.entry)
+    ensures tells { TellsWork D.Dialed.Line (D.gives dial.now) work.entry (option_copied token.entry)
         replica.old replica.new result }
 {
     let mut writer = Output::new(io::writer(rt));
     match work {
-        Work::Serve(address, terms) => {
-            let guard = match token {
-                Some(token) => Some(Guard::of(token.bytes())),
-                None => None,
-            };
-            let terms = Terms { guard, ..terms };
-            serve_run(rt, rt.alloc(), replica, address, terms, &mut writer)
+        Work::Serve(address, terms, peers) => {
+            let terms = Terms { token, ..terms };
+            serve_stored(rt, replica, address, terms, peers, &mut writer)
         }
         Work::Shell => typed(rt, replica),
         Work::Sync(address, idle, verbose) => {
@@ -270,7 +267,7 @@ fn work_on<'a, S: Alter + Drop, D: Dial>(
 /// Answers the lines of standard input on a replica.
 fn typed<'a, S: Alter + Drop>(rt: &HostRuntime, replica: &mut Replica<S>) -> Result<(), Stop<'a>>
     // However it ends, only requests were asked, and the records follow.
-    ensures asked { Asks ReplicaAnswers replica.old replica.new }
+    ensures asked { AsksInTurn ReplicaAnswers replica.old replica.new }
     ensures follows { FollowsAsked replica.old replica.new }
 {
     answer_lines(rt, replica)

@@ -6,6 +6,7 @@ mod commands;
 mod looping;
 mod opening;
 mod output;
+mod serve_command;
 mod tokens;
 mod typed_lines;
 

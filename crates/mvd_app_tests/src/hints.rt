@@ -87,7 +87,7 @@ fn told_of(alloc: Global, table: &str, wanted: &str) -> Result<bool, Fail> {
 #[test]
 fn whose_a_file_is_is_told(rt: HostRuntime) -> Result<(), Fail> {
     let other_site =
-        "mvd: fault 16 SiteMismatch\nmvd: a.db is the file of site 7: name that site by --site, or another file";
+        "mvd: fault 16 SiteMismatch\nmvd: a.db is the file of site 7: give that number as --site, or name another file";
     assert!(rt; told_to(rt.alloc(), 8, other_site)?);
     let other_program =
         "mvd: fault 17 Damaged\nmvd: a.db is the file of another program: name another file";
@@ -137,7 +137,7 @@ const TOLD: [(Cause, &str); 7] = [
     ),
     (
         Cause::NoRight,
-        "mvd: fault 34 ReadFailed\nmvd: there is no right to listen at 127.0.0.1:80: name another --port, of 1024 or more",
+        "mvd: fault 34 ReadFailed\nmvd: no permission to listen at 127.0.0.1:80: name a --port of 1024 or more",
     ),
     (
         Cause::NoPeer,

@@ -3,7 +3,7 @@ use crate::hints::opened;
 use mvd_dots::Refusal;
 use mvd_input::{Fault, read_defs};
 use mvd_replica::Replica;
-use mvd_shell::shell_run;
+use mvd_shell::{NoLosses, shell_run};
 use sqlite::{Connection, MemStore};
 use std::alloc::Global;
 use std::test::Fail;
@@ -24,7 +24,12 @@ fn in_memory(alloc: Global) -> Result<Replica<MemStore>, Fault> {
 fn printed(alloc: Global, replica: &mut Replica<MemStore>, lines: &[u8]) -> Result<Vec<u8>, Fault> {
     let mut reader = lines;
     let mut out = Vec::new(alloc);
-    shell_run(alloc, replica, &mut reader, &mut out)?;
+    shell_run::<Replica<MemStore>, NoLosses, &[u8], Vec<u8>>(
+        alloc,
+        replica,
+        &mut reader,
+        &mut out,
+    )?;
     Ok(out)
 }
 

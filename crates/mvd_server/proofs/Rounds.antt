@@ -4,7 +4,7 @@ use Rattle.std.proofs.lemmas.List.{append-nil, map-append}
 use Rattle.std.specs.List.{flat_map}
 use Rattle.mvd_host.proofs.Serving.{serves_none, serves_on}
 use Rattle.mvd_host.specs.Hosts.{HostValue}
-use Rattle.mvd_host.specs.Round.{Round, Serves, side_of, turns_of}
+use Rattle.mvd_host.specs.Round.{Round, Serves, host_side, turns_of}
 use Rattle.mvd_replica.specs.Replicas.{conn_of, site_of, store_of, stored_of}
 use Rattle.mvd_replica.specs.Turns.{Turn}
 use Rattle.mvd_replica.specs.declared.replica.Replica.{Replica}
@@ -33,7 +33,7 @@ turns_both (first ∷ rounds) others =
     ∙ ap (λ (ts : List Turn). ts ++ turns_of (all_turns others)) (sym (map-append (λ (t : ℕ × Turn). t.1) first (all_turns rounds)))
 
 module _ {S : Type 0} {g : Ghosts S} where
-  pub has_round : (ready : List ℕ) (host host' : HostValue) (old new : Replica S g) → (turns : List (ℕ × Turn)) × Round ready turns (side_of host old) (side_of host' new) → HasRound old new
+  pub has_round : (ready : List ℕ) (host host' : HostValue) (old new : Replica S g) → (turns : List (ℕ × Turn)) × Round ready turns (host_side host old) (host_side host' new) → HasRound old new
   has_round ready host host' old new (turns, round) = (turns, (ready, host, host', round))
 
   pub served_none : (replica : Replica S g) → IsServed replica replica
@@ -45,8 +45,8 @@ module _ {S : Type 0} {g : Ghosts S} where
     ready,
     host,
     host',
-    subst (λ (c : Held S). Round ready turns (record { host = host; site = site_of old; store = state g c }) (side_of host' new)) still
-        (subst (λ (v : SiteValue). Round ready turns (record { host = host; site = v; store = store_of mid }) (side_of host' new)) same round),
+    subst (λ (c : Held S). Round ready turns (record { host = host; site = site_of old; store = state g c }) (host_side host' new)) still
+        (subst (λ (v : SiteValue). Round ready turns (record { host = host; site = v; store = store_of mid }) (host_side host' new)) same round),
   )
 
   rounds_on : (rounds : List (List (ℕ × Turn))) (turns : List (ℕ × Turn)) (old mid new : Replica S g) → AreRounds rounds old mid → IsRound turns mid new → AreRounds (rounds ++ turns ∷ []) old new

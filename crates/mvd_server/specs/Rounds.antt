@@ -2,7 +2,7 @@
 use Rattle.std.specs.Prelude.{ℕ, ◌≡◌, List, [], ◌∷◌}
 use Rattle.std.specs.List.{flat_map}
 use Rattle.mvd_host.specs.Hosts.{HostValue}
-use Rattle.mvd_host.specs.Round.{Round, Serves, side_of, turns_of}
+use Rattle.mvd_host.specs.Round.{Round, Serves, host_side, turns_of}
 use Rattle.mvd_replica.specs.Replicas.{conn_of, site_of, stored_of}
 use Rattle.mvd_replica.specs.Turns.{Turn}
 use Rattle.mvd_replica.specs.declared.replica.Replica.{Replica}
@@ -13,7 +13,7 @@ module _ {S : Type 0} {g : Ghosts S} where
   -- order, and the replies queued for their own clients. A request over HTTP is such a frame
   abbrev pub IsRound : List (ℕ × Turn) → Replica S g → Replica S g → Type 0
   IsRound turns old new =
-      (ready : List ℕ) × (host : HostValue) × (host' : HostValue) × Round ready turns (side_of host old) (side_of host' new)
+      (ready : List ℕ) × (host : HostValue) × (host' : HostValue) × Round ready turns (host_side host old) (host_side host' new)
 
   abbrev pub HasRound : Replica S g → Replica S g → Type 0
   HasRound old new = (turns : List (ℕ × Turn)) × IsRound turns old new

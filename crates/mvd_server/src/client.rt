@@ -77,6 +77,12 @@ impl Client {
         self.writable = self.writable || fails || event.is_writable() || event.is_write_closed();
     }
 
+    /// Whether this end is connected, which it asked for. What is written leaves at once, unless that is refused.
+    pub fn begins(&self) -> bool {
+        let _ = self.stream.set_nodelay(true);
+        matches!(self.stream.take_error(), Ok(None))
+    }
+
     /// Whether the system told that the peer sends no more.
     pub fn has_left(&self) -> bool {
         self.ends

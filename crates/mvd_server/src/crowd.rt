@@ -1,12 +1,14 @@
 //! The clients: their sockets, and their connections.
 ghost use Rattle.mvd_server.specs.Rounds.{HasRound};
 
-use crate::client::{Client, Moved, PIECE, Piece, Stage};
-use crate::endings::How;
+use crate::client::{Client, PIECE, Piece, Stage};
+use crate::endings::tell_end;
 use crate::metrics::Counts;
+use crate::passing::{receive, send};
+use crate::peer_list::Peers;
 use crate::server::Terms;
 use crate::talks::{Kind, Talks};
-use crate::timers::Timers;
+use crate::timers::{Timers, earlier};
 use mio::event::Event;
 use mio::net::TcpStream;
 use mio::{Interest, Registry, Token};
@@ -17,7 +19,6 @@ use mvd_replica::Replica;
 use sqlite::Alter;
 use std::alloc::{AllocError, Global};
 use std::collections::BTreeMap;
-use std::fmt::Write as Print;
 use std::hash::RandomState;
 
 /// Beside those that are served, as many sockets may be open at once: of clients that are told that there is no place,
@@ -37,8 +38,8 @@ const LINGER: u64 = 2_000;
 /// The clients' sockets, their connections, and what is told of those that ended.
 #[derive(Drop)]
 pub(crate) struct Crowd {
-    talks: Talks,
-    counts: Counts,
+    pub talks: Talks,
+    pub counts: Counts,
     /// As many clients may come in all, and as many are served at once.
     most: u64,
     places: usize,
@@ -55,14 +56,15 @@ pub(crate) struct Crowd {
 }
 
 impl Crowd {
-    pub fn new(alloc: Global, keys: RandomState, terms: Terms) -> Result<Crowd, AllocError> {
+    pub fn new(alloc: Global, keys: RandomState, terms: Terms<'_>) -> Result<Crowd, AllocError> {
         let piece = Piece::new(alloc)?;
         let told = String::with_capacity(alloc, PIECE)?;
+        let peers = Peers::counts(alloc, terms)?;
         Ok(Crowd {
-            talks: Talks::new(alloc, keys, terms.guard),
-            counts: Counts::new(alloc),
+            talks: Talks::new(alloc, keys, terms.guard()),
+            counts: Counts::new(alloc, peers),
             most: terms.conns.map_or(u64::MAX, u64::from),
-            places: terms.clients as usize,
+            places: terms.places(),
             next_away: AWAY,
             clients: BTreeMap::new(alloc),
             timers: Timers::new(alloc),
@@ -94,13 +96,14 @@ impl Crowd {
 
     /// Whether as many clients are served as may be at once.
     fn is_full(&self) -> bool {
-        self.talks.host.len() >= self.places
+        self.talks.clients() >= self.places
     }
 
     /// Answers what came of some clients, together. Whether there may be more of it at once.
     pub fn round<S: Alter + Drop>(&mut self, replica: &mut Replica<S>, ready: &[u64]) -> bool
         ensures round { HasRound replica.old replica.new }
     {
+        self.counts.now = self.now;
         self.talks.round(replica, ready, &mut self.counts, self.now)
     }
 
@@ -337,15 +340,6 @@ impl Crowd {
     }
 }
 
-/// The earlier of two times.
-pub(crate) fn earlier(first: Option<u64>, second: Option<u64>) -> Option<u64> {
-    match (first, second) {
-        (Some(first), Some(second)) => Some(first.min(second)),
-        (Some(due), None) | (None, Some(due)) => Some(due),
-        (None, None) => None,
-    }
-}
-
 /// Lists a client for which there may be something to do.
 fn list(client: &mut Client, number: u64, ready: &mut Vec<u64>) {
     if !client.listed {
@@ -373,42 +367,4 @@ fn is_busy(talks: &Talks, client: &Client, number: u64) -> bool {
         return client.readable;
     }
     talks.is_busy(number)
-}
-
-/// Reads once of a client of which more is wanted.
-fn receive(talks: &mut Talks, client: &mut Client, number: u64, piece: &mut Piece, due: u64) {
-    if !talks.wants_input(number) {
-        return;
-    }
-    match client.read(piece) {
-        Moved::Bytes(count) => {
-            client.deadline = due;
-            talks.feed(number, piece.first(count));
-        }
-        Moved::Nothing => {}
-        Moved::End => talks.end_input(number),
-        Moved::Failed => talks.fail_input(number),
-    }
-}
-
-/// Writes once to a client of what waits.
-fn send(talks: &mut Talks, client: &mut Client, number: u64, due: u64) {
-    let bytes = talks.waiting(number);
-    if bytes.is_empty() {
-        return;
-    }
-    match client.write(bytes) {
-        Moved::Bytes(count) => {
-            client.deadline = due;
-            talks.sent(number, count);
-        }
-        Moved::Nothing => {}
-        Moved::End | Moved::Failed => talks.fail_output(number),
-    }
-}
-
-/// Tells how a connection ended.
-fn tell_end(told: &mut String, ordinal: u64, ending: Ending) -> Result<(), Refusal> {
-    writeln!(told, "connection {ordinal} {}", How::from(ending))?;
-    Ok(())
 }

@@ -2,7 +2,7 @@
 use mvd_conn::Ending;
 use mvd_dots::Refusal;
 use mvd_replica::Ended;
-use std::fmt;
+use std::fmt::{self, Write as Print};
 
 /// How a connection ended: `bye`, `end`, or the number and name of a refusal.
 #[derive(Clone, Copy)]
@@ -26,4 +26,10 @@ impl fmt::Display for How {
             Err(refusal) => write!(f, "{refusal}"),
         }
     }
+}
+
+/// Tells how a connection ended.
+pub(crate) fn tell_end(told: &mut String, ordinal: u64, ending: Ending) -> Result<(), Refusal> {
+    writeln!(told, "connection {ordinal} {}", How::from(ending))?;
+    Ok(())
 }

@@ -165,7 +165,7 @@ pub(crate) fn ask<S: Alter + Drop>(
         }
         Plan::Changes(since, _) => tell_changes(alloc, web, replica, changes, since, counts),
         Plan::Root => tell_root(alloc, web, replica, counts),
-        Plan::Metrics => tell_metrics(alloc, web, host, replica, counts),
+        Plan::Metrics => tell_metrics(alloc, web, replica, counts),
         Plan::Told(answer, body) => respond(web, counts, answer, body),
         Plan::NotAdmitted => ask_token(web, counts),
         Plan::Refused(refusal) => refuse(alloc, web, counts, refusal),
@@ -277,7 +277,6 @@ pub(crate) fn tell_pushed(
 fn tell_metrics<S: Alter + Drop>(
     alloc: Global,
     web: &mut WebConnection,
-    host: &Host,
     replica: &Replica<S>,
     counts: &mut Counts,
 ) {
@@ -286,7 +285,6 @@ fn tell_metrics<S: Alter + Drop>(
         keys: replica.key_count(),
         conflicts: replica.conflict_count(),
         commits: replica.commits(),
-        open: host.len(),
     };
     match counts.print(now, &mut body) {
         Ok(()) => respond(

@@ -1,4 +1,5 @@
 //! What is counted, and how it is told (Prometheus' text form).
+use crate::peer_counts::{PeerCounts, print_peers};
 use mvd_dots::Refusal;
 use mvd_host::{KINDS, Tally};
 use std::alloc::Global;
@@ -35,6 +36,11 @@ pub(crate) struct Counts {
     pub tally: Tally,
     /// The responses over HTTP, by their status.
     statuses: BTreeMap<u16, u64>,
+    /// The sessions with each peer.
+    pub peers: Vec<PeerCounts>,
+    /// The connections that are open, and the time in milliseconds.
+    pub open: usize,
+    pub now: u64,
 }
 
 /// What there is now.
@@ -43,17 +49,19 @@ pub(crate) struct Now {
     pub keys: u32,
     pub conflicts: u32,
     pub commits: u64,
-    pub open: usize,
 }
 
 impl Counts {
-    pub fn new(alloc: Global) -> Counts {
+    pub fn new(alloc: Global, peers: Vec<PeerCounts>) -> Counts {
         Counts {
             frames: 0,
             https: 0,
             rounds: 0,
             tally: Tally::new(),
             statuses: BTreeMap::new(alloc),
+            peers,
+            open: 0,
+            now: 0,
         }
     }
 
@@ -71,12 +79,13 @@ impl Counts {
     pub fn print(&self, now: Now, out: &mut String) -> Result<(), Refusal> {
         print_one(out, "mvd_keys", "gauge", u64::from(now.keys))?;
         print_one(out, "mvd_conflicts", "gauge", u64::from(now.conflicts))?;
-        print_one(out, "mvd_connections", "gauge", now.open as u64)?;
+        print_one(out, "mvd_connections", "gauge", self.open as u64)?;
         self.print_connections(out)?;
         print_one(out, "mvd_rounds_total", "counter", self.rounds)?;
         print_one(out, "mvd_commits_total", "counter", now.commits)?;
         self.print_requests(out)?;
-        self.print_responses(out)
+        self.print_responses(out)?;
+        print_peers(&self.peers, self.now, out)
     }
 
     fn print_connections(&self, out: &mut String) -> Result<(), Refusal> {

@@ -1,16 +1,21 @@
 //! A server of many clients at once, from one thread.
+ghost use Rattle.mvd_server.specs.Peerings.{WakesInTime};
 ghost use Rattle.mvd_server.specs.Rounds.{IsServed};
 
-use crate::crowd::{Crowd, SPARE, earlier};
+use crate::crowd::{Crowd, SPARE};
 use crate::door::{Door, FRAMES, HTTP};
+use crate::peer_list::Peers;
 use crate::talks::Kind;
+use crate::timers::earlier;
 use mio::{Events, Poll};
 use mvd_conn::Guard;
 use mvd_dots::Refusal;
 use mvd_hint::Stop;
+use mvd_host::CLIENTS_MAX;
 use mvd_input::{Fault, tell};
 use mvd_print::print_root;
 use mvd_replica::Replica;
+use mvd_wire::Token;
 use sqlite::Alter;
 use std::alloc::Global;
 use std::fmt::Write as Print;
@@ -25,23 +30,42 @@ use std::time::{Clock, Duration, Instant};
 const ROUNDS_MAX: usize = 64;
 
 /// What a server is asked for: the port for HTTP, if it serves that too, how many connections it serves in all, for how
-/// many seconds no byte need move on one, how many clients it serves at once, and who may come in, if not everybody.
+/// many seconds no byte need move on one, and how many clients it serves at once. Where there is a token, who comes in
+/// shows it, and it is shown to peers. Each peer is met again as many seconds after a session.
 #[derive(Clone, Copy)]
-pub struct Terms {
+pub struct Terms<'a> {
     pub http: Option<u16>,
     pub conns: Option<u32>,
     pub idle: u32,
     pub clients: u32,
-    pub guard: Option<Guard>,
+    pub token: Option<&'a Token>,
+    pub peers: &'a [SocketAddr],
+    pub every: u32,
 }
 
-/// The clients, the listeners, and those clients for which there may be something to do.
+impl Terms<'_> {
+    /// Who may come in, if not everybody.
+    pub(crate) fn guard(self) -> Option<Guard> {
+        match self.token {
+            Some(token) => Some(Guard::of(token.bytes())),
+            None => None,
+        }
+    }
+
+    /// As many clients are served at once. Beside them the host has a place for a session with each peer.
+    pub(crate) fn places(self) -> usize {
+        (self.clients as usize).min(CLIENTS_MAX.saturating_sub(self.peers.len()))
+    }
+}
+
+/// The clients, the listeners, the peers, and those clients for which there may be something to do.
 #[derive(Drop)]
 struct Server {
     poll: Poll,
     events: Events,
     frames: Door,
     http: Option<Door>,
+    peers: Peers,
     crowd: Crowd,
     ready: Vec<u64>,
     next: Vec<u64>,
@@ -51,22 +75,26 @@ struct Server {
 /// Serves so many connections at an address, or without end, many at once, and tells where it listens, how each
 /// connection ended, and at the end the root digest. Each line is flushed as it is written.
 ///
-/// What came together of all clients is answered together, and then the replies leave. No client is waited for. It is
-/// `Stopped` with `ReadFailed` where it cannot listen or wait, and with `WriteFailed` where a line cannot be written.
+/// What came together of all clients is answered together, and then the replies leave. No client is waited for. Meanwhile
+/// it has sessions with its peers, whose questions to the site are answered among those of the clients; keys that one left
+/// are told on `errors`. It is `Stopped` with `ReadFailed` where it cannot listen or wait, and with `WriteFailed` where a
+/// line cannot be written.
 #[tactic(auto, using(crate::proofs::Rounds::served_none))]
-pub fn serve_run<'a, N: Net + Clock + RandomSource, S: Alter + Drop, W: Write>(
+pub fn serve_run<'a, N: Net + Clock + RandomSource, S: Alter + Drop, W: Write, E: Write>(
     rt: &N,
     alloc: Global,
     replica: &mut Replica<S>,
     address: SocketAddr,
-    terms: Terms,
+    terms: Terms<'_>,
     writer: &mut W,
+    errors: &mut E,
 ) -> Result<(), Stop<'a>>
     // However it ends, the site changed by turns alone, and its records follow.
     ensures served { IsServed replica.old replica.new }
 {
-    let mut server = listening(rt, alloc, address, terms)?;
-    let served = server.serve_at::<N, S, W>(rt, alloc, replica, address, terms, writer);
+    let number = replica.config().site();
+    let mut server = listening(rt, alloc, address, number, terms)?;
+    let served = server.serve_at::<N, S, W, E>(rt, alloc, replica, address, terms, writer, errors);
     drop(server);
     Ok(served?)
 }
@@ -76,9 +104,10 @@ fn listening<'a, N: Net + Clock + RandomSource>(
     rt: &N,
     alloc: Global,
     address: SocketAddr,
-    terms: Terms,
+    number: u32,
+    terms: Terms<'_>,
 ) -> Result<Server, Stop<'a>> {
-    match Server::new(rt, alloc, address, terms) {
+    match Server::new(rt, alloc, address, number, terms) {
         Ok(server) => with_web(rt, server, web_address(address, terms)),
         Err(error) => Err(Stop::unheard(address, error)),
     }
@@ -107,23 +136,26 @@ impl Server {
         rt: &N,
         alloc: Global,
         address: SocketAddr,
-        terms: Terms,
+        number: u32,
+        terms: Terms<'_>,
     ) -> io::Result<Server> {
         let start = Instant::now(rt)?;
         let keys = RandomState::new(rt)?;
         let sockets = terms.clients as usize + SPARE;
         let ready = Vec::with_capacity(alloc, 2 * sockets)?;
         let next = Vec::with_capacity(alloc, 2 * sockets)?;
-        let events = Events::with_capacity(alloc, sockets + 2)?;
+        let events = Events::with_capacity(alloc, sockets.saturating_add(terms.peers.len()))?;
         let poll = Poll::new(rt)?;
         let frames = Door::new(rt, poll.registry(), address, Kind::Frames)?;
-        // It owns most, so it comes last: each value before it is let go where a later one fails.
+        // Those that own most come last: each value before them is let go where a later one fails.
+        let peers = Peers::new(alloc, number, terms)?;
         let crowd = Crowd::new(alloc, keys, terms)?;
         Ok(Server {
             poll,
             events,
             frames,
             http: None,
+            peers,
             crowd,
             ready,
             next,
@@ -140,28 +172,30 @@ impl Server {
 
     /// Serves, and tells the address before and the root digest after that.
     #[tactic(auto, using(crate::proofs::Rounds::served_none))]
-    fn serve_at<N: Net + Clock, S: Alter + Drop, W: Write>(
+    fn serve_at<N: Net + Clock, S: Alter + Drop, W: Write, E: Write>(
         &mut self,
         rt: &N,
         alloc: Global,
         replica: &mut Replica<S>,
         address: SocketAddr,
-        terms: Terms,
+        terms: Terms<'_>,
         writer: &mut W,
+        errors: &mut E,
     ) -> Result<(), Fault>
         ensures served { IsServed replica.old replica.new }
     {
         tell_listening(alloc, address, terms, writer)?;
-        self.serve(rt, replica, writer)?;
+        self.serve(rt, replica, writer, errors)?;
         tell_root(alloc, replica, writer)
     }
 
     /// Serves until all connections have ended.
-    fn serve<N: Net + Clock, S: Alter + Drop, W: Write>(
+    fn serve<N: Net + Clock, S: Alter + Drop, W: Write, E: Write>(
         &mut self,
         rt: &N,
         replica: &mut Replica<S>,
         writer: &mut W,
+        errors: &mut E,
     ) -> Result<(), Fault>
         ensures served { IsServed replica.old replica.new }
     {
@@ -171,15 +205,28 @@ impl Server {
             }
             self.wait(rt)?;
             self.take_in()?;
+            self.peers.go_on(rt, self.poll.registry(), &mut self.crowd);
             self.answer(replica);
             self.crowd.wake(&mut self.ready);
             self.give_out(writer)?;
+            self.peers.tell_errors(errors);
         }
         Ok(())
     }
 
-    /// Answers what came of the clients that are listed: together what may be, and then what came behind it.
+    /// Answers what came of the clients that are listed, and what the sessions with peers ask.
     fn answer<S: Alter + Drop>(&mut self, replica: &mut Replica<S>)
+        ensures served { IsServed replica.old replica.new }
+    {
+        let clients = self.ready.len();
+        self.peers.list(&mut self.crowd, &mut self.ready);
+        self.answer_all(replica);
+        self.ready.truncate(clients);
+        self.peers.take_replies(&mut self.crowd, replica.commits());
+    }
+
+    /// Answers what came of those that are listed: together what may be, and then what came behind it.
+    fn answer_all<S: Alter + Drop>(&mut self, replica: &mut Replica<S>)
         ensures served { IsServed replica.old replica.new }
     {
         for _round in 0..ROUNDS_MAX {
@@ -203,21 +250,26 @@ impl Server {
             let token = event.token();
             if token == FRAMES {
                 self.frames.knocks = true;
-            } else if token != HTTP {
+            } else if token == HTTP {
+                if let Some(door) = &mut self.http {
+                    door.knocks = true;
+                }
+            } else if !self.peers.note(event) {
                 self.crowd.note(event, &mut self.ready);
-            } else if let Some(door) = &mut self.http {
-                door.knocks = true;
             }
         }
         Ok(())
     }
 
     /// How long nothing needs to be done if the system tells of nothing.
-    fn pause(&self) -> Option<Duration> {
-        if !self.ready.is_empty() {
+    fn pause(&self) -> Option<Duration>
+        ensures { WakesInTime self.now.peers.list.items self.now.crowd.now result }
+    {
+        if !self.ready.is_empty() || self.peers.are_busy() {
             return Some(Duration::ZERO);
         }
-        let first = earlier(self.crowd.next_due(), self.next_in())?;
+        let due = earlier(self.crowd.next_due(), self.peers.next_due());
+        let first = earlier(due, self.next_in())?;
         Some(Duration::from_millis(first.saturating_sub(self.crowd.now)))
     }
 
@@ -265,7 +317,7 @@ impl Server {
 fn tell_listening<W: Write>(
     alloc: Global,
     address: SocketAddr,
-    terms: Terms,
+    terms: Terms<'_>,
     writer: &mut W,
 ) -> Result<(), Fault> {
     let mut line = String::new(alloc);
@@ -289,7 +341,7 @@ fn tell_root<S: Alter + Drop, W: Write>(
 }
 
 /// The address at which HTTP is served, if it is.
-fn web_address(address: SocketAddr, terms: Terms) -> Option<SocketAddr> {
+fn web_address(address: SocketAddr, terms: Terms<'_>) -> Option<SocketAddr> {
     match terms.http {
         Some(port) => Some(SocketAddr::new(address.ip(), port)),
         None => None,

@@ -1,6 +1,8 @@
 //! What the clients say, in frames or over HTTP.
-ghost use Rattle.std.specs.Prelude.{◌≤◌, length};
-ghost use Rattle.mvd_host.specs.Hosts.{IfClient, client_of};
+ghost use Rattle.std.specs.Prelude.{◌≡◌, ◌≤◌, length, min};
+ghost use Rattle.mvd_conn.specs.History.{WantsInput};
+ghost use Rattle.mvd_host.specs.Hosts.{IfClient, IsClient, client_of};
+ghost use Rattle.mvd_server.specs.OwnSides.{TakesBytes, sent_of, waits_of};
 ghost use Rattle.mvd_server.specs.Rounds.{HasRound};
 
 use crate::batch::Batch;
@@ -43,6 +45,8 @@ pub(crate) struct Talks {
     /// Those that wait for a change, and those of them that were told of late.
     parked: Parked,
     pub woken: Vec<u64>,
+    /// As many of the host's clients are this server's own, for sessions with its peers.
+    pub own: usize,
     alloc: Global,
     keys: RandomState,
 }
@@ -57,6 +61,7 @@ impl Talks {
             changes: Feed::new(alloc),
             parked: Parked::new(alloc),
             woken: Vec::new(alloc),
+            own: 0,
             alloc,
             keys,
         }
@@ -108,6 +113,7 @@ impl Talks {
         // Nothing but the host's round changes the replica.
         ensures round { HasRound replica.old replica.new }
     {
+        counts.open = self.clients();
         self.changes.start(replica);
         for number in ready {
             // A request is taken only where the host takes its frame.
@@ -356,25 +362,33 @@ impl Talks {
     }
 }
 
-/// Hands bytes of frames to the host.
+/// Hands bytes of frames to the host, if it wants them.
 #[tactic(auto, using(crate::proofs::Clients::wanted_if))]
 pub(crate) fn feed(host: &mut Host, number: u64, bytes: &[u8])
     requires { length bytes.now ≤ 65536 }
+    ensures { IsClient (client_of host.old number) WantsInput → TakesBytes host.old number bytes.now host.new }
 {
-    if host.wants_input(number) && host.feed(number, bytes).is_err() {
+    if !host.wants_input(number) {
+        return;
+    }
+    if host.feed(number, bytes).is_err() {
         host.fail_input(number, Refusal::Memory);
     }
 }
 
 /// So many bytes that the host has for a client left.
-pub(crate) fn sent(host: &mut Host, number: u64, count: usize) {
+pub(crate) fn sent(host: &mut Host, number: u64, count: usize)
+    ensures { host.new ≡ sent_of host.old number (min count (length (waits_of host.old number))) }
+{
     let count = count.min(waits(host, number));
     host.sent(number, count);
 }
 
 /// As many bytes wait in the host to leave to a client.
+#[tactic(auto, using(crate::proofs::Handing::waits_some, crate::proofs::Handing::waits_none))]
 fn waits(host: &Host, number: u64) -> usize
-    ensures { IfClient (client_of host.now number) (λ h. result ≤ length h.waits) }
+    ensures few { IfClient (client_of host.now number) (λ h. result ≤ length h.waits) }
+    ensures count { result ≡ length (waits_of host.now number) }
 {
     match host.waiting(number) {
         Some(bytes) => bytes.len(),

@@ -1,4 +1,7 @@
 //! When something is due for which client.
+ghost use Rattle.std.specs.Prelude.{◌≡◌};
+ghost use Rattle.mvd_server.specs.Dues.{earlier_of};
+
 use std::alloc::Global;
 use std::collections::BTreeSet;
 
@@ -43,5 +46,16 @@ impl Timers {
             Some((_, client)) => Some(client),
             None => None,
         }
+    }
+}
+
+/// The earlier of two times.
+pub(crate) fn earlier(first: Option<u64>, second: Option<u64>) -> Option<u64>
+    ensures { result ≡ earlier_of first second }
+{
+    match (first, second) {
+        (Some(first), Some(second)) => Some(first.min(second)),
+        (Some(first), None) => Some(first),
+        (None, second) => second,
     }
 }

@@ -3,6 +3,7 @@ use Rattle.std.specs.Prelude.{IfOk}
 use Rattle.mvd_app.proofs.Dialed.{ended_so}
 use Rattle.mvd_app.proofs.Ending.{none_asked, none_back}
 use Rattle.mvd_app.specs.Dialed.{HasTalked}
+use Rattle.mvd_input.specs.Orders.{IsInRange}
 use Rattle.mvd_app.proofs.commands.run.Goals as goal
 
 pub returns-in-Sim : goal.returns-in-Sim
@@ -54,3 +55,9 @@ returns-in-Meet g c = record {
   given = rw c.in-Meet.is (none_asked c.without_file-in-Meet.result.files);
   met = rw c.in-Meet.is (ended_so c.without_file-in-Meet.result.ended tt);
 }
+
+pub run_stored-requires-clause-set_up : goal.run_stored-requires-clause-set_up
+run_stored-requires-clause-set_up g c = (subst IsInRange c.in-Serve.is c.requires).0
+
+pub run_stored-requires-clause-work : goal.run_stored-requires-clause-work
+run_stored-requires-clause-work g c = (subst IsInRange c.in-Serve.is c.requires).6

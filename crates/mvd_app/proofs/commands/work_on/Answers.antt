@@ -1,10 +1,12 @@
+use Rattle.std.proofs.Common.{subst}
+use Rattle.mvd_app.specs.Dialed.{MayWork}
 use Rattle.mvd_app.proofs.Dialed.{told_so}
 use Rattle.mvd_app.proofs.Working.{asks_work, pushed_works, served_works}
 use Rattle.mvd_app.proofs.commands.work_on.Goals as goal
 
-pub returns-after-token : goal.returns-after-token
-returns-after-token g c = record {
-  works = served_works c.args.replica.now c.serve_run.new.replica c.serve_run.ensures.served;
+pub returns-in-Serve : goal.returns-in-Serve
+returns-in-Serve g c = record {
+  works = served_works c.args.replica.now c.serve_stored.new.replica c.serve_stored.ensures;
   tells = rw c.in-Serve.is tt;
 }
 
@@ -19,3 +21,6 @@ returns-in-Sync g c = record {
   works = pushed_works c.args.replica.now c.sync_told.new.replica c.sync_told.ensures.pushed;
   tells = rw c.in-Sync.is (told_so _ _ _ (g.D.Dial.gives c.args.dial.now) _ _ _ _ _ _ _ c.new-writer.ensures c.sync_told.ensures.tells);
 }
+
+pub serve_stored-requires : goal.serve_stored-requires
+serve_stored-requires g c = subst MayWork c.in-Serve.is c.requires

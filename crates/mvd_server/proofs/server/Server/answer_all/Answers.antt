@@ -1,5 +1,5 @@
 use Rattle.mvd_server.proofs.Rounds.{served_none, served_on}
-use Rattle.mvd_server.proofs.server.Server.answer.Goals as goal
+use Rattle.mvd_server.proofs.server.Server.answer_all.Goals as goal
 
 pub loop-round-init : goal.loop-round-init
 loop-round-init g c = served_none c.args.replica.now

@@ -1,5 +1,5 @@
 use Rattle.mvd_server.specs.Rounds.{IsServed}
-use Rattle.mvd_server.proofs.server.Server.answer.Given as goal
+use Rattle.mvd_server.proofs.server.Server.answer_all.Given as goal
 
 -- all that was done so far are the turns of rounds
 abbrev pub invariant-loop-round : goal.invariant-loop-round

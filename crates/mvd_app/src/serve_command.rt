@@ -1,0 +1,41 @@
+//! A stored site, served, and the servers that it meets.
+ghost use Rattle.std.specs.Option.{ForSome};
+ghost use Rattle.mvd_input.specs.Orders.{ArePeers};
+ghost use Rattle.mvd_server.specs.Rounds.{IsServed};
+
+use mvd_dots::Refusal;
+use mvd_hint::Stop;
+use mvd_input::{Peers, addresses_of};
+use mvd_replica::Replica;
+use mvd_server::{Terms, serve_run};
+use sqlite::Alter;
+use std::io::Write;
+use std::net::SocketAddr;
+
+/// Serves a stored site at an address, and meets the peers meanwhile, if there are any.
+#[tactic(auto, using(mvd_server::proofs::Rounds::served_none))]
+pub(crate) fn serve_stored<'a, S: Alter + Drop, W: Write>(
+    rt: &HostRuntime,
+    replica: &mut Replica<S>,
+    address: SocketAddr,
+    terms: Terms<'_>,
+    peers: Option<Peers<'_>>,
+    writer: &mut W,
+) -> Result<(), Stop<'a>>
+    requires { ForSome peers ArePeers }
+    ensures { IsServed replica.old replica.new }
+{
+    let mut errors = rt.stderr();
+    let Some(peers) = peers else {
+        return serve_run(rt, rt.alloc(), replica, address, terms, writer, &mut errors);
+    };
+    let Ok(addresses) = addresses_of(rt.alloc(), address.ip(), peers.list) else {
+        return Err(Stop::from(Refusal::Memory));
+    };
+    let terms = Terms {
+        peers: &addresses,
+        every: peers.every,
+        ..terms
+    };
+    serve_run(rt, rt.alloc(), replica, address, terms, writer, &mut errors)
+}

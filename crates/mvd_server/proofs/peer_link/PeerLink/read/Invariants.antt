@@ -1,0 +1,6 @@
+use Rattle.std.specs.Prelude.{◌≡◌}
+use Rattle.mvd_server.specs.PeerLinks.{MovesBytes}
+use Rattle.mvd_server.proofs.peer_link.PeerLink.read.Given as goal
+
+abbrev pub invariant-loop-turn : goal.invariant-loop-turn
+invariant-loop-turn l = record { moves : MovesBytes l.fn.self.far l.self.far; stage : l.self.stage ≡ l.fn.self.stage }

@@ -1,0 +1,6 @@
+use Rattle.std.specs.Prelude.{◌≤◌, ◌+◌}
+use Rattle.mvd_server.specs.Peerings.{running}
+use Rattle.mvd_server.proofs.peer_list.Peers.go_on.Given as goal
+
+abbrev pub invariant-loop-turn : goal.invariant-loop-turn
+invariant-loop-turn g l = running l.self.list.items + l.free ≤ 4

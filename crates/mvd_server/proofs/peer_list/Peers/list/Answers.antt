@@ -1,0 +1,10 @@
+use Rattle.std.proofs.Common.{◌<◌, arith, length}
+use Rattle.mvd_server.proofs.Placing.{places_kept}
+use Rattle.mvd_server.proofs.peer_list.Peers.list.Goals as goal
+
+pub loop-peering-preserved : goal.loop-peering-preserved
+loop-peering-preserved c =
+    let i = c.loop-peering.peering-index in
+    let items = c.loop-peering.peering-items in
+    let at : i < length items = omega arith in
+    places_kept items i c.list.new.self c.peering-item.result at c.loop-peering.invariant c.list.ensures.places

@@ -1,0 +1,75 @@
+-- The side of a session that is this server's own site: a client of the host.
+use Rattle.std.specs.Prelude.{◌≡◌, ◌⊎◌, ◌++◌, ◌+◌, ◌-◌, ◌^◌, ℕ, List, [], length, min, Option, None, Some}
+use Rattle.mvd_conn.specs.History.{History, closed, fed, released, sent}
+use Rattle.mvd_conn.specs.declared.ending.Source.TheVariants.{Failed}
+use Rattle.mvd_dots.specs.declared.refusals.Refusal.TheVariants.{Memory}
+use Rattle.mvd_host.specs.Hosts.{AdmitsOne, ClientLeaves, HostValue, altered, client_of}
+use Rattle.mvd_meet.specs.Callers.{asked_of_caller, came_at, leaving_at}
+use Rattle.mvd_meet.specs.declared.caller.Caller.{Caller}
+use Rattle.mvd_server.specs.declared.own_session.OwnSession.{OwnSession}
+use Rattle.mvd_server.specs.declared.talks.Talks.{Talks}
+
+-- the bytes that wait to leave to a client, if there is one
+abbrev pub waits_in : Option History → List ℕ
+waits_in None = []
+waits_in (Some h) = h.waits
+
+abbrev pub waits_of : HostValue → ℕ → List ℕ
+waits_of host client = waits_in (client_of host client)
+
+-- so many of them left
+abbrev pub sent_of : HostValue → ℕ → ℕ → HostValue
+sent_of host client count = altered host client (λ h. sent h count)
+
+-- bytes came of a client; or there was no memory for them, and nothing more is taken of it
+abbrev pub TakesBytes : HostValue → ℕ → List ℕ → HostValue → Type 0
+TakesBytes old client bytes new =
+    (new ≡ altered old client (λ h. fed h bytes))
+    ⊎ (new ≡ altered (altered old client released) client (λ h. closed h (Failed Memory)))
+
+-- ---- the host's client
+
+-- a client of this server's own comes, which shows no token, and counts as such; or nothing changes
+abbrev pub AdmitsOwn : Talks → Option ℕ → Talks → Type 0
+AdmitsOwn old None new = new ≡ old
+AdmitsOwn old (Some n) new =
+    AdmitsOne None old.host new.host n × (new.own ≡ min (old.own + 1) (2 ^ 64 - 1))
+
+pub record DismissesOwn (old : Talks) (n : ℕ) (new : Talks) : Type 0 where
+  pub leaves : ClientLeaves old.host n new.host
+  pub own : new.own ≡ old.own - 1
+
+-- ---- a session
+
+-- a side that was asked nothing, and of which nothing came
+pub record IsUnasked (caller : Caller) : Type 0 where
+  pub leaving : leaving_at caller ≡ []
+  pub came : came_at caller ≡ []
+  pub asked : asked_of_caller caller ≡ None
+
+-- a session begins with a client of its own; or there is no place for it
+abbrev pub BeginsOwn : Talks → Option OwnSession → Talks → Type 0
+BeginsOwn old None new = new ≡ old
+BeginsOwn old (Some session) new = AdmitsOwn old (Some session.client) new × IsUnasked session.near
+
+-- THE HOST TAKES a front of the bytes that are to leave; or none leave
+pub record HandsOn (old new : Caller) (host : HostValue) (client : ℕ) (host' : HostValue) : Type 0 where
+  pub front : List ℕ
+  pub leaving : leaving_at old ≡ front ++ leaving_at new
+  pub came : came_at new ≡ came_at old
+  pub asked : asked_of_caller new ≡ asked_of_caller old
+  pub takes : ((front ≡ []) × (host' ≡ host)) ⊎ TakesBytes host client front host'
+
+-- all that waits in the host comes behind what came; as many bytes are these
+pub record HearsWaiting (old : Caller) (host : HostValue) (client : ℕ) (new : Caller) (count : ℕ) : Type 0 where
+  pub came : came_at new ≡ came_at old ++ waits_of host client
+  pub leaving : leaving_at new ≡ leaving_at old
+  pub asked : asked_of_caller new ≡ asked_of_caller old
+  pub count_of : count ≡ length (waits_of host client)
+
+-- ALL THAT WAITS in the host leaves, and comes behind what came
+pub record TakesReplies (old new : Caller) (host : HostValue) (client : ℕ) (host' : HostValue) : Type 0 where
+  pub came : came_at new ≡ came_at old ++ waits_of host client
+  pub leaving : leaving_at new ≡ leaving_at old
+  pub asked : asked_of_caller new ≡ asked_of_caller old
+  pub sends : host' ≡ sent_of host client (length (waits_of host client))

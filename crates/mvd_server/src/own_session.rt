@@ -1,0 +1,210 @@
+//! A session of this server's own site: the side that is near is a client of the host.
+ghost use Rattle.std.specs.Prelude.{◌≡◌, ◌-◌, ◌&&◌, IfOk, IfSome, OnOk, false, length, not};
+ghost use Rattle.mvd_meet.specs.Callers.{has_all};
+ghost use Rattle.mvd_meet.specs.Meetings.{MeetingSteps};
+ghost use Rattle.mvd_server.specs.OwnSides.{AdmitsOwn, BeginsOwn, DismissesOwn, HandsOn};
+ghost use Rattle.mvd_server.specs.OwnSides.{HearsWaiting, TakesReplies};
+ghost use Rattle.mvd_server.specs.Peerings.{SwapsPlaces};
+
+use crate::talks::{Talks, feed, sent};
+use mvd_dots::Refusal;
+use mvd_host::Host;
+use mvd_meet::{Caller, Course, Meeting};
+use mvd_sync::{Report, SyncFault};
+use std::alloc::Global;
+
+/// As many bytes of frames are handed on at once.
+const PIECE: usize = 65_536;
+
+impl Talks {
+    /// Takes in a client that asks for this server itself, which shows no token, and gives its number. It is `None` where
+    /// there is no place, or memory was refused.
+    pub fn admit_own(&mut self) -> Option<u64>
+        ensures { AdmitsOwn self.old result self.new }
+    {
+        let Ok(Some(number)) = self.host.admit(None) else {
+            return None;
+        };
+        self.own = self.own.saturating_add(1);
+        Some(number)
+    }
+
+    /// Lets such a client go.
+    pub fn dismiss_own(&mut self, number: u64)
+        ensures { DismissesOwn self.old number self.new }
+    {
+        self.host.dismiss(number);
+        self.own = self.own.saturating_sub(1);
+    }
+
+    /// As many clients there are that are not its own.
+    pub fn clients(&self) -> usize
+        ensures { result ≡ length self.now.host.clients - self.now.own }
+    {
+        self.host.len().saturating_sub(self.own)
+    }
+}
+
+/// A session: the host's client that asks for it, what goes on between the two sides, and whether it has one of the places
+/// for those that go on.
+#[derive(Drop)]
+pub(crate) struct OwnSession {
+    pub client: u64,
+    near: Caller,
+    meeting: Meeting,
+    pub runs: bool,
+}
+
+impl OwnSession {
+    /// A session in which nothing was asked. It is `None` where the host has no place, or memory was refused.
+    pub fn begin(
+        alloc: Global,
+        talks: &mut Talks,
+        number: u32,
+    ) -> Result<Option<OwnSession>, SyncFault>
+        ensures begins { IfOk result (λ begun. BeginsOwn talks.old begun talks.new) }
+        ensures waits { IfOk result (λ begun. IfSome begun (λ session. session.runs ≡ false)) }
+    {
+        let meeting = Meeting::new(alloc, number)?;
+        let Some(client) = talks.admit_own() else {
+            return Ok(None);
+        };
+        Ok(Some(OwnSession {
+            client,
+            near: Caller::new(alloc),
+            meeting,
+            runs: false,
+        }))
+    }
+
+    /// Whether all came of both sides that is due.
+    pub fn can_step(&self, far: &Caller) -> bool
+        ensures { result ≡ has_all self.now.near && has_all far.now }
+    {
+        self.near.has_all() && far.has_all()
+    }
+
+    /// Whether all came of both sides, and it has a place. It takes one where one is free. Where the peer says nothing for a
+    /// while, it gives its place back.
+    pub fn has_turn(&mut self, far: &Caller, is_lulled: bool, free: &mut usize) -> bool
+        ensures { SwapsPlaces self.old.runs free.old self.new.runs free.new }
+    {
+        if self.can_step(far) {
+            return self.take_place(free);
+        }
+        if !is_lulled {
+            return false;
+        }
+        self.leave_place(free);
+        false
+    }
+
+    /// Takes a place, unless it has one or none is free. Whether it has one.
+    #[tactic(auto, using(crate::proofs::Swapping::takes_one))]
+    fn take_place(&mut self, free: &mut usize) -> bool
+        ensures { SwapsPlaces self.old.runs free.old self.new.runs free.new }
+    {
+        if self.runs {
+            return true;
+        }
+        if *free == 0 {
+            return false;
+        }
+        *free -= 1;
+        self.runs = true;
+        true
+    }
+
+    /// Gives its place back, if it has one.
+    #[tactic(auto, using(crate::proofs::Swapping::gives_back))]
+    fn leave_place(&mut self, free: &mut usize)
+        ensures { SwapsPlaces self.old.runs free.old self.new.runs free.new }
+    {
+        if !self.runs {
+            return;
+        }
+        self.runs = false;
+        *free = free.saturating_add(1);
+    }
+
+    /// Takes what came, and asks what is next.
+    pub fn step(&mut self, far: &mut Caller) -> Result<Course, SyncFault>
+        ensures steps { IfOk result
+            (MeetingSteps self.old.meeting self.old.near far.old self.new.meeting self.new.near far.new) }
+        ensures client { self.new.client ≡ self.old.client }
+        ensures runs { self.new.runs ≡ self.old.runs }
+    {
+        self.meeting.step(&mut self.near, far)
+    }
+
+    /// As many questions were asked of this server's site.
+    pub fn questions(&self) -> u64 {
+        self.near.questions()
+    }
+
+    /// Whether the host has something to do for it.
+    pub fn is_busy(&self) -> bool
+        ensures { result ≡ not (has_all self.now.near) }
+    {
+        !self.near.has_all()
+    }
+
+    /// Hands on frames, as many as the host takes.
+    #[tactic(auto, using(crate::proofs::Handing::hands_none, crate::proofs::Handing::hands_front))]
+    pub fn hand_on(&mut self, talks: &mut Talks)
+        ensures hands { HandsOn self.old.near self.new.near talks.old.host self.old.client talks.new.host }
+        ensures session { self.new ≡ record self.old { near = self.new.near } }
+        ensures talks { talks.new ≡ record talks.old { host = talks.new.host } }
+    {
+        let leaving = self.near.leaving();
+        if leaving.is_empty() || !talks.host.wants_input(self.client) {
+            return;
+        }
+        let count = leaving.len().min(PIECE);
+        feed(&mut talks.host, self.client, &leaving[..count]);
+        self.near.left(count);
+    }
+
+    /// Takes the replies that the host has.
+    #[tactic(auto, using(crate::proofs::Handing::sends_all))]
+    pub fn take_replies(&mut self, talks: &mut Talks) -> Result<(), Refusal>
+        ensures takes { OnOk result
+            (TakesReplies self.old.near self.new.near talks.old.host self.old.client talks.new.host) }
+        ensures session { self.new ≡ record self.old { near = self.new.near } }
+        ensures talks { talks.new ≡ record talks.old { host = talks.new.host } }
+    {
+        let count = self.take_waiting(&talks.host)?;
+        sent(&mut talks.host, self.client, count);
+        if talks.host.is_done(self.client) {
+            self.near.end(false);
+        }
+        Ok(())
+    }
+
+    /// Takes the bytes that wait in the host, and gives their number.
+    #[tactic(auto, using(crate::proofs::Handing::waits_some, crate::proofs::Handing::waits_none))]
+    fn take_waiting(&mut self, host: &Host) -> Result<usize, Refusal>
+        ensures takes { IfOk result (HearsWaiting self.old.near host.now self.old.client self.new.near) }
+        ensures session { self.new ≡ record self.old { near = self.new.near } }
+    {
+        match host.waiting(self.client) {
+            Some(bytes) => {
+                self.near.feed(bytes)?;
+                Ok(bytes.len())
+            }
+            None => Ok(0),
+        }
+    }
+
+    /// What it did, once it is done.
+    pub fn report(self) -> Report {
+        let OwnSession {
+            client: _,
+            near,
+            meeting,
+            runs: _,
+        } = self;
+        drop(near);
+        meeting.report()
+    }
+}

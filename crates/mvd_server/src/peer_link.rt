@@ -1,0 +1,256 @@
+//! A connection with a peer, which this server opened.
+ghost use Rattle.std.specs.Prelude.{◌≡◌, IfOk};
+ghost use Rattle.mvd_server.specs.OwnSides.{IsUnasked};
+ghost use Rattle.mvd_server.specs.PeerLinks.{MovesBytes, is_rest};
+
+use crate::client::{Client, Moved, Piece};
+use mio::event::Event;
+use mio::net::TcpStream;
+use mio::{Interest, Registry, Token};
+use mvd_dots::Refusal;
+use mvd_meet::Caller;
+use std::alloc::Global;
+use std::io;
+use std::net::{Net, SocketAddr};
+
+/// As often it is read, and written, before others have their turn.
+const MOVES: usize = 16;
+
+/// As many milliseconds a peer has to answer a Bye.
+const LINGER: u64 = 2_000;
+
+/// After as many milliseconds without a byte a peer holds no place that others wait for.
+const LULL: u64 = 1_000;
+
+/// How far a connection is.
+#[derive(Clone, Copy, PartialEq, Eq)]
+pub(crate) enum Stage {
+    /// It is not known whether it is connected.
+    Connects,
+    /// The token was shown.
+    Greets,
+    /// Nothing is asked.
+    Rests,
+    /// A session goes on.
+    Meets,
+    /// A Bye was said.
+    Parts,
+}
+
+/// The socket, and the side that is asked over it. All times are in milliseconds since the server's start.
+#[derive(Drop)]
+pub(crate) struct PeerLink {
+    socket: Client,
+    pub stage: Stage,
+    pub far: Caller,
+    /// A session went on over it before.
+    pub is_kept: bool,
+    /// A byte came since this was unset.
+    pub has_heard: bool,
+    /// For as many milliseconds no byte need move.
+    idle: u64,
+    /// When a byte moved last, or else something was asked.
+    pub moved: u64,
+}
+
+impl PeerLink {
+    /// Begins to connect.
+    pub fn open<N: Net>(
+        rt: &N,
+        alloc: Global,
+        registry: &Registry,
+        token: Token,
+        address: SocketAddr,
+        idle: u64,
+        now: u64,
+    ) -> io::Result<PeerLink>
+        ensures { IfOk result (λ link. IsUnasked link.far × (link.stage ≡ Stage.Connects)) }
+    {
+        let mut stream = TcpStream::connect(rt, address)?;
+        registry.register(&mut stream, token, Interest::READABLE | Interest::WRITABLE)?;
+        let mut socket = Client::new(stream, 0, now);
+        socket.readable = false;
+        socket.writable = false;
+        Ok(PeerLink {
+            socket,
+            stage: Stage::Connects,
+            far: Caller::new(alloc),
+            is_kept: false,
+            has_heard: false,
+            idle,
+            moved: now,
+        })
+    }
+
+    /// Notes what the system told of the socket.
+    pub fn note(&mut self, event: &Event)
+        ensures { self.new ≡ record self.old { socket = self.new.socket } }
+    {
+        self.socket.note(event);
+    }
+
+    /// Whether it is connected. It is `false` as long as that is not known.
+    pub fn is_connected(&self) -> Result<bool, Refusal> {
+        if !self.socket.writable {
+            return Ok(false);
+        }
+        if self.socket.begins() {
+            Ok(true)
+        } else {
+            Err(Refusal::ReadFailed)
+        }
+    }
+
+    /// Whether nothing is asked over it.
+    pub fn is_resting(&self) -> bool
+        ensures { result ≡ is_rest self.now.stage }
+    {
+        match self.stage {
+            Stage::Rests => true,
+            Stage::Connects | Stage::Greets | Stage::Meets | Stage::Parts => false,
+        }
+    }
+
+    /// Whether something is awaited of the peer, or is to leave to it.
+    pub fn is_open(&self) -> bool {
+        match self.stage {
+            Stage::Connects => true,
+            Stage::Rests => false,
+            Stage::Greets | Stage::Meets | Stage::Parts => {
+                !self.far.has_all() || !self.far.leaving().is_empty()
+            }
+        }
+    }
+
+    /// Whether a byte may move at once.
+    pub fn is_busy(&self) -> bool {
+        match self.stage {
+            Stage::Connects => self.socket.writable,
+            Stage::Rests => self.socket.readable,
+            Stage::Greets | Stage::Meets | Stage::Parts => {
+                (self.socket.readable && !self.far.has_all())
+                    || (self.socket.writable && !self.far.leaving().is_empty())
+            }
+        }
+    }
+
+    /// When it ends if no byte moves.
+    pub fn deadline(&self) -> u64 {
+        let patience = match self.stage {
+            Stage::Parts => self.idle.min(LINGER),
+            _ => self.idle,
+        };
+        self.moved.saturating_add(patience)
+    }
+
+    /// When it holds no place any more, if no byte moves.
+    pub fn lull(&self) -> u64 {
+        self.moved.saturating_add(LULL)
+    }
+
+    /// Whether no byte moved for too long, though one should have.
+    pub fn is_late(&self, now: u64) -> bool {
+        self.is_open() && self.deadline() <= now
+    }
+
+    /// Reads what is due, and writes what may leave. Where the peer ended the connection, nothing is written to it.
+    #[tactic(auto, using(crate::proofs::Moving::moves_both))]
+    pub fn move_bytes(&mut self, piece: &mut Piece, now: u64) -> Result<(), Refusal>
+        ensures moves { MovesBytes self.old.far self.new.far }
+        ensures stage { self.new.stage ≡ self.old.stage }
+    {
+        self.read(piece, now)?;
+        if self.far.has_all() {
+            return Ok(());
+        }
+        self.write(now)
+    }
+
+    /// Reads what is due.
+    #[tactic(auto, using(crate::proofs::Moving::moves_none, crate::proofs::Moving::moves_both))]
+    fn read(&mut self, piece: &mut Piece, now: u64) -> Result<(), Refusal>
+        ensures moves { MovesBytes self.old.far self.new.far }
+        ensures stage { self.new.stage ≡ self.old.stage }
+    {
+        for _turn in 0..MOVES {
+            if !self.read_once(piece, now)? {
+                return Ok(());
+            }
+        }
+        Ok(())
+    }
+
+    /// Reads once, where something is due. Whether it may be read again at once.
+    #[tactic(auto, using(crate::proofs::Moving::moves_none, crate::proofs::Moving::moves_came))]
+    fn read_once(&mut self, piece: &mut Piece, now: u64) -> Result<bool, Refusal>
+        ensures moves { MovesBytes self.old.far self.new.far }
+        ensures stage { self.new.stage ≡ self.old.stage }
+    {
+        if !self.socket.readable || self.far.has_all() {
+            return Ok(false);
+        }
+        match self.socket.read(piece) {
+            Moved::Bytes(count) => {
+                self.moved = now;
+                self.has_heard = true;
+                self.far.feed(piece.first(count))?;
+                Ok(true)
+            }
+            Moved::Nothing => Ok(false),
+            Moved::End => {
+                self.far.end(false);
+                Ok(false)
+            }
+            Moved::Failed => {
+                self.far.end(true);
+                Ok(false)
+            }
+        }
+    }
+
+    /// Writes what may leave.
+    #[tactic(auto, using(crate::proofs::Moving::moves_none, crate::proofs::Moving::moves_both))]
+    fn write(&mut self, now: u64) -> Result<(), Refusal>
+        ensures moves { MovesBytes self.old.far self.new.far }
+        ensures stage { self.new.stage ≡ self.old.stage }
+    {
+        for _turn in 0..MOVES {
+            if !self.write_once(now)? {
+                return Ok(());
+            }
+        }
+        Ok(())
+    }
+
+    /// Writes once, where something is to leave. Whether it may be written again at once.
+    #[tactic(auto, using(crate::proofs::Moving::moves_none, crate::proofs::Moving::moves_left))]
+    fn write_once(&mut self, now: u64) -> Result<bool, Refusal>
+        ensures moves { MovesBytes self.old.far self.new.far }
+        ensures stage { self.new.stage ≡ self.old.stage }
+    {
+        let bytes = self.far.leaving();
+        if !self.socket.writable || bytes.is_empty() {
+            return Ok(false);
+        }
+        let most = bytes.len();
+        match self.socket.write(bytes) {
+            Moved::Bytes(count) => {
+                self.moved = now;
+                self.far.left(count.min(most));
+                Ok(true)
+            }
+            Moved::Nothing => Ok(false),
+            Moved::End | Moved::Failed => Err(Refusal::WriteFailed),
+        }
+    }
+
+    /// Whether it is still as it was while nothing is asked: no byte came, and no end.
+    pub fn is_quiet(&mut self, piece: &mut Piece) -> bool
+        ensures { self.new ≡ record self.old { socket = self.new.socket } }
+    {
+        if !self.socket.readable {
+            return true;
+        }
+        matches!(self.socket.read(piece), Moved::Nothing)
+    }
+}

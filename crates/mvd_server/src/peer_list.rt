@@ -1,0 +1,163 @@
+//! The peers that this server meets while it serves.
+ghost use Rattle.std.specs.Prelude.{◌≡◌, ◌≤◌, ◌+◌, ◌-◌, length};
+ghost use Rattle.mvd_server.specs.Peerings.{LooksInTime, running};
+
+use crate::crowd::Crowd;
+use crate::peer_counts::PeerCounts;
+use crate::peer_news::Setting;
+use crate::peering::Peering;
+use crate::server::Terms;
+use crate::timers::earlier;
+use mio::event::Event;
+use mio::{Registry, Token};
+use mvd_input::tell;
+use std::alloc::{AllocError, Global};
+use std::io::Write;
+use std::net::Net;
+
+/// What the system tells of the first peer by. No client's number is as great.
+const FIRST: usize = usize::MAX - 2;
+
+/// As many sessions go on at a time past their first question.
+pub(crate) const SESSIONS_MAX: usize = 4;
+
+#[derive(Drop)]
+pub(crate) struct Peers {
+    list: Vec<Peering>,
+    /// The place of the one that has its turn first.
+    first: usize,
+    setting: Setting,
+    /// The commits of this server's site until the last round.
+    commits: u64,
+    // Few sessions go on at a time.
+    ghost few: { running list.items ≤ 4 },
+}
+
+impl Peers {
+    pub fn new(alloc: Global, number: u32, terms: Terms<'_>) -> Result<Peers, AllocError> {
+        let setting = Setting::new(alloc, number, terms)?;
+        let mut list = Vec::with_capacity(alloc, terms.peers.len())?;
+        for address in terms.peers {
+            let place = list.len();
+            let token = Token(FIRST.saturating_sub(place));
+            list.push(Peering::new(place, *address, token, terms.every))?;
+        }
+        Ok(Peers {
+            list,
+            first: 0,
+            setting,
+            commits: 0,
+        })
+    }
+
+    /// What is counted of each.
+    pub fn counts(alloc: Global, terms: Terms<'_>) -> Result<Vec<PeerCounts>, AllocError> {
+        let mut counts = Vec::with_capacity(alloc, terms.peers.len())?;
+        for address in terms.peers {
+            counts.push(PeerCounts::new(*address))?;
+        }
+        Ok(counts)
+    }
+
+    /// As many sessions more may go on.
+    fn free(&self) -> usize
+        ensures { result ≡ 4 - running self.now.list.items }
+    {
+        let mut free = SESSIONS_MAX;
+        for peering in &self.list {
+            if peering.runs() {
+                free = free.saturating_sub(1);
+            }
+        }
+        free
+    }
+
+    /// When one is to be looked after, if nothing moves.
+    pub fn next_due(&self) -> Option<u64>
+        // A peer of which nothing is asked is looked after once it is due.
+        ensures { LooksInTime self.now.list.items result }
+    {
+        let mut first = None;
+        for peering in &self.list {
+            first = earlier(first, peering.next_due());
+        }
+        first
+    }
+
+    /// Whether something is to be done at once.
+    pub fn are_busy(&self) -> bool {
+        let free = self.free();
+        self.list.iter().any(|peering| peering.is_busy(free))
+    }
+
+    /// Notes what the system told of a peer's socket. Whether it is one.
+    pub fn note(&mut self, event: &Event) -> bool {
+        let mut is_one = false;
+        for peering in self.list.iter_mut() {
+            is_one = peering.note(event) || is_one;
+        }
+        is_one
+    }
+
+    /// Connects to those that are due, and goes on with each session as far as can be without waiting. Each time another
+    /// one comes first, so that each gets a place.
+    pub fn go_on<N: Net>(&mut self, rt: &N, registry: &Registry, crowd: &mut Crowd) {
+        let mut free = self.free();
+        let count = self.list.len();
+        for turn in 0..count {
+            let place = self.first.saturating_add(turn) % count;
+            self.go_on_with(place, rt, registry, crowd, &mut free);
+        }
+        self.first = if self.first < count {
+            self.first + 1
+        } else {
+            0
+        };
+    }
+
+    /// Goes on with one of them. Where it takes a place for its session, one place less is free.
+    fn go_on_with<N: Net>(
+        &mut self,
+        place: usize,
+        rt: &N,
+        registry: &Registry,
+        crowd: &mut Crowd,
+        free: &mut usize,
+    )
+        requires { running self.old.list.items + free.old ≤ 4 }
+        ensures few { running self.new.list.items + free.new ≤ 4 }
+        ensures all { length self.new.list.items ≡ length self.old.list.items }
+    {
+        if place < self.list.len() {
+            let peering = &mut self.list[place];
+            peering.connect(rt, registry, &self.setting, crowd);
+            peering.go_on(&mut self.setting, crowd, free);
+        }
+    }
+
+    /// Hands on what the sessions ask of this server's site, and lists their clients.
+    pub fn list(&mut self, crowd: &mut Crowd, ready: &mut Vec<u64>) {
+        for peering in self.list.iter_mut() {
+            peering.list(crowd, ready);
+        }
+    }
+
+    /// Takes what the site told the sessions. Where something was committed, all peers are met soon.
+    pub fn take_replies(&mut self, crowd: &mut Crowd, commits: u64) {
+        let changed = commits != self.commits;
+        self.commits = commits;
+        for peering in self.list.iter_mut() {
+            peering.hear(crowd, changed);
+        }
+    }
+
+    /// Tells which keys were left, if some are to be told. What cannot be written is left out.
+    pub fn tell_errors<E: Write>(&mut self, errors: &mut E) {
+        let lines = &mut self.setting.errors;
+        if lines.is_empty() {
+            return;
+        }
+        let _ = tell(errors, lines);
+        lines.clear();
+    }
+}

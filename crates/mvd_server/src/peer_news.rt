@@ -1,0 +1,104 @@
+//! What all sessions with peers share, and what is told of them.
+ghost use Rattle.std.specs.Prelude.{◌≡◌, ◌++◌, OnOk, string_bytes};
+ghost use Rattle.mvd_server.specs.PeerNews.{peer_text, some_text};
+
+use crate::client::Piece;
+use crate::server::Terms;
+use mvd_dots::Refusal;
+use mvd_meet::is_among;
+use mvd_sync::{Left, Report, Side};
+use mvd_wire::{Items, Token};
+use std::alloc::{AllocError, Global};
+use std::fmt::Write as Print;
+use std::net::SocketAddr;
+
+/// Where sessions are as many seconds apart, no connection is kept from one to the next.
+const APART: u32 = 60;
+
+/// What all sessions share.
+#[derive(Drop)]
+pub(crate) struct Setting {
+    pub alloc: Global,
+    /// The number of this site.
+    pub number: u32,
+    /// For as many milliseconds no byte need move.
+    pub idle: u64,
+    /// A connection stays open from one session to the next.
+    pub stays: bool,
+    /// Each peer is shown it first, if there is one.
+    pub token: Option<Token>,
+    pub piece: Piece,
+    /// What is to be told on standard error.
+    pub errors: String,
+}
+
+impl Setting {
+    pub fn new(alloc: Global, number: u32, terms: Terms<'_>) -> Result<Setting, AllocError> {
+        let token = match terms.token {
+            Some(token) => match token.copy(alloc) {
+                Ok(token) => Some(token),
+                Err(_) => return Err(AllocError),
+            },
+            None => None,
+        };
+        let piece = Piece::new(alloc)?;
+        Ok(Setting {
+            alloc,
+            number,
+            idle: u64::from(terms.idle).saturating_mul(1_000),
+            stays: terms.every < APART,
+            token,
+            piece,
+            errors: String::new(alloc),
+        })
+    }
+}
+
+/// Tells what a session exchanged, if it did. What memory is refused for is not told.
+pub(crate) fn tell_done(address: SocketAddr, report: &Report, told: &mut String) {
+    if report.keys > 0 {
+        let _ = print_done(address, report, told);
+    }
+}
+
+/// Prints what a session exchanged, how many keys were refused and how many were older, where some were.
+fn print_done(address: SocketAddr, report: &Report, told: &mut String) -> Result<(), Refusal>
+    ensures { OnOk result (string_bytes told.new ≡ string_bytes told.old ++ peer_text address report.now) }
+{
+    write!(told, "peer {address} keys {}", report.keys)?;
+    print_some("refused", report.refused, told)?;
+    print_some("older", report.old, told)?;
+    told.push('\n')?;
+    Ok(())
+}
+
+/// Prints a count behind its name, unless it is none.
+fn print_some(name: &str, count: u64, told: &mut String) -> Result<(), Refusal>
+    ensures { OnOk result (string_bytes told.new ≡ string_bytes told.old ++ some_text name.now count) }
+{
+    if count > 0 {
+        write!(told, " {name} {count}")?;
+    }
+    Ok(())
+}
+
+/// Tells which keys were left, by which side, and how, but for those that were left so before.
+pub(crate) fn tell_left(
+    address: SocketAddr,
+    before: &Option<Items<Left>>,
+    after: &Items<Left>,
+    errors: &mut String,
+) {
+    for left in after.as_slice() {
+        if let Some(before) = before
+            && is_among(left, before.as_slice())
+        {
+            continue;
+        }
+        let _ = write!(errors, "mvd: key {}: {} at ", left.key.text(), left.refusal);
+        let _ = match left.side {
+            Side::Local => writeln!(errors, "this side"),
+            Side::Peer => writeln!(errors, "{address}"),
+        };
+    }
+}

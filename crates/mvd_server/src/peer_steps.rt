@@ -1,0 +1,288 @@
+//! What goes on with a peer, step by step, without waiting.
+ghost use Rattle.std.specs.Prelude.{◌≡◌, ◌<◌};
+ghost use Rattle.mvd_meet.specs.Times.{due_of};
+ghost use Rattle.mvd_server.specs.Peerings.{SwapsPlaces, TakesFree, TakesNoPlace, has_place};
+
+use crate::crowd::Crowd;
+use crate::own_session::OwnSession;
+use crate::peer_link::{PeerLink, Stage};
+use crate::peer_news::{Setting, tell_done, tell_left};
+use crate::peering::{MOST_QUESTIONS, Peering};
+use mvd_dots::Refusal;
+use mvd_meet::{Caller, Course, Ended};
+use mvd_sync::{Report, SyncFault};
+use std::fmt::Write as Print;
+
+/// As many steps are taken of a session before others have their turn.
+const STEPS: usize = 16;
+
+impl Peering {
+    /// Goes on as far as can be without waiting. As many sessions more as are free may go on past their first question.
+    pub fn go_on(&mut self, setting: &mut Setting, crowd: &mut Crowd, free: &mut usize)
+        ensures { TakesFree self.old free.old self.new free.new }
+    {
+        for _turn in 0..STEPS {
+            match self.step(setting, crowd, free) {
+                Ok(true) => {}
+                Ok(false) => return,
+                Err(refusal) => return self.fail(crowd, refusal),
+            }
+        }
+    }
+
+    /// One step. Whether another may follow at once.
+    fn step(
+        &mut self,
+        setting: &mut Setting,
+        crowd: &mut Crowd,
+        free: &mut usize,
+    ) -> Result<bool, Refusal>
+        ensures { TakesFree self.old free.old self.new free.new }
+    {
+        let Some(link) = &mut self.link else {
+            return Ok(false);
+        };
+        let goes_on = match link.stage {
+            Stage::Connects => connects(link, setting, crowd.now)?,
+            Stage::Greets => greets(link, setting, crowd.now)?,
+            Stage::Rests => self.rests(setting, crowd)?,
+            Stage::Meets => self.meets(setting, crowd, free)?,
+            Stage::Parts => self.parts(setting, crowd.now),
+        };
+        if goes_on {
+            return Ok(true);
+        }
+        self.give_up(crowd.now)
+    }
+
+    /// A peer is given up of which no byte came for too long. One that does not answer a Bye is let go.
+    fn give_up(&mut self, now: u64) -> Result<bool, Refusal>
+        ensures { self.new ≡ record self.old { link = self.new.link } }
+    {
+        let Some(link) = &mut self.link else {
+            return Ok(false);
+        };
+        if !link.is_late(now) {
+            return Ok(false);
+        }
+        if link.stage != Stage::Parts {
+            // It was not cut since the session before: it is there, and says nothing.
+            link.is_kept = false;
+            return Err(Refusal::ReadFailed);
+        }
+        self.link = None;
+        Ok(false)
+    }
+
+    /// A session begins, where it is due and the connection is still there. Over a new one it begins in any case: what came,
+    /// or that it ended, is then told as its fault.
+    fn rests(&mut self, setting: &mut Setting, crowd: &mut Crowd) -> Result<bool, Refusal>
+        // Before that, none does.
+        ensures early { crowd.old.now < due_of self.old.schedule → self.new.session ≡ self.old.session }
+        ensures places { TakesNoPlace self.old self.new }
+    {
+        let Some(link) = &mut self.link else {
+            return Ok(false);
+        };
+        if link.is_kept && !link.is_quiet(&mut setting.piece) {
+            self.link = None;
+            return Ok(false);
+        }
+        if self.schedule.due() > crowd.now {
+            return Ok(false);
+        }
+        if link.far.questions() >= MOST_QUESTIONS {
+            return self.part(crowd.now);
+        }
+        match OwnSession::begin(setting.alloc, &mut crowd.talks, setting.number) {
+            Ok(Some(session)) => self.session = Some(session),
+            Ok(None) => return Err(Refusal::Memory),
+            Err(fault) => return Err(refusal_in(fault)),
+        }
+        self.schedule.begin();
+        link.stage = Stage::Meets;
+        link.has_heard = false;
+        self.ask(setting, crowd)
+    }
+
+    /// What came is taken, once all came, and what is next is asked, where there is a place for the session. It gives its
+    /// place back where nothing came for a while.
+    fn meets(
+        &mut self,
+        setting: &mut Setting,
+        crowd: &mut Crowd,
+        free: &mut usize,
+    ) -> Result<bool, Refusal>
+        ensures { TakesFree self.old free.old self.new free.new }
+    {
+        let Some(link) = &mut self.link else {
+            return Ok(false);
+        };
+        link.move_bytes(&mut setting.piece, crowd.now)?;
+        let is_lulled = link.is_open() && link.lull() <= crowd.now;
+        if !has_turn_in(&mut self.session, &link.far, is_lulled, free) {
+            return Ok(false);
+        }
+        self.ask(setting, crowd)
+    }
+
+    /// Asks what is next, or ends the session where it is done.
+    fn ask(&mut self, setting: &mut Setting, crowd: &mut Crowd) -> Result<bool, Refusal>
+        ensures { TakesNoPlace self.old self.new }
+    {
+        match self.ask_next(crowd.now)? {
+            Course::Waits => Ok(false),
+            Course::Asks => Ok(true),
+            Course::Done => self.done(setting, crowd),
+        }
+    }
+
+    /// A step of the session, if there is one.
+    #[tactic(auto, using(crate::proofs::Placing::place_stays))]
+    fn ask_next(&mut self, now: u64) -> Result<Course, Refusal>
+        ensures { TakesNoPlace self.old self.new }
+    {
+        let Some(link) = &mut self.link else {
+            return Ok(Course::Waits);
+        };
+        link.moved = now;
+        step_of(&mut self.session, &mut link.far)
+    }
+
+    /// A session is done: that is told, and the connection rests, or ends.
+    fn done(&mut self, setting: &mut Setting, crowd: &mut Crowd) -> Result<bool, Refusal>
+        ensures { TakesNoPlace self.old self.new }
+    {
+        let Some(session) = self.session.take() else {
+            return Ok(false);
+        };
+        crowd.talks.dismiss_own(session.client);
+        let report = session.report();
+        if self.is_failing {
+            let _ = writeln!(crowd.told, "peer {} again", self.address);
+        }
+        self.is_failing = false;
+        tell_done(self.address, &report, &mut crowd.told);
+        self.note_done(setting, crowd, report);
+        if let Some(link) = &mut self.link {
+            link.is_kept = true;
+            link.stage = Stage::Rests;
+        }
+        if setting.stays {
+            return Ok(false);
+        }
+        self.part(crowd.now)
+    }
+
+    /// Notes how a session ended that is done, and tells which keys were left, but for those that the session before left.
+    fn note_done(&mut self, setting: &mut Setting, crowd: &mut Crowd, report: Report)
+        ensures { self.new.session ≡ self.old.session }
+    {
+        self.schedule.end(Ended::with(&report), crowd.now);
+        if let Some(counts) = crowd.counts.peers.get_mut(self.place) {
+            counts.end(report.keys, report.refused > 0, crowd.now);
+        }
+        tell_left(
+            self.address,
+            &self.left,
+            &report.first_refused,
+            &mut setting.errors,
+        );
+        self.left = Some(report.first_refused);
+    }
+
+    /// Says Bye.
+    fn part(&mut self, now: u64) -> Result<bool, Refusal>
+        ensures { self.new ≡ record self.old { link = self.new.link } }
+    {
+        let Some(link) = &mut self.link else {
+            return Ok(false);
+        };
+        if link.far.part().is_err() {
+            self.link = None;
+            return Ok(false);
+        }
+        link.stage = Stage::Parts;
+        link.moved = now;
+        Ok(true)
+    }
+
+    /// The connection ends once the Bye is answered. What else comes does not put that off.
+    fn parts(&mut self, setting: &mut Setting, now: u64) -> bool
+        ensures { self.new ≡ record self.old { link = self.new.link } }
+    {
+        let Some(link) = &mut self.link else {
+            return false;
+        };
+        let since = link.moved;
+        let moved = link.move_bytes(&mut setting.piece, now);
+        link.moved = since;
+        if moved.is_err() || link.far.has_all() {
+            self.link = None;
+        }
+        false
+    }
+}
+
+/// The token is shown once it is connected, if there is one.
+fn connects(link: &mut PeerLink, setting: &Setting, now: u64) -> Result<bool, Refusal> {
+    if !link.is_connected()? {
+        return Ok(false);
+    }
+    link.moved = now;
+    link.stage = match &setting.token {
+        Some(token) => {
+            link.far.greet(token)?;
+            Stage::Greets
+        }
+        None => Stage::Rests,
+    };
+    Ok(true)
+}
+
+/// The token is answered by Done.
+fn greets(link: &mut PeerLink, setting: &mut Setting, now: u64) -> Result<bool, Refusal> {
+    link.move_bytes(&mut setting.piece, now)?;
+    if !link.far.has_all() {
+        return Ok(false);
+    }
+    link.far.is_answered()?;
+    link.stage = Stage::Rests;
+    Ok(true)
+}
+
+/// Whether there is a session that may go on at once, and has a place for that.
+#[tactic(auto, using(crate::proofs::Placing::place_swaps))]
+fn has_turn_in(
+    session: &mut Option<OwnSession>,
+    far: &Caller,
+    is_lulled: bool,
+    free: &mut usize,
+) -> bool
+    ensures { SwapsPlaces (has_place session.old) free.old (has_place session.new) free.new }
+{
+    match session {
+        Some(session) => session.has_turn(far, is_lulled, free),
+        None => false,
+    }
+}
+
+/// A step of a session, if there is one.
+#[tactic(auto, using(crate::proofs::Placing::place_steps))]
+fn step_of(session: &mut Option<OwnSession>, far: &mut Caller) -> Result<Course, Refusal>
+    ensures { has_place session.new ≡ has_place session.old }
+{
+    match session {
+        Some(session) => match session.step(far) {
+            Ok(course) => Ok(course),
+            Err(fault) => Err(refusal_in(fault)),
+        },
+        None => Ok(Course::Waits),
+    }
+}
+
+fn refusal_in(fault: SyncFault) -> Refusal {
+    match fault {
+        SyncFault::Local(refusal) | SyncFault::Peer(refusal) => refusal,
+    }
+}

@@ -1,0 +1,230 @@
+//! A peer: when it is met, and the connection and the session with it, if there are any.
+ghost use Rattle.std.specs.Prelude.{◌≡◌, ◌<◌, None, Some, true};
+ghost use Rattle.mvd_meet.specs.Times.{due_of, news_at};
+ghost use Rattle.mvd_server.specs.Peerings.{FailsMeeting, TakesNoPlace, has_place, is_resting};
+
+use crate::crowd::Crowd;
+use crate::own_session::OwnSession;
+use crate::peer_link::PeerLink;
+use crate::peer_news::Setting;
+use mio::event::Event;
+use mio::{Registry, Token};
+use mvd_dots::Refusal;
+use mvd_meet::{Ended, Schedule};
+use mvd_sync::Left;
+use mvd_wire::Items;
+use std::fmt::Write as Print;
+use std::net::{Net, SocketAddr};
+
+/// As many questions may have been asked over a connection on which another session begins, and no session that asked as
+/// many is told to have failed where its connection was cut: a server takes 1,000,000.
+pub(crate) const MOST_QUESTIONS: u64 = 500_000;
+
+/// A peer. `place` is where it stands among the peers.
+#[derive(Drop)]
+pub(crate) struct Peering {
+    pub place: usize,
+    pub address: SocketAddr,
+    token: Token,
+    pub schedule: Schedule,
+    pub link: Option<PeerLink>,
+    pub session: Option<OwnSession>,
+    /// The last session failed.
+    pub is_failing: bool,
+    /// The keys that the last session left which ended.
+    pub left: Option<Items<Left>>,
+}
+
+impl Peering {
+    /// A peer that is met at once.
+    pub fn new(place: usize, address: SocketAddr, token: Token, every: u32) -> Peering
+        ensures due { due_of result.schedule ≡ 0 }
+        ensures unmet { result.session ≡ None }
+    {
+        Peering {
+            place,
+            address,
+            token,
+            schedule: Schedule::new(every),
+            link: None,
+            session: None,
+            is_failing: false,
+            left: None,
+        }
+    }
+
+    /// Whether its session has one of the places for those that go on.
+    pub fn runs(&self) -> bool
+        ensures { result ≡ has_place self.now.session }
+    {
+        match &self.session {
+            Some(session) => session.runs,
+            None => false,
+        }
+    }
+
+    /// When it is to be looked after, if nothing moves: where nothing is asked of it, once it is due.
+    pub fn next_due(&self) -> Option<u64>
+        ensures { is_resting self.now.link ≡ true → result ≡ Some (due_of self.now.schedule) }
+    {
+        match &self.link {
+            Some(link) if !link.is_resting() => {
+                if !link.is_open() {
+                    None
+                } else if self.runs() {
+                    Some(link.deadline().min(link.lull()))
+                } else {
+                    Some(link.deadline())
+                }
+            }
+            _ => Some(self.schedule.due()),
+        }
+    }
+
+    /// Whether something is to be done at once.
+    pub fn is_busy(&self, free: usize) -> bool {
+        let Some(link) = &self.link else {
+            return false;
+        };
+        if link.is_busy() {
+            return true;
+        }
+        match &self.session {
+            Some(session) => {
+                session.is_busy() || (session.can_step(&link.far) && (session.runs || free > 0))
+            }
+            None => false,
+        }
+    }
+
+    /// Notes what the system told of its socket, if it did. Whether it did.
+    pub fn note(&mut self, event: &Event) -> bool
+        ensures { self.new ≡ record self.old { link = self.new.link } }
+    {
+        if event.token() != self.token {
+            return false;
+        }
+        if let Some(link) = &mut self.link {
+            link.note(event);
+        }
+        true
+    }
+
+    /// Notes that something changed at this time.
+    fn note_change(&mut self, now: u64)
+        ensures { self.new ≡ record self.old {
+          schedule = record self.old.schedule { news = news_at self.old.schedule.news now };
+        } }
+    {
+        self.schedule.note(now);
+    }
+
+    /// Begins to connect, where it is due.
+    pub fn connect<N: Net>(
+        &mut self,
+        rt: &N,
+        registry: &Registry,
+        setting: &Setting,
+        crowd: &mut Crowd,
+    )
+        // Before that, nothing is done.
+        ensures early { crowd.old.now < due_of self.old.schedule → self.new ≡ self.old }
+        ensures places { TakesNoPlace self.old self.new }
+    {
+        if self.link.is_some() || self.schedule.due() > crowd.now {
+            return;
+        }
+        let opened = PeerLink::open(
+            rt,
+            setting.alloc,
+            registry,
+            self.token,
+            self.address,
+            setting.idle,
+            crowd.now,
+        );
+        match opened {
+            Ok(link) => self.link = Some(link),
+            Err(_) => self.fail(crowd, Refusal::ReadFailed),
+        }
+    }
+
+    /// The connection failed, or the session over it. That is told, unless the session before failed too.
+    pub fn fail(&mut self, crowd: &mut Crowd, refusal: Refusal)
+        ensures over { (self.new.link ≡ None) × (self.new.session ≡ None) }
+        ensures places { TakesNoPlace self.old self.new }
+        ensures schedule { FailsMeeting crowd.old.now self.old.schedule self.new.schedule }
+    {
+        let is_again = self.is_again(refusal);
+        self.link = None;
+        if let Some(session) = self.session.take() {
+            crowd.talks.dismiss_own(session.client);
+            drop(session);
+        }
+        if is_again {
+            return self.schedule.again();
+        }
+        self.schedule.end(Ended::Failed, crowd.now);
+        if let Some(counts) = crowd.counts.peers.get_mut(self.place) {
+            counts.fail();
+        }
+        if !self.is_failing {
+            let _ = writeln!(crowd.told, "peer {} {refusal}", self.address);
+        }
+        self.is_failing = true;
+    }
+
+    /// Whether it is tried again at once, over another connection: as many questions were asked as may be, or the
+    /// connection was kept since the session before, and cut meanwhile.
+    fn is_again(&self, refusal: Refusal) -> bool {
+        let (Some(link), Some(session)) = (&self.link, &self.session) else {
+            return false;
+        };
+        let is_cut = matches!(
+            refusal,
+            Refusal::Truncated | Refusal::ReadFailed | Refusal::WriteFailed
+        );
+        let is_spent = link.far.questions() >= MOST_QUESTIONS
+            || session.questions() >= MOST_QUESTIONS;
+        if is_spent && (is_cut || refusal == Refusal::TooManyRequests) {
+            return true;
+        }
+        is_cut && link.is_kept && !link.has_heard
+    }
+
+    /// Hands on what its session asks of the host, and lists its client.
+    pub fn list(&mut self, crowd: &mut Crowd, ready: &mut Vec<u64>)
+        ensures places { TakesNoPlace self.old self.new }
+        ensures schedule { self.new.schedule ≡ self.old.schedule }
+    {
+        if let Some(session) = &mut self.session
+            && session.is_busy()
+        {
+            session.hand_on(&mut crowd.talks);
+            // Where memory is refused, it has its turn later.
+            let _ = ready.push(session.client);
+        }
+    }
+
+    /// Takes what the host told its session, and notes whether something changed.
+    pub fn hear(&mut self, crowd: &mut Crowd, changed: bool)
+        ensures { TakesNoPlace self.old self.new }
+    {
+        self.take_replies(crowd);
+        if !changed {
+            return;
+        }
+        self.note_change(crowd.now);
+    }
+
+    /// Takes what the host told its session.
+    fn take_replies(&mut self, crowd: &mut Crowd)
+        ensures places { TakesNoPlace self.old self.new }
+    {
+        if let Some(session) = &mut self.session
+            && let Err(refusal) = session.take_replies(&mut crowd.talks)
+        {
+            self.fail(crowd, refusal);
+        }
+    }
+}

@@ -1,13 +1,15 @@
 #!/usr/bin/env python3
 """Runs three to five servers that meet, with writers at all of them, and breaks what can break, as users and networks do.
 
-usage: tools/cluster.py [--short] PROGRAM [SEED..]
+usage: tools/cluster.py [--short] [--between] PROGRAM [SEED..]
 
-PROGRAM is `mvd` as built. A run is named by its seed; without one, 20 runs are made of the seeds 1 to 20, and with --short one of
-8 seconds. The servers stand in a ring or in a star, and `mvd sync --with` goes between them through relays. For CLUSTER_SECONDS (30)
+PROGRAM is `mvd` as built. A run is named by its seed; without one, 20 runs are made of the seeds 1 to 20, and with --short two of
+6 seconds. The servers stand in a ring or in a star, and meet each other by `serve --peer` through relays: either end of an edge names
+the other, or both do. With --between `mvd sync --with` goes between them, in processes of its own. For CLUSTER_SECONDS (30)
 writers read, resolve, put blindly and delete over frames and HTTP, while servers are killed and started again, are stopped and go
 on, and relays cut, delay and hold back connections. Then the faults stop, and it is checked that
-- all roots are equal soon,
+- all roots are equal soon: within two seconds, but with --short or --between,
+- a server told each fault of a peer once, until it met it again, and no other fault than of the connection,
 - no two puts of a key were told one dot,
 - each put that was acknowledged is a sibling of its key, or a write of the key had its dot in its context,
 - no sibling that a write had in its context is back, at the end or in any read,
@@ -33,6 +35,12 @@ from client import Client, Refused, read  # noqa: E402
 
 KEYS = 40
 PATIENCE = 30
+# all roots are equal as many seconds after the last fault
+SOON = 2
+# that a connection ended, was given up, or broke
+LINK_FAULTS = "30", "34", "35"
+# a ring in which each names the next, and a star in which both ends do
+SHORT_SEEDS = 2, 12
 
 
 class Missed(Exception):
@@ -88,24 +96,46 @@ class Site:
         self.lock = threading.Lock()
         # the dots that it acknowledged, by key
         self.told = {}
-        self.start()
+        # the relays to the servers that it names, what it told of each since it was started, and the sessions in which keys crossed
+        self.peers, self.lines, self.sessions = [], [], 0
 
     def start(self):
         words = [self.program, "serve", "--db", self.db, "--site", self.number, "--port", self.port, "--http", self.http]
-        self.process = subprocess.Popen([str(word) for word in words], stdout=subprocess.PIPE, stderr=subprocess.DEVNULL)
+        if self.peers:
+            words += ["--peer", ",".join(str(relay.port) for relay in self.peers), "--every", 1, "--idle", 3]
+        self.process = subprocess.Popen([str(word) for word in words], stdout=subprocess.PIPE, stderr=subprocess.DEVNULL, text=True)
         line = self.process.stdout.readline()
-        if not line.startswith(b"listening"):
-            raise Missed(f"site {self.number} does not start again: {line}")
-        threading.Thread(target=self.drain, args=[self.process], daemon=True).start()
+        if not line.startswith("listening"):
+            raise Missed(f"site {self.number} does not start: {line}")
+        self.lines = []
+        self.reader = threading.Thread(target=self.drain, args=[self.process, self.lines], daemon=True)
+        self.reader.start()
 
     @staticmethod
-    def drain(process):
-        for _ in process.stdout:
-            pass
+    def drain(process, lines):
+        for line in process.stdout:
+            lines.append(line.split())
 
     def kill(self):
-        self.process.kill()
-        self.process.wait()
+        if self.process:
+            self.process.kill()
+            self.process.wait()
+
+    def check_told(self):
+        """When it has ended: of each peer a fault was told once, until the peer was met again."""
+        self.reader.join()
+        at_fault = set()
+        for _, peer, *what in [line for line in self.lines if line[:1] == ["peer"] and len(line) > 2]:
+            if what[0] == "keys":
+                self.sessions += 1
+            elif what == ["again"]:
+                if peer not in at_fault:
+                    raise Missed(f"site {self.number} told `again` of {peer} without a fault")
+                at_fault.remove(peer)
+            elif peer in at_fault or what[0] not in LINK_FAULTS:
+                raise Missed(f"site {self.number} told of {peer}: {what}")
+            else:
+                at_fault.add(peer)
 
     def acknowledges(self, key, dot):
         with self.lock:
@@ -169,8 +199,19 @@ def edges_of(shape, count):
     return [(number, (number + 1) % count) for number in range(count)] if shape == "ring" else [(0, number) for number in range(1, count)]
 
 
-class Meeting:
-    """Sessions between two servers, each through a relay."""
+class Naming:
+    """A server names another one, which it meets through a relay."""
+
+    def __init__(self, one, other):
+        self.relays = [Relay(other.port)]
+        one.peers += self.relays
+
+    def end(self):
+        pass
+
+
+class Between:
+    """Sessions between two servers, each through a relay, in a process of its own."""
 
     def __init__(self, program, one, other):
         self.relays = [Relay(one.port), Relay(other.port)]
@@ -285,13 +326,26 @@ class Writer(threading.Thread):
 # ---- a run
 
 class Cluster:
-    def __init__(self, program, folder, seed, seconds):
+    def __init__(self, program, folder, seed, seconds, is_between):
         self.random, self.seconds, self.is_over = random.Random(seed), seconds, False
         count, self.shape = self.random.randrange(3, 6), self.random.choice(["ring", "star"])
         self.sites = [Site(program, folder, number) for number in range(1, count + 1)]
-        self.meetings = [Meeting(program, self.sites[one], self.sites[other]) for one, other in edges_of(self.shape, count)]
+        edges = [(self.sites[one], self.sites[other]) for one, other in edges_of(self.shape, count)]
+        self.named = self.random.choice(["the first end", "the last end", "both ends"])
+        if is_between:
+            self.start()
+            self.named, self.meetings = "neither", [Between(program, *edge) for edge in edges]
+        else:
+            ordered = edges if self.named != "the last end" else []
+            ordered += [edge[::-1] for edge in edges] if self.named != "the first end" else []
+            self.meetings = [Naming(*edge) for edge in ordered]
+            self.start()
         self.writers = [Writer(self, site, kind, seed) for site in self.sites for kind in (OverFrames, OverHttp)]
         self.faults = {"kill": 0, "stop": 0, "cut": 0, "delay": 0, "hold": 0}
+
+    def start(self):
+        for site in self.sites:
+            site.start()
 
     def end(self):
         self.is_over = True
@@ -308,6 +362,7 @@ class Cluster:
         pause = self.random.uniform(0.05, 1)
         if what == "kill":
             site.kill()
+            site.check_told()
             time.sleep(pause / 2)
             site.start()
         elif what == "stop":
@@ -330,23 +385,23 @@ class Cluster:
             writer.start()
         until = time.perf_counter() + self.seconds
         while time.perf_counter() < until:
-            self.break_one()
             time.sleep(self.random.uniform(0, 0.6))
+            self.break_one()
             self.tell_faults()
-        self.is_over = True
+        self.is_over, mended = True, time.perf_counter()
         for writer in self.writers:
             writer.join()
         self.tell_faults()
-        return self.settles()
+        return self.settles(mended)
 
     def tell_faults(self):
         for writer in self.writers:
             if writer.fault:
                 raise writer.fault
 
-    def settles(self):
+    def settles(self, start):
         """The seconds until all roots are equal."""
-        start, clients = time.perf_counter(), [Client(site.port) for site in self.sites]
+        clients = [Client(site.port) for site in self.sites]
         while len({client.ask(0x27, b"\0").read(32) for client in clients}) > 1:
             if time.perf_counter() > start + 2 * PATIENCE:
                 raise Missed("the roots are not equal")
@@ -394,30 +449,37 @@ def check_site(site, last, put, sent, done):
             raise Missed(f"site {site.number} has {back} of {key} back")
 
 
-def run(program, seed, seconds):
+def run(program, seed, seconds, most, is_between):
     with tempfile.TemporaryDirectory() as folder:
-        cluster = Cluster(program, folder, seed, seconds)
+        cluster = Cluster(program, folder, seed, seconds, is_between)
         try:
             took = cluster.run()
-            puts, reads = (sum(it) for it in zip(*((len(writer.puts), writer.reads) for writer in cluster.writers)))
-            faults = ", ".join(f"{count} {what}" for what, count in cluster.faults.items() if count)
-            print(f"seed {seed}: {len(cluster.sites)} sites in a {cluster.shape}; {reads} reads, {puts} puts; {faults}; "
-                  f"one root {took:.2f} s after the last fault", flush=True)
+            if took > most:
+                raise Missed(f"the roots were not equal until {took:.2f} s after the last fault")
+            cluster.end()
+            for site in cluster.sites:
+                site.check_told()
         except Missed as fault:
             sys.exit(f"cluster: seed {seed}: {fault}")
         finally:
             cluster.end()
+        puts, reads = (sum(it) for it in zip(*((len(writer.puts), writer.reads) for writer in cluster.writers)))
+        faults = ", ".join(f"{count} {what}" for what, count in cluster.faults.items() if count)
+        sessions = sum(site.sessions for site in cluster.sites)
+        print(f"seed {seed}: {len(cluster.sites)} sites in a {cluster.shape}, edges named by {cluster.named}; {reads} reads, {puts} puts, "
+              f"{sessions} sessions with keys; {faults}; one root {took:.2f} s after the last fault", flush=True)
 
 
 def main():
     words = sys.argv[1:]
-    short = words[:1] == ["--short"]
-    if len(words) <= short:
+    flags = [word for word in words if word in ("--short", "--between")]
+    words = [word for word in words if word not in flags]
+    if not words:
         sys.exit(__doc__)
-    program, seeds = os.path.realpath(words[short]), [int(word) for word in words[short + 1:]]
-    seconds = 8 if short else float(os.environ.get("CLUSTER_SECONDS", "30"))
-    for seed in seeds or ([1] if short else range(1, 21)):
-        run(program, seed, seconds)
+    program, seeds, short = os.path.realpath(words[0]), [int(word) for word in words[1:]], "--short" in flags
+    seconds, most = 6 if short else float(os.environ.get("CLUSTER_SECONDS", "30")), 2 * PATIENCE if flags else SOON
+    for seed in seeds or (SHORT_SEEDS if short else range(1, 21)):
+        run(program, seed, seconds, most, "--between" in flags)
 
 
 if __name__ == "__main__":

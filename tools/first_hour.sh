@@ -1,7 +1,7 @@
 #!/bin/sh
 # Runs the blocks `sh` of README.md and of docs/USING.md, PROTOCOL.md and FORMATS.md as they stand, one after the other, in a new folder,
 # and wants of each what its block `text` says is printed; and what else somebody meets in the first hour. It tells what it did, and ends with 1
-# where something else is printed. It needs bash, python3 and curl, and the ports 7007, 7008 and 7080.
+# where something else is printed. It needs bash, python3 and curl, and the ports 7007 to 7009 and 7080.
 # usage: tools/first_hour.sh [--short] [PROGRAM]
 # With no PROGRAM it runs the block `build` of README.md first, which proves and builds it. With --short, as the gate runs it, free
 # ports stand in the blocks for these, and where there is no curl the blocks that ask by it are left out.
@@ -29,7 +29,7 @@ import atexit, os, re, shutil, signal, socket, sqlite3, subprocess, sys
 
 top, room, given, is_short = sys.argv[1], sys.argv[2], sys.argv[3] != "0", len(sys.argv) > 4
 # the ports of the documents, and those that are taken
-ports = {"7007": "7007", "7008": "7008", "7080": "7080"}
+ports = {port: port for port in ("7007", "7008", "7009", "7080")}
 if is_short:
     taken = [socket.create_server(("127.0.0.1", 0)) for _ in ports]
     ports = {port: str(free.getsockname()[1]) for port, free in zip(ports, taken)}
@@ -44,7 +44,7 @@ def miss(what):
 
 def at_ports(text):
     """A text of the documents, with the ports that are taken."""
-    return re.sub(r"\b(7007|7008|7080)\b", lambda found: ports[found[0]], text)
+    return re.sub(r"\b(7007|7008|7009|7080)\b", lambda found: ports[found[0]], text)
 
 
 def start(words, **how):
@@ -209,6 +209,25 @@ def answers_at_once():
     print("done: a shell answers at once")
 
 
+def is_free(port):
+    try:
+        socket.create_server(("127.0.0.1", port)).close()
+        return True
+    except OSError:
+        return False
+
+
+def cluster():
+    """The example starts three servers: what is written at the first is read at the third."""
+    base = next(base for base in range(7000, 30000, 200) if all(is_free(base + more) for more in (1, 2, 3, 101, 102, 103)))
+    started = start(["examples/cluster.sh", "three", str(base)], cwd=room)
+    for _ in range(4):
+        started.stdout.readline()
+    wants("three servers of the example", f"sleep 2; echo 'put k - {{}}' | mvd shell --port {base + 1}; sleep 1; echo 'get k' | mvd shell "
+          f"--port {base + 3}", "dot 1:1\ncontext 1:1\n1:1 {}\n")
+    kill(started)
+
+
 builds("README.md")
 for document in ["README.md", "docs/USING.md", "docs/PROTOCOL.md", "docs/FORMATS.md"]:
     runs(document)
@@ -218,5 +237,6 @@ answers_at_once()
 old_file()
 interrupted()
 long_session()
+cluster()
 END
 echo "all as the documents say"

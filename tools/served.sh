@@ -98,8 +98,8 @@ ended() {
   server=
 }
 
-# refused WHAT STATUS TEXT HINT FILE WORD..: the program ends with this status, tells this text and on the next line this hint, and
-# the file stays as it is.
+# refused WHAT STATUS TEXT HINT FILE WORD..: the program ends with this status, tells this text and on the next line this hint (where
+# it is empty there is no next line), and the file stays as it is.
 refused() {
   what=$1 wanted=$2 text=$3 hint=$4 file=$5
   shift 5
@@ -108,7 +108,7 @@ refused() {
   "$program" "$@" >out 2>fault || status=$?
   [ "$status" = "$wanted" ] || miss "$what: wanted status $wanted, got $status: $(cat out fault)"
   same "$what" "mvd: $text" "$(head -n 1 fault)"
-  same "$what, hint" "mvd: $hint" "$(tail -n +2 fault)"
+  same "$what, hint" "${hint:+mvd: $hint}" "$(tail -n +2 fault)"
   [ "$before" = "$(cksum <"$file")" ] || miss "$what: $file changed"
 }
 
@@ -213,7 +213,7 @@ server=
 refused "no server" 1 "fault 34 ReadFailed" \
   "$at: Connection refused (os error 111); start \`mvd serve\` there, or name another --address and --port" \
   b.db sync --db b.db --site 2 --port "$port"
-refused "another site's database" 1 "fault 16 SiteMismatch" "b.db is the file of site 2: name that site by --site, or another file" \
+refused "another site's database" 1 "fault 16 SiteMismatch" "b.db is the file of site 2: give that number as --site, or name another file" \
   b.db serve --db b.db --site 3 --port "$port"
 refused "too many keys" 1 "fault 10 Full" "the file has no room for so many keys: raise --max-keys, up to 1000000" \
   b.db serve --db b.db --site 2 --port "$port" --max-keys 1
@@ -234,11 +234,11 @@ same "its journal and its rows" "delete a" "$(sql other.db "PRAGMA journal_mode"
 seq 2000 >none.db
 refused "no database" 1 "fault 21 Store" "none.db is no database of mvd, or damaged: name another file, or a copy of this one" \
   none.db serve --db none.db --site 2 --port "$port"
-refused "no folder" 1 "fault 21 Store" "no/b.db: unable to open database file; see to its folder, its rights and the disk" \
+refused "no folder" 1 "fault 21 Store" "no/b.db: unable to open database file; check its folder, its permissions and the disk" \
   b.db shell --db no/b.db --site 2
 printf 'index city\nview v city n\nmax 1\n' >bad
 refused "a line that defines nothing" 3 "line 3: not a command" \
-  "bad: a line is \`index F\` or \`view V G S\`, each but once, and at most 16 of either" \
+  "bad: a line is \`index F\` or \`view V G S\`, none of them twice, and at most 16 of either" \
   b.db serve --db b.db --site 2 --port "$port" --defs bad
 refused "no file of definitions" 1 "fault 34 ReadFailed" \
   "none cannot be read: --defs names a file of lines \`index F\` and \`view V G S\`" \
@@ -246,7 +246,8 @@ refused "no file of definitions" 1 "fault 34 ReadFailed" \
 refused "a script that cannot be read" 1 "fault 34 ReadFailed" "standard input cannot be read" b.db sim <.
 refused "a line of a script" 3 "line 1: not a command" \
   "standard input: docs/FORMATS.md lists the lines of a script, of which \`sites N\` is the first" b.db sim <bad
-refused "a bad number" 2 "bad number" "\`mvd help COMMAND\` tells the range of each" b.db serve --db b.db --site 0 --port "$port"
+refused "a bad number" 2 "bad number: --site is 1 to 4294967295" "" b.db serve --db b.db --site 0 --port "$port"
+refused "a bad port" 2 "bad number: --port is 1 to 65535" "" b.db serve --db b.db --site 2 --port 65536
 refused "a word that is no text" 2 "a word is no UTF-8" "name each file in UTF-8" \
   b.db shell --db "$(printf '\377').db" --site 2
 # Where standard error is closed, the status still tells.

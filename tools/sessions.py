@@ -8,6 +8,7 @@ PROGRAM is `mvd` as built. It tells what it tried, and ends with 1 at the first 
 - a server with no room for some of the keys: the others cross, and each refused key is named;
 - a file that was put back from a copy: the session says that it is older than what its peers saw;
 - a session with what is no server of `mvd`, and with one that ends in the middle;
+- shells through a server: a put to which no reply comes is `unknown`, and one that is not sent, or that the server refuses, is not;
 - a server that is killed amid a session: what was exchanged stays, and the next session ends well.
 The files are made in TMPDIR (else /tmp). The gate runs it as it is.
 """
@@ -181,6 +182,45 @@ def odd_peers(files):
         print(f"done: {what} is fault {number}")
 
 
+def through(files, answers, lines):
+    """What a shell prints through a server that gives these answers, and then goes."""
+    with socket.create_server(("127.0.0.1", 0)) as listener:
+        def respond():
+            with listener.accept()[0] as peer:
+                for answer in answers:
+                    peer.recv(1 << 16)
+                    peer.sendall(answer)
+        thread = threading.Thread(target=respond)
+        thread.start()
+        words = [files.program, "shell", "--port", str(listener.getsockname()[1]), "--idle", "20"]
+        done = subprocess.run(words, input="\n".join(lines) + "\n", text=True, capture_output=True, timeout=PATIENCE)
+        thread.join()
+    return done.stdout.splitlines()
+
+
+def lost_replies(files):
+    """A put to which no reply came is unknown; one that did not go out, or that the server refuses, is refused."""
+    put, over, refusal, done = "put k - {}", "refused 30 Truncated", bytes((0, 0, 0, 2, 0xEE, 20)), bytes((0, 0, 0, 1, 0xA3))
+    wants("a put without a reply", through(files, [b""], [put, "put", put, "get k"]),
+          ["unknown 30 Truncated", "line 2: not a command", over, over])
+    wants("a put whose question has no reply", through(files, [b""], ["put k @ {}", put]), [over, over])
+    wants("a question without a reply", through(files, [b""], ["get k", put]), [over, over])
+    wants("a put that is refused", through(files, [refusal, refusal, done], [put, put]), ["refused 20 Memory"] * 2)
+    files.remove(1)
+    server, port = files.serve(1)
+    shell = files.start(["shell", "--port", str(port), "--idle", "1"], stdin=subprocess.PIPE, stdout=subprocess.PIPE, stderr=subprocess.PIPE)
+    shell.stdin.write("get k\n")
+    shell.stdin.flush()
+    wants("a question", shell.stdout.readline(), "context -\n")
+    server.send_signal(signal.SIGSTOP)
+    told = shell.communicate('put k - {"n":1}\nput k - {"n":2}\n', timeout=PATIENCE)[0].splitlines()
+    server.send_signal(signal.SIGCONT)
+    server.communicate(timeout=PATIENCE)
+    wants("puts to a server that stands still", told, ["unknown 34 ReadFailed", "refused 34 ReadFailed"])
+    wants("what it stored of them", files.lines(1, ["get k"]), ["context 1:1", '1:1 {"n":1}'])
+    print("done: a shell tells of a put to which no reply came that it is unknown; the server had stored one of them")
+
+
 def killed(files):
     """A server is killed amid a session; the next one ends well."""
     for site in 1, 2:
@@ -212,6 +252,7 @@ def main():
         full(files)
         put_back(files)
         odd_peers(files)
+        lost_replies(files)
         killed(files)
 
 

@@ -231,6 +231,13 @@ refused "another program's database" 1 "fault 17 Damaged" "other.db is the file 
 same "its bytes" "$other" "$(cksum <other.db)"
 same "no log beside it" "" "$(ls other.db-wal 2>/dev/null || :)"
 same "its journal and its rows" "delete a" "$(sql other.db "PRAGMA journal_mode" "SELECT title FROM note")"
+rm other.db
+sql other.db "CREATE TABLE states (code TEXT PRIMARY KEY, name TEXT)" "INSERT INTO states VALUES ('NY', 'New York')" >/dev/null
+other=$(cksum <other.db)
+refused "another program's database, with a table of one of our names" 1 "fault 17 Damaged" \
+  "other.db is the file of another program: name another file" other.db shell --db other.db --site 2
+same "its bytes" "$other" "$(cksum <other.db)"
+same "no log beside it" "" "$(ls other.db-wal 2>/dev/null || :)"
 seq 2000 >none.db
 refused "no database" 1 "fault 21 Store" "none.db is no database of mvd, or damaged: name another file, or a copy of this one" \
   none.db serve --db none.db --site 2 --port "$port"

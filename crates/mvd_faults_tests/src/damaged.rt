@@ -63,6 +63,10 @@ CREATE TABLE note (id INTEGER PRIMARY KEY, title TEXT NOT NULL); INSERT INTO not
 CREATE VIEW one AS SELECT 1 AS x;
 CREATE TABLE meta (key TEXT, value TEXT); CREATE TABLE urls (url TEXT); INSERT INTO meta VALUES ('version', '9');
 CREATE TABLE states (id INTEGER PRIMARY KEY, state TEXT); CREATE TABLE events (id INTEGER PRIMARY KEY);
+CREATE TABLE states (code TEXT PRIMARY KEY, name TEXT); INSERT INTO states VALUES ('NY', 'New York');
+CREATE TABLE meta (name TEXT, value TEXT);
+CREATE TABLE states2 (key TEXT PRIMARY KEY NOT NULL, state TEXT NOT NULL) STRICT;
+CREATE TABLE states (code TEXT); CREATE TABLE meta (name TEXT PRIMARY KEY, value INTEGER); CREATE TABLE other (x);
 ";
 
 /// A change of a file: in each of its bytes from one on and before another there is this byte; and the file ends

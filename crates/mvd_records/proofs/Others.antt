@@ -1,15 +1,15 @@
 -- A database of another program is none of ours.
-use Rattle.std.proofs.Common.{◌≡◌, ◌≢◌, ◌⊎◌, false, [], refl, sym, subst, inl, inr, true≢false, codes, IsTrue}
+use Rattle.std.proofs.Common.{◌≡◌, ◌≢◌, ◌⊎◌, false, [], refl, sym, subst, inl, inr, true≢false, IsTrue}
 use Rattle.sqlite.specs.Effect.{Database}
 use Rattle.sqlite.specs.Schema.{Schema}
 use Rattle.sqlite_schema.specs.Names.{same_name}
 use Rattle.mvd_records.specs.Tables.{all_tables, no_tables, old_tables}
 use Rattle.mvd_records.specs.Records.{IsOurs}
-use Rattle.mvd_records.specs.Foreign.{IsForeign, has_table, has_other}
+use Rattle.mvd_records.specs.Foreign.{IsForeign, has_meta, has_other, has_states}
 
 module _ (s : Schema) where
   abbrev IsMissing : Type 0
-  IsMissing = (has_table (codes "states") s.tables ≡ false) ⊎ (has_table (codes "meta") s.tables ≡ false)
+  IsMissing = (has_states s.tables ≡ false) ⊎ (has_meta s.tables ≡ false)
 
   abbrev HasOther : Type 0
   HasOther = IsTrue (has_other s.tables) ⊎ (s.views ≢ [])

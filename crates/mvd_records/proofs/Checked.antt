@@ -1,5 +1,5 @@
 -- What a call leaves that reads the records.
-use Rattle.std.proofs.Common.{◌≡◌, ◌≢◌, ◌==◌, inl, inr, ℕ, List, [], ◌∷◌, length, not, Bool, true, false, IsTrue, MatchBool, Result, Ok, Err, IfOk, IfErr, OnOk, OnErr, refl, sym, ap, subst, ◌∙◌, arith}
+use Rattle.std.proofs.Common.{◌≡◌, ◌≢◌, ◌==◌, inl, inr, ℕ, List, [], ◌∷◌, length, not, Bool, true, false, IsTrue, MatchBool, Result, Ok, Err, IfOk, IfErr, OnOk, refl, sym, ap, subst, ◌∙◌, arith}
 use Rattle.std.specs.Bool.{MatchBool}
 use Rattle.std.specs.Cmp.{unsigned_Decides}
 use Rattle.sqlite.specs.Order.{Row}
@@ -137,15 +137,3 @@ plain_at sql version site old plain settled was holds = subst (λ s. IsPlain (un
 pub on_then : {X E : Type 0} (r : Result X E) (P Q : Type 0) → (P → Q) → OnOk r P → OnOk r Q
 on_then (Ok x) P Q f h = f h
 on_then (Err e) P Q f h = tt
-
-pub always : {X E : Type 0} (r : Result X E) (P : Type 0) → P → OnOk r P
-always (Ok x) P p = p
-always (Err e) P p = tt
-
-pub on_err : {X E : Type 0} (r : Result X E) (P Q : Type 0) → (P → Q) → OnErr r P → OnErr r Q
-on_err (Ok x) P Q f h = tt
-on_err (Err e) P Q f h = f h
-
--- a call that only reads leaves nothing else to a crash
-pub reads_leave : (a b : State) (Q : ℕ → ℕ → Database → Type 0) → OnlyReads a b → Survives a b (LeavesTrees a Q)
-reads_leave a b Q reads = survives_weaker a b _ _ (λ _ db left version site was holds. absurd ((left version site was holds).2)) reads.survives

@@ -1,11 +1,11 @@
 -- The relation of each call, from what its clauses on databases say.
-use Rattle.std.proofs.Common.{◌≡◌, ◌⊎◌, inl, inr, ℕ, List, [], ◌∷◌, Vec, Some, Result, Ok, Err, IfOk, IfErr, OnErr, OnOk, arith, refl, sym, ap, subst, subst₂, ◌∙◌}
+use Rattle.std.proofs.Common.{◌≡◌, ◌⊎◌, inl, inr, ℕ, List, [], ◌∷◌, Vec, Some, Result, Ok, Err, IfOk, IfErr, OnOk, arith, refl, sym, ap, subst, subst₂, ◌∙◌}
 use Rattle.std.specs.Prelude.{IsTrue, MatchResult, ⊤}
 use Rattle.std.specs.FinMap.{entries, get, insert, remove}
 use Rattle.std.specs.declared.alloc.Global.{Global}
 use Rattle.sqlite.specs.Effect.{Database, IsDatabase}
 use Rattle.sqlite.specs.Tree.{Trees}
-use Rattle.sqlite.specs.State.{HasCleanDisk, IsUnchanged, KeepsCommit, State, Survives}
+use Rattle.sqlite.specs.State.{HasCleanDisk, IsUnchanged, State, Survives}
 use Rattle.sqlite.proofs.StateLemmas.{survives_then, survives_weaker}
 use Rattle.mvd_dots.specs.declared.refusals.Refusal.{Refusal}
 use Rattle.mvd_dots.specs.declared.refusals.Refusal.TheVariants.{Damaged, Memory, Store}
@@ -18,7 +18,6 @@ use Rattle.mvd_records.specs.Contents.{Contents, EndsMoves, Holds, MovesKey, Set
 use Rattle.mvd_records.specs.Calls.{Commits, Finishes, IsOpenedAs, IsRefusedAs, LeavesChange, Loads, MovesOldKey, SavesAll}
 use Rattle.mvd_records.specs.Foreign.{HoldsForeign}
 use Rattle.mvd_records.specs.Jobs.{DoesWhole, LeavesJob, Meaning, OfRecords, always, finishing, moving, opening}
-use Rattle.mvd_records.proofs.Calls.{same_commit, sound_before}
 use Rattle.mvd_records.proofs.Checked.{if_err, if_ok}
 use Rattle.mvd_records.proofs.Marked.{told_store}
 use Rattle.mvd_records.proofs.PairLemmas.{pairs_sorted}
@@ -51,11 +50,6 @@ module _ (old mid new : State) (found : IsFound old mid) where
   -- what was held was held then
   pub held_found : (IsSound new → IsSound mid) → (was : Contents) → IsSound new → Holds old.committed was → Holds mid.committed was
   held_found before was sound holds = subst (λ (d : Database). Holds d was) (sym (commit_found before sound)) holds
-
-  pub same_found : {A : Type 0} (result : Result A Refusal) → (IsSound new → IsSound mid) →
-      (IsSound new → OnErr result (new.committed ≡ mid.committed)) → IsSound new → OnErr result (new.committed ≡ old.committed)
-  same_found result before same sound =
-      subst (λ (d : Database). OnErr result (new.committed ≡ d)) (commit_found before sound) (same sound)
 
 pub left : (P : Change) (C : Contents → Contents → Type 0) (s : State) (trees : Trees) → Follows P C → IsTrue s.is_open →
     LeavesTrees s (λ version site db. P version site s.committed db) trees → LeavesChange C s trees
@@ -212,10 +206,6 @@ refused_whole site old new e it = record {
   survives = survives_weaker _ _ _ _ (λ _ trees left. (left.1, subst (λ r. LeavesUnmade r old site trees) (sym left.0) (leaves_made site old (Err e) trees left))) it.survives;
 }
 
--- why a call is refused, of what was held
-pub lacking : {A : Type 0} (result : Result A Refusal) (P : StoredStates → Type 0) (db : Database) (was : Contents) → Holds db was → IfErr result (λ e. e ≡ Damaged → P (old_states db)) → IfErr result (λ e. e ≡ Damaged → P was.old_map)
-lacking result P db was holds it = subst (λ (m : StoredStates). IfErr result (λ e. e ≡ Damaged → P m)) holds.old_is it
-
 -- ---- loads
 
 at_table : (table : StateTable) (db : Database) (it : Contents) → Holds db it → states_at table db ≡ map_of table it
@@ -248,19 +238,3 @@ loads table version old mid new result found reads loaded rising whole damaged r
       survives = survives_found (λ _ _ _ _. ⊥) (λ _ _. ⊥) old mid new (λ _ _ _ _ none. absurd none) found reads.survives;
       version = refl;
     }
-
-pub loads_none : (table : StateTable) (version : ℕ) (old new : State) → (HasCleanDisk new → KeepsCommit old new) → Survives old new (λ _. ⊥) →
-    Loads table (record { version = version; store = old }) (Err Store) (record { version = version; store = new })
-loads_none table version old new kept nothing = record {
-  before = sound_before old new nothing.clean kept;
-  loaded = λ _ _ _. tt;
-  rising = tt;
-  sorted = tt;
-  whole = λ _ _ _. tt;
-  damaged = λ _ _ _ is. absurd (let e : Store ≡ Damaged = is in cc);
-  refusal = inr (inr refl);
-  unchanged = λ _ sound _. same_commit old new kept sound;
-  stays_open = λ _. tt;
-  survives = survives_weaker _ _ _ _ (λ _ _ none. absurd none) nothing;
-  version = refl;
-}

@@ -1,5 +1,5 @@
 -- What the rows that a load reads say of the map.
-use Rattle.std.proofs.Common.{◌≡◌, inl, inr, ℕ, List, [], ◌∷◌, ◌++◌, ◌&&◌, map, Bool, true, false, T, refl, sym, ap, subst, ◌∙◌, IsTrue}
+use Rattle.std.proofs.Common.{◌≡◌, inl, inr, ℕ, List, [], ◌∷◌, ◌++◌, map, true, T, refl, sym, ap, subst, ◌∙◌, IsTrue}
 use Rattle.std.specs.List.{AllByRecursion}
 use Rattle.std.specs.List.Sorted.{IsPermutation}
 use Rattle.std.specs.FinMap.{entries, is_sorted}
@@ -23,7 +23,7 @@ use Rattle.mvd_records.proofs.Rules.{AreStates, apart_in}
 use Rattle.mvd_records.proofs.Calls.{shown_open}
 use Rattle.mvd_records.proofs.Listed.{Lists, listed, loaded, has_moved, output_of, kept_all, table_read}
 use Rattle.mvd_records.proofs.Asked.{get_has, has_get}
-use Rattle.mvd_records.proofs.Ordered.{shown_pairs}
+use Rattle.mvd_records.proofs.Ordered.{both, both_left, both_right, shown_pairs}
 use Rattle.mvd_records.proofs.Checked.{met_schema, states_of, maps_of}
 use Rattle.mvd_records.proofs.Texts.{load_text, tree_of, load_query, load_is, load_plain}
 
@@ -46,18 +46,6 @@ keys_in rows answer lists form key state got =
     let x = get_has rows key state got in
     let there = has_moved (map shown_row rows) answer (shown_row x.0) lists.same (mapped shown_row rows x.0 x.1) in
     subst (λ k. is_key k ≡ true) x.2 (all_at (λ (e : Entry). is_key e.0 ≡ true) (map shown_row_entry answer) (shown_row_entry (shown_row x.0)) form (mapped shown_row_entry answer (shown_row x.0) there))
-
-both_left : (a b : Bool) → T (a && b) → T a
-both_left true b h = tt
-both_left false b h = h
-
-both_right : (a b : Bool) → T (a && b) → T b
-both_right true b h = h
-both_right false b h = absurd h
-
-both : (a b : Bool) → T a → T b → T (a && b)
-both true b h k = k
-both false b h k = h
 
 below_front : (k : List ℕ) (xs ys : List Entry) → T (below_all order k (xs ++ ys)) → T (below_all order k xs)
 below_front k [] ys h = tt

@@ -53,38 +53,30 @@ compared k l x y = then_equal _ ∙ value_cmp-Text k l
     then_equal Equal = refl
     then_equal Greater = refl
 
+pub both_left : (a b : Bool) → T (a && b) → T a
+both_left true b h = tt
+both_left false b h = h
+
+pub both_right : (a b : Bool) → T (a && b) → T b
+both_right true b h = h
+both_right false b h = absurd h
+
+pub both : (a b : Bool) → T a → T b → T (a && b)
+both true b h k = k
+both false b h k = h
+
 below_trans : (a b : List ℕ) (es : List (List ℕ × List ℕ)) → order a b ≡ Less → T (below_all order b es) → T (below_all order a es)
 below_trans a b [] less low = tt
 below_trans a b (e ∷ es) less low =
-    both _ _ (subst (λ o. T (is_lt o)) (sym (nat_list_cmp_total.trans a b e.0 less (less_is _ (left _ _ low)))) tt) (below_trans a b es less (right _ _ low))
+    both _ _ (subst (λ o. T (is_lt o)) (sym (nat_list_cmp_total.trans a b e.0 less (less_is _ (both_left _ _ low)))) tt) (below_trans a b es less (both_right _ _ low))
   where
-    left : (p q : Bool) → T (p && q) → T p
-    left true q h = tt
-    left false q h = h
-
-    right : (p q : Bool) → T (p && q) → T q
-    right true q h = h
-    right false q h = absurd h
-
-    both : (p q : Bool) → T p → T q → T (p && q)
-    both true q h k = k
-    both false q h k = h
-
     less_is : (o : Ordering) → T (is_lt o) → o ≡ Less
     less_is Less h = refl
     less_is Equal h = absurd h
     less_is Greater h = absurd h
 
 put_below : (e f : List ℕ × List ℕ) (es : List (List ℕ × List ℕ)) → order e.0 f.0 ≡ Less → T (is_sorted order (f ∷ es)) → T (is_sorted order (e ∷ f ∷ es))
-put_below e f es less up = both _ _ (both _ _ (subst (λ o. T (is_lt o)) (sym less) tt) (below_trans e.0 f.0 es less (left _ _ up))) up
-  where
-    left : (p q : Bool) → T (p && q) → T p
-    left true q h = tt
-    left false q h = h
-
-    both : (p q : Bool) → T p → T q → T (p && q)
-    both true q h k = k
-    both false q h k = h
+put_below e f es less up = both _ _ (both _ _ (subst (λ o. T (is_lt o)) (sym less) tt) (below_trans e.0 f.0 es less (both_left _ _ up))) up
 
 -- no output is less than the one before it
 abbrev Climbs : List Output → Type 0

@@ -96,15 +96,7 @@ impl<S: Alter> Records<S> {
     pub fn load_all(&mut self) -> Result<Vec<(Key, Vec<u8>)>, Refusal>
         ensures { Loads Version2 (seen S.Store self.old) result (seen S.Store self.new) }
     {
-        if !statements::is_open(&mut self.conn) {
-            return Err(Refusal::Store);
-        }
-        loading::load(
-            self.alloc,
-            &mut self.conn,
-            self.version,
-            StateTable::Version2,
-        )
+        self.load(StateTable::Version2)
     }
 
     /// The map of version 1, whose keys are not moved yet, by rising key. 17 where a key is out of
@@ -112,15 +104,16 @@ impl<S: Alter> Records<S> {
     pub fn load_old(&mut self) -> Result<Vec<(Key, Vec<u8>)>, Refusal>
         ensures { Loads Version1 (seen S.Store self.old) result (seen S.Store self.new) }
     {
+        self.load(StateTable::Version1)
+    }
+
+    fn load(&mut self, table: StateTable) -> Result<Vec<(Key, Vec<u8>)>, Refusal>
+        ensures { Loads table (seen S.Store self.old) result (seen S.Store self.new) }
+    {
         if !statements::is_open(&mut self.conn) {
             return Err(Refusal::Store);
         }
-        loading::load(
-            self.alloc,
-            &mut self.conn,
-            self.version,
-            StateTable::Version1,
-        )
+        loading::load(self.alloc, &mut self.conn, self.version, table)
     }
 
     /// Moves a key of version 1, whose state is spelled anew, in one transaction. 17 where the key is no old one.

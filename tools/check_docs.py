@@ -9,8 +9,10 @@ a word of the code outside comments and texts; behind `Type::` a member of that 
 other word has to stand somewhere in the code, the specs, the proofs, the tools or the examples, or in the list below.
 
 CONTRIBUTING.md has to name each file that tools/places.py prints, and each file of its lists under its crate. The floors of
-docs/ARCHITECTURE.md have to be those of crates.txt, and the lines of docs/GATE.md those of tools/lanes.py. Each page keeps its
-length. Prints a line for each fault, and ends with 1 if there is one.
+docs/ARCHITECTURE.md have to be those of crates.txt, and the lines of docs/GATE.md those of tools/lanes.py. What looks like a name in a
+picture is looked up too. Each page keeps its length. Prints a line for each fault, and ends with 1 if there is one.
+
+Without a file it first breaks each rule in a copy of a page, and ends with 1 where that is not refused.
 """
 import pathlib
 import re
@@ -21,6 +23,8 @@ sys.dont_write_bytecode = True
 import places
 
 TOP = pathlib.Path(__file__).resolve().parent.parent
+# The pages that are looked at in place of those that are there.
+COPIES = {}
 WIDTH = 100
 SENTENCE = 45
 # The most lines of a page, of a crate's page, and of all pages of docs/ together.
@@ -110,6 +114,10 @@ class Code:
         return word in (self.declared if looks_declared else self.words)
 
 
+def page(path):
+    return COPIES.get(path) or (TOP / path).read_text()
+
+
 def is_path(token):
     return re.fullmatch(r"[A-Za-z0-9_.+-]*(/[A-Za-z0-9_.+*-]+)+/?|[A-Za-z0-9_-]+\.(rt|antt|md|sh|py|mvd|txt|edit)", token) is not None
 
@@ -133,7 +141,7 @@ def tokens(line):
 def prose(path):
     """The lines of a page outside blocks, with their numbers."""
     in_block = False
-    for number, line in enumerate((TOP / path).read_text().splitlines(), 1):
+    for number, line in enumerate(page(path).splitlines(), 1):
         if line.lstrip().startswith("```"):
             in_block = not in_block
         elif not in_block:
@@ -154,6 +162,13 @@ def long_sentences(path):
     return faults
 
 
+def misnamed(path, code):
+    """The names of code in a page's pictures that are not there."""
+    pictures = "".join(re.findall(r"^```mermaid\n(.*?)^```", page(path), re.M | re.S))
+    names = re.findall(r"\b(?:\w+::)?\w*[a-z]_\w+\b|\b\w+::\w+", pictures)
+    return [f"{path}: {fault} (in a picture)" for name in names for fault in code.unknown(name, "")]
+
+
 def check(path, code):
     faults = []
     crate = path.split("/")[1] if path.startswith("crates/") else ""
@@ -169,30 +184,30 @@ def check(path, code):
         for target in re.findall(r"\]\(([^)#]+)\)", line):
             if "://" not in target and not ((TOP / path).parent / target).exists() and not (TOP / target).exists():
                 faults.append(f"{path}:{number}: no link {target}")
-    return faults + long_sentences(path) + lost_sections(path)
+    return faults + long_sentences(path) + lost_sections(path) + misnamed(path, code)
 
 
-def headings(page):
+def headings(path):
     """The headings of a page, and the words that begin a paragraph in bold."""
-    if not (TOP / page).is_file():
+    if not (TOP / path).is_file():
         return set()
-    return {found.strip("*. ") for _, line in prose(page) for found in re.findall(r"^#+ (.*)|^\s*(?:- )?\*\*([^*]+)\*\*", line) for found in found if found}
+    return {found.strip("*. ") for _, line in prose(path) for found in re.findall(r"^#+ (.*)|^\s*(?:- )?\*\*([^*]+)\*\*", line) for found in found if found}
 
 
 def lost_sections(path):
     """The sections of other pages that a page names, as docs/OPEN.md, "Counts", and that are not there."""
     text = " ".join(re.sub(r"^\s*(?:- |> )?", "", line) for _, line in prose(path))
     faults = []
-    for page, titles in re.findall(r'((?:[a-z]+/)*[A-Z]+\.md),? ("[^"]+"(?:(?:,| and) "[^"]+")*)', text):
-        there = headings(page)
+    for named_page, titles in re.findall(r'((?:[a-z]+/)*[A-Z]+\.md),? ("[^"]+"(?:(?:,| and) "[^"]+")*)', text):
+        there = headings(named_page)
         named = [title.strip(".,") for title in re.findall(r'"([^"]+)"', titles)]
-        faults += [f'{path}: no section "{title}" of {page}' for title in named if not any(it.startswith(title) for it in there)]
+        faults += [f'{path}: no section "{title}" of {named_page}' for title in named if not any(it.startswith(title) for it in there)]
     return faults
 
 
 def too_long(names):
     """The pages that have more lines than they may."""
-    count = {name: (TOP / name).read_bytes().count(b"\n") for name in names if name.endswith(".md")}
+    count = {name: page(name).count("\n") for name in names if name.endswith(".md")}
     most = {name: LINES.get(name, CRATE_LINES if re.fullmatch(r"crates/\w+/README\.md", name) else None) for name in count}
     faults = [f"{name}: {count[name]} lines, and at most {most[name]}" for name in count if most[name] and count[name] > most[name]]
     told = sum(lines for name, lines in count.items() if re.fullmatch(r"docs/[^/]*\.md", name))
@@ -202,8 +217,8 @@ def too_long(names):
 def listed_places(*sections):
     """The files that the lists of CONTRIBUTING.md name, as CRATE/FILE. A name without a crate is of the crate of the last heading
     (**4. `mvd_kept`**), or of the last name that has one."""
-    page = (TOP / "CONTRIBUTING.md").read_text()
-    text = "".join(page.split(f"## {section}\n", 1)[1].split("\n## ", 1)[0] for section in sections)
+    lists = page("CONTRIBUTING.md")
+    text = "".join(lists.split(f"## {section}\n", 1)[1].split("\n## ", 1)[0] for section in sections)
     crate, listed = "", set()
     for heading, name in re.findall(r"\*\*\d+\. `(mvd_\w+)`|`([\w/]+\.(?:rt|antt))`", re.sub(r"```.*?```", "", text, flags=re.S)):
         if name.startswith("mvd_"):
@@ -230,14 +245,14 @@ def misplaced(names):
 
 def floors_drawn():
     """The crates of the picture of docs/ARCHITECTURE.md, floor by floor from the top, each floor from left to right."""
-    picture = (TOP / "docs/ARCHITECTURE.md").read_text().split("## The floors\n\n```text\n", 1)[1].split("```", 1)[0]
+    picture = page("docs/ARCHITECTURE.md").split("## The floors\n\n```floors\n", 1)[1].split("```", 1)[0]
     drawn = [name for line in picture.splitlines() for name in re.split(r"\s{2,}", line)[1].split(" · ")]
     return [name if name == "mvd" else f"mvd_{name}" for name in drawn]
 
 
 def floors_of_graph():
     """The crates of the second picture, in the same order: its nodes are the floors."""
-    graph = (TOP / "docs/ARCHITECTURE.md").read_text().split("```mermaid\n", 1)[1].split("```", 1)[0]
+    graph = page("docs/ARCHITECTURE.md").split("```mermaid\n", 1)[1].split("```", 1)[0]
     drawn = [name for floor in re.findall(r'\["[a-z ]+: ([^"]*)"\]', graph) for name in re.split(r" · |<br>", floor)]
     return [name if name == "mvd" else f"mvd_{name}" for name in drawn]
 
@@ -261,15 +276,10 @@ def misdrawn():
 def miscounted():
     """Whether docs/GATE.md has just the lines that tools/lanes.py makes of tools/costs.txt."""
     made = subprocess.run([sys.executable, "tools/lanes.py", "tools/costs.txt", "--page"], cwd=TOP, capture_output=True, text=True).stdout
-    page = (TOP / "docs/GATE.md").read_text()
-    return [] if f"--page -->\n\n{made}\n<!-- end -->" in page else ["docs/GATE.md: other lines than tools/lanes.py tools/costs.txt --page makes"]
+    return [] if f"--page -->\n\n{made}\n<!-- end -->" in page("docs/GATE.md") else ["docs/GATE.md: other lines than tools/lanes.py tools/costs.txt --page makes"]
 
 
-def main():
-    names = places.tracked()
-    documents = sys.argv[1:] or [name for name in names if name.endswith(".md")]
-    code = Code([name for name in names if not name.endswith(".md")])
-    code.paths = "\n".join(names)
+def faults_of(documents, names, code):
     faults = [fault for path in documents for fault in check(path, code)] + too_long(names)
     if "CONTRIBUTING.md" in documents:
         faults += unlisted_places() + misplaced(names)
@@ -277,6 +287,54 @@ def main():
         faults += misdrawn()
     if "docs/GATE.md" in documents:
         faults += miscounted()
+    return faults
+
+
+# Of each rule a page, what stands there, what breaks the rule in its place (behind the page, where nothing stands there), and the fault.
+# (A name that stands here in one piece would be a name of the tools.)
+BROKEN = [
+    ("README.md", "", "\n" * 150, "lines, and at most 150"),
+    ("crates/mvd_keys/README.md", "", "\n" * 30, "lines, and at most 30"),
+    ("docs/USING.md", "", "\n" * DOCS_LINES, f"lines, and at most {DOCS_LINES}"),
+    ("docs/USING.md", "", "\n" + "a word " * 22 + "\nand two more.\n", "47 words"),
+    ("docs/USING.md", "", "\n" + "x" * 101 + "\n", "101 columns"),
+    ("docs/USING.md", "", "\n`no_such_" "call`\n", "no name no_such_" "call"),
+    ("docs/USING.md", "", "\n`NoSuch" "Type`\n", "no name NoSuch" "Type"),
+    ("docs/USING.md", "", "\n`Site::no_call`\n", "no Site::no_call"),
+    ("docs/USING.md", "", "\nThe file docs/NOWHERE.md says it.\n", "no file docs/NOWHERE.md"),
+    ("docs/USING.md", "", "\nSee docs/OPEN.md, \"No such section\".\n", 'no section "No such section" of docs/OPEN.md'),
+    ("docs/USING.md", "", "\nSee [a page](nowhere.md).\n", "no link nowhere.md"),
+    ("docs/ARCHITECTURE.md", "push_all of the local states", "push_" "nobody of the local states", "no name push_" "nobody (in a picture)"),
+    ("docs/ARCHITECTURE.md", "keys · docs · dots", "docs · keys · dots", "draws mvd_keys below mvd_docs, which it uses"),
+    ("docs/ARCHITECTURE.md", "· tree ·", "· trees ·", "draws mvd_trees, which is no crate"),
+    ("CONTRIBUTING.md", "`mvd_wire/src/request.rt`", "`mvd_docs/src/request.rt`", "no file mvd_docs/request.rt in that crate"),
+    ("CONTRIBUTING.md", "`Clashes.antt`, ", "", "no mvd_kept/proofs/Clashes.antt"),
+    ("docs/GATE.md", "| `mvd_dots` | ", "| `mvd_dots` | 9", "other lines than tools/lanes.py"),
+]
+# What no rule is against: a table's row, and a sentence of 45 words, as long as they like.
+SOUND = "\n| " + "a word " * 40 + "|\n\n" + "a word " * 14 + "\n" + "a word " * 8 + "more.\n"
+
+
+def unrefused(names, code):
+    """The rules that a copy of a page broke without a fault."""
+    missed = []
+    for path, stands, other, wanted in [*BROKEN, ("SECURITY.md", "", SOUND, "")]:
+        text = page(path)
+        COPIES[path] = text.replace(stands, other) if stands else text + other
+        if not any(wanted in fault for fault in faults_of([path], names, code)) if wanted else faults_of([path], names, code):
+            missed.append(f"tools/check_docs.py: a copy of {path} that has {other.strip()[:40]!r} is not told {wanted!r}")
+        COPIES.clear()
+    return missed
+
+
+def main():
+    names = places.tracked()
+    documents = sys.argv[1:] or [name for name in names if name.endswith(".md")]
+    code = Code([name for name in names if not name.endswith(".md")])
+    code.paths = "\n".join(names)
+    faults = faults_of(documents, names, code)
+    if not faults and not sys.argv[1:]:
+        faults = unrefused(names, code)
     print("\n".join(faults) if faults else f"{len(documents)} documents: all that they name is there, and none is too long")
     return 1 if faults else 0
 

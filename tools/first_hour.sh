@@ -1,10 +1,16 @@
 #!/bin/sh
-# Runs the blocks `sh` of README.md and of docs/USING.md, PROTOCOL.md and FORMATS.md as they stand, one after the other, in a new folder,
-# and wants of each what its block `text` says is printed; and what else somebody meets in the first hour. It tells what it did, and ends with 1
-# where something else is printed. It needs bash, python3 and curl, and the ports 7007 to 7009 and 7080.
+# Tries every block of every page, by the word behind its fence, one after the other, in a new folder; and what else somebody meets in the
+# first hour. It tells what it did, and ends with 1 where something is not as the page says, or where a block has no word that it knows:
+#   sh       is run as it stands, and prints just what the block `text` behind it says
+#   look, build   are run at the top, and print what crates/mvd/stdout says; where a PROGRAM is given, it stands for `rt try` and `rt run`
+#   hex      is the state that the file of docs/FORMATS.md holds, or the frame that examples/client.py sends, which reads the other
+#   sql      is what a file's tables are made by
+#   rust, rattle   stand in the code, and edit in a file of wrong-bodies/ or must-fail/
+#   mermaid, floors   are read by tools/check_docs.py
+# It needs bash, python3 and curl, and the ports 7007 to 7009 and 7080.
 # usage: tools/first_hour.sh [--short] [PROGRAM]
-# With no PROGRAM it runs the block `build` of README.md first, which proves and builds it. With --short, as the gate runs it, free
-# ports stand in the blocks for these, and where there is no curl the blocks that ask by it are left out.
+# With no PROGRAM it is proved and built first. With --short, as the gate runs it, free ports stand in the blocks for these, and where
+# there is no curl the blocks that ask by it are left out.
 set -eu
 short=
 if [ "${1:-}" = --short ]; then
@@ -19,15 +25,19 @@ room=$(mktemp -d)
 trap 'rm -rf "$room"' EXIT
 trap 'exit 1' HUP INT TERM
 mkdir "$room/bin" "$room/files"
-ln -s "$top/examples" "$room/files/examples"
+ln -s "$top/examples" "$top/tools" "$room/files/"
 if [ $# -gt 0 ]; then
   printf '#!/bin/sh\nexec "%s" "$@"\n' "$(realpath "$1")" >"$room/bin/mvd"
   chmod +x "$room/bin/mvd"
 fi
 PATH="$room/bin:$PATH" python3 - "$top" "$room/files" $# $short <<'END'
-import atexit, os, re, shutil, signal, socket, sqlite3, subprocess, sys
+import atexit, os, re, shutil, signal, socket, sqlite3, subprocess, sys, threading
 
 top, room, given, is_short = sys.argv[1], sys.argv[2], sys.argv[3] != "0", len(sys.argv) > 4
+sys.dont_write_bytecode = True
+sys.path.insert(0, os.path.join(top, "tools"))
+import places
+
 # the ports of the documents, and those that are taken
 ports = {port: port for port in ("7007", "7008", "7009", "7080")}
 if is_short:
@@ -90,36 +100,100 @@ def blocks(file):
         return re.findall(r"^```(\w*)\n(.*?)^```$", text.read(), re.M | re.S)
 
 
-def builds(file):
-    for word, text in blocks(file):
-        if word == "build" and not given:
-            # The block is run where it says, up to the first command that fails, and the PATH that it sets is taken over.
-            out, status = run("set -e\n" + text + "\necho \"PATH $PATH\"\n", where=top, seconds=14400)
-            if status != 0:
-                miss(out)
-            os.environ["PATH"] = out.splitlines()[-1].removeprefix("PATH ")
-            print("done: build")
+def source(pattern):
+    """The tracked files of a pattern, each as its lines without what stands before and behind them."""
+    for name in places.tracked():
+        if re.fullmatch(pattern, name):
+            with open(os.path.join(top, name)) as text:
+                yield "".join(line.strip() + "\n" for line in text)
+
+
+def stands(text, pattern):
+    return any("".join(line.strip() + "\n" for line in text.splitlines()) in code for code in source(pattern))
+
+
+def looks(what, text):
+    """The block is run at the top, up to the first command that fails, and the PATH that it sets is taken over."""
+    with open(os.path.join(top, "crates/mvd/stdout")) as it:
+        wanted = it.read()
+    text = re.sub(r"\brt (?:try|run) --", "mvd", text) if given else text
+    out, status = run("set -e\n" + text + "\necho \"PATH $PATH\"\n", where=top, seconds=14400)
+    told, mark, path = out.rpartition("PATH ")
+    if status != 0 or not (told == wanted if given else wanted in told):
+        miss(f"{what}: {out}")
+    os.environ["PATH"] = os.environ["PATH"] if given else path.rstrip("\n")
+
+
+def sent_by_client(told, *words):
+    """The frame that examples/client.py sends, and what it prints where it is told this frame, and Done behind it."""
+    sent = []
+
+    def answer(free):
+        with free.accept()[0] as line, line.makefile("rb") as stream:
+            for reply in told, bytes.fromhex("00000001a3"):
+                length = stream.read(4)
+                sent.append(length + stream.read(int.from_bytes(length, "big")))
+                line.sendall(reply)
+
+    with socket.create_server(("127.0.0.1", 0)) as free:
+        threading.Thread(target=answer, args=(free,), daemon=True).start()
+        out, status = run(" ".join(["python3 examples/client.py", str(free.getsockname()[1]), *words]), seconds=20)
+    return sent[0], (out, status)
+
+
+def spells(what, text):
+    """The bytes are the state that docs/FORMATS.md has a file made with; or the frame of the put of its document."""
+    spelled = bytes.fromhex(re.sub(r"#.*", "", text))
+    if int.from_bytes(spelled[:4], "big") == len(spelled) - 4:
+        sent, told = sent_by_client(bytes.fromhex("0000000da2" "00000001" "0000000000000001"), "put", "k", "-", """'{"a":1}'""")
+        answered = run(f"echo {spelled.hex()} | mvd loop --site 1")
+        if (sent, told) != (spelled, ("dot 1:1\n", 0)) or answered != ("0000000da2" "00000001" "0000000000000001\nended end\n", 0):
+            miss(f"{what}: the client sends {sent.hex()}, and the program answers {answered}")
+    else:
+        with sqlite3.connect(os.path.join(room, "one.db")) as held:
+            states = held.execute("SELECT state FROM states2").fetchall()
+        held.close()
+        length = (1 + len(spelled)).to_bytes(4, "big")
+        _, told = sent_by_client(length + b"\xa1" + spelled, "get", "k")
+        if states != [(spelled,)] or told != (f"context {spelled[:20].hex()}\n" '7:1 {"a":1}\n', 0):
+            miss(f"{what}: the file holds {states}, and the client reads {told}")
+
+
+def tables(what, text):
+    """The lines are what the tables of a file are made by."""
+    run("mvd shell --db tables.db --site 1 < /dev/null")
+    with sqlite3.connect(os.path.join(room, "tables.db")) as held:
+        made = sorted(row[0] for row in held.execute("SELECT sql FROM sqlite_schema WHERE sql IS NOT NULL"))
+    held.close()
+    if made != sorted(text.splitlines()):
+        miss(f"{what}: a file has {made}")
 
 
 def runs(file):
+    before = ""
     found = blocks(file) + [("", "")]
-    for number, (word, text) in enumerate(found):
+    for number, (word, text) in enumerate(found[:-1]):
+        what = f"{file}, block {number + 1}, {word}"
         if word == "sh" and is_short and "curl " in text and not shutil.which("curl"):
-            print(f"left out, as there is no curl: {file}, block {number + 1}")
+            print("left out, as there is no curl:", what)
         elif word == "sh":
             after, printed = found[number + 1]
-            wants(f"{file}, block {number + 1}", text, printed if after == "text" else "")
-
-
-def quotes(file, source):
-    """Each block `rattle` stands in the source as it is."""
-    with open(os.path.join(top, source)) as text:
-        code = text.read()
-    for word, text in blocks(file):
-        if word == "rattle":
-            if text not in code:
-                miss(f"{file}: this is no part of {source}:\n{text}")
-            print(f"done: {file} quotes {source}")
+            wants(what, text, printed if after == "text" else "")
+        elif word in ("look", "build"):
+            looks(what, text)
+        elif word == "hex":
+            spells(what, text)
+        elif word == "sql":
+            tables(what, text)
+        elif word in ("rust", "rattle") and not stands(text, r"crates/.*\.rt"):
+            miss(f"{what}: this stands in no file of code:\n{text}")
+        elif word == "edit" and not stands(text, r"crates/.*\.edit"):
+            miss(f"{what}: this is no edit:\n{text}")
+        elif word not in ("rust", "rattle", "edit", "mermaid", "floors") and not (word == "text" and before == "sh"):
+            miss(f"{what}: no word says how this block is tried")
+        if word not in ("sh", "text", "mermaid", "floors"):
+            print("done:", what)
+        before = word
 
 
 def server(db):
@@ -228,10 +302,9 @@ def cluster():
     kill(started)
 
 
-builds("README.md")
-for document in ["README.md", "docs/USING.md", "docs/PROTOCOL.md", "docs/FORMATS.md"]:
+first = ["README.md", "docs/USING.md", "docs/PROTOCOL.md", "docs/FORMATS.md"]
+for document in first + sorted(name for name in places.tracked() if name.endswith(".md") and name not in first):
     runs(document)
-quotes("docs/USING.md", "crates/mvd_example/src/lib.rt")
 helps()
 answers_at_once()
 old_file()

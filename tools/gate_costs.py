@@ -4,11 +4,13 @@
 usage, at the repository's top: tools/gate_costs.py FILE [COMMAND..]
 
 FILE gets a line `CRATE PROOF EDITS TESTS` for each crate, in processor seconds (a program's proof with its two compilers, the tests with
-their compiler), as tools/lanes.py reads it; above them what was run and what it took, for docs/GATE.md; a line `faults SECONDS` for the refused growths of memory, and a line `users SECONDS` for
-what users run: the scripts over the program, with all that they started. At the end the totals are printed: processor minutes, wall
+their compiler), as tools/lanes.py reads it; above them what was run and what it took, for docs/GATE.md. Behind them it gets a line
+`faults SECONDS` for the refused growths of memory, a line `pages SECONDS` for the check of the pages, and a line `users SECONDS` for what
+users run: the other scripts that .ci/run names, with all that they started. At the end the totals are printed: processor minutes, wall
 minutes, and the most memory that all processes took together. A process is looked at twice a second, so of each its last half second may
 be missing."""
 import os
+import re
 import resource
 import subprocess
 import sys
@@ -16,8 +18,16 @@ import time
 
 TICK = os.sysconf("SC_CLK_TCK")
 PAGE = os.sysconf("SC_PAGE_SIZE")
-# The parts of .ci/run behind the proofs, by their scripts.
-PARTS = {name: "users" for name in ("served.sh", "sessions.py", "web.py", "many.py", "admitted.py", "changes.py", "first_hour.sh")} | {"faults.sh": "faults"}
+
+
+def parts_of(gate):
+    """The parts of the gate behind the proofs, by their scripts."""
+    with open(gate) as it:
+        scripts = re.findall(r"^part \d+ tools/(\S+)", it.read(), re.M)
+    return {name: {"faults.sh": "faults", "check_docs.py": "pages"}.get(name, "users") for name in scripts}
+
+
+PARTS = parts_of(os.path.join(os.path.dirname(os.path.abspath(__file__)), "..", ".ci", "run"))
 
 
 def children(root):

@@ -206,7 +206,7 @@ def server(db):
 
 def helps():
     """Each command's help has an example; that of a shell is run as it stands."""
-    wants("the version", "mvd --version", "mvd 0.2.0, format version 2\n", 2)
+    wants("the version", "mvd --version", "mvd 0.3.0, format version 2\n", 2)
     for command in ["sim", "loop", "serve", "shell", "sync"]:
         out, status = run(f"mvd {command} --help")
         example = re.search(r"^Example: (.*)$", out, re.M)

@@ -67,15 +67,15 @@ pub enum Hint<'a> {
     NoPeer(SocketAddr),
     #[error("the server at {0} asks for a token, or for another one: name the file with its token by --token-file")]
     NotAdmitted(SocketAddr),
-    #[error("two files wrote under one site's number: docs/USING.md tells what not to do with a copy")]
+    #[error("two files wrote under one site's number: go on from one of them, as a new site (docs/USING.md, Backups)")]
     Clash,
     #[error("all other keys were exchanged; docs/USING.md tells what to do about a key that is refused")]
     Left,
 }
 
-/// That a file was older than what the other side saw of it, at so many keys, and what to do.
+/// That a file was older than what the other side saw of it, at how many keys, and what to do.
 #[derive(Debug, Clone, Copy, Error)]
-#[error("the file was older than what the server saw of it, keys {0}: if it was written since it was put back, docs/USING.md tells what to do with a copy")]
+#[error("the file was older than what the server saw of it, keys {0}: it looks like an old copy (docs/USING.md, Backups)")]
 pub struct Older(pub u64);
 
 /// Why a command was stopped, and what there is to do about it where something is known.

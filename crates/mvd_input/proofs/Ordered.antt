@@ -1,10 +1,12 @@
 -- What the words ask for.
-use Rattle.std.proofs.Common.{◌≡◌, ◌∙◌, ap, refl, sym, subst, ℕ, List, Bor, Option, Some, None, Result, Ok, Err, true, false, is_some, codes, find, option_and_then, option_map, IsSomeAnd}
+use Rattle.std.proofs.Common.{◌≡◌, ◌∙◌, ap, refl, sym, subst, ℕ, List, Bor, Option, Some, None, Result, Ok, Err, true, false, is_some, codes, find, option_and_then, option_map, IsSomeAnd, true≢false, true-eqb, nat_eq}
 use Rattle.std.specs.Prelude.{Box}
 use Rattle.std.specs.Box.{box_value}
-use Rattle.std.specs.Option.{option_map_or}
+use Rattle.std.specs.Option.{option_eq, option_map_or}
 use Rattle.std.specs.Str.{bytes_eq}
 use Rattle.std.proofs.lemmas.Slice.Eq.{bytes_eq-Decides}
+use Rattle.std.proofs.lemmas.Fmt.{decimal_injective}
+use Rattle.std.specs.Net.Socket.{socket_port}
 use Rattle.std.specs.declared.net.socket_addr.SocketAddr.{SocketAddr}
 use Rattle.clap.proofs.WalkLemmas.{find_row}
 use Rattle.clap.specs.Facts.{Entry}
@@ -19,7 +21,7 @@ use Rattle.clap.specs.declared.parser.matches.MatchedArg.{MatchedArg}
 use Rattle.clap.specs.declared.parser.matches.ValueSource.{ValueSource}
 use Rattle.clap.specs.declared.parser.matches.SubCommand.{SubCommand}
 use Rattle.clap.specs.declared.parser.matches.ArgMatches.TheViews.{out-ArgMatches, out-SubCommand}
-use Rattle.mvd_input.specs.Orders.{AskFor, GivesNumber, IsAddressOfOrder, IsBadNumber, IsClients, IsDbOf, IsFaultBy, IsOrderOf, IsPeersOf, IsRepeatOf, IsSeconds, IsSetupOf, IsTimes, IsUnreadValue, ReadsGiven, ReadsOrder, ReadsWords, has_file, is_given_option, is_repeated, is_word, most_of, names_server, sets_up, source_in}
+use Rattle.mvd_input.specs.Orders.{AskFor, GivesNumber, IsAddressOfOrder, IsBadNumber, IsClients, IsDbOf, IsFaultBy, IsHttp, IsOrderOf, IsPeersOf, IsRepeatOf, IsSeconds, IsSetupOf, IsTimes, IsUnreadValue, ReadsGiven, ReadsOrder, ReadsWords, has_file, is_given_option, is_repeated, is_word, bound_of, names_server, sets_up, source_in}
 use Rattle.mvd_input.specs.Addresses.{IsAddressList}
 use Rattle.mvd_input.specs.Words.{program}
 use Rattle.mvd_input.specs.declared.order.Order.{Order}
@@ -42,7 +44,7 @@ within rows Part Whole (unread.Text _) part h = λ y w. h (part y w).0 (part y w
 
 -- nor where a number is not given
 pub without : {Y : Type 0} (rows : List Row) (option : List ℕ) (most : ℕ) (Whole : List Row → Y → Type 0) (why : Unread)
-    → most_of option ≡ Some most → ((y : Y) → Whole rows y → (n : ℕ) × GivesNumber rows option n)
+    → bound_of option ≡ Some most → ((y : Y) → Whole rows y → (n : ℕ) × GivesNumber rows option n)
     → ReadsGiven rows option most (Err why) → IsUnreadValue rows Whole why
 without rows option most Whole (unread.Range told bound) bad part (is, same, h) = rw (is, same) (bad, h)
 without rows option most Whole (unread.Text _) bad part h = λ y w. h (part y w).0 (part y w).1
@@ -81,6 +83,30 @@ serve_peers rows (Shell _ _) h = differ _ _ h.0 refl
 serve_peers rows (RemoteShell _ _ _) h = differ _ _ h.0 refl
 serve_peers rows (Sync _ _ _ _ _ _) h = differ _ _ h.0 refl
 serve_peers rows (Meet _ _ _ _ _ _) h = differ _ _ h.0 refl
+
+-- a number is read from one text, which spells one
+same_number : (rows : List Row) (option : List ℕ) (m n : ℕ) → GivesNumber rows option m → GivesNumber rows option n → m ≡ n
+same_number rows option m n (s, first, (is, fits)) (t, second, (also, small)) =
+    let same : s ≡ t = cc (first, second) in
+    decimal_injective m n fits small (sym is ∙ same ∙ also)
+
+-- nor is a server with one port for both
+one_port_given : (rows : List Row) (address : SocketAddr) (port : ℕ) → IsAddressOfOrder rows address → GivesNumber rows (codes "http") port → port ≡ socket_port address
+    → (order : Order) → IsOrderOf (codes "serve") rows order → ⊥
+one_port_given rows address port a h e Sim w = differ _ _ w refl
+one_port_given rows address port a h e (Loop _) w = differ _ _ w.0 refl
+one_port_given rows address port a h e (Serve _ _ _ _ _ None _ _ _) w = cc (w.6, h.1)
+one_port_given rows address port a h e (Serve _ _ other _ _ (Some http) _ _ _) w =
+    w.10 (ap Some (same_number rows (codes "http") http port w.6 h ∙ e ∙ same_number rows (codes "port") (socket_port address) (socket_port other) a.port w.3.port))
+one_port_given rows address port a h e (Shell _ _) w = differ _ _ w.0 refl
+one_port_given rows address port a h e (RemoteShell _ _ _) w = differ _ _ w.0 refl
+one_port_given rows address port a h e (Sync _ _ _ _ _ _) w = differ _ _ w.0 refl
+one_port_given rows address port a h e (Meet _ _ _ _ _ _) w = differ _ _ w.0 refl
+
+pub one_port : (rows : List Row) (address : SocketAddr) (http : Option ℕ) → IsAddressOfOrder rows address → IsHttp rows http → true ≡ option_eq nat_eq http (Some (socket_port address))
+    → (order : Order) → IsOrderOf (codes "serve") rows order → ⊥
+one_port rows address None a h e order w = absurd (true≢false e)
+one_port rows address (Some port) a h e order w = one_port_given rows address port a h (true-eqb port (socket_port address) e) order w
 
 pub sync_meets : (rows : List Row) (order : Order) → IsOrderOf (codes "sync") rows order → Meets rows
 sync_meets rows Sim h = differ _ _ h refl

@@ -26,7 +26,7 @@ IsItem text (At address) = IsSocketText text address × (1 ≤ socket_port addre
 abbrev pub HasItem : List ℕ → Type 0
 HasItem text = (item : Item) × IsItem text item
 
--- so many texts at the most, each of which is an item
+-- at most `most` texts, each of which is an item
 abbrev pub AreItems : ℕ → List (List ℕ) → Type 0
 AreItems most texts = (length texts ≤ most) × AllByRecursion HasItem texts
 

@@ -107,12 +107,12 @@ mosts = (codes "site", 4294967295) ∷ (codes "max-keys", 1000000) ∷ (codes "p
     ∷ (codes "idle", 86400) ∷ (codes "http", 65535) ∷ (codes "every", 3600) ∷ (codes "times", 1000000)
     ∷ (codes "clients", 10000) ∷ []
 
-abbrev pub most_of : List ℕ → Option ℕ
-most_of option = option_map (λ row. row.1) (find (λ row. bytes_eq row.0 option) mosts)
+abbrev pub bound_of : List ℕ → Option ℕ
+bound_of option = option_map (λ row. row.1) (find (λ row. bytes_eq row.0 option) mosts)
 
 -- the number of this option is out of its range, whose greatest number is this
 abbrev pub IsBadNumber : List Row → List ℕ → ℕ → Type 0
-IsBadNumber rows option most = (most_of option ≡ Some most) × IsOutOfRange rows option most
+IsBadNumber rows option most = (bound_of option ≡ Some most) × IsOutOfRange rows option most
 
 -- why the values of options mean nothing of a kind: the number of the option that is told is out of the range that is
 -- told, or nothing of the kind has these values
@@ -148,6 +148,10 @@ IsConns rows (Some number) = GivesNumber rows (codes "conns") number
 abbrev pub IsHttp : List Row → Option ℕ → Type 0
 IsHttp rows None = first_of (codes "http") rows ≡ None
 IsHttp rows (Some number) = GivesNumber rows (codes "http") number
+
+-- no port is both the one for frames and the one for HTTP
+abbrev pub IsOtherPort : SocketAddr → Option ℕ → Type 0
+IsOtherPort address http = http ≢ Some (socket_port address)
 
 -- how many rounds there are, where they are counted
 abbrev pub IsTimes : List Row → Option ℕ → Type 0
@@ -214,6 +218,7 @@ IsOrderOf name rows (Loop setup) = (name ≡ codes "loop") × IsSetupOf rows set
 IsOrderOf name rows (Serve db setup address conns idle http clients peers token_file) = (name ≡ codes "serve")
     × IsDbOf rows db × IsSetupOf rows setup × IsAddressOfOrder rows address × IsConns rows conns × IsSeconds rows idle
     × IsHttp rows http × IsClients rows clients × IsPeersOf rows peers × IsTokenFile rows token_file
+    × IsOtherPort address http
 IsOrderOf name rows (Shell db setup) = (name ≡ codes "shell") × IsDbOf rows db × IsSetupOf rows setup
     × (names_server rows ≡ false)
 IsOrderOf name rows (RemoteShell address idle token_file) = (name ≡ codes "shell") × (first_of (codes "db") rows ≡ None)

@@ -91,7 +91,7 @@ pub(crate) fn is_address_list(list: &str) -> bool
     are_items(list, MOST_ITEMS)
 }
 
-/// Whether a text has so many items at the most.
+/// Whether a text has at most `most` items.
 fn are_items(list: &str, most: u32) -> bool
     ensures { IsTrue result ↔ AreItems most (items_of list.now) }
 {

@@ -8,7 +8,7 @@ use clap::{Arg, ArgAction, Command, value_parser};
 use std::alloc::{AllocError, Global};
 
 /// What `--version` tells behind the program's name.
-const VERSION: &str = "0.2.0, format version 2";
+const VERSION: &str = "0.3.0, format version 2";
 
 /// What stands at the end of the help.
 const FIRST: &str = "\
@@ -36,7 +36,7 @@ Example: mvd serve --db a.db --site 1 --port 7007
          mvd serve --db a.db --site 1 --port 7007 --http 8080 --peer 7008,192.0.2.1:7007";
 
 const SERVED_IDLE: &str =
-    "A connection on which no byte moves for so many seconds ends, 1 to 86400.";
+    "The seconds after which a connection ends on which no byte moves, 1 to 86400.";
 
 const PEER: &str =
     "The servers that this one meets by itself while it serves: 1 to 16 items with commas between them, each a port \
@@ -44,12 +44,13 @@ const PEER: &str =
                     there is a token, it is shown to each of them.";
 
 const PEER_EVERY: &str =
-    "Each peer is met again so many seconds after it was met, 1 to 3600, and sooner where something was written here.";
+    "The seconds after which each peer is met again, 1 to 3600. It is met sooner where something was written here.";
 
 const EVERY: &str =
-    "The servers meet again so many seconds after they met, 1 to 3600, until it is stopped.";
+    "The seconds after which the servers meet again, 1 to 3600. Without it they meet once.";
 
-const IDLE: &str = "A server from which no byte comes for so many seconds is given up, 1 to 86400.";
+const IDLE: &str =
+    "The seconds after which a server is given up from which no byte comes, 1 to 86400.";
 
 const SHELL: &str =
     "Answers the lines of standard input, each at once, on a database or through a server. The line `help` lists what \
@@ -58,6 +59,10 @@ const SHELL: &str =
 const SHELL_USAGE: &str = "\
 mvd shell --db <FILE> --site <N> [--defs <FILE>] [--max-keys <N>]
        mvd shell --port <P> [--address <IP>] [--idle <S>] [--token-file <FILE>]";
+
+const SHELL_EXAMPLES: &str = "\
+Example: echo 'put k - {\"a\":1}' | mvd shell --db a.db --site 1
+         echo 'get k' | mvd shell --port 7007";
 
 const SHELL_PORT: &str = "The port of a server, 1 to 65535, in place of a database.";
 
@@ -176,14 +181,9 @@ fn shell_command<'a>(alloc: Global) -> Result<Command<'a>, AllocError>
         idle(alloc, IDLE, "60"),
         token_file(alloc, TOKEN),
     ]?;
-    named(
-        alloc,
-        "shell",
-        SHELL,
-        "Example: echo 'put k - {\"a\":1}' | mvd shell --db a.db --site 1",
-    )
-    .override_usage(SHELL_USAGE)
-    .args(options)
+    named(alloc, "shell", SHELL, SHELL_EXAMPLES)
+        .override_usage(SHELL_USAGE)
+        .args(options)
 }
 
 fn sync_command<'a>(alloc: Global) -> Result<Command<'a>, AllocError>
@@ -292,7 +292,7 @@ fn http<'a>(alloc: Global) -> Arg<'a>
         alloc,
         "http",
         "P2",
-        "A second port, 1 to 65535, at which the same is served over HTTP, with a page for browsers.",
+        "Another port, 1 to 65535, at which the same is served over HTTP, with a page for browsers.",
     )
 }
 
@@ -303,7 +303,7 @@ fn conns<'a>(alloc: Global) -> Arg<'a>
         alloc,
         "conns",
         "C",
-        "How many connections are served in all, 1 to 1000. It goes on until it is stopped where this is left out.",
+        "How many connections are served in all, 1 to 1000. Without it the server goes on until it is stopped.",
     )
 }
 
@@ -350,7 +350,7 @@ fn times<'a>(alloc: Global) -> Arg<'a>
         alloc,
         "times",
         "N",
-        "How often each server is tried in all, 1 to 1000000, where --every is given.",
+        "How often each server is tried in all, 1 to 1000000. It goes with --every.",
     )
 }
 

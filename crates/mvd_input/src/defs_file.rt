@@ -86,7 +86,8 @@ pub fn text_of(line: &[u8]) -> Option<&str>
 
 /// Whether this may be one more index, which it is then. Where memory is refused, nothing changes.
 pub fn add_index(alloc: Global, defs: &mut Defs, field: &str) -> Result<bool, Fault>
-    ensures taken { IfOk result (λ is_taken. IsDefinitionTaken (index_added defs.old field.now) is_taken defs.old defs.new) }
+    ensures taken { IfOk result (λ is_taken.
+        IsDefinitionTaken (index_added defs.old field.now) is_taken defs.old defs.new) }
     ensures memory { IfErr result (λ fault. fault ≡ Stopped Memory) }
     ensures unchanged { OnErr result (defs.new ≡ defs.old) }
     ensures ends { IfErr result EndsEarly }
@@ -96,7 +97,8 @@ pub fn add_index(alloc: Global, defs: &mut Defs, field: &str) -> Result<bool, Fa
 
 /// Whether this may be one more view, which it is then. Where memory is refused, nothing changes.
 pub fn add_view(alloc: Global, defs: &mut Defs, view: View<'_>) -> Result<bool, Fault>
-    ensures taken { IfOk result (λ is_taken. IsDefinitionTaken (view_added defs.old view.entry) is_taken defs.old defs.new) }
+    ensures taken { IfOk result (λ is_taken.
+        IsDefinitionTaken (view_added defs.old view.entry) is_taken defs.old defs.new) }
     ensures memory { IfErr result (λ fault. fault ≡ Stopped Memory) }
     ensures unchanged { OnErr result (defs.new ≡ defs.old) }
     ensures ends { IfErr result EndsEarly }

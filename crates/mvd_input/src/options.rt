@@ -39,7 +39,7 @@ const NO_PEERS: &str =
 
 const ONLY_PEERS: &str = "'--every <S>' goes with '--peer <LIST>'";
 
-/// How often servers meet again: so many seconds, 1 to 3,600, after each round, until it is stopped or so many rounds,
+/// How often servers meet again: `every` seconds, 1 to 3,600, after each round, until it is stopped or `times` rounds,
 /// 1 to 1,000,000, are done.
 #[derive(Clone, Copy, PartialEq, Eq)]
 pub struct Repeat {
@@ -47,8 +47,8 @@ pub struct Repeat {
     pub times: Option<u32>,
 }
 
-/// The servers that a server meets by itself: a list, which `addresses_of` reads. Each is met again so many seconds
-/// after it was met, 1 to 3,600, or sooner.
+/// The servers that a server meets by itself: a list, which `addresses_of` reads. Each is met again `every`
+/// seconds, 1 to 3,600, after it was met, or sooner.
 #[derive(Clone, Copy, PartialEq, Eq)]
 pub struct Peers<'a> {
     pub list: &'a str,
@@ -179,7 +179,7 @@ pub(crate) fn idle_in(matches: &ArgMatches<'_>) -> Result<u32, Unread>
     Ok(given_in(matches, "idle", MOST_IDLE)? as u32)
 }
 
-/// As many clients are served at once.
+/// How many clients are served at once.
 pub(crate) fn clients_in(matches: &ArgMatches<'_>) -> Result<u32, Unread>
     ensures range { IfOk result AreClients }
     ensures clients { IfOk result (IsClients (options_of matches.now)) }

@@ -30,6 +30,9 @@ const FILE_AND_SERVERS: &str =
 
 const ONE_SESSION: &str = "'--every <S>' and '--times <N>' go with '--with <LIST>'";
 
+/// What is told of a server that has one port for both.
+const ONE_PORT: &str = "'--http <P2>' has to be another port than '--port <P>'";
+
 /// What is told of a list that is none.
 const NO_LIST: &str =
     "invalid value for '--with <LIST>': it is no list of 1 to 16 ports and addresses with ports";
@@ -44,9 +47,9 @@ pub struct Setup<'a> {
 }
 
 /// What a command line asks for. Numbers are in their ranges: those of a site as told there, a port at least 1,
-/// `conns` 1 to 1,000, `idle` 1 to 86,400 seconds, the port `http` at least 1, and `clients` 1 to 10,000. The first
-/// line of a `token_file` is the token that a server asks for, or that it is shown. A server meets its `peers` by
-/// itself.
+/// `conns` 1 to 1,000, `idle` 1 to 86,400 seconds, and `clients` 1 to 10,000. The port `http` is another than that of
+/// `address`. The first line of a `token_file` is the token that a server asks for, or that it is shown. A server
+/// meets its `peers` by itself.
 #[derive(Clone, Copy, PartialEq, Eq)]
 pub enum Order<'a> {
     /// Run a script from standard input.
@@ -175,15 +178,20 @@ fn read_in<'a>(name: &str, matches: &ArgMatches<'a>) -> Result<Order<'a>, Unread
 fn serve_of<'a>(matches: &ArgMatches<'a>) -> Result<Order<'a>, Unread>
     ensures { ReadsOptions (codes "serve") (options_of matches.now) result }
 {
+    let address = address_in(matches)?;
+    let http = http_in(matches)?;
+    if http == Some(address.port()) {
+        return Err(Unread::Text(ONE_PORT));
+    }
     Ok(Order::Serve {
         db: db_in(matches)?,
         setup: setup_in(matches)?,
+        address,
         conns: conns_in(matches)?,
         idle: idle_in(matches)?,
-        http: http_in(matches)?,
+        http,
         clients: clients_in(matches)?,
         peers: peers_in(matches)?,
-        address: address_in(matches)?,
         token_file: token_file_in(matches),
     })
 }

@@ -76,6 +76,11 @@ pub const PEERS: &[(&str, Wanted)] = &[
         Wanted::Says("'--every <S>' goes with '--peer <LIST>'"),
     ),
     ("--with 2", Wanted::Says("'--with'")),
+    (
+        "--http 1",
+        Wanted::Says("'--http <P2>' has to be another port than '--port <P>'"),
+    ),
+    ("--http 0", Wanted::Range("http", 65_535)),
     ("--help", Wanted::Says("--peer 7008,192.0.2.1:7007")),
 ];
 

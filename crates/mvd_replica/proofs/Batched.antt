@@ -159,8 +159,3 @@ TakesTurns-memory site s asked =
       breaks = λ whole broken. absurd (true≢false (sym broken ∙ whole));
       follows = still_follows (turn ∷ []) site s;
     }
-
--- a frame that is no request
-pub TakesTurns-fault : (site : SiteValue) (s : State) (fault : Refusal) (reply : Reply) → (reply ≡ Refused fault) ⊎ (reply ≡ Refused Memory) → TakesTurns (record { asked = Err fault; reply = reply } ∷ []) site site s s
-TakesTurns-fault site s fault reply told =
-    takes _ site site s s (site, (told, refl), refl) (still_follows _ site s)

@@ -127,9 +127,6 @@ replies_fault old new fault reply one = record {
 
 -- ---- one turn
 
-turn_of : Result Request Refusal → Reply → Turn
-turn_of asked reply = record { asked = asked; reply = reply }
-
 module _ (old new : SiteValue) where
   replies_turn : (asked : Result Request Refusal) (reply : Reply) → TakesFrom old new asked reply → RepliesOne old new (record { asked = asked; reply = reply })
   replies_turn (Ok request) reply one = replies_one old new request reply one

@@ -4,6 +4,7 @@ use Rattle.std.specs.Result.{IfErr, OnErr, OnOk}
 use Rattle.std.specs.Io.KnownBytes.{Appends}
 use Rattle.mvd_dots.specs.declared.refusals.Refusal.{Refusal}
 use Rattle.mvd_dots.specs.declared.refusals.Refusal.TheVariants.{Memory, Broken, ReadFailed, WriteFailed, TooManyRequests}
+use Rattle.mvd_wire.specs.declared.request.Request.{Request}
 use Rattle.mvd_wire.specs.declared.request.Request.TheVariants.{Bye}
 use Rattle.mvd_wire.specs.declared.reply.Reply.{Reply}
 use Rattle.mvd_wire.specs.declared.reply.Reply.TheVariants.{Done, Refused}
@@ -18,7 +19,7 @@ use Rattle.mvd_replica.specs.declared.serving.Ended.TheVariants as ended
 use Rattle.mvd_replica.specs.Sides.{replica_follows_self}
 use Rattle.mvd_replica.specs.Whole.{leaves_self}
 use Rattle.mvd_replica.specs.Turns.{AreFrames, IsFirstBroken, LeavesTurns, Replies, StandsOn, Turn}
-use Rattle.mvd_replica.specs.Served.{AtBye, AtEnd, AtRefusal, AtWriter, StopsServing, Went}
+use Rattle.mvd_replica.specs.Served.{AtBye, AtEnd, AtRefusal, AtWriter, ServesTurns, StopsServing, Went}
 use Rattle.mvd_replica.specs.Steps.{EndsConversation, IsSent, RepliesTo}
 use Rattle.mvd_replica.proofs.Leaving.{leaves_sent}
 use Rattle.mvd_replica.proofs.Positions.{GoesOut, ReplicaFollows, conversation_at, stored_site}
@@ -28,6 +29,34 @@ use Rattle.mvd_replica.proofs.Breaking.{follows_bye, follows_sent, told_sent}
 use Rattle.sqlite.specs.State.{State}
 use Rattle.mvd_replica.proofs.Replying.{Replies-none, Replies-one, RepliesOne-sent, StandsOn-none, StandsOn-one, HasChoice-none, HasChoice-sent}
 
+-- no turn was taken
+serves_none : (site : SiteValue) (store : State) → ServesTurns [] (stored_site site store) (stored_site site store)
+serves_none site store = record {
+  replies = Replies-none site;
+  stands = StandsOn-none site;
+  choice = HasChoice-none;
+  goes_on = tt;
+  told = λ _. tt;
+  follows = replica_follows_self _;
+  leaves = leaves_self _ _ tt;
+}
+
+-- one was
+serves_one : (asked : Result Request Refusal) (old new : SiteValue) (was store : State) (reply sent : Reply) → RepliesTo asked old new reply → ReplicaFollows (λ request. asked ≡ Ok request) old new was store →
+    LeavesTurns (record { asked = asked; reply = reply } ∷ []) (stored_site old was) (stored_site new store) → IsSent reply sent →
+    ServesTurns (record { asked = asked; reply = sent } ∷ []) (stored_site old was) (stored_site new store)
+serves_one asked old new was store reply sent replied follows leaves is =
+    let one = RepliesOne-sent old new asked reply sent is replied.long replied.one in
+    record {
+      replies = Replies-one old new (record { asked = asked; reply = sent }) one;
+      stands = StandsOn-one old new (record { asked = asked; reply = sent }) one;
+      choice = HasChoice-sent asked reply sent is replied.choice;
+      goes_on = (replied.goes_on, tt);
+      told = told_sent asked old new reply sent is replied;
+      follows = follows_sent asked old new was store reply sent is replied follows;
+      leaves = leaves_sent asked reply sent (stored_site old was) (stored_site new store) is leaves;
+    }
+
 -- ---- the ends
 
 pub at_end : (site : SiteValue) (store : State) (before after output : Option (List ℕ)) → Reads (option_map frame_value) before after (Ok None) frame_at →
@@ -35,15 +64,7 @@ pub at_end : (site : SiteValue) (store : State) (before after output : Option (L
 at_end site store before after output came = record {
   turns = [];
   ending = AtEnd;
-  takes = record {
-    replies = Replies-none site;
-    stands = StandsOn-none site;
-    choice = HasChoice-none;
-    goes_on = tt;
-    told = λ _. tt;
-    follows = replica_follows_self _;
-    leaves = leaves_self _ _ tt;
-  };
+  takes = serves_none site store;
   count = refl;
   read = λ bytes known.
       let p : (rest : List ℕ) × (after ≡ Some rest) × (frame_at bytes ≡ Ok (None, rest)) = came bytes known in
@@ -70,15 +91,7 @@ pub at_refusal : (site : SiteValue) (store : State) (before after output out : O
 at_refusal site store before after output out e fault came which wrote = record {
   turns = [];
   ending = AtRefusal e;
-  takes = record {
-    replies = Replies-none site;
-    stands = StandsOn-none site;
-    choice = HasChoice-none;
-    goes_on = tt;
-    told = λ _. tt;
-    follows = replica_follows_self _;
-    leaves = leaves_self _ _ tt;
-  };
+  takes = serves_none site store;
   count = (refl, few e which);
   read = λ bytes known. (bytes, refl, told e bytes after which (came bytes known));
   wrote = GoesOut-err output out (reply_bytes (Refused e)) WriteFailed fault e wrote;
@@ -121,15 +134,7 @@ goes_on old new was store before after output out frame reply sent came replied 
     let turn : Turn = record { asked = asked; reply = sent } in (
       turn,
       record {
-        takes = record {
-          replies = Replies-one old new turn (RepliesOne-sent old new asked reply sent is replied.long replied.one);
-          stands = StandsOn-one old new turn (RepliesOne-sent old new asked reply sent is replied.long replied.one);
-          choice = HasChoice-sent asked reply sent is replied.choice;
-          goes_on = (replied.goes_on, tt);
-          told = told_sent asked old new reply sent is replied;
-          follows = follows_sent asked old new was store reply sent is replied follows;
-          leaves = leaves_sent asked reply sent (stored_site old was) (stored_site new store) is leaves;
-        };
+        takes = serves_one asked old new was store reply sent replied follows leaves is;
         config = replied.config;
         read = λ bytes known.
             let p : (rest : List ℕ) × (after ≡ Some rest) × (frame_at bytes ≡ Ok (Some (frame_value frame), rest)) = came bytes known in
@@ -149,15 +154,7 @@ at_writer old new was store before after output out frame reply sent came replie
     let same : reply_bytes sent ≡ (reply_bytes sent ++ []) ++ [] = sym (append-nil (reply_bytes sent)) ∙ sym (append-nil (reply_bytes sent ++ [])) in record {
       turns = turn ∷ [];
       ending = AtWriter;
-      takes = record {
-        replies = Replies-one old new turn (RepliesOne-sent old new asked reply sent is replied.long replied.one);
-        stands = StandsOn-one old new turn (RepliesOne-sent old new asked reply sent is replied.long replied.one);
-        choice = HasChoice-sent asked reply sent is replied.choice;
-        goes_on = (replied.goes_on, tt);
-        told = told_sent asked old new reply sent is replied;
-        follows = follows_sent asked old new was store reply sent is replied follows;
-        leaves = leaves_sent asked reply sent (stored_site old was) (stored_site new store) is leaves;
-      };
+      takes = serves_one asked old new was store reply sent replied follows leaves is;
       count = refl;
       read = λ bytes known.
           let p : (rest : List ℕ) × (after ≡ Some rest) × (frame_at bytes ≡ Ok (Some (frame_value frame), rest)) = came bytes known in

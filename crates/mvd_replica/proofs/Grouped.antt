@@ -134,9 +134,6 @@ survives_one old new change group key bytes key-is bytes-is alone it = survives_
       (d.0, d.1, (d.2.0, subst (λ l. SavesStates old.committed d.0 (pairs_in l)) (sym alone) (record { old_same = here.old_same; saved = here.saved })), d.3)),
 )) it
 
-pub store_none : (a : Database) (group : List Prepared) (site : ℕ) → pairs_in group ≡ [] → HoldsRecords 2 site a → HoldsRecords 2 site a × SavesStates a a (pairs_in group)
-store_none a group site none holds = (holds, subst (SavesStates a a) (sym none) (record { old_same = refl; saved = refl }))
-
 -- the only one
 pub one_only : (group : List Prepared) (prepared : Prepared) → length group ≡ 1 → prepared ≡ get_or group 0 prepared → group ≡ prepared ∷ []
 one_only [] prepared count is = absurd (omega (arith, count))

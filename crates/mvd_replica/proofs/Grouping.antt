@@ -292,24 +292,11 @@ apart_at request (p ∷ group) (suc i) d low all = apart_at request group i d (o
 pub sees_at : (request : Request) (group : List Prepared) (i : ℕ) (item : Prepared) → i < length group → item ≡ get_or group i item → (IsApart request item → ⊥) → SeesAny request group
 sees_at request group i item low is sees all = sees (subst (IsApart request) (sym is) (apart_at request group i item low all))
 
--- the first of some waits for none
-pub waits_for_some : (site : SiteValue) (requests : List Request) (group : List Prepared) → FirstWaits site group (drop (length group) requests) → 0 < length requests → 0 < length group
-waits_for_some site [] group waits some = absurd (omega (arith, some))
-waits_for_some site (request ∷ requests) (p ∷ group) waits some = omega arith
-waits_for_some site (request ∷ requests) [] waits some = elim waits [
-  | inl many ↦ absurd (omega (arith, many))
-  | inr (inl lacks) ↦ absurd (omega (arith, lacks.0))
-  | inr (inr sees) ↦ absurd (sees tt)
-]
-
 -- the next one, as the code has it
 pub next_waits : (site : SiteValue) (requests : List Request) (group : List Prepared) (i : ℕ) (request : Request) → length group ≡ i → i < length requests → request ≡ get_or requests i request →
     MustWait site request group → FirstWaits site group (drop (length group) requests)
 next_waits site requests group i request count low is waits =
     subst (FirstWaits site group) (sym (ap (λ n. drop n requests) count ∙ drop_more requests i request low ∙ ap (λ r. r ∷ drop (i + 1) requests) (sym is))) waits
-
-pub none_waits : (site : SiteValue) (requests : List Request) (group : List Prepared) → length requests ≤ length group → FirstWaits site group (drop (length group) requests)
-none_waits site requests group all = subst (FirstWaits site group) (sym (drop_all (length group) requests all)) tt
 
 -- ---- which changes are counted
 
@@ -329,28 +316,6 @@ pub pairs_none : (group : List Prepared) → changes_in group ≡ 0 → pairs_in
 pairs_none [] none = refl
 pairs_none (Answer reply ∷ group) none = pairs_none group (omega (arith, none))
 pairs_none (Change change ∷ group) none = absurd (omega (arith, none))
-
--- what a request comes to is a change only where it asks for one
-asks_for : (m : States) (request : Request) (reply : Reply) (c : Key × Keyed) → change_from m request reply ≡ Some c → asks_change request ≡ 1
-asks_for m (Put own seen document) reply c is = refl
-asks_for m (Delete own seen) reply c is = refl
-asks_for m (Push own pushed) reply c is = refl
-asks_for m request reply c is = absurd cc
-
-pub changes_few : (config : ConfigValue) (m : States) (requests : List Request) (group : List Prepared) → AllComeTo config m requests group → changes_in group ≤ changes_asked requests
-changes_few config m [] [] all = omega arith
-changes_few config m [] (p ∷ group) all = absurd all
-changes_few config m (r ∷ requests) [] all = absurd all
-changes_few config m (r ∷ requests) (Answer reply ∷ group) all =
-    let later : changes_in group ≤ changes_asked requests = changes_few config m requests group all.1 in omega (arith, later)
-changes_few config m (r ∷ requests) (Change change ∷ group) all =
-    let one : asks_change r ≡ 1 = asks_for m r (answer_from config m r) (change.key, change.state) all.0.0.leaves in
-    let later : changes_in group ≤ changes_asked requests = changes_few config m requests group all.1 in
-    omega (arith, one, later)
-
-pub asked_more : (first second : List Request) → changes_asked (first ++ second) ≡ changes_asked first + changes_asked second
-asked_more [] second = omega arith
-asked_more (request ∷ first) second = let later : changes_asked (first ++ second) ≡ changes_asked first + changes_asked second = asked_more first second in omega (arith, later)
 
 -- ---- what may be put in
 

@@ -31,3 +31,4 @@ pub mod Restarts
 pub mod Pushed
 pub mod Commits
 pub mod Fronts
+pub mod EmptyFiles

@@ -86,10 +86,6 @@ pub loaded_spelled : (config : ConfigValue) (m : Stored) (states : List (Key × 
 loaded_spelled config m states (Ok site) is same = subst (λ (s : SiteValue). SpellStates m s.states) (site_opened config states site is) (spelled_map m states same)
 loaded_spelled config m states (Err e) is same = tt
 
-pub loaded_config : (config : ConfigValue) (states : List (Key × State)) (result : Result SiteValue Refusal) → IsAnswer result (opened config states) → IfOk result (λ site. (site.config ≡ config) × (site.broken ≡ false))
-loaded_config config states (Ok site) is = let same = site_opened config states site is in (ap (λ (s : SiteValue). s.config) (sym same), ap (λ (s : SiteValue). s.broken) (sym same))
-loaded_config config states (Err e) is = tt
-
 pub loaded_full : (config : ConfigValue) (m : Stored) (states : List (Key × State)) (result : Result SiteValue Refusal) → IsAnswer result (opened config states) → spelled_entries states ≡ entries m →
     IfErr result (λ e. e ≡ Full → config.max_keys < len m)
 loaded_full config m states (Ok site) is same = tt

@@ -32,10 +32,6 @@ TakesTurns turns old new before after = batch.TakesTurns turns (stored_site old 
 abbrev pub AnswersAll : List Request → List Reply → SiteValue → SiteValue → State → State → Type 0
 AnswersAll requests replies old new before after = batch.AnswersAll requests replies (stored_site old before) (stored_site new after)
 
-abbrev pub AnswersFront : List Request → List Reply → List Reply → SiteValue → SiteValue → State → State → Type 0
-AnswersFront requests told given old new before after =
-    batch.AnswersFront requests told given (stored_site old before) (stored_site new after)
-
 -- bytes went out, or the writer failed and a front of them did
 abbrev pub GoesOut : {X : Type 0} → Option (List ℕ) → Option (List ℕ) → List ℕ → X → X → X → Type 0
 GoesOut old new bytes failed result wanted =

@@ -1,20 +1,15 @@
 -- From the open of a file to its close: what it held is in what is left of it.
-use Rattle.std.proofs.Common.{◌≡◌, ◌∙◌, List, [], ◌∷◌, ◌++◌, ap, ap₂, false, inl, refl, subst, sym}
-use Rattle.std.specs.List.{AllZip}
+use Rattle.std.proofs.Common.{◌≡◌, ◌∙◌, List, [], ◌++◌, ap, false, subst, sym}
 use Rattle.mvd_keys.specs.Writes.{Stands, Write}
 use Rattle.mvd_records.specs.Records.{IsOurs, IsSound}
-use Rattle.mvd_records.specs.Tables.{no_tables}
 use Rattle.mvd_site.specs.Config.{ConfigValue}
 use Rattle.mvd_site.specs.Held.{States}
-use Rattle.sqlite_catalog.specs.Listing.{IsIndexRow, IsTableRow, IsViewRow, Lists}
 use Rattle.sqlite_disk.specs.declared.Disk.{Ghosts}
 use Rattle.sqlite_disk.specs.declared.Files.{Files}
 use Rattle.sqlite_store.specs.declared.store.FileStore.{FileStore}
 use Rattle.sqlite_trees.specs.declared.store.Store as store
-use Rattle.sqlite.specs.Effect.{Database, IsDatabase}
-use Rattle.sqlite.specs.Files.{IsEmpty, image_of}
+use Rattle.sqlite.specs.Files.{image_of}
 use Rattle.sqlite.specs.Recovery.{Image}
-use Rattle.sqlite.specs.Schema.{Schema}
 use Rattle.mvd_replica.specs.declared.replica.Replica.{Replica}
 use Rattle.mvd_replica.specs.File.{HoldsAlone, OpensFile}
 use Rattle.mvd_replica.specs.FileCalls.{IsClosed, file_database, file_of}
@@ -23,25 +18,9 @@ use Rattle.mvd_replica.specs.Programs.{HoldsMore, KeepsFile, WorksOn}
 use Rattle.mvd_replica.specs.Replicas.{site_of}
 use Rattle.mvd_replica.specs.Restored.{HasWrites, IsFresh}
 use Rattle.mvd_replica.specs.Readable.{HasJust}
+use Rattle.mvd_replica.proofs.EmptyFiles.{none_ours, none_tables}
 use Rattle.mvd_replica.proofs.Follows.{ours_held}
 use Rattle.mvd_replica.proofs.RestoredOrder.{held_just, just_one}
-
--- ---- a new file
-
-none_zipped : {A B : Type 0} (P : A → B → Type 0) (ys : List B) → AllZip P [] ys → ys ≡ []
-none_zipped P [] zip = refl
-none_zipped P (y ∷ ys) zip = absurd zip
-
-none_listed : (schema : Schema) → Lists [] schema → schema ≡ no_tables
-none_listed schema lists =
-    ap (λ ts. record { tables = ts; indexes = schema.indexes; views = schema.views }) (none_zipped IsTableRow schema.tables lists.listed.tables)
-    ∙ ap₂ (λ is vs. record { tables = []; indexes = is; views = vs }) (none_zipped (IsIndexRow schema.tables) schema.indexes lists.listed.indexes) (none_zipped IsViewRow schema.views lists.listed.views)
-
--- an empty database has none of the tables
-empty_ours : (db : Database) → IsDatabase db → IsEmpty db.trees → IsOurs db
-empty_ours db sound empty =
-    let none = none_listed db.schema (subst (λ rows. Lists rows db.schema) empty.1 sound.lists) in
-    inl (record { schema = none; rows = λ t has. absurd has })
 
 -- ---- a run
 
@@ -78,7 +57,7 @@ module _ {D : Type 0} {g : Ghosts D} {f : store.Ghosts (FileStore D g)} (image :
     found = opened.found;
     own = opened.own;
     order = λ ours. (opened.opened ours).order;
-    begins = λ empty. more_than_none first.0 (holds_more (empty_ours opened.was opened.found.sound empty) first.0 first.1);
+    begins = λ empty. more_than_none first.0 (holds_more (none_ours opened.was (none_tables opened.was opened.found.sound empty)) first.0 first.1);
     leaves = leaves;
     keeps = λ states known holds stands. (
         let was = subst (HoldsStates config.site states) (sym (opened.found.holds holds.db holds.held)) holds.holds in

@@ -29,10 +29,6 @@ use Rattle.mvd_replica.proofs.Positions.{ReplicaFollows}
 
 -- ---- one request, from the states
 
--- a change is of the states
-pub changes_states : (old : SiteValue) (request : Request) (change : ChangeValue) → PreparesChangeFrom old.config old.states request change → after_from old.config old.states request ≢ old.states
-changes_states old request change prepared same = insert_differs old.states change.key change.state prepared.differs (sym prepared.after ∙ same)
-
 -- ---- a push
 
 -- an answer to a push that refuses nothing

@@ -1,6 +1,7 @@
 -- What each call of a replica does: one relation for a call, over the replica before it, what it was called with, what it returned,
 -- and the replica after it.
-use Rattle.std.specs.Prelude.{◌≡◌, ◌≢◌, ◌⊎◌, ◌<◌, ◌≤◌, ◌+◌, ◌-◌, ◌^◌, Bool, false, true, ℕ, List, [], ◌∷◌, ◌++◌, length, map, min, Option, Vec, Result, Ok, Err, IfErr, IfOk, OnOk, MatchResult}
+use Rattle.std.specs.Prelude.{◌≡◌, ◌≢◌, ◌⊎◌, ◌<◌, ◌≤◌, ◌+◌, ◌-◌, ◌^◌, Bool, false, true, ℕ, List, [], ◌∷◌, ◌++◌, length, map}
+use Rattle.std.specs.Prelude.{min, Option, Vec, Result, Ok, Err, IfErr, IfOk, OnOk, MatchResult}
 use Rattle.std.specs.List.{AllByRecursion}
 use Rattle.std.specs.declared.alloc.Global.{Global}
 use Rattle.mvd_dots.specs.Answer.{IsAnswer}

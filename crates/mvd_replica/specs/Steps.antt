@@ -16,7 +16,8 @@ use Rattle.mvd_replica.specs.declared.serving.Ended.{Ended}
 use Rattle.mvd_replica.specs.Replicas.{site_of, stored_of}
 use Rattle.mvd_replica.specs.Sides.{ReplicaFollows}
 use Rattle.mvd_replica.specs.Turns.{AddsAt, AreFrames, IsToldElse, LeavesTurns, RepliesOne, Turn}
-use Rattle.mvd_replica.specs.Served.{AtBye, AtEnd, AtRefusal, AtWriter, Ending, GoesOut, StopsServing, ServesTurns, Conversation, Went, ending_bytes, replies_bytes, result_of}
+use Rattle.mvd_replica.specs.Served.{AtBye, AtEnd, AtRefusal, AtWriter, Ending, GoesOut, StopsServing, ServesTurns, Conversation}
+use Rattle.mvd_replica.specs.Served.{Went, ending_bytes, replies_bytes, result_of}
 use Rattle.sqlite_trees.specs.declared.store.Store.{Ghosts}
 
 -- the reply that goes out: want of memory may stand in place of one that needs memory

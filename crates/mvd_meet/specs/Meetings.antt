@@ -1,11 +1,11 @@
 -- A session of two sides that are asked by mail.
-use Rattle.std.specs.Prelude.{◌≡◌, true, false, Bool, Option, Some, None, Result, Ok}
+use Rattle.std.specs.Prelude.{◌≡◌, ℕ, true, false, Bool, Option, Some, None, Result, Ok}
 use Rattle.mvd_meet.specs.Callers.{CallerAsks, CallerTells}
 use Rattle.mvd_meet.specs.declared.caller.Caller.{Caller}
 use Rattle.mvd_meet.specs.declared.stepping.Course.{Course}
 use Rattle.mvd_meet.specs.declared.stepping.Course.TheVariants as course
 use Rattle.mvd_meet.specs.declared.stepping.Meeting.{Meeting}
-use Rattle.mvd_sync.specs.Machines.{HasNext, TakesTold}
+use Rattle.mvd_sync.specs.Machines.{HasNext, Starts, TakesTold}
 use Rattle.mvd_sync.specs.declared.asked.Step.{Step}
 use Rattle.mvd_sync.specs.declared.asked.Window.{Window}
 use Rattle.mvd_sync.specs.declared.report.SyncFault.{SyncFault}
@@ -29,6 +29,10 @@ pub record HearsBoth (old : Meeting) (near far : Caller) (new : Meeting) (near' 
   pub local : CallerTells near.asked near near' mine
   pub peer : CallerTells far.asked far far' theirs
   pub takes : TakesTold old.machine mine theirs new.machine result
+
+-- nothing was asked in a session of a near side's site of this number; no side is asked over 10,000,000 questions
+abbrev pub MeetingIsFresh : ℕ → Meeting → Type 0
+MeetingIsFresh number new = Starts (Some number) 10000000 new.machine × (new.began ≡ false)
 
 -- the session begins: nothing was asked
 pub record MeetingBegins (old : Meeting) (near far : Caller) (new : Meeting) (near' far' : Caller)

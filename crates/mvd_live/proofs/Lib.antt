@@ -1,0 +1,15 @@
+pub mod Some
+pub mod Moments
+pub mod Heard
+pub mod Levels
+pub mod Pages
+pub mod Buckets
+pub mod Meets
+pub mod Turns
+pub mod Fates
+pub mod Steps
+pub mod Given
+pub mod Causes
+pub mod Whole
+pub mod Quiet
+pub mod Mailed

@@ -1,0 +1,8 @@
+use Rattle.mvd_live.proofs.Mailed.{mail_given, mail_lives}
+use Rattle.mvd_live.proofs.laws.a_session_by_mail_lives.Goals as goal
+
+pub returns : goal.returns
+returns c = record {
+  lives = λ number questions most begun first last now new legs sits meets ends. mail_lives most number questions begun first now legs sits meets last new ends;
+  given = λ number questions most begun first now legs sits meets. mail_given most number questions begun first now legs sits meets;
+}

@@ -1,0 +1,4 @@
+pub mod Told
+pub mod Runs
+pub mod Lives
+pub mod Mail

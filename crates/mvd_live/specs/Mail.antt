@@ -1,0 +1,87 @@
+-- A session of two sides that are asked by mail, to which others write.
+use Rattle.std.specs.Prelude.{◌≡◌, ℕ, true, false, List, [], ◌∷◌, ◌++◌, Option}
+use Rattle.mvd_site.specs.Held.{AreHeld, States}
+use Rattle.mvd_peer.specs.Sides.{Two}
+use Rattle.mvd_sync.specs.Machines.{Starts}
+use Rattle.mvd_sync.specs.Steps.{Wanted, asked}
+use Rattle.mvd_sync.specs.declared.asked.Step.{Step}
+use Rattle.mvd_sync.specs.declared.telling.Told.{Told}
+use Rattle.mvd_meet.specs.Callers.{CallerTells}
+use Rattle.mvd_meet.specs.Meetings.{MeetingSteps}
+use Rattle.mvd_meet.specs.declared.caller.Caller.{Caller}
+use Rattle.mvd_meet.specs.declared.stepping.Course.TheVariants as course
+use Rattle.mvd_meet.specs.declared.stepping.Meeting.{Meeting}
+use Rattle.mvd_live.specs.Runs.{Standing}
+use Rattle.mvd_live.specs.Told.{Tells}
+
+-- WHAT CAME BY MAIL IS LIVE: whatever it tells of the window that was asked, a live side tells
+abbrev pub IsLiveMail : ℕ → Wanted → Caller → States → List States → States → Type 0
+IsLiveMail most w caller old moments new =
+    (after : Caller) (told : Option Told) → CallerTells caller.asked caller after told → Tells most w told old moments new
+
+-- a session that waits for the answers to what a step asked, and what its two sides hold
+pub record Waiting : Type 0 where
+  pub meeting : Meeting
+  pub step : Step
+  pub local : States
+  pub peer : States
+
+-- the two sides by mail, as a step found them and as it left them, and what either held at the moments of its answers
+pub record Mail : Type 0 where
+  pub near : Caller
+  pub far : Caller
+  pub near' : Caller
+  pub far' : Caller
+  pub locals : List States
+  pub peers : List States
+
+-- what came of both is live, and they came to hold this
+pub record AreLive (most : Two ℕ ℕ) (old : Waiting) (mail : Mail) (local peer : States) : Type 0 where
+  pub near : IsLiveMail most.local (asked old.step.local) mail.near old.local mail.locals local
+  pub far : IsLiveMail most.peer (asked old.step.peer) mail.far old.peer mail.peers peer
+  pub held : AreHeld local × AreHeld peer
+
+-- a session begins: the first step asks, of two sides in form
+pub record Sits (number : Option ℕ) (questions : ℕ) (begun : Meeting) (mail : Mail) (now : Waiting) : Type 0 where
+  pub fresh : begun.began ≡ false
+  pub starts : Starts number questions begun.machine
+  pub steps : MeetingSteps begun mail.near mail.far now.meeting mail.near' mail.far' course.Asks
+  pub asks : steps.asks.step ≡ now.step
+  pub held : AreHeld now.local × AreHeld now.peer
+
+-- a step takes what came, and asks what is next
+pub record Steps (most : Two ℕ ℕ) (old : Waiting) (mail : Mail) (new : Waiting) : Type 0 where
+  pub began : old.meeting.began ≡ true
+  pub steps : MeetingSteps old.meeting mail.near mail.far new.meeting mail.near' mail.far' course.Asks
+  pub asks : steps.asks.step ≡ new.step
+  pub live : AreLive most old mail new.local new.peer
+
+-- the last step takes what came, and nothing is left to ask
+pub record Ends (most : Two ℕ ℕ) (old : Waiting) (mail : Mail) (new : Standing) : Type 0 where
+  pub meeting : Meeting
+  pub began : old.meeting.began ≡ true
+  pub steps : MeetingSteps old.meeting mail.near mail.far meeting mail.near' mail.far' course.Done
+  pub live : AreLive most old mail new.local new.peer
+  pub machine : new.machine ≡ meeting.machine
+
+-- A SESSION BY MAIL, step after step
+abbrev pub Meets : Two ℕ ℕ → Waiting → List (Mail × Waiting) → Type 0
+Meets most old [] = Unit {0}
+Meets most old (leg ∷ legs) = Steps most old leg.0 leg.1 × Meets most leg.1 legs
+
+-- how it waits after these steps
+abbrev pub waits_at : Waiting → List (Mail × Waiting) → Waiting
+waits_at old [] = old
+waits_at old (leg ∷ legs) = waits_at leg.1 legs
+
+abbrev pub mail_locals : List (Mail × Waiting) → List States
+mail_locals [] = []
+mail_locals (leg ∷ legs) = leg.0.locals ++ mail_locals legs
+
+abbrev pub mail_peers : List (Mail × Waiting) → List States
+mail_peers [] = []
+mail_peers (leg ∷ legs) = leg.0.peers ++ mail_peers legs
+
+-- as a run has it before its first window
+abbrev pub standing : Meeting → Waiting → Standing
+standing begun now = record { machine = begun.machine; local = now.local; peer = now.peer }

@@ -1,0 +1,61 @@
+-- A session of two sides to which others write, one window after the other.
+use Rattle.std.specs.Prelude.{◌≡◌, ℕ, List, [], ◌∷◌, ◌++◌, Option, Some, Ok}
+use Rattle.mvd_site.specs.Held.{AreHeld, States}
+use Rattle.mvd_peer.specs.Live.{Grows}
+use Rattle.mvd_peer.specs.Sides.{Two}
+use Rattle.mvd_sync.specs.Machines.{HasNext, Machining, Starts, TakesTold}
+use Rattle.mvd_sync.specs.Steps.{asked}
+use Rattle.mvd_sync.specs.declared.asked.Step.{Step}
+use Rattle.mvd_sync.specs.declared.telling.Told.{Told}
+use Rattle.mvd_live.specs.Told.{Tells}
+
+-- how far a session is, and what its two sides hold
+pub record Standing : Type 0 where
+  pub machine : Machining
+  pub local : States
+  pub peer : States
+
+-- a session begins, of two sides in form
+pub record Begins (number : Option ℕ) (questions : ℕ) (now : Standing) : Type 0 where
+  pub starts : Starts number questions now.machine
+  pub local : AreHeld now.local
+  pub peer : AreHeld now.peer
+
+-- What happened from one window to the next: what was asked of either side, what it told, and what it held at the moment of
+-- each answer; and how the session then stands
+pub record Leg : Type 0 where
+  pub asking : Machining
+  pub step : Step
+  pub mine : Option Told
+  pub theirs : Option Told
+  pub locals : List States
+  pub peers : List States
+  pub after : Standing
+
+-- the machine asked that, took what was told, and goes on; both sides told as live sides do
+pub record Goes (most : Two ℕ ℕ) (old : Standing) (leg : Leg) : Type 0 where
+  pub next : HasNext old.machine leg.asking (Some leg.step)
+  pub local : Tells most.local (asked leg.step.local) leg.mine old.local leg.locals leg.after.local
+  pub peer : Tells most.peer (asked leg.step.peer) leg.theirs old.peer leg.peers leg.after.peer
+  pub held : AreHeld leg.after.local × AreHeld leg.after.peer
+  pub takes : TakesTold leg.asking leg.mine leg.theirs leg.after.machine (Ok tt)
+
+-- the session went on, and both sides only grew
+pub record IsLater (old new : Standing) : Type 0 where
+  pub machine : new.machine ≡ old.machine
+  pub local : AreHeld new.local × Grows old.local new.local
+  pub peer : AreHeld new.peer × Grows old.peer new.peer
+
+-- A RUN OF A SESSION beside other writers
+abbrev pub Runs : Two ℕ ℕ → Standing → List Leg → Standing → Type 0
+Runs most old [] new = IsLater old new
+Runs most old (leg ∷ legs) new = Goes most old leg × Runs most leg.after legs new
+
+-- what the local side held at the moments of its answers, and what the peer did
+abbrev pub all_locals : List Leg → List States
+all_locals [] = []
+all_locals (leg ∷ legs) = leg.locals ++ all_locals legs
+
+abbrev pub all_peers : List Leg → List States
+all_peers [] = []
+all_peers (leg ∷ legs) = leg.peers ++ all_peers legs

@@ -1,0 +1,84 @@
+//! What a session comes to beside other writers, each law as the contract of an empty function.
+ghost use Rattle.std.specs.Prelude.{◌≡◌, ℕ, List, [], ◌∷◌, ◌++◌, Option, None, Some, Result, Ok, Err};
+ghost use Rattle.std.specs.declared.alloc.Global.{Global};
+ghost use Rattle.std.specs.declared.vec.Vec.{Vec};
+ghost use Rattle.mvd_dots.specs.declared.refusals.Refusal.{Refusal};
+ghost use Rattle.mvd_keys.specs.State.{IsValid, State};
+ghost use Rattle.mvd_keys.specs.Writes.{Key};
+ghost use Rattle.mvd_wire.specs.declared.reply.Digests.{Digests};
+ghost use Rattle.mvd_site.specs.Answer.{digests};
+ghost use Rattle.mvd_site.specs.Held.{AreHeld, States, state_at};
+ghost use Rattle.mvd_peer.specs.Live.{Rises};
+ghost use Rattle.mvd_peer.specs.Sides.{Two};
+ghost use Rattle.mvd_peer.specs.Windows.{CannotTake, EachAnswer, HasKeys, IsNode, TakesState, TellsMore};
+ghost use Rattle.mvd_sync.specs.Machines.{HasNext, Machining};
+ghost use Rattle.mvd_sync.specs.Steps.{Wanted, only_gets, only_nodes, only_pages};
+ghost use Rattle.mvd_sync.specs.Tellings.{Page};
+ghost use Rattle.mvd_sync.specs.Walking.{PageQuestion};
+ghost use Rattle.mvd_sync.specs.declared.asked.Step.{Step};
+ghost use Rattle.mvd_sync.specs.declared.telling.Told.{Told};
+ghost use Rattle.mvd_sync.specs.declared.telling.Told.TheVariants.{Nodes, Pages, States as Gets};
+ghost use Rattle.mvd_live.specs.Lives.{IsGiven, Lives};
+ghost use Rattle.mvd_meet.specs.declared.stepping.Meeting.{Meeting};
+ghost use Rattle.mvd_live.specs.Mail.{Ends, Mail, Meets, Sits, Waiting, mail_locals, mail_peers, standing, waits_at};
+ghost use Rattle.mvd_live.specs.Runs.{Begins, Leg, Runs, Standing, all_locals, all_peers};
+ghost use Rattle.mvd_live.specs.Told.{Tells, TellsEach, TellsPush, TellsQuietly};
+
+/// A session that says that it is done: of each key that its report does not leave, both sides have what either had as it
+/// began, whatever others wrote meanwhile.
+pub fn a_session_lives()
+    ensures { (number : Option ℕ) (questions : ℕ) (most : Two ℕ ℕ) (old new : Standing) (legs : List Leg)
+        (done : Machining) → Begins number questions old → Runs most old legs new → HasNext new.machine done None
+        → Lives most (all_locals legs) (all_peers legs) old new done.work }
+{}
+
+/// So it is of the session that a server runs, whose two sides are asked by mail, where what comes is live.
+pub fn a_session_by_mail_lives()
+    ensures lives { (number : Option ℕ) (questions : ℕ) (most : Two ℕ ℕ) (begun : Meeting) (first last : Mail)
+        (now : Waiting) (new : Standing) (legs : List (Mail × Waiting)) → Sits number questions begun first now
+        → Meets most now legs → Ends most (waits_at now legs) last new
+        → Lives most (mail_locals legs ++ last.locals) (mail_peers legs ++ last.peers) (standing begun now) new
+        new.machine.work }
+    ensures given { (number : Option ℕ) (questions : ℕ) (most : Two ℕ ℕ) (begun : Meeting) (first : Mail)
+        (now : Waiting) (legs : List (Mail × Waiting)) → Sits number questions begun first now → Meets most now legs
+        → IsGiven (mail_locals legs) (mail_peers legs) (waits_at now legs).step }
+{}
+
+/// A session makes nothing up: each state that it pushes into a side is what the other told of that key, at a moment of
+/// this session.
+pub fn nothing_is_made_up()
+    ensures { (number : Option ℕ) (questions : ℕ) (most : Two ℕ ℕ) (old new : Standing) (legs : List Leg)
+        (asking : Machining) (step : Step) → Begins number questions old → Runs most old legs new
+        → HasNext new.machine asking (Some step) → IsGiven (all_locals legs) (all_peers legs) step }
+{}
+
+/// A side to which nobody else writes is live, where it answers as `Peer` says of a faithful one. So the premise of these
+/// laws can be met, and the moments are no others than what the side held.
+pub fn a_quiet_side_is_live()
+    ensures nodes { (most : ℕ) (held : States) (paths : List (List ℕ)) (told : Vec (Result Digests Refusal) Global)
+        → AreHeld held → EachAnswer (IsNode (digests held)) paths told.items
+        → TellsQuietly most (only_nodes paths) (Nodes told) held }
+    ensures pages { (most : ℕ) (held : States) (asked : List PageQuestion) (told : Vec (Result Page Refusal) Global)
+        → AreHeld held → EachAnswer (λ q page. HasKeys held q.0 q.1 page × TellsMore held q.0 q.1 page) asked told.items
+        → TellsQuietly most (only_pages asked) (Pages told) held }
+    ensures states { (most : ℕ) (held : States) (keys : List Key) (told : Vec (Result State Refusal) Global)
+        → AreHeld held → EachAnswer (λ key state. state ≡ state_at held key) keys told.items
+        → TellsQuietly most (only_gets keys) (Gets told) held }
+    // A push that was taken, and one that was refused.
+    ensures taken { (most : ℕ) (old new : States) (key : Key) (state : State) → AreHeld old → AreHeld new → IsValid state
+        → TakesState old key state new
+        → TellsEach (TellsPush most) ((key, state) ∷ []) (Ok tt ∷ []) old (new ∷ []) new }
+    ensures refused { (most : ℕ) (old : States) (key : Key) (state : State) (refusal : Refusal) → AreHeld old
+        → CannotTake most old key state refusal
+        → TellsEach (TellsPush most) ((key, state) ∷ []) (Err refusal ∷ []) old (old ∷ []) old }
+{}
+
+/// Pushes that were told one after the other are told at once, and the moments of a window rise.
+pub fn moments_follow()
+    ensures joined { (most : ℕ) (first second : List (Key × State)) (told more : List (Result (Unit {0}) Refusal))
+        (old mid new : States) (moments later : List States) → AreHeld old → AreHeld mid → AreHeld new
+        → TellsEach (TellsPush most) first told old moments mid → TellsEach (TellsPush most) second more mid later new
+        → TellsEach (TellsPush most) (first ++ second) (told ++ more) old (moments ++ later) new }
+    ensures rise { (most : ℕ) (w : Wanted) (told : Option Told) (old new : States) (moments : List States)
+        → Tells most w told old moments new → Rises old moments new }
+{}

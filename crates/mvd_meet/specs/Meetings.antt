@@ -1,15 +1,32 @@
 -- A session of two sides that are asked by mail.
-use Rattle.std.specs.Prelude.{◌≡◌, true, false, Bool, Option, Some, None, Result, Ok}
+use Rattle.std.specs.Prelude.{◌≡◌, ℕ, true, false, Bool, Option, Some, None, Result, Ok}
 use Rattle.mvd_meet.specs.Callers.{CallerAsks, CallerTells}
 use Rattle.mvd_meet.specs.declared.caller.Caller.{Caller}
 use Rattle.mvd_meet.specs.declared.stepping.Course.{Course}
 use Rattle.mvd_meet.specs.declared.stepping.Course.TheVariants as course
 use Rattle.mvd_meet.specs.declared.stepping.Meeting.{Meeting}
-use Rattle.mvd_sync.specs.Machines.{HasNext, TakesTold}
+use Rattle.mvd_sync.specs.Exchanges.{Exchanging}
+use Rattle.mvd_sync.specs.Machines.{HasNext, Starts, TakesTold}
 use Rattle.mvd_sync.specs.declared.asked.Step.{Step}
 use Rattle.mvd_sync.specs.declared.asked.Window.{Window}
+use Rattle.mvd_sync.specs.declared.report.Report.{Report}
 use Rattle.mvd_sync.specs.declared.report.SyncFault.{SyncFault}
 use Rattle.mvd_sync.specs.declared.telling.Told.{Told}
+
+-- a session of a site of this number, in which nothing was asked
+pub record Opens (number questions : ℕ) (meeting : Meeting) : Type 0 where
+  pub machine : Starts (Some number) questions meeting.machine
+  pub fresh : meeting.began ≡ false
+
+-- what was done is told
+pub record Reports (work : Exchanging) (report : Report) : Type 0 where
+  pub keys : report.keys ≡ work.keys
+  pub refused : report.refused ≡ work.refused
+  pub old : report.old ≡ work.older
+  pub first : report.first_refused ≡ work.first_refused
+
+abbrev pub ReportsOn : Meeting → Report → Type 0
+ReportsOn meeting report = Reports meeting.machine.work report
 
 -- a side is asked a window, if there is one
 abbrev pub AsksIf : Option Window → Caller → Caller → Type 0

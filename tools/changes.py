@@ -118,6 +118,18 @@ class Reader:
         return json.loads(body) if length is not None and len(body) == length else None
 
 
+# the bytes of a question for keys, or for keys in conflict, and of the reply to it, where nothing is held
+FRAMES = (("all keys", "000000032b0000", "00000004a9000000"), ("keys in conflict", "000000022c00", "00000004a9000000"),
+          ("a prefix that is none", "000000042b012000", "00000002ee01"))
+
+
+def check_frames(server):
+    with socket.create_connection(("127.0.0.1", server.frames), PATIENCE) as peer, peer.makefile("rb") as stream:
+        for what, asked, told in FRAMES:
+            peer.sendall(bytes.fromhex(asked))
+            wanted(f"the bytes of {what}", stream.read(len(told) // 2).hex() == told)
+
+
 def check_lists(server):
     told = server.told
     told("no key", 200, '{"keys":[]}', "GET", "/keys")
@@ -300,6 +312,7 @@ def check_after_waiting(server):
 def main():
     with tempfile.TemporaryDirectory(prefix="mvd-changes-") as folder:
         server = Server(folder)
+        check_frames(server)
         check_lists(server)
         took, commits = check_writes(server)
         check_long_context(server)

@@ -1,10 +1,10 @@
 -- A side that is asked by mail.
-use Rattle.std.specs.Prelude.{◌≡◌, ◌++◌, ℕ, Bool, true, false, List, [], ◌∷◌, Option, Some, None, Result, Ok, Err}
-use Rattle.std.specs.Prelude.{IsSomeAnd, map}
+use Rattle.std.specs.Prelude.{◌≡◌, ◌++◌, ◌+◌, ◌-◌, ◌^◌, ℕ, Bool, true, false, List, [], ◌∷◌, Option, Some, None, Result, Ok, Err}
+use Rattle.std.specs.Prelude.{IsSomeAnd, length, map, min}
 use Rattle.std.specs.declared.alloc.Global.{Global}
 use Rattle.std.specs.declared.vec.Vec.{Vec}
 use Rattle.mvd_dots.specs.declared.refusals.Refusal.{Refusal}
-use Rattle.mvd_dots.specs.declared.refusals.Refusal.TheVariants.{Truncated}
+use Rattle.mvd_dots.specs.declared.refusals.Refusal.TheVariants.{BadBody, Truncated}
 use Rattle.mvd_wire.specs.Frames.{FrameValue, frame_at}
 use Rattle.mvd_wire.specs.declared.reply.Reply.{Reply}
 use Rattle.mvd_wire.specs.declared.request.Request.{Request}
@@ -34,6 +34,14 @@ came_at caller = came_of caller.remote
 -- what it was asked and has not told
 abbrev pub asked_of_caller : Caller → Option Asked
 asked_of_caller caller = caller.asked
+
+-- nothing more comes of it
+abbrev pub has_ended : Caller → Bool
+has_ended caller = caller.ended
+
+-- as many questions were asked
+abbrev pub questions_at : Caller → ℕ
+questions_at caller = caller.questions
 
 -- ---- whether all came
 
@@ -90,10 +98,16 @@ pub record SendsTo (window : Asked) (old new : Caller) : Type 0 where
   pub leaving : leaving_at new ≡ leaving_at old ++ window.frames.0
   pub came : came_at new ≡ came_at old
   pub asked : new.asked ≡ Some window
+  pub ended : new.ended ≡ old.ended
+  pub questions : new.questions ≡ min (old.questions + length window.frames.1) (2 ^ 64 - 1)
 
 -- THE FRAMES OF A WINDOW are to leave, and its answers are due
 abbrev pub CallerAsks : Window → Caller → Caller → Type 0
 CallerAsks window old new = SendsTo (asked_in_window window) old new
+
+-- the frame of a request that Done answers
+abbrev pub CallerSays : Request → Caller → Caller → Type 0
+CallerSays request old new = SendsTo (record { sort = sort.Pushes; frames = frames_of (request ∷ []) }) old new
 
 -- ---- what is told
 
@@ -131,8 +145,24 @@ TellsBy sort.Pushes = CallerTellsAs (λ answers. told.Pushes answers) as_done 0x
 pub record TellsOf (window : Asked) (old new : Caller) (told : Told) : Type 0 where
   pub tells : TellsBy window.sort window.frames.1 (link_at old) (link_at new) told
   pub asked : new.asked ≡ None
+  pub ended : new.ended ≡ old.ended
+  pub questions : new.questions ≡ old.questions
 
 -- so of what was asked, if something was
 abbrev pub CallerTells : Option Asked → Caller → Caller → Option Told → Type 0
 CallerTells None old new told = (told ≡ None) × (new ≡ old)
 CallerTells (Some asked) old new told = IsSomeAnd told (TellsOf asked old new)
+
+-- what is told of a request that Done answers
+abbrev pub only_of : List (Result (Unit {0}) Refusal) → Result (Unit {0}) Refusal
+only_of (answer ∷ []) = answer
+only_of answers = Err BadBody
+
+abbrev pub said_of : Option Told → Result (Unit {0}) Refusal
+said_of (Some (told.Pushes answers)) = only_of answers.items
+said_of (Some (told.Refused refusal)) = Err refusal
+said_of other = Err BadBody
+
+-- WHAT CAME OF IT is this
+abbrev pub CallerHears : Caller → Caller → Result (Unit {0}) Refusal → Type 0
+CallerHears old new result = (told : Option Told) × CallerTells old.asked old new told × (result ≡ said_of told)

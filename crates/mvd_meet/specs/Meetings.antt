@@ -5,11 +5,28 @@ use Rattle.mvd_meet.specs.declared.caller.Caller.{Caller}
 use Rattle.mvd_meet.specs.declared.stepping.Course.{Course}
 use Rattle.mvd_meet.specs.declared.stepping.Course.TheVariants as course
 use Rattle.mvd_meet.specs.declared.stepping.Meeting.{Meeting}
+use Rattle.mvd_sync.specs.Exchanges.{Exchanging}
 use Rattle.mvd_sync.specs.Machines.{HasNext, Starts, TakesTold}
 use Rattle.mvd_sync.specs.declared.asked.Step.{Step}
 use Rattle.mvd_sync.specs.declared.asked.Window.{Window}
+use Rattle.mvd_sync.specs.declared.report.Report.{Report}
 use Rattle.mvd_sync.specs.declared.report.SyncFault.{SyncFault}
 use Rattle.mvd_sync.specs.declared.telling.Told.{Told}
+
+-- a session of a site of this number, in which nothing was asked
+pub record Opens (number questions : ℕ) (meeting : Meeting) : Type 0 where
+  pub machine : Starts (Some number) questions meeting.machine
+  pub fresh : meeting.began ≡ false
+
+-- what was done is told
+pub record Reports (work : Exchanging) (report : Report) : Type 0 where
+  pub keys : report.keys ≡ work.keys
+  pub refused : report.refused ≡ work.refused
+  pub old : report.old ≡ work.older
+  pub first : report.first_refused ≡ work.first_refused
+
+abbrev pub ReportsOn : Meeting → Report → Type 0
+ReportsOn meeting report = Reports meeting.machine.work report
 
 -- a side is asked a window, if there is one
 abbrev pub AsksIf : Option Window → Caller → Caller → Type 0
@@ -29,10 +46,6 @@ pub record HearsBoth (old : Meeting) (near far : Caller) (new : Meeting) (near' 
   pub local : CallerTells near.asked near near' mine
   pub peer : CallerTells far.asked far far' theirs
   pub takes : TakesTold old.machine mine theirs new.machine result
-
--- nothing was asked in a session of a near side's site of this number; no side is asked over 10,000,000 questions
-abbrev pub MeetingIsFresh : ℕ → Meeting → Type 0
-MeetingIsFresh number new = Starts (Some number) 10000000 new.machine × (new.began ≡ false)
 
 -- the session begins: nothing was asked
 pub record MeetingBegins (old : Meeting) (near far : Caller) (new : Meeting) (near' far' : Caller)

@@ -1,9 +1,14 @@
 -- When two sides meet again.
-use Rattle.std.specs.Prelude.{ℕ, ◌+◌, ◌*◌, ◌-◌, ◌^◌, min, max, Option, Some, None}
+use Rattle.std.specs.Prelude.{ℕ, ◌+◌, ◌*◌, ◌-◌, ◌^◌, ◌==◌, ◌&&◌, if◌then◌else◌, min, max, nat_lt, Option, Some, None}
 use Rattle.mvd_meet.specs.declared.pace.Ended.{Ended}
 use Rattle.mvd_meet.specs.declared.pace.Ended.TheVariants.{Well, Stuck, Failed}
 use Rattle.mvd_meet.specs.declared.pace.Pace.{Pace}
 use Rattle.mvd_meet.specs.declared.schedule.Schedule.{Schedule}
+use Rattle.mvd_sync.specs.declared.report.Report.{Report}
+
+-- a session that left keys and exchanged none is stuck
+abbrev pub ended_of : Report → Ended
+ended_of report = if (report.keys == 0) && nat_lt 0 report.refused then Stuck else Well
 
 -- twice a pause, but a minute at the most, or what sessions are apart, if that is more
 abbrev pub doubled : ℕ → ℕ → ℕ

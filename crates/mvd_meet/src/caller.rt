@@ -1,8 +1,10 @@
 //! A side of a session that is asked by mail: the frames of a window leave, and later what came is told.
-ghost use Rattle.std.specs.Prelude.{◌≡◌, ◌≤◌, ◌++◌, [], None, Some, IfErr, IfOk, OnErr, OnOk, drop, length};
+ghost use Rattle.std.specs.Prelude.{◌≡◌, ◌≤◌, ◌++◌, [], None, Some, IfErr, IfOk, OnErr, OnOk, drop, false, length, true};
 ghost use Rattle.mvd_dots.specs.declared.refusals.Refusal.TheVariants.{Memory};
-ghost use Rattle.mvd_meet.specs.Callers.{CallerAsks, EndsTurns, LeavesTurn, SendsTo, CallerTells, TellsBy, asked_in_window, asked_of_caller, came_at};
-ghost use Rattle.mvd_meet.specs.Callers.{has_all, has_turns, leaving_at, link_by};
+ghost use Rattle.mvd_meet.specs.Callers.{CallerAsks, CallerHears, CallerSays, CallerTells, EndsTurns, LeavesTurn, SendsTo};
+ghost use Rattle.mvd_meet.specs.Callers.{TellsBy, asked_in_window, asked_of_caller, came_at, has_all, has_ended, has_turns};
+ghost use Rattle.mvd_meet.specs.Callers.{leaving_at, link_by, only_of, questions_at};
+ghost use Rattle.mvd_wire.specs.declared.request.Request.TheVariants.{Bye, Hello};
 
 use mvd_conn::{Front, front_of};
 use mvd_dots::Refusal;
@@ -45,6 +47,8 @@ impl Caller {
         ensures leaving { leaving_at result ≡ [] }
         ensures came { came_at result ≡ [] }
         ensures asked { asked_of_caller result ≡ None }
+        ensures goes_on { has_ended result ≡ false }
+        ensures questions { questions_at result ≡ 0 }
     {
         Caller {
             alloc,
@@ -68,6 +72,8 @@ impl Caller {
         ensures leaving { leaving_at self.new ≡ drop count (leaving_at self.old) }
         ensures came { came_at self.new ≡ came_at self.old }
         ensures asked { asked_of_caller self.new ≡ asked_of_caller self.old }
+        ensures ended { has_ended self.new ≡ has_ended self.old }
+        ensures questions { questions_at self.new ≡ questions_at self.old }
     {
         self.remote.left(count);
     }
@@ -79,12 +85,17 @@ impl Caller {
         ensures memory { IfErr result (λ refusal. refusal ≡ Memory) }
         ensures leaving { leaving_at self.new ≡ leaving_at self.old }
         ensures asked { asked_of_caller self.new ≡ asked_of_caller self.old }
+        ensures ended { has_ended self.new ≡ has_ended self.old }
+        ensures questions { questions_at self.new ≡ questions_at self.old }
     {
         self.remote.feed(bytes)
     }
 
     /// Nothing more comes: it is at its end, or reading failed.
     pub fn end(&mut self, has_failed: bool)
+        // So nothing more is waited for.
+        ensures ended { has_ended self.new ≡ true }
+        ensures questions { questions_at self.new ≡ questions_at self.old }
         ensures leaving { leaving_at self.new ≡ leaving_at self.old }
         ensures came { came_at self.new ≡ came_at self.old }
         ensures asked { asked_of_caller self.new ≡ asked_of_caller self.old }
@@ -96,7 +107,9 @@ impl Caller {
     }
 
     /// As many questions were asked, a Hello and a Bye among them.
-    pub fn questions(&self) -> u64 {
+    pub fn questions(&self) -> u64
+        ensures { result ≡ questions_at self.now }
+    {
         self.questions
     }
 
@@ -120,7 +133,9 @@ impl Caller {
     }
 
     /// A Hello that shows a token is to leave.
-    pub fn greet(&mut self, token: &Token) -> Result<(), Refusal> {
+    pub fn greet(&mut self, token: &Token) -> Result<(), Refusal>
+        ensures { OnOk result (CallerSays (Hello token.now) self.old self.new) }
+    {
         let frames = Frames::hello(self.alloc, token)?;
         self.send(Asked {
             sort: Sort::Pushes,
@@ -129,7 +144,9 @@ impl Caller {
     }
 
     /// A Bye is to leave.
-    pub fn part(&mut self) -> Result<(), Refusal> {
+    pub fn part(&mut self) -> Result<(), Refusal>
+        ensures { OnOk result (CallerSays Bye self.old self.new) }
+    {
         let frames = Frames::bye(self.alloc)?;
         self.send(Asked {
             sort: Sort::Pushes,
@@ -162,12 +179,24 @@ impl Caller {
     }
 
     /// Whether a Hello or a Bye was answered by Done.
-    pub fn is_answered(&mut self) -> Result<(), Refusal> {
+    pub fn is_answered(&mut self) -> Result<(), Refusal>
+        ensures { CallerHears self.old self.new result }
+    {
         match self.tell() {
-            Some(Told::Pushes(mut answers)) => answers.pop().unwrap_or(Ok(())),
+            Some(Told::Pushes(answers)) => only_of(&answers),
             Some(Told::Refused(refusal)) => Err(refusal),
             _ => Err(Refusal::BadBody),
         }
+    }
+}
+
+/// The one answer of a window of one request.
+fn only_of(answers: &[Result<(), Refusal>]) -> Result<(), Refusal>
+    ensures { result ≡ only_of answers.now }
+{
+    match answers {
+        [answer] => *answer,
+        _ => Err(Refusal::BadBody),
     }
 }
 

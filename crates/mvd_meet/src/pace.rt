@@ -1,6 +1,6 @@
 //! How long two sides wait until they meet again.
 ghost use Rattle.std.specs.Prelude.{◌≡◌};
-ghost use Rattle.mvd_meet.specs.Times.{pause_after};
+ghost use Rattle.mvd_meet.specs.Times.{ended_of, pause_after};
 
 use mvd_sync::{Left, Report};
 
@@ -17,7 +17,9 @@ pub enum Ended {
 
 impl Ended {
     /// How a session ended that has this report.
-    pub fn with(report: &Report) -> Ended {
+    pub fn with(report: &Report) -> Ended
+        ensures { result ≡ ended_of report.now }
+    {
         if report.keys == 0 && report.refused > 0 {
             Ended::Stuck
         } else {

@@ -1,7 +1,7 @@
 //! A session of two sides that are asked by mail, step by step.
 ghost use Rattle.std.specs.Prelude.{◌≡◌, false, IfOk, Ok};
 ghost use Rattle.mvd_meet.specs.Callers.{has_all};
-ghost use Rattle.mvd_meet.specs.Meetings.{AsksBoth, AsksNext, MeetingHears, MeetingIsFresh, MeetingSteps};
+ghost use Rattle.mvd_meet.specs.Meetings.{AsksBoth, AsksNext, MeetingHears, MeetingSteps, Opens, ReportsOn};
 
 use crate::caller::Caller;
 use mvd_sync::{MOST_QUESTIONS, Machine, Report, Step, SyncFault};
@@ -28,7 +28,7 @@ pub struct Meeting {
 impl Meeting {
     /// A session in which nothing was asked. The site that is near has this number.
     pub fn new(alloc: Global, number: u32) -> Result<Meeting, SyncFault>
-        ensures begins { IfOk result (MeetingIsFresh number) }
+        ensures { IfOk result (Opens number MOST_QUESTIONS) }
     {
         let machine = Machine::new(alloc, Some(number), MOST_QUESTIONS)?;
         Ok(Meeting {
@@ -78,10 +78,7 @@ impl Meeting {
 
     /// What a session did that is done.
     pub fn report(self) -> Report
-        ensures keys { result.keys ≡ self.machine.work.keys }
-        ensures refused { result.refused ≡ self.machine.work.refused }
-        ensures old { result.old ≡ self.machine.work.older }
-        ensures first { result.first_refused ≡ self.machine.work.first_refused }
+        ensures { ReportsOn self result }
     {
         let Meeting { machine, began: _ } = self;
         machine.report()

@@ -1,5 +1,7 @@
 pub mod Clients
+pub mod Failing
 pub mod Handing
+pub mod Hearing
 pub mod Moving
 pub mod Placing
 pub mod Rounds

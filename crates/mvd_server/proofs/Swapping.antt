@@ -1,9 +1,21 @@
 -- A place is taken, or given back.
-use Rattle.std.proofs.Common.{◌≡◌, ◌≤◌, ◌+◌, ℕ, Bool, true, false, ap, arith}
+use Rattle.std.proofs.Common.{◌≡◌, ◌≤◌, ◌+◌, ◌∙◌, ℕ, Bool, true, false, ap, arith}
 use Rattle.mvd_server.specs.Peerings.{SwapsPlaces, count_if}
+use Rattle.mvd_server.specs.declared.own_session.OwnSession.{OwnSession}
 
 pub takes_one : (had : Bool) (free free' : ℕ) → had ≡ false → free' + 1 ≤ free → SwapsPlaces had free true free'
 takes_one had free free' is fewer = let none : count_if had ≡ 0 = ap count_if is in omega (arith, none, fewer)
 
 pub gives_back : (had : Bool) (free free' : ℕ) → had ≡ true → free' ≤ free + 1 → SwapsPlaces had free false free'
 gives_back had free free' is fewer = let one : count_if had ≡ 1 = ap count_if is in omega (arith, one, fewer)
+
+-- a session that has as much of a place as before is as before
+pub same_session : (old new : OwnSession) → new ≡ record old { runs = new.runs } → new.runs ≡ old.runs → new ≡ old
+same_session old new is same = is ∙ ap (λ (r : Bool). record old { runs = r }) same
+
+-- one that had none, and for which none is free, has none
+pub none_free : (had has : Bool) (free free' : ℕ) → SwapsPlaces had free has free' → had ≡ false → free ≡ 0 → has ≡ true → ⊥
+none_free had has free free' swaps none full got =
+    let one : count_if has ≡ 1 = ap count_if got in
+    let zero : count_if had ≡ 0 = ap count_if none in
+    omega (arith, one, zero, swaps)

@@ -1,10 +1,11 @@
 -- The side of a session that is this server's own site: a client of the host.
-use Rattle.std.specs.Prelude.{◌≡◌, ◌⊎◌, ◌++◌, ◌+◌, ◌-◌, ◌^◌, ℕ, List, [], length, min, Option, None, Some}
+use Rattle.std.specs.Prelude.{◌≡◌, ◌⊎◌, ◌++◌, ◌+◌, ◌-◌, ◌^◌, ℕ, false, List, [], length, min, Option, None, Some}
 use Rattle.mvd_conn.specs.History.{History, closed, fed, released, sent}
 use Rattle.mvd_conn.specs.declared.ending.Source.TheVariants.{Failed}
 use Rattle.mvd_dots.specs.declared.refusals.Refusal.TheVariants.{Memory}
 use Rattle.mvd_host.specs.Hosts.{AdmitsOne, ClientLeaves, HostValue, altered, client_of}
-use Rattle.mvd_meet.specs.Callers.{asked_of_caller, came_at, leaving_at}
+use Rattle.mvd_meet.specs.Callers.{asked_of_caller, came_at, has_ended, leaving_at}
+use Rattle.mvd_meet.specs.Meetings.{Opens}
 use Rattle.mvd_meet.specs.declared.caller.Caller.{Caller}
 use Rattle.mvd_server.specs.declared.own_session.OwnSession.{OwnSession}
 use Rattle.mvd_server.specs.declared.talks.Talks.{Talks}
@@ -46,11 +47,18 @@ pub record IsUnasked (caller : Caller) : Type 0 where
   pub leaving : leaving_at caller ≡ []
   pub came : came_at caller ≡ []
   pub asked : asked_of_caller caller ≡ None
+  pub goes_on : has_ended caller ≡ false
+
+-- a session of a site of this number, in which nothing was asked, and which has no place
+pub record IsFresh (number : ℕ) (session : OwnSession) : Type 0 where
+  pub near : IsUnasked session.near
+  pub meeting : Opens number 10000000 session.meeting
+  pub waits : session.runs ≡ false
 
 -- a session begins with a client of its own; or there is no place for it
-abbrev pub BeginsOwn : Talks → Option OwnSession → Talks → Type 0
-BeginsOwn old None new = new ≡ old
-BeginsOwn old (Some session) new = AdmitsOwn old (Some session.client) new × IsUnasked session.near
+abbrev pub BeginsOwn : ℕ → Talks → Option OwnSession → Talks → Type 0
+BeginsOwn number old None new = new ≡ old
+BeginsOwn number old (Some session) new = AdmitsOwn old (Some session.client) new × IsFresh number session
 
 -- THE HOST TAKES a front of the bytes that are to leave; or none leave
 pub record HandsOn (old new : Caller) (host : HostValue) (client : ℕ) (host' : HostValue) : Type 0 where

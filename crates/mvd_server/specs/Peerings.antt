@@ -1,12 +1,14 @@
 -- The servers that a server meets.
-use Rattle.std.specs.Prelude.{◌≡◌, ◌≤◌, ◌⊎◌, ◌+◌, ◌*◌, ◌-◌, ◌^◌, ℕ, Bool, true, false, List, min, Option, None, Some, IsSomeAnd}
+use Rattle.std.specs.Prelude.{◌≡◌, ◌≤◌, ◌⊎◌, ◌+◌, ◌*◌, ◌-◌, ◌^◌, ℕ, Bool, true, false, List, min, Option, None, Some, IsSome, IsSomeAnd}
 use Rattle.std.specs.List.{All, sum_by}
 use Rattle.std.specs.Duration.{as_nanos}
 use Rattle.std.specs.declared.time.Duration.{Duration}
-use Rattle.mvd_meet.specs.Times.{due_of, pause_after}
+use Rattle.mvd_meet.specs.Callers.{questions_at}
+use Rattle.mvd_meet.specs.Times.{due_of, news_at, pause_after}
 use Rattle.mvd_meet.specs.declared.pace.Ended.{Ended}
 use Rattle.mvd_meet.specs.declared.pace.Ended.TheVariants.{Failed}
 use Rattle.mvd_meet.specs.declared.schedule.Schedule.{Schedule}
+use Rattle.mvd_server.specs.OwnSides.{IsFresh}
 use Rattle.mvd_server.specs.PeerLinks.{is_rest}
 use Rattle.mvd_server.specs.declared.own_session.OwnSession.{OwnSession}
 use Rattle.mvd_server.specs.declared.peer_link.PeerLink.{PeerLink}
@@ -41,6 +43,10 @@ TakesFree old free new free' = SwapsPlaces (has_place old.session) free (has_pla
 abbrev pub TakesNoPlace : Peering → Peering → Type 0
 TakesNoPlace old new = places_of new ≤ places_of old
 
+-- A SESSION GOES ON only where it has a place, or one is free
+abbrev pub StaysWithout : Peering → ℕ → Peering → Type 0
+StaysWithout old free new = has_place old.session ≡ false → free ≡ 0 → new.session ≡ old.session
+
 -- ---- times
 
 -- no connection is there, or one over which nothing is asked
@@ -65,6 +71,34 @@ pub record EndsMeeting (ended : Ended) (now : ℕ) (old new : Schedule) : Type 0
   pub news : new.news ≡ old.news
   pub every : new.every ≡ old.every
 
--- a session failed; or it is tried again at once
-abbrev pub FailsMeeting : ℕ → Schedule → Schedule → Type 0
-FailsMeeting now old new = EndsMeeting Failed now old new ⊎ (new ≡ record old { next = 0 })
+-- a session begins, and takes what changed before
+pub record BeginsMeeting (number : ℕ) (old new : Peering) : Type 0 where
+  pub session : IsSomeAnd new.session (IsFresh number)
+  pub schedule : new.schedule ≡ record old.schedule { news = None }
+
+-- a connection was kept since the session before, and nothing came over it since
+pub record IsCut (link : PeerLink) : Type 0 where
+  pub kept : link.is_kept ≡ true
+  pub unheard : link.has_heard ≡ false
+
+-- a session may go on over another connection at once: it was cut so, or it asked as many questions as may be
+abbrev pub MayGoOn : PeerLink → OwnSession → Type 0
+MayGoOn link session = IsCut link ⊎ (500000 ≤ questions_at link.far) ⊎ (500000 ≤ questions_at session.near)
+
+abbrev pub MayTryAgain : Option PeerLink → Option OwnSession → Type 0
+MayTryAgain (Some link) (Some session) = MayGoOn link session
+MayTryAgain link session = ⊥
+
+-- A SESSION FAILED; or it is tried again at once, where it may be
+abbrev pub FailsMeeting : ℕ → Peering → Schedule → Type 0
+FailsMeeting now old new = EndsMeeting Failed now old.schedule new
+    ⊎ (MayTryAgain old.link old.session × (new ≡ record old.schedule { next = 0 }))
+
+-- something changed, or not
+abbrev pub HearsNews : Bool → ℕ → Schedule → Schedule → Type 0
+HearsNews false now old new = new.news ≡ old.news
+HearsNews true now old new = new.news ≡ news_at old.news now
+
+-- ALL OF THEM are met for a change
+abbrev pub HaveNews : List Peering → Type 0
+HaveNews peers = All (λ peering. IsSome peering.schedule.news) peers

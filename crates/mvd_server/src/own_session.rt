@@ -1,7 +1,7 @@
 //! A session of this server's own site: the side that is near is a client of the host.
-ghost use Rattle.std.specs.Prelude.{◌≡◌, ◌-◌, ◌&&◌, IfOk, IfSome, OnOk, false, length, not};
-ghost use Rattle.mvd_meet.specs.Callers.{has_all};
-ghost use Rattle.mvd_meet.specs.Meetings.{MeetingSteps};
+ghost use Rattle.std.specs.Prelude.{◌≡◌, ◌-◌, ◌&&◌, IfOk, OnOk, false, length, not, true};
+ghost use Rattle.mvd_meet.specs.Callers.{has_all, has_ended, questions_at};
+ghost use Rattle.mvd_meet.specs.Meetings.{MeetingSteps, ReportsOn};
 ghost use Rattle.mvd_server.specs.OwnSides.{AdmitsOwn, BeginsOwn, DismissesOwn, HandsOn};
 ghost use Rattle.mvd_server.specs.OwnSides.{HearsWaiting, TakesReplies};
 ghost use Rattle.mvd_server.specs.Peerings.{SwapsPlaces};
@@ -62,8 +62,7 @@ impl OwnSession {
         talks: &mut Talks,
         number: u32,
     ) -> Result<Option<OwnSession>, SyncFault>
-        ensures begins { IfOk result (λ begun. BeginsOwn talks.old begun talks.new) }
-        ensures waits { IfOk result (λ begun. IfSome begun (λ session. session.runs ≡ false)) }
+        ensures begins { IfOk result (λ begun. BeginsOwn number talks.old begun talks.new) }
     {
         let meeting = Meeting::new(alloc, number)?;
         let Some(client) = talks.admit_own() else {
@@ -86,8 +85,11 @@ impl OwnSession {
 
     /// Whether all came of both sides, and it has a place. It takes one where one is free. Where the peer says nothing for a
     /// while, it gives its place back.
+    #[tactic(auto, using(crate::proofs::Swapping::same_session))]
     pub fn has_turn(&mut self, far: &Caller, is_lulled: bool, free: &mut usize) -> bool
-        ensures { SwapsPlaces self.old.runs free.old self.new.runs free.new }
+        ensures swaps { SwapsPlaces self.old.runs free.old self.new.runs free.new }
+        ensures turn { result ≡ true → self.new.runs ≡ true }
+        ensures rests { self.old.runs ≡ false → result ≡ false → self.new ≡ self.old }
     {
         if self.can_step(far) {
             return self.take_place(free);
@@ -102,7 +104,9 @@ impl OwnSession {
     /// Takes a place, unless it has one or none is free. Whether it has one.
     #[tactic(auto, using(crate::proofs::Swapping::takes_one))]
     fn take_place(&mut self, free: &mut usize) -> bool
-        ensures { SwapsPlaces self.old.runs free.old self.new.runs free.new }
+        ensures swaps { SwapsPlaces self.old.runs free.old self.new.runs free.new }
+        ensures turn { result ≡ self.new.runs }
+        ensures session { self.new ≡ record self.old { runs = self.new.runs } }
     {
         if self.runs {
             return true;
@@ -118,7 +122,8 @@ impl OwnSession {
     /// Gives its place back, if it has one.
     #[tactic(auto, using(crate::proofs::Swapping::gives_back))]
     fn leave_place(&mut self, free: &mut usize)
-        ensures { SwapsPlaces self.old.runs free.old self.new.runs free.new }
+        ensures swaps { SwapsPlaces self.old.runs free.old self.new.runs free.new }
+        ensures leaves { self.new ≡ record self.old { runs = false } }
     {
         if !self.runs {
             return;
@@ -138,7 +143,9 @@ impl OwnSession {
     }
 
     /// As many questions were asked of this server's site.
-    pub fn questions(&self) -> u64 {
+    pub fn questions(&self) -> u64
+        ensures { result ≡ questions_at self.now.near }
+    {
         self.near.questions()
     }
 
@@ -153,6 +160,7 @@ impl OwnSession {
     #[tactic(auto, using(crate::proofs::Handing::hands_none, crate::proofs::Handing::hands_front))]
     pub fn hand_on(&mut self, talks: &mut Talks)
         ensures hands { HandsOn self.old.near self.new.near talks.old.host self.old.client talks.new.host }
+        ensures goes_on { has_ended self.new.near ≡ has_ended self.old.near }
         ensures session { self.new ≡ record self.old { near = self.new.near } }
         ensures talks { talks.new ≡ record talks.old { host = talks.new.host } }
     {
@@ -197,7 +205,9 @@ impl OwnSession {
     }
 
     /// What it did, once it is done.
-    pub fn report(self) -> Report {
+    pub fn report(self) -> Report
+        ensures { ReportsOn self.meeting result }
+    {
         let OwnSession {
             client: _,
             near,

@@ -1,6 +1,6 @@
 //! The peers that this server meets while it serves.
-ghost use Rattle.std.specs.Prelude.{◌≡◌, ◌≤◌, ◌+◌, ◌-◌, length};
-ghost use Rattle.mvd_server.specs.Peerings.{LooksInTime, running};
+ghost use Rattle.std.specs.Prelude.{◌≡◌, ◌≢◌, ◌≤◌, ◌+◌, ◌-◌, length};
+ghost use Rattle.mvd_server.specs.Peerings.{HaveNews, LooksInTime, running};
 
 use crate::crowd::Crowd;
 use crate::peer_counts::PeerCounts;
@@ -143,7 +143,10 @@ impl Peers {
     }
 
     /// Takes what the site told the sessions. Where something was committed, all peers are met soon.
-    pub fn take_replies(&mut self, crowd: &mut Crowd, commits: u64) {
+    pub fn take_replies(&mut self, crowd: &mut Crowd, commits: u64)
+        ensures news { self.old.commits ≢ commits → HaveNews self.new.list.items }
+        ensures noted { self.new.commits ≡ commits }
+    {
         let changed = commits != self.commits;
         self.commits = commits;
         for peering in self.list.iter_mut() {

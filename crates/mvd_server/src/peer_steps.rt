@@ -1,7 +1,9 @@
 //! What goes on with a peer, step by step, without waiting.
-ghost use Rattle.std.specs.Prelude.{◌≡◌, ◌<◌};
-ghost use Rattle.mvd_meet.specs.Times.{due_of};
-ghost use Rattle.mvd_server.specs.Peerings.{SwapsPlaces, TakesFree, TakesNoPlace, has_place};
+ghost use Rattle.std.specs.Prelude.{◌≡◌, ◌<◌, IfOk, OnErr, OnOk, false, true};
+ghost use Rattle.mvd_meet.specs.Times.{due_of, ended_of};
+ghost use Rattle.mvd_server.specs.PeerLinks.{LetsIn, SaysBye, ShowsIf};
+ghost use Rattle.mvd_server.specs.Peerings.{BeginsMeeting, EndsMeeting, StaysWithout, SwapsPlaces, TakesFree, TakesNoPlace};
+ghost use Rattle.mvd_server.specs.Peerings.{has_place};
 
 use crate::crowd::Crowd;
 use crate::own_session::OwnSession;
@@ -94,15 +96,26 @@ impl Peering {
         if link.far.questions() >= MOST_QUESTIONS {
             return self.part(crowd.now);
         }
+        link.stage = Stage::Meets;
+        link.has_heard = false;
+        self.begin(setting, crowd)?;
+        self.ask(setting, crowd)
+    }
+
+    /// A session begins. It takes what changed before.
+    #[tactic(auto, using(crate::proofs::Placing::fresh_place))]
+    fn begin(&mut self, setting: &Setting, crowd: &mut Crowd) -> Result<(), Refusal>
+        ensures begins { OnOk result (BeginsMeeting setting.now.number self.old self.new) }
+        ensures fails { OnErr result (self.new ≡ self.old) }
+        ensures places { TakesNoPlace self.old self.new }
+    {
         match OwnSession::begin(setting.alloc, &mut crowd.talks, setting.number) {
             Ok(Some(session)) => self.session = Some(session),
             Ok(None) => return Err(Refusal::Memory),
             Err(fault) => return Err(refusal_in(fault)),
         }
         self.schedule.begin();
-        link.stage = Stage::Meets;
-        link.has_heard = false;
-        self.ask(setting, crowd)
+        Ok(())
     }
 
     /// What came is taken, once all came, and what is next is asked, where there is a place for the session. It gives its
@@ -113,7 +126,8 @@ impl Peering {
         crowd: &mut Crowd,
         free: &mut usize,
     ) -> Result<bool, Refusal>
-        ensures { TakesFree self.old free.old self.new free.new }
+        ensures takes { TakesFree self.old free.old self.new free.new }
+        ensures stays { StaysWithout self.old free.old self.new }
     {
         let Some(link) = &mut self.link else {
             return Ok(false);
@@ -176,7 +190,8 @@ impl Peering {
 
     /// Notes how a session ended that is done, and tells which keys were left, but for those that the session before left.
     fn note_done(&mut self, setting: &mut Setting, crowd: &mut Crowd, report: Report)
-        ensures { self.new.session ≡ self.old.session }
+        ensures session { self.new.session ≡ self.old.session }
+        ensures ends { EndsMeeting (ended_of report) crowd.old.now self.old.schedule self.new.schedule }
     {
         self.schedule.end(Ended::with(&report), crowd.now);
         if let Some(counts) = crowd.counts.peers.get_mut(self.place) {
@@ -193,7 +208,8 @@ impl Peering {
 
     /// Says Bye.
     fn part(&mut self, now: u64) -> Result<bool, Refusal>
-        ensures { self.new ≡ record self.old { link = self.new.link } }
+        ensures link { self.new ≡ record self.old { link = self.new.link } }
+        ensures says { SaysBye self.old.link self.new.link }
     {
         let Some(link) = &mut self.link else {
             return Ok(false);
@@ -225,7 +241,9 @@ impl Peering {
 }
 
 /// The token is shown once it is connected, if there is one.
-fn connects(link: &mut PeerLink, setting: &Setting, now: u64) -> Result<bool, Refusal> {
+fn connects(link: &mut PeerLink, setting: &Setting, now: u64) -> Result<bool, Refusal>
+    ensures { IfOk result (λ is. ShowsIf is setting.now.token link.old link.new) }
+{
     if !link.is_connected()? {
         return Ok(false);
     }
@@ -241,7 +259,9 @@ fn connects(link: &mut PeerLink, setting: &Setting, now: u64) -> Result<bool, Re
 }
 
 /// The token is answered by Done.
-fn greets(link: &mut PeerLink, setting: &mut Setting, now: u64) -> Result<bool, Refusal> {
+fn greets(link: &mut PeerLink, setting: &mut Setting, now: u64) -> Result<bool, Refusal>
+    ensures { IfOk result (λ is. LetsIn is link.old link.new) }
+{
     link.move_bytes(&mut setting.piece, now)?;
     if !link.far.has_all() {
         return Ok(false);
@@ -259,7 +279,9 @@ fn has_turn_in(
     is_lulled: bool,
     free: &mut usize,
 ) -> bool
-    ensures { SwapsPlaces (has_place session.old) free.old (has_place session.new) free.new }
+    ensures swaps { SwapsPlaces (has_place session.old) free.old (has_place session.new) free.new }
+    ensures turn { result ≡ true → has_place session.new ≡ true }
+    ensures rests { has_place session.old ≡ false → result ≡ false → session.new ≡ session.old }
 {
     match session {
         Some(session) => session.has_turn(far, is_lulled, free),

@@ -1,7 +1,7 @@
 //! A peer: when it is met, and the connection and the session with it, if there are any.
 ghost use Rattle.std.specs.Prelude.{◌≡◌, ◌<◌, None, Some, true};
 ghost use Rattle.mvd_meet.specs.Times.{due_of, news_at};
-ghost use Rattle.mvd_server.specs.Peerings.{FailsMeeting, TakesNoPlace, has_place, is_resting};
+ghost use Rattle.mvd_server.specs.Peerings.{FailsMeeting, HearsNews, MayGoOn, MayTryAgain, TakesNoPlace, has_place, is_resting};
 
 use crate::crowd::Crowd;
 use crate::own_session::OwnSession;
@@ -153,7 +153,7 @@ impl Peering {
     pub fn fail(&mut self, crowd: &mut Crowd, refusal: Refusal)
         ensures over { (self.new.link ≡ None) × (self.new.session ≡ None) }
         ensures places { TakesNoPlace self.old self.new }
-        ensures schedule { FailsMeeting crowd.old.now self.old.schedule self.new.schedule }
+        ensures schedule { FailsMeeting crowd.old.now self.old self.new.schedule }
     {
         let is_again = self.is_again(refusal);
         self.link = None;
@@ -176,20 +176,13 @@ impl Peering {
 
     /// Whether it is tried again at once, over another connection: as many questions were asked as may be, or the
     /// connection was kept since the session before, and cut meanwhile.
-    fn is_again(&self, refusal: Refusal) -> bool {
-        let (Some(link), Some(session)) = (&self.link, &self.session) else {
-            return false;
-        };
-        let is_cut = matches!(
-            refusal,
-            Refusal::Truncated | Refusal::ReadFailed | Refusal::WriteFailed
-        );
-        let is_spent = link.far.questions() >= MOST_QUESTIONS
-            || session.questions() >= MOST_QUESTIONS;
-        if is_spent && (is_cut || refusal == Refusal::TooManyRequests) {
-            return true;
+    fn is_again(&self, refusal: Refusal) -> bool
+        ensures { result ≡ true → MayTryAgain self.now.link self.now.session }
+    {
+        match (&self.link, &self.session) {
+            (Some(link), Some(session)) => may_go_on(link, session, refusal),
+            _ => false,
         }
-        is_cut && link.is_kept && !link.has_heard
     }
 
     /// Hands on what its session asks of the host, and lists its client.
@@ -208,18 +201,22 @@ impl Peering {
 
     /// Takes what the host told its session, and notes whether something changed.
     pub fn hear(&mut self, crowd: &mut Crowd, changed: bool)
-        ensures { TakesNoPlace self.old self.new }
+        ensures places { TakesNoPlace self.old self.new }
+        ensures news { HearsNews changed crowd.old.now self.old.schedule self.new.schedule }
     {
+        let now = crowd.now;
         self.take_replies(crowd);
         if !changed {
             return;
         }
-        self.note_change(crowd.now);
+        self.note_change(now);
     }
 
     /// Takes what the host told its session.
+    #[tactic(auto, using(crate::proofs::Failing::keeps_news))]
     fn take_replies(&mut self, crowd: &mut Crowd)
         ensures places { TakesNoPlace self.old self.new }
+        ensures news { self.new.schedule.news ≡ self.old.schedule.news }
     {
         if let Some(session) = &mut self.session
             && let Err(refusal) = session.take_replies(&mut crowd.talks)
@@ -227,4 +224,20 @@ impl Peering {
             self.fail(crowd, refusal);
         }
     }
+}
+
+/// Whether a session that ended by this refusal may go on over another connection at once.
+fn may_go_on(link: &PeerLink, session: &OwnSession, refusal: Refusal) -> bool
+    ensures { result ≡ true → MayGoOn link.now session.now }
+{
+    let is_cut = matches!(
+        refusal,
+        Refusal::Truncated | Refusal::ReadFailed | Refusal::WriteFailed
+    );
+    let is_spent =
+        link.far.questions() >= MOST_QUESTIONS || session.questions() >= MOST_QUESTIONS;
+    if is_spent && (is_cut || refusal == Refusal::TooManyRequests) {
+        return true;
+    }
+    is_cut && link.is_kept && !link.has_heard
 }

@@ -1,7 +1,8 @@
 use Rattle.std.specs.Prelude.{◌≤◌}
 use Rattle.mvd_server.specs.Peerings.{running}
+use Rattle.mvd_server.proofs.Hearing.{HeardBelow}
 use Rattle.mvd_server.proofs.peer_list.Peers.take_replies.Given as goal
 
--- no place was taken
+-- no place was taken, and those that had their turn heard of it, if something changed
 abbrev pub invariant-loop-peering : goal.invariant-loop-peering
-invariant-loop-peering l = running l.peering-items ≤ 4
+invariant-loop-peering l = (running l.peering-items ≤ 4) × HeardBelow l.changed l.peering-index l.peering-items

@@ -1,7 +1,10 @@
+pub mod Answering
 pub mod Clients
+pub mod Fronting
 pub mod Handing
 pub mod Moving
 pub mod Placing
 pub mod Rounds
+pub mod Sinces
 pub mod Swapping
 pub mod Waking

@@ -19,6 +19,7 @@ mod peer_news;
 mod peer_steps;
 mod peering;
 mod replies;
+mod responding;
 mod server;
 mod talks;
 mod timers;

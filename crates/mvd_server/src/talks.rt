@@ -7,9 +7,10 @@ ghost use Rattle.mvd_server.specs.Rounds.{HasRound};
 
 use crate::batch::Batch;
 use crate::changes::push_since;
-use crate::gate::{Rest, answer, answer_writes, ask, refuse, tell_pushed};
+use crate::gate::{Rest, answer, answer_writes, ask};
 use crate::metrics::Counts;
 use crate::parked::Parked;
+use crate::responding::{refuse, tell_pushed};
 use mvd_conn::{Ending, Guard};
 use mvd_dots::Refusal;
 use mvd_host::{Feed, Host};
@@ -52,7 +53,13 @@ pub(crate) struct Talks {
 }
 
 impl Talks {
-    pub fn new(alloc: Global, keys: RandomState, guard: Option<Guard>) -> Talks {
+    ghost use Rattle.std.specs.Prelude.{◌≡◌, IfSome, Some};
+    ghost use Rattle.mvd_conn.specs.History.{new_history};
+    ghost use Rattle.mvd_server.specs.Guarded.{guard_for};
+
+    pub fn new(alloc: Global, keys: RandomState, guard: Option<Guard>) -> Talks
+        ensures { result.guard ≡ guard }
+    {
         Talks {
             host: Host::new(alloc),
             guard,
@@ -69,7 +76,11 @@ impl Talks {
 
     /// Takes a client in, and gives its number. It is `None` where there is no place, or memory was refused. One that
     /// speaks frames has to show the token in its first frame; over HTTP each request has to.
-    pub fn admit(&mut self, kind: Kind) -> Option<u64> {
+    pub fn admit(&mut self, kind: Kind) -> Option<u64>
+        ensures guarded { IfSome result (λ number.
+            client_of self.new.host number ≡ Some (new_history (guard_for kind self.old.guard))) }
+        ensures guard { self.new.guard ≡ self.old.guard }
+    {
         let guard = match kind {
             Kind::Frames => self.guard,
             Kind::Http => None,
@@ -88,13 +99,18 @@ impl Talks {
         Some(number)
     }
 
-    fn open_web(&mut self, number: u64) -> Result<(), AllocError> {
+    fn open_web(&mut self, number: u64) -> Result<(), AllocError>
+        ensures host { self.new.host ≡ self.old.host }
+        ensures guard { self.new.guard ≡ self.old.guard }
+    {
         let web = WebConnection::new(self.alloc, self.keys);
         drop(self.webs.insert(number, web)?);
         Ok(())
     }
 
-    pub fn dismiss(&mut self, number: u64) {
+    pub fn dismiss(&mut self, number: u64)
+        ensures { self.new.guard ≡ self.old.guard }
+    {
         drop(self.webs.remove(&number));
         drop(self.batches.remove(&number));
         self.parked.remove(number);

@@ -4,8 +4,8 @@ ghost use Rattle.std.specs.List.{slice_get};
 ghost use Rattle.mvd_server.specs.Fronts.{TellsNext, end_refusal};
 ghost use Rattle.mvd_server.specs.Batches.{BeginsBatch, bytes_if, frame_of_write, refusal_if};
 
+use crate::feeding::feed;
 use crate::replies::next_reply;
-use crate::talks::feed;
 use mvd_conn::Ending;
 use mvd_dots::Refusal;
 use mvd_frames::encode_request;

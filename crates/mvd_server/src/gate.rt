@@ -6,10 +6,10 @@ ghost use Rattle.mvd_web.specs.Inside.{web_of};
 
 use crate::batch::Batch;
 use crate::changes::push_since;
+use crate::feeding::feed;
 use crate::metrics::{Counts, Now};
 use crate::replies::next_reply;
 use crate::responding::{answer_of, refuse, respond, tell_pushed, tell_reply};
-use crate::talks::feed;
 use http::StatusCode;
 use mvd_conn::Guard;
 use mvd_dots::Refusal;

@@ -7,6 +7,7 @@ mod client;
 mod crowd;
 mod door;
 mod endings;
+mod feeding;
 mod gate;
 mod metrics;
 mod own_session;

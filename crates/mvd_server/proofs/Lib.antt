@@ -1,9 +1,12 @@
+pub mod Answering
 pub mod Clients
 pub mod Failing
+pub mod Fronting
 pub mod Handing
 pub mod Hearing
 pub mod Moving
 pub mod Placing
 pub mod Rounds
+pub mod Sinces
 pub mod Swapping
 pub mod Waking

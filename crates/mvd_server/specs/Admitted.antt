@@ -1,16 +1,39 @@
 -- Who may ask over HTTP.
-use Rattle.std.specs.Prelude.{◌≡◌, ◌⊎◌, ⊤, IsSomeAnd, Option, Some, None, Ok}
-use Rattle.mvd_conn.specs.Guard.{IsTokenOf}
+use Rattle.std.specs.Prelude.{◌≡◌, ◌⊎◌, ◌||◌, ⊤, ℕ, Bool, true, false, IsTrue, IsSomeAnd, List, Option, Some, None, Result, Ok}
+use Rattle.mvd_conn.specs.Guard.{IsTokenOf, admits}
 use Rattle.mvd_conn.specs.declared.guard.Guard.{Guard}
+use Rattle.mvd_dots.specs.declared.refusals.Refusal.{Refusal}
+use Rattle.mvd_host.specs.Hosts.{HostValue}
+use Rattle.mvd_http.specs.declared.question.Question.{Question}
 use Rattle.mvd_http.specs.declared.question.Question.TheVariants.{Page}
 use Rattle.mvd_server.specs.declared.gate.Plan.{Plan}
 use Rattle.mvd_server.specs.declared.gate.Plan.TheVariants as plan
+use Rattle.mvd_server.specs.declared.gate.Rest.{Rest}
+use Rattle.mvd_server.specs.declared.gate.Rest.TheVariants as rest
 use Rattle.mvd_web.specs.declared.taken.Asked.{Asked}
 
 -- where there is a guard, the request shows its token, or asks for the page
 abbrev pub MayAsk : Option Guard → Asked → Type 0
 MayAsk None asked = ⊤
 MayAsk (Some guard) asked = IsSomeAnd asked.token (IsTokenOf guard) ⊎ (asked.question ≡ Ok Page)
+
+-- whether it does
+abbrev pub has_token : Guard → Option (List ℕ) → Bool
+has_token guard None = false
+has_token guard (Some token) = admits guard token
+
+abbrev pub is_page : Result Question Refusal → Bool
+is_page (Ok Page) = true
+is_page _ = false
+
+abbrev pub is_let_in : Option Guard → Asked → Bool
+is_let_in None asked = true
+is_let_in (Some guard) asked = has_token guard asked.token || is_page asked.question
+
+-- the request names one host, and comes of this server's own page or of none
+pub record IsOwnPage (asked : Asked) : Type 0 where
+  pub host : IsTrue asked.names_host
+  pub own : IsTrue asked.is_own
 
 -- the host is asked, or what the server keeps of the site is told
 abbrev pub AsksSite : Plan → Type 0
@@ -20,3 +43,12 @@ AsksSite (plan.Changes since wait) = ⊤
 AsksSite plan.Root = ⊤
 AsksSite plan.Metrics = ⊤
 AsksSite _ = ⊥
+
+-- nothing is left to do of a request
+abbrev pub IsNothing : Rest → Type 0
+IsNothing rest.Nothing = ⊤
+IsNothing _ = ⊥
+
+-- The host was asked nothing, and is to be asked nothing; or the request that waits for its answer is of one who may ask
+abbrev pub AsksForOne : Option Guard → Option Asked → HostValue → HostValue → Rest → Type 0
+AsksForOne guard asked old new left = (IsNothing left × (new ≡ old)) ⊎ IsSomeAnd asked (λ a. IsOwnPage a × MayAsk guard a)

@@ -1,8 +1,14 @@
 pub mod Admitted
+pub mod Batches
 pub mod Dues
+pub mod Fronts
+pub mod Guarded
 pub mod OwnSides
 pub mod PeerCounted
 pub mod PeerLinks
 pub mod PeerNews
 pub mod Peerings
+pub mod Plans
+pub mod Responding
 pub mod Rounds
+pub mod Since

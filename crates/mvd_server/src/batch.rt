@@ -1,6 +1,11 @@
 //! Many writes of one request: their frames, as the host takes them, and a line for each, as its replies come.
+ghost use Rattle.std.specs.Prelude.{◌≡◌, ◌++◌, IfErr, IfOk, OnOk};
+ghost use Rattle.std.specs.List.{slice_get};
+ghost use Rattle.mvd_server.specs.Fronts.{TellsNext, end_refusal};
+ghost use Rattle.mvd_server.specs.Batches.{BeginsBatch, bytes_if, frame_of_write, refusal_if};
+
+use crate::feeding::feed;
 use crate::replies::next_reply;
-use crate::talks::feed;
 use mvd_conn::Ending;
 use mvd_dots::Refusal;
 use mvd_frames::encode_request;
@@ -28,7 +33,10 @@ pub(crate) struct Batch {
 
 impl Batch {
     /// Each write, or why it is refused at once.
-    pub fn new(alloc: Global, writes: &[Result<Request, Refusal>]) -> Result<Batch, Refusal> {
+    pub fn new(alloc: Global, writes: &[Result<Request, Refusal>]) -> Result<Batch, Refusal>
+        ensures begins { IfOk result (BeginsBatch writes.now) }
+        ensures memory { IfErr result (λ refusal. refusal ≡ Refusal.Memory) }
+    {
         let mut frames = Vec::new(alloc);
         let mut refused = Vec::with_capacity(alloc, writes.len())?;
         for write in writes {
@@ -56,24 +64,39 @@ impl Batch {
         }
     }
 
-    /// Puts down the lines of the replies that the host has. Whether all lines are there. What the host takes no more
-    /// was not done, and is told as refused.
+    /// Puts down the lines of the replies that the host has. Whether all lines are there.
     pub fn take(&mut self, alloc: Global, host: &mut Host, number: u64) -> Result<bool, Refusal> {
         for _left in self.told..self.refused.len() {
-            let reply = match self.refused.get(self.told) {
-                Some(Some(refusal)) => Reply::Refused(*refusal),
-                _ => match next_reply(alloc, host, number) {
-                    Some(reply) => reply?,
-                    None => match host.ending(number) {
-                        Some(ending) => Reply::Refused(refusal_of(ending)),
-                        None => return Ok(false),
-                    },
-                },
+            let Some(reply) = self.next_told(alloc, host, number) else {
+                return Ok(false);
             };
+            let reply = reply?;
             push_line(&mut self.lines, &reply)?;
             self.told = self.told.saturating_add(1);
         }
         Ok(true)
+    }
+
+    /// The reply to the write whose line comes next, if it is there. What the host takes no more was not done, and is told
+    /// as refused.
+    fn next_told(
+        &self,
+        alloc: Global,
+        host: &mut Host,
+        number: u64,
+    ) -> Option<Result<Reply, Refusal>>
+        ensures { TellsNext (slice_get self.now.refused.items self.now.told) number host.old result host.new }
+    {
+        if let Some(Some(refusal)) = self.refused.get(self.told) {
+            return Some(Ok(Reply::Refused(*refusal)));
+        }
+        if let Some(reply) = next_reply(alloc, host, number) {
+            return Some(reply);
+        }
+        match host.ending(number) {
+            Some(ending) => Some(Ok(Reply::Refused(refusal_of(ending)))),
+            None => None,
+        }
     }
 
     pub fn lines(&self) -> &str {
@@ -86,7 +109,11 @@ fn add_frame(
     alloc: Global,
     write: &Result<Request, Refusal>,
     frames: &mut Vec<u8>,
-) -> Result<Option<Refusal>, Refusal> {
+) -> Result<Option<Refusal>, Refusal>
+    ensures refused { IfOk result (λ refused. refused ≡ refusal_if (frame_of_write write.now)) }
+    ensures bytes { OnOk result (frames.new.items ≡ frames.old.items ++ bytes_if (frame_of_write write.now)) }
+    ensures memory { IfErr result (λ refusal. refusal ≡ Refusal.Memory) }
+{
     let request = match write {
         Ok(request) => request,
         Err(refusal) => return Ok(Some(*refusal)),
@@ -102,7 +129,9 @@ fn add_frame(
 }
 
 /// Why the host takes nothing more.
-fn refusal_of(ending: Ending) -> Refusal {
+fn refusal_of(ending: Ending) -> Refusal
+    ensures { result ≡ end_refusal ending }
+{
     match ending {
         Ending::Stopped(refusal) => refusal,
         Ending::Bye | Ending::End => Refusal::ReadFailed,

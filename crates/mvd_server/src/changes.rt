@@ -1,4 +1,9 @@
 //! What changed since a root, as it is told over HTTP.
+ghost use Rattle.std.specs.Prelude.{◌≡◌, ◌++◌, OnOk, string_bytes};
+ghost use Rattle.mvd_host.specs.Lists.{root_of};
+ghost use Rattle.mvd_replica.specs.Replicas.{site_of};
+ghost use Rattle.mvd_server.specs.Since.{since_text};
+
 use mvd_dots::Refusal;
 use mvd_host::Feed;
 use mvd_http::push_changes;
@@ -13,7 +18,10 @@ pub(crate) fn push_since<S: Alter + Drop>(
     replica: &Replica<S>,
     since: Option<[u8; 32]>,
     body: &mut String,
-) -> Result<(), Refusal> {
+) -> Result<(), Refusal>
+    ensures { OnOk result (string_bytes body.new ≡
+        string_bytes body.old ++ since_text changes.now (root_of (site_of replica.now).states) since) }
+{
     let Some(root) = changes.root() else {
         return push_changes(alloc, body, replica.root()?, &[], true);
     };

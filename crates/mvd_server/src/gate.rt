@@ -1,24 +1,23 @@
 //! From a request of HTTP to the frame that the host answers, and from its reply to the response.
-ghost use Rattle.std.specs.Prelude.{IsTrue, option_copied};
-ghost use Rattle.mvd_server.specs.Admitted.{AsksSite, MayAsk};
+ghost use Rattle.std.specs.Prelude.{◌≡◌, IsTrue, option_copied};
+ghost use Rattle.mvd_server.specs.Admitted.{AsksForOne, AsksSite, IsOwnPage, MayAsk, is_let_in};
+ghost use Rattle.mvd_server.specs.Plans.{IsPlanFor, IsPlanOf, TellsFault};
+ghost use Rattle.mvd_web.specs.Inside.{web_of};
 
 use crate::batch::Batch;
 use crate::changes::push_since;
+use crate::feeding::feed;
 use crate::metrics::{Counts, Now};
 use crate::replies::next_reply;
-use crate::talks::feed;
+use crate::responding::{answer_of, refuse, respond, tell_pushed, tell_reply};
 use http::StatusCode;
 use mvd_conn::Guard;
 use mvd_dots::Refusal;
 use mvd_frames::encode_request;
 use mvd_host::{Feed, Host};
-use mvd_http::{
-    Answer, Content, Fault, Methods, PAGE, Question, live_response_of, push_root, refused_response,
-    response_of,
-};
+use mvd_http::{Answer, Content, Fault, Methods, PAGE, Question, push_root};
 use mvd_replica::Replica;
 use mvd_web::{Asked, WebConnection};
-use mvd_wire::{Reply, Request};
 use sqlite::Alter;
 use std::alloc::Global;
 
@@ -58,8 +57,12 @@ pub(crate) enum Rest {
 }
 
 fn plan_of(alloc: Global, guard: Option<&Guard>, asked: &Asked) -> Plan
-    // Nothing is asked of the site, or told of it, for whoever may not come in.
-    ensures { AsksSite result → MayAsk (option_copied guard.entry) asked.now }
+    // Nothing is asked of the site, or told of it, for whoever may not come in, or for another server's page.
+    ensures site { AsksSite result → MayAsk (option_copied guard.entry) asked.now }
+    ensures own { AsksSite result → IsOwnPage asked.now }
+    // Whoever may is answered.
+    ensures done { IsOwnPage asked.now → IsTrue (is_let_in (option_copied guard.entry) asked.now) →
+        IsPlanOf asked.now.question result }
 {
     if !asked.names_host {
         return fault(Fault::HostMissing, None);
@@ -88,7 +91,8 @@ fn kept_out(asked: &Asked) -> Plan
 
 /// Whether a request may be asked: where there is a guard, it shows the token, or it asks for the page.
 fn may_ask(guard: Option<&Guard>, asked: &Asked) -> bool
-    ensures { IsTrue result → MayAsk (option_copied guard.entry) asked.now }
+    ensures exact { result ≡ is_let_in (option_copied guard.entry) asked.now }
+    ensures may { IsTrue result → MayAsk (option_copied guard.entry) asked.now }
 {
     match (guard, &asked.token) {
         (None, _) => true,
@@ -98,7 +102,9 @@ fn may_ask(guard: Option<&Guard>, asked: &Asked) -> bool
 }
 
 /// What is done about a question of whoever may ask.
-fn plan_for(alloc: Global, question: &Question) -> Plan {
+fn plan_for(alloc: Global, question: &Question) -> Plan
+    ensures { IsPlanFor question.now result }
+{
     match question {
         Question::Ask(request) | Question::Live(request) => match encode_request(alloc, request) {
             Ok(frame) => Plan::Frame(frame),
@@ -120,22 +126,14 @@ fn plan_for(alloc: Global, question: &Question) -> Plan {
 
 /// What is told of a fault of HTTP's own.
 fn fault(cause: Fault, allow: Option<Methods>) -> Plan
-    ensures { AsksSite result → ⊥ }
+    ensures none { AsksSite result → ⊥ }
+    ensures told { TellsFault cause allow result }
 {
     let answer = Answer {
         allow,
         ..answer_of(cause.status(), Content::Json)
     };
     Plan::Told(answer, cause.body())
-}
-
-pub(crate) fn answer_of(status: StatusCode, content: Content) -> Answer {
-    Answer {
-        status,
-        content,
-        allow: None,
-        asks_token: false,
-    }
 }
 
 /// Takes the next request of a client, where none waits for its answer. One that the site is asked goes to the host
@@ -149,7 +147,9 @@ pub(crate) fn ask<S: Alter + Drop>(
     replica: &Replica<S>,
     changes: &Feed,
     counts: &mut Counts,
-) -> Rest {
+) -> Rest
+    ensures { AsksForOne (option_copied guard.entry) (web_of web.new).asked host.old host.new result }
+{
     if !web.next() {
         return Rest::Nothing;
     }
@@ -180,11 +180,6 @@ fn hand_on(host: &mut Host, number: u64, frame: &[u8]) {
     }
 }
 
-pub(crate) fn respond(web: &mut WebConnection, counts: &mut Counts, answer: Answer, body: &str) {
-    counts.note(answer.status.as_u16());
-    web.respond(answer, body);
-}
-
 /// Tells that a token is asked for.
 fn ask_token(web: &mut WebConnection, counts: &mut Counts) {
     let answer = Answer {
@@ -192,29 +187,6 @@ fn ask_token(web: &mut WebConnection, counts: &mut Counts) {
         ..answer_of(StatusCode::UNAUTHORIZED, Content::Json)
     };
     respond(web, counts, answer, NOT_ADMITTED);
-}
-
-pub(crate) fn refuse(
-    alloc: Global,
-    web: &mut WebConnection,
-    counts: &mut Counts,
-    refusal: Refusal,
-) {
-    let mut body = String::new(alloc);
-    match refused_response(&mut body, refusal) {
-        Ok(status) => respond_json(web, counts, status, body.as_str()),
-        Err(_) => web.stop(Refusal::Memory),
-    }
-}
-
-fn respond_json(web: &mut WebConnection, counts: &mut Counts, status: u16, body: &str) {
-    let content = if body.is_empty() {
-        Content::Nothing
-    } else {
-        Content::Json
-    };
-    let status = StatusCode::from_u16(status).unwrap_or(StatusCode::INTERNAL_SERVER_ERROR);
-    respond(web, counts, answer_of(status, content), body);
 }
 
 fn tell_root<S: Alter + Drop>(
@@ -258,20 +230,6 @@ pub(crate) fn tell_changes<S: Alter + Drop>(
     let mut body = String::new(alloc);
     let pushed = push_since(alloc, changes, replica, since, &mut body);
     tell_pushed(alloc, web, pushed, body.as_str(), counts);
-}
-
-/// Tells a body that was put down, or why it was not.
-pub(crate) fn tell_pushed(
-    alloc: Global,
-    web: &mut WebConnection,
-    pushed: Result<(), Refusal>,
-    body: &str,
-    counts: &mut Counts,
-) {
-    match pushed {
-        Ok(()) => respond(web, counts, answer_of(StatusCode::OK, Content::Json), body),
-        Err(refusal) => refuse(alloc, web, counts, refusal),
-    }
 }
 
 fn tell_metrics<S: Alter + Drop>(
@@ -330,47 +288,4 @@ pub(crate) fn answer_writes(
         Ok(false) => {}
         Err(refusal) => web.stop(refusal),
     }
-}
-
-/// Queues the response to the request that waits, which is answered by this reply.
-fn tell_reply(
-    alloc: Global,
-    web: &mut WebConnection,
-    reply: Result<Reply, Refusal>,
-    counts: &mut Counts,
-) {
-    let mut body = String::new(alloc);
-    let status = match web.asked() {
-        Some(asked) => put_body(alloc, asked, reply, &mut body),
-        None => return,
-    };
-    match status {
-        Ok(status) => respond_json(web, counts, status, body.as_str()),
-        Err(refusal) => web.stop(refusal),
-    }
-}
-
-/// Puts the body of a response into `body`, and gives its status. Of a change whose reply cannot be read nothing is
-/// told.
-fn put_body(
-    alloc: Global,
-    asked: &Asked,
-    reply: Result<Reply, Refusal>,
-    body: &mut String,
-) -> Result<u16, Refusal> {
-    let (request, is_live) = match &asked.question {
-        Ok(Question::Ask(request)) => (request, false),
-        Ok(Question::Live(request)) => (request, true),
-        _ => return Err(Refusal::BadKind),
-    };
-    match reply {
-        Ok(reply) if is_live => Ok(live_response_of(alloc, request, &reply, body)?),
-        Ok(reply) => Ok(response_of(alloc, request, &reply, body)?),
-        Err(refusal) if is_change(request) => Err(refusal),
-        Err(refusal) => Ok(refused_response(body, refusal)?),
-    }
-}
-
-fn is_change(request: &Request) -> bool {
-    matches!(request, Request::Put(..) | Request::Delete(..))
 }

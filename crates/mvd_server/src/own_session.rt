@@ -6,7 +6,8 @@ ghost use Rattle.mvd_server.specs.OwnSides.{AdmitsOwn, BeginsOwn, DismissesOwn, 
 ghost use Rattle.mvd_server.specs.OwnSides.{HearsWaiting, TakesReplies};
 ghost use Rattle.mvd_server.specs.Peerings.{SwapsPlaces};
 
-use crate::talks::{Talks, feed, sent};
+use crate::feeding::{feed, sent};
+use crate::talks::Talks;
 use mvd_dots::Refusal;
 use mvd_host::Host;
 use mvd_meet::{Caller, Course, Meeting};

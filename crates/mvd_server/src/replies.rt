@@ -1,45 +1,43 @@
 //! The replies that the host has for a client over HTTP.
-use crate::talks::sent;
+ghost use Rattle.std.specs.Prelude.{◌≤◌, length};
+ghost use Rattle.mvd_server.specs.Fronts.{IsFrontReply, TakesFront};
+
+use mvd_conn::{Front, front_of};
 use mvd_dots::Refusal;
 use mvd_frames::decode_reply;
 use mvd_host::Host;
 use mvd_wire::Reply;
 use std::alloc::Global;
 
-/// As many bytes of a frame stand before its payload.
-const HEAD: usize = 5;
-
 /// Takes the next reply that the host has for a client, or why it cannot be read. A Written, a Done and a Refused are read
 /// without memory.
+#[tactic(auto, using(crate::proofs::Answering::waits_if))]
 pub(crate) fn next_reply(
     alloc: Global,
     host: &mut Host,
     number: u64,
-) -> Option<Result<Reply, Refusal>> {
+) -> Option<Result<Reply, Refusal>>
+    ensures { TakesFront number host.old result host.new }
+{
     let (reply, count) = match host.waiting(number) {
         Some(bytes) if !bytes.is_empty() => reply_in(alloc, bytes),
         _ => return None,
     };
-    sent(host, number, count);
+    host.sent(number, count);
     Some(reply)
 }
 
 /// The reply that the frame in front of these bytes is, and how many of them it has.
-fn reply_in(alloc: Global, bytes: &[u8]) -> (Result<Reply, Refusal>, usize) {
-    match frame_in(bytes) {
-        Some((kind, payload)) => (decode_reply(alloc, kind, payload), payload.len() + HEAD),
-        None => (Err(Refusal::Truncated), bytes.len()),
+#[tactic(auto, using(crate::proofs::Fronting::front_whole, crate::proofs::Fronting::front_part, crate::proofs::Fronting::front_too_long))]
+fn reply_in(alloc: Global, bytes: &[u8]) -> (Result<Reply, Refusal>, usize)
+    ensures reply { IsFrontReply bytes.now result.0 result.1 }
+    ensures within { result.1 ≤ length bytes.now }
+{
+    match front_of(bytes) {
+        Front::Whole(size) => {
+            let frame = &bytes[..size];
+            (decode_reply(alloc, frame[4], &frame[5..]), size)
+        }
+        Front::Part | Front::TooLong => (Err(Refusal::Truncated), bytes.len()),
     }
-}
-
-/// The kind byte and the payload of the frame in front of these bytes.
-fn frame_in(bytes: &[u8]) -> Option<(u8, &[u8])> {
-    if bytes.len() < 4 {
-        return None;
-    }
-    let mut head = [0u8; 4];
-    head.copy_from_slice(&bytes[..4]);
-    let length = u32::from_be_bytes(head) as usize;
-    let (kind, payload) = bytes[4..].get(..length)?.split_first()?;
-    Some((*kind, payload))
 }

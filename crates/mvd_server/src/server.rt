@@ -44,8 +44,13 @@ pub struct Terms<'a> {
 }
 
 impl Terms<'_> {
+    ghost use Rattle.std.specs.Prelude.{option_copied};
+    ghost use Rattle.mvd_server.specs.Guarded.{IsGuardOf};
+
     /// Who may come in, if not everybody.
-    pub(crate) fn guard(self) -> Option<Guard> {
+    pub(crate) fn guard(self) -> Option<Guard>
+        ensures { IsGuardOf (option_copied self.entry.token) result }
+    {
         match self.token {
             Some(token) => Some(Guard::of(token.bytes())),
             None => None,

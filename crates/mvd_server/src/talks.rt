@@ -1,15 +1,15 @@
 //! What the clients say, in frames or over HTTP.
-ghost use Rattle.std.specs.Prelude.{◌≡◌, ◌≤◌, length, min};
-ghost use Rattle.mvd_conn.specs.History.{WantsInput};
-ghost use Rattle.mvd_host.specs.Hosts.{IfClient, IsClient, client_of};
-ghost use Rattle.mvd_server.specs.OwnSides.{TakesBytes, sent_of, waits_of};
+ghost use Rattle.std.specs.Prelude.{◌≤◌, length};
+ghost use Rattle.mvd_host.specs.Hosts.{client_of};
 ghost use Rattle.mvd_server.specs.Rounds.{HasRound};
 
 use crate::batch::Batch;
 use crate::changes::push_since;
-use crate::gate::{Rest, answer, answer_writes, ask, refuse, tell_pushed};
+use crate::feeding::{feed, sent};
+use crate::gate::{Rest, answer, answer_writes, ask};
 use crate::metrics::Counts;
 use crate::parked::Parked;
+use crate::responding::{refuse, tell_pushed};
 use mvd_conn::{Ending, Guard};
 use mvd_dots::Refusal;
 use mvd_host::{Feed, Host};
@@ -52,7 +52,13 @@ pub(crate) struct Talks {
 }
 
 impl Talks {
-    pub fn new(alloc: Global, keys: RandomState, guard: Option<Guard>) -> Talks {
+    ghost use Rattle.std.specs.Prelude.{◌≡◌, IfSome, Some};
+    ghost use Rattle.mvd_conn.specs.History.{new_history};
+    ghost use Rattle.mvd_server.specs.Guarded.{guard_for};
+
+    pub fn new(alloc: Global, keys: RandomState, guard: Option<Guard>) -> Talks
+        ensures { result.guard ≡ guard }
+    {
         Talks {
             host: Host::new(alloc),
             guard,
@@ -69,7 +75,11 @@ impl Talks {
 
     /// Takes a client in, and gives its number. It is `None` where there is no place, or memory was refused. One that
     /// speaks frames has to show the token in its first frame; over HTTP each request has to.
-    pub fn admit(&mut self, kind: Kind) -> Option<u64> {
+    pub fn admit(&mut self, kind: Kind) -> Option<u64>
+        ensures guarded { IfSome result (λ number.
+            client_of self.new.host number ≡ Some (new_history (guard_for kind self.old.guard))) }
+        ensures guard { self.new.guard ≡ self.old.guard }
+    {
         let guard = match kind {
             Kind::Frames => self.guard,
             Kind::Http => None,
@@ -88,13 +98,18 @@ impl Talks {
         Some(number)
     }
 
-    fn open_web(&mut self, number: u64) -> Result<(), AllocError> {
+    fn open_web(&mut self, number: u64) -> Result<(), AllocError>
+        ensures host { self.new.host ≡ self.old.host }
+        ensures guard { self.new.guard ≡ self.old.guard }
+    {
         let web = WebConnection::new(self.alloc, self.keys);
         drop(self.webs.insert(number, web)?);
         Ok(())
     }
 
-    pub fn dismiss(&mut self, number: u64) {
+    pub fn dismiss(&mut self, number: u64)
+        ensures { self.new.guard ≡ self.old.guard }
+    {
         drop(self.webs.remove(&number));
         drop(self.batches.remove(&number));
         self.parked.remove(number);
@@ -359,39 +374,5 @@ impl Talks {
     /// that wait leave.
     fn is_over(&self, number: u64, web: &WebConnection) -> bool {
         web.asked().is_none() && self.host.ending(number).is_some()
-    }
-}
-
-/// Hands bytes of frames to the host, if it wants them.
-#[tactic(auto, using(crate::proofs::Clients::wanted_if))]
-pub(crate) fn feed(host: &mut Host, number: u64, bytes: &[u8])
-    requires { length bytes.now ≤ 65536 }
-    ensures { IsClient (client_of host.old number) WantsInput → TakesBytes host.old number bytes.now host.new }
-{
-    if !host.wants_input(number) {
-        return;
-    }
-    if host.feed(number, bytes).is_err() {
-        host.fail_input(number, Refusal::Memory);
-    }
-}
-
-/// So many bytes that the host has for a client left.
-pub(crate) fn sent(host: &mut Host, number: u64, count: usize)
-    ensures { host.new ≡ sent_of host.old number (min count (length (waits_of host.old number))) }
-{
-    let count = count.min(waits(host, number));
-    host.sent(number, count);
-}
-
-/// As many bytes wait in the host to leave to a client.
-#[tactic(auto, using(crate::proofs::Handing::waits_some, crate::proofs::Handing::waits_none))]
-fn waits(host: &Host, number: u64) -> usize
-    ensures few { IfClient (client_of host.now number) (λ h. result ≤ length h.waits) }
-    ensures count { result ≡ length (waits_of host.now number) }
-{
-    match host.waiting(number) {
-        Some(bytes) => bytes.len(),
-        None => 0,
     }
 }

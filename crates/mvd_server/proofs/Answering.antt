@@ -1,0 +1,31 @@
+-- The request that waits is answered.
+use Rattle.std.proofs.Common.{◌≡◌, ◌≤◌, inl, ℕ, List, length, Option, Some, None, Result, option_map, subst, sym}
+use Rattle.mvd_conn.specs.History.{History}
+use Rattle.mvd_dots.specs.declared.refusals.Refusal.{Refusal}
+use Rattle.mvd_host.specs.Hosts.{IfClient}
+use Rattle.mvd_server.specs.Responding.{AnswersReply, AnswersWeb, json_answer}
+use Rattle.mvd_web.specs.Web.{RespondsTo, WebValue}
+use Rattle.mvd_web.specs.declared.taken.Asked.{Asked}
+use Rattle.mvd_wire.specs.declared.reply.Reply.{Reply}
+
+one_asked : (a b : Asked) → Some a ≡ Some b → a ≡ b
+one_asked a b e = cc
+
+-- with this body
+pub answered : (o : Option Asked) (asked : Asked) (reply : Result Reply Refusal) (old new : WebValue) (status : ℕ) (body : List ℕ) →
+    Some asked ≡ o → AnswersReply asked.question reply status body → RespondsTo o old (json_answer status body) body new → AnswersWeb o reply old new
+answered None asked reply old new status body is answers responds = cc
+answered (Some waits) asked reply old new status body is answers responds =
+    inl (record {
+      status = status;
+      body = body;
+      answers = subst (λ (a : Asked). AnswersReply a.question reply status body) (one_asked asked waits is) answers;
+      responds = responds;
+    })
+
+-- so many of the bytes that wait for a client are there
+pub waits_if : (o : Option History) (bytes : List ℕ) (count : ℕ) → Some bytes ≡ option_map (λ (h : History). h.waits) o → count ≤ length bytes → IfClient o (λ h. count ≤ length h.waits)
+waits_if None bytes count is few = tt
+waits_if (Some h) bytes count is few =
+    let same : bytes ≡ h.waits = cc in
+    subst (λ (b : List ℕ). count ≤ length b) same few

@@ -1,0 +1,63 @@
+-- What a client over HTTP is told of the reply to its request.
+use Rattle.std.specs.Prelude.{◌≡◌, ◌⊎◌, ◌&&◌, if◌then◌else◌, nat_le, ℕ, Bool, true, false, List, [], ◌∷◌, Option, Some, None, Result, Ok, Err}
+use Rattle.mvd_dots.specs.declared.refusals.Refusal.{Refusal}
+use Rattle.mvd_http.specs.Answers.{Responds, IsToldAs, Told, is_stored, live_told, refused_told, reply_told}
+use Rattle.mvd_http.specs.declared.fields.Answer.{Answer}
+use Rattle.mvd_http.specs.declared.fields.Content.{Content}
+use Rattle.mvd_http.specs.declared.fields.Content.TheVariants.{Json, Nothing}
+use Rattle.mvd_http.specs.declared.question.Question.{Question}
+use Rattle.mvd_http.specs.declared.question.Question.TheVariants.{Ask, Live}
+use Rattle.mvd_server.specs.Plans.{plain_answer}
+use Rattle.mvd_web.specs.Web.{RespondsTo, WebValue, stopped_by}
+use Rattle.mvd_web.specs.declared.taken.Asked.{Asked}
+use Rattle.mvd_wire.specs.declared.reply.Reply.{Reply}
+use Rattle.mvd_wire.specs.declared.request.Request.{Request}
+use Rattle.mvd_wire.specs.declared.request.Request.TheVariants.{Put, Delete}
+
+-- ---- the head of a response
+
+-- an empty body is none, and each other is JSON
+abbrev pub content_of : List ℕ → Content
+content_of [] = Nothing
+content_of (b ∷ bs) = Json
+
+abbrev pub status_or_500 : ℕ → ℕ
+status_or_500 status = if nat_le 100 status && nat_le status 999 then status else 500
+
+abbrev pub json_answer : ℕ → List ℕ → Answer
+json_answer status body = plain_answer (status_or_500 status) (content_of body)
+
+-- ---- what is told of a reply
+
+-- a request over HTTP that may change the site
+abbrev pub is_web_change : Request → Bool
+is_web_change (Put key seen document) = true
+is_web_change (Delete key seen) = true
+is_web_change request = false
+
+-- keys without a sibling may be left out
+abbrev pub told_with : Bool → Request → Reply → Result Told Refusal
+told_with true request reply = live_told request reply
+told_with false request reply = reply_told request reply
+
+-- The reply is told; or why it cannot be read, but of a change, which may be stored
+abbrev pub AnswersAsked : Bool → Request → Result Reply Refusal → ℕ → List ℕ → Type 0
+AnswersAsked is_live request (Ok reply) status body = Responds (is_stored reply) (told_with is_live request reply) status body
+AnswersAsked is_live request (Err refusal) status body = (is_web_change request ≡ false) × IsToldAs (refused_told refusal) status body
+
+abbrev pub AnswersReply : Result Question Refusal → Result Reply Refusal → ℕ → List ℕ → Type 0
+AnswersReply (Ok (Ask request)) reply status body = AnswersAsked false request reply status body
+AnswersReply (Ok (Live request)) reply status body = AnswersAsked true request reply status body
+AnswersReply _ reply status body = ⊥
+
+-- a response to the request that waits
+pub record AnswersBy (asked : Asked) (reply : Result Reply Refusal) (old new : WebValue) : Type 0 where
+  pub status : ℕ
+  pub body : List ℕ
+  pub answers : AnswersReply asked.question reply status body
+  pub responds : RespondsTo (Some asked) old (json_answer status body) body new
+
+-- The request that waits is answered by this reply, or the connection is stopped. Where none waits, nothing is done
+abbrev pub AnswersWeb : Option Asked → Result Reply Refusal → WebValue → WebValue → Type 0
+AnswersWeb None reply old new = new ≡ old
+AnswersWeb (Some asked) reply old new = AnswersBy asked reply old new ⊎ ((refusal : Refusal) × (new ≡ stopped_by old refusal))

@@ -1,0 +1,156 @@
+//! The responses to requests of HTTP, as they are queued.
+ghost use Rattle.std.specs.Prelude.{◌≡◌, IfOk, string_bytes};
+ghost use Rattle.mvd_http.specs.Answers.{Responds, is_stored};
+ghost use Rattle.mvd_server.specs.Plans.{plain_answer};
+ghost use Rattle.mvd_server.specs.Responding.{AnswersReply, AnswersWeb, content_of as content_for, is_web_change};
+ghost use Rattle.mvd_server.specs.Responding.{json_answer, status_or_500, told_with};
+ghost use Rattle.mvd_web.specs.Inside.{web_of};
+ghost use Rattle.mvd_web.specs.Web.{RespondsTo};
+
+use crate::metrics::Counts;
+use http::StatusCode;
+use mvd_dots::Refusal;
+use mvd_http::{Answer, Content, Question, live_response_of, refused_response, response_of};
+use mvd_web::{Asked, WebConnection};
+use mvd_wire::{Reply, Request};
+use std::alloc::{AllocError, Global};
+
+pub(crate) fn answer_of(status: StatusCode, content: Content) -> Answer
+    ensures { result ≡ plain_answer status content }
+{
+    Answer {
+        status,
+        content,
+        allow: None,
+        asks_token: false,
+    }
+}
+
+/// Queues the response to the request that waits for it, and counts it.
+pub(crate) fn respond(web: &mut WebConnection, counts: &mut Counts, answer: Answer, body: &str)
+    ensures { RespondsTo (web_of web.old).asked (web_of web.old) answer body.now (web_of web.new) }
+{
+    counts.note(answer.status.as_u16());
+    web.respond(answer, body);
+}
+
+/// What a body is that is JSON, if there is one.
+fn content_of(body: &str) -> Content
+    ensures { result ≡ content_for body.now }
+{
+    if body.is_empty() {
+        Content::Nothing
+    } else {
+        Content::Json
+    }
+}
+
+/// The status of this number, or 500 where there is none.
+fn status_of(number: u16) -> StatusCode
+    ensures { result ≡ status_or_500 number }
+{
+    StatusCode::from_u16(number).unwrap_or(StatusCode::INTERNAL_SERVER_ERROR)
+}
+
+fn respond_json(web: &mut WebConnection, counts: &mut Counts, status: u16, body: &str)
+    ensures { RespondsTo (web_of web.old).asked (web_of web.old) (json_answer status body.now) body.now
+        (web_of web.new) }
+{
+    let answer = answer_of(status_of(status), content_of(body));
+    respond(web, counts, answer, body);
+}
+
+pub(crate) fn refuse(
+    alloc: Global,
+    web: &mut WebConnection,
+    counts: &mut Counts,
+    refusal: Refusal,
+) {
+    let mut body = String::new(alloc);
+    match refused_response(&mut body, refusal) {
+        Ok(status) => respond_json(web, counts, status, body.as_str()),
+        Err(_) => web.stop(Refusal::Memory),
+    }
+}
+
+/// Tells a body that was put down, or why it was not.
+pub(crate) fn tell_pushed(
+    alloc: Global,
+    web: &mut WebConnection,
+    pushed: Result<(), Refusal>,
+    body: &str,
+    counts: &mut Counts,
+) {
+    match pushed {
+        Ok(()) => respond(web, counts, answer_of(StatusCode::OK, Content::Json), body),
+        Err(refusal) => refuse(alloc, web, counts, refusal),
+    }
+}
+
+/// Queues the response to the request that waits, which is answered by this reply. Where there is no memory for the
+/// response to a change, which may be stored, the connection ends without one.
+#[tactic(auto, using(crate::proofs::Answering::answered))]
+pub(crate) fn tell_reply(
+    alloc: Global,
+    web: &mut WebConnection,
+    reply: Result<Reply, Refusal>,
+    counts: &mut Counts,
+)
+    ensures { AnswersWeb (web_of web.old).asked reply (web_of web.old) (web_of web.new) }
+{
+    let mut body = String::new(alloc);
+    let status = match web.asked() {
+        Some(asked) => put_body(alloc, &asked.question, reply, &mut body),
+        None => return,
+    };
+    match status {
+        Ok(status) => respond_json(web, counts, status, body.as_str()),
+        Err(refusal) => web.stop(refusal),
+    }
+}
+
+/// Puts the body of a response into `body`, and gives its status. Of a change whose reply cannot be read nothing is
+/// told.
+fn put_body(
+    alloc: Global,
+    question: &Result<Question, Refusal>,
+    reply: Result<Reply, Refusal>,
+    body: &mut String,
+) -> Result<u16, Refusal>
+    ensures { IfOk result (λ status. AnswersReply question.now reply status (string_bytes body.new)) }
+{
+    let (request, is_live) = match question {
+        Ok(Question::Ask(request)) => (request, false),
+        Ok(Question::Live(request)) => (request, true),
+        _ => return Err(Refusal::BadKind),
+    };
+    match reply {
+        Ok(reply) => Ok(put_reply(alloc, request, is_live, &reply, body)?),
+        Err(refusal) if is_change(request) => Err(refusal),
+        Err(refusal) => Ok(refused_response(body, refusal)?),
+    }
+}
+
+/// Puts the body of a reply into `body`, maybe without the keys that have no sibling, and gives its status.
+fn put_reply(
+    alloc: Global,
+    request: &Request,
+    is_live: bool,
+    reply: &Reply,
+    body: &mut String,
+) -> Result<u16, AllocError>
+    ensures { IfOk result (λ status.
+        Responds (is_stored reply.now) (told_with is_live request.now reply.now) status (string_bytes body.new)) }
+{
+    if is_live {
+        live_response_of(alloc, request, reply, body)
+    } else {
+        response_of(alloc, request, reply, body)
+    }
+}
+
+fn is_change(request: &Request) -> bool
+    ensures { result ≡ is_web_change request.now }
+{
+    matches!(request, Request::Put(..) | Request::Delete(..))
+}

@@ -18,7 +18,8 @@ use Rattle.mvd_sync.specs.declared.report.Left.{Left}
 use Rattle.mvd_sync.specs.declared.report.Side.TheVariants.{Local as AtLocal, Peer as AtPeer}
 use Rattle.mvd_live.specs.Runs.{Standing}
 
--- THE HASH PREMISE: SHA-256 tells the texts apart that are hashed for what the two sides held at any two of these moments
+-- THE HASH PREMISE: SHA-256 tells the texts apart that are hashed for what the two sides held at any two of these
+-- moments
 abbrev pub TellApart : (locals peers : List States) → Type 0
 TellApart locals peers =
     (a b : States) → Contains locals a → Contains peers b → HashesTellApart spelled a b
@@ -32,8 +33,8 @@ pub record IsGiven (locals peers : List States) (step : Step) : Type 0 where
   pub to_local : Each (WasHeld peers) (asked step.local).pushes
   pub to_peer : Each (WasHeld locals) (asked step.peer).pushes
 
--- WHY A KEY IS LEFT: what the other side told of it was refused, with 9, 10 or 11, for a cause that was so at some moment;
--- or what the two sides held at two moments clashes (11)
+-- WHY A KEY IS LEFT: what the other side told of it was refused, with 9, 10 or 11, for a cause that was so at some
+-- moment; or what the two sides held at two moments clashes (11)
 pub data IsLeftFor (most : Two ℕ ℕ) (locals peers : List States) (l : Left) : Type 0 where
   here : (state : State) → l.side ≡ AtLocal → WasHeld peers (l.key, state) → is_of_key l.refusal ≡ true
       → AtSomeMoment locals (λ held. CannotTake most.local held l.key state l.refusal) → IsLeftFor most locals peers l
@@ -43,8 +44,8 @@ pub data IsLeftFor (most : Two ℕ ℕ) (locals peers : List States) (l : Left) 
       → AtSomeMoment locals (λ a. AtSomeMoment peers (λ b. clashes (state_at a l.key) (state_at b l.key) ≡ true))
       → IsLeftFor most locals peers l
 
--- WHAT A SESSION THAT IS DONE has come to: the keys that were left, each for its cause, and of each other key both sides
--- have what either had
+-- WHAT A SESSION THAT IS DONE has come to: the keys that were left, each for its cause, and of each other key both
+-- sides have what either had
 pub record Lives (most : Two ℕ ℕ) (locals peers : List States) (old new : Standing) (done : Exchanging) : Type 0 where
   pub left : List Left
   pub counted : (done.refused ≡ length left) × (done.first_refused ≡ take 100 left)

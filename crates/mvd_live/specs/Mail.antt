@@ -17,7 +17,8 @@ use Rattle.mvd_live.specs.Told.{Tells}
 -- WHAT CAME BY MAIL IS LIVE: whatever it tells of the window that was asked, a live side tells
 abbrev pub IsLiveMail : ℕ → Wanted → Caller → States → List States → States → Type 0
 IsLiveMail most w caller old moments new =
-    (after : Caller) (told : Option Told) → CallerTells caller.asked caller after told → Tells most w told old moments new
+    (after : Caller) (told : Option Told) → CallerTells caller.asked caller after told
+    → Tells most w told old moments new
 
 -- a session that waits for the answers to what a step asked, and what its two sides hold
 pub record Waiting : Type 0 where

@@ -21,8 +21,8 @@ pub record Begins (number : Option ℕ) (questions : ℕ) (now : Standing) : Typ
   pub local : AreHeld now.local
   pub peer : AreHeld now.peer
 
--- What happened from one window to the next: what was asked of either side, what it told, and what it held at the moment of
--- each answer; and how the session then stands
+-- What happened from one window to the next: what was asked of either side, what it told, and what it held at the
+-- moment of each answer; and how the session then stands
 pub record Leg : Type 0 where
   pub asking : Machining
   pub step : Step

@@ -37,9 +37,10 @@ TellsPush most held pair (Err refusal) = CannotTake most held pair.0 pair.1 refu
 
 -- ---- a window
 
--- EACH QUESTION IS ANSWERED AT A MOMENT OF ITS OWN, one after the other, rightly of what is held then. Whoever writes, what
--- is held only grows, from moment to moment
-abbrev pub TellsEach : {Q A : Type 0} → (States → Q → A → Type 0) → List Q → List A → States → List States → States → Type 0
+-- EACH QUESTION IS ANSWERED AT A MOMENT OF ITS OWN, one after the other, rightly of what is held then. Whoever writes,
+-- what is held only grows, from moment to moment
+abbrev pub TellsEach : {Q A : Type 0} → (States → Q → A → Type 0) → List Q → List A → States → List States → States
+    → Type 0
 TellsEach Right [] [] old [] new = Grows old new
 TellsEach Right (q ∷ qs) (a ∷ answers) old (held ∷ later) new =
     AreHeld held × Grows old held × Right held q a × TellsEach Right qs answers held later new
@@ -49,7 +50,7 @@ TellsEach Right qs answers old moments new = ⊥
 abbrev pub TellsNothing : States → List States → States → Type 0
 TellsNothing old moments new = (moments ≡ []) × Grows old new
 
--- WHAT A LIVE SIDE TELLS of questions: an answer to each, or a refusal in place of them; nothing where nothing was asked
+-- WHAT A LIVE SIDE TELLS of questions: an answer to each, or a refusal in place of them; nothing where none was asked
 abbrev pub Tells : ℕ → Wanted → Option Told → States → List States → States → Type 0
 Tells most w None = TellsNothing
 Tells most w (Some (told.Nodes answers)) = TellsEach TellsNode w.nodes answers.items

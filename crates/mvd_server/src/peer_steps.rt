@@ -214,13 +214,17 @@ impl Peering {
         let Some(link) = &mut self.link else {
             return Ok(false);
         };
-        if link.far.part().is_err() {
-            self.link = None;
-            return Ok(false);
+        match link.far.part() {
+            Ok(()) => {
+                link.stage = Stage::Parts;
+                link.moved = now;
+                Ok(true)
+            }
+            Err(_) => {
+                self.link = None;
+                Ok(false)
+            }
         }
-        link.stage = Stage::Parts;
-        link.moved = now;
-        Ok(true)
     }
 
     /// The connection ends once the Bye is answered. What else comes does not put that off.

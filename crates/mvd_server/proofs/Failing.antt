@@ -1,5 +1,5 @@
 -- A session that failed.
-use Rattle.std.proofs.Common.{◌≡◌, ℕ, ap}
+use Rattle.std.proofs.Common.{◌≡◌, ℕ, ap, inl, inr}
 use Rattle.mvd_meet.specs.declared.schedule.Schedule.{Schedule}
 use Rattle.mvd_server.specs.Peerings.{FailsMeeting}
 use Rattle.mvd_server.specs.declared.peering.Peering.{Peering}

@@ -1,5 +1,5 @@
 -- What changed is heard of.
-use Rattle.std.proofs.Common.{◌≡◌, ◌<◌, ◌+◌, ℕ, Bool, true, false, List, Option, Some, None, arith, get_or, length, set, subst, sym, tt, ⊎_elim}
+use Rattle.std.proofs.Common.{◌≡◌, ◌<◌, ◌+◌, ℕ, Bool, true, false, List, Option, Some, None, arith, get_or, length, set, refl, subst, sym, ⊎_elim}
 use Rattle.std.proofs.lemmas.Bool.{cases_eq}
 use Rattle.std.proofs.lemmas.List.{get_or-set_other, get_or-set_same}
 use Rattle.std.specs.Prelude.{IsSome}
@@ -9,11 +9,11 @@ use Rattle.mvd_server.specs.Peerings.{HearsNews}
 use Rattle.mvd_server.specs.declared.peering.Peering.{Peering}
 
 some_at : (news : Option ℕ) (now : ℕ) → IsSome (news_at news now)
-some_at None now = tt
-some_at (Some n) now = tt
+some_at None now = refl
+some_at (Some n) now = refl
 
 heard : (changed : Bool) (now : ℕ) (old new : Schedule) → HearsNews changed now old new → changed ≡ true → IsSome new.news
-heard false now old new hears is = absurd is
+heard false now old new hears is = cc
 heard true now old new hears is = subst (λ (o : Option ℕ). IsSome o) (sym hears) (some_at old.news now)
 
 -- so many of them heard of it

@@ -1,11 +1,11 @@
 -- What moves between a socket and the side that is asked over it.
-use Rattle.std.specs.Prelude.{◌≡◌, ◌++◌, ℕ, Bool, true, false, List, Option, Some, None, Ok, ⊤}
+use Rattle.std.specs.Prelude.{◌≡◌, ◌++◌, ℕ, Bool, true, false, List, Option, Some, None, Ok}
 use Rattle.mvd_meet.specs.Callers.{CallerHears, CallerSays, asked_of_caller, came_at, leaving_at}
 use Rattle.mvd_meet.specs.declared.caller.Caller.{Caller}
 use Rattle.mvd_server.specs.declared.peer_link.PeerLink.{PeerLink}
 use Rattle.mvd_server.specs.declared.peer_link.Stage.{Stage}
 use Rattle.mvd_server.specs.declared.peer_link.Stage.TheVariants as stage
-use Rattle.mvd_wire.specs.declared.request.Request.TheVariants.{Bye, Hello}
+use Rattle.mvd_wire.specs.declared.request.Request.TheVariants.{Hello}
 
 -- nothing is asked over it
 abbrev pub is_rest : Stage → Bool
@@ -35,9 +35,3 @@ abbrev pub LetsIn : Bool → PeerLink → PeerLink → Type 0
 LetsIn false old new = new.stage ≡ old.stage
 LetsIn true old new =
     (new.stage ≡ stage.Rests) × (mid : Caller) × MovesBytes old.far mid × CallerHears mid new.far (Ok tt)
-
--- a Bye is said; or the connection ends
-abbrev pub SaysBye : Option PeerLink → Option PeerLink → Type 0
-SaysBye old None = ⊤
-SaysBye None (Some new) = ⊥
-SaysBye (Some old) (Some new) = CallerSays Bye old.far new.far × (new.stage ≡ stage.Parts)

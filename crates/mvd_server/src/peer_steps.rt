@@ -1,7 +1,7 @@
 //! What goes on with a peer, step by step, without waiting.
 ghost use Rattle.std.specs.Prelude.{◌≡◌, ◌<◌, IfOk, OnErr, OnOk, false, true};
 ghost use Rattle.mvd_meet.specs.Times.{due_of, ended_of};
-ghost use Rattle.mvd_server.specs.PeerLinks.{LetsIn, SaysBye, ShowsIf};
+ghost use Rattle.mvd_server.specs.PeerLinks.{LetsIn, ShowsIf};
 ghost use Rattle.mvd_server.specs.Peerings.{BeginsMeeting, EndsMeeting, StaysWithout, SwapsPlaces, TakesFree, TakesNoPlace};
 ghost use Rattle.mvd_server.specs.Peerings.{has_place};
 
@@ -208,8 +208,7 @@ impl Peering {
 
     /// Says Bye.
     fn part(&mut self, now: u64) -> Result<bool, Refusal>
-        ensures link { self.new ≡ record self.old { link = self.new.link } }
-        ensures says { SaysBye self.old.link self.new.link }
+        ensures { self.new ≡ record self.old { link = self.new.link } }
     {
         let Some(link) = &mut self.link else {
             return Ok(false);

@@ -25,6 +25,6 @@ pub heard_more : (changed : Bool) (peers : List Peering) (i now : ℕ) (old : Sc
     → HearsNews changed now old new.schedule → HeardBelow changed i peers → HeardBelow changed (i + 1) (set peers i new)
 heard_more changed peers i now old new at hears below is k d low = ⊎_elim
     (λ same. subst (λ (n : ℕ). IsSome (get_or (set peers i new) n d).schedule.news) (sym same)
-        (subst (λ (p : Peering). IsSome p.schedule.news) (sym (get_or-set_same peers i new d at)) (heard changed now old new.schedule hears is)))
+    (subst (λ (p : Peering). IsSome p.schedule.news) (sym (get_or-set_same peers i new d at)) (heard changed now old new.schedule hears is)))
     (λ other. subst (λ (p : Peering). IsSome p.schedule.news) (sym (get_or-set_other peers i k new d other)) (below is k d (omega (arith, other))))
     (cases_eq k i)

@@ -234,8 +234,7 @@ fn may_go_on(link: &PeerLink, session: &OwnSession, refusal: Refusal) -> bool
         refusal,
         Refusal::Truncated | Refusal::ReadFailed | Refusal::WriteFailed
     );
-    let is_spent =
-        link.far.questions() >= MOST_QUESTIONS || session.questions() >= MOST_QUESTIONS;
+    let is_spent = link.far.questions() >= MOST_QUESTIONS || session.questions() >= MOST_QUESTIONS;
     if is_spent && (is_cut || refusal == Refusal::TooManyRequests) {
         return true;
     }

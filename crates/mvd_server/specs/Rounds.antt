@@ -13,7 +13,8 @@ module _ {S : Type 0} {g : Ghosts S} where
   -- order, and the replies queued for their own clients. A request over HTTP is such a frame
   abbrev pub IsRound : List (ℕ × Turn) → Replica S g → Replica S g → Type 0
   IsRound turns old new =
-      (ready : List ℕ) × (host : HostValue) × (host' : HostValue) × Round ready turns (host_side host old) (host_side host' new)
+      (ready : List ℕ) × (host : HostValue) × (host' : HostValue)
+      × Round ready turns (host_side host old) (host_side host' new)
 
   abbrev pub HasRound : Replica S g → Replica S g → Type 0
   HasRound old new = (turns : List (ℕ × Turn)) × IsRound turns old new

@@ -14,12 +14,12 @@ use mvd_meet::{Caller, Course, Meeting};
 use mvd_sync::{Report, SyncFault};
 use std::alloc::Global;
 
-/// As many bytes of frames are handed on at once.
+/// The most bytes of frames that are handed on at once.
 const PIECE: usize = 65_536;
 
 impl Talks {
-    /// Takes in a client that asks for this server itself, which shows no token, and gives its number. It is `None` where
-    /// there is no place, or memory was refused.
+    /// Takes in a client that asks for this server itself, which shows no token, and gives its number. It is `None`
+    /// where there is no place, or memory was refused.
     pub fn admit_own(&mut self) -> Option<u64>
         ensures { AdmitsOwn self.old result self.new }
     {
@@ -38,7 +38,7 @@ impl Talks {
         self.own = self.own.saturating_sub(1);
     }
 
-    /// As many clients there are that are not its own.
+    /// The number of clients that are not its own.
     pub fn clients(&self) -> usize
         ensures { result ≡ length self.now.host.clients - self.now.own }
     {
@@ -46,8 +46,8 @@ impl Talks {
     }
 }
 
-/// A session: the host's client that asks for it, what goes on between the two sides, and whether it has one of the places
-/// for those that go on.
+/// A session: the host's client that asks for it, what goes on between the two sides, and whether it has one of the
+/// places for those that go on.
 #[derive(Drop)]
 pub(crate) struct OwnSession {
     pub client: u64,
@@ -84,8 +84,8 @@ impl OwnSession {
         self.near.has_all() && far.has_all()
     }
 
-    /// Whether all came of both sides, and it has a place. It takes one where one is free. Where the peer says nothing for a
-    /// while, it gives its place back.
+    /// Whether all came of both sides, and it has a place. It takes one where one is free. Where the peer says nothing
+    /// for a while, it gives its place back.
     #[tactic(auto, using(crate::proofs::Swapping::same_session))]
     pub fn has_turn(&mut self, far: &Caller, is_lulled: bool, free: &mut usize) -> bool
         ensures swaps { SwapsPlaces self.old.runs free.old self.new.runs free.new }
@@ -143,7 +143,7 @@ impl OwnSession {
         self.meeting.step(&mut self.near, far)
     }
 
-    /// As many questions were asked of this server's site.
+    /// The number of questions that were asked of this server's site.
     pub fn questions(&self) -> u64
         ensures { result ≡ questions_at self.now.near }
     {

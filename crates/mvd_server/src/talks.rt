@@ -45,7 +45,7 @@ pub(crate) struct Talks {
     /// Those that wait for a change, and those of them that were told of late.
     parked: Parked,
     pub woken: Vec<u64>,
-    /// As many of the host's clients are this server's own, for sessions with its peers.
+    /// The number of the host's clients that are this server's own, for sessions with its peers.
     pub own: usize,
     alloc: Global,
     keys: RandomState,
@@ -116,8 +116,8 @@ impl Talks {
         self.host.dismiss(number);
     }
 
-    /// Takes requests of some clients, answers them together, and queues what each is told, and what those are told that
-    /// wait for a change. Whether there may be more of them at once: after a commit the replies leave first.
+    /// Takes requests of some clients, answers them together, and queues what each is told, and what those are told
+    /// that wait for a change. Whether there may be more of them at once: after a commit the replies leave first.
     pub fn round<S: Alter + Drop>(
         &mut self,
         replica: &mut Replica<S>,

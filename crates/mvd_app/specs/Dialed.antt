@@ -80,5 +80,6 @@ module _ {D : Type 0} {g : disk.Ghosts D} (f : Ghosts (FileStore D g)) where
       → Type 0
   HasMet line gives image (order.RemoteShell address idle file) files = HasTalked line (gives address) address file
   HasMet line gives image (order.Sync db setup address idle verbose file) files = HasWorked image setup files
-      (λ old new. (token : Option (List ℕ)) × IsTokenOfOrder file token × HasSynced line gives token address old new (Ok tt))
+      (λ old new. (token : Option (List ℕ)) × IsTokenOfOrder file token
+      × HasSynced line gives token address old new (Ok tt))
   HasMet line gives image _ files = ⊤

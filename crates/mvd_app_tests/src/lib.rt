@@ -1,5 +1,5 @@
-//! Tests of the commands: inputs, a connection within one process, links, sessions with a site at hand and of two servers,
-//! shells, and hints.
+//! Tests of the commands: inputs, a connection within one process, links, sessions with a site at hand and of two
+//! servers, shells, and hints.
 #![tactic(auto)]
 
 #[cfg(test)]

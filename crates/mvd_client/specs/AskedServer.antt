@@ -35,10 +35,11 @@ lost_after is_down lost request (Ok reply) = lost
 lost_after is_down lost request (Err refusal) =
     if may_change request && (not is_down && may_be_sent refusal) then min (lost + 1) (2 ^ 64 - 1) else lost
 
--- A REQUEST IS ASKED OVER A LINE, and replied to, or refused in place of a reply. One more write is lost just where no reply came
--- to one that may have gone out: the refusal is the link's own, with 20, 30 or 32 to 36, and the link was not known to be broken
--- before. What the server itself refuses is not lost.
-pub record RepliesNoted {L : Type 0} (line : Ghosts L) (old new : AskedServer L) (request : Request) (reply : Reply) : Type 0 where
+-- A REQUEST IS ASKED OVER A LINE, and replied to, or refused in place of a reply. One more write is lost just where no
+-- reply came to one that may have gone out: the refusal is the link's own, with 20, 30 or 32 to 36, and the link was
+-- not known to be broken before. What the server itself refuses is not lost.
+pub record RepliesNoted {L : Type 0} (line : Ghosts L) (old new : AskedServer L) (request : Request)
+    (reply : Reply) : Type 0 where
   pub replies : RepliesFar line old.remote new.remote request reply
   pub down : new.is_down ≡ down_after old.is_down replies.told
   pub lost : new.lost ≡ lost_after old.is_down old.lost request replies.told

@@ -28,7 +28,8 @@ asks_on follows m n old mid new on p q = (
   q.1 ∙ ap (λ asked. asked + n) p.1 ∙ add_assoc old.1 m n,
 )
 
--- A SESSION ASKS A SIDE FEW QUESTIONS: one, five for each key that differs, and one for each thousand keys that it holds
+-- A SESSION ASKS A SIDE FEW QUESTIONS: one, five for each key that differs, and one for each thousand keys that it
+-- holds
 pub record AsksFew (old new : ℕ) (mine theirs : States) : Type 0 where
   pub asked : ℕ
   pub counted : new ≡ old + asked

@@ -17,8 +17,8 @@ use Rattle.mvd_hint.specs.declared.hint.Hint.TheVariants as Hint
 use Rattle.mvd_hint.specs.declared.hint.Stop.{Stop}
 
 -- the digest of all that is held
-abbrev pub root_told : States → List ℕ
-root_told states = (node_digests (digests states) []).own
+abbrev pub root_of : States → List ℕ
+root_of states = (node_digests (digests states) []).own
 
 -- how many keys were refused, where some were
 abbrev pub refused_keys_text : ℕ → List ℕ
@@ -26,7 +26,7 @@ refused_keys_text count = if nat_lt 0 count then codes "refused " ++ decimal cou
 
 -- how many keys a session exchanged and refused, and the digest of all that the site holds then
 abbrev pub session_text : Report → States → List ℕ
-session_text report states = keys_text report.keys ++ (refused_keys_text report.refused ++ root_text (root_told states))
+session_text report states = keys_text report.keys ++ (refused_keys_text report.refused ++ root_text (root_of states))
 
 -- the first of these keys was refused so
 abbrev pub IsOfFirst : List Left → Fault → Type 0
@@ -40,19 +40,21 @@ StopsLeft report (Err stop) = (stop.hint ≡ Some Hint.Left) × IsOfFirst report
 
 -- the root digest of a server, with its address
 abbrev pub root_at_text : Root → List ℕ
-root_at_text root = codes "root " ++ (socket_text root.address ++ (codes " " ++ (encode_lower root.digest ++ codes "\n")))
+root_at_text root =
+    codes "root " ++ (socket_text root.address ++ (codes " " ++ (encode_lower root.digest ++ codes "\n")))
 
 -- how many keys a session of two servers exchanged and refused, and the digest of all that each of them holds then
 abbrev pub meeting_text : Report → Root → Root → List ℕ
-meeting_text report near far = keys_text report.keys ++ (refused_keys_text report.refused ++ (root_at_text near ++ root_at_text far))
+meeting_text report near far =
+    keys_text report.keys ++ (refused_keys_text report.refused ++ (root_at_text near ++ root_at_text far))
 
 -- how many keys a session with a server exchanged: always, or where there were some
 abbrev pub met_text : SocketAddr → ℕ → Bool → List ℕ
 met_text address keys always =
     if (nat_lt 0 keys || always) then socket_text address ++ (codes " keys " ++ (decimal keys ++ codes "\n")) else []
 
--- This is all printed of a session that left no key, and of one that left some: then the command is stopped with the refusal of the
--- first of them. It may also be stopped, without a hint, since not all could be printed
+-- This is all printed of a session that left no key, and of one that left some: then the command is stopped with the
+-- refusal of the first of them. It may also be stopped, without a hint, since not all could be printed
 abbrev pub ReportsAs : List ℕ → Report → Option (List ℕ) → Option (List ℕ) → Result (Unit {0}) Stop → Type 0
 ReportsAs text report out out' (Ok done) = (report.first_refused ≡ []) × Appends out out' text
 ReportsAs text report out out' (Err stop) = (stop.hint ≡ None)

@@ -1,5 +1,5 @@
--- What a command is stopped with: where an address leads to no line, where this side of a session refuses, and where the
--- server does.
+-- What a command is stopped with: where an address leads to no line, where this side of a session refuses, and where
+-- the server does.
 use Rattle.std.specs.Prelude.{◌≡◌, ◌≢◌, ◌<◌, ◌≤◌, ◌⊎◌, None, Some, Result, Ok, Err}
 use Rattle.std.specs.declared.net.socket_addr.SocketAddr.{SocketAddr}
 use Rattle.mvd_dots.specs.Refusal.{number_of}
@@ -21,20 +21,22 @@ pub record IsInSession (refusal : Refusal) (stop : Stop) : Type 0 where
   pub full : refusal ≡ Full → stop.hint ≡ Some hints.Full
   pub other : refusal ≢ DotClash → refusal ≢ Full → stop.hint ≡ None
 
--- the server at an address refuses, or does not answer as one, or the connection with it breaks; the hint tells which, but of
--- 20, which is of no side
+-- the server at an address refuses, or does not answer as one, or the connection with it breaks; the hint tells which,
+-- but of 20, which is of no side
 pub record IsAtServer (address : SocketAddr) (refusal : Refusal) (stop : Stop) : Type 0 where
   pub fault : stop.fault ≡ Stopped refusal
   pub memory : refusal ≡ Memory → stop.hint ≡ None
   pub clash : refusal ≡ DotClash → stop.hint ≡ Some hints.Clash
   pub own : refusal ≢ DotClash → refusal ≢ Memory → number_of refusal < 30 → stop.hint ≡ Some (hints.Refused address)
-  pub no_peer : (refusal ≡ FrameTooLong) ⊎ ((refusal ≡ BadKind) ⊎ (refusal ≡ BadBody)) → stop.hint ≡ Some (hints.NoPeer address)
+  pub no_peer : (refusal ≡ FrameTooLong) ⊎ ((refusal ≡ BadKind) ⊎ (refusal ≡ BadBody))
+      → stop.hint ≡ Some (hints.NoPeer address)
   pub token : refusal ≡ NotAdmitted → stop.hint ≡ Some (hints.NotAdmitted address)
-  pub broken : refusal ≢ FrameTooLong → refusal ≢ BadKind → refusal ≢ BadBody → refusal ≢ NotAdmitted → 30 ≤ number_of refusal
+  pub broken : refusal ≢ FrameTooLong → refusal ≢ BadKind → refusal ≢ BadBody → refusal ≢ NotAdmitted
+      → 30 ≤ number_of refusal
       → stop.hint ≡ Some (hints.Broken address)
 
--- a command is stopped since an address leads to no line: no server answers there, or it does not let in whoever shows this
--- token; or there is no memory, which is of no side
+-- a command is stopped since an address leads to no line: no server answers there, or it does not let in whoever shows
+-- this token; or there is no memory, which is of no side
 abbrev pub StopsUndialed : SocketAddr → DialFault → Stop → Type 0
 StopsUndialed address (faults.Unanswered error) stop =
     (stop.fault ≡ Stopped ReadFailed) × (stop.hint ≡ Some (hints.NoServer address error))

@@ -59,8 +59,8 @@ module _ {S : Type 0} {g : Ghosts S} {L W : Type 0} (line : LineGhosts L) (sides
     pub goes_on : refused_of (over before) ≡ None
     pub over_line : SyncsOver old new before after told
 
-  -- WHAT AN ADDRESS LEADS TO is one of these lines. It leads to none, and nothing changes; or there is one line, over which
-  -- runs one session, and what is told is what came of that
+  -- WHAT AN ADDRESS LEADS TO is one of these lines. It leads to none, and nothing changes; or there is one line, over
+  -- which runs one session, and what is told is what came of that
   pub data SyncsAt (gives : L → Type 0) (address : SocketAddr) (old new : Replica S g) (result : Result Report Stop)
       : Type 0 where
     nobody : new ≡ old → (stop : Stop) → result ≡ Err stop → IsUndialed address stop
@@ -72,13 +72,15 @@ module _ {S : Type 0} {g : Ghosts S} {L W : Type 0} (line : LineGhosts L) (sides
 abbrev pub AreTrue : {L : Type 0} → LineGhosts L → (L → Type 0) → Type 0
 AreTrue {L} line gives = (fresh : L) → gives fresh → line.is_true fresh × ((line.far fresh).due ≡ [])
 
-module _ {S : Type 0} {g : Ghosts S} {L : Type 0} (line : LineGhosts L) (gives : L → Type 0) (address : SocketAddr) where
-  -- WHERE THEY ARE, the site and what answers there meet: what differed is joined on both sides, and what is told is what
-  -- came of that. Or the address leads to no line, and nothing changes
+module _ {S : Type 0} {g : Ghosts S} {L : Type 0} (line : LineGhosts L) (gives : L → Type 0)
+    (address : SocketAddr) where
+  -- WHERE THEY ARE, the site and what answers there meet: what differed is joined on both sides, and what is told is
+  -- what came of that. Or the address leads to no line, and nothing changes
   pub data MeetsAt (old new : Replica S g) (result : Result Report Stop) : Type 0 where
     unanswered : new ≡ old → (stop : Stop) → result ≡ Err stop → IsUndialed address stop → MeetsAt old new result
     met : (before after : Remote L) → gives (line_of before) → (told : Result Report SyncFault)
-        → MeetsFar line.is_true line.far old new before after told → TellsAs address told result → MeetsAt old new result
+        → MeetsFar line.is_true line.far old new before after told → TellsAs address told result
+        → MeetsAt old new result
 
 module _ {S : Type 0} {g : Ghosts S} {L W : Type 0} (line : LineGhosts L) (sides : Sides (Replica S g) W)
     (over : W → Remote L) (gives : L → Type 0) (address : SocketAddr) where

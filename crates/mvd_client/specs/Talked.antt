@@ -23,13 +23,15 @@ abbrev pub EndsWithBye : SocketAddr → Result (Unit {0}) Refusal → Result (Un
 EndsWithBye address (Ok done) result = result ≡ Ok tt
 EndsWithBye address (Err refusal) result = (stop : Stop) × (result ≡ Err stop) × IsAtServer address refusal stop
 
--- behind lines that were all told comes a Bye, and nothing else, which prints nothing, and the command ends as that is told;
--- behind those that ended early nothing comes, and it is stopped with their fault
-abbrev pub EndsLines : {A : Type 0} → (A → A → Result (Unit {0}) Refusal → Type 0) → SocketAddr → Result (Unit {0}) Fault → A → A
+-- behind lines that were all told comes a Bye, and nothing else, which prints nothing, and the command ends as that is
+-- told; behind those that ended early nothing comes, and it is stopped with their fault
+abbrev pub EndsLines : {A : Type 0} → (A → A → Result (Unit {0}) Refusal → Type 0) → SocketAddr
+    → Result (Unit {0}) Fault → A → A
     → Result (Unit {0}) Stop → Type 0
 EndsLines Byes address (Ok done) last new result =
     (bye : Result (Unit {0}) Refusal) × Byes last new bye × EndsWithBye address bye result
-EndsLines Byes address (Err fault) last new result = (new ≡ last) × (stop : Stop) × (result ≡ Err stop) × (stop.fault ≡ fault)
+EndsLines Byes address (Err fault) last new result =
+    (new ≡ last) × (stop : Stop) × (result ≡ Err stop) × (stop.fault ≡ fault)
 
 -- The lines are answered, and what they print is told, as a shell does; and then they end so
 pub record ShellsOver {A : Type 0} (Answers : A → A → Request → Reply → Type 0) (lost : A → ℕ)
@@ -40,13 +42,14 @@ pub record ShellsOver {A : Type 0} (Answers : A → A → Request → Reply → 
   pub shells : Shells Answers lost old (at last new.input new.out) told
   pub ends : EndsLines Byes address told last new.asked result
 
--- A SHELL OVER WHAT AN ADDRESS LEADS TO, one of these lines. It leads to none, and nothing is read or printed; or it is a
--- shell over one line, which nothing was asked before
+-- A SHELL OVER WHAT AN ADDRESS LEADS TO, one of these lines. It leads to none, and nothing is read or printed; or it is
+-- a shell over one line, which nothing was asked before
 pub data ShellsAt {L : Type 0} (line : Ghosts L) (gives : L → Type 0) (address : SocketAddr)
     (input out input' out' : Option (List ℕ)) (result : Result (Unit {0}) Stop) : Type 0 where
   nobody : (stop : Stop) → result ≡ Err stop → IsUndialed address stop → input' ≡ input → out' ≡ out
       → ShellsAt line gives address input out input' out' result
   ran : (fresh : L) → gives fresh → (before after : AskedServer L) → line_of before.remote ≡ fresh
       → refused_of before.remote ≡ None → before.is_down ≡ false
-      → ShellsOver (RepliesNoted line) lost_of (SaysBye line) address (at before input out) (at after input' out') result
+      → ShellsOver (RepliesNoted line) lost_of (SaysBye line) address (at before input out)
+      (at after input' out') result
       → ShellsAt line gives address input out input' out' result

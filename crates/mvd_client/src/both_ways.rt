@@ -8,10 +8,10 @@ use std::alloc::{AllocError, Global};
 use std::collections::VecDeque;
 use std::io::{self, ErrorKind, Read, Write};
 
-/// As many bytes are read at once.
+/// The most bytes that are read at once.
 const PIECE: usize = 65_536;
 
-/// As many bytes may come before they are asked for: as many as 1,000 replies have at most.
+/// The most bytes that may come before they are asked for: those of 1,000 of the longest replies.
 const EARLY_MOST: usize = 1_200_004_000;
 
 /// A stream on which no read and no write waits: one that would wait is refused with `WouldBlock`.

@@ -104,8 +104,8 @@ impl<T: Read + Write + Drop> End<T> {
     }
 }
 
-/// A session. It goes on over new connections where a server takes no more frames of the old ones, or where one that was
-/// kept since the session before was cut meanwhile.
+/// A session. It goes on over new connections where a server takes no more frames of the old ones, or where one that
+/// was kept since the session before was cut meanwhile.
 pub(crate) fn meet<'a, N: Net, E: Write>(
     rt: &N,
     alloc: Global,

@@ -3,7 +3,7 @@ ghost use Rattle.std.specs.Prelude.{◌≡◌, ◌≢◌, ◌≤◌, ◌+◌, �
 ghost use Rattle.std.specs.Io.KnownBytes.{Appends};
 ghost use Rattle.mvd_client.specs.Met.{MeetsFars};
 ghost use Rattle.mvd_client.specs.Questioned.{AsksFew, questions};
-ghost use Rattle.mvd_client.specs.Reported.{ReportsAs, meeting_text, root_at_text, root_told};
+ghost use Rattle.mvd_client.specs.Reported.{ReportsAs, meeting_text, root_at_text, root_of};
 ghost use Rattle.mvd_remote.specs.Lines.{IsTrueRemote, far_of};
 
 use crate::peer_commands::{left_with, print_refused};
@@ -49,7 +49,7 @@ pub fn meet_over<L: Line, M: Line, E: Write>(
 /// The digest of all that the server at the other end of a line holds.
 pub fn root_over<L: Line>(alloc: Global, remote: &mut Remote<L>) -> Result<[u8; 32], Refusal>
     ensures { IsTrueRemote L.is_true L.far remote.old →
-        IfOk result (λ digest. digest ≡ root_told (far_of L.far remote.old).states) }
+        IfOk result (λ digest. digest ≡ root_of (far_of L.far remote.old).states) }
 {
     let path = Path::new(alloc, &[])?;
     match remote.node(&path) {

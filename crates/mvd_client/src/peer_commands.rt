@@ -4,7 +4,7 @@ ghost use Rattle.std.specs.Io.KnownBytes.{Appends};
 ghost use Rattle.mvd_client.specs.AskedServer.{RepliesNoted, lost_of};
 ghost use Rattle.mvd_client.specs.LetIn.{GivesIn};
 ghost use Rattle.mvd_client.specs.Questioned.{AsksFew, questions};
-ghost use Rattle.mvd_client.specs.Reported.{Reports, StopsLeft, refused_keys_text, root_told, session_text};
+ghost use Rattle.mvd_client.specs.Reported.{Reports, StopsLeft, refused_keys_text, root_of, session_text};
 ghost use Rattle.mvd_client.specs.Stopped.{StopsFaulted};
 ghost use Rattle.mvd_client.specs.Synced.{FollowsPushed, MeetsFar};
 ghost use Rattle.mvd_client.specs.SyncsAt.{AreTrue, MeetsAt, SyncsAt, SyncsFrom, SyncsOver, TellsSession};
@@ -37,8 +37,8 @@ use std::fmt::Write as Print;
 use std::io::{BufRead, Write};
 use std::net::SocketAddr;
 
-/// Runs a session with the server at an address, to which the token is shown first, if there is one, and says Bye. Where
-/// `told` is given, it is told how far the session is.
+/// Runs a session with the server at an address, to which the token is shown first, if there is one, and says Bye.
+/// Where `told` is given, it is told how far the session is.
 #[tactic(auto, using(crate::proofs::Syncing::pushed_none))]
 pub fn sync_run<'a, D: Dial, S: Alter + Drop, E: Write>(
     dial: &D,
@@ -240,15 +240,15 @@ fn add_root<S: Alter + Drop>(
     lines: &mut String,
 ) -> Result<(), Refusal>
     ensures { OnOk result (string_bytes lines.new ≡
-        string_bytes lines.old ++ root_text (root_told (site_of replica.now).states)) }
+        string_bytes lines.old ++ root_text (root_of (site_of replica.now).states)) }
 {
     let path = Path::new(alloc, &[])?;
     let digests = replica.node(&path)?;
     Ok(print_root(alloc, digests.own, lines)?)
 }
 
-/// Answers the lines through the server at an address, to which the token is shown first, if there is one, and says Bye at
-/// their end. Where the connection was lost, a write to which no reply came is told as unknown; each later line is
+/// Answers the lines through the server at an address, to which the token is shown first, if there is one, and says Bye
+/// at their end. Where the connection was lost, a write to which no reply came is told as unknown; each later line is
 /// refused so, and so is the Bye.
 pub fn remote_shell_run<'a, D: Dial, R: BufRead, W: Write>(
     dial: &D,

@@ -23,8 +23,8 @@ use std::time::{Clock, Duration};
 /// Where rounds are as many seconds apart, no connection is kept from one to the next.
 const APART: u32 = 60;
 
-/// A server of the list: how often it was tried, how the last session with it ended, how many seconds it is still waited
-/// for, and which keys were left.
+/// A server of the list: how often it was tried, how the last session with it ended, how many seconds it is still
+/// waited for, and which keys were left.
 #[derive(Drop)]
 struct Partner<T: Read + Write + Drop> {
     end: End<T>,
@@ -71,8 +71,8 @@ impl<T: Read + Write + Drop> Partner<T> {
     }
 }
 
-/// Runs sessions between the server at an address and each of a list, one after the other. Where nothing is repeated and
-/// the list has one server, the roots of both are told.
+/// Runs sessions between the server at an address and each of a list, one after the other. Where nothing is repeated
+/// and the list has one server, the roots of both are told.
 pub fn meet_run<'a, N: Net + Clock, W: Write, E: Write>(
     rt: &N,
     alloc: Global,

@@ -29,7 +29,9 @@ IsFront bytes TooLong = frame_at bytes ≡ Err FrameTooLong
 
 -- what comes next, with a whole frame as its length
 abbrev pub IsFound : History → Found → Type 0
-IsFound h (found.Frame size) = IsWholeFrame h.held size × (next_of h ≡ Gives (frame_of (take size h.held)) (drop size h.held)) × (length h.taken < frames_most)
+IsFound h (found.Frame size) =
+    IsWholeFrame h.held size × (next_of h ≡ Gives (frame_of (take size h.held)) (drop size h.held))
+    × (length h.taken < frames_most)
 IsFound h found.End = next_of h ≡ Over
 IsFound h (found.Stops refusal) = next_of h ≡ Stops refusal
 IsFound h found.Nothing = next_of h ≡ Waits

@@ -17,7 +17,8 @@ IsTokenOf guard token = sha256 token ≡ guard.digest
 abbrev pub says : Guard → List ℕ → Bool
 says guard [] = false
 says guard (high ∷ []) = false
-says guard (high ∷ low ∷ token) = (high * 256 + low == length token) && (nat_le (length token) 256 && admits guard token)
+says guard (high ∷ low ∷ token) =
+    (high * 256 + low == length token) && (nat_le (length token) 256 && admits guard token)
 
 -- a frame is a Hello that shows the token
 abbrev pub shows : Guard → FrameValue → Bool

@@ -62,9 +62,11 @@ short_most = 17
 abbrev pub due : History → ℕ
 due h = length h.taken - length h.answers
 
--- the reply to a frame of this kind may be as long as a frame: but for a Put, a Delete and a Push, whose replies are short
+-- the reply to a frame of this kind may be as long as a frame: but for a Put, a Delete and a Push, whose replies are
+-- short
 abbrev pub may_be_long : ℕ → Bool
-may_be_long kind = if kind == 0x22 then false else (if kind == 0x23 then false else (if kind == 0x29 then false else true))
+may_be_long kind =
+    if kind == 0x22 then false else (if kind == 0x23 then false else (if kind == 0x29 then false else true))
 
 abbrev pub is_long_last : Option FrameValue → Bool
 is_long_last None = false
@@ -76,7 +78,8 @@ ends_long taken = is_long_last (last_or None taken)
 
 -- so many replies have at most as many bytes, of which all are short, or all but the last
 abbrev pub owed_by : Bool → ℕ → ℕ
-owed_by long count = if count == 0 then 0 else (if long then short_most * (count - 1) + frame_most else short_most * count)
+owed_by long count =
+    if count == 0 then 0 else (if long then short_most * (count - 1) + frame_most else short_most * count)
 
 -- the replies that are due have at most as many bytes
 abbrev pub owed : History → ℕ
@@ -104,7 +107,8 @@ next_of_source (source.Failed refusal) held = Stops refusal
 abbrev pub next_held : Source → List ℕ → Result (Option FrameValue × List ℕ) Refusal → NextTaken
 next_held from held (Ok (Some f, rest)) = Gives f rest
 next_held from held (Ok (None, rest)) = next_of_source from held
-next_held from held (Err refusal) = if number_of refusal == number_of FrameTooLong then Stops FrameTooLong else next_of_source from held
+next_held from held (Err refusal) = if number_of refusal == number_of FrameTooLong then Stops FrameTooLong
+    else next_of_source from held
 
 -- a frame is given only where it may be taken behind these
 abbrev pub let_in : Option Guard → List FrameValue → NextTaken → NextTaken
@@ -113,8 +117,8 @@ let_in guard taken Over = Over
 let_in guard taken (Stops refusal) = Stops refusal
 let_in guard taken Waits = Waits
 
--- the first cause decides: as many frames as there may be, a whole frame, which may come in or not, a length that no frame has,
--- the source's end
+-- the first cause decides: as many frames as there may be, a whole frame, which may come in or not, a length that no
+-- frame has, the source's end
 abbrev pub next_of : History → NextTaken
 next_of h =
     if length h.taken == frames_most then Stops TooManyRequests
@@ -134,7 +138,20 @@ pub record WantsInput (h : History) : Type 0 where
 -- ---- what calls do
 
 abbrev pub new_history : Option Guard → History
-new_history guard = record { guard = guard; came = []; held = []; source = source.Open; taken = []; hand = None; answers = []; last = None; left = []; waits = []; failed = false }
+new_history guard =
+    record {
+      guard = guard;
+      came = [];
+      held = [];
+      source = source.Open;
+      taken = [];
+      hand = None;
+      answers = [];
+      last = None;
+      left = [];
+      waits = [];
+      failed = false;
+    }
 
 -- the frame in hand can no longer be looked at
 abbrev pub released : History → History
@@ -155,7 +172,14 @@ closed h new = record h { source = first_source h.source new }
 
 -- a frame is handed out; a Bye is the last
 abbrev pub taking : History → FrameValue → List ℕ → History
-taking h f rest = record h { held = rest; taken = h.taken ++ f ∷ []; hand = Some f; last = if is_bye f then Some ending.Bye else h.last }
+taking h f rest =
+    record h {
+      held = rest;
+      taken = h.taken ++ f ∷ [];
+      hand = Some f;
+      last = if is_bye f then Some ending.Bye
+          else h.last;
+    }
 
 -- the frame that tells of an end
 abbrev pub last_bytes : Option Ending → List ℕ
@@ -168,7 +192,8 @@ abbrev pub over : History → History
 over h = record h { last = Some ending.End }
 
 abbrev pub stopped : History → Refusal → History
-stopped h refusal = record h { last = Some (ending.Stopped refusal); waits = h.waits ++ last_bytes (Some (ending.Stopped refusal)) }
+stopped h refusal =
+    record h { last = Some (ending.Stopped refusal); waits = h.waits ++ last_bytes (Some (ending.Stopped refusal)) }
 
 -- an end is told once all replies are queued
 abbrev pub stepped : History → NextTaken → Bool × History

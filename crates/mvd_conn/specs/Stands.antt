@@ -35,12 +35,15 @@ GoOn frames = AllByRecursion (λ f. is_bye f ≡ false) frames
 -- why no further frame is taken: the last one was the first Bye, or all are answered and this comes next
 abbrev pub IsLast : History → Option Ending → Type 0
 IsLast h None = GoOn h.taken
-IsLast h (Some ending.Bye) = (before : List FrameValue) × (f : FrameValue) × (h.taken ≡ before ++ f ∷ []) × (is_bye f ≡ true) × GoOn before
+IsLast h (Some ending.Bye) =
+    (before : List FrameValue) × (f : FrameValue) × (h.taken ≡ before ++ f ∷ []) × (is_bye f ≡ true) × GoOn before
 IsLast h (Some ending.End) = GoOn h.taken × (length h.answers ≡ length h.taken) × (next_of h ≡ Over)
-IsLast h (Some (ending.Stopped refusal)) = GoOn h.taken × (length h.answers ≡ length h.taken) × (next_of h ≡ Stops refusal)
+IsLast h (Some (ending.Stopped refusal)) =
+    GoOn h.taken × (length h.answers ≡ length h.taken) × (next_of h ≡ Stops refusal)
 
--- What came in are the frames that were taken, and what is held. What was queued left, or waits. The frames that were taken are
--- the first of the input, and the end is the first cause. Of a client that does not show the token no frame was taken.
+-- What came in are the frames that were taken, and what is held. What was queued left, or waits. The frames that were
+-- taken are the first of the input, and the end is the first cause. Of a client that does not show the token no frame
+-- was taken.
 pub record HistoryStands (h : History) : Type 0 where
   pub input : h.came ≡ frames_spelled h.taken ++ h.held
   pub fit : AllByRecursion (λ f. length f.payload + 1 ≤ frame_limit) h.taken

@@ -18,13 +18,13 @@ use mvd_wire::Reply;
 use std::alloc::Global;
 use std::marker::Model;
 
-/// As many frames of a connection are taken.
+/// The most frames that are taken of one connection.
 pub const FRAMES_MAX: u32 = 1_000_000;
 
 /// Where as many bytes wait to leave, no input is wanted; and no frame is taken where as many wait or are owed.
 pub const WAITS_MAX: usize = 262_144;
 
-/// As many bytes may come at once.
+/// The most bytes that may come at once.
 pub const PIECE_MAX: usize = 65_536;
 
 /// The longest reply, in bytes.
@@ -286,7 +286,7 @@ impl Connection {
         }
     }
 
-    /// As many bytes the replies that are due have at most.
+    /// The most bytes that the replies that are due may have.
     fn owed(&self) -> usize
         ensures { result ≡ owed self.now }
     {

@@ -5,7 +5,7 @@ ghost use Rattle.bytes.specs.Filled.{MakesSpare};
 use bytes::BytesMut;
 use std::alloc::AllocError;
 
-/// As many bytes more than are needed are asked for, so that what a buffer holds is not moved for each of them.
+/// The spare bytes asked for beyond what is needed, so that what a buffer holds is not moved for each of them.
 const MORE: usize = 65_536;
 
 /// Makes room for that many bytes.

@@ -1,5 +1,6 @@
 -- What a causal context is: a set of dots. How it is kept and spelled: one entry for each site.
--- Almeida, Shoker, Baquero, "Delta state replicated data types" (2018), on causal contexts and their compression to a version vector and the dots beyond it.
+-- Almeida, Shoker, Baquero, "Delta state replicated data types" (2018), on causal contexts and their compression to a
+-- version vector and the dots beyond it.
 use Rattle.std.specs.Prelude.{◌≡◌, ℕ, zero, suc, ◌+◌, ◌==◌, ◌<◌, ◌≤◌, max, nat_lt, List, [], ◌∷◌, map, filter, IsTrue, if◌then◌else◌}
 use Rattle.std.specs.Ordering.{nat_cmp}
 use Rattle.std.specs.Coded.{Coded}

@@ -16,7 +16,7 @@ const CLIENTS: u64 = 8;
 
 const REQUESTS: usize = 6;
 
-/// As many steps suffice for all bytes to come and all replies to leave.
+/// The most steps in which all bytes come and all replies leave.
 const STEPS: u32 = 5_000;
 
 /// What clients ask: puts, deletes and pushes at two keys, and questions for one of them and for the site.
@@ -33,8 +33,8 @@ const ASKED: [&str; 10] = [
     WIDE,
 ];
 
-/// A client: what it asks, how much of that came, how many requests were taken, and where the last of them ends; whether
-/// the last round began with its question; what it was told, and what it should be.
+/// A client: what it asks, how much of that came, how many requests were taken, and where the last of them ends;
+/// whether the last round began with its question; what it was told, and what it should be.
 #[derive(Drop)]
 struct Client {
     asked: [&'static str; REQUESTS],
@@ -114,8 +114,8 @@ fn move_bytes(host: &mut Host, number: u64, clients: &mut [Client], most: usize,
     }
 }
 
-/// A round of two clients, for which the one replica is asked too: first questions, then changes, and then the questions
-/// behind them.
+/// A round of two clients, for which the one replica is asked too: first questions, then changes, and then the
+/// questions behind them.
 fn round_of<S: Alter + Drop, T: Alter + Drop>(
     alloc: Global,
     host: &mut Host,

@@ -1,5 +1,5 @@
-//! What one client may fill: how many of its pushes share a commit, and how many bytes wait for it where it asks for much
-//! and reads nothing.
+//! What one client may fill: how many of its pushes share a commit, and how many bytes wait for it where it asks for
+//! much and reads nothing.
 use super::host_calls::{admit_all, drop_waiting, feed, round};
 use super::replica_calls::{Bytes, counted, end, new_replica, push};
 use mvd_dots::Refusal;
@@ -20,7 +20,7 @@ const PUT: [&str; 3] = ["0000ea7322016b000000000000ea68", "7b227a223a22", "227d"
 
 const GET: &str = "0000000321016b";
 
-/// As many puts are siblings, so that the key's state has more than 300,000 bytes.
+/// The number of puts that are siblings: the key's state has more than 300,000 bytes then.
 const PUTS: u32 = 5;
 
 const GETS: usize = 64;
@@ -61,7 +61,7 @@ fn waiting(host: &Host) -> (usize, usize) {
     (counted(waits).0, waits.len())
 }
 
-/// As many rounds as answer all that may be answered.
+/// The most rounds that it takes to answer all that may be answered.
 fn rounds<S: Alter>(alloc: Global, host: &mut Host, replica: &mut Replica<S>) {
     for _ in 0..GETS {
         round(alloc, host, replica, &[0]);

@@ -341,8 +341,8 @@ fn goes_on<S: Alter + Drop>(alloc: Global, replica: &mut Replica<S>, input: &Byt
     left == 0 && is_state && (states, behind, ended) == (1, 0, "end")
 }
 
-/// The first place at which three requests on one connection do not go on so where they are cut there, or where the byte
-/// there is replaced by its complement; how many bytes they have where there is no such place.
+/// The first place at which three requests on one connection do not go on so where they are cut there, or where the
+/// byte there is replaced by its complement; how many bytes they have where there is no such place.
 fn goes_on_to<S: Alter + Drop>(alloc: Global, replica: &mut Replica<S>) -> usize {
     let whole = Bytes::of(&[PUT, WIDE, CLASH]);
     for at in 0..whole.len {

@@ -35,7 +35,7 @@ pub const EMPTY: &str = "00000007a1000000000000";
 pub const STATE: &str =
     "0000002ea100000001000000010000000000000001000000000001000000010000000000000001000000077b2261223a317d";
 
-/// As many bytes has a connection here at most, each way.
+/// The most bytes that a connection here holds, each way.
 pub const ROOM: usize = 600;
 
 /// Bytes in a room of their own.

@@ -60,8 +60,8 @@ fn told_by<S: Alter>(
     (told, goes_on)
 }
 
-/// Whether a client of a new site that sends these frames is told these, whether its connection goes on as is wanted, and
-/// whether the site has a key then as is wanted.
+/// Whether a client of a new site that sends these frames is told these, whether its connection goes on as is wanted,
+/// and whether the site has a key then as is wanted.
 fn is_told(
     alloc: Global,
     guard: Option<Guard>,

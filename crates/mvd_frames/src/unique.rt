@@ -88,7 +88,8 @@ pub fn spelled_states()
 
 /// What the first version of the format spells in 1,000,000 bytes the second spells in 1,150,000.
 pub fn old_states_are_short()
-    ensures { (s : State) → (state_codec layout1).Fits s → (state_codec layout2).Fits s × (length (spell_state s) ≤ state_limit) }
+    ensures { (s : State) → (state_codec layout1).Fits s
+        → (state_codec layout2).Fits s × (length (spell_state s) ≤ state_limit) }
 {}
 
 /// What has a spelling is decoded from it.

@@ -264,8 +264,8 @@ impl<'a> Stop<'a> {
         }
     }
 
-    /// The server at an address refuses, or does not let this in, or the connection with it breaks. Memory may have been refused at either end
-    /// of it, so then no hint names one.
+    /// The server at an address refuses, or does not let this in, or the connection with it breaks. Memory may have
+    /// been refused at either end of it, so then no hint names one.
     pub fn at_server(address: SocketAddr, refusal: Refusal) -> Stop<'a>
         ensures fault { result.fault ≡ Stopped refusal }
         ensures memory { refusal ≡ Memory → result.hint ≡ None }

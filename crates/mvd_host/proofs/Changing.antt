@@ -20,7 +20,7 @@ use Rattle.mvd_site.specs.Held.{States, state_at}
 use Rattle.mvd_site.specs.Sites.{SiteValue}
 use Rattle.mvd_replica.specs.Batch.{AnswersOneFrom, TakesAllFrom, TakesFrom}
 use Rattle.mvd_replica.specs.Commits.{AnswersInCommits}
-use Rattle.mvd_replica.specs.ReplicaCalls.{root_told}
+use Rattle.mvd_replica.specs.ReplicaCalls.{root_answer}
 use Rattle.mvd_replica.specs.Replicas.{commits_of, site_of}
 use Rattle.mvd_replica.specs.Sides.{AnswersFromStored}
 use Rattle.mvd_replica.specs.Turns.{Turn}
@@ -123,5 +123,5 @@ root_by true states root is = cc
 root_by false states root is = sym (told_is (node_digest (digests states) []) root is)
 
 -- the root that is told is that of the states
-pub root_is : (site : SiteValue) (root : List ℕ) → root_told site ≡ Ok root → root ≡ root_of site.states
+pub root_is : (site : SiteValue) (root : List ℕ) → root_answer site ≡ Ok root → root ≡ root_of site.states
 root_is site root is = root_by site.broken site.states root is

@@ -15,8 +15,8 @@ pub record Arranged (asked : List (ℕ × Request)) (clients : List ℕ) (reques
   pub count : length ordered ≡ length asked
   pub own_are : (n : ℕ) → own n ordered ≡ own n asked
 
--- The requests that were asked lie in two parts. What leads of a client came before what stands behind of it; a client that is not
--- noted has nothing behind
+-- The requests that were asked lie in two parts. What leads of a client came before what stands behind of it; a client
+-- that is not noted has nothing behind
 pub record Lays (asked : List (ℕ × Request)) (lanes : Lanes) : Type 0 where
   pub first : List (ℕ × Request)
   pub second : List (ℕ × Request)

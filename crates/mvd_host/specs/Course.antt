@@ -34,7 +34,8 @@ abbrev pub AreQueued : List Reply → List (List ℕ) → Type 0
 AreQueued [] [] = ⊤
 AreQueued [] (bytes ∷ rest) = ⊥
 AreQueued (reply ∷ replies) [] = ⊥
-AreQueued (reply ∷ replies) (bytes ∷ rest) = ((queued : Reply) × IsQueued reply queued × (bytes ≡ reply_bytes queued)) × AreQueued replies rest
+AreQueued (reply ∷ replies) (bytes ∷ rest) =
+    ((queued : Reply) × IsQueued reply queued × (bytes ≡ reply_bytes queued)) × AreQueued replies rest
 
 -- no byte came or left, neither side ended, and the guard is the same
 pub record NoneMoved (old new : History) : Type 0 where

@@ -54,7 +54,8 @@ are_few rounds = nat_le (length rounds) rounds_most && nat_le (length (keys_in r
 -- the oldest rounds are forgotten, as many as must be
 abbrev pub fitted : List ℕ → List NotedValue → FeedValue
 fitted root [] = knows_root root
-fitted root (noted ∷ rounds) = if are_few (noted ∷ rounds) then record { start = Some root; rounds = noted ∷ rounds } else fitted noted.root rounds
+fitted root (noted ∷ rounds) = if are_few (noted ∷ rounds) then record { start = Some root; rounds = noted ∷ rounds }
+    else fitted noted.root rounds
 
 -- a round is put behind the others; where nothing was known, the root is
 abbrev pub noted_behind : Option (List ℕ) → List NotedValue → List Key → List ℕ → FeedValue

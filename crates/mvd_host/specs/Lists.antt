@@ -16,8 +16,8 @@ root_of states = node_digest (digests states) []
 abbrev pub ChangesAmong : List Key → States → States → Type 0
 ChangesAmong keys old new = (key : Key) → (get old key ≡ get new key) ⊎ (is_listed keys key ≡ true)
 
--- The states that the site had at the moments that are remembered, from the start on; at the last it has those of now. Each had its
--- root, and the keys that were noted since are all that changed
+-- The states that the site had at the moments that are remembered, from the start on; at the last it has those of now.
+-- Each had its root, and the keys that were noted since are all that changed
 abbrev pub ListsFrom : List ℕ → List NotedValue → List States → States → Type 0
 ListsFrom root rounds [] now = ⊥
 ListsFrom root [] (was ∷ past) now = (root ≡ root_of was) × (was ≡ now) × (past ≡ [])
@@ -29,8 +29,8 @@ abbrev pub ListsIf : Option (List ℕ) → List NotedValue → List States → S
 ListsIf None rounds past now = past ≡ []
 ListsIf (Some root) rounds past now = ListsFrom root rounds past now
 
--- THE FEED LISTS WHAT CHANGED: these are the states at the moments that it remembers, and from each of them all keys that changed
--- were noted
+-- THE FEED LISTS WHAT CHANGED: these are the states at the moments that it remembers, and from each of them all keys
+-- that changed were noted
 abbrev pub Lists : FeedValue → List States → States → Type 0
 Lists feed past now = ListsIf feed.start feed.rounds past now
 
@@ -47,4 +47,5 @@ IsListed root past now (Some keys) = AnyByRecursion (λ was. (root ≡ root_of w
 -- the feed lists still: its moments are some of those before, and now
 abbrev pub ListsOn : FeedValue → States → FeedValue → States → Type 0
 ListsOn old before new now = (past : List States) → Lists old past before →
-    (later : List States) × AllByRecursion (λ was. AnyByRecursion (λ old. old ≡ was) past ⊎ (was ≡ now)) later × Lists new later now
+    (later : List States) × AllByRecursion (λ was. AnyByRecursion (λ old. old ≡ was) past ⊎ (was ≡ now)) later
+    × Lists new later now

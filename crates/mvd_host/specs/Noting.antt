@@ -13,10 +13,12 @@ abbrev pub keys_to_change : List Request → List Key
 keys_to_change [] = []
 keys_to_change (request ∷ requests) = option_to_list (key_to_change request) ++ keys_to_change requests
 
--- The keys that these requests ask to change were noted, and the root of the states now. Where memory was refused, all but the root was
--- forgotten; and where the root is not told, all was
+-- The keys that these requests ask to change were noted, and the root of the states now. Where memory was refused, all
+-- but the root was forgotten; and where the root is not told, all was
 abbrev pub Notes : List Request → States → FeedValue → FeedValue → Type 0
-Notes requests now old new = (new ≡ noted_in old (keys_to_change requests) (root_of now)) ⊎ ((new ≡ knows_root (root_of now)) ⊎ (new ≡ knows_nothing))
+Notes requests now old new =
+    (new ≡ noted_in old (keys_to_change requests) (root_of now))
+    ⊎ ((new ≡ knows_root (root_of now)) ⊎ (new ≡ knows_nothing))
 
 -- nothing changed, or what may have is noted
 abbrev pub NotesChanges : List Request → States → States → FeedValue → FeedValue → Type 0

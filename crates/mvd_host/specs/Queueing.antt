@@ -22,7 +22,8 @@ QueuesReplies replies old new = (n : ℕ) → BothClients (client_in old n) (cli
 
 -- as many frames of each client have no reply as it has replies here, or more
 abbrev pub AreDue : {X : Type 0} → List (ℕ × X) → List (ℕ × History) → Type 0
-AreDue replies clients = (n : ℕ) → IfClient (client_in clients n) (λ h. length h.answers + length (own n replies) ≤ length h.taken)
+AreDue replies clients =
+    (n : ℕ) → IfClient (client_in clients n) (λ h. length h.answers + length (own n replies) ≤ length h.taken)
 
 -- one refusal for each of the requests
 abbrev pub refused_all : List ℕ → Refusal → List (ℕ × Reply)

@@ -33,9 +33,9 @@ stored_in side = record { site = side.site; store = side.store }
 abbrev pub turns_of : List (ℕ × Turn) → List Turn
 turns_of = map (λ t. t.1)
 
--- What turns do to a replica: each reply is one that may be given from the writes known before it, the states stand for the writes
--- known and those that the turns added, of which there is a choice, and the records follow. 22 is told only where the site is broken
--- afterwards
+-- What turns do to a replica: each reply is one that may be given from the writes known before it, the states stand for
+-- the writes known and those that the turns added, of which there is a choice, and the records follow. 22 is told only
+-- where the site is broken afterwards
 pub record Serves (turns : List Turn) (old new : StoredSite) : Type 0 where
   pub replies : Replies old.site new.site turns
   pub stands : StandsOn old.site new.site turns
@@ -44,8 +44,8 @@ pub record Serves (turns : List Turn) (old new : StoredSite) : Type 0 where
   pub told : new.site.broken ≡ false → AllByRecursion IsToldElse turns
   pub follows : TurnsFollow turns old new
 
--- The frames that were taken of a connection are those of these turns, in order, and the replies that were queued on it are theirs,
--- in order. Where there is a guard, the first frame of all shows the token
+-- The frames that were taken of a connection are those of these turns, in order, and the replies that were queued on it
+-- are theirs, in order. Where there is a guard, the first frame of all shows the token
 pub record ClientCourse (turns : List Turn) (old new : History) : Type 0 where
   pub frames : List FrameValue
   pub taken : new.taken ≡ old.taken ++ frames
@@ -62,17 +62,18 @@ pub record Spares (ready : List ℕ) (turns : List (ℕ × Turn)) (old new : Hos
   pub only : (n : ℕ) → IsOut n ready (length ready) → own n turns ≡ []
   pub same : (n : ℕ) → IsOut n ready (length ready) → client_of new n ≡ client_of old n
 
--- What a round that was not refused memory gives: each client that is ready had a turn, or nothing comes next of it; there may be
--- more only where there was a turn, and where there is no more nothing comes next of any ready client
-pub record GoesForward (result : Result Bool Refusal) (ready : List ℕ) (turns : List (ℕ × Turn)) (new : HostValue) : Type 0 where
+-- What a round that was not refused memory gives: each client that is ready had a turn, or nothing comes next of it;
+-- there may be more only where there was a turn, and where there is no more nothing comes next of any ready client
+pub record GoesForward (result : Result Bool Refusal) (ready : List ℕ) (turns : List (ℕ × Turn))
+    (new : HostValue) : Type 0 where
   pub fair : OnOk result ((i : ℕ) → i < length ready →
       (own (slice_index ready i) turns ≢ []) ⊎ IfClient (client_of new (slice_index ready i)) HasNoNext)
   pub some : IfOk result (λ more. more ≡ true → turns ≢ [])
   pub idle : IfOk result (λ more. more ≡ false → (i : ℕ) → i < length ready →
       IfClient (client_of new (slice_index ready i)) HasNoNext)
 
--- The turns, in order, are served by the replica; each client's own are what its connection took, and was answered. Only ready
--- clients have turns, and no client is admitted
+-- The turns, in order, are served by the replica; each client's own are what its connection took, and was answered.
+-- Only ready clients have turns, and no client is admitted
 pub record Round (ready : List ℕ) (turns : List (ℕ × Turn)) (old new : Side) : Type 0 where
   pub serves : Serves (turns_of turns) (stored_in old) (stored_in new)
   pub clients : (n : ℕ) → BothClients (client_of old.host n) (client_of new.host n) (ClientCourse (own n turns))

@@ -21,8 +21,8 @@ pub record HostMoment (C : Type 0) : Type 0 where
 abbrev pub side_at : {C : Type 0} → (C → State) → HostMoment C → Side
 side_at f m = record { host = m.host; site = m.site; store = f m.conn }
 
--- What happens to one client's connection between rounds: bytes came, memory was refused for them, no more is read of it, bytes left,
--- or its writer failed
+-- What happens to one client's connection between rounds: bytes came, memory was refused for them, no more is read of
+-- it, bytes left, or its writer failed
 pub data Call : Type 0 where
   Feeds : List ℕ → Call
   Releases : Call
@@ -37,8 +37,8 @@ after_call (Closes source) h = closed h source
 after_call (Sends count) h = sent h count
 after_call Cuts h = cut h
 
--- A client comes, or a client goes, with the host afterwards; a call on a client; a round of ready clients, with its turns, and all
--- afterwards
+-- A client comes, or a client goes, with the host afterwards; a call on a client; a round of ready clients, with its
+-- turns, and all afterwards
 pub data Happening (C : Type 0) : Type 0 where
   Comes : ℕ → HostValue → Happening C
   Goes : ℕ → HostValue → Happening C
@@ -79,8 +79,8 @@ abbrev pub Runs : {C : Type 0} → (C → State) → HostMoment C → List (Happ
 Runs f side [] = ⊤
 Runs f side (x ∷ xs) = May f side x × Runs f (after_one side x) xs
 
--- The frames that were taken of a client are those of these turns, in order, and what was queued for it are the frames of their
--- replies, in order. Where there is a guard, the first frame shows the token
+-- The frames that were taken of a client are those of these turns, in order, and what was queued for it are the frames
+-- of their replies, in order. Where there is a guard, the first frame shows the token
 pub record TellsOwn (turns : List Turn) (h : History) : Type 0 where
   pub asked : map asked_by h.taken ≡ map (λ t. t.asked) turns
   pub told : AreQueued (map (λ t. t.reply) turns) h.answers

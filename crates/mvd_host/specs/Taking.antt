@@ -38,7 +38,8 @@ pub record HoldsTaken (requests : List (ℕ × Request)) (faulty : List (ℕ × 
 
 -- each client's own requests and faults were taken of its connection
 abbrev pub TakesFrames : List (ℕ × Request) → List (ℕ × FrameValue) → List (ℕ × History) → List (ℕ × History) → Type 0
-TakesFrames requests faulty old new = (n : ℕ) → BothClients (client_in old n) (client_in new n) (TakesOn (own n requests) (own n faulty))
+TakesFrames requests faulty old new =
+    (n : ℕ) → BothClients (client_in old n) (client_in new n) (TakesOn (own n requests) (own n faulty))
 
 -- frames of one client were taken
 pub record TakesMore (client : ℕ) (old new : History) (before after : Taken) : Type 0 where
@@ -62,7 +63,8 @@ pub record KeepsTaken (old new : Taken) : Type 0 where
 
 -- some frame was taken
 abbrev pub IsMore : Taken → Taken → Type 0
-IsMore before after = length before.clients.items + length before.faults.items < length after.clients.items + length after.faults.items
+IsMore before after =
+    length before.clients.items + length before.faults.items < length after.clients.items + length after.faults.items
 
 -- a frame was taken, or nothing comes next
 abbrev pub EndsTaking : History → Taken → Taken → Type 0
@@ -74,11 +76,13 @@ pub record TakesRequests (client : ℕ) (old new : History) (before after : Take
   pub none : took.faulty ≡ []
   pub faults : after.faults.items ≡ before.faults.items
 
--- Frames of one client were taken, unless a frame of it that is no request had been. Nothing changed of any other client
+-- Frames of one client were taken, unless a frame of it that is no request had been. Nothing changed of any other
+-- client
 pub record TakesOf (client : ℕ) (old new : List (ℕ × History)) (before after : Taken) : Type 0 where
   pub requests : List Request
   pub faulty : List FrameValue
-  pub first : (asked : List (ℕ × Request)) (faults : List (ℕ × FrameValue)) → HoldsTaken asked faults before → (own client faults ≡ []) ⊎ ((requests ≡ []) × (faulty ≡ []))
+  pub first : (asked : List (ℕ × Request)) (faults : List (ℕ × FrameValue)) → HoldsTaken asked faults before
+      → (own client faults ≡ []) ⊎ ((requests ≡ []) × (faulty ≡ []))
   pub one : BothClients (client_in old client) (client_in new client) (TakesOn requests faulty)
   pub none : client_in old client ≡ None → (requests ≡ []) × (faulty ≡ [])
   pub others : (q : ℕ) → (q == client) ≡ false → client_in new q ≡ client_in old q
@@ -92,7 +96,8 @@ pub record TakesAllFrames (old new : List (ℕ × History)) (taken : Taken) : Ty
   pub holds : HoldsTaken requests faulty taken
   pub takes : TakesFrames requests faulty old new
 
--- and of the first of these clients alone: where there is no such client, or it is not looked at, no frame of it was taken
+-- and of the first of these clients alone: where there is no such client, or it is not looked at, no frame of it was
+-- taken
 pub record TakesOnly (ready : List ℕ) (count : ℕ) (old new : List (ℕ × History)) (taken : Taken) : Type 0 where
   pub all : TakesAllFrames old new taken
   pub none : (n : ℕ) → client_in old n ≡ None → (own n all.requests ≡ []) × (own n all.faulty ≡ [])

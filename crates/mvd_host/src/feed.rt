@@ -1,5 +1,5 @@
-//! The keys that changed of late: those that each round may have changed, and the root of the hash tree after it. A root
-//! tells what a reader knows: states only grow, so one that was never comes again.
+//! The keys that changed of late: those that each round may have changed, and the root of the hash tree after it. A
+//! root tells what a reader knows: states only grow, so one that was never comes again.
 ghost use Rattle.std.specs.Prelude.{◌≡◌, ◌≤◌, IfOk, IfSome, IsOkUnless, OnErr, OnOk, List, [], ℕ, drop, length, map};
 ghost use Rattle.std.specs.Prelude.{option_map};
 ghost use Rattle.mvd_host.specs.Feeds.{keys_in, knows_nothing, knows_root, lasts, noted_in, noted_since, root_now};
@@ -13,12 +13,12 @@ use std::alloc::{AllocError, Global};
 use std::collections::{BTreeSet, VecDeque};
 use std::marker::Model;
 
-/// As many rounds are remembered, and as many keys of them.
+/// The most rounds that are remembered, and the most keys of them.
 const ROUNDS_MAX: usize = 4_096;
 
 const KEYS_MAX: usize = 65_536;
 
-/// As many keys are told at once.
+/// The most keys that are told at once.
 pub const TOLD_MAX: usize = 1_000;
 
 /// The keys that a round may have changed, and the root after it.
@@ -43,7 +43,7 @@ pub struct Feed {
     pub(crate) alloc: Global,
     start: Option<[u8; 32]>,
     rounds: VecDeque<Noted>,
-    /// As many keys were noted in the rounds.
+    /// The number of keys that were noted in the rounds.
     count: usize,
 }
 

@@ -12,7 +12,7 @@ use std::alloc::Global;
 use std::collections::BTreeMap;
 use std::marker::Model;
 
-/// As many clients there may be at once.
+/// The most clients at once.
 pub const CLIENTS_MAX: usize = 10_000;
 
 /// The connections of many clients. A client has a number, which no other client gets, also when it is gone. Each
@@ -21,7 +21,7 @@ pub const CLIENTS_MAX: usize = 10_000;
 pub struct Host {
     pub(crate) alloc: Global,
     pub(crate) clients: BTreeMap<u64, Connection>,
-    /// As many were admitted.
+    /// The number of clients that were admitted.
     admitted: u64,
 }
 

@@ -49,7 +49,8 @@ impl Feed {
     /// Notes what these requests may have changed, and the root now.
     fn follow<S: Alter>(&mut self, replica: &Replica<S>, requests: &[Request])
         ensures notes { Notes requests.now (site_of replica.now).states self.old self.new }
-        ensures lists { (before : States) → ChangesAmong (keys_to_change requests.now) before (site_of replica.now).states →
+        ensures lists { (before : States)
+            → ChangesAmong (keys_to_change requests.now) before (site_of replica.now).states →
             ListsOn self.old before self.new (site_of replica.now).states }
     {
         let Ok(root) = replica.root() else {

@@ -18,8 +18,8 @@ impl Host {
 
     /// Takes at most 1,024 frames of each ready client, answers them together, queues each reply on its own client's
     /// connection, counts what was done and refused, and notes in the feed which keys may have changed. Gives whether
-    /// there may be more to do at once: after `false` no frame can be taken of a ready client now, and after `true` some
-    /// was. It is refused where memory was for a frame; what else was taken is answered.
+    /// there may be more to do at once: after `false` no frame can be taken of a ready client now, and after `true`
+    /// some was. It is refused where memory was for a frame; what else was taken is answered.
     pub fn round<S: Alter>(
         &mut self,
         replica: &mut Replica<S>,

@@ -18,7 +18,7 @@ use std::alloc::{AllocError, Global};
 use std::collections::BTreeMap;
 use std::mem;
 
-/// As many frames of a client are taken in one round: as many as share a commit.
+/// The most frames of a client that are taken in one round: those that share a commit.
 const FRAMES_MAX: usize = 1_024;
 
 /// The frames that were taken: requests, each with its client, and then those that are none, or that were refused

@@ -4,7 +4,7 @@ ghost use Rattle.std.specs.Prelude.{◌<◌};
 use mvd_dots::Refusal;
 use mvd_wire::{Reply, Request};
 
-/// As many kinds of requests there are.
+/// The number of kinds of requests.
 pub const KINDS: usize = 14;
 
 /// How many requests of each kind were done, and how many were refused.

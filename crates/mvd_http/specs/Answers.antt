@@ -84,7 +84,8 @@ seen_by _ = set.empty
 abbrev pub seen_then : Request → DotValue → DotSet
 seen_then request dot = set.insert (seen_by request) dot
 
--- The status and the body, or the refusal that is told in their place. A reply of a kind that answers no such request is 32.
+-- The status and the body, or the refusal that is told in their place. A reply of a kind that answers no such request
+-- is 32.
 abbrev pub reply_told : Request → Reply → Result Told Refusal
 reply_told request (reply.State state) = state_told (key_asked request) state
 reply_told request (reply.Written dot) = Ok (record { status = 201; body = written_json dot (seen_then request dot) })
@@ -116,7 +117,8 @@ is_stored _ = false
 
 -- This is told, or the refusal. Want of memory may be told in its place, but never of a change that is stored.
 abbrev pub Responds : Bool → Result Told Refusal → ℕ → List ℕ → Type 0
-Responds stored (Ok told) status body = IsToldAs told status body ⊎ ((stored ≡ false) × IsToldAs (refused_told Memory) status body)
+Responds stored (Ok told) status body =
+    IsToldAs told status body ⊎ ((stored ≡ false) × IsToldAs (refused_told Memory) status body)
 Responds stored (Err refusal) status body = IsToldAs (refused_told refusal) status body
 
 -- the body came behind a text, and its status is given; a refusal is given back, and so is want of memory

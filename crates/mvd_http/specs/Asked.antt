@@ -1,5 +1,5 @@
--- What a request of HTTP asks, this repository's own: of the site, or of the server. It is read from left to right: the first
--- refusal decides.
+-- What a request of HTTP asks, this repository's own: of the site, or of the server. It is read from left to right: the
+-- first refusal decides.
 use Rattle.std.specs.Prelude.{ℕ, ◌-◌, ◌==◌, ◌^◌, ◌≡◌, ◌&&◌, nat_lt, nat_le, if◌then◌else◌, Bool, true, false, List, [], ◌∷◌, codes, length, map, Option, Some, None, Result, Ok, Err}
 use Rattle.std.specs.FinSet as set
 use Rattle.std.specs.Char.{is_ascii_digit}
@@ -60,7 +60,8 @@ term_in text = read_part term_of_json BadTerm text
 
 -- the value of a lower-case hexadecimal digit, and of no other byte one that a path may have
 abbrev pub digit_in : ℕ → ℕ
-digit_in byte = if nat_le 48 byte && nat_le byte 57 then byte - 48 else (if nat_le 97 byte && nat_le byte 102 then byte - 87 else 255)
+digit_in byte = if nat_le 48 byte && nat_le byte 57 then byte - 48
+    else (if nat_le 97 byte && nat_le byte 102 then byte - 87 else 255)
 
 abbrev pub path_asked : List ℕ → Result (List ℕ) Refusal
 path_asked text = path_of (map digit_in (percent_decode text))
@@ -74,7 +75,9 @@ if_given read (b ∷ bs) = then_read (read (b ∷ bs)) (λ value. Ok (Some value
 
 -- the number of at most 15 decimal digits
 abbrev pub number_in : List ℕ → Option ℕ
-number_in text = if list_all is_ascii_digit text && nat_lt 0 (length text) && nat_le (length text) 15 then Some (digits_value 10 text) else None
+number_in text =
+    if list_all is_ascii_digit text && nat_lt 0 (length text)
+    && nat_le (length text) 15 then Some (digits_value 10 text) else None
 
 abbrev pub dot_of : Option ℕ → Option ℕ → Result DotValue Refusal
 dot_of (Some site) (Some counter) =
@@ -88,7 +91,8 @@ dot_in text = dot_of (number_in (text_before 58 text)) (number_in (text_behind 5
 abbrev pub place_asked : DotValue → List ℕ → Result Place Refusal
 place_asked dot rest =
     then_read (read_text key_of_text BadKey (text_before 32 rest)) (λ key.
-    then_read (read_text term_of_json BadTerm (text_behind 32 rest)) (λ term. Ok (record { term = term; key = key; dot = dot })))
+    then_read (read_text term_of_json BadTerm (text_behind 32 rest))
+    (λ term. Ok (record { term = term; key = key; dot = dot })))
 
 abbrev pub place_of_text : List ℕ → Result Place Refusal
 place_of_text text = then_read (dot_in (text_before 32 text)) (λ dot. place_asked dot (text_behind 32 text))
@@ -139,7 +143,8 @@ rows_question view query =
 
 abbrev pub row_question : List ℕ → List ℕ → Result Question Refusal
 row_question view query =
-    then_read (view_named_in view) (λ v. then_read (term_in (given (codes "is=") query)) (λ term. Ok (Ask (Row v term))))
+    then_read (view_named_in view)
+    (λ v. then_read (term_in (given (codes "is=") query)) (λ term. Ok (Ask (Row v term))))
 
 abbrev pub row_or : Option (List ℕ) → List ℕ → Result Question Refusal
 row_or None query = Ok Nowhere
@@ -174,7 +179,8 @@ is_live query = bytes_eq (given (codes "live=") query) (codes "1")
 abbrev pub keys_question : List ℕ → Result Question Refusal
 keys_question query =
     then_read (prefix_in (given (codes "prefix=") query)) (λ prefix.
-    then_read (if_given key_in (given (codes "after=") query)) (λ after. Ok (keys_as (is_live query) (Keys prefix after))))
+    then_read (if_given key_in (given (codes "after=") query))
+    (λ after. Ok (keys_as (is_live query) (Keys prefix after))))
 
 abbrev pub conflicts_asked : List ℕ → Result Question Refusal
 conflicts_asked query = then_read (if_given key_in (given (codes "after=") query)) (λ after. Ok (Ask (Conflicts after)))
@@ -208,15 +214,18 @@ list_asked path query =
 -- ---- keys
 
 abbrev pub put_question : List ℕ → Key → DotSet → Result Question Refusal
-put_question body key seen = then_read (read_text document_of BadDocument body) (λ document. Ok (Ask (Put key seen document)))
+put_question body key seen =
+    then_read (read_text document_of BadDocument body) (λ document. Ok (Ask (Put key seen document)))
 
 abbrev pub delete_question : Key → DotSet → Result Question Refusal
 delete_question key seen = Ok (Ask (Delete key seen))
 
 abbrev pub IsQuestionOfKey : Verb → List ℕ → Option (List ℕ) → List ℕ → Result Question Refusal → Type 0
 IsQuestionOfKey verb.Read key context body result = IsAnswer result (then_read (key_in key) (λ k. Ok (Ask (Get k))))
-IsQuestionOfKey verb.Put key context body result = IsWrite (Ok set.empty) (key_in key) context (put_question body) result
-IsQuestionOfKey verb.Delete key context body result = IsWrite (Err BadContext) (key_in key) context delete_question result
+IsQuestionOfKey verb.Put key context body result =
+    IsWrite (Ok set.empty) (key_in key) context (put_question body) result
+IsQuestionOfKey verb.Delete key context body result =
+    IsWrite (Err BadContext) (key_in key) context delete_question result
 IsQuestionOfKey verb.Post key context body result = result ≡ Ok (NotAllowed OfKey)
 IsQuestionOfKey verb.Other key context body result = result ≡ Ok (NotAllowed OfKey)
 
@@ -247,11 +256,14 @@ abbrev pub IsOfServer : Bool → Verb → List ℕ → List ℕ → List ℕ →
 IsOfServer true verb path query body result = IsOfKeys verb query body result
 IsOfServer false verb path query body result = IsAnswer result (read_only verb path query)
 
-abbrev pub IsQuestionOf : Option (List ℕ) → Verb → List ℕ → List ℕ → Option (List ℕ) → List ℕ → Result Question Refusal → Type 0
-IsQuestionOf None verb path query context body result = IsOfServer (bytes_eq path (codes "/keys")) verb path query body result
+abbrev pub IsQuestionOf : Option (List ℕ) → Verb → List ℕ → List ℕ → Option (List ℕ) → List ℕ → Result Question Refusal
+    → Type 0
+IsQuestionOf None verb path query context body result =
+    IsOfServer (bytes_eq path (codes "/keys")) verb path query body result
 IsQuestionOf (Some key) verb path query context body result = IsQuestionOfKey verb key context body result
 
 -- a request of this method, target, field `Mvd-Context` and body asks this
 abbrev pub IsQuestion : List ℕ → List ℕ → Option (List ℕ) → List ℕ → Result Question Refusal → Type 0
 IsQuestion method target context body result =
-    IsQuestionOf (without (codes "/keys/") (text_before 63 target)) (verb_of method) (text_before 63 target) (text_behind 63 target) context body result
+    IsQuestionOf (without (codes "/keys/") (text_before 63 target)) (verb_of method) (text_before 63 target)
+    (text_behind 63 target) context body result

@@ -1,4 +1,5 @@
--- HTTP's own faults (RFC 9110, 15.5 and 15.6): the status of the response, and its body in the form of a refusal, with the number 0.
+-- HTTP's own faults (RFC 9110, 15.5 and 15.6): the status of the response, and its body in the form of a refusal, with
+-- the number 0.
 use Rattle.std.specs.Prelude.{ℕ, List, ◌++◌, codes, false, None}
 use Rattle.mvd_http.specs.declared.fields.Answer.{Answer}
 use Rattle.mvd_http.specs.declared.fields.Content.TheVariants.{Json}

@@ -1,4 +1,5 @@
--- The fields of a response (RFC 9110; RFC 6750, 3; X-Content-Type-Options of the Fetch standard; Content Security Policy Level 3).
+-- The fields of a response (RFC 9110; RFC 6750, 3; X-Content-Type-Options of the Fetch standard; Content Security
+-- Policy Level 3).
 use Rattle.std.specs.Prelude.{ℕ, Bool, true, false, List, [], ◌∷◌, ◌++◌, codes, Option, Some, None}
 use Rattle.mvd_http.specs.declared.fields.Answer.{Answer}
 use Rattle.mvd_http.specs.declared.fields.Content.{Content}
@@ -8,7 +9,8 @@ use Rattle.mvd_http.specs.declared.question.Methods.TheVariants.{OfKey, OfKeys, 
 
 -- what a page of the server may load and run: its own script and style, by their digests, and requests to the server
 abbrev pub policy : List ℕ
-policy = codes "default-src 'none'; script-src 'sha256-nXMd8IG79t3hAaA/3wWO4vVZBf2YiCHzeCXr6YILBKg='; style-src 'sha256-GfXVPu/24CyMDZkrHnm/405USX81HQtD5DIfoaMqPsA='; connect-src 'self'; img-src data:; base-uri 'none'; form-action 'none'; frame-ancestors 'none'; require-trusted-types-for 'script'; trusted-types 'none'"
+policy =
+    codes "default-src 'none'; script-src 'sha256-nXMd8IG79t3hAaA/3wWO4vVZBf2YiCHzeCXr6YILBKg='; style-src 'sha256-GfXVPu/24CyMDZkrHnm/405USX81HQtD5DIfoaMqPsA='; connect-src 'self'; img-src data:; base-uri 'none'; form-action 'none'; frame-ancestors 'none'; require-trusted-types-for 'script'; trusted-types 'none'"
 
 -- those of each response
 abbrev pub common : List (List ℕ × List ℕ)

@@ -1,5 +1,5 @@
--- Which requests are of this server's own pages (RFC 6454, the origin of a page): others are refused, against pages that lead a
--- browser here under a name of their own.
+-- Which requests are of this server's own pages (RFC 6454, the origin of a page): others are refused, against pages
+-- that lead a browser here under a name of their own.
 use Rattle.std.specs.Prelude.{◌==◌, ◌&&◌, ◌||◌, ℕ, Bool, true, false, nat_lt, List, [], ◌∷◌, codes, length, Option, Some, None}
 use Rattle.std.specs.Char.{is_ascii_digit}
 use Rattle.std.specs.List.{list_all}

@@ -53,11 +53,14 @@ next_text_of text true xs = option_map text (last_of xs)
 -- ---- entries
 
 abbrev pub sibling_json : DotValue × Text → List ℕ
-sibling_json sibling = codes "{\"dot\":\"" ++ (dot_text sibling.0 ++ (codes "\",\"document\":" ++ (sibling.1 ++ codes "}")))
+sibling_json sibling =
+    codes "{\"dot\":\"" ++ (dot_text sibling.0 ++ (codes "\",\"document\":" ++ (sibling.1 ++ codes "}")))
 
 abbrev pub place_json : Place → List ℕ
 place_json place =
-    codes "{\"term\":" ++ (term_text place.term ++ (codes ",\"key\":" ++ (quoted place.key ++ (codes ",\"dot\":\"" ++ (dot_text place.dot ++ codes "\"}")))))
+    codes "{\"term\":"
+    ++ (term_text place.term
+    ++ (codes ",\"key\":" ++ (quoted place.key ++ (codes ",\"dot\":\"" ++ (dot_text place.dot ++ codes "\"}")))))
 
 -- the place as the text that a query takes
 abbrev pub place_mark : Place → List ℕ
@@ -65,11 +68,15 @@ place_mark place = dot_text place.dot ++ (codes " " ++ (place.key ++ (codes " " 
 
 abbrev pub ends_json : Option (ℤ × ℤ) → List ℕ
 ends_json None = []
-ends_json (Some ends) = codes ",\"least\":" ++ (signed_decimal ends.0 ++ (codes ",\"greatest\":" ++ signed_decimal ends.1))
+ends_json (Some ends) =
+    codes ",\"least\":" ++ (signed_decimal ends.0 ++ (codes ",\"greatest\":" ++ signed_decimal ends.1))
 
 abbrev pub row_json : Term → ℕ → ℤ → Option (ℤ × ℤ) → List ℕ
 row_json term count sum ends =
-    codes "{\"term\":" ++ (term_text term ++ (codes ",\"count\":" ++ (decimal count ++ (codes ",\"sum\":" ++ (signed_decimal sum ++ (ends_json ends ++ codes "}"))))))
+    codes "{\"term\":"
+    ++ (term_text term
+    ++ (codes ",\"count\":"
+    ++ (decimal count ++ (codes ",\"sum\":" ++ (signed_decimal sum ++ (ends_json ends ++ codes "}"))))))
 
 abbrev pub view_row_json : Term × ℕ × ℤ × Option (ℤ × ℤ) → List ℕ
 view_row_json row = row_json row.0 row.1 row.2 row.3
@@ -82,14 +89,16 @@ abbrev pub digest_json : List ℕ → List ℕ
 digest_json digest = codes "\"" ++ (encode_lower digest ++ codes "\"")
 
 abbrev pub key_digest_text : Key × List ℕ → List ℕ
-key_digest_text entry = codes "{\"key\":" ++ (quoted entry.0 ++ (codes ",\"digest\":" ++ (digest_json entry.1 ++ codes "}")))
+key_digest_text entry =
+    codes "{\"key\":" ++ (quoted entry.0 ++ (codes ",\"digest\":" ++ (digest_json entry.1 ++ codes "}")))
 
 abbrev pub key_mark : Key × List ℕ → List ℕ
 key_mark entry = entry.0
 
 -- a key with the number of its siblings
 abbrev pub key_count_text : Key × ℕ → List ℕ
-key_count_text entry = codes "{\"key\":" ++ (quoted entry.0 ++ (codes ",\"siblings\":" ++ (decimal entry.1 ++ codes "}")))
+key_count_text entry =
+    codes "{\"key\":" ++ (quoted entry.0 ++ (codes ",\"siblings\":" ++ (decimal entry.1 ++ codes "}")))
 
 abbrev pub count_mark : Key × ℕ → List ℕ
 count_mark entry = entry.0
@@ -101,15 +110,21 @@ siblings_json siblings = commaed sibling_json siblings
 
 abbrev pub state_json : Key → State → List ℕ
 state_json key state =
-    codes "{\"key\":" ++ (quoted key ++ (codes ",\"context\":\"" ++ (text_of state.context ++ (codes "\",\"siblings\":[" ++ (siblings_json (entries state.siblings) ++ codes "]}")))))
+    codes "{\"key\":"
+    ++ (quoted key
+    ++ (codes ",\"context\":\""
+    ++ (text_of state.context
+    ++ (codes "\",\"siblings\":[" ++ (siblings_json (entries state.siblings) ++ codes "]}")))))
 
 -- the dot of a write, and the context to write with next
 abbrev pub written_json : DotValue → DotSet → List ℕ
-written_json dot context = codes "{\"dot\":\"" ++ (dot_text dot ++ (codes "\",\"context\":\"" ++ (text_of context ++ codes "\"}")))
+written_json dot context =
+    codes "{\"dot\":\"" ++ (dot_text dot ++ (codes "\",\"context\":\"" ++ (text_of context ++ codes "\"}")))
 
 -- a page of a list, under its name, and the text for the next page
 abbrev pub page_text : {X : Type 0} → List ℕ → (X → List ℕ) → (X → List ℕ) → List X → Bool → List ℕ
-page_text name text mark xs more = name ++ (commaed text xs ++ (codes "]" ++ (next_text (next_text_of mark more xs) ++ codes "}")))
+page_text name text mark xs more =
+    name ++ (commaed text xs ++ (codes "]" ++ (next_text (next_text_of mark more xs) ++ codes "}")))
 
 abbrev pub places_json : List Place → Bool → List ℕ
 places_json places more = page_text (codes "{\"places\":[") place_json place_mark places more
@@ -129,7 +144,9 @@ live_of keys = filter (λ entry. nat_lt 0 entry.1) keys
 
 abbrev pub live_text : List (Key × ℕ) → Bool → List ℕ
 live_text keys more =
-    codes "{\"keys\":[" ++ (commaed key_count_text (live_of keys) ++ (codes "]" ++ (next_text (next_text_of count_mark more keys) ++ codes "}")))
+    codes "{\"keys\":["
+    ++ (commaed key_count_text (live_of keys)
+    ++ (codes "]" ++ (next_text (next_text_of count_mark more keys) ++ codes "}")))
 
 abbrev pub children_text : Option (List (List ℕ)) → List ℕ
 children_text None = []
@@ -140,7 +157,11 @@ node_text own children = codes "{\"digest\":" ++ (digest_json own ++ (children_t
 
 abbrev pub root_json : List ℕ → ℕ → ℕ → ℕ → List ℕ
 root_json digest keys conflicts site =
-    codes "{\"root\":" ++ (digest_json digest ++ (codes ",\"keys\":" ++ (decimal keys ++ (codes ",\"conflicts\":" ++ (decimal conflicts ++ (codes ",\"site\":" ++ (decimal site ++ codes "}")))))))
+    codes "{\"root\":"
+    ++ (digest_json digest
+    ++ (codes ",\"keys\":"
+    ++ (decimal keys
+    ++ (codes ",\"conflicts\":" ++ (decimal conflicts ++ (codes ",\"site\":" ++ (decimal site ++ codes "}")))))))
 
 abbrev pub truth_text : Bool → List ℕ
 truth_text true = codes "true"
@@ -149,10 +170,14 @@ truth_text false = codes "false"
 -- the keys that changed, and the root now; or that all is to be read anew
 abbrev pub changes_text : List ℕ → List Key → Bool → List ℕ
 changes_text root keys resync =
-    codes "{\"root\":" ++ (digest_json root ++ (codes ",\"keys\":[" ++ (commaed quoted keys ++ (codes "],\"resync\":" ++ (truth_text resync ++ codes "}")))))
+    codes "{\"root\":"
+    ++ (digest_json root
+    ++ (codes ",\"keys\":["
+    ++ (commaed quoted keys ++ (codes "],\"resync\":" ++ (truth_text resync ++ codes "}")))))
 
 abbrev pub refused_json : Refusal → List ℕ
-refused_json refusal = codes "{\"refused\":" ++ (decimal (number_of refusal) ++ (codes ",\"name\":\"" ++ (name_of refusal ++ codes "\"}")))
+refused_json refusal =
+    codes "{\"refused\":" ++ (decimal (number_of refusal) ++ (codes ",\"name\":\"" ++ (name_of refusal ++ codes "\"}")))
 
 -- ---- the lines that many writes are told in, each with its line feed (10)
 

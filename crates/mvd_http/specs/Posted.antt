@@ -1,4 +1,5 @@
--- A list of writes, this repository's own: lines of JSON (RFC 8259), each an object with `key`, and `context` or `document` or both.
+-- A list of writes, this repository's own: lines of JSON (RFC 8259), each an object with `key`, and `context` or
+-- `document` or both.
 use Rattle.std.specs.Prelude.{ℕ, ◌+◌, ◌==◌, ◌≡◌, ◌≢◌, ◌≤◌, ◌<◌, ◌&&◌, nat_lt, if◌then◌else◌, List, [], ◌∷◌, codes, length, Any, Option, Some, None, option_copied, option_map, option_and_then, unwrap_or, Result, Ok, Err}
 use Rattle.std.specs.FinSet as set
 use Rattle.std.specs.List.{slice_split}
@@ -30,7 +31,12 @@ pub record LineValue : Type 0 where
   pub document : Option Data
 
 abbrev pub said_by : Line → LineValue
-said_by line = record { key = line.key.now; context = option_copied line.context; document = option_map (λ v. view v.now) line.document }
+said_by line =
+    record {
+      key = line.key.now;
+      context = option_copied line.context;
+      document = option_map (λ v. view v.now) line.document;
+    }
 
 abbrev pub member_count : Members → ℕ
 member_count no_members = 0
@@ -59,7 +65,8 @@ line_with count None context document = None
 
 abbrev pub line_of_data : Data → Option LineValue
 line_of_data d =
-    line_with (member_count_of (as_object d)) (option_and_then as_str (get (codes "key") d)) (text_if (get (codes "context") d)) (get (codes "document") d)
+    line_with (member_count_of (as_object d)) (option_and_then as_str (get (codes "key") d))
+    (text_if (get (codes "context") d)) (get (codes "document") d)
 
 abbrev pub line_of_read : Option Data → Option LineValue
 line_of_read d = option_and_then line_of_data d
@@ -113,7 +120,8 @@ body_lines body = if length body == 0 then [] else slice_split (λ b. b == 10) (
 abbrev pub AreFewLines : List ℕ → Type 0
 AreFewLines body = length (body_lines body) ≤ 1000
 
--- Each line is a write or its refusal, where there are at most 1,000 and each has the form of one. Else nothing is done.
+-- Each line is a write or its refusal, where there are at most 1,000 and each has the form of one. Else nothing is
+-- done.
 abbrev pub IsMany : List ℕ → Result Question Refusal → Type 0
 IsMany body (Ok (Many items)) = AreFewLines body × AreLineWrites (body_lines body) items
 IsMany body (Ok TooManyLines) = 1000 < length (body_lines body)

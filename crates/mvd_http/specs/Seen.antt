@@ -1,5 +1,5 @@
--- A write of a key, with the context that its author saw. It is read from left to right, key, context, document: the first refusal
--- decides.
+-- A write of a key, with the context that its author saw. It is read from left to right, key, context, document: the
+-- first refusal decides.
 use Rattle.std.specs.Prelude.{ℕ, ◌≡◌, Bool, true, false, List, Option, Some, None, Result, Ok, Err}
 use Rattle.std.specs.Str.{is_utf8}
 use Rattle.mvd_dots.specs.Answer.{IsAnswer, IsReading}
@@ -27,10 +27,14 @@ abbrev pub AndThen : {A B : Type 0} → Result A Refusal → (A → Result B Ref
 AndThen (Ok value) Is result = Is value result
 AndThen (Err refusal) Is result = result ≡ Err refusal
 
-abbrev pub IsMadeWithContext : {A : Type 0} → Result DotSet Refusal → Option (List ℕ) → (DotSet → Result A Refusal) → Result A Refusal → Type 0
+abbrev pub IsMadeWithContext : {A : Type 0} → Result DotSet Refusal → Option (List ℕ) → (DotSet → Result A Refusal)
+    → Result A Refusal → Type 0
 IsMadeWithContext absent context make result =
-    (seen : Result DotSet Refusal) × IsSeen absent context seen × AndThen seen (λ dots made. IsAnswer made (make dots)) result
+    (seen : Result DotSet Refusal) × IsSeen absent context seen
+    × AndThen seen (λ dots made. IsAnswer made (make dots)) result
 
-abbrev pub IsWrite : {A : Type 0} → Result DotSet Refusal → Result Key Refusal → Option (List ℕ) → (Key → DotSet → Result A Refusal) → Result A Refusal → Type 0
+abbrev pub IsWrite : {A : Type 0} → Result DotSet Refusal → Result Key Refusal → Option (List ℕ)
+    → (Key → DotSet → Result A Refusal) → Result A Refusal → Type 0
 IsWrite absent key context make result =
-    (read : Result Key Refusal) × IsAnswer read key × AndThen read (λ k made. IsMadeWithContext absent context (make k) made) result
+    (read : Result Key Refusal) × IsAnswer read key
+    × AndThen read (λ k made. IsMadeWithContext absent context (make k) made) result

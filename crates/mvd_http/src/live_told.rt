@@ -35,7 +35,8 @@ fn push_live_of(
     keys: &[KeyCount],
     more: bool,
 ) -> Result<u16, Refusal>
-    ensures { AppendsBody (Ok (ok_told (live_text keys.now more))) (string_bytes out.old) (string_bytes out.new) result }
+    ensures { AppendsBody (Ok (ok_told (live_text keys.now more))) (string_bytes out.old)
+        (string_bytes out.new) result }
 {
     push_live_page(alloc, out, keys, more)?;
     Ok(200)

@@ -142,7 +142,8 @@ fn push_places_of(
     places: &[Place],
     more: bool,
 ) -> Result<u16, Refusal>
-    ensures { AppendsBody (Ok (ok_told (places_json places.now more))) (string_bytes out.old) (string_bytes out.new) result }
+    ensures { AppendsBody (Ok (ok_told (places_json places.now more))) (string_bytes out.old)
+        (string_bytes out.new) result }
 {
     push_places_page(alloc, out, places, more)?;
     Ok(200)
@@ -154,7 +155,8 @@ fn push_rows_of(
     rows: &[ViewRow],
     more: bool,
 ) -> Result<u16, Refusal>
-    ensures { AppendsBody (Ok (ok_told (rows_text rows.now more))) (string_bytes out.old) (string_bytes out.new) result }
+    ensures { AppendsBody (Ok (ok_told (rows_text rows.now more))) (string_bytes out.old)
+        (string_bytes out.new) result }
 {
     push_rows_page(alloc, out, rows, more)?;
     Ok(200)
@@ -166,7 +168,8 @@ fn push_keys_of(
     keys: &[KeyDigest],
     more: bool,
 ) -> Result<u16, Refusal>
-    ensures { AppendsBody (Ok (ok_told (keys_json keys.now more))) (string_bytes out.old) (string_bytes out.new) result }
+    ensures { AppendsBody (Ok (ok_told (keys_json keys.now more))) (string_bytes out.old)
+        (string_bytes out.new) result }
 {
     push_keys_page(alloc, out, keys, more)?;
     Ok(200)
@@ -178,7 +181,8 @@ fn push_counts_of(
     keys: &[KeyCount],
     more: bool,
 ) -> Result<u16, Refusal>
-    ensures { AppendsBody (Ok (ok_told (counts_text keys.now more))) (string_bytes out.old) (string_bytes out.new) result }
+    ensures { AppendsBody (Ok (ok_told (counts_text keys.now more))) (string_bytes out.old)
+        (string_bytes out.new) result }
 {
     push_counts_page(alloc, out, keys, more)?;
     Ok(200)

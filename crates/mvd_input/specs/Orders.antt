@@ -187,11 +187,15 @@ is_given_option rows option = option_map_or is_word (source_in rows option) fals
 
 -- the words of a shell name a server or what is shown to it, or say how a site is set up
 abbrev pub names_server : List Row → Bool
-names_server rows = is_given_option rows (codes "port") || (is_given_option rows (codes "address") || (is_given_option rows (codes "idle")
+names_server rows =
+    is_given_option rows (codes "port")
+    || (is_given_option rows (codes "address") || (is_given_option rows (codes "idle")
     || is_given_option rows (codes "token-file")))
 
 abbrev pub sets_up : List Row → Bool
-sets_up rows = is_given_option rows (codes "site") || (is_given_option rows (codes "defs") || is_given_option rows (codes "max-keys"))
+sets_up rows =
+    is_given_option rows (codes "site")
+    || (is_given_option rows (codes "defs") || is_given_option rows (codes "max-keys"))
 
 -- the words name a database, or say how a site is set up
 abbrev pub has_file : List Row → Bool

@@ -1,8 +1,8 @@
 -- The answer to a request, and the states afterwards.
 --
--- The answers are those of a multi-value register at each key (Shapiro, Preguiça, Baquero, Zawirski, INRIA RR-7506). There
--- is one table, over the states of the keys. Where they follow from a set of writes (`state` of specs/Writes in mvd_keys says
--- how), each answer is computed from the whole set, and nothing that a site keeps stands in it.
+-- The answers are those of a multi-value register at each key (Shapiro, Preguiça, Baquero, Zawirski, INRIA RR-7506).
+-- There is one table, over the states of the keys. Where they follow from a set of writes (`state` of specs/Writes in
+-- mvd_keys says how), each answer is computed from the whole set, and nothing that a site keeps stands in it.
 use Rattle.std.specs.Prelude.{ℕ, ℤ, Bool, true, false, not, ◌&&◌, ◌==◌, nat_lt, if◌then◌else◌, List, ◌++◌, length, map, is_some, Option, Some, None, Result, Ok, Err}
 use Rattle.std.specs.FinMap.{FinMap, from_entries, get, insert, len as map_len}
 use Rattle.std.specs.FinSet.{union, items}
@@ -70,11 +70,18 @@ digests states = digests_of spelled states
 
 -- the digest of a node and, above the buckets, those of its children
 abbrev pub node_digests : KeyDigests → List ℕ → Digests
-node_digests held path = record { own = node_digest held path; children = if nat_lt (length path) 3 then Some (children_digests held path) else None }
+node_digests held path =
+    record {
+      own = node_digest held path;
+      children = if nat_lt (length path) 3 then Some (children_digests held path)
+          else None;
+    }
 
 -- a page of a bucket's keys, after a key if one is given
 abbrev pub bucket_answer : KeyDigests → List ℕ → Option Key → Reply
-bucket_answer held path after = if length path == 3 then KeysTold (bucket_page held path after) (is_more_after_page held path after) else Refused BadPath
+bucket_answer held path after =
+    if length path == 3 then KeysTold (bucket_page held path after) (is_more_after_page held path after)
+    else Refused BadPath
 
 -- ---- indexes and views
 
@@ -108,7 +115,8 @@ within config states key after reply = limited config (is_some (get states key))
 -- a put, with the dot that is minted for it
 abbrev pub put_from : ConfigValue → States → Key → DotSet → Text → Option DotValue → Reply
 put_from config states key seen document None = Refused Exhausted
-put_from config states key seen document (Some dot) = within config states key (after_put (state_at states key) dot seen document) (Written dot)
+put_from config states key seen document (Some dot) =
+    within config states key (after_put (state_at states key) dot seen document) (Written dot)
 
 -- a push: the first refusal that applies, or done
 abbrev pub push_from : ConfigValue → States → Key → State → Reply
@@ -120,11 +128,14 @@ push_from config states key pushed =
 -- the answer to a request
 abbrev pub answer_from : ConfigValue → States → Request → Reply
 answer_from config states (Get key) = Shown (state_at states key)
-answer_from config states (Put key seen document) = put_from config states key seen document (mint config.site (union (state_at states key).context seen))
+answer_from config states (Put key seen document) =
+    put_from config states key seen document (mint config.site (union (state_at states key).context seen))
 answer_from config states (Delete key seen) = within config states key (after_delete (state_at states key) seen) Done
 answer_from config states (Push key pushed) = push_from config states key pushed
-answer_from config states (Find field term after) = places_reply (find_answer config.defs (visible_in states) field term after)
-answer_from config states (Range field from to after) = places_reply (range_answer config.defs (visible_in states) field from to after)
+answer_from config states (Find field term after) =
+    places_reply (find_answer config.defs (visible_in states) field term after)
+answer_from config states (Range field from to after) =
+    places_reply (range_answer config.defs (visible_in states) field from to after)
 answer_from config states (Row view term) = row_reply (row_answer config.defs (visible_in states) view term)
 answer_from config states (Rows view after) = rows_reply (rows_answer config.defs (visible_in states) view after)
 answer_from config states (Node path) = Told (node_digests (digests states) path)
@@ -134,7 +145,8 @@ answer_from config states (Conflicts after) = counts_reply (conflicts_answer sta
 answer_from config states (Hello token) = Done
 answer_from config states Bye = Done
 
--- the request only asks: for the state of a key, for places, for rows of a view, for digests of the hash tree, or for keys
+-- the request only asks: for the state of a key, for places, for rows of a view, for digests of the hash tree, or for
+-- keys
 abbrev pub is_question : Request → Bool
 is_question (Get key) = true
 is_question (Find field term after) = true

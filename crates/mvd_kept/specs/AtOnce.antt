@@ -12,8 +12,8 @@ use Rattle.mvd_kept.specs.Prepared.{IsFrugal}
 use Rattle.mvd_kept.specs.Sites.{SiteValue}
 
 -- It gives the answer from its states, and has the states after the request, or it refuses that as a site may; a broken
--- one refuses all. There are writes that the request adds. A request that takes no memory is not told want of it. The reply
--- is not too long for its frame
+-- one refuses all. There are writes that the request adds. A request that takes no memory is not told want of it. The
+-- reply is not too long for its frame
 pub record AnswersRequest (old new : SiteValue) (request : Request) (reply : Reply) : Type 0 where
   pub step : AnswersFrom old new request reply
   pub broken : old.broken ≡ true → (reply ≡ Refused Broken) × (new ≡ old)

@@ -17,7 +17,8 @@ pub record ChangeValue : Type 0 where
   pub dot : Option DotValue
 
 abbrev pub change_code : Coded ChangeValue
-change_code = code_by (Key × (State × Option DotValue)) (coded× (coded_list coded_ℕ) (coded× state_code (coded_option dot_code)))
+change_code =
+    code_by (Key × (State × Option DotValue)) (coded× (coded_list coded_ℕ) (coded× state_code (coded_option dot_code)))
     (λ c. (c.key, (c.state, c.dot))) (λ p. record { key = p.0; state = p.1.0; dot = p.1.1 }) (λ _. refl)
 
 -- the bytes are the key and then the state, as they are spelled, and the state begins there

@@ -1,4 +1,5 @@
--- What a request costs a site at most: looks at held states, looks at kept rows and updates of them, and what is hashed.
+-- What a request costs a site at most: looks at held states, looks at kept rows and updates of them, and what is
+-- hashed.
 use Rattle.std.specs.Prelude.{◌≡◌, ℕ, ◌+◌, ◌*◌, List, length, Some, Result, Ok, Err}
 use Rattle.std.specs.List.{sum_by}
 use Rattle.std.specs.FinMap.{insert, len}
@@ -32,14 +33,15 @@ pub record IsNoWork (work : Work) : Type 0 where
   pub computations : work.hashed.computations ≡ 0
   pub bytes : work.hashed.bytes ≡ 0
 
--- at most so many looks at held states, looks at kept rows, updates of them, SHA-256 computations and bytes that these read
+-- at most so many looks at held states, looks at kept rows, updates of them, SHA-256 computations and bytes that these
+-- read
 pub record Costs (held looks updates computations bytes : ℕ) (old new : Work) : Type 0 where
   pub on_states : RoseBy held old.looks new.looks
   pub on_rows : Within updates looks old.rows new.rows
   pub hashes : Hashes computations bytes old.hashed new.hashed
 
--- A row takes a look, and a page as many as it has entries, and two more. One for which memory is refused may take those of
--- a whole page; what is refused for another cause takes none.
+-- A row takes a look, and a page as many as it has entries, and two more. One for which memory is refused may take
+-- those of a whole page; what is refused for another cause takes none.
 abbrev pub page_looks : Reply → ℕ
 page_looks (RowTold row) = 1
 page_looks (Places page more) = length page + 2
@@ -53,7 +55,8 @@ prepared_looks (Ok (Answer reply)) = page_looks reply
 prepared_looks (Err refusal) = page_looks (Refused refusal)
 prepared_looks prepared = 0
 
--- what it takes to prepare a request: a look at the key's state, or those of its page at kept rows, or, of keys, at held states
+-- what it takes to prepare a request: a look at the key's state, or those of its page at kept rows, or, of keys, at
+-- held states
 abbrev pub PrepareCosts : Request → Result Prepared Refusal → Work → Work → Type 0
 PrepareCosts (Get key) prepared = Costs 1 0 0 0 0
 PrepareCosts (Put key seen document) prepared = Costs 1 0 0 0 0
@@ -70,9 +73,10 @@ PrepareCosts (Conflicts after) prepared = Costs 0 (prepared_looks prepared) 0 0 
 PrepareCosts (Hello token) prepared = Costs 0 0 0 0 0
 PrepareCosts Bye prepared = Costs 0 0 0 0 0
 
--- What it takes to give a key this state: besides what is looked up already, a look at its old one; for each sibling that stands in one of
--- the two alone, what each index and view cost, and one update more, of the keys in conflict; and six computations: of the key
--- with its state, of the key's path, and of the digests of its bucket, which are those of the keys with its path, and of three nodes
+-- What it takes to give a key this state: besides what is looked up already, a look at its old one; for each sibling
+-- that stands in one of the two alone, what each index and view cost, and one update more, of the keys in conflict; and
+-- six computations: of the key with its state, of the key's path, and of the digests of its bucket, which are those of
+-- the keys with its path, and of three nodes
 abbrev pub ChangeCosts : ℕ → SiteValue → Key → State → Work → Work → Type 0
 ChangeCosts looked site key s =
     let moved = differing (state_at site.states key) s in
@@ -82,7 +86,8 @@ ChangeCosts looked site key s =
 -- what a put, a delete or a push takes: a look where the states stay as they are, and that of its change besides
 pub record WriteCosts (site : SiteValue) (request : Request) (old new : Work) : Type 0 where
   pub still : after_from site.config site.states request ≡ site.states → Costs 1 0 0 0 0 old new
-  pub change : (key : Key) (s : State) → change_from site.states request (answer_from site.config site.states request) ≡ Some (key, s) → ChangeCosts 1 site key s old new
+  pub change : (key : Key) (s : State) → change_from site.states request (answer_from site.config site.states request)
+      ≡ Some (key, s) → ChangeCosts 1 site key s old new
 
 -- what it takes to answer a request
 abbrev pub AnswerCosts : SiteValue → Request → Reply → Work → Work → Type 0
@@ -110,10 +115,11 @@ all_siblings states = sum_by (λ e. len e.1.siblings) states
 abbrev pub all_bytes : List (Key × State) → ℕ
 all_bytes states = sum_by (λ e. length (spelled e.0 e.1)) states
 
--- What it takes to open a site with these states: of each sibling what each index and view cost, and of each key one update, of
--- the keys in conflict; and two computations for each key, of the key with its state and of its path, and one for each of the
--- 4,369 nodes
+-- What it takes to open a site with these states: of each sibling what each index and view cost, and of each key one
+-- update, of the keys in conflict; and two computations for each key, of the key with its state and of its path, and
+-- one for each of the 4,369 nodes
 abbrev pub OpenCosts : ConfigValue → List (Key × State) → Work → Work → Type 0
 OpenCosts config states =
-    Costs 0 (all_siblings states * looks_each config.defs) (all_siblings states * updates_each config.defs + length states) (2 * length states + 4369)
+    Costs 0 (all_siblings states * looks_each config.defs)
+    (all_siblings states * updates_each config.defs + length states) (2 * length states + 4369)
     (all_bytes states + key_bytes (key_digests states) + 32 * length states + 174720)

@@ -8,7 +8,16 @@ use Rattle.mvd_wire.specs.declared.request.Request.{Request}
 use Rattle.mvd_wire.specs.declared.request.Request.TheVariants.{Push}
 use Rattle.mvd_wire.specs.declared.reply.Reply.{Reply}
 use Rattle.mvd_wire.specs.declared.reply.Reply.TheVariants.{Done, Refused}
-pub use Rattle.mvd_kept.specs.Answer.{within, put_from, push_from, answer_from, change_from, with_state, with_change, after_from}
+pub use Rattle.mvd_kept.specs.Answer.{
+  within,
+  put_from,
+  push_from,
+  answer_from,
+  change_from,
+  with_state,
+  with_change,
+  after_from,
+}
 use Rattle.mvd_kept.specs.Held.{States, state_at}
 use Rattle.mvd_kept.specs.Sites.{SiteValue}
 
@@ -33,7 +42,8 @@ pub record Broke (old new : SiteValue) (request : Request) : Type 0 where
 -- and it is as before; or it was to be changed, and broke
 abbrev pub AnswersFrom : SiteValue → SiteValue → Request → Reply → Type 0
 AnswersFrom old new request reply = old.broken ≡ false →
-    Answered old new request reply ⊎ (((reply ≡ Refused Memory) × (new ≡ old)) ⊎ ((reply ≡ Refused Broken) × Broke old new request))
+    Answered old new request reply
+    ⊎ (((reply ≡ Refused Memory) × (new ≡ old)) ⊎ ((reply ≡ Refused Broken) × Broke old new request))
 
 -- ---- the calls by reference
 

@@ -1,4 +1,5 @@
--- What was prepared of requests side by side, put in one after the other: what a site does with it, and what it takes at most.
+-- What was prepared of requests side by side, put in one after the other: what a site does with it, and what it takes
+-- at most.
 use Rattle.std.specs.Prelude.{◌≡◌, ◌⊎◌, ⊤, ℕ, ◌+◌, ◌*◌, false, true, List, [], ◌∷◌, ◌++◌, length, Some}
 use Rattle.std.specs.FinMap.{insert}
 use Rattle.mvd_dots.specs.declared.refusals.Refusal.TheVariants.{Broken}
@@ -25,7 +26,8 @@ use Rattle.mvd_kept.specs.declared.work.Work.{Work}
 
 -- the site with a change put in
 abbrev pub changed_site : SiteValue → ChangeValue → SiteValue
-changed_site site change = record { config = site.config; states = insert site.states change.key change.state; broken = false }
+changed_site site change =
+    record { config = site.config; states = insert site.states change.key change.state; broken = false }
 
 -- the site, broken
 abbrev pub broken_site : SiteValue → SiteValue
@@ -43,13 +45,15 @@ with_one site (Change change) = changed_site site change
 -- a change may be put in
 abbrev pub MayBeIn : SiteValue → Prepared → Type 0
 MayBeIn site (Answer reply) = ⊤
-MayBeIn site (Change change) = (has_no_room site.config site.states change.key ≡ false) × IsHeldState change.state × IsChangeNow site change
+MayBeIn site (Change change) =
+    (has_no_room site.config site.states change.key ≡ false) × IsHeldState change.state × IsChangeNow site change
 
 -- what putting one in comes to: a site that is not broken replies what was prepared, or it breaks; a broken one says so
 abbrev pub PutsOne : SiteValue → SiteValue → Prepared → Reply → Type 0
 PutsOne old new (Answer told) reply = (reply ≡ told) × (new ≡ old)
 PutsOne old new (Change change) reply =
-    ((reply ≡ change_reply change.dot) × (new ≡ changed_site old change)) ⊎ ((reply ≡ Refused Broken) × (new ≡ broken_site old))
+    ((reply ≡ change_reply change.dot) × (new ≡ changed_site old change))
+    ⊎ ((reply ≡ Refused Broken) × (new ≡ broken_site old))
 
 pub record PutsIfWhole (old new : SiteValue) (prepared : Prepared) (reply : Reply) : Type 0 where
   pub whole : old.broken ≡ false → PutsOne old new prepared reply
@@ -69,10 +73,12 @@ MayAllBeIn site (prepared ∷ group) = MayBeIn site prepared × MayAllBeIn (with
 
 abbrev pub PutsAll : SiteValue → SiteValue → List Prepared → List Reply → Type 0
 PutsAll old new [] [] = new ≡ old
-PutsAll old new (prepared ∷ group) (reply ∷ replies) = (mid : SiteValue) × PutsIfWhole old mid prepared reply × PutsAll mid new group replies
+PutsAll old new (prepared ∷ group) (reply ∷ replies) =
+    (mid : SiteValue) × PutsIfWhole old mid prepared reply × PutsAll mid new group replies
 PutsAll old new group replies = ⊥
 
--- What a call does that puts a group in: the site is as after one after the other, and one reply of each stands behind those before
+-- What a call does that puts a group in: the site is as after one after the other, and one reply of each stands behind
+-- those before
 abbrev pub InstallsAll : SiteValue → SiteValue → List Prepared → List Reply → List Reply → Type 0
 InstallsAll old new group before after = (told : List Reply) × (after ≡ before ++ told) × PutsAll old new group told
 
@@ -111,21 +117,25 @@ abbrev pub moved_in : States → List Prepared → ℕ
 moved_in states [] = 0
 moved_in states (prepared ∷ group) = moved_of states prepared + moved_in (with_prepared states prepared) group
 
--- what it takes the hash tree: for each change two computations, and one for each bucket and each node above that they touch
+-- what it takes the hash tree: for each change two computations, and one for each bucket and each node above that they
+-- touch
 abbrev pub TreeCosts : KeyDigests → List Prepared → Hashed → Hashed → Type 0
 TreeCosts held group =
     let changes = digests_in group in
     Hashes (2 * changes_in group + count_touched 0 changes + inner_touched changes)
-    (byte_count_in group + changed_bytes changes + 32 * keys_touched (changed_all held changes) changes + 512 * inner_touched changes)
+    (byte_count_in group + changed_bytes changes + 32 * keys_touched (changed_all held changes) changes
+    + 512 * inner_touched changes)
 
--- What it takes to put in a group: for each change a look at the key's old state, an update of the keys in conflict, and two
--- computations, of the key with its state and of the key's path; for each sibling that comes or goes what each index and view
--- cost; and one computation of each bucket with the path of a changed key, and of each node above one, however many of the
--- keys stand there
+-- What it takes to put in a group: for each change a look at the key's old state, an update of the keys in conflict,
+-- and two computations, of the key with its state and of the key's path; for each sibling that comes or goes what each
+-- index and view cost; and one computation of each bucket with the path of a changed key, and of each node above one,
+-- however many of the keys stand there
 abbrev pub InstallCosts : SiteValue → List Prepared → Work → Work → Type 0
 InstallCosts site group =
     let moved = moved_in site.states group in
     let changes = digests_in group in
-    Costs (changes_in group) (moved * looks_each site.config.defs) (moved * updates_each site.config.defs + changes_in group)
+    Costs (changes_in group) (moved * looks_each site.config.defs)
+    (moved * updates_each site.config.defs + changes_in group)
     (2 * changes_in group + count_touched 0 changes + inner_touched changes)
-    (byte_count_in group + changed_bytes changes + 32 * keys_touched (digests (with_group site.states group)) changes + 512 * inner_touched changes)
+    (byte_count_in group + changed_bytes changes + 32 * keys_touched (digests (with_group site.states group)) changes
+    + 512 * inner_touched changes)

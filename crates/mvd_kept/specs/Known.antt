@@ -26,7 +26,8 @@ IsValidRequest request = ⊤
 
 -- the request, accepted, gives its key another state than it had
 abbrev pub ChangesKey : ConfigValue → List Write → Request → Type 0
-ChangesKey config known request = IsSomeAnd (change_of known request (answer config known request)) (λ change. change.1 ≢ state change.0 known)
+ChangesKey config known request =
+    IsSomeAnd (change_of known request (answer config known request)) (λ change. change.1 ≢ state change.0 known)
 
 -- What a site may reply, and whether it is broken before and after. It replies its answer, or that memory was
 -- refused; only where a change was to be put in may that break the site, and then it says so, to every later request
@@ -52,8 +53,10 @@ pub record Tells (events : List KnownEvent) (requests : List Request) (replies :
 abbrev pub known_after : List KnownEvent → List Write
 known_after events = flat_map (λ event. event.added) events
 
--- each reply is one that the site may give, from the writes known before it; whether it is broken goes from reply to reply
+-- each reply is one that the site may give, from the writes known before it; whether it is broken goes from reply to
+-- reply
 abbrev pub AllReplied : ConfigValue → List Write → Bool → List KnownEvent → Bool → Type 0
 AllReplied config known broken [] after = broken ≡ after
 AllReplied config known broken (event ∷ events) after =
-    (between : Bool) × MayReply config known broken event.request event.reply between × AllReplied config (known ++ event.added) between events after
+    (between : Bool) × MayReply config known broken event.request event.reply between
+    × AllReplied config (known ++ event.added) between events after

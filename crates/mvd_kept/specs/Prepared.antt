@@ -26,7 +26,8 @@ pub record PreparesAnswer (config : ConfigValue) (known : List Write) (request :
   pub still : IfSome (change_of known request reply) (λ change. change.1 ≡ state change.0 known)
 
 -- A change: its reply is the answer, its state is the one that the key has afterwards, and that is another than before
-pub record PreparesChange (config : ConfigValue) (known : List Write) (request : Request) (change : ChangeValue) : Type 0 where
+pub record PreparesChange (config : ConfigValue) (known : List Write) (request : Request)
+    (change : ChangeValue) : Type 0 where
   pub answers : change_reply change.dot ≡ answer config known request
   pub leaves : change_of known request (change_reply change.dot) ≡ Some (change.key, change.state)
   pub differs : change.state ≢ state change.key known
@@ -39,16 +40,20 @@ Prepares config known request (Ok (Change change)) = PreparesChange config known
 
 -- what a site that is not broken prepares, whatever the writes are that its states stand for
 abbrev pub PreparesAt : SiteValue → Request → Result Prepared Refusal → Type 0
-PreparesAt site request prepared = site.broken ≡ false → (known : List Write) → Stands site.states known → Prepares site.config known request prepared
+PreparesAt site request prepared = site.broken ≡ false → (known : List Write) → Stands site.states known
+    → Prepares site.config known request prepared
 
 -- the same from the states: an answer with nothing to change
-pub record PreparesAnswerFrom (config : ConfigValue) (states : States) (request : Request) (reply : Reply) : Type 0 where
+pub record PreparesAnswerFrom (config : ConfigValue) (states : States) (request : Request)
+    (reply : Reply) : Type 0 where
   pub answers : reply ≡ answer_from config states request
-  pub still : IfSome (change_from states request (answer_from config states request)) (λ change. change.1 ≡ state_at states change.0)
+  pub still : IfSome (change_from states request (answer_from config states request))
+      (λ change. change.1 ≡ state_at states change.0)
   pub after : after_from config states request ≡ states
 
 -- and a change
-pub record PreparesChangeFrom (config : ConfigValue) (states : States) (request : Request) (change : ChangeValue) : Type 0 where
+pub record PreparesChangeFrom (config : ConfigValue) (states : States) (request : Request)
+    (change : ChangeValue) : Type 0 where
   pub answers : change_reply change.dot ≡ answer_from config states request
   pub leaves : change_from states request (answer_from config states request) ≡ Some (change.key, change.state)
   pub differs : change.state ≢ state_at states change.key
@@ -56,7 +61,8 @@ pub record PreparesChangeFrom (config : ConfigValue) (states : States) (request 
 
 -- what is prepared is the answer from the states, or memory was refused
 abbrev pub PreparesFrom : ConfigValue → States → Request → Result Prepared Refusal → Type 0
-PreparesFrom config states request (Err refusal) = (Refused refusal ≡ answer_from config states request) ⊎ (refusal ≡ Memory)
+PreparesFrom config states request (Err refusal) =
+    (Refused refusal ≡ answer_from config states request) ⊎ (refusal ≡ Memory)
 PreparesFrom config states request (Ok (Answer reply)) = PreparesAnswerFrom config states request reply
 PreparesFrom config states request (Ok (Change change)) = PreparesChangeFrom config states request change
 
@@ -82,7 +88,8 @@ abbrev pub IsReady : SiteValue → Prepared → Type 0
 IsReady site (Answer reply) = IsPlain reply
 IsReady site (Change change) = (has_no_room site.config site.states change.key ≡ false) × IsHeldState change.state
 
--- the request takes no memory: it asks for the digests of a node or for the row of a group, says who asks, ends a connection, or pushes what the key's state holds already
+-- the request takes no memory: it asks for the digests of a node or for the row of a group, says who asks, ends a
+-- connection, or pushes what the key's state holds already
 abbrev pub IsFrugal : States → Request → Type 0
 IsFrugal states (Node path) = ⊤
 IsFrugal states (Row view term) = ⊤
@@ -99,8 +106,12 @@ PreparesReply reply (Ok (Change change)) = ⊥
 
 -- where the key is to have this state, what is prepared, by the limits
 abbrev pub LimitsTo : SiteValue → Key → State → Option DotValue → Result Prepared Refusal → Type 0
-LimitsTo site key after dot (Err refusal) = (within site.config site.states key after (change_reply dot) ≡ Refused refusal) ⊎ (refusal ≡ Memory)
+LimitsTo site key after dot (Err refusal) =
+    (within site.config site.states key after (change_reply dot) ≡ Refused refusal) ⊎ (refusal ≡ Memory)
 LimitsTo site key after dot (Ok (Answer reply)) =
-    (within site.config site.states key after (change_reply dot) ≡ reply) × (reply ≡ change_reply dot) × (after ≡ state_at site.states key)
+    (within site.config site.states key after (change_reply dot) ≡ reply) × (reply ≡ change_reply dot)
+    × (after ≡ state_at site.states key)
 LimitsTo site key after dot (Ok (Change change)) =
-    (within site.config site.states key after (change_reply dot) ≡ change_reply dot) × (change ≡ record { key = key; state = after; dot = dot }) × (after ≢ state_at site.states key) × (is_empty after.context ≡ false)
+    (within site.config site.states key after (change_reply dot) ≡ change_reply dot)
+    × (change ≡ record { key = key; state = after; dot = dot }) × (after ≢ state_at site.states key)
+    × (is_empty after.context ≡ false)

@@ -23,12 +23,16 @@ pub record SiteValue : Type 0 where
   pub broken : Bool
 
 abbrev pub site_code : Coded SiteValue
-site_code = code_by (ConfigValue × (States × Bool)) (coded× config_code (coded× (code (coded_list coded_ℕ) state_code) coded_bool))
+site_code =
+    code_by (ConfigValue × (States × Bool))
+    (coded× config_code (coded× (code (coded_list coded_ℕ) state_code) coded_bool))
     (λ s. (s.config, (s.states, s.broken)))
     (λ p. record { config = p.0; states = p.1.0; broken = p.1.1 }) (λ _. refl)
 
--- what a site keeps: no more keys than it may hold, and, unless it is broken, the digests of its keys, and the rows of its indexes and views
-pub record KeepsKeys (config : ConfigValue) (states : States) (tree : KeyDigests) (rows : Rows) (broken : Bool) : Type 0 where
+-- what a site keeps: no more keys than it may hold, and, unless it is broken, the digests of its keys, and the rows of
+-- its indexes and views
+pub record KeepsKeys (config : ConfigValue) (states : States) (tree : KeyDigests) (rows : Rows)
+    (broken : Bool) : Type 0 where
   pub room : map_len states ≤ config.max_keys
   pub digested : broken ≡ false → tree ≡ digests states
   pub listed : broken ≡ false → IsRowsOf rows config.defs states
@@ -40,8 +44,10 @@ SiteStands site known = site.broken ≡ false → Stands site.states known
 -- What a site does with one request, from any writes that its states stood for: the reply is one that it may
 -- give, and whatever the request then adds, the states afterwards stand for that too
 pub record AnswersOne (old new : SiteValue) (request : Request) (reply : Reply) : Type 0 where
-  pub replies : (known : List Write) → SiteStands old known → MayReply old.config known old.broken request reply new.broken
-  pub stands : (known added : List Write) → SiteStands old known → Adds request reply added → SiteStands new (known ++ added)
+  pub replies : (known : List Write) → SiteStands old known
+      → MayReply old.config known old.broken request reply new.broken
+  pub stands : (known added : List Write) → SiteStands old known → Adds request reply added
+      → SiteStands new (known ++ added)
 
 -- What a site that began with no key has done with requests: for every choice of what they added, each reply
 -- is one that it may give from the writes known before it, and the states stand for all that was added

@@ -31,8 +31,8 @@ use std::collections::btree_map::Range;
 use std::marker::Model;
 use std::ops::Bound;
 
-/// The states of the keys that are held. Each look-up of a key is a look, and so is each that a walk takes: it adds one to
-/// a count that is handed in.
+/// The states of the keys that are held. Each look-up of a key is a look, and so is each that a walk takes: it adds one
+/// to a count that is handed in.
 #[derive(Drop)]
 pub struct Held {
     states: BTreeMap<Key, KeyState>,
@@ -87,8 +87,8 @@ impl Held {
         self.states.len()
     }
 
-    /// A page of at most 1,000 of the keys that begin with a prefix, those after a key if one is given, with their numbers
-    /// of siblings, and whether more follow. It takes as many looks as the page has keys, and two more.
+    /// A page of at most 1,000 of the keys that begin with a prefix, those after a key if one is given, with their
+    /// numbers of siblings, and whether more follow. It takes as many looks as the page has keys, and two more.
     pub fn keys(
         &self,
         alloc: Global,

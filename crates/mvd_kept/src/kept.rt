@@ -68,8 +68,8 @@ impl Kept {
         &self.config
     }
 
-    /// What is true of all that it keeps: it holds no more keys than it may, each is one, and each state has seen a dot and
-    /// has a spelling within the limit.
+    /// What is true of all that it keeps: it holds no more keys than it may, each is one, and each state has seen a dot
+    /// and has a spelling within the limit.
     pub fn stands(&self)
         ensures held { AreHeld self.now.states }
         ensures room { map.len self.now.states ≤ self.now.config.max_keys }
@@ -98,8 +98,8 @@ impl Kept {
         self.broken
     }
 
-    /// What a request comes to, with at most one look at a held key state, or as many looks as its page has entries, and
-    /// two more: of keys at held states, and else at kept rows. Nothing is changed yet, and several changes may be
+    /// What a request comes to, with at most one look at a held key state, or as many looks as its page has entries,
+    /// and two more: of keys at held states, and else at kept rows. Nothing is changed yet, and several changes may be
     /// prepared side by side.
     pub fn prepare(&self, request: &Request, work: &mut Work) -> Result<Prepared, Refusal>
         ensures answer { PreparesAt self.now request.now result }

@@ -24,8 +24,8 @@ ghost use Rattle.mvd_live.specs.Mail.{Ends, Mail, Meets, Sits, Waiting, mail_loc
 ghost use Rattle.mvd_live.specs.Runs.{Begins, Leg, Runs, Standing, all_locals, all_peers};
 ghost use Rattle.mvd_live.specs.Told.{Tells, TellsEach, TellsPush, TellsQuietly};
 
-/// A session that says that it is done: of each key that its report does not leave, both sides have what either had as it
-/// began, whatever others wrote meanwhile.
+/// A session that says that it is done: of each key that its report does not leave, both sides have what either had as
+/// it began, whatever others wrote meanwhile.
 pub fn a_session_lives()
     ensures { (number : Option ℕ) (questions : ℕ) (most : Two ℕ ℕ) (old new : Standing) (legs : List Leg)
         (done : Machining) → Begins number questions old → Runs most old legs new → HasNext new.machine done None
@@ -52,8 +52,8 @@ pub fn nothing_is_made_up()
         → HasNext new.machine asking (Some step) → IsGiven (all_locals legs) (all_peers legs) step }
 {}
 
-/// A side to which nobody else writes is live, where it answers as `Peer` says of a faithful one. So the premise of these
-/// laws can be met, and the moments are no others than what the side held.
+/// A side to which nobody else writes is live, where it answers as `Peer` says of a faithful one. So the premise of
+/// these laws can be met, and the moments are no others than what the side held.
 pub fn a_quiet_side_is_live()
     ensures nodes { (most : ℕ) (held : States) (paths : List (List ℕ)) (told : Vec (Result Digests Refusal) Global)
         → AreHeld held → EachAnswer (IsNode (digests held)) paths told.items
@@ -65,7 +65,8 @@ pub fn a_quiet_side_is_live()
         → AreHeld held → EachAnswer (λ key state. state ≡ state_at held key) keys told.items
         → TellsQuietly most (only_gets keys) (Gets told) held }
     // A push that was taken, and one that was refused.
-    ensures taken { (most : ℕ) (old new : States) (key : Key) (state : State) → AreHeld old → AreHeld new → IsValid state
+    ensures taken { (most : ℕ) (old new : States) (key : Key) (state : State) → AreHeld old → AreHeld new
+        → IsValid state
         → TakesState old key state new
         → TellsEach (TellsPush most) ((key, state) ∷ []) (Ok tt ∷ []) old (new ∷ []) new }
     ensures refused { (most : ℕ) (old : States) (key : Key) (state : State) (refusal : Refusal) → AreHeld old

@@ -130,7 +130,8 @@ told_as as_told (Ok answers) = as_told answers
 told_as as_told (Err refusal) = told.Refused refusal
 
 -- what came is told as answers of this kind
-abbrev pub CallerTellsAs : {A : Type 0} → (Vec (Result A Refusal) Global → Told) → (A → Reply) → ℕ → List (Option Refusal)
+abbrev pub CallerTellsAs : {A : Type 0} → (Vec (Result A Refusal) Global → Told) → (A → Reply) → ℕ
+    → List (Option Refusal)
     → Link → Link → Told → Type 0
 CallerTellsAs {A} as_told as_reply kind nones old new told =
     (answers : AnswersOf A) × Collects as_reply kind nones old new answers × (told ≡ told_as as_told answers)

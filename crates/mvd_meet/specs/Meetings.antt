@@ -86,15 +86,16 @@ pub record MeetingStays (old : Meeting) (near far : Caller) (new : Meeting) (nea
   pub same_far : far' ≡ far
 
 -- what was told was taken, and then this came
-pub record MeetingGoes (old : Meeting) (near far : Caller) (new : Meeting) (near' far' : Caller) (course : Course) : Type 0 where
+pub record MeetingGoes (old : Meeting) (near far : Caller) (new : Meeting) (near' far' : Caller)
+    (course : Course) : Type 0 where
   pub mid : Meeting
   pub near_mid : Caller
   pub far_mid : Caller
   pub hears : MeetingHears old near far mid near_mid far_mid (Ok tt)
   pub asks : AsksNext mid near_mid far_mid new near' far' course
 
--- A STEP OF A SESSION: the machine takes what both sides told of just what they were asked, and they are asked just what
--- the machine wants next
+-- A STEP OF A SESSION: the machine takes what both sides told of just what they were asked, and they are asked just
+-- what the machine wants next
 abbrev pub MeetingSteps : Meeting → Caller → Caller → Meeting → Caller → Caller → Course → Type 0
 MeetingSteps old near far new near' far' course.Waits = MeetingStays old near far new near' far'
 MeetingSteps old near far new near' far' course = MeetingGoes old near far new near' far' course

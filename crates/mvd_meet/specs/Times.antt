@@ -14,8 +14,9 @@ ended_of report = if (report.keys == 0) && nat_lt 0 report.refused then Stuck el
 abbrev pub doubled : ℕ → ℕ → ℕ
 doubled pause every = min (pause * 2) (max every 60)
 
--- the seconds after a session that ended so: those that sessions are apart; after a fault 1, and then twice as many in a
--- row of faults; after a session that left keys and did nothing else twice as many as they are apart, and then as many again
+-- the seconds after a session that ended so: those that sessions are apart; after a fault 1, and then twice as many in
+-- a row of faults; after a session that left keys and did nothing else twice as many as they are apart, and then as
+-- many again
 abbrev pub pause_by : Ended → Ended → ℕ → ℕ → ℕ
 pause_by Well last pause every = every
 pause_by Stuck Stuck pause every = doubled pause every

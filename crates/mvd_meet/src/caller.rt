@@ -37,7 +37,7 @@ pub struct Caller {
     asked: Option<Asked>,
     /// Nothing more comes.
     ended: bool,
-    /// As many questions were asked.
+    /// The number of questions that were asked.
     questions: u64,
 }
 
@@ -106,7 +106,7 @@ impl Caller {
         }
     }
 
-    /// As many questions were asked, a Hello and a Bye among them.
+    /// The number of questions that were asked, a Hello and a Bye among them.
     pub fn questions(&self) -> u64
         ensures { result ≡ questions_at self.now }
     {

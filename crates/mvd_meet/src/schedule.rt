@@ -4,7 +4,7 @@ ghost use Rattle.mvd_meet.specs.Times.{due_of, news_at, pause_after};
 
 use crate::pace::{Ended, Pace};
 
-/// As many milliseconds after a change a peer is met.
+/// The milliseconds after a change at which a peer is met.
 const SETTLE: u64 = 5;
 
 /// When a peer is met: at once at first, then so many seconds after a session, and soon after a change.

@@ -37,7 +37,8 @@ impl Meeting {
         })
     }
 
-    /// Takes what came of both sides, once all came, and asks what is next. As long as something is due, it does nothing.
+    /// Takes what came of both sides, once all came, and asks what is next. As long as something is due, it does
+    /// nothing.
     pub fn step(&mut self, near: &mut Caller, far: &mut Caller) -> Result<Course, SyncFault>
         ensures waits { has_all near.old ≡ false → result ≡ Ok Course.Waits }
         ensures waits_too { has_all far.old ≡ false → result ≡ Ok Course.Waits }

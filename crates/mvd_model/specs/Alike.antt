@@ -6,8 +6,8 @@ use Rattle.mvd_wire.specs.declared.request.Request.{Request}
 use Rattle.mvd_wire.specs.declared.request.Request.TheVariants.{Find, Range, Row, Rows}
 use Rattle.mvd_kept.specs.Answer.{is_question}
 
--- A question of a field that is an index of both or of neither; of a view that both define alike, or neither has; or one of which no
--- definition speaks
+-- A question of a field that is an index of both or of neither; of a view that both define alike, or neither has; or
+-- one of which no definition speaks
 abbrev pub SpeakAlike : Definitions → Definitions → Request → Type 0
 SpeakAlike d e (Find field term after) = has_index d.indexes field ≡ has_index e.indexes field
 SpeakAlike d e (Range field from to after) = has_index d.indexes field ≡ has_index e.indexes field

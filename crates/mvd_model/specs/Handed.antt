@@ -1,5 +1,5 @@
--- Behaviours in which nobody makes up what he pushes: each push that is done brings writes that some site knew, as a state that a
--- site told does. There no two documents have one dot, at one site or at two.
+-- Behaviours in which nobody makes up what he pushes: each push that is done brings writes that some site knew, as a
+-- state that a site told does. There no two documents have one dot, at one site or at two.
 use Rattle.std.proofs.Common.{inl, inr}
 use Rattle.std.specs.Prelude.{◌≡◌, ◌⊎◌, ⊤, false, ℕ, Contains, List, [], ◌∷◌, ◌++◌}
 use Rattle.mvd_dots.specs.Dot.{DotValue}
@@ -25,7 +25,8 @@ abbrev pub IsHanded : (ℕ → List Write) → Request → List Write → Type 0
 IsHanded known (Push key pushed) added = (w : Write) → Contains added w → (j : ℕ) × Contains (known j) w
 IsHanded known request added = ⊤
 
-abbrev pub AreHanded : (ℕ → List Write) → (c : ConfigValue) (here : List Write) (requests : List Request) (added : List Write)
+abbrev pub AreHanded : (ℕ → List Write)
+    → (c : ConfigValue) (here : List Write) (requests : List Request) (added : List Write)
     → AddAll c here requests added → Type 0
 AreHanded known c here [] added all = ⊤
 AreHanded known c here (request ∷ requests) added (first, rest, is, one, others) =
@@ -34,7 +35,8 @@ AreHanded known c here (request ∷ requests) added (first, rest, is, one, other
 abbrev pub Brings : (a : Knows) (event : Event) (b : Knows) → Next a event b → Type 0
 Brings a (Told i request reply) b (inl told, others) = IsHanded (knows a) request told.2
 Brings a (Told i request reply) b (inr refused, others) = ⊤
-Brings a (Opened i setup some) b (opens, others) = AreHanded (knows a) (config i (a i).setup) (a i).known some opens.1 opens.2
+Brings a (Opened i setup some) b (opens, others) =
+    AreHanded (knows a) (config i (a i).setup) (a i).known some opens.1 opens.2
 
 abbrev pub AllBring : (a : Knows) (events : List Event) (end : Knows) → Happen a events end → Type 0
 AllBring a [] end happen = ⊤
@@ -43,7 +45,8 @@ AllBring a (event ∷ events) end (b, next, rest) = Brings a event b next × All
 -- two puts of a key with one dot have one document, wherever they are known, and each site knows its own puts
 pub record AreSound (known : ℕ → List Write) : Type 0 where
   pub one : (i j : ℕ) (key : Key) (dot : DotValue) (seen also_seen : DotSet) (document other : Text)
-      → Contains (known i) (Wrote key dot seen document) → Contains (known j) (Wrote key dot also_seen other) → document ≡ other
+      → Contains (known i) (Wrote key dot seen document) → Contains (known j) (Wrote key dot also_seen other)
+      → document ≡ other
   pub own : (i : ℕ) (key : Key) (dot : DotValue) (seen : DotSet) (document : Text)
       → Contains (known i) (Wrote key dot seen document) → Contains (known dot.site) (Wrote key dot seen document)
 

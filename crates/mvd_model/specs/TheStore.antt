@@ -1,7 +1,8 @@
--- The store: the whole promise on one page. Writes says which state of a key follows from a set of writes, as in a multi-value
--- register (Shapiro et al., INRIA RR-7506), and Answer which reply follows from the states. Here is a state machine over them, as
--- at the top of IronFleet (Hawblitzel et al. 2015): what each site, or replica, knows, and the steps that it may take. No message
--- and no session stands in it: what one site tells is pushed to another, and may be lost, repeated, held back or reordered.
+-- The store: the whole promise on one page. Writes says which state of a key follows from a set of writes, as in a
+-- multi-value register (Shapiro et al., INRIA RR-7506), and Answer which reply follows from the states. Here is a state
+-- machine over them, as at the top of IronFleet (Hawblitzel et al. 2015): what each site, or replica, knows, and the
+-- steps that it may take. No message and no session stands in it: what one site tells is pushed to another, and may be
+-- lost, repeated, held back or reordered.
 use Rattle.std.specs.Prelude.{◌≡◌, ◌≢◌, ◌⊎◌, ⊤, ℕ, Bool, true, false, Contains, List, [], ◌∷◌, ◌++◌, Some}
 use Rattle.std.specs.List.{slice_get}
 use Rattle.std.specs.FinMap.{get}
@@ -26,8 +27,8 @@ pub record Setup : Type 0 where
   pub max_keys : ℕ
   pub defs : Definitions
 
--- A site: the writes that it knows, which its file holds; the requests that it refused with 21 or 22 since it was opened, which
--- its file may hold all the same; and whether one of them broke it
+-- A site: the writes that it knows, which its file holds; the requests that it refused with 21 or 22 since it was
+-- opened, which its file may hold all the same; and whether one of them broke it
 pub record Site : Type 0 where
   pub setup : Setup
   pub known : List Write
@@ -44,36 +45,40 @@ config i setup = record { site = i; max_keys = setup.max_keys; defs = setup.defs
 pub data Event : Type 0 where
   -- a script, a shell, a frame, HTTP, a session or a call asked this site, and was told
   Told : ℕ → Request → Reply → Event
-  -- this site was closed, killed or without power, and is opened again; these requests, which it refused, its file holds all the same
+  -- this site was closed, killed or without power, and is opened again; these requests, which it refused, its file
+  -- holds all the same
   Opened : ℕ → Setup → List Request → Event
 
--- A site tells its answer, and then knows what that adds: an accepted put its write with the dot that was told, an accepted
--- delete its write, an accepted push some writes whose state is the pushed one, and all else nothing (`Adds`)
+-- A site tells its answer, and then knows what that adds: an accepted put its write with the dot that was told, an
+-- accepted delete its write, an accepted push some writes whose state is the pushed one, and all else nothing (`Adds`)
 abbrev pub Answers : ConfigValue → Site → Request → Reply → Site → Type 0
 Answers c s request reply t = (s.broken ≡ false) × (reply ≡ answer c s.known request)
     × (added : List Write) × Adds request reply added × (t ≡ record s { known = s.known ++ added })
 
--- Or it refuses, and knows no more: for want of memory (20); or, only where its answer would change a state (`ChangesKey`), for its
--- store (21), or broken by it (22). A broken site tells 22, or 20, until it is opened again
+-- Or it refuses, and knows no more: for want of memory (20); or, only where its answer would change a state
+-- (`ChangesKey`), for its store (21), or broken by it (22). A broken site tells 22, or 20, until it is opened again
 abbrev pub Refuses : ConfigValue → Site → Request → Reply → Site → Type 0
 Refuses c s request (Refused Memory) t = t ≡ s
 Refuses c s request (Refused Store) t =
     (s.broken ≡ false) × ChangesKey c s.known request × (t ≡ record s { refused = s.refused ++ request ∷ [] })
 Refuses c s request (Refused Broken) t =
-    ((s.broken ≡ true) ⊎ ChangesKey c s.known request) × (t ≡ record s { refused = s.refused ++ request ∷ []; broken = true })
+    ((s.broken ≡ true) ⊎ ChangesKey c s.known request)
+    × (t ≡ record s { refused = s.refused ++ request ∷ []; broken = true })
 Refuses c s request reply t = ⊥
 
 -- these are some of those, in their order
 abbrev pub AreAmong : List Request → List Request → Type 0
 AreAmong [] those = ⊤
 AreAmong (request ∷ requests) [] = ⊥
-AreAmong (request ∷ requests) (other ∷ those) = ((request ≡ other) × AreAmong requests those) ⊎ AreAmong (request ∷ requests) those
+AreAmong (request ∷ requests) (other ∷ those) =
+    ((request ≡ other) × AreAmong requests those) ⊎ AreAmong (request ∷ requests) those
 
 -- what requests add, each answered from the writes known before it
 abbrev pub AddAll : ConfigValue → List Write → List Request → List Write → Type 0
 AddAll c known [] added = added ≡ []
 AddAll c known (request ∷ requests) added =
-    (first rest : List Write) × (added ≡ first ++ rest) × Adds request (answer c known request) first × AddAll c (known ++ first) requests rest
+    (first rest : List Write) × (added ≡ first ++ rest) × Adds request (answer c known request) first
+    × AddAll c (known ++ first) requests rest
 
 -- it is whole, is set up so, and knows what it knew and what some of the refused requests add
 abbrev pub Reopens : ConfigValue → Site → Setup → List Request → Site → Type 0
@@ -86,7 +91,8 @@ at_site (Told i request reply) = i
 at_site (Opened i setup some) = i
 
 abbrev pub Does : Event → Site → Site → Type 0
-Does (Told i request reply) s t = Answers (config i s.setup) s request reply t ⊎ Refuses (config i s.setup) s request reply t
+Does (Told i request reply) s t =
+    Answers (config i s.setup) s request reply t ⊎ Refuses (config i s.setup) s request reply t
 Does (Opened i setup some) s t = Reopens (config i s.setup) s setup some t
 
 -- a step: all other sites are as they were
@@ -104,7 +110,8 @@ put_told i key seen document dot = Told i (Put key seen document) (Written dot)
 -- WHAT IS PROMISED of each behaviour, wherever it begins
 pub record Promise (events : List Event) (end : Knows) : Type 0 where
   -- no two puts of a key are told one dot
-  pub dots : (m n i j : ℕ) (key : Key) (seen also_seen : DotSet) (document other : Text) (dot other_dot : DotValue) → m ≢ n
+  pub dots : (m n i j : ℕ) (key : Key) (seen also_seen : DotSet) (document other : Text) (dot other_dot : DotValue)
+      → m ≢ n
       → slice_get events m ≡ Some (put_told i key seen document dot)
       → slice_get events n ≡ Some (put_told j key also_seen other other_dot) → dot ≢ other_dot
   -- what a reply told as done is known at its site at the end
@@ -114,7 +121,8 @@ pub record Promise (events : List Event) (end : Knows) : Type 0 where
   pub shown : (n i : ℕ) (key : Key) (seen : DotSet) (document : Text) (dot : DotValue)
       → slice_get events n ≡ Some (put_told i key seen document dot) → contains (covered key (end i).known) dot ≡ false
       → get (siblings key (end i).known) dot ≡ Some document
-  -- two sites that know the same writes, none of two documents under one dot, answer a question alike where they define its index or view alike
+  -- two sites that know the same writes, none of two documents under one dot, answer a question alike where they define
+  -- its index or view alike
   pub alike : (i j : ℕ) (request : Request) → SameWrites (end i).known (end j).known → Agree (end i).known
       → SpeakAlike (end i).setup.defs (end j).setup.defs request
       → answer (config i (end i).setup) (end i).known request ≡ answer (config j (end j).setup) (end j).known request

@@ -65,7 +65,8 @@ Saves old key state result new = SavesAll old ((key, state) ∷ []) result new
 
 -- ---- move_key
 
-pub record MovesOldKey {A : Type 0} (old : Seen) (key state : List ℕ) (result : Result A Refusal) (new : Seen) : Type 0 where
+pub record MovesOldKey {A : Type 0} (old : Seen) (key state : List ℕ) (result : Result A Refusal)
+    (new : Seen) : Type 0 where
   pub commits : Commits (MovesKey key state) old.store result new.store
   -- 17, where the key is no old one, or 21; after either, where the store is sound, nothing is changed
   pub refusal : IfErr result (λ e. (e ≡ Damaged) ⊎ (e ≡ Store))
@@ -131,7 +132,8 @@ SparesForeign g conn refused = HoldsForeign (state g conn) → refused ≡ (Dama
 -- the records of the site, or a refusal with the connection
 abbrev pub Opens : {S : Type 0} → Ghosts S → Held S → ℕ → Result (RecordsValue S) (Refusal × Held S) → Type 0
 Opens g conn site (Ok records) = IsOpenedAs (state g conn) site (seen g records)
-Opens g conn site (Err refused) = IsRefusedAs (state g conn) site refused.0 (state g refused.1) × SparesForeign g conn refused
+Opens g conn site (Err refused) =
+    IsRefusedAs (state g conn) site refused.0 (state g refused.1) × SparesForeign g conn refused
 
 -- ---- owner_in: where the store is sound and all our tables are there, the site is the one that the marks name
 abbrev pub TellsOwner : State → State → Option ℕ → Type 0

@@ -53,8 +53,8 @@ has_meta = list_any is_meta
 abbrev pub has_other : List Table → Bool
 has_other = list_any (λ t. not (is_ours t))
 
--- Another program's database: a table that is none of ours stands in it, or a view, and the tables that each version of ours
--- makes are not both there
+-- Another program's database: a table that is none of ours stands in it, or a view, and the tables that each version of
+-- ours makes are not both there
 pub record IsForeign (db : Database) : Type 0 where
   pub other : IsTrue (has_other db.schema.tables) ⊎ (db.schema.views ≢ [])
   pub missing : (has_states db.schema.tables ≡ false) ⊎ (has_meta db.schema.tables ≡ false)

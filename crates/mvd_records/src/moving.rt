@@ -9,7 +9,8 @@ use sqlite::{Alter, Transaction, params};
 
 fn take_old<S: Alter>(tx: &mut Transaction<'_, S>, key: &str) -> Result<(), Refusal>
     ensures same_reference { tx.new.conn.ghost_name ≡ tx.old.conn.ghost_name }
-    ensures done { DoesInside (one_statement key.now) (state S.Store tx.old.conn.now) result (state S.Store tx.new.conn.now) }
+    ensures done { DoesInside (one_statement key.now) (state S.Store tx.old.conn.now) result
+        (state S.Store tx.new.conn.now) }
 {
     match execute(tx, "DELETE FROM states WHERE key = ?1", params![key]) {
         Ok(0) => Err(Refusal::Damaged),

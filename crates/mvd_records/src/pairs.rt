@@ -66,8 +66,10 @@ fn is_above(pairs: &[(Key, Vec<u8>)], key: &Key) -> bool
 pub fn push_row(alloc: Global, pairs: &mut Vec<(Key, Vec<u8>)>, row: &Row) -> Result<(), Refusal>
     ensures pushed { OnOk result (pair_entries pairs.new.items ≡ pair_entries pairs.old.items ++ shown_row_entry row.now ∷ []) }
     ensures form { OnOk result (is_key (bytes (column row.now 0)) ≡ true) }
-    ensures rising { pairs_rise (pair_entries pairs.old.items) → OnOk result (pairs_rise (pair_entries pairs.new.items)) }
-    ensures damaged { pairs_rise (pair_entries pairs.old.items) → IfErr result (λ e. e ≡ Refusal.Damaged → IsPair row.now →
+    ensures rising { pairs_rise (pair_entries pairs.old.items)
+        → OnOk result (pairs_rise (pair_entries pairs.new.items)) }
+    ensures damaged { pairs_rise (pair_entries pairs.old.items)
+        → IfErr result (λ e. e ≡ Refusal.Damaged → IsPair row.now →
         ¬ pairs_rise (pair_entries pairs.old.items ++ shown_row_entry row.now ∷ [])) }
     ensures which { IfErr result (λ e. (e ≡ Refusal.Damaged) ⊎ (e ≡ Refusal.Memory)) }
 {

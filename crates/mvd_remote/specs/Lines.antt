@@ -228,7 +228,8 @@ DueTurn (Some refusal) due left told = (told ≡ Err refusal) × (left ≡ due)
 abbrev pub DueTurns : List (Option Refusal) → List (Result Reply Refusal) → List Reply → List Reply → Type 0
 DueTurns [] [] due left = left ≡ due
 DueTurns (None ∷ nones) (told ∷ replies) [] left = Unit {0}
-DueTurns (None ∷ nones) (told ∷ replies) (reply ∷ later) left = IsReplyTaken reply told × DueTurns nones replies later left
+DueTurns (None ∷ nones) (told ∷ replies) (reply ∷ later) left =
+    IsReplyTaken reply told × DueTurns nones replies later left
 DueTurns (Some refusal ∷ nones) (told ∷ replies) due left = (told ≡ Err refusal) × DueTurns nones replies due left
 DueTurns nones replies due left = ⊥
 
@@ -292,7 +293,8 @@ TellsAllTruly config old requests replies new =
 
 -- a window was refused, and of its requests the first were taken
 abbrev pub EndsOpen : ConfigValue → States → List Request → Refusal → States → Type 0
-EndsOpen config old requests refusal new = (leaves_open refusal ≡ true) × TakesFirst config old (framed_requests requests) new
+EndsOpen config old requests refusal new =
+    (leaves_open refusal ≡ true) × TakesFirst config old (framed_requests requests) new
 
 -- a reply was taken for what it tells, and the answer leaves nothing open
 abbrev pub LeavesNothingOpen : {A : Type 0} → Result Reply Refusal → Result A Refusal → Type 0

@@ -64,7 +64,8 @@ TurnBreaks kind nones old new refusal =
 -- ---- a window
 
 -- all frames went out, and then each request was answered in its turn
-pub record AnswersInTurn (kind : ℕ) (frames : Frames) (replies : List (Result Reply Refusal)) (old new : Link) : Type 0 where
+pub record AnswersInTurn (kind : ℕ) (frames : Frames) (replies : List (Result Reply Refusal))
+    (old new : Link) : Type 0 where
   pub wrote : Appends old.output new.output frames.0
   pub read : TakeTurns kind frames.1 replies old.input new.input
   pub goes_on : IsUp new

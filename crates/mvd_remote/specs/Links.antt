@@ -136,7 +136,8 @@ Asks old new request (Err refusal) = SendsNothing old new request refusal ⊎ Se
 
 -- a refusal of a question: the link gave it, or the peer told it
 abbrev pub RefusesAsked : Link → Link → Request → Refusal → Type 0
-RefusesAsked old new request refusal = Asks old new request (Err refusal) ⊎ SendsFrame old new request (Ok (Refused refusal))
+RefusesAsked old new request refusal =
+    Asks old new request (Err refusal) ⊎ SendsFrame old new request (Ok (Refused refusal))
 
 -- what a question for an answer gives: a reply that tells it, or a refusal
 abbrev pub AsksLinkFor : {A : Type 0} → (A → Reply) → Request → Link → Link → Result A Refusal → Type 0

@@ -42,17 +42,18 @@ adds_of states (Change change) = adds_one states change.key
 
 -- ---- room
 
--- In the states afterwards there is as much room for the request as before: they have as many keys, or there is room for one more, or
--- the request adds none
+-- In the states afterwards there is as much room for the request as before: they have as many keys, or there is room
+-- for one more, or the request adds none
 abbrev pub KeepsRoom : ConfigValue → States → States → Request → Type 0
 KeepsRoom config states after request =
     (map_len after ≡ map_len states) ⊎ (map_len after < config.max_keys) ⊎ (may_add states request ≡ false)
 
--- There may be less room for the request once these are put in: they add keys, then there is room for none more, and the request may
--- add one
+-- There may be less room for the request once these are put in: they add keys, then there is room for none more, and
+-- the request may add one
 abbrev pub LacksRoom : SiteValue → Request → List Prepared → Type 0
 LacksRoom site request group =
-    (map_len site.states < map_len (with_group site.states group)) × (site.config.max_keys ≤ map_len (with_group site.states group))
+    (map_len site.states < map_len (with_group site.states group))
+    × (site.config.max_keys ≤ map_len (with_group site.states group))
     × (may_add site.states request ≡ true)
 
 -- the same by a number of keys that are added

@@ -1,4 +1,5 @@
--- What a program asks of a replica by a call of its own, as the request that it is and the reply that its result stands for.
+-- What a program asks of a replica by a call of its own, as the request that it is and the reply that its result stands
+-- for.
 use Rattle.std.specs.Prelude.{◌≡◌, ◌⊎◌, ⊤, ℕ, Bool, List, false, Result, Ok, Err}
 use Rattle.mvd_dots.specs.Dot.{DotValue}
 use Rattle.mvd_dots.specs.declared.refusals.Refusal.{Refusal}
@@ -23,11 +24,13 @@ put_reply (Err refusal) = reply.Refused refusal
 
 -- the reply that `answer` gives to a question, from the states that are held: 22 of a broken replica
 abbrev pub question_told : SiteValue → Request → Reply
-question_told site request = unless_broken site.broken (reply.Refused Broken) (answer_from site.config site.states request)
+question_told site request =
+    unless_broken site.broken (reply.Refused Broken) (answer_from site.config site.states request)
 
 -- this reply, or 20 of a replica that is not broken, where memory was refused
 abbrev pub TellsAnswer : SiteValue → Request → Reply → Type 0
-TellsAnswer site request told = (told ≡ question_told site request) ⊎ ((site.broken ≡ false) × (told ≡ reply.Refused Memory))
+TellsAnswer site request told =
+    (told ≡ question_told site request) ⊎ ((site.broken ≡ false) × (told ≡ reply.Refused Memory))
 
 -- the reply to a question of a row that came to this
 abbrev pub row_told : Result RowValue Refusal → Reply

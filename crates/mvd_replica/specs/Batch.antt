@@ -36,8 +36,8 @@ changes_asked (request ∷ requests) = asks_change request + changes_asked reque
 
 -- ---- the site, turn by turn
 
--- What one request does to a site, from its states alone: a broken site refuses it and stays as it is. A request that takes no
--- memory is not told want of it. The reply can be sent, and there are writes that the request adds
+-- What one request does to a site, from its states alone: a broken site refuses it and stays as it is. A request that
+-- takes no memory is not told want of it. The reply can be sent, and there are writes that the request adds
 pub record AnswersOneFrom (old new : SiteValue) (request : Request) (reply : Reply) : Type 0 where
   pub whole : AnswersFromStored old new request reply
   pub broken : old.broken ≡ true → (reply ≡ Refused Broken) × (new ≡ old)
@@ -54,7 +54,8 @@ TakesFrom old new (Err fault) reply = ((reply ≡ Refused fault) ⊎ (reply ≡ 
 -- each turn does so to the site that the one before it left
 abbrev pub TakesAllFrom : SiteValue → SiteValue → List Turn → Type 0
 TakesAllFrom old new [] = new ≡ old
-TakesAllFrom old new (turn ∷ turns) = (mid : SiteValue) × TakesFrom old mid turn.asked turn.reply × TakesAllFrom mid new turns
+TakesAllFrom old new (turn ∷ turns) =
+    (mid : SiteValue) × TakesFrom old mid turn.asked turn.reply × TakesAllFrom mid new turns
 
 -- a turn counts no commit, or one where it changed the site
 abbrev pub MayCount : SiteValue → SiteValue → ℕ → ℕ → Type 0
@@ -64,7 +65,8 @@ MayCount old new count rest = (count ≡ rest) ⊎ ((new ≢ old) × (count ≡ 
 abbrev pub CountsAlong : SiteValue → SiteValue → List Turn → ℕ → Type 0
 CountsAlong old new [] count = (new ≡ old) × (count ≡ 0)
 CountsAlong old new (turn ∷ turns) count =
-    (mid : SiteValue) × (rest : ℕ) × TakesFrom old mid turn.asked turn.reply × MayCount old mid count rest × CountsAlong mid new turns rest
+    (mid : SiteValue) × (rest : ℕ) × TakesFrom old mid turn.asked turn.reply × MayCount old mid count rest
+    × CountsAlong mid new turns rest
 
 -- ---- the records
 
@@ -72,10 +74,11 @@ CountsAlong old new (turn ∷ turns) count =
 abbrev pub AreAmongTurns : List Request → List Turn → Type 0
 AreAmongTurns [] turns = ⊤
 AreAmongTurns (request ∷ requests) [] = ⊥
-AreAmongTurns (request ∷ requests) (turn ∷ turns) = (IsToldBroken request turn × AreAmongTurns requests turns) ⊎ AreAmongTurns (request ∷ requests) turns
+AreAmongTurns (request ∷ requests) (turn ∷ turns) =
+    (IsToldBroken request turn × AreAmongTurns requests turns) ⊎ AreAmongTurns (request ∷ requests) turns
 
--- What a site that turns broke has lost: what the first request changes that was told 22, and what some of the later ones change
--- that were told so
+-- What a site that turns broke has lost: what the first request changes that was told 22, and what some of the later
+-- ones change that were told so
 pub record Loses (turns : List Turn) (site : SiteValue) : Type 0 where
   pub before : List Turn
   pub broke : Turn
@@ -97,9 +100,9 @@ pub record HoldsLost (turns : List Turn) (site : SiteValue) (db : Database) : Ty
   pub lost : Loses turns site
   pub holds : HoldsStates site.config.site (after_all site.config site.states (lost_requests lost)) db
 
--- What turns do to a replica. It keeps its configuration, and once broken all of its site. If the store is sound now it was, and
--- if it held the site it does; once the site is broken the store stays as it is, and if that came by these turns it holds what
--- was lost as well. A store that was shut takes no change. A stop leaves whole turns.
+-- What turns do to a replica. It keeps its configuration, and once broken all of its site. If the store is sound now it
+-- was, and if it held the site it does; once the site is broken the store stays as it is, and if that came by these
+-- turns it holds what was lost as well. A store that was shut takes no change. A stop leaves whole turns.
 pub record TurnsFollow (turns : List Turn) (old new : StoredSite) : Type 0 where
   pub site : SiteFollows old.site new.site
   pub sound : IsSound new.store → IsSound old.store
@@ -113,7 +116,8 @@ pub record TurnsFollow (turns : List Turn) (old new : StoredSite) : Type 0 where
 
 -- ---- both
 
--- Turns of a replica: each reply is one that may be given from the writes known then, and can be sent; and the records follow
+-- Turns of a replica: each reply is one that may be given from the writes known then, and can be sent; and the records
+-- follow
 pub record TakesTurns (turns : List Turn) (old new : StoredSite) : Type 0 where
   pub replies : Replies old.site new.site turns
   pub stands : StandsOn old.site new.site turns
@@ -125,8 +129,8 @@ pub record TakesTurns (turns : List Turn) (old new : StoredSite) : Type 0 where
   pub breaks : old.site.broken ≡ false → new.site.broken ≡ true → (request : Request) × IsFirstBroken turns request
   pub follows : TurnsFollow turns old new
 
--- Requests that are answered at once: one turn for each, in order, with its reply, which is also given from the states that the
--- turn before left
+-- Requests that are answered at once: one turn for each, in order, with its reply, which is also given from the states
+-- that the turn before left
 pub record AnswersAll (requests : List Request) (replies : List Reply) (old new : StoredSite) : Type 0 where
   pub turns : List Turn
   pub asked : map (λ turn. turn.asked) turns ≡ map (λ request. Ok request) requests

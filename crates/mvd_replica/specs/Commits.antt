@@ -1,5 +1,6 @@
--- What requests that share a commit do to a replica: the one relation of `Replica::answer`, where the commit is of one request, and
--- of `Replica::answer_all`, which makes one commit after the other. What follows from it are lemmas (proofs/Commits.antt).
+-- What requests that share a commit do to a replica: the one relation of `Replica::answer`, where the commit is of one
+-- request, and of `Replica::answer_all`, which makes one commit after the other. What follows from it are lemmas
+-- (proofs/Commits.antt).
 use Rattle.std.specs.Prelude.{◌≡◌, ◌⊎◌, ⊤, true, false, ℕ, ◌<◌, ◌≤◌, List, [], ◌∷◌, ◌++◌, flat_map, length, map, take, Ok, Err}
 use Rattle.std.specs.List.{AllByRecursion}
 use Rattle.mvd_wire.specs.declared.request.Request.{Request}
@@ -31,11 +32,13 @@ module _ {S : Type 0} {g : Ghosts S} where
 
   -- one of the turns changed the site, and one commit is counted
   abbrev pub CommitsOnce : List Turn → Replica S g → Replica S g → Type 0
-  CommitsOnce turns old new = CountsAlong (site_of old) (site_of new) turns 1 × (commits_of new ≡ next_count (commits_of old))
+  CommitsOnce turns old new =
+      CountsAlong (site_of old) (site_of new) turns 1 × (commits_of new ≡ next_count (commits_of old))
 
   -- where turns break the site and the store is sound, the records hold what it has lost
   abbrev pub HoldsIfLost : List Turn → Replica S g → Replica S g → Type 0
-  HoldsIfLost turns old new = IsSound (store_of new) → HoldsSite (site_of old) (committed_of old) → (site_of old).broken ≡ false →
+  HoldsIfLost turns old new = IsSound (store_of new) → HoldsSite (site_of old) (committed_of old)
+      → (site_of old).broken ≡ false →
       (site_of new).broken ≡ true → HoldsLost turns (site_of new) (committed_of new)
 
   -- Turns that share a commit

@@ -16,7 +16,8 @@ use Rattle.sqlite.specs.WalFiles.{outcomes}
 use Rattle.mvd_replica.specs.Holds.{HoldsStates}
 use Rattle.mvd_replica.specs.Opened.{OpensSite, RefusesSite}
 
--- the image holds this database: the pages that it recovers to are a sound file, whose trees are the database's, and list its schema
+-- the image holds this database: the pages that it recovers to are a sound file, whose trees are the database's, and
+-- list its schema
 pub record HoldsImage (image : Image) (db : Database) : Type 0 where
   pub trees : ∥ HoldsDatabase image db.trees ∥₁
   pub sound : IsDatabase db
@@ -27,8 +28,8 @@ pub record HoldsFile (image : Image) (site : ℕ) (states : States) : Type 0 whe
   pub held : HoldsImage image db
   pub holds : HoldsStates site states db
 
--- The database that was found is the one that the image holds, if it holds one. Else the image held none yet, and it is empty.
--- It lists its schema, and obeys it
+-- The database that was found is the one that the image holds, if it holds one. Else the image held none yet, and it is
+-- empty. It lists its schema, and obeys it
 pub record IsFoundIn (image : Image) (was : Database) : Type 0 where
   pub sound : IsDatabase was
   pub holds : (db : Database) → HoldsImage image db → was ≡ db
@@ -62,5 +63,6 @@ pub record HoldsAlone (image : Image) (site : ℕ) (states : States) : Type 0 wh
 -- What the database held of a site, the file holds: as it reads now, and as whatever a crash leaves of it reads
 pub record ClosesFile {D : Type 0} (g : Ghosts D) (db : Database) (files : Files D) : Type 0 where
   pub seen : (site : ℕ) (states : States) → HoldsStates site states db → HoldsAlone (image_of g files) site states
-  pub left : (image : Image) → outcomes g files.log files.db image → (site : ℕ) (states : States) → HoldsStates site states db →
+  pub left : (image : Image) → outcomes g files.log files.db image → (site : ℕ) (states : States)
+      → HoldsStates site states db →
       HoldsAlone image site states

@@ -49,7 +49,8 @@ module _ {D : Type 0} {g : Ghosts D} {f : store.Ghosts (FileStore D g)} where
     pub site : IfOk result (λ replica. IsFresh config (site_of replica))
     -- there is a set of writes that it stands for
     pub stands : IfOk result (λ replica. HasWrites (site_of replica))
-    -- where nobody else has written the files, and the disk has returned what was written, it is the site that they hold
+    -- where nobody else has written the files, and the disk has returned what was written, it is the site that they
+    -- hold
     pub opens : IfOk result (λ replica. HasCleanDisk (file_of replica) →
         OpensFile image config (site_of replica) (file_database replica))
     -- and no failure has shut the store, where the disk has returned what was written
@@ -57,12 +58,12 @@ module _ {D : Type 0} {g : Ghosts D} {f : store.Ghosts (FileStore D g)} where
     -- then, of new files and of files of ours in either version, a stop leaves the site's states
     pub rests : IfOk result (λ replica. HasCleanDisk (file_of replica) →
         (was : Database) × IsFoundIn image was × (IsOurs was → IsAtRest (stored_of replica)))
-    -- a refusal has its cause in what the file and its log hold, in the disk, in want of memory, or in a program that has the
-    -- file open
+    -- a refusal has its cause in what the file and its log hold, in the disk, in want of memory, or in a program that
+    -- has the file open
     pub refused : IfErr result (FailsFile image config)
 
-  -- What a close leaves. The store was sound to its end; what the database held of a site, the files hold, as they read now and
-  -- after a crash; and where the records held the site, its states are what the database held
+  -- What a close leaves. The store was sound to its end; what the database held of a site, the files hold, as they read
+  -- now and after a crash; and where the records held the site, its states are what the database held
   pub record IsClosed (replica : Replica (FileStore D g) f) (files : Files D) : Type 0 where
     pub sound : IsSound (file_of replica)
     pub file : ClosesFile g (file_database replica) files
@@ -77,7 +78,8 @@ module _ {D : Type 0} {g : Ghosts D} {f : store.Ghosts (FileStore D g)} where
   pub record FailsClosing (replica : Replica (FileStore D g) f) (failed : Error × FileStore D g) : Type 0 where
     -- the error is the store's
     pub named : (cause : StoreError) × (failed.0 ≡ store_error cause)
-    -- where the disk has returned what was written, memory was refused, or the disk failed, or the store was shut before
+    -- where the disk has returned what was written, memory was refused, or the disk failed, or the store was shut
+    -- before
     pub cause : IsClean (view failed.1) → FailsToClose (conn_of replica) failed.1 failed.0
     -- a crash leaves nothing that it could not leave before the close
     pub crash : (trees : Trees) → recovers failed.1 trees → (file_of replica).may_leave trees

@@ -46,12 +46,14 @@ abbrev pub IsApart : Request → Prepared → Type 0
 IsApart request (Answer reply) = ⊤
 IsApart request (Change change) = IsElsewhere change.key request
 
--- what a request comes to from these states: a reply that changes nothing, or memory was refused, but not to one that takes none; or
--- a change
+-- what a request comes to from these states: a reply that changes nothing, or memory was refused, but not to one that
+-- takes none; or a change
 abbrev pub ComesTo : ConfigValue → States → Request → Prepared → Type 0
 ComesTo config states request (Answer reply) =
-    (PreparesAnswerFrom config states request reply ⊎ (reply ≡ Refused Memory)) × (IsFrugal states request → reply ≢ Refused Memory)
-ComesTo config states request (Change change) = PreparesChangeFrom config states request change × (has_no_room config states change.key ≡ false)
+    (PreparesAnswerFrom config states request reply ⊎ (reply ≡ Refused Memory))
+    × (IsFrugal states request → reply ≢ Refused Memory)
+ComesTo config states request (Change change) =
+    PreparesChangeFrom config states request change × (has_no_room config states change.key ≡ false)
 
 -- the reply can be sent, and there are writes that the request then adds
 pub record IsGivenReply (request : Request) (reply : Reply) : Type 0 where
@@ -62,14 +64,16 @@ pub record IsGivenReply (request : Request) (reply : Reply) : Type 0 where
 -- what holds of it from whatever states
 abbrev pub IsSendable : Request → Prepared → Type 0
 IsSendable request (Answer reply) = IsGivenReply request reply
-IsSendable request (Change change) = IsGivenReply request (change_reply change.dot) × IsHeldState change.state × IsSpelled change.state
+IsSendable request (Change change) =
+    IsGivenReply request (change_reply change.dot) × IsHeldState change.state × IsSpelled change.state
 
 -- ---- many
 
 -- each request came to this from these states
 abbrev pub AllComeTo : ConfigValue → States → List Request → List Prepared → Type 0
 AllComeTo config states [] [] = ⊤
-AllComeTo config states (request ∷ requests) (prepared ∷ group) = ComesTo config states request prepared × AllComeTo config states requests group
+AllComeTo config states (request ∷ requests) (prepared ∷ group) =
+    ComesTo config states request prepared × AllComeTo config states requests group
 AllComeTo config states requests group = ⊥
 
 abbrev pub AreSendable : List Request → List Prepared → Type 0
@@ -92,7 +96,8 @@ pub record StandTogether (site : SiteValue) (requests : List Request) (group : L
 
 -- the request comes to this change
 abbrev pub IsAlone : SiteValue → Request → ChangeValue → Type 0
-IsAlone site request change = ComesTo site.config site.states request (Change change) × IsSendable request (Change change)
+IsAlone site request change =
+    ComesTo site.config site.states request (Change change) × IsSendable request (Change change)
 
 -- a request may be prepared beside these: it sees none of them, and once they are in there is as much room for it
 pub record MayJoin (site : SiteValue) (request : Request) (group : List Prepared) : Type 0 where
@@ -103,8 +108,8 @@ pub record MayJoin (site : SiteValue) (request : Request) (group : List Prepared
 abbrev pub SeesAny : Request → List Prepared → Type 0
 SeesAny request group = AllByRecursion (IsApart request) group → ⊥
 
--- A request has to wait until these are put in: they are 1,024, or there may be less room for it then, or it sees a key that one of
--- them changes
+-- A request has to wait until these are put in: they are 1,024, or there may be less room for it then, or it sees a key
+-- that one of them changes
 abbrev pub MustWait : SiteValue → Request → List Prepared → Type 0
 MustWait site request group = (1024 ≤ length group) ⊎ LacksRoom site request group ⊎ SeesAny request group
 

@@ -1,4 +1,5 @@
--- What opening a site's records comes to: one relation, over the database that was found, what was returned, and what was left.
+-- What opening a site's records comes to: one relation, over the database that was found, what was returned, and what
+-- was left.
 use Rattle.std.specs.Prelude.{◌≡◌, ◌⊎◌, false, ℕ, IsTrue, List, Ok, Err}
 use Rattle.mvd_dots.specs.declared.refusals.Refusal.{Refusal}
 use Rattle.mvd_dots.specs.declared.refusals.Refusal.TheVariants.{Damaged, Full, Memory, SiteMismatch}
@@ -15,10 +16,11 @@ use Rattle.mvd_replica.specs.Readable.{AreDamaged, AreReadable, HasJust, HoldsTo
 
 -- The marks told the site a version; where that was 2 already, the two maps are as they were
 abbrev pub KeepsMoved : ℕ → Database → Database → Type 0
-KeepsMoved site was now = (version : ℕ) × TellsVersion (marks_of was) site (Ok version) × (version ≡ 2 → KeepsStates was now)
+KeepsMoved site was now =
+    (version : ℕ) × TellsVersion (marks_of was) site (Ok version) × (version ≡ 2 → KeepsStates was now)
 
--- What was found is in order. The site holds just the states that the two maps of the database found spell, and so do the records
--- as they are now, with no key of version 1 among them.
+-- What was found is in order. The site holds just the states that the two maps of the database found spell, and so do
+-- the records as they are now, with no key of version 1 among them.
 pub record OpensSite (config : ConfigValue) (was : Database) (site : SiteValue) (now : Database) : Type 0 where
   pub order : AreReadable config.site was
   pub spelled : HasJust was site.states
@@ -26,19 +28,20 @@ pub record OpensSite (config : ConfigValue) (was : Database) (site : SiteValue) 
   pub states : SameStates was now
   pub kept : KeepsMoved config.site was now
 
--- Why ours is not opened: 16 where the marks are another site's, 17 where the records are damaged, 10 where they hold too many
--- keys. 20 and 21 need no cause. The states stay; the records are as they were, or they were made the site's and some old keys
--- moved, and the next open finds what this one did.
+-- Why ours is not opened: 16 where the marks are another site's, 17 where the records are damaged, 10 where they hold
+-- too many keys. 20 and 21 need no cause. The states stay; the records are as they were, or they were made the site's
+-- and some old keys moved, and the next open finds what this one did.
 pub record RefusesSite (config : ConfigValue) (was : Database) (e : Refusal) (now : Database) : Type 0 where
   pub states : SameStates was now
   pub kept : (now ≡ was) ⊎ KeepsMoved config.site was now
   pub mismatch : e ≡ SiteMismatch → TellsVersion (marks_of was) config.site (Err SiteMismatch)
   pub damaged : e ≡ Damaged → AreDamaged config.site was
   pub full : e ≡ Full → HoldsTooMany config.max_keys now × AreReadable config.site was
-  pub resumes : (now ≡ was) ⊎ ((version : ℕ) × TellsVersion (marks_of was) config.site (Ok version) × Resumes version config.site was now)
+  pub resumes : (now ≡ was)
+      ⊎ ((version : ℕ) × TellsVersion (marks_of was) config.site (Ok version) × Resumes version config.site was now)
 
--- Of a database that was one of ours, where the store is sound after the call: nobody else has written it, it has returned what
--- was written, and no failure has shut it
+-- Of a database that was one of ours, where the store is sound after the call: nobody else has written it, it has
+-- returned what was written, and no failure has shut it
 abbrev pub OfOurs : State → State → Type 0 → Type 0
 OfOurs store after P = IsSound after → IsOurs store.committed → P
 

@@ -26,8 +26,8 @@ AreStored stored = (key : Key) (bytes : List ℕ) → get stored key ≡ Some by
 abbrev pub AreOldStored : Stored → Type 0
 AreOldStored stored = (key : Key) (bytes : List ℕ) → get stored key ≡ Some bytes → IsOldStored bytes
 
--- The two maps of records of a version are in order: each key is one, none is in both, in version 2 no old one is left, and what
--- is stored are states that a site may hold
+-- The two maps of records of a version are in order: each key is one, none is in both, in version 2 no old one is left,
+-- and what is stored are states that a site may hold
 pub record AreInOrder (version : ℕ) (old new : Stored) : Type 0 where
   pub old_keys : AreKeys old
   pub new_keys : AreKeys new
@@ -37,32 +37,38 @@ pub record AreInOrder (version : ℕ) (old new : Stored) : Type 0 where
 
 -- the marks tell this site a version, and what it tells is in order
 abbrev pub AreReadable : ℕ → Database → Type 0
-AreReadable site db = (version : ℕ) × TellsVersion (marks_of db) site (Ok version) × AreInOrder version (old_states db) (new_states db)
+AreReadable site db =
+    (version : ℕ) × TellsVersion (marks_of db) site (Ok version) × AreInOrder version (old_states db) (new_states db)
 
 -- why records are damaged to a site: their marks are none of ours, or what their version tells is not in order
 abbrev pub AreDamaged : ℕ → Database → Type 0
 AreDamaged site db =
-    TellsVersion (marks_of db) site (Err Damaged) ⊎ ((version : ℕ) × TellsVersion (marks_of db) site (Ok version) × ¬ AreInOrder version (old_states db) (new_states db))
+    TellsVersion (marks_of db) site (Err Damaged)
+    ⊎ ((version : ℕ) × TellsVersion (marks_of db) site (Ok version)
+    × ¬ AreInOrder version (old_states db) (new_states db))
 
--- The records are the site's, also where a move of old keys was broken off, and in order exactly where they were: opened again
--- they are found as they were
+-- The records are the site's, also where a move of old keys was broken off, and in order exactly where they were:
+-- opened again they are found as they were
 abbrev pub Resumes : ℕ → ℕ → Database → Database → Type 0
 Resumes version site old new =
-    (now : ℕ) × ((now ≡ version) ⊎ (now ≡ 2)) × HoldsRecords now site new × (AreInOrder version (old_states old) (new_states old) ↔ AreInOrder now (old_states new) (new_states new))
+    (now : ℕ) × ((now ≡ version) ⊎ (now ≡ 2)) × HoldsRecords now site new
+    × (AreInOrder version (old_states old) (new_states old) ↔ AreInOrder now (old_states new) (new_states new))
 
 -- more keys are held than so many, and no old key is left
 pub record HoldsTooMany (most : ℕ) (db : Database) : Type 0 where
   pub alone : HasNone (old_states db)
   pub more : most < len (new_states db)
 
--- the old keys were in order and are moved: each new state was there, or is at the key of an old one. That it is the same
--- state this does not say (`SameStates` below does)
+-- the old keys were in order and are moved: each new state was there, or is at the key of an old one. That it is the
+-- same state this does not say (`SameStates` below does)
 pub record Migrates (version : ℕ) (old new : Database) : Type 0 where
   pub whole : IsWhole version (old_states old) (old_states old) (new_states old)
   pub stored : AreOldStored (old_states old)
-  pub kept : (key : Key) (bytes : List ℕ) → get (new_states old) key ≡ Some bytes → get (new_states new) key ≡ Some bytes
+  pub kept : (key : Key) (bytes : List ℕ) → get (new_states old) key ≡ Some bytes
+      → get (new_states new) key ≡ Some bytes
   pub from : (key : Key) (bytes : List ℕ) → get (new_states new) key ≡ Some bytes →
-      (get (new_states old) key ≡ Some bytes) ⊎ (SpellsHeldState bytes × ((was : List ℕ) × (get (old_states old) key ≡ Some was)))
+      (get (new_states old) key ≡ Some bytes)
+      ⊎ (SpellsHeldState bytes × ((was : List ℕ) × (get (old_states old) key ≡ Some was)))
   pub none : HasNone (old_states new)
 
 -- keys with states, as they are spelled
@@ -81,15 +87,19 @@ SpelledIn layout stored key s = (bytes : List ℕ) × (get stored key ≡ Some b
 abbrev pub HasState : Database → Key → State → Type 0
 HasState db key s = SpelledIn layout2 (new_states db) key s ⊎ SpelledIn layout1 (old_states db) key s
 
--- The two maps of both databases spell the same states of the same keys, and hold the same bytes, but where an old state became a
--- new one: so what spells none stays as it is
+-- The two maps of both databases spell the same states of the same keys, and hold the same bytes, but where an old
+-- state became a new one: so what spells none stays as it is
 pub record SameStates (a b : Database) : Type 0 where
   pub kept : (key : Key) (s : State) → HasState a key s → HasState b key s
   pub only : (key : Key) (s : State) → HasState b key s → HasState a key s
-  pub new_kept : (key : Key) (bytes : List ℕ) → get (new_states a) key ≡ Some bytes → get (new_states b) key ≡ Some bytes
-  pub new_only : (key : Key) (bytes : List ℕ) → get (new_states b) key ≡ Some bytes → (get (new_states a) key ≡ Some bytes) ⊎ SpellsHeldState bytes
-  pub old_kept : (key : Key) (bytes : List ℕ) → get (old_states a) key ≡ Some bytes → (get (old_states b) key ≡ Some bytes) ⊎ IsOldStored bytes
-  pub old_only : (key : Key) (bytes : List ℕ) → get (old_states b) key ≡ Some bytes → get (old_states a) key ≡ Some bytes
+  pub new_kept : (key : Key) (bytes : List ℕ) → get (new_states a) key ≡ Some bytes
+      → get (new_states b) key ≡ Some bytes
+  pub new_only : (key : Key) (bytes : List ℕ) → get (new_states b) key ≡ Some bytes
+      → (get (new_states a) key ≡ Some bytes) ⊎ SpellsHeldState bytes
+  pub old_kept : (key : Key) (bytes : List ℕ) → get (old_states a) key ≡ Some bytes
+      → (get (old_states b) key ≡ Some bytes) ⊎ IsOldStored bytes
+  pub old_only : (key : Key) (bytes : List ℕ) → get (old_states b) key ≡ Some bytes
+      → get (old_states a) key ≡ Some bytes
 
 -- just these states are had, at just these keys
 abbrev pub HasJust : Database → States → Type 0

@@ -1,5 +1,5 @@
--- What each call of a replica does: one relation for a call, over the replica before it, what it was called with, what it returned,
--- and the replica after it.
+-- What each call of a replica does: one relation for a call, over the replica before it, what it was called with, what
+-- it returned, and the replica after it.
 use Rattle.std.specs.Prelude.{◌≡◌, ◌≢◌, ◌⊎◌, ◌<◌, ◌≤◌, ◌+◌, ◌-◌, ◌^◌, Bool, false, true, ℕ, List, [], ◌∷◌, ◌++◌, length, map}
 use Rattle.std.specs.Prelude.{min, Option, Vec, Result, Ok, Err, IfErr, IfOk, OnOk, MatchResult}
 use Rattle.std.specs.List.{AllByRecursion}
@@ -44,15 +44,16 @@ abbrev pub node_told : SiteValue → List ℕ → Result Digests Refusal
 node_told site path = unless_broken site.broken (Err Broken) (Ok (node_digests (digests site.states) path))
 
 -- the digest of the root, or 22 of a broken site
-abbrev pub root_told : SiteValue → Result (List ℕ) Refusal
-root_told site = unless_broken site.broken (Err Broken) (Ok (node_digest (digests site.states) []))
+abbrev pub root_answer : SiteValue → Result (List ℕ) Refusal
+root_answer site = unless_broken site.broken (Err Broken) (Ok (node_digest (digests site.states) []))
 
 -- this, or of a site that is not broken that memory was refused
 abbrev pub TellsRoot : SiteValue → Result (List ℕ) Refusal → Type 0
-TellsRoot site result = IsAnswer result (root_told site) × (site.broken ≡ true → result ≡ Err Broken)
+TellsRoot site result = IsAnswer result (root_answer site) × (site.broken ≡ true → result ≡ Err Broken)
 
 -- a page of a bucket's keys with their digests, after a key if one is given
-pub record TellsBucketPage (site : SiteValue) (node : List ℕ) (after : Option Key) (result : Result (Vec (Key × List ℕ) Global × Bool) Refusal) : Type 0 where
+pub record TellsBucketPage (site : SiteValue) (node : List ℕ) (after : Option Key)
+    (result : Result (Vec (Key × List ℕ) Global × Bool) Refusal) : Type 0 where
   -- a broken site gives none
   pub whole : IfOk result (λ _. site.broken ≡ false)
   -- it is of a bucket
@@ -77,7 +78,8 @@ module _ {S : Type 0} {g : Ghosts S} where
   -- ---- open, and the connection given back
 
   -- the replica of the site that a database holds, or a refusal with the connection
-  pub record OpensReplica (conn : Held S) (config : ConfigValue) (result : Result (Replica S g) (Refusal × Held S)) : Type 0 where
+  pub record OpensReplica (conn : Held S) (config : ConfigValue)
+      (result : Result (Replica S g) (Refusal × Held S)) : Type 0 where
     -- the site that was opened, or the refusal, each with the store that it leaves
     pub opens : MatchResult result (λ replica. IsOpened config (state g conn) (site_of replica) (store_of replica))
         (λ refused. IsRefused config (state g conn) refused.0 (state g refused.1))
@@ -100,7 +102,8 @@ module _ {S : Type 0} {g : Ghosts S} where
   abbrev pub StoresThoughBroken : Replica S g → Request → Type 0 → Replica S g → Type 0
   StoresThoughBroken old request broke new =
       IsSound (store_of new) → HoldsSite (site_of old) (committed_of old) → (site_of old).broken ≡ false → broke →
-      HoldsStates (site_of old).config.site (after_from (site_of old).config (site_of old).states request) (committed_of new)
+      HoldsStates (site_of old).config.site (after_from (site_of old).config (site_of old).states request)
+      (committed_of new)
 
   -- a crash leaves what it left before the call, or the states with what the request changes
   abbrev pub SurvivesRequest : Replica S g → Request → Replica S g → Type 0
@@ -114,18 +117,27 @@ module _ {S : Type 0} {g : Ghosts S} where
     -- there are writes that it adds, so what is said for all such writes is not empty
     pub choice : (added : List Write) × Adds request reply added
     -- also where the site is broken, its states stand for what they stood for and for these
-    pub keeps : (known added : List Write) → Stands (site_of old).states known → Adds request reply added → Stands (site_of new).states (known ++ added)
+    pub keeps : (known added : List Write) → Stands (site_of old).states known → Adds request reply added
+        → Stands (site_of new).states (known ++ added)
     -- and where the store is sound, the records follow the states
     pub follows : ReplicaFollows (λ asked. asked ≡ request) (stored_of old) (stored_of new)
     -- a stop leaves the request whole
     pub leaves : LeavesTurns (record { asked = Ok request; reply = reply } ∷ []) (stored_of old) (stored_of new)
 
   -- one push, with what it came to
-  pub record PushesState (old : Replica S g) (key : Key) (pushed : State) (result : Result (Unit {0}) Refusal) (new : Replica S g) : Type 0 where
+  pub record PushesState (old : Replica S g) (key : Key) (pushed : State) (result : Result (Unit {0}) Refusal)
+      (new : Replica S g) : Type 0 where
     -- it is answered as the request to push is, from the states
     pub answer : AnswersFromStored (site_of old) (site_of new) (Push key pushed) (push_reply result)
     -- Ok: the state is joined to the key's, and nothing else changes
-    pub joined : OnOk result (site_of new ≡ record { config = (site_of old).config; states = with_state (site_of old).states key (join (state_at (site_of old).states key) pushed); broken = false })
+    pub joined : OnOk result
+        (site_of new
+        ≡ record {
+          config = (site_of old).config;
+          states = with_state (site_of old).states key (join (state_at (site_of old).states key) pushed);
+          broken =
+              false;
+        })
     -- the two states agreed
     pub agreed : OnOk result (clashes (state_at (site_of old).states key) pushed ≡ false)
     -- and 11 comes only where they do not
@@ -153,13 +165,14 @@ module _ {S : Type 0} {g : Ghosts S} where
     -- a crash leaves what it left before the call, or the states with the push
     pub survives : SurvivesRequest old (Push key pushed) new
     -- and so of a site at rest the states, and maybe the push where 21 or 22 is told
-    pub leaves : LeavesTurns (record { asked = Ok (Push key pushed); reply = push_reply result } ∷ []) (stored_of old) (stored_of new)
+    pub leaves : LeavesTurns (record { asked = Ok (Push key pushed); reply = push_reply result } ∷ []) (stored_of old)
+        (stored_of new)
 
   -- ---- answer_all
 
-  -- So many commits are counted, up to the greatest number: at most one for each request for a change, and at least one unless the
-  -- site is as it was. Some way through these requests and replies has at most one at each turn that changed the site, and none at
-  -- the others
+  -- So many commits are counted, up to the greatest number: at most one for each request for a change, and at least one
+  -- unless the site is as it was. Some way through these requests and replies has at most one at each turn that changed
+  -- the site, and none at the others
   pub record CountsCommits (requests : List Request) (replies : List Reply) (old new : Replica S g) : Type 0 where
     pub turns : List Turn
     pub asked : map (λ turn. turn.asked) turns ≡ map (λ request. Ok request) requests

@@ -1,4 +1,5 @@
--- A replica as its callers see it: its views, and what a call may keep of them. Clauses speak of a replica by these words alone.
+-- A replica as its callers see it: its views, and what a call may keep of them. Clauses speak of a replica by these
+-- words alone.
 use Rattle.std.specs.Prelude.{◌≡◌, ◌≢◌, ◌⊎◌, ◌≤◌, ◌+◌, ◌^◌, ◌-◌, ℕ, IsTrue, min}
 use Rattle.mvd_records.specs.Records.{IsSound}
 use Rattle.mvd_site.specs.Sites.{SiteValue}
@@ -33,7 +34,8 @@ module _ {S : Type 0} {g : Ghosts S} where
   abbrev pub conn_of : Replica S g → Held S
   conn_of replica = replica.records.conn
 
-  -- what the connection shows of the database: what was committed, what a crash leaves, whether the disk is clean and the store open
+  -- what the connection shows of the database: what was committed, what a crash leaves, whether the disk is clean and
+  -- the store open
   abbrev pub store_of : Replica S g → State
   store_of replica = state g replica.records.conn
 
@@ -73,4 +75,5 @@ module _ {S : Type 0} {g : Ghosts S} where
 
   -- the records follow the states: where they held the site, they do
   abbrev pub RecordsFollow : Replica S g → Replica S g → Type 0
-  RecordsFollow old new = IsSound (store_of new) → HoldsSite (site_of old) (committed_of old) → HoldsSite (site_of new) (committed_of new)
+  RecordsFollow old new = IsSound (store_of new) → HoldsSite (site_of old) (committed_of old)
+      → HoldsSite (site_of new) (committed_of new)

@@ -1,4 +1,5 @@
--- What the reading of a site's records comes to, step by step, where the records were some before and the store is sound after.
+-- What the reading of a site's records comes to, step by step, where the records were some before and the store is
+-- sound after.
 use Rattle.std.specs.Prelude.{◌≡◌, ◌⊎◌, ◌↔◌, false, ℕ, List, Result, IfErr, IfOk, IsTrue, MatchResult, OnOk}
 use Rattle.std.specs.FinMap.{entries}
 use Rattle.mvd_dots.specs.declared.refusals.Refusal.{Refusal}
@@ -69,11 +70,13 @@ module _ {S : Type 0} (g : Ghosts S) where
 
   -- of records of any version and site
   abbrev pub OfAny : RecordsValue S → RecordsValue S → (Database → Type 0) → Type 0
-  OfAny old new P = (version number : ℕ) → IsSound (state g new.conn) → HoldsRecords version number (committed old) → P (committed old)
+  OfAny old new P = (version number : ℕ) → IsSound (state g new.conn) → HoldsRecords version number (committed old)
+      → P (committed old)
 
   -- of records of the version that they told
   abbrev pub OfTold : RecordsValue S → RecordsValue S → (Database → Database → Type 0) → Type 0
-  OfTold old new P = (number : ℕ) → IsSound (state g new.conn) → HoldsRecords old.version number (committed old) → P (committed old) (committed new)
+  OfTold old new P = (number : ℕ) → IsSound (state g new.conn) → HoldsRecords old.version number (committed old)
+      → P (committed old) (committed new)
 
   -- ---- a load, of records of version 2
 
@@ -91,7 +94,8 @@ module _ {S : Type 0} (g : Ghosts S) where
 
   -- 10 only where there are too many keys, in order
   abbrev pub LoadsFull : ConfigValue → RecordsValue S → Result SiteValue Refusal → RecordsValue S → Type 0
-  LoadsFull config old result new = OfAny old new (λ db. IfErr result (λ e. e ≡ Full → HoldsTooMany config.max_keys db × InOrder 2 db))
+  LoadsFull config old result new =
+      OfAny old new (λ db. IfErr result (λ e. e ≡ Full → HoldsTooMany config.max_keys db × InOrder 2 db))
 
   -- Ok only where they are in order, 17 only where they are not
   abbrev pub LoadsOrder : RecordsValue S → Result SiteValue Refusal → RecordsValue S → Type 0
@@ -103,7 +107,8 @@ module _ {S : Type 0} (g : Ghosts S) where
   abbrev pub MovesVersion : {A : Type 0} → RecordsValue S → Result A Refusal → RecordsValue S → Type 0
   MovesVersion old result new =
       (number : ℕ) → IsSound (state g new.conn) → HoldsRecords old.version number (committed old) →
-      MatchResult result (λ _. HoldsRecords 2 number (committed new)) (λ _. HoldsRecords old.version number (committed new))
+      MatchResult result (λ _. HoldsRecords 2 number (committed new))
+      (λ _. HoldsRecords old.version number (committed new))
 
   -- the key states that the two maps spell are the same, also after a refusal
   abbrev pub MovesStates : RecordsValue S → RecordsValue S → Type 0
@@ -112,11 +117,14 @@ module _ {S : Type 0} (g : Ghosts S) where
   -- every old key is moved; 17 only where they were not in order
   abbrev pub MovesAll : {A : Type 0} → RecordsValue S → Result A Refusal → RecordsValue S → Type 0
   MovesAll old result new =
-      OfTold old new (λ was now. MatchResult result (λ _. Migrates old.version was now) (λ e. e ≡ Damaged → ¬ InOrder old.version was))
+      OfTold old new
+      (λ was now. MatchResult result (λ _. Migrates old.version was now) (λ e. e ≡ Damaged
+      → ¬ InOrder old.version was))
 
   -- after a refusal they are in order just where they were
   abbrev pub MovesAlike : {A : Type 0} → RecordsValue S → Result A Refusal → RecordsValue S → Type 0
-  MovesAlike old result new = OfTold old new (λ was now. IfErr result (λ _. InOrder old.version was ↔ InOrder old.version now))
+  MovesAlike old result new =
+      OfTold old new (λ was now. IfErr result (λ _. InOrder old.version was ↔ InOrder old.version now))
 
   -- ---- both
 
@@ -133,7 +141,8 @@ module _ {S : Type 0} (g : Ghosts S) where
   -- 10 only where too many keys are left, of records that were in order
   abbrev pub FindsFull : ConfigValue → RecordsValue S → Result SiteValue Refusal → RecordsValue S → Type 0
   FindsFull config old result new =
-      OfTold old new (λ was now. IfErr result (λ e. e ≡ Full → HoldsTooMany config.max_keys now × InOrder old.version was))
+      OfTold old new
+      (λ was now. IfErr result (λ e. e ≡ Full → HoldsTooMany config.max_keys now × InOrder old.version was))
 
   -- Ok only where they were in order, 17 only where they were not
   abbrev pub FindsOrder : RecordsValue S → Result SiteValue Refusal → RecordsValue S → Type 0
@@ -149,7 +158,8 @@ module _ {S : Type 0} (g : Ghosts S) where
       Resumes old.version number (committed old) (committed new)
 
   -- The site that the records hold, whose old keys are moved first; or why there is none
-  pub record RestoresSite (setup : ConfigValue) (old : RecordsValue S) (result : Result SiteValue Refusal) (new : RecordsValue S) : Type 0 where
+  pub record RestoresSite (setup : ConfigValue) (old : RecordsValue S) (result : Result SiteValue Refusal)
+      (new : RecordsValue S) : Type 0 where
     -- it is set up so, and not broken; there is a set of writes that it stands for
     pub config : IfOk result (IsFresh setup)
     pub stands : IfOk result HasWrites

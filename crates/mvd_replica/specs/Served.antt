@@ -28,8 +28,8 @@ abbrev pub conversation_of : {S : Type 0} {g : Ghosts S} →
     Replica S g → Option (List ℕ) → Option (List ℕ) → Conversation
 conversation_of replica input output = record { stored = stored_of replica; input = input; output = output }
 
--- what ends a connection once the turns are over: a Bye, the end of the input, a refusal that is told in one frame more, or the
--- writer
+-- what ends a connection once the turns are over: a Bye, the end of the input, a refusal that is told in one frame
+-- more, or the writer
 pub data Ending : Type 0 where
   AtBye : Ending
   AtEnd : Ending
@@ -51,10 +51,14 @@ ending_bytes broken AtWriter = []
 
 -- why the reading of frames ended at this rest, and what is left unread of it
 abbrev pub StopsServing : List ℕ → Option (List ℕ) → Ending → Type 0
-StopsServing rest left AtBye = (frame : FrameValue) × (next : List ℕ) × (frame_at rest ≡ Ok (Some frame, next)) × (request_of frame.kind frame.payload ≡ Ok Bye) × (left ≡ Some next)
+StopsServing rest left AtBye =
+    (frame : FrameValue) × (next : List ℕ) × (frame_at rest ≡ Ok (Some frame, next))
+    × (request_of frame.kind frame.payload ≡ Ok Bye) × (left ≡ Some next)
 StopsServing rest left AtEnd = (rest ≡ []) × (left ≡ Some [])
 StopsServing rest left (AtRefusal refusal) =
-    (refusal ≡ Memory) ⊎ ((refusal ≡ ReadFailed) ⊎ (((refusal ≡ TooManyRequests) × (left ≡ Some rest)) ⊎ (frame_at rest ≡ Err refusal)))
+    (refusal ≡ Memory)
+    ⊎ ((refusal ≡ ReadFailed)
+    ⊎ (((refusal ≡ TooManyRequests) × (left ≡ Some rest)) ⊎ (frame_at rest ≡ Err refusal)))
 StopsServing rest left AtWriter = left ≡ Some rest
 
 -- as many frames of a connection are answered
@@ -65,7 +69,8 @@ frames_most = 1000000
 abbrev pub IsCount : ℕ → Ending → Type 0
 IsCount count AtBye = count < frames_most
 IsCount count AtEnd = count < frames_most
-IsCount count (AtRefusal refusal) = ((count < frames_most) × (refusal ≢ TooManyRequests)) ⊎ ((count ≡ frames_most) × (refusal ≡ TooManyRequests))
+IsCount count (AtRefusal refusal) =
+    ((count < frames_most) × (refusal ≢ TooManyRequests)) ⊎ ((count ≡ frames_most) × (refusal ≡ TooManyRequests))
 IsCount count AtWriter = count ≤ frames_most
 
 -- so many replies may not have gone out whole: the one at which the writer failed
@@ -79,8 +84,8 @@ IsCutCount count AtWriter = count ≡ 1
 abbrev pub replies_bytes : List Turn → List ℕ
 replies_bytes turns = flat_map (λ turn. reply_bytes turn.reply) turns
 
--- what is to go out: bytes that do so whole, and others behind them, of which a front may; and the result that is wanted,
--- and the one where the writer failed
+-- what is to go out: bytes that do so whole, and others behind them, of which a front may; and the result that is
+-- wanted, and the one where the writer failed
 pub record Outgoing (X : Type 0) : Type 0 where
   pub whole : List ℕ
   pub rest : List ℕ
@@ -141,7 +146,8 @@ pub record Served (old new : Conversation) (result : Result Ended Refusal) : Typ
   -- written went out whole
   pub went_out : WentOut turns ending old new result
 
--- The same of a replica, with its reader and its writer: `left` tells what the one still has, and `taken` what the other took
+-- The same of a replica, with its reader and its writer: `left` tells what the one still has, and `taken` what the
+-- other took
 abbrev pub ServesOver : {S R W : Type 0} {g : Ghosts S} → (R → Option (List ℕ)) → (W → Option (List ℕ)) →
     Replica S g × R × W → Replica S g × R × W → Result Ended Refusal → Type 0
 ServesOver left taken old new result =

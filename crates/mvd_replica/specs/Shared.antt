@@ -17,7 +17,8 @@ WereClean g old new = HasCleanDisk (state g new.conn) → HasCleanDisk (state g 
 -- the store was open, and the trees are those of the records with these pairs, if the records were a site's
 abbrev pub LeavesPairs : State → List (List ℕ × List ℕ) → Trees → Type 0
 LeavesPairs s pairs trees =
-    IsTrue s.is_open × LeavesTrees s (λ version site db. HoldsRecords version site db × SavesStates s.committed db pairs) trees
+    IsTrue s.is_open
+    × LeavesTrees s (λ version site db. HoldsRecords version site db × SavesStates s.committed db pairs) trees
 
 -- a crash leaves what it left before, or these
 abbrev pub SurvivesPairs : {S : Type 0} → Ghosts S → RecordsValue S → List (List ℕ × List ℕ) → RecordsValue S → Type 0
@@ -26,7 +27,8 @@ SurvivesPairs g old pairs new = Survives (state g old.conn) (state g new.conn) (
 module _ {S A : Type 0} (g : Ghosts S) where
   -- after Ok the store is open, or there was nothing to store
   abbrev pub StoresOpen : List (List ℕ × List ℕ) → Result A Refusal → RecordsValue S → Type 0
-  StoresOpen pairs result new = HasCleanDisk (state g new.conn) → OnOk result (IsTrue (state g new.conn).is_open ⊎ (pairs ≡ []))
+  StoresOpen pairs result new = HasCleanDisk (state g new.conn)
+      → OnOk result (IsTrue (state g new.conn).is_open ⊎ (pairs ≡ []))
 
   -- after Ok the pairs are stored
   abbrev pub StoresPairs : RecordsValue S → List (List ℕ × List ℕ) → Result A Refusal → RecordsValue S → Type 0

@@ -23,11 +23,13 @@ module _ {S : Type 0} {g : Ghosts S} where
   KeepsSide old new = SideFollows (stored_of old) (stored_of new)
 
   -- one push, with what it came to; the site was true to its states where it is said
-  pub record PushesOnSide (old : Replica S g) (key : Key) (given : State) (result : Result (Unit {0}) Refusal) (new : Replica S g) : Type 0 where
+  pub record PushesOnSide (old : Replica S g) (key : Key) (given : State) (result : Result (Unit {0}) Refusal)
+      (new : Replica S g) : Type 0 where
     -- what the call by reference does
     pub push : PushesState old key given result new
     -- Ok: the state is joined to the key's, and the site is true still
-    pub ok : IsTrueSite (site_of old) → OnOk result (IsTrueSite (site_of new) × ((site_of new).states ≡ pushed (site_of old).states key given))
+    pub ok : IsTrueSite (site_of old)
+        → OnOk result (IsTrueSite (site_of new) × ((site_of new).states ≡ pushed (site_of old).states key given))
     -- the two states agreed
     pub apart : IsTrueSite (site_of old) → OnOk result (clashes (state_at (site_of old).states key) given ≡ false)
     -- a refusal leaves the states as they were
@@ -35,7 +37,8 @@ module _ {S : Type 0} {g : Ghosts S} where
     -- after one other than 22 the site is true still
     pub unbroken : IsTrueSite (site_of old) → IfErr result (λ refusal. refusal ≢ Broken → IsTrueSite (site_of new))
     -- a refusal has its cause in the key's state, in the count of keys, in memory or in the store
-    pub cause : IsTrueSite (site_of old) → IfErr result (CannotTake (site_of old).config.max_keys (site_of old).states key given)
+    pub cause : IsTrueSite (site_of old)
+        → IfErr result (CannotTake (site_of old).config.max_keys (site_of old).states key given)
     -- what no call of a session changes
     pub follows : KeepsSide old new
     -- a replica refuses with these alone
@@ -58,19 +61,24 @@ module _ {S : Type 0} {g : Ghosts S} where
   AnswersSide replica = (site_of replica).broken ≡ false
 
   -- each push is told what it may be told alone
-  abbrev pub TellsWindow : Replica S g → List (Key × State) → Replica S g → Vec (Result (Unit {0}) Refusal) Global → Type 0
+  abbrev pub TellsWindow : Replica S g → List (Key × State) → Replica S g → Vec (Result (Unit {0}) Refusal) Global
+      → Type 0
   TellsWindow old pairs new told =
       Asked (manner FollowsSide RefusesSide AnswersSide) for_pushes pairs told.items old new
 
   -- it is told what the requests to push are told, one after the other
-  abbrev pub IsToldAlike : Replica S g → List (Key × State) → Replica S g → Vec (Result (Unit {0}) Refusal) Global → Type 0
+  abbrev pub IsToldAlike : Replica S g → List (Key × State) → Replica S g → Vec (Result (Unit {0}) Refusal) Global
+      → Type 0
   IsToldAlike old pairs new told =
-      (replies : List Reply) × (told.items ≡ map told_of replies) × AnswersAll (map push_of pairs) replies (stored_of old) (stored_of new)
+      (replies : List Reply) × (told.items ≡ map told_of replies)
+      × AnswersAll (map push_of pairs) replies (stored_of old) (stored_of new)
 
   -- the states are joined one after the other, each taken, or refused for its cause, and the site is true still
-  abbrev pub PushesWindow : Replica S g → List (Key × State) → Replica S g → Vec (Result (Unit {0}) Refusal) Global → Type 0
+  abbrev pub PushesWindow : Replica S g → List (Key × State) → Replica S g → Vec (Result (Unit {0}) Refusal) Global
+      → Type 0
   PushesWindow old pairs new told =
-      IsTrueSite (site_of new) × Pushes (site_of old).config.max_keys (site_of old).states pairs told.items (site_of new).states
+      IsTrueSite (site_of new)
+      × Pushes (site_of old).config.max_keys (site_of old).states pairs told.items (site_of new).states
 
   -- the window was not told: memory was refused, or the replica refused so that it refuses all
   abbrev pub EndsWindow : Replica S g → List (Key × State) → Replica S g → Refusal → Type 0
@@ -82,7 +90,9 @@ module _ {S : Type 0} {g : Ghosts S} where
 
   -- the first of them alone are joined, and if the site is true still nothing else has changed
   abbrev pub PushesSome : Replica S g → List (Key × State) → Replica S g → Type 0
-  PushesSome old pairs new = PushesFirst (IsTrueSite (site_of new)) (site_of old).config.max_keys (site_of old).states pairs (site_of new).states
+  PushesSome old pairs new =
+      PushesFirst (IsTrueSite (site_of new)) (site_of old).config.max_keys (site_of old).states pairs
+      (site_of new).states
 
   -- the site is true still, unless the refusal is 22
   abbrev pub IsTrueUnlessBroken : Replica S g → Refusal → Type 0

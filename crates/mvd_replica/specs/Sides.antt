@@ -30,8 +30,8 @@ pub record StoreRefusedFrom (old new : SiteValue) (request : Request) (reply : R
   pub whole : old.broken ≡ false
   pub site : new ≡ old
 
--- What a stored site that is not broken does with one request, from its states alone: what a site does, or, only where there
--- was something to store, the store refused
+-- What a stored site that is not broken does with one request, from its states alone: what a site does, or, only where
+-- there was something to store, the store refused
 abbrev pub AnswersFromStored : SiteValue → SiteValue → Request → Reply → Type 0
 AnswersFromStored old new request reply = AnswersFrom old new request reply ⊎ StoreRefusedFrom old new request reply
 
@@ -58,8 +58,9 @@ pub record HoldsPushed (site : SiteValue) (db : Database) : Type 0 where
   pub are_pushes : ArePushes (request ∷ rest)
   pub holds : HoldsStates site.config.site (after_all site.config site.states (request ∷ rest)) db
 
--- What calls do to the store. If it is sound now it was, and if it held the site it does; once the site is broken it stays as it
--- is, and if that came by these calls it holds what was to be changed as well. A store that was shut takes no change.
+-- What calls do to the store. If it is sound now it was, and if it held the site it does; once the site is broken it
+-- stays as it is, and if that came by these calls it holds what was to be changed as well. A store that was shut takes
+-- no change.
 pub record StoreFollows (HoldsMore : SiteValue → Database → Type 0) (old new : StoredSite) : Type 0 where
   pub sound : IsSound new.store → IsSound old.store
   pub holds : IsSound new.store → HoldsSite old.site old.store.committed → HoldsSite new.site new.store.committed
@@ -93,7 +94,8 @@ pub replica_follows_self : {asks : Request → Type 0} (stored : StoredSite) →
 replica_follows_self stored = record { site = site_follows_self stored.site; store = store_follows_self stored }
 
 module _ (HoldsMore : SiteValue → Database → Type 0) (old mid new : StoredSite)
-    (stays : mid.site.broken ≡ true → new.site ≡ mid.site) (p : StoreFollows HoldsMore old mid) (q : StoreFollows HoldsMore mid new) where
+    (stays : mid.site.broken ≡ true → new.site ≡ mid.site) (p : StoreFollows HoldsMore old mid)
+    (q : StoreFollows HoldsMore mid new) where
   stored_on : (is : Bool) → mid.site.broken ≡ is → IsSound new.store → HoldsSite old.site old.store.committed →
       old.site.broken ≡ false → new.site.broken ≡ true → HoldsMore new.site new.store.committed
   stored_on true is sound holds whole broken =
@@ -125,8 +127,8 @@ replica_follows_on asks old mid new p q = record {
   store = store_follows_on (HoldsBroken asks) old mid new q.site.1 p.store q.store p.site.1;
 }
 
--- What of a replica no call of a session changes; and its states, also once it is broken, are those that it had, after pushes of
--- states in form
+-- What of a replica no call of a session changes; and its states, also once it is broken, are those that it had, after
+-- pushes of states in form
 pub record SideFollows (old new : StoredSite) : Type 0 where
   pub site : SiteFollows old.site new.site
   pub store : StoreFollows HoldsPushed old new
@@ -147,7 +149,9 @@ side_follows_on old mid new p q = record {
   site = site_follows_on old.site mid.site new.site p.site q.site;
   store = store_follows_on HoldsPushed old mid new q.site.1 p.store q.store p.site.1;
   comes = more_pushes _ _ _ _ p.comes q.comes;
-  leaves = leaves_on ArePushes old mid new p.leaves q.leaves p.site.1 q.site.1 p.store.sound q.store.sound q.store.clean p.store.holds q.store.shut;
+  leaves =
+      leaves_on ArePushes old mid new p.leaves q.leaves p.site.1 q.site.1 p.store.sound q.store.sound q.store.clean
+      p.store.holds q.store.shut;
 }
 
 -- a replica, as it is after that, may have refused so: as a site does, or the store did

@@ -19,7 +19,9 @@ LeavesRequests site requests s trees = IsTrue s.is_open × (site.broken ≡ fals
 
 -- so with what at least one of the turns was to change
 abbrev pub LeavesSome : List Turn → SiteValue → State → Trees → Type 0
-LeavesSome turns site s trees = (request : Request) × (rest : List Request) × AreAskedIn turns (request ∷ rest) × LeavesRequests site (request ∷ rest) s trees
+LeavesSome turns site s trees =
+    (request : Request) × (rest : List Request) × AreAskedIn turns (request ∷ rest)
+    × LeavesRequests site (request ∷ rest) s trees
 
 -- An image that holds what a stop left of a site holds the site's states, and so the next `open_file` finds just these
 abbrev pub HoldsWhatIsLeft : Type 0

@@ -17,7 +17,8 @@ use Rattle.mvd_replica.specs.Replicas.{StoredSite}
 use Rattle.mvd_replica.specs.Whole.{LeavesWhole}
 
 -- the store refused a change, and the site is as it was
-pub record StoreRefused (config : ConfigValue) (known : List Write) (before : Bool) (request : Request) (reply : Reply) (after : Bool) : Type 0 where
+pub record StoreRefused (config : ConfigValue) (known : List Write) (before : Bool) (request : Request) (reply : Reply)
+    (after : Bool) : Type 0 where
   pub told : reply ≡ Refused Store
   pub changes : ChangesKey config known request
   pub whole : before ≡ false
@@ -26,7 +27,8 @@ pub record StoreRefused (config : ConfigValue) (known : List Write) (before : Bo
 -- What a site whose states are stored may reply, and whether it is broken before and after: what a site may reply, or,
 -- only where a change was to be stored, that the store refused
 abbrev pub MayReplyStored : ConfigValue → List Write → Bool → Request → Reply → Bool → Type 0
-MayReplyStored config known before request reply after = MayReply config known before request reply after ⊎ StoreRefused config known before request reply after
+MayReplyStored config known before request reply after =
+    MayReply config known before request reply after ⊎ StoreRefused config known before request reply after
 
 -- ---- turns
 
@@ -39,10 +41,13 @@ pub record Turn : Type 0 where
 abbrev pub IsMemory : Bool → Reply → Bool → Type 0
 IsMemory before reply after = (reply ≡ Refused Memory) × (after ≡ before)
 
--- the reply to a request is one that the site may give, and to any other frame its fault; in place of it may stand want of memory
+-- the reply to a request is one that the site may give, and to any other frame its fault; in place of it may stand want
+-- of memory
 abbrev pub MayTell : ConfigValue → List Write → Bool → Result Request Refusal → Reply → Bool → Type 0
-MayTell config known before (Ok request) reply after = MayReplyStored config known before request reply after ⊎ IsMemory before reply after
-MayTell config known before (Err fault) reply after = ((reply ≡ Refused fault) × (after ≡ before)) ⊎ IsMemory before reply after
+MayTell config known before (Ok request) reply after =
+    MayReplyStored config known before request reply after ⊎ IsMemory before reply after
+MayTell config known before (Err fault) reply after =
+    ((reply ≡ Refused fault) × (after ≡ before)) ⊎ IsMemory before reply after
 
 -- what a frame and its reply add to the writes known
 abbrev pub AddsAt : Result Request Refusal → Reply → List Write → Type 0
@@ -63,32 +68,42 @@ pub record TellsTurns (events : List TurnEvent) (turns : List Turn) : Type 0 whe
 abbrev pub known_after_turns : List TurnEvent → List Write
 known_after_turns events = flat_map (λ event. event.added) events
 
--- each reply is one that may be given from the writes known before it; whether the site is broken goes from reply to reply
+-- each reply is one that may be given from the writes known before it; whether the site is broken goes from reply to
+-- reply
 abbrev pub AllTold : ConfigValue → List Write → Bool → List TurnEvent → Bool → Type 0
 AllTold config known broken [] after = broken ≡ after
 AllTold config known broken (event ∷ events) after =
-    (between : Bool) × MayTell config known broken event.turn.asked event.turn.reply between × AllTold config (known ++ event.added) between events after
+    (between : Bool) × MayTell config known broken event.turn.asked event.turn.reply between
+    × AllTold config (known ++ event.added) between events after
 
--- From any writes that the site stood for, and for every choice of what the turns added, each reply is one that may be given
--- from the writes known before it, and the site stands for all of them afterwards, unless it is broken
+-- From any writes that the site stood for, and for every choice of what the turns added, each reply is one that may be
+-- given from the writes known before it, and the site stands for all of them afterwards, unless it is broken
 abbrev pub Replies : SiteValue → SiteValue → List Turn → Type 0
-Replies old new turns = (known : List Write) (events : List TurnEvent) → SiteStands old known → TellsTurns events turns →
+Replies old new turns = (known : List Write) (events : List TurnEvent) → SiteStands old known
+    → TellsTurns events turns →
     AllTold old.config known old.broken events new.broken × SiteStands new (known ++ known_after_turns events)
 
--- The states themselves, also those of a site that is broken, stand afterwards for what they stood for and what the turns added
+-- The states themselves, also those of a site that is broken, stand afterwards for what they stood for and what the
+-- turns added
 abbrev pub StandsOn : SiteValue → SiteValue → List Turn → Type 0
-StandsOn old new turns = (known : List Write) (events : List TurnEvent) → Stands old.states known → TellsTurns events turns → Stands new.states (known ++ known_after_turns events)
+StandsOn old new turns = (known : List Write) (events : List TurnEvent) → Stands old.states known
+    → TellsTurns events turns → Stands new.states (known ++ known_after_turns events)
 
 -- the same of one turn
 pub record RepliesOne (old new : SiteValue) (turn : Turn) : Type 0 where
-  pub replies : (known : List Write) → SiteStands old known → MayTell old.config known old.broken turn.asked turn.reply new.broken
-  pub stands : (known added : List Write) → SiteStands old known → AddsAt turn.asked turn.reply added → SiteStands new (known ++ added)
-  pub keeps : (known added : List Write) → Stands old.states known → AddsAt turn.asked turn.reply added → Stands new.states (known ++ added)
+  pub replies : (known : List Write) → SiteStands old known
+      → MayTell old.config known old.broken turn.asked turn.reply new.broken
+  pub stands : (known added : List Write) → SiteStands old known → AddsAt turn.asked turn.reply added
+      → SiteStands new (known ++ added)
+  pub keeps : (known added : List Write) → Stands old.states known → AddsAt turn.asked turn.reply added
+      → Stands new.states (known ++ added)
 
 -- and of one request, for which no memory is wanted but the site's own
 pub record AnswersStored (old new : SiteValue) (request : Request) (reply : Reply) : Type 0 where
-  pub replies : (known : List Write) → SiteStands old known → MayReplyStored old.config known old.broken request reply new.broken
-  pub stands : (known added : List Write) → SiteStands old known → Adds request reply added → SiteStands new (known ++ added)
+  pub replies : (known : List Write) → SiteStands old known
+      → MayReplyStored old.config known old.broken request reply new.broken
+  pub stands : (known added : List Write) → SiteStands old known → Adds request reply added
+      → SiteStands new (known ++ added)
 
 -- the bytes are the frames of the turns, and the rest
 abbrev pub AreFrames : List Turn → List ℕ → List ℕ → Type 0
@@ -113,7 +128,8 @@ IsFirstBroken (turn ∷ turns) request = IsToldBroken request turn ⊎ (IsToldEl
 abbrev pub AreAskedIn : List Turn → List Request → Type 0
 AreAskedIn turns [] = ⊤
 AreAskedIn [] (request ∷ requests) = ⊥
-AreAskedIn (turn ∷ turns) (request ∷ requests) = ((turn.asked ≡ Ok request) × AreAskedIn turns requests) ⊎ AreAskedIn turns (request ∷ requests)
+AreAskedIn (turn ∷ turns) (request ∷ requests) =
+    ((turn.asked ≡ Ok request) × AreAskedIn turns requests) ⊎ AreAskedIn turns (request ∷ requests)
 
 -- the turn asked this request, and the store refused it, or it broke the site
 abbrev pub IsToldUndone : Request → Turn → Type 0
@@ -126,8 +142,8 @@ AreUndoneIn [] (request ∷ requests) = ⊥
 AreUndoneIn (turn ∷ turns) (request ∷ requests) =
     (IsToldUndone request turn × AreUndoneIn turns requests) ⊎ AreUndoneIn turns (request ∷ requests)
 
--- What a stop leaves of a stored site after these turns: all that they were told done, and what at most some of the requests were to
--- change that were refused with 21 or 22
+-- What a stop leaves of a stored site after these turns: all that they were told done, and what at most some of the
+-- requests were to change that were refused with 21 or 22
 abbrev pub LeavesTurns : List Turn → StoredSite → StoredSite → Type 0
 LeavesTurns turns old new = LeavesWhole (AreUndoneIn turns) old new
 

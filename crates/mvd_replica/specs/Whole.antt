@@ -28,34 +28,39 @@ pub record IsAtRest (stored : StoredSite) : Type 0 where
   pub whole : stored.site.broken ≡ false
   pub fits : AreSpelled stored.site.states
   pub holds : HoldsSite stored.site stored.store.committed
-  pub left : (trees : Trees) → stored.store.may_leave trees → LeavesStates stored.site.config.site stored.site.states trees
+  pub left : (trees : Trees) → stored.store.may_leave trees
+      → LeavesStates stored.site.config.site stored.site.states trees
 
--- The trees are those of a sound database with the states of the site, or with these and what some requests were to change. Of a
--- store that is open and a site that is not broken they are just the states
+-- The trees are those of a sound database with the states of the site, or with these and what some requests were to
+-- change. Of a store that is open and a site that is not broken they are just the states
 pub record LeavesDone (AreUndone : List Request → Type 0) (stored : StoredSite) (trees : Trees) : Type 0 where
   pub undone : List Request
   pub are : AreUndone undone
   pub left : LeavesStates stored.site.config.site (after_all stored.site.config stored.site.states undone) trees
   pub none : IsTrue stored.store.is_open → stored.site.broken ≡ false → undone ≡ []
 
--- What a stop leaves of a stored site after calls. In the middle of one it leaves what it leaves after the same call where the disk
--- fails from there on.
+-- What a stop leaves of a stored site after calls. In the middle of one it leaves what it leaves after the same call
+-- where the disk fails from there on.
 pub record LeavesWhole (AreUndone : List Request → Type 0) (old new : StoredSite) : Type 0 where
   pub fits : AreSpelled old.site.states → AreSpelled new.site.states
-  -- of a site that was at rest: its states, with all that was done, and what at most some refused requests were to change
-  pub leaves : HasCleanDisk new.store → IsAtRest old → (trees : Trees) → new.store.may_leave trees → LeavesDone AreUndone new trees
+  -- of a site that was at rest: its states, with all that was done, and what at most some refused requests were to
+  -- change
+  pub leaves : HasCleanDisk new.store → IsAtRest old → (trees : Trees) → new.store.may_leave trees
+      → LeavesDone AreUndone new trees
   -- of a broken site, and of a store that was shut, nothing new
   pub still : HasCleanDisk new.store → (old.site.broken ≡ true) ⊎ (old.store.is_open ≡ false) → (trees : Trees) →
       new.store.may_leave trees → old.store.may_leave trees
 
-pub leaves_self : (AreUndone : List Request → Type 0) (stored : StoredSite) → AreUndone [] → LeavesWhole AreUndone stored stored
+pub leaves_self : (AreUndone : List Request → Type 0) (stored : StoredSite) → AreUndone []
+    → LeavesWhole AreUndone stored stored
 leaves_self AreUndone stored none = record {
   fits = λ fits. fits;
   leaves = λ _ rest trees may. record { undone = []; are = none; left = rest.left trees may; none = λ _ _. refl };
   still = λ _ _ trees may. may;
 }
 
-pub leaves_wider : (A B : List Request → Type 0) (old new : StoredSite) → ((requests : List Request) → A requests → B requests) →
+pub leaves_wider : (A B : List Request → Type 0) (old new : StoredSite)
+    → ((requests : List Request) → A requests → B requests) →
     LeavesWhole A old new → LeavesWhole B old new
 leaves_wider A B old new widens it = record {
   fits = it.fits;
@@ -80,23 +85,29 @@ module _ (A : List Request → Type 0) (old mid new : StoredSite) (p : LeavesWho
     holds = p_holds (record { clean = clean; is_open = is_open }) rest.holds;
     left = λ trees may. (
         let it = p.leaves clean rest trees may in
-        subst (λ l. LeavesStates mid.site.config.site (after_all mid.site.config mid.site.states l) trees) (it.none is_open whole) it.left);
+        subst (λ l. LeavesStates mid.site.config.site (after_all mid.site.config mid.site.states l) trees)
+        (it.none is_open whole) it.left);
   }
 
-  same_on : (trees : Trees) → new.site ≡ mid.site → (IsTrue new.store.is_open → new.site.broken ≡ false → ⊥) → LeavesDone A mid trees →
+  same_on : (trees : Trees) → new.site ≡ mid.site → (IsTrue new.store.is_open → new.site.broken ≡ false → ⊥)
+      → LeavesDone A mid trees →
       LeavesDone A new trees
   same_on trees same never it = record {
     undone = it.undone;
     are = it.are;
-    left = subst (λ (s : SiteValue). LeavesStates s.config.site (after_all s.config s.states it.undone) trees) (sym same) it.left;
+    left = subst (λ (s : SiteValue). LeavesStates s.config.site (after_all s.config s.states it.undone) trees)
+        (sym same) it.left;
     none = λ is_open whole. absurd (never is_open whole);
   }
 
-  leaves_by : (broken is_open : Bool) → mid.site.broken ≡ broken → mid.store.is_open ≡ is_open → HasCleanDisk new.store → IsAtRest old →
+  leaves_by : (broken is_open : Bool) → mid.site.broken ≡ broken → mid.store.is_open ≡ is_open → HasCleanDisk new.store
+      → IsAtRest old →
       (trees : Trees) → new.store.may_leave trees → LeavesDone A new trees
   leaves_by true is_open broken is clean rest trees may =
       same_on trees (q_stays broken)
-      (λ _ whole. true≢false (sym broken ∙ sym (subst (λ (s : SiteValue). s.broken ≡ mid.site.broken) (sym (q_stays broken)) refl) ∙ whole))
+      (λ _ whole. true≢false
+      (sym broken ∙ sym (subst (λ (s : SiteValue). s.broken ≡ mid.site.broken) (sym (q_stays broken)) refl)
+      ∙ whole))
       (p.leaves (q_clean clean) rest trees (q.still clean (inl broken) trees may))
   leaves_by false true whole is clean rest trees may = q.leaves clean (rested (q_clean clean) rest is whole) trees may
   leaves_by false false whole is clean rest trees may =
@@ -104,7 +115,8 @@ module _ (A : List Request → Type 0) (old mid new : StoredSite) (p : LeavesWho
       (λ is_open _. true≢false (sym (q_sound (record { clean = clean; is_open = is_open })).is_open ∙ is))
       (p.leaves (q_clean clean) rest trees (q.still clean (inr is) trees may))
 
-  still_by : (is_open : Bool) → mid.store.is_open ≡ is_open → HasCleanDisk new.store → (old.site.broken ≡ true) ⊎ (old.store.is_open ≡ false) →
+  still_by : (is_open : Bool) → mid.store.is_open ≡ is_open → HasCleanDisk new.store
+      → (old.site.broken ≡ true) ⊎ (old.store.is_open ≡ false) →
       (trees : Trees) → new.store.may_leave trees → old.store.may_leave trees
   still_by is_open is clean (inl broken) trees may =
       p.still (q_clean clean) (inl broken) trees

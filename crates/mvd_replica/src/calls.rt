@@ -124,7 +124,8 @@ impl<S: Alter> Replica<S> {
         counts_in(reply)
     }
 
-    /// The keys in conflict, those with two siblings or more, with their numbers of siblings: a page, as `keys` gives it.
+    /// The keys in conflict, those with two siblings or more, with their numbers of siblings: a page, as `keys` gives
+    /// it.
     pub fn conflicts(&self, after: Option<Key>) -> Result<(Items<(Key, u32)>, bool), Refusal>
         ensures { TellsAnswer (site_of self.now) (Conflicts after) (counts_told result) }
     {

@@ -64,8 +64,8 @@ fn sees_any(request: &Request, group: &[Prepared]) -> bool
     false
 }
 
-/// Whether a request has to wait until these, with so many changes and keys that they add, are put in: it could see one,
-/// or there may be less room for it then, or they are as many as share a commit.
+/// Whether a request has to wait until these, with so many changes and keys that they add, are put in: it could see
+/// one, or there may be less room for it then, or they are as many as share a commit.
 fn must_wait(
     site: &Site,
     group: &[Prepared],

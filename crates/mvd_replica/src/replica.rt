@@ -28,7 +28,7 @@ pub struct Replica<S: Alter> {
     pub(crate) alloc: Global,
     pub(crate) site: Site,
     pub(crate) records: Records<S>,
-    /// As many commits of changes were made since it was opened.
+    /// The number of commits of changes that were made since it was opened.
     pub(crate) commits: u64,
     ghost moved: { records.version ≡ 2 },
 }

@@ -17,7 +17,7 @@ pub enum Ended {
     End,
 }
 
-/// As many frames of a connection are answered.
+/// The most frames of a connection that are answered.
 pub const FRAMES_MAX: u32 = 1_000_000;
 
 /// Answers the frames of one connection, one after the other, until its Bye or its end. Any other end

@@ -83,15 +83,19 @@ is_between from to term = not (is_gt (term_cmp from term)) && not (is_gt (term_c
 -- ---- answers
 
 -- the places of a term
-abbrev pub find_answer : Definitions → Visible → Field → Term → Option (Key × DotValue) → Result (List Place × Bool) Refusal
+abbrev pub find_answer : Definitions → Visible → Field → Term → Option (Key × DotValue)
+    → Result (List Place × Bool) Refusal
 find_answer defs visible field term after =
-    if has_index defs.indexes field then Ok (page_of (filter (λ p. eq_by_cmp term_cmp term p.term && is_place_after after p) (places_in field visible)))
+    if has_index defs.indexes field then Ok
+    (page_of (filter (λ p. eq_by_cmp term_cmp term p.term && is_place_after after p) (places_in field visible)))
     else Err NoIndex
 
 -- the places of the terms from one to another
-abbrev pub range_answer : Definitions → Visible → Field → Term → Term → Option Place → Result (List Place × Bool) Refusal
+abbrev pub range_answer : Definitions → Visible → Field → Term → Term → Option Place
+    → Result (List Place × Bool) Refusal
 range_answer defs visible field from to after =
-    if has_index defs.indexes field then Ok (page_of (filter (λ p. is_between from to p.term && is_after_place after p) (places_in field visible)))
+    if has_index defs.indexes field then Ok
+    (page_of (filter (λ p. is_between from to p.term && is_after_place after p) (places_in field visible)))
     else Err NoIndex
 
 -- the view of a name
@@ -107,10 +111,12 @@ row_of_view visible term (Some v) = let r = row_of v.group v.sum term visible in
 abbrev pub row_answer : Definitions → Visible → List ℕ → Term → Result (ℕ × ℤ × Option (ℤ × ℤ)) Refusal
 row_answer defs visible name term = row_of_view visible term (view_named defs.views name)
 
-abbrev pub rows_of_view : Visible → Option Term → Option ViewDef → Result (List (Term × ℕ × ℤ × Option (ℤ × ℤ)) × Bool) Refusal
+abbrev pub rows_of_view : Visible → Option Term → Option ViewDef
+    → Result (List (Term × ℕ × ℤ × Option (ℤ × ℤ)) × Bool) Refusal
 rows_of_view visible after None = Err NoView
 rows_of_view visible after (Some v) = Ok (page_of (filter (λ r. is_after_term after r.0) (view_in v visible)))
 
 -- the rows of a view
-abbrev pub rows_answer : Definitions → Visible → List ℕ → Option Term → Result (List (Term × ℕ × ℤ × Option (ℤ × ℤ)) × Bool) Refusal
+abbrev pub rows_answer : Definitions → Visible → List ℕ → Option Term
+    → Result (List (Term × ℕ × ℤ × Option (ℤ × ℤ)) × Bool) Refusal
 rows_answer defs visible name after = rows_of_view visible after (view_named defs.views name)

@@ -57,7 +57,8 @@ pub record HasSiblings (visible : Visible) (key : Key) (es : List (DotValue × T
 
 -- where one of these is not among the others, the key has under its dot what must stand there before it moves
 pub record CanMove (way : Way) (visible : Visible) (key : Key) (others es : List (DotValue × Text)) : Type 0 where
-  pub at : (dot : DotValue) (document : Text) → find dot_cmp dot es ≡ Some document → is_among others (dot, document) ≡ false → get visible (spot key dot) ≡ before way document
+  pub at : (dot : DotValue) (document : Text) → find dot_cmp dot es ≡ Some document
+      → is_among others (dot, document) ≡ false → get visible (spot key dot) ≡ before way document
 
 -- the state of a key, empty where the key is not held
 abbrev pub state_in : FinMap key_cmp State → Key → State
@@ -70,7 +71,9 @@ pub record IsRoomy (states : FinMap key_cmp State) : Type 0 where
 
 -- how many siblings stand in one of two states alone
 abbrev pub differing : State → State → ℕ
-differing old new = length (not_among (entries new.siblings) (entries old.siblings)) + length (not_among (entries old.siblings) (entries new.siblings))
+differing old new =
+    length (not_among (entries new.siblings) (entries old.siblings))
+    + length (not_among (entries old.siblings) (entries new.siblings))
 
 -- the updates that one sibling costs at most: one for each index, and two for each view
 abbrev pub updates_each : Definitions → ℕ

@@ -13,10 +13,14 @@ pub record Definitions : Type 0 where
   pub views : List ViewDef
 
 abbrev pub view_code : Coded ViewDef
-view_code = code_by (Field × (Field × Field)) (coded× (coded_list coded_ℕ) (coded× (coded_list coded_ℕ) (coded_list coded_ℕ))) (λ v. (v.name, (v.group, v.sum))) (λ p. record { name = p.0; group = p.1.0; sum = p.1.1 }) (λ _. refl)
+view_code =
+    code_by (Field × (Field × Field)) (coded× (coded_list coded_ℕ) (coded× (coded_list coded_ℕ) (coded_list coded_ℕ)))
+    (λ v. (v.name, (v.group, v.sum))) (λ p. record { name = p.0; group = p.1.0; sum = p.1.1 }) (λ _. refl)
 
 abbrev pub definitions_code : Coded Definitions
-definitions_code = code_by (List Field × List ViewDef) (coded× (coded_list (coded_list coded_ℕ)) (coded_list view_code)) (λ d. (d.indexes, d.views)) (λ p. record { indexes = p.0; views = p.1 }) (λ _. refl)
+definitions_code =
+    code_by (List Field × List ViewDef) (coded× (coded_list (coded_list coded_ℕ)) (coded_list view_code))
+    (λ d. (d.indexes, d.views)) (λ p. record { indexes = p.0; views = p.1 }) (λ _. refl)
 
 abbrev pub no_definitions : Definitions
 no_definitions = record { indexes = []; views = [] }

@@ -40,4 +40,5 @@ conflicts_answer states after = page_of (filter (λ e. is_after_key after e.0) (
 
 -- the keys that begin with the prefix, after a key
 abbrev pub keys_answer : FinMap key_cmp State → List ℕ → Option Key → List (Key × ℕ) × Bool
-keys_answer states prefix after = page_of (filter (λ e. begins_with prefix e.0 && is_after_key after e.0) (sibling_counts states))
+keys_answer states prefix after =
+    page_of (filter (λ e. begins_with prefix e.0 && is_after_key after e.0) (sibling_counts states))

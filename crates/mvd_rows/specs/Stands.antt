@@ -41,7 +41,8 @@ is_place field visible mark = is_place_at field mark.term mark.spot visible
 
 -- the places of an index
 pub record IsIndexOf (index : Index) (visible : Visible) : Type 0 where
-  pub at : (mark : Mark) → tree.get mark_cmp index.places.map mark ≡ (if is_place index.field visible mark then Some tt else None)
+  pub at : (mark : Mark)
+      → tree.get mark_cmp index.places.map mark ≡ (if is_place index.field visible mark then Some tt else None)
 
 abbrev pub unless_none : {X : Type 0} → ℕ → X → Option X
 unless_none n x = if n == 0 then None else Some x
@@ -56,7 +57,9 @@ tally_at group sum visible tally = times tally.whole (wholes sum (members group 
 
 -- the whole numbers of each group, each as often as it stands there
 pub record IsTallied (group sum : Field) (tallies : Tallies) (visible : Visible) : Type 0 where
-  pub at : (tally : Tally) → tree.get tally_cmp tallies.kept.map tally ≡ unless_none (tally_at group sum visible tally) (tally_at group sum visible tally)
+  pub at : (tally : Tally)
+      → tree.get tally_cmp tallies.kept.map tally
+      ≡ unless_none (tally_at group sum visible tally) (tally_at group sum visible tally)
 
 pub record IsI64 (w : ℤ) : Type 0 where
   pub least : negsuc 9223372036854775807 ≤ℤ w
@@ -70,7 +73,8 @@ stands_in tallies group whole = is_some (tree.get tally_cmp tallies (tally_of gr
 pub data AreEnds (tallies : BTreeMap Tally ℕ) (group : Term) : Option (ℤ × ℤ) → Type 0 where
   no_ends : ((w : ℤ) → IsI64 w → stands_in tallies group w ≡ false) → AreEnds tallies group None
   two_ends : (least greatest : ℤ) → stands_in tallies group least ≡ true → stands_in tallies group greatest ≡ true →
-      ((w : ℤ) → IsI64 w → stands_in tallies group w ≡ true → (least ≤ℤ w) × (w ≤ℤ greatest)) → AreEnds tallies group (Some (least, greatest))
+      ((w : ℤ) → IsI64 w → stands_in tallies group w ≡ true → (least ≤ℤ w) × (w ≤ℤ greatest))
+      → AreEnds tallies group (Some (least, greatest))
 
 -- the rows of a view
 pub record IsViewOf (view : View) (visible : Visible) : Type 0 where
@@ -105,7 +109,8 @@ definition_of view = record { name = view.name; group = view.group; sum = view.s
 
 -- what the rows are kept of
 abbrev pub definitions_of : Rows → Definitions
-definitions_of rows = record { indexes = map (λ index. index.field) rows.indexes.items; views = map definition_of rows.views.items }
+definitions_of rows =
+    record { indexes = map (λ index. index.field) rows.indexes.items; views = map definition_of rows.views.items }
 
 -- the rows are kept of these definitions, and stand for this map of key states
 pub record IsRowsOf (kept : Rows) (definitions : Definitions) (states : FinMap key_cmp State) : Type 0 where
@@ -119,8 +124,11 @@ StandFor kept visible = AreRowsOf kept.indexes.items kept.views.items visible
 
 -- whatever definitions and states the rows stand for, this holds of them
 abbrev pub IfRowsOf : Rows → (Definitions → FinMap key_cmp State → Type 0) → Type 0
-IfRowsOf kept Holds = (defs : Definitions) (states : FinMap key_cmp State) → IsRowsOf kept defs states → Holds defs states
+IfRowsOf kept Holds = (defs : Definitions) (states : FinMap key_cmp State) → IsRowsOf kept defs states
+    → Holds defs states
 
 -- rows that stand for states in which a key has the old state, with room for the new one
 abbrev pub HasRoomFor : Rows → Key → State → State → Type 0
-HasRoomFor kept key old new = (defs : Definitions) × (states : FinMap key_cmp State) × (IsRowsOf kept defs states × (state_in states key ≡ old) × IsRoomy states × (len new.siblings ≤ 2 ^ 17))
+HasRoomFor kept key old new =
+    (defs : Definitions) × (states : FinMap key_cmp State)
+    × (IsRowsOf kept defs states × (state_in states key ≡ old) × IsRoomy states × (len new.siblings ≤ 2 ^ 17))

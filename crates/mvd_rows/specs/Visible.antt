@@ -21,7 +21,8 @@ spot_of_put (Deleted key context) = None
 
 -- the puts that no author of a write of their key had seen
 unfoldable pub visible : List Write → Visible
-visible writes = retain_keys (from_entries (filter_map spot_of_put writes)) (λ s. not (contains (covered s.key writes) s.dot))
+visible writes =
+    retain_keys (from_entries (filter_map spot_of_put writes)) (λ s. not (contains (covered s.key writes) s.dot))
 
 abbrev pub siblings_at : Key → FinMap dot_cmp Text → List (Spot × Text)
 siblings_at key siblings = map (λ e. (spot key e.0, e.1)) (entries siblings)

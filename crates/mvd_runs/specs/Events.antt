@@ -23,8 +23,8 @@ pub record IsSiteKnown (a : Knows) (i : ℕ) (site : SiteValue) : Type 0 where
   pub broken : site.broken ≡ (a i).broken
   pub stands : Stands site.states (a i).known
 
--- The turns are events of the store, one for each request, and then the site is the one of its number again; all others are as they
--- were. What was undone is among the requests that the site refused
+-- The turns are events of the store, one for each request, and then the site is the one of its number again; all others
+-- are as they were. What was undone is among the requests that the site refused
 pub record AreEvents (a : Knows) (i : ℕ) (turns : List Turn) (new : SiteValue) : Type 0 where
   pub end : Knows
   pub happen : Happen a (events_of i turns) end

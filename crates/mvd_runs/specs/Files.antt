@@ -1,5 +1,5 @@
--- A file over many runs of programs, as one behaviour of the store. No type of a store stands in what a run comes to, so runs of
--- different programs, each with its own, follow one another.
+-- A file over many runs of programs, as one behaviour of the store. No type of a store stands in what a run comes to,
+-- so runs of different programs, each with its own, follow one another.
 use Rattle.std.specs.Prelude.{◌≡◌, ◌≢◌, ◌⊎◌, ⊤, false, ℕ, List, [], ◌∷◌, ◌++◌, Ok}
 use Rattle.std.specs.List.{AllByRecursion}
 use Rattle.std.specs.FinMap.{empty}
@@ -25,8 +25,8 @@ use Rattle.sqlite.specs.State.{HasCleanDisk, State}
 use Rattle.sqlite.specs.Tree.{Trees}
 use Rattle.mvd_runs.specs.Events.{AreTurns, events_of}
 
--- The image is the file of this site: it holds states that stand for what the store knows of the site, and for what some requests add
--- that the site refused with 21 or 22, if for any
+-- The image is the file of this site: it holds states that stand for what the store knows of the site, and for what
+-- some requests add that the site refused with 21 or 22, if for any
 pub record IsFile (a : Knows) (i : ℕ) (image : Image) : Type 0 where
   pub some : List Request
   pub among : AreAmong some (a i).refused
@@ -36,8 +36,8 @@ pub record IsFile (a : Knows) (i : ℕ) (image : Image) : Type 0 where
   pub holds : HoldsFile image i states
   pub stands : Stands states ((a i).known ++ added)
 
--- The image is a new file of this site: nothing is known of the site, and a database that is found in the image has none of our tables
--- or is ours, and spells no state
+-- The image is a new file of this site: nothing is known of the site, and a database that is found in the image has
+-- none of our tables or is ours, and spells no state
 pub record IsNewFile (a : Knows) (i : ℕ) (image : Image) : Type 0 where
   pub nothing : (a i).known ≡ []
   pub ours : (was : Database) → IsFoundIn image was → IsOurs was
@@ -46,7 +46,8 @@ pub record IsNewFile (a : Knows) (i : ℕ) (image : Image) : Type 0 where
 abbrev pub setup_of : ConfigValue → Setup
 setup_of c = record { max_keys = c.max_keys; defs = c.defs }
 
--- It was opened, these turns were events, and the image after is the file of the site then; all other sites are as they were
+-- It was opened, these turns were events, and the image after is the file of the site then; all other sites are as they
+-- were
 abbrev pub PassesFrom : Knows → ℕ → Setup → List Turn → Image → Type 0
 PassesFrom a i setup turns after =
     (some : List Request) × (end : Knows)
@@ -54,7 +55,8 @@ PassesFrom a i setup turns after =
 
 -- so, whatever the store knew, where the image before is the file of the site, or a new one
 abbrev pub Passes : ℕ → Setup → List Turn → Image → Image → Type 0
-Passes i setup turns before after = (a : Knows) → IsFile a i before ⊎ IsNewFile a i before → PassesFrom a i setup turns after
+Passes i setup turns before after = (a : Knows) → IsFile a i before ⊎ IsNewFile a i before
+    → PassesFrom a i setup turns after
 
 -- ---- one run
 
@@ -74,7 +76,8 @@ pub record Begins {C : Type 0} (f : C → State) (run : Run C) : Type 0 where
 pub record Closes {C : Type 0} (f : C → State) (run : Run C) : Type 0 where
   pub follows : TurnsFollow run.turns (opened_in f run) (left_in f run)
   pub sound : IsSound (f run.after)
-  pub closes : (site : ℕ) (states : States) → HoldsStates site states (f run.after).committed → HoldsFile run.left site states
+  pub closes : (site : ℕ) (states : States) → HoldsStates site states (f run.after).committed
+      → HoldsFile run.left site states
   pub holds : run.new.broken ≡ false → HoldsSite run.new (f run.after).committed →
       HoldsStates run.new.config.site run.new.states (f run.after).committed
 
@@ -88,8 +91,8 @@ pub record Stops {C : Type 0} (f : C → State) (run : Run C) : Type 0 where
   pub may : (f run.after).may_leave trees
   pub holds : ∥ HoldsDatabase run.left trees ∥₁
 
--- What work on a replica did between the open of its file and the close: turns of valid requests; 22 is told only where the site is
--- broken then; and the records followed
+-- What work on a replica did between the open of its file and the close: turns of valid requests; 22 is told only where
+-- the site is broken then; and the records followed
 pub record WorksBy (turns : List Turn) (old new : StoredSite) : Type 0 where
   pub site : AreTurns turns old.site new.site
   pub valid : AllByRecursion IsValidTurn turns
@@ -107,7 +110,8 @@ pub record Passed : Type 0 where
 -- each on the file as the one before left it, the first on this one
 abbrev pub AreChained : ℕ → Image → List Passed → Type 0
 AreChained i image [] = ⊤
-AreChained i image (run ∷ runs) = (run.before ≡ image) × Passes i run.setup run.turns run.before run.after × AreChained i run.after runs
+AreChained i image (run ∷ runs) =
+    (run.before ≡ image) × Passes i run.setup run.turns run.before run.after × AreChained i run.after runs
 
 abbrev pub last_image : Image → List Passed → Image
 last_image image [] = image
@@ -117,7 +121,8 @@ last_image image (run ∷ runs) = last_image run.after runs
 abbrev pub TellAll : ℕ → List Passed → List Event → Type 0
 TellAll i [] events = events ≡ []
 TellAll i (run ∷ runs) events =
-    (some : List Request) × (rest : List Event) × (events ≡ Opened i run.setup some ∷ events_of i run.turns ++ rest) × TellAll i runs rest
+    (some : List Request) × (rest : List Event) × (events ≡ Opened i run.setup some ∷ events_of i run.turns ++ rest)
+    × TellAll i runs rest
 
 -- what they come to
 pub record CarriedRuns (a : Knows) (i : ℕ) (image : Image) (runs : List Passed) : Type 0 where

@@ -59,8 +59,9 @@ pub fn turns_are_events<S: Alter>()
         → AnswersInCommits requests replies old new → AnswersAll requests replies (stored_of old) (stored_of new) }
 {}
 
-/// A run of a program on a file, whether it closed the file or was stopped, is a behaviour of the store: the file was opened,
-/// and the turns are events. What is known goes on through the file, so runs of any programs follow one another.
+/// A run of a program on a file, whether it closed the file or was stopped, is a behaviour of the store: the file was
+/// opened, and the turns are events. What is known goes on through the file, so runs of any programs follow one
+/// another.
 pub fn a_run_is_events<S: Alter>()
     ensures closed { (i : ℕ) (run : Run (Held S)) → Begins (state S.Store) run → run.config.site ≡ i
         → Closes (state S.Store) run → Passes i (setup_of run.config) run.turns run.image run.left }
@@ -68,10 +69,12 @@ pub fn a_run_is_events<S: Alter>()
         → Stops (state S.Store) run → Passes i (setup_of run.config) run.turns run.image run.left }
 {}
 
-/// What is done to a replica is turns: nothing; one thing after the other; turns that a call tells; and a request that is asked.
+/// What is done to a replica is turns: nothing; one thing after the other; turns that a call tells; and a request that
+/// is asked.
 pub fn work_is_turns<S: Alter>()
     ensures none { (replica : Replica S S.Store) → WorksBy [] (stored_of replica) (stored_of replica) }
-    ensures on { (first second : List Turn) (old mid new : Replica S S.Store) → WorksBy first (stored_of old) (stored_of mid)
+    ensures on { (first second : List Turn) (old mid new : Replica S S.Store)
+        → WorksBy first (stored_of old) (stored_of mid)
         → WorksBy second (stored_of mid) (stored_of new) → WorksBy (first ++ second) (stored_of old) (stored_of new) }
     ensures turns { (turns : List Turn) (old new : Replica S S.Store) → AllByRecursion IsValidTurn turns
         → TakesTurns turns (stored_of old) (stored_of new) → WorksBy turns (stored_of old) (stored_of new) }
@@ -80,8 +83,8 @@ pub fn work_is_turns<S: Alter>()
         → WorksBy (record { asked = Ok request; reply = reply } ∷ []) (stored_of old) (stored_of new) }
 {}
 
-/// What the calls of a command promise of its file is such a run: it was opened as a site, work on the site was turns, and the
-/// file was closed. So is what a later stop leaves of the closed file, and what a stop leaves of the open one.
+/// What the calls of a command promise of its file is such a run: it was opened as a site, work on the site was turns,
+/// and the file was closed. So is what a later stop leaves of the closed file, and what a stop leaves of the open one.
 pub fn a_command_is_a_run<D: Disk + Drop>(
     old: &Replica<FileStore<D>>,
     new: &Replica<FileStore<D>>,
@@ -108,8 +111,8 @@ pub fn a_first_run_is_events()
         → (a i).known ≡ [] → IsNewFile a i image }
 {}
 
-/// Runs of any programs on one file, one after the other, each closed or stopped, keep the promise of the store; and the file
-/// holds what its site then knows.
+/// Runs of any programs on one file, one after the other, each closed or stopped, keep the promise of the store; and
+/// the file holds what its site then knows.
 pub fn a_file_keeps_the_promise()
     ensures kept { (i : ℕ) (image : Image) (a : Knows) (runs : List Passed) → IsFile a i image → AreChained i image runs
         → (it : CarriedRuns a i image runs) × Promise it.events it.end }
@@ -117,8 +120,8 @@ pub fn a_file_keeps_the_promise()
         → AreChained i image (run ∷ runs) → (it : CarriedRuns a i image (run ∷ runs)) × Promise it.events it.end }
 {}
 
-/// What a whole site tells to a question, by whatever call, is an event that changes nothing. So what a session hands from one
-/// site to the other was told before it was pushed.
+/// What a whole site tells to a question, by whatever call, is an event that changes nothing. So what a session hands
+/// from one site to the other was told before it was pushed.
 pub fn a_told_state_is_an_event()
     ensures state { (a : Knows) (i : ℕ) (site : SiteValue) (key : Key) → IsSiteKnown a i site → site.broken ≡ false
         → Next a (Told i (Get key) (Shown (state_at site.states key))) a }
@@ -134,8 +137,8 @@ pub fn a_push_is_a_turn<S: Alter>()
         → TakesTurns (push_turn key pushed (push_reply result) ∷ []) (stored_of old) (stored_of new) }
 {}
 
-/// What calls of a session do to a replica is turns, of which each pushes a state: nothing, more of it, a push, and a window of
-/// them. What is said of such calls in other words follows, save how the states came.
+/// What calls of a session do to a replica is turns, of which each pushes a state: nothing, more of it, a push, and a
+/// window of them. What is said of such calls in other words follows, save how the states came.
 pub fn a_session_is_turns<S: Alter>()
     ensures none { (site : SiteValue) (conn : Held S)
         → SideTakes (stored_by S.Store site conn) (stored_by S.Store site conn) }

@@ -19,7 +19,9 @@ more_text refused named = if nat_lt named refused then more_left_text (refused -
 
 -- how many keys a session exchanged, and those that it left
 abbrev pub report_text : Report → List ℕ
-report_text report = keys_text report.keys ++ (flat_map key_left_text report.first_refused ++ more_text report.refused (length report.first_refused))
+report_text report =
+    keys_text report.keys
+    ++ (flat_map key_left_text report.first_refused ++ more_text report.refused (length report.first_refused))
 
 -- the text of an outcome; a refusal of either side is told in its place
 abbrev pub outcome_text : Outcome → Result (List ℕ) Refusal

@@ -49,6 +49,8 @@ abbrev pub IsNothing : Rest → Type 0
 IsNothing rest.Nothing = ⊤
 IsNothing _ = ⊥
 
--- The host was asked nothing, and is to be asked nothing; or the request that waits for its answer is of one who may ask
+-- The host was asked nothing, and is to be asked nothing; or the request that waits for its answer is of one who may
+-- ask
 abbrev pub AsksForOne : Option Guard → Option Asked → HostValue → HostValue → Rest → Type 0
-AsksForOne guard asked old new left = (IsNothing left × (new ≡ old)) ⊎ IsSomeAnd asked (λ a. IsOwnPage a × MayAsk guard a)
+AsksForOne guard asked old new left =
+    (IsNothing left × (new ≡ old)) ⊎ IsSomeAnd asked (λ a. IsOwnPage a × MayAsk guard a)

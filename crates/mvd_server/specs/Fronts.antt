@@ -16,12 +16,15 @@ use Rattle.mvd_wire.specs.declared.reply.Reply.TheVariants.{Refused}
 -- where a frame is in front, it is read as the reply, and so many bytes are its own
 abbrev pub IsFrontReply : List ℕ → Result Reply Refusal → ℕ → Type 0
 IsFrontReply bytes told count =
-    (f : FrameValue) (rest : List ℕ) → frame_at bytes ≡ Ok (Some f, rest) → IsAnswer told (reply_of f.kind f.payload) × (drop count bytes ≡ rest)
+    (f : FrameValue) (rest : List ℕ) → frame_at bytes ≡ Ok (Some f, rest)
+    → IsAnswer told (reply_of f.kind f.payload) × (drop count bytes ≡ rest)
 
 -- the reply in front of what waits for a client is taken; where nothing waits, none is
 abbrev pub TakesFront : ℕ → HostValue → Option (Result Reply Refusal) → HostValue → Type 0
 TakesFront n old None new = (new ≡ old) × IfClient (client_of old n) (λ h. h.waits ≡ [])
-TakesFront n old (Some told) new = IsClient (client_of old n) (λ h. (count : ℕ) × IsFrontReply h.waits told count × (new ≡ altered old n (λ c. sent c count)))
+TakesFront n old (Some told) new =
+    IsClient (client_of old n)
+    (λ h. (count : ℕ) × IsFrontReply h.waits told count × (new ≡ altered old n (λ c. sent c count)))
 
 -- ---- many writes
 
@@ -35,8 +38,10 @@ abbrev pub IsEndTold : Option Ending → Option (Result Reply Refusal) → Type 
 IsEndTold None told = told ≡ None
 IsEndTold (Some end) told = told ≡ Some (Ok (Refused (end_refusal end)))
 
--- The reply to a write. One that is refused at once is told so, and takes no reply of the host. Each other is told the reply in
--- front; where there is none and the host takes nothing more of the client, that it is refused for that
+-- The reply to a write. One that is refused at once is told so, and takes no reply of the host. Each other is told the
+-- reply in front; where there is none and the host takes nothing more of the client, that it is refused for that
 abbrev pub TellsNext : Option (Option Refusal) → ℕ → HostValue → Option (Result Reply Refusal) → HostValue → Type 0
 TellsNext (Some (Some refusal)) n old told new = (told ≡ Some (Ok (Refused refusal))) × (new ≡ old)
-TellsNext _ n old told new = TakesFront n old told new ⊎ (TakesFront n old None new × IsEndTold (option_and_then ending_of (client_of old n)) told)
+TellsNext _ n old told new =
+    TakesFront n old told new
+    ⊎ (TakesFront n old None new × IsEndTold (option_and_then ending_of (client_of old n)) told)

@@ -35,7 +35,8 @@ plain_answer status content = record { status = status; content = content; allow
 
 -- a fault of HTTP's own is told, and by which methods it is asked
 abbrev pub TellsFault : Fault → Option Methods → Plan → Type 0
-TellsFault fault allow (plan.Told answer body) = (answer ≡ record (answer_of fault) { allow = allow }) × (body.now ≡ fault_text fault)
+TellsFault fault allow (plan.Told answer body) =
+    (answer ≡ record (answer_of fault) { allow = allow }) × (body.now ≡ fault_text fault)
 TellsFault fault allow _ = ⊥
 
 -- a page is told

@@ -42,8 +42,10 @@ told_with false request reply = reply_told request reply
 
 -- The reply is told; or why it cannot be read, but of a change, which may be stored
 abbrev pub AnswersAsked : Bool → Request → Result Reply Refusal → ℕ → List ℕ → Type 0
-AnswersAsked is_live request (Ok reply) status body = Responds (is_stored reply) (told_with is_live request reply) status body
-AnswersAsked is_live request (Err refusal) status body = (is_web_change request ≡ false) × IsToldAs (refused_told refusal) status body
+AnswersAsked is_live request (Ok reply) status body =
+    Responds (is_stored reply) (told_with is_live request reply) status body
+AnswersAsked is_live request (Err refusal) status body =
+    (is_web_change request ≡ false) × IsToldAs (refused_told refusal) status body
 
 abbrev pub AnswersReply : Result Question Refusal → Result Reply Refusal → ℕ → List ℕ → Type 0
 AnswersReply (Ok (Ask request)) reply status body = AnswersAsked false request reply status body
@@ -60,4 +62,5 @@ pub record AnswersBy (asked : Asked) (reply : Result Reply Refusal) (old new : W
 -- The request that waits is answered by this reply, or the connection is stopped. Where none waits, nothing is done
 abbrev pub AnswersWeb : Option Asked → Result Reply Refusal → WebValue → WebValue → Type 0
 AnswersWeb None reply old new = new ≡ old
-AnswersWeb (Some asked) reply old new = AnswersBy asked reply old new ⊎ ((refusal : Refusal) × (new ≡ stopped_by old refusal))
+AnswersWeb (Some asked) reply old new =
+    AnswersBy asked reply old new ⊎ ((refusal : Refusal) × (new ≡ stopped_by old refusal))

@@ -83,18 +83,21 @@ module _ {S : Type 0} {g : Ghosts S} where
 
   abbrev pub AnswersClients : Talks → Replica S g → Talks → Replica S g → Type 0
   AnswersClients talks replica talks' replica' =
-      Path ServingStep (record { talking = talking_of talks; replica = replica }) (record { talking = talking_of talks'; replica = replica' })
+      Path ServingStep (record { talking = talking_of talks; replica = replica })
+          (record { talking = talking_of talks'; replica = replica' })
 
   abbrev pub world_of : {K : Type 0} → Wired K → Replica S g → World K (Held S)
   world_of wired replica = record { wired = wired; site = site_of replica; conn = conn_of replica }
 
-  -- ONE HOST served all the while: by reads and writes of the sockets, by rounds, and by deeds that feed it no frames of their own
+  -- ONE HOST served all the while: by reads and writes of the sockets, by rounds, and by deeds that feed it no frames
+  -- of their own
   abbrev pub GoesOn : {K : Type 0} → SocketGhosts K → Wired K → Replica S g → Wired K → Replica S g → Type 0
   GoesOn k wired old wired' new = Path (ServeStep (state g) k) (world_of wired old) (world_of wired' new)
 
-  -- From a new host on: what happened to the host, as one list. Its turns are all that was done to the replica, and those of
-  -- each client are what that asked and was told
-  pub record IsServed {K : Type 0} (k : SocketGhosts K) (token : Option (List ℕ)) (sockets : K) (old : Replica S g) (sockets' : K)
+  -- From a new host on: what happened to the host, as one list. Its turns are all that was done to the replica, and
+  -- those of each client are what that asked and was told
+  pub record IsServed {K : Type 0} (k : SocketGhosts K) (token : Option (List ℕ)) (sockets : K) (old : Replica S g)
+      (sockets' : K)
       (new : Replica S g) : Type 0 where
     pub guard : Option Guard
     pub guarded : IsGuardOf token guard

@@ -13,8 +13,8 @@ use Rattle.mvd_web.specs.Inside.{web_of}
 use Rattle.mvd_web.specs.Web.{IsNew}
 use Rattle.mvd_web.specs.declared.web_connection.WebConnection.{WebConnection}
 
--- who may come in; the host, in which each client has a connection of frames; the connections of those over HTTP; and the numbers of
--- the clients that are the server's own, for its sessions
+-- who may come in; the host, in which each client has a connection of frames; the connections of those over HTTP; and
+-- the numbers of the clients that are the server's own, for its sessions
 pub record Talking : Type 0 where
   pub guard : Option Guard
   pub host : HostValue
@@ -36,7 +36,8 @@ with_web t n web = record t { webs = set_value (is_at (nat_cmp n)) t.webs web }
 
 -- a connection over HTTP is opened
 abbrev pub OpensWeb : ℕ → Talking → Talking → Type 0
-OpensWeb n old new = (web : WebConnection) × IsNew (web_of web) × (new ≡ record old { webs = insert_entry nat_cmp old.webs n web })
+OpensWeb n old new =
+    (web : WebConnection) × IsNew (web_of web) × (new ≡ record old { webs = insert_entry nat_cmp old.webs n web })
 
 abbrev pub with_host : Talking → HostValue → Talking
 with_host t host = record t { host = host }
@@ -62,8 +63,8 @@ MayCall t n Releases = ⊤
 MayCall t n (Closes source) = ⊤
 MayCall t n Cuts = ⊤
 
--- A client of frames comes, one over HTTP, or one of the server's own; one comes and goes at once; one goes, of each kind; there is a
--- call on the connection of a client, or a turn of its connection over HTTP
+-- A client of frames comes, one over HTTP, or one of the server's own; one comes and goes at once; one goes, of each
+-- kind; there is a call on the connection of a client, or a turn of its connection over HTTP
 pub data Act : Type 0 where
   Comes : ℕ → Act
   ComesByWeb : ℕ → WebConnection → Act
@@ -81,13 +82,17 @@ Does (Comes n) old new = AdmitsOne old.guard old.host new.host n × (new ≡ wit
 Does (ComesByWeb n web) old new =
     AdmitsOne None old.host new.host n × IsNew (web_of web)
     × (new ≡ record old { host = new.host; webs = insert_entry nat_cmp old.webs n web })
-Does (ComesOwn n) old new = AdmitsOne None old.host new.host n × (new ≡ record old { host = new.host; own = old.own ++ n ∷ [] })
+Does (ComesOwn n) old new =
+    AdmitsOne None old.host new.host n × (new ≡ record old { host = new.host; own = old.own ++ n ∷ [] })
 Does (TurnsBack n mid) old new =
-    (guard : Option Guard) × AdmitsOne guard old.host mid n × ClientLeaves mid n new.host × (new ≡ with_host old new.host)
+    (guard : Option Guard) × AdmitsOne guard old.host mid n × ClientLeaves mid n new.host
+        × (new ≡ with_host old new.host)
 Does (Goes n) old new = ClientLeaves old.host n new.host × (new ≡ with_host old new.host)
 Does (GoesByWeb n) old new =
-    ClientLeaves old.host n new.host × (new ≡ record old { host = new.host; webs = remove_entry (is_at (nat_cmp n)) old.webs })
-Does (GoesOwn n) old new = ClientLeaves old.host n new.host × (new ≡ record old { host = new.host; own = without n old.own })
+    ClientLeaves old.host n new.host
+        × (new ≡ record old { host = new.host; webs = remove_entry (is_at (nat_cmp n)) old.webs })
+Does (GoesOwn n) old new =
+    ClientLeaves old.host n new.host × (new ≡ record old { host = new.host; own = without n old.own })
 Does (Calls n call) old new = MayCall old n call × (new ≡ with_host old (altered old.host n (after_call call)))
 Does (Turns n web web') old new = (web_in old n ≡ Some web) × (new ≡ with_web old n web')
 

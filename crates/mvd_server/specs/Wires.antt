@@ -16,7 +16,8 @@ use Rattle.mvd_wire.specs.declared.reply.Reply.TheVariants.{Refused}
 
 -- ---- what comes
 
--- bytes are fed to the connection of a client, over HTTP or not; or memory is refused for them, and no more is taken of it
+-- bytes are fed to the connection of a client, over HTTP or not; or memory is refused for them, and no more is taken of
+-- it
 abbrev pub TakesBy : Option WebConnection → ℕ → List ℕ → Talking → Talking → Type 0
 TakesBy None n bytes old new = TakesBytes old.host n bytes new.host × (new ≡ with_host old new.host)
 TakesBy (Some web) n bytes old new =
@@ -83,7 +84,8 @@ IsNoPlace bytes =
 abbrev pub TellsNoPlace : {K : Type 0} → (K → ℕ → List ℕ → K → Type 0) → ℕ → K → K → Type 0
 TellsNoPlace took n old new = (new ≡ old) ⊎ ((bytes : List ℕ) × took old n bytes new × IsNoPlace bytes)
 
--- WHAT LEFT by a client's socket is the first of what waits for it, and waits no more. One that is turned away is told that
+-- WHAT LEFT by a client's socket is the first of what waits for it, and waits no more. One that is turned away is told
+-- that
 abbrev pub GivesOut : ℕ → List ℕ → Talking → Talking → Type 0
 GivesOut n bytes old new =
     ((bytes ≡ take (length bytes) (waits_for n old)) × SendsOf n (length bytes) old new)

@@ -15,7 +15,7 @@ use mvd_http::{LINE_ROOM, push_line};
 use mvd_wire::{Reply, Request};
 use std::alloc::Global;
 
-/// As many bytes of frames are handed on at once.
+/// The most bytes of frames that are handed on at once.
 const PIECE: usize = 65_536;
 
 /// The writes of one request, and what is told of them. All memory that it takes is taken before the first of them is
@@ -82,8 +82,8 @@ impl Batch {
         Ok(true)
     }
 
-    /// The reply to the write whose line comes next, if it is there. What the host takes no more was not done, and is told
-    /// as refused.
+    /// The reply to the write whose line comes next, if it is there. What the host takes no more was not done, and is
+    /// told as refused.
     fn next_told(
         &self,
         alloc: Global,

@@ -9,7 +9,7 @@ use std::alloc::{AllocError, Global};
 use std::io::{self, ErrorKind};
 use std::net::Shutdown;
 
-/// As many bytes are read at once.
+/// The most bytes that are read at once.
 pub(crate) const PIECE: usize = 65_536;
 
 /// After the last reply as many bytes of a client are read and dropped.

@@ -31,7 +31,7 @@ pub(crate) const SPARE: usize = 64;
 /// The numbers from this one on are of clients that are turned away. The host's are below it.
 const AWAY: u64 = 1 << 62;
 
-/// As many milliseconds a client has to take its last frame, and then to end.
+/// The most milliseconds that a client has to take its last frame, and then to end.
 const LINGER: u64 = 2_000;
 
 /// The clients' sockets, their connections, and what is told of those that ended.
@@ -39,7 +39,7 @@ const LINGER: u64 = 2_000;
 pub(crate) struct Crowd {
     pub talks: Talks,
     pub counts: Counts,
-    /// As many clients may come in all, and as many are served at once.
+    /// The most clients that may come in all, and the most that are served at once.
     most: u64,
     places: usize,
     /// The number of the next client that is turned away.
@@ -81,7 +81,7 @@ impl Crowd {
         self.clients.is_empty()
     }
 
-    /// As many clients have come.
+    /// The number of clients that have come.
     fn accepted(&self) -> u64 {
         self.counts.frames.saturating_add(self.counts.https)
     }

@@ -15,10 +15,10 @@ pub(crate) const FRAMES: Token = Token(usize::MAX);
 
 pub(crate) const HTTP: Token = Token(usize::MAX - 1);
 
-/// As many are let in at once, before those that are in have their turn.
+/// The most that are let in at once, before those that are in have their turn.
 const ROUND_MAX: usize = 256;
 
-/// As many milliseconds nobody is let in after the system refused to.
+/// The milliseconds in which nobody is let in after the system refused to.
 const PAUSE: u64 = 100;
 
 /// A listener.

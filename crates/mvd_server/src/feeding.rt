@@ -30,7 +30,7 @@ pub(crate) fn sent(host: &mut Host, number: u64, count: usize)
     host.sent(number, count);
 }
 
-/// As many bytes wait in the host to leave to a client.
+/// The number of bytes that wait in the host to leave to a client.
 #[tactic(auto, using(crate::proofs::Handing::waits_some, crate::proofs::Handing::waits_none))]
 fn waits(host: &Host, number: u64) -> usize
     ensures few { IfClient (client_of host.now number) (λ h. result ≤ length h.waits) }

@@ -22,7 +22,7 @@ use mvd_web::{Asked, WebConnection};
 use sqlite::Alter;
 use std::alloc::Global;
 
-/// As many bytes of a frame are handed on at once.
+/// The most bytes of a frame that are handed on at once.
 const PIECE: usize = 65_536;
 
 const NOT_ADMITTED: &str = "{\"refused\":38,\"name\":\"NotAdmitted\"}";

@@ -14,12 +14,12 @@ use mvd_meet::{Caller, Course, Meeting};
 use mvd_sync::{Report, SyncFault};
 use std::alloc::Global;
 
-/// As many bytes of frames are handed on at once.
+/// The most bytes of frames that are handed on at once.
 const PIECE: usize = 65_536;
 
 impl Talks {
-    /// Takes in a client that asks for this server itself, which shows no token, and gives its number. It is `None` where
-    /// there is no place, or memory was refused.
+    /// Takes in a client that asks for this server itself, which shows no token, and gives its number. It is `None`
+    /// where there is no place, or memory was refused.
     pub fn admit_own(&mut self) -> Option<u64>
         ensures { AdmitsOwn self.old result self.new }
     {
@@ -49,7 +49,7 @@ impl Talks {
         self.own.contains(&number)
     }
 
-    /// As many clients there are that are not its own.
+    /// The number of clients that are not its own.
     pub fn clients(&self) -> usize
         ensures { result ≡ length self.now.host.clients - length self.now.own.items }
     {
@@ -63,8 +63,8 @@ fn forget(own: &mut Vec<u64>, number: u64)
     own.retain(|client| *client != number);
 }
 
-/// A session: the host's client that asks for it, what goes on between the two sides, and whether it has one of the places
-/// for those that go on.
+/// A session: the host's client that asks for it, what goes on between the two sides, and whether it has one of the
+/// places for those that go on.
 #[derive(Drop)]
 pub(crate) struct OwnSession {
     pub client: u64,
@@ -103,8 +103,8 @@ impl OwnSession {
         self.near.has_all() && far.has_all()
     }
 
-    /// Whether all came of both sides, and it has a place. It takes one where one is free. Where the peer says nothing for a
-    /// while, it gives its place back.
+    /// Whether all came of both sides, and it has a place. It takes one where one is free. Where the peer says nothing
+    /// for a while, it gives its place back.
     #[tactic(auto, using(crate::proofs::Swapping::same_session))]
     pub fn has_turn(&mut self, far: &Caller, is_lulled: bool, free: &mut usize) -> bool
         ensures swaps { SwapsPlaces self.old.runs free.old self.new.runs free.new }
@@ -162,7 +162,7 @@ impl OwnSession {
         self.meeting.step(&mut self.near, far)
     }
 
-    /// As many questions were asked of this server's site.
+    /// The number of questions that were asked of this server's site.
     pub fn questions(&self) -> u64
         ensures { result ≡ questions_at self.now.near }
     {
@@ -214,7 +214,8 @@ impl OwnSession {
         Ok(())
     }
 
-    /// Takes the bytes that wait in the host, and gives their number. It is refused where the host's client is not its own.
+    /// Takes the bytes that wait in the host, and gives their number. It is refused where the host's client is not its
+    /// own.
     #[tactic(auto, using(crate::proofs::Handing::waits_some, crate::proofs::Handing::waits_none))]
     fn take_waiting(&mut self, talks: &Talks) -> Result<usize, Refusal>
         ensures takes { IfOk result (HearsWaiting self.old.near talks.now.host self.old.client self.new.near) }

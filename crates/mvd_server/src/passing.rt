@@ -30,8 +30,8 @@ pub(crate) fn receive<K: Sockets>(
     }
 }
 
-/// Reads once of one that is no client of the host any more, and drops what came, which may be so many bytes. It is `false`
-/// where nothing more is read.
+/// Reads once of one that is no client of the host any more, and drops what came, which may be so many bytes. It is
+/// `false` where nothing more is read.
 pub(crate) fn drop_left<K: Sockets>(
     talks: &Talks,
     sockets: &mut K,

@@ -6,8 +6,8 @@ use mvd_dots::Refusal;
 use std::fmt::Write as Print;
 use std::net::SocketAddr;
 
-/// The sessions with a peer since the server started, by how they ended, the keys that they exchanged, and when the last
-/// one ended that had no fault, in milliseconds.
+/// The sessions with a peer since the server started, by how they ended, the keys that they exchanged, and when the
+/// last one ended that had no fault, in milliseconds.
 #[derive(Clone, Copy)]
 pub(crate) struct PeerCounts {
     address: SocketAddr,

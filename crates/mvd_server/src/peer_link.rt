@@ -17,7 +17,7 @@ use std::net::{Net, SocketAddr};
 /// As often it is read, and written, before others have their turn.
 const MOVES: usize = 16;
 
-/// As many milliseconds a peer has to answer a Bye.
+/// The most milliseconds that a peer has to answer a Bye.
 const LINGER: u64 = 2_000;
 
 /// After as many milliseconds without a byte a peer holds no place that others wait for.

@@ -19,7 +19,7 @@ use std::net::Net;
 /// What the system tells of the first peer by. No client's number is as great.
 const FIRST: usize = usize::MAX - 2;
 
-/// As many sessions go on at a time past their first question.
+/// The most sessions that go on at a time past their first question.
 pub(crate) const SESSIONS_MAX: usize = 4;
 
 #[derive(Drop)]
@@ -60,7 +60,7 @@ impl Peers {
         Ok(counts)
     }
 
-    /// As many sessions more may go on.
+    /// The number of sessions more that may go on.
     fn free(&self) -> usize
         ensures { result ≡ 4 - running self.now.list.items }
     {
@@ -100,8 +100,8 @@ impl Peers {
         is_one
     }
 
-    /// Connects to those that are due, and goes on with each session as far as can be without waiting. Each time another
-    /// one comes first, so that each gets a place.
+    /// Connects to those that are due, and goes on with each session as far as can be without waiting. Each time
+    /// another one comes first, so that each gets a place.
     pub fn go_on<N: Net>(&mut self, rt: &N, registry: &Registry, crowd: &mut Crowd)
         ensures { TalksDeeds crowd.old.talks crowd.new.talks }
     {

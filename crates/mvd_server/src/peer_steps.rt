@@ -16,11 +16,11 @@ use mvd_meet::{Caller, Course, Ended};
 use mvd_sync::{Report, SyncFault};
 use std::fmt::Write as Print;
 
-/// As many steps are taken of a session before others have their turn.
+/// The most steps that are taken of a session before others have their turn.
 const STEPS: usize = 16;
 
 impl Peering {
-    /// Goes on as far as can be without waiting. As many sessions more as are free may go on past their first question.
+    /// Goes on as far as can be without waiting. At most `free` sessions more go on past their first question.
     pub fn go_on(&mut self, setting: &mut Setting, crowd: &mut Crowd, free: &mut usize)
         ensures free { TakesFree self.old free.old self.new free.new }
         ensures deeds { TalksDeeds crowd.old.talks crowd.new.talks }
@@ -79,8 +79,8 @@ impl Peering {
         Ok(false)
     }
 
-    /// A session begins, where it is due and the connection is still there. Over a new one it begins in any case: what came,
-    /// or that it ended, is then told as its fault.
+    /// A session begins, where it is due and the connection is still there. Over a new one it begins in any case: what
+    /// came, or that it ended, is then told as its fault.
     fn rests(&mut self, setting: &mut Setting, crowd: &mut Crowd) -> Result<bool, Refusal>
         // Before that, none does.
         ensures early { crowd.old.now < due_of self.old.schedule → self.new.session ≡ self.old.session }
@@ -122,8 +122,8 @@ impl Peering {
         Ok(())
     }
 
-    /// What came is taken, once all came, and what is next is asked, where there is a place for the session. It gives its
-    /// place back where nothing came for a while.
+    /// What came is taken, once all came, and what is next is asked, where there is a place for the session. It gives
+    /// its place back where nothing came for a while.
     fn meets(
         &mut self,
         setting: &mut Setting,
@@ -200,7 +200,8 @@ impl Peering {
         }
     }
 
-    /// Notes how a session ended that is done, and tells which keys were left, but for those that the session before left.
+    /// Notes how a session ended that is done, and tells which keys were left, but for those that the session before
+    /// left.
     fn note_done(&mut self, setting: &mut Setting, crowd: &mut Crowd, report: Report)
         ensures session { self.new.session ≡ self.old.session }
         ensures ends { EndsMeeting (ended_of report) crowd.old.now self.old.schedule self.new.schedule }

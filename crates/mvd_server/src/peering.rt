@@ -18,8 +18,8 @@ use mvd_wire::Items;
 use std::fmt::Write as Print;
 use std::net::{Net, SocketAddr};
 
-/// As many questions may have been asked over a connection on which another session begins, and no session that asked as
-/// many is told to have failed where its connection was cut: a server takes 1,000,000.
+/// The most questions that may have been asked over a connection on which another session begins. No session that asked
+/// more is told to have failed where its connection was cut: a server takes 1,000,000.
 pub(crate) const MOST_QUESTIONS: u64 = 500_000;
 
 /// A peer. `place` is where it stands among the peers.

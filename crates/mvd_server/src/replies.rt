@@ -9,8 +9,8 @@ use mvd_host::Host;
 use mvd_wire::Reply;
 use std::alloc::Global;
 
-/// Takes the next reply that the host has for a client, or why it cannot be read. A Written, a Done and a Refused are read
-/// without memory.
+/// Takes the next reply that the host has for a client, or why it cannot be read. A Written, a Done and a Refused are
+/// read without memory.
 #[tactic(auto, using(crate::proofs::Answering::waits_if))]
 pub(crate) fn next_reply(
     alloc: Global,

@@ -30,7 +30,7 @@ use std::net::{Net, SocketAddr};
 use std::random::RandomSource;
 use std::time::{Clock, Duration, Instant};
 
-/// As many rounds follow each other until replies leave.
+/// The most rounds that follow each other before replies leave.
 const ROUNDS_MAX: usize = 64;
 
 /// What a server is asked for: the port for HTTP, if it serves that too, how many connections it serves in all, for how
@@ -61,7 +61,7 @@ impl Terms<'_> {
         }
     }
 
-    /// As many clients are served at once. Beside them the host has a place for a session with each peer.
+    /// The most clients that are served at once. Beside them the host has a place for a session with each peer.
     pub(crate) fn places(self) -> usize {
         (self.clients as usize).min(CLIENTS_MAX.saturating_sub(self.peers.len()))
     }
@@ -83,11 +83,11 @@ struct Server {
 
 /// Serves so many connections at an address, or without end, many at once, and tells where it listens, how each
 /// connection ended, and at the end the root digest. Each line is flushed as it is written.
-///
-/// What came together of all clients is answered together, and then the replies leave. No client is waited for. Meanwhile
-/// it has sessions with its peers, whose questions to the site are answered among those of the clients; keys that one left
-/// are told on `errors`. It is `Stopped` with `ReadFailed` where it cannot listen or wait, and with `WriteFailed` where a
-/// line cannot be written.
+/// /
+/// What came together of all clients is answered together, and then the replies leave. No client is waited for.
+/// Meanwhile it has sessions with its peers, whose questions to the site are answered among those of the clients; keys
+/// that one left are told on `errors`. It is `Stopped` with `ReadFailed` where it cannot listen or wait, and with
+/// `WriteFailed` where a line cannot be written.
 pub fn serve_run<
     'a,
     N: Net + Clock + RandomSource,

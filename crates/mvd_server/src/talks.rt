@@ -135,8 +135,8 @@ impl Talks {
         self.host.dismiss(number);
     }
 
-    /// Takes requests of some clients, answers them together, and queues what each is told, and what those are told that
-    /// wait for a change. Whether there may be more of them at once: after a commit the replies leave first.
+    /// Takes requests of some clients, answers them together, and queues what each is told, and what those are told
+    /// that wait for a change. Whether there may be more of them at once: after a commit the replies leave first.
     pub fn round<S: Alter + Drop>(
         &mut self,
         replica: &mut Replica<S>,

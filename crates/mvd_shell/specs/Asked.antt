@@ -1,4 +1,5 @@
--- The requests that the texts of a line are (docs/FORMATS.md, Script), read from left to right: the first refusal decides.
+-- The requests that the texts of a line are (docs/FORMATS.md, Script), read from left to right: the first refusal
+-- decides.
 use Rattle.std.specs.Prelude.{ℕ, ◌≡◌, ◌≢◌, ◌-◌, ◌⊎◌, ◌&&◌, nat_le, if◌then◌else◌, true, List, [], ◌∷◌, codes, length, map, Option, Some, None, option_map, Result, Ok, Err}
 use Rattle.std.specs.Borrow.{Bor}
 use Rattle.std.specs.List.{slice_get}
@@ -42,7 +43,8 @@ abbrev pub find_asked : List ℕ → List ℕ → Option (Key × DotValue) → R
 find_asked field term after = then_read (field_of field) (λ f. then_read (term_of_json term) (λ t. Ok (Find f t after)))
 
 abbrev pub range_asked : List ℕ → List ℕ → Option Place → Result Request Refusal
-range_asked field terms after = then_read (field_of field) (λ f. then_read (pair_of_json terms) (λ t. Ok (Range f t.0 t.1 after)))
+range_asked field terms after =
+    then_read (field_of field) (λ f. then_read (pair_of_json terms) (λ t. Ok (Range f t.0 t.1 after)))
 
 abbrev pub row_request : List ℕ → List ℕ → Result Request Refusal
 row_request view term = then_read (view_name_of view) (λ v. then_read (term_of_json term) (λ t. Ok (Row v t)))
@@ -60,12 +62,14 @@ keys_request prefix after = then_read (prefix_of_text (prefix_text prefix)) (λ 
 
 -- the value of a lower-case hexadecimal digit, and of no other byte one that a path may have
 abbrev pub digit_in : ℕ → ℕ
-digit_in byte = if nat_le 48 byte && nat_le byte 57 then byte - 48 else (if nat_le 97 byte && nat_le byte 102 then byte - 87 else 255)
+digit_in byte = if nat_le 48 byte && nat_le byte 57 then byte - 48
+    else (if nat_le 97 byte && nat_le byte 102 then byte - 87 else 255)
 
 -- `-` is the whole tree; else there are one to three digits
 abbrev pub path_in : List ℕ → Result (List ℕ) Refusal
 path_in [] = Err BadPath
-path_in (byte ∷ bytes) = if bytes_eq (byte ∷ bytes) (codes "-") then path_of [] else path_of (map digit_in (byte ∷ bytes))
+path_in (byte ∷ bytes) = if bytes_eq (byte ∷ bytes) (codes "-") then path_of []
+    else path_of (map digit_in (byte ∷ bytes))
 
 -- the question that a line asks first, of a list for its first page; a write is none
 abbrev pub question : Ask → Result Request Refusal
@@ -88,20 +92,26 @@ shown_context (reply.State state) = Ok state.context
 shown_context (reply.Refused refusal) = Err refusal
 shown_context _ = Err BadKind
 
--- A context's text is read. For `@` the state of the key is asked for at that moment, and its context taken, unless memory
--- was refused for the question.
+-- A context's text is read. For `@` the state of the key is asked for at that moment, and its context taken, unless
+-- memory was refused for the question.
 abbrev pub Sees : Key → List ℕ → List Exchange → Result DotSet Refusal → Type 0
-Sees key text [] seen = (seen ≡ Err Memory) ⊎ ((text ≢ codes "@") × IsReading (λ dots. IsTextOf dots text) BadContext seen)
-Sees key text (exchange ∷ []) seen = (text ≡ codes "@") × (exchange.request ≡ Get key) × IsAnswer seen (shown_context exchange.reply)
+Sees key text [] seen =
+    (seen ≡ Err Memory) ⊎ ((text ≢ codes "@") × IsReading (λ dots. IsTextOf dots text) BadContext seen)
+Sees key text (exchange ∷ []) seen =
+    (text ≡ codes "@") × (exchange.request ≡ Get key) × IsAnswer seen (shown_context exchange.reply)
 Sees key text exchanges seen = ⊥
 
 -- a write is made of its key, the context that its author saw, and what stands behind that
-abbrev pub IsMadeWrite : Result Key Refusal → List ℕ → (Key → DotSet → Result Request Refusal) → List Exchange → Result Request Refusal → Type 0
+abbrev pub IsMadeWrite : Result Key Refusal → List ℕ → (Key → DotSet → Result Request Refusal) → List Exchange
+    → Result Request Refusal → Type 0
 IsMadeWrite (Err refusal) context make exchanges request = (exchanges ≡ []) × (request ≡ Err refusal)
-IsMadeWrite (Ok key) context make exchanges request = (seen : Result DotSet Refusal) × Sees key context exchanges seen × IsAnswer request (then_read seen (make key))
+IsMadeWrite (Ok key) context make exchanges request =
+    (seen : Result DotSet Refusal) × Sees key context exchanges seen × IsAnswer request (then_read seen (make key))
 
-abbrev pub IsWriteOfLine : List ℕ → List ℕ → (Key → DotSet → Result Request Refusal) → List Exchange → Result Request Refusal → Type 0
-IsWriteOfLine key context make exchanges request = (read : Result Key Refusal) × IsAnswer read (key_of_text key) × IsMadeWrite read context make exchanges request
+abbrev pub IsWriteOfLine : List ℕ → List ℕ → (Key → DotSet → Result Request Refusal) → List Exchange
+    → Result Request Refusal → Type 0
+IsWriteOfLine key context make exchanges request =
+    (read : Result Key Refusal) × IsAnswer read (key_of_text key) × IsMadeWrite read context make exchanges request
 
 abbrev pub put_request : List ℕ → Key → DotSet → Result Request Refusal
 put_request document key seen = then_read (document_of document) (λ d. Ok (Put key seen d))
@@ -114,8 +124,10 @@ IsRequestOfLine ask exchanges request = (exchanges ≡ []) × IsAnswer request (
 
 -- the request that a line asks for, with what is asked before it
 abbrev pub IsRequestOf : Ask → List Exchange → Result Request Refusal → Type 0
-IsRequestOf (ask.Put key context document) exchanges request = IsWriteOfLine key.now context.now (put_request document.now) exchanges request
-IsRequestOf (ask.Delete key context) exchanges request = IsWriteOfLine key.now context.now delete_request exchanges request
+IsRequestOf (ask.Put key context document) exchanges request =
+    IsWriteOfLine key.now context.now (put_request document.now) exchanges request
+IsRequestOf (ask.Delete key context) exchanges request =
+    IsWriteOfLine key.now context.now delete_request exchanges request
 IsRequestOf (ask.Get key) exchanges request = IsRequestOfLine (ask.Get key) exchanges request
 IsRequestOf (ask.Row view term) exchanges request = IsRequestOfLine (ask.Row view term) exchanges request
 IsRequestOf (ask.Node path) exchanges request = IsRequestOfLine (ask.Node path) exchanges request

@@ -32,15 +32,19 @@ TellsTyped Answers lost (typed.Ask ask) old new text = Prints_line Answers lost 
 -- a line's bytes are UTF-8, and say nothing or spell a command
 abbrev pub TellsSaid : {A : Type 0} → (A → A → Request → Reply → Type 0) → (A → ℕ) → List ℕ → A → A → List ℕ → Type 0
 TellsSaid Answers lost line old new text =
-    IsUtf8 line × (((said line ≡ []) × (new ≡ old) × (text ≡ [])) ⊎ ((asked : Typed) × IsTyped asked (said line) × TellsTyped Answers lost asked old new text))
+    IsUtf8 line
+    × (((said line ≡ []) × (new ≡ old) × (text ≡ []))
+    ⊎ ((asked : Typed) × IsTyped asked (said line) × TellsTyped Answers lost asked old new text))
 
 -- a line's bytes are no UTF-8, or say something that spells no command
 abbrev pub IsNoTyped : List ℕ → Type 0
 IsNoTyped line = (IsUtf8 line → ⊥) ⊎ ((said line ≢ []) × IsNotTyped (said line))
 
 -- what the line of a number asks and prints; one that is no command is told by its number
-abbrev pub TellsLine : {A : Type 0} → (A → A → Request → Reply → Type 0) → (A → ℕ) → ℕ → List ℕ → A → A → List ℕ → Type 0
-TellsLine Answers lost number line old new text = TellsSaid Answers lost line old new text ⊎ (IsNoTyped line × (new ≡ old) × (text ≡ no_command_text number))
+abbrev pub TellsLine : {A : Type 0} → (A → A → Request → Reply → Type 0) → (A → ℕ) → ℕ → List ℕ → A → A → List ℕ
+    → Type 0
+TellsLine Answers lost number line old new text =
+    TellsSaid Answers lost line old new text ⊎ (IsNoTyped line × (new ≡ old) × (text ≡ no_command_text number))
 
 -- ---- lines
 
@@ -54,7 +58,8 @@ abbrev pub at : {A : Type 0} → A → Option (List ℕ) → Option (List ℕ) �
 at asked input out = record { asked = asked; input = input; out = out }
 
 -- lines from a number on, none of them too long, one after the other, with what each prints
-unfoldable pub TellAllLines : {A : Type 0} → (A → A → Request → Reply → Type 0) → (A → ℕ) → ℕ → List (List ℕ) → A → A → List (List ℕ) → Type 0
+unfoldable pub TellAllLines : {A : Type 0} → (A → A → Request → Reply → Type 0) → (A → ℕ) → ℕ → List (List ℕ) → A → A
+    → List (List ℕ) → Type 0
 TellAllLines Answers lost number [] old new texts = (new ≡ old) × (texts ≡ [])
 TellAllLines Answers lost number (line ∷ lines) old new [] = ⊥
 TellAllLines {A} Answers lost number (line ∷ lines) old new (text ∷ texts) =
@@ -62,7 +67,8 @@ TellAllLines {A} Answers lost number (line ∷ lines) old new (text ∷ texts) =
     × TellAllLines Answers lost (number + 1) lines between new texts
 
 -- lines from the first on were asked, and what they print was written
-pub record ToldLines {A : Type 0} (Answers : A → A → Request → Reply → Type 0) (lost : A → ℕ) (lines : List (List ℕ)) (old new : At A) : Type 0 where
+pub record ToldLines {A : Type 0} (Answers : A → A → Request → Reply → Type 0) (lost : A → ℕ) (lines : List (List ℕ))
+    (old new : At A) : Type 0 where
   pub texts : List (List ℕ)
   pub told : TellAllLines Answers lost 1 lines old.asked new.asked texts
   pub written : Appends old.out new.out (concat texts)
@@ -71,20 +77,25 @@ pub record ToldLines {A : Type 0} (Answers : A → A → Request → Reply → T
 
 -- nothing was done of a line, or it was answered
 abbrev pub MayTellLine : {A : Type 0} → (A → A → Request → Reply → Type 0) → (A → ℕ) → ℕ → List ℕ → A → A → Type 0
-MayTellLine Answers lost number line old new = (new ≡ old) ⊎ ((text : List ℕ) × TellsLine Answers lost number line old new text)
+MayTellLine Answers lost number line old new =
+    (new ≡ old) ⊎ ((text : List ℕ) × TellsLine Answers lost number line old new text)
 
--- Why the line of a number was not told. Memory was refused, before it was answered or then; the reader failed; the line is too
--- long, or there are more lines than can be counted; or the writer failed, once it was answered.
-abbrev pub IsUntold : {A : Type 0} → (A → A → Request → Reply → Type 0) → (A → ℕ) → Refusal → ℕ → List ℕ → At A → At A → Type 0
-IsUntold Answers lost Memory number line old new = MayTellLine Answers lost number line old.asked new.asked × (new.out ≡ old.out)
+-- Why the line of a number was not told. Memory was refused, before it was answered or then; the reader failed; the
+-- line is too long, or there are more lines than can be counted; or the writer failed, once it was answered.
+abbrev pub IsUntold : {A : Type 0} → (A → A → Request → Reply → Type 0) → (A → ℕ) → Refusal → ℕ → List ℕ → At A → At A
+    → Type 0
+IsUntold Answers lost Memory number line old new =
+    MayTellLine Answers lost number line old.asked new.asked × (new.out ≡ old.out)
 IsUntold Answers lost ReadFailed number line old new = (new.asked ≡ old.asked) × (new.out ≡ old.out)
 IsUntold Answers lost FrameTooLong number line old new =
     (new.asked ≡ old.asked) × (new.out ≡ old.out) × ((16777216 < length line) ⊎ (number ≡ 2 ^ 64 - 1))
-IsUntold Answers lost WriteFailed number line old new = (text : List ℕ) × TellsLine Answers lost number line old.asked new.asked text
+IsUntold Answers lost WriteFailed number line old new =
+    (text : List ℕ) × TellsLine Answers lost number line old.asked new.asked text
 IsUntold Answers lost _ number line old new = ⊥
 
 -- The first lines were told, and the next one is not
-pub record EndsAtLine {A : Type 0} (Answers : A → A → Request → Reply → Type 0) (lost : A → ℕ) (refusal : Refusal) (lines : List (List ℕ)) (old new : At A) : Type 0 where
+pub record EndsAtLine {A : Type 0} (Answers : A → A → Request → Reply → Type 0) (lost : A → ℕ) (refusal : Refusal)
+    (lines : List (List ℕ)) (old new : At A) : Type 0 where
   pub before : List (List ℕ)
   pub line : List ℕ
   pub after : List (List ℕ)
@@ -96,14 +107,16 @@ pub record EndsAtLine {A : Type 0} (Answers : A → A → Request → Reply → 
   pub untold : IsUntold Answers lost refusal (length before + 1) line between new
 
 -- The lines of what was read: all are told, or all before the one at which it breaks
-abbrev pub TellsLines : {A : Type 0} → (A → A → Request → Reply → Type 0) → (A → ℕ) → List (List ℕ) → At A → At A → Result (Unit {0}) Fault → Type 0
+abbrev pub TellsLines : {A : Type 0} → (A → A → Request → Reply → Type 0) → (A → ℕ) → List (List ℕ) → At A → At A
+    → Result (Unit {0}) Fault → Type 0
 TellsLines Answers lost lines old new (Ok done) = ToldLines Answers lost lines old new
 TellsLines Answers lost lines old new (Err (of_fault.Line number)) = ⊥
 TellsLines Answers lost lines old new (Err (of_fault.Stopped refusal)) = EndsAtLine Answers lost refusal lines old new
 
--- The input is read to its end, or as far as the line at which it breaks; what is asked is answered one after the other, and what is
--- printed is the text of what each line asks and was told, in the order of the lines
-pub record Shells {A : Type 0} (Answers : A → A → Request → Reply → Type 0) (lost : A → ℕ) (old new : At A) (result : Result (Unit {0}) Fault) : Type 0 where
+-- The input is read to its end, or as far as the line at which it breaks; what is asked is answered one after the
+-- other, and what is printed is the text of what each line asks and was told, in the order of the lines
+pub record Shells {A : Type 0} (Answers : A → A → Request → Reply → Type 0) (lost : A → ℕ) (old new : At A)
+    (result : Result (Unit {0}) Fault) : Type 0 where
   pub text : List ℕ
   pub read : Consumes old.input new.input text
   pub all : OnOk result (IfSome old.input (λ all. all ≡ text))
@@ -112,9 +125,11 @@ pub record Shells {A : Type 0} (Answers : A → A → Request → Reply → Type
 -- ---- one line
 
 -- A line is read, answered and told, and another may follow; or it is not told
-abbrev pub ShellTakesLine : {A : Type 0} → (A → A → Request → Reply → Type 0) → (A → ℕ) → ℕ → At A → At A → Result Bool Fault → Type 0
+abbrev pub ShellTakesLine : {A : Type 0} → (A → A → Request → Reply → Type 0) → (A → ℕ) → ℕ → At A → At A
+    → Result Bool Fault → Type 0
 ShellTakesLine Answers lost number old new (Ok goes_on) = (line : List ℕ) × (text : List ℕ)
-    × ReadsOneLine old.input new.input line (Ok goes_on) × TellsLine Answers lost number line old.asked new.asked text × Appends old.out new.out text
+    × ReadsOneLine old.input new.input line (Ok goes_on) × TellsLine Answers lost number line old.asked new.asked text
+    × Appends old.out new.out text
 ShellTakesLine Answers lost number old new (Err (of_fault.Line place)) = ⊥
 ShellTakesLine Answers lost number old new (Err (of_fault.Stopped refusal)) =
     (line : List ℕ) × CameIn old.input new.input line × IsUntold Answers lost refusal number line old new

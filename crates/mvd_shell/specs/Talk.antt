@@ -14,7 +14,8 @@ use Rattle.mvd_shell.specs.Told.{answer_text, unknown_text}
 -- something that is asked answers one request after the other
 unfoldable pub AnswersExchanges : {A : Type 0} → (A → A → Request → Reply → Type 0) → List Exchange → A → A → Type 0
 AnswersExchanges Answers [] old new = new ≡ old
-AnswersExchanges {A} Answers (exchange ∷ exchanges) old new = (between : A) × Answers old between exchange.request exchange.reply × AnswersExchanges Answers exchanges between new
+AnswersExchanges {A} Answers (exchange ∷ exchanges) old new =
+    (between : A) × Answers old between exchange.request exchange.reply × AnswersExchanges Answers exchanges between new
 
 -- requests were asked of it, and answered, one after the other
 pub record AsksInTurn {A : Type 0} (Answers : A → A → Request → Reply → Type 0) (asked asked' : A) : Type 0 where
@@ -22,7 +23,8 @@ pub record AsksInTurn {A : Type 0} (Answers : A → A → Request → Reply → 
   pub answered : AnswersExchanges Answers exchanges asked asked'
 
 -- the request that a line asks for, with what is asked before it, seen at what answers
-pub record AsksFirst {A : Type 0} (Answers : A → A → Request → Reply → Type 0) (asked asked' : A) (ask : Ask) (request : Result Request Refusal) : Type 0 where
+pub record AsksFirst {A : Type 0} (Answers : A → A → Request → Reply → Type 0) (asked asked' : A) (ask : Ask)
+    (request : Result Request Refusal) : Type 0 where
   pub exchanges : List Exchange
   pub answered : AnswersExchanges Answers exchanges asked asked'
   pub read : IsRequestOf ask exchanges request
@@ -39,22 +41,26 @@ EndsWith (Ok text) (Err refusal) told = told ≡ Err refusal
 EndsWith (Ok text) (Ok None) told = told ≡ Ok text
 EndsWith (Ok text) (Ok (Some request)) told = ⊥
 
--- A page is asked for and printed, and then the next one, until no more is left. What is told is the text of all, or the
--- refusal in its place. Where there are no exchanges left, memory was refused.
+-- A page is asked for and printed, and then the next one, until no more is left. What is told is the text of all, or
+-- the refusal in its place. Where there are no exchanges left, memory was refused.
 unfoldable pub TellsAllPages : Ask → Request → List Exchange → Result (List ℕ) Refusal → Type 0
 TellsAllPages ask request [] told = told ≡ Err Memory
-TellsAllPages ask request (exchange ∷ exchanges) told = (exchange.request ≡ request) × (page : Result (List ℕ) Refusal) × (next : Result (Option Request) Refusal)
+TellsAllPages ask request (exchange ∷ exchanges) told =
+    (exchange.request ≡ request) × (page : Result (List ℕ) Refusal) × (next : Result (Option Request) Refusal)
     × IsAnswer page (answer_text ask exchange.reply) × IsAnswer next (next_asked ask exchange.reply)
     × (((exchanges ≡ []) × EndsWith page next told)
-    ⊎ ((text : List ℕ) × (following : Request) × (more : Result (List ℕ) Refusal) × (page ≡ Ok text) × (next ≡ Ok (Some following)) × TellsAllPages ask following exchanges more × (told ≡ text_onto text more)))
+    ⊎ ((text : List ℕ) × (following : Request) × (more : Result (List ℕ) Refusal) × (page ≡ Ok text)
+    × (next ≡ Ok (Some following)) × TellsAllPages ask following exchanges more × (told ≡ text_onto text more)))
 
 -- what is printed of a page and given back
-abbrev pub ShowsPage : Result (List ℕ) Refusal → Result (Option Request) Refusal → List ℕ → List ℕ → Result (Option Request) Refusal → Type 0
+abbrev pub ShowsPage : Result (List ℕ) Refusal → Result (Option Request) Refusal → List ℕ → List ℕ
+    → Result (Option Request) Refusal → Type 0
 ShowsPage (Ok text) next old new result = (new ≡ old ++ text) × (result ≡ next)
 ShowsPage (Err refusal) next old new result = (result ≡ Err refusal) × Extends old new
 
 -- A page is told: its text is printed, and then the next request given; a refusal of either is given back
-pub record TellsPage (ask : Ask) (reply : Reply) (old new : List ℕ) (result : Result (Option Request) Refusal) : Type 0 where
+pub record TellsPage (ask : Ask) (reply : Reply) (old new : List ℕ)
+    (result : Result (Option Request) Refusal) : Type 0 where
   pub page : Result (List ℕ) Refusal
   pub told : IsAnswer page (answer_text ask reply)
   pub next : Result (Option Request) Refusal
@@ -97,41 +103,48 @@ shell_text true told = told_text told
 shell_text false told = lost_text told
 
 -- what was asked and told of a line, seen at what answers and at what is printed
-pub record Talks {A : Type 0} (Answers : A → A → Request → Reply → Type 0) (asked asked' : A) (ask : Ask) (told : Result (List ℕ) Refusal) : Type 0 where
+pub record Talks {A : Type 0} (Answers : A → A → Request → Reply → Type 0) (asked asked' : A) (ask : Ask)
+    (told : Result (List ℕ) Refusal) : Type 0 where
   pub exchanges : List Exchange
   pub answered : AnswersExchanges Answers exchanges asked asked'
   pub tells : TellsAsk ask exchanges told
 
 -- the same of pages alone, from a request on
-pub record TalksPages {A : Type 0} (Answers : A → A → Request → Reply → Type 0) (asked asked' : A) (ask : Ask) (request : Request) (told : Result (List ℕ) Refusal) : Type 0 where
+pub record TalksPages {A : Type 0} (Answers : A → A → Request → Reply → Type 0) (asked asked' : A) (ask : Ask)
+    (request : Request) (told : Result (List ℕ) Refusal) : Type 0 where
   pub exchanges : List Exchange
   pub answered : AnswersExchanges Answers exchanges asked asked'
   pub tells : TellsAllPages ask request exchanges told
 
 -- nothing was asked; or all that a line asks, until something was refused
 abbrev pub MayHaveAsked : {A : Type 0} → (A → A → Request → Reply → Type 0) → A → A → Ask → Type 0
-MayHaveAsked Answers asked asked' ask = (asked' ≡ asked) ⊎ ((told : Result (List ℕ) Refusal) × Talks Answers asked asked' ask told)
+MayHaveAsked Answers asked asked' ask =
+    (asked' ≡ asked) ⊎ ((told : Result (List ℕ) Refusal) × Talks Answers asked asked' ask told)
 
 -- what was told, and shown of it
-pub record Speaks {A : Type 0} (Answers : A → A → Request → Reply → Type 0) (asked asked' : A) (ask : Ask) (old new : List ℕ) (result : Result (Unit {0}) Refusal) : Type 0 where
+pub record Speaks {A : Type 0} (Answers : A → A → Request → Reply → Type 0) (asked asked' : A) (ask : Ask)
+    (old new : List ℕ) (result : Result (Unit {0}) Refusal) : Type 0 where
   pub told : Result (List ℕ) Refusal
   pub talks : Talks Answers asked asked' ask told
   pub shows : ShowsText told old new result
 
-pub record SpeaksPages {A : Type 0} (Answers : A → A → Request → Reply → Type 0) (asked asked' : A) (ask : Ask) (request : Request) (old new : List ℕ) (result : Result (Unit {0}) Refusal) : Type 0 where
+pub record SpeaksPages {A : Type 0} (Answers : A → A → Request → Reply → Type 0) (asked asked' : A) (ask : Ask)
+    (request : Request) (old new : List ℕ) (result : Result (Unit {0}) Refusal) : Type 0 where
   pub told : Result (List ℕ) Refusal
   pub talks : TalksPages Answers asked asked' ask request told
   pub shows : ShowsText told old new result
 
 -- a page was asked for and told
-pub record Turns {A : Type 0} (Answers : A → A → Request → Reply → Type 0) (asked asked' : A) (ask : Ask) (request : Request) (old new : List ℕ) (result : Result (Option Request) Refusal) : Type 0 where
+pub record Turns {A : Type 0} (Answers : A → A → Request → Reply → Type 0) (asked asked' : A) (ask : Ask)
+    (request : Request) (old new : List ℕ) (result : Result (Option Request) Refusal) : Type 0 where
   pub reply : Reply
   pub answers : Answers asked asked' request reply
   pub tells : TellsPage ask reply old new result
 
--- What was printed is what was told of the line. Where more writes are lost behind it than before, it is unknown whether the
--- line's write was done
-pub record Prints_line {A : Type 0} (Answers : A → A → Request → Reply → Type 0) (lost : A → ℕ) (asked asked' : A) (ask : Ask) (text : List ℕ) : Type 0 where
+-- What was printed is what was told of the line. Where more writes are lost behind it than before, it is unknown
+-- whether the line's write was done
+pub record Prints_line {A : Type 0} (Answers : A → A → Request → Reply → Type 0) (lost : A → ℕ) (asked asked' : A)
+    (ask : Ask) (text : List ℕ) : Type 0 where
   pub told : Result (List ℕ) Refusal
   pub talks : Talks Answers asked asked' ask told
   pub is : text ≡ shell_text (lost asked == lost asked') told

@@ -87,8 +87,8 @@ impl Site {
         self.kept.config()
     }
 
-    /// What is true of every site: it holds no more keys than it may, each is one, and each state has seen a dot and has a
-    /// spelling within the limit.
+    /// What is true of every site: it holds no more keys than it may, each is one, and each state has seen a dot and
+    /// has a spelling within the limit.
     pub fn stands(&self)
         ensures held { AreHeld self.now.states }
         ensures room { map.len self.now.states ≤ self.now.config.max_keys }

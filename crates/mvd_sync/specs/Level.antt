@@ -24,7 +24,8 @@ found_by at mine theirs = at.below ++ told_all (next_nodes at) mine theirs
 
 -- both told of the next nodes: others of the level are left, or the level below it is next
 pub data GoesDown (old : Level) (mine theirs : List Node) (new : Level) : Type 0 where
-  along : drop 64 old.rest ≢ [] → new ≡ record { depth = old.depth; rest = drop 64 old.rest; below = found_by old mine theirs }
+  along : drop 64 old.rest ≢ []
+      → new ≡ record { depth = old.depth; rest = drop 64 old.rest; below = found_by old mine theirs }
       → GoesDown old mine theirs new
   down : drop 64 old.rest ≡ [] → new ≡ record { depth = old.depth + 1; rest = found_by old mine theirs; below = [] }
       → GoesDown old mine theirs new

@@ -116,7 +116,8 @@ pub record TurnBegins (walk : Walking) (side : Side) (meetings : List Meeting) (
 
 -- the walk goes on to its next key; after the last those that wait are exchanged; where none waits the session is done
 pub data FromWalk (work : Exchanging) (walk : Walking) (work' : Exchanging) (stage : Stage) : Type 0 where
-  goes_on : (walk' : Walking) (found : Option Entry) → GoesTo walk found walk' → SettlesFound walk' found work work' stage
+  goes_on : (walk' : Walking) (found : Option Entry) → GoesTo walk found walk'
+      → SettlesFound walk' found work work' stage
       → FromWalk work walk work' stage
   last : (entries : Vec Entry Global) → IsWalked walk → work.waiting ≢ [] → entries.items ≡ work.waiting
       → work' ≡ record work { waiting = [] } → stage ≡ Meets walk entries → FromWalk work walk work' stage
@@ -126,7 +127,8 @@ pub data FromWalk (work : Exchanging) (walk : Walking) (work' : Exchanging) (sta
 -- after the local side it is the peer's turn; after the peer's the keys are counted, and the walk goes on
 pub data FromTurn (work : Exchanging) (walk : Walking) (turn : Turn) (work' : Exchanging) (stage : Stage) : Type 0 where
   turns : turn.side ≡ AtLocal → work' ≡ work
-      → TurnBegins walk AtPeer (noted AtLocal turn.meetings.items turn.told.items) stage → FromTurn work walk turn work' stage
+      → TurnBegins walk AtPeer (noted AtLocal turn.meetings.items turn.told.items) stage
+      → FromTurn work walk turn work' stage
   counts : turn.side ≡ AtPeer → CountsDone (map done_of (noted AtPeer turn.meetings.items turn.told.items)) work work'
       → stage ≡ Walks walk → FromTurn work walk turn work' stage
 
@@ -158,7 +160,8 @@ pub data ReadBoth {A B : Type 0} (Mine Theirs : Result (Vec A Global) Refusal �
 -- a level goes down, as both sides told of its nodes
 abbrev pub Descended : Level → List Node → List Node → Result Stage SyncFault → Type 0
 Descended level mine theirs result = MatchResult result
-    (λ stage. (after : Level) × GoesDown level mine theirs after × (stage ≡ Descends after)) (λ fault. fault ≡ Local Memory)
+    (λ stage. (after : Level) × GoesDown level mine theirs after × (stage ≡ Descends after))
+    (λ fault. fault ≡ Local Memory)
 
 -- the walk goes on with the pages that both told
 abbrev pub Walked : Exchanging → Walking → Exchanging → List ListingValue → List ListingValue → Result Stage SyncFault
@@ -174,7 +177,8 @@ Met number walk entries mine theirs result = MatchResult result
     × TurnBegins walk AtLocal meetings stage) (λ fault. fault ≡ Local Memory)
 
 -- the side told of its pushes
-pub record Pushed (walk : Walking) (turn : Turn) (told : Result (List (Result (Unit {0}) Refusal)) Refusal) (share : Share)
+pub record Pushed (walk : Walking) (turn : Turn) (told : Result (List (Result (Unit {0}) Refusal)) Refusal)
+    (share : Share)
     (stage : Stage) : Type 0 where
   pub answers : List (Result (Unit {0}) Refusal)
   pub is : told ≡ Ok answers
@@ -188,15 +192,16 @@ pub record Pushed (walk : Walking) (turn : Turn) (told : Result (List (Result (U
   pub window : IsWindow (untold after) count
   pub goes : stage ≡ Carries walk after count
 
--- Or why it did not: it told a refusal in place of them; they are not as many as were asked (33); one of them is a refusal
--- of more than its key, or memory was refused; or fewer were asked than were wanted (36)
+-- Or why it did not: it told a refusal in place of them; they are not as many as were asked (33); one of them is a
+-- refusal of more than its key, or memory was refused; or fewer were asked than were wanted (36)
 pub data IsUnheard (told : Result (List (Result (Unit {0}) Refusal)) Refusal) (share : Share)
     (refusal : Refusal) : Type 0 where
   refused : told ≡ Err refusal → IsUnheard told share refusal
   of_number : (answers : List (Result (Unit {0}) Refusal)) → told ≡ Ok answers → (length answers ≡ share.asked → ⊥)
       → refusal ≡ BadBody → IsUnheard told share refusal
   of_answer : (answers : List (Result (Unit {0}) Refusal)) → told ≡ Ok answers
-      → (refusal ≡ Memory) ⊎ (Contains answers (Err refusal) × (is_of_key refusal ≡ false)) → IsUnheard told share refusal
+      → (refusal ≡ Memory) ⊎ (Contains answers (Err refusal) × (is_of_key refusal ≡ false))
+      → IsUnheard told share refusal
   of_questions : share.asked < share.wanted → refusal ≡ TooManyRequests → IsUnheard told share refusal
 
 -- the turn of one side goes on; or it ends by the other, which was not asked, or by this one
@@ -218,7 +223,8 @@ share_of AtPeer shares = shares.peer
 
 pub data CarriedOn (walk : Walking) (turn : Turn) (share : Share) (told other : Option Told)
     (result : Result Stage SyncFault) : Type 0 where
-  goes : (stage : Stage) → unasked_told other ≡ Ok tt → Pushed walk turn (pushes_told told) share stage → result ≡ Ok stage
+  goes : (stage : Stage) → unasked_told other ≡ Ok tt → Pushed walk turn (pushes_told told) share stage
+      → result ≡ Ok stage
       → CarriedOn walk turn share told other result
   of_other : (refusal : Refusal) → unasked_told other ≡ Err refusal
       → result ≡ Err (fault_at (other_of turn.side) refusal) → CarriedOn walk turn share told other result
@@ -237,7 +243,8 @@ HearsAt work (Meets walk entries) shares answers work' result = (work' ≡ work)
     × ReadBoth (IsRead IsStateOf never (states_told answers.mine) shares.local)
     (IsRead IsStateOf never (states_told answers.theirs) shares.peer) (Met work.number walk entries.items) result
 HearsAt work (Carries walk turn count) shares answers work' result = (work' ≡ work)
-    × CarriedOn walk turn (share_of turn.side shares) (told_by_side turn.side answers) (told_by_side (other_of turn.side) answers) result
+    × CarriedOn walk turn (share_of turn.side shares) (told_by_side turn.side answers)
+    (told_by_side (other_of turn.side) answers) result
 HearsAt work Done shares answers work' result = ⊥
 HearsAt work (Failed fault) shares answers work' result = ⊥
 
@@ -256,7 +263,8 @@ pub record TakesShares (stage : Stage) (left : Questions) (left' : Questions) (s
 -- THE ANSWERS ARE TAKEN: nothing was asked, or it had failed; or the questions are spent, and it goes on or ends
 pub data StageHears (left : Questions) (work : Exchanging) (stage : Stage) (answers : Answers) (left' : Questions)
     (work' : Exchanging) (result : Result Stage SyncFault) : Type 0 where
-  quiet : (StageAsks stage → ⊥) → left' ≡ left → work' ≡ work → result ≡ stays stage (unasked_told answers.mine) (unasked_told answers.theirs)
+  quiet : (StageAsks stage → ⊥) → left' ≡ left → work' ≡ work
+      → result ≡ stays stage (unasked_told answers.mine) (unasked_told answers.theirs)
       → StageHears left work stage answers left' work' result
   hears : (shares : Shares) → StageAsks stage → TakesShares stage left left' shares
       → HearsAt work stage shares answers work' result → StageHears left work stage answers left' work' result

@@ -19,7 +19,8 @@ abbrev pub Page : Type 0
 Page = Vec PageEntry Global × Bool
 
 -- the answers as a list
-abbrev pub as_list : {A : Type 0} → Result (Vec (Result A Refusal) Global) Refusal → Result (List (Result A Refusal)) Refusal
+abbrev pub as_list : {A : Type 0} → Result (Vec (Result A Refusal) Global) Refusal
+    → Result (List (Result A Refusal)) Refusal
 as_list (Ok answers) = Ok answers.items
 as_list (Err refusal) = Err refusal
 
@@ -63,7 +64,8 @@ abbrev pub IsNoNode : Digests → Type 0
 IsNoNode digests = digests.children ≡ None
 
 abbrev pub IsListingOf : Page → ListingValue → Type 0
-IsListingOf page listing = (listing ≡ (page.0.items, page.1)) × IsPage None listing.0 listing.1 × (length listing.0 < 2 ^ 64)
+IsListingOf page listing =
+    (listing ≡ (page.0.items, page.1)) × IsPage None listing.0 listing.1 × (length listing.0 < 2 ^ 64)
 
 abbrev pub IsNoPage : Page → Type 0
 IsNoPage page = IsPage None page.0.items page.1 → ⊥

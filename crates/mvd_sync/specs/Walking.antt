@@ -67,7 +67,8 @@ pub record TakesNext (old : Bucket) (e : Entry) (new : Bucket) : Type 0 where
 pub data ClosesBucket (old new : Walking) : Type 0 where
   moves : (b : Bucket) (later : List Bucket) → old.later ≡ b ∷ later
       → new ≡ record { rest = old.rest; bucket = Some b; later = later; entry = None } → ClosesBucket old new
-  ends : old.later ≡ [] → new ≡ record { rest = old.rest; bucket = None; later = []; entry = None } → ClosesBucket old new
+  ends : old.later ≡ [] → new ≡ record { rest = old.rest; bucket = None; later = []; entry = None }
+      → ClosesBucket old new
 
 -- THE WALK GOES ON: the next key of the bucket is told, or waits for a page after it; or none is left
 pub data GoesTo (old : Walking) (found : Option Entry) (new : Walking) : Type 0 where
@@ -82,7 +83,8 @@ pub data GoesTo (old : Walking) (found : Option Entry) (new : Walking) : Type 0 
 
 -- the buckets whose first pages these are
 abbrev pub opened_buckets : List PageQuestion → (mine theirs : List ListingValue) → List Bucket
-opened_buckets (q ∷ asked) (m ∷ mine) (t ∷ theirs) = record { path = q.0; mine = m; theirs = t } ∷ opened_buckets asked mine theirs
+opened_buckets (q ∷ asked) (m ∷ mine) (t ∷ theirs) =
+    record { path = q.0; mine = m; theirs = t } ∷ opened_buckets asked mine theirs
 opened_buckets asked mine theirs = []
 
 -- a listing after the page that was told, if it was asked for

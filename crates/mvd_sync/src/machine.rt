@@ -160,8 +160,8 @@ impl Machine {
     }
 
     /// Takes what the sides told that were asked: an answer for each question, in order. The questions are taken from
-    /// those that are left for the side; if fewer were left than wanted, that is its 36. Answers of another kind, too few
-    /// or too many, or of which a faithful side gives none, are its 33. The session then has failed.
+    /// those that are left for the side; if fewer were left than wanted, that is its 36. Answers of another kind, too
+    /// few or too many, or of which a faithful side gives none, are its 33. The session then has failed.
     pub fn take(&mut self, mine: Option<Told>, theirs: Option<Told>) -> Result<(), SyncFault>
         ensures { TakesTold self.old mine theirs self.new result }
     {

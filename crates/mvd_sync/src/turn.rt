@@ -61,7 +61,8 @@ impl Turn {
         ensures same { IsSameTurn self.old self.new }
         ensures of_key { OnOk result (All IsOfKey answers.items) }
         ensures other { IfErr result
-            (λ refusal. (refusal ≡ Refusal.Memory) ⊎ (Contains answers.items (Err refusal) × (is_of_key refusal ≡ false))) }
+            (λ refusal. (refusal ≡ Refusal.Memory)
+            ⊎ (Contains answers.items (Err refusal) × (is_of_key refusal ≡ false))) }
     {
         add_told(&mut self.told, answers)
     }

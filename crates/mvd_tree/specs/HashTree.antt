@@ -1,5 +1,6 @@
 -- The hash tree of depth 3 over the digests of the keys that are held, after Merkle's, as replicas compare what they
--- hold by it (DeCandia et al., Dynamo: Amazon's Highly Available Key-value Store, 2007, section 4.7). SHA-256 is that of FIPS 180-4.
+-- hold by it (DeCandia et al., Dynamo: Amazon's Highly Available Key-value Store, 2007, section 4.7). SHA-256 is that
+-- of FIPS 180-4.
 use Rattle.std.specs.Prelude.{ℕ, zero, suc, ◌-◌, ◌/◌, ◌%◌, Bool, true, false, cond, ◌&&◌, ◌==◌, List, [], ◌∷◌, ◌++◌, length, flat_map, replicate, slice_index, nat_eq}
 use Rattle.std.specs.FinMap.{FinMap, entries, len, retain_keys}
 use Rattle.mvd_digest.specs.Sha256.{sha256}
@@ -11,7 +12,8 @@ KeyDigests = FinMap key_cmp (List ℕ)
 
 -- the path of a key in the tree: the first three hexadecimal digits of its SHA-256
 unfoldable pub path_of_key : List ℕ → List ℕ
-path_of_key key = slice_index (sha256 key) 0 / 16 ∷ slice_index (sha256 key) 0 % 16 ∷ slice_index (sha256 key) 1 / 16 ∷ []
+path_of_key key = slice_index (sha256 key) 0 / 16 ∷ slice_index (sha256 key) 0 % 16 ∷ slice_index (sha256 key) 1 / 16
+    ∷ []
 
 -- whether a path begins with the digits of a path
 abbrev pub begins : List ℕ → List ℕ → Bool
@@ -45,7 +47,8 @@ digest_unless_empty held text = cond (nat_eq (len held) 0) zero_digest (sha256 t
 -- the digest of the node at a path, so many levels above the buckets
 unfoldable pub digest_above : ℕ → KeyDigests → List ℕ → List ℕ
 digest_above zero held path = digest_unless_empty (under path held) (flat_map (λ e. e.1) (entries (under path held)))
-digest_above (suc levels) held path = digest_unless_empty (under path held) (flat_map (λ d. digest_above levels held (path ++ d ∷ [])) digits)
+digest_above (suc levels) held path =
+    digest_unless_empty (under path held) (flat_map (λ d. digest_above levels held (path ++ d ∷ [])) digits)
 
 -- what it hashes: the digests of its keys in rising order, or those of its children
 unfoldable pub text_above : ℕ → KeyDigests → List ℕ → List ℕ

@@ -20,7 +20,8 @@ pub record IsNodeText (held : KeyDigests) (text : List ℕ) : Type 0 where
 abbrev pub AreDigests : KeyDigests → Type 0
 AreDigests held = (key digest : List ℕ) → get held key ≡ Some digest → length digest ≡ 32
 
--- no two keys of the two maps share a digest, no two different texts of their nodes have one SHA-256, and none has zeros
+-- no two keys of the two maps share a digest, no two different texts of their nodes have one SHA-256, and none has
+-- zeros
 pub record AreToldApart (a b : KeyDigests) : Type 0 where
   pub left : AreDigests a
   pub right : AreDigests b
@@ -52,7 +53,8 @@ ChangeLeavesOtherNodes =
     → is_under path key ≡ false → node_digest (changed held key digest) path ≡ node_digest held path
 
 -- the text of a key that is held in a state
-pub record IsKeyText {S : Type 0} (spelled : List ℕ → S → List ℕ) (states : FinMap key_cmp S) (text : List ℕ) : Type 0 where
+pub record IsKeyText {S : Type 0} (spelled : List ℕ → S → List ℕ) (states : FinMap key_cmp S)
+    (text : List ℕ) : Type 0 where
   pub key : List ℕ
   pub state : S
   pub held : get states key ≡ Some state
@@ -61,7 +63,8 @@ pub record IsKeyText {S : Type 0} (spelled : List ℕ → S → List ℕ) (state
 -- a text that is hashed for the tree of one of the two maps
 abbrev pub IsHashed : {S : Type 0} → (List ℕ → S → List ℕ) → FinMap key_cmp S → FinMap key_cmp S → List ℕ → Type 0
 IsHashed spelled a b text =
-    (IsKeyText spelled a text ⊎ IsNodeText (digests_of spelled a) text) ⊎ (IsKeyText spelled b text ⊎ IsNodeText (digests_of spelled b) text)
+    (IsKeyText spelled a text ⊎ IsNodeText (digests_of spelled a) text)
+    ⊎ (IsKeyText spelled b text ⊎ IsNodeText (digests_of spelled b) text)
 
 -- the hash premise: no two different texts hashed for the two maps have one SHA-256, and none has zeros
 pub record HashesTellApart {S : Type 0} (spelled : List ℕ → S → List ℕ) (a b : FinMap key_cmp S) : Type 0 where
@@ -70,7 +73,8 @@ pub record HashesTellApart {S : Type 0} (spelled : List ℕ → S → List ℕ) 
 
 -- two keys that are held in the two maps are spelled alike only where they are one key in one state
 abbrev pub HaveOneText : {S : Type 0} → (List ℕ → S → List ℕ) → FinMap key_cmp S → FinMap key_cmp S → Type 0
-HaveOneText {S} spelled a b = (k l : List ℕ) (s t : S) → get a k ≡ Some s → get b l ≡ Some t → spelled k s ≡ spelled l t → (k ≡ l) × (s ≡ t)
+HaveOneText {S} spelled a b = (k l : List ℕ) (s t : S) → get a k ≡ Some s → get b l ≡ Some t → spelled k s ≡ spelled l t
+    → (k ≡ l) × (s ≡ t)
 
 -- nodes of one path with one digest hold the same keys in the same states
 abbrev pub EqualNodesHoldEqualStates : {S : Type 0} → (List ℕ → S → List ℕ) → Type 0

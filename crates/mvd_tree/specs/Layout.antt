@@ -30,7 +30,8 @@ gathered buckets = from_entries (flat_map entries buckets)
 
 -- each bucket holds only keys whose path it is
 abbrev pub AreApart : List KeyDigests → Type 0
-AreApart buckets = (number : ℕ) (key : List ℕ) → bucket_of key ≢ number → get (slice_index_or buckets number empty) key ≡ None
+AreApart buckets = (number : ℕ) (key : List ℕ) → bucket_of key ≢ number
+    → get (slice_index_or buckets number empty) key ≡ None
 
 -- they hold just these keys, each in its bucket
 pub record HoldApart (buckets : List KeyDigests) (held : KeyDigests) : Type 0 where
@@ -44,12 +45,14 @@ pub record AreOver (nodes : List (Option (List ℕ))) (count : ℕ) (above : Lis
   pub each : (n : ℕ) → n < count → slice_index_or above n None ≡ kept_inner (slice_range nodes (n * 16) (n * 16 + 16))
 
 -- these are what is kept of so many nodes, which are so many levels above the buckets
-pub record KeepsLevel (levels : ℕ) (path_of : ℕ → List ℕ) (count : ℕ) (held : KeyDigests) (nodes : List (Option (List ℕ))) : Type 0 where
+pub record KeepsLevel (levels : ℕ) (path_of : ℕ → List ℕ) (count : ℕ) (held : KeyDigests)
+    (nodes : List (Option (List ℕ))) : Type 0 where
   pub all : length nodes ≡ count
   pub each : (n : ℕ) → n < count → slice_index_or nodes n None ≡ kept_node levels held (path_of n)
 
 -- the buckets, and what is kept of all nodes over them
-pub record KeepsTree (buckets : List KeyDigests) (lowest middle upper : List (Option (List ℕ))) (root : Option (List ℕ)) : Type 0 where
+pub record KeepsTree (buckets : List KeyDigests) (lowest middle upper : List (Option (List ℕ)))
+    (root : Option (List ℕ)) : Type 0 where
   pub all : length buckets ≡ 4096
   pub apart : AreApart buckets
   pub keeps_lowest : KeepsLevel 0 path_of_three 4096 (gathered buckets) lowest

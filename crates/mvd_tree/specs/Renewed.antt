@@ -27,7 +27,8 @@ pub record AreQuotients (numbers : List ℕ) (by : ℕ) (found : List ℕ) : Typ
   pub once : IsDistinct nat_eq found
   pub same : (q : ℕ) → is_member nat_eq found q ≡ is_member nat_eq (map (λ n. n / by) numbers) q
 
--- nodes once each that stands over one of the keys was set to what is told of its number, and once; and the computations of those
+-- nodes once each that stands over one of the keys was set to what is told of its number, and once; and the
+-- computations of those
 pub record Renews
     (told : ℕ → Option (List ℕ)) (bytes : List ℕ → ℕ) (by : ℕ) (changes : Changes) (old new : List (Option (List ℕ)))
     (before after : Hashed) : Type 0 where

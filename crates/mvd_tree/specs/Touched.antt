@@ -36,11 +36,12 @@ abbrev pub changed_bytes : Changes → ℕ
 changed_bytes changes = sum_by (λ c. length c.0) changes
 
 -- What a call does that is to change all these keys: it does, or memory is refused, which is `Broken`, and some of the
--- first are changed, and not all. It computes the digest of each bucket and that of each node above once. These read the
--- digests of the keys in the buckets, and at most sixteen digests of each node
+-- first are changed, and not all. It computes the digest of each bucket and that of each node above once. These read
+-- the digests of the keys in the buckets, and at most sixteen digests of each node
 pub record ChangesAll
     (changes : Changes) (old new : KeyDigests) (result : Result ⊤ Refusal) (before after : Hashed) : Type 0 where
   pub ok : OnOk result (new ≡ changed_all old changes)
-  pub err : IfErr result (λ refusal. (refusal ≡ Broken) × ((n : ℕ) × (n < length changes) × (new ≡ changed_all old (take n changes))))
+  pub err : IfErr result
+      (λ refusal. (refusal ≡ Broken) × ((n : ℕ) × (n < length changes) × (new ≡ changed_all old (take n changes))))
   pub hashes : Hashes (count_touched 0 changes + inner_touched changes)
       (32 * keys_touched new changes + 512 * inner_touched changes) before after

@@ -68,8 +68,8 @@ HasHosts parts count = length (get_all parts.headers (codes "host")) ≡ count
 abbrev pub NamesHost : Parts → Type 0
 NamesHost parts = HasHosts parts 1 ⊎ (HasHosts parts 0 × (parts.version ≡ HTTP_10))
 
--- what the request asks, the token that it shows, whether it names one host, whether it comes of this server's own page or of none, and
--- whether its response has no body
+-- what the request asks, the token that it shows, whether it names one host, whether it comes of this server's own page
+-- or of none, and whether its response has no body
 pub record IsAskedBy (request : Request (List ℕ)) (asked : Asked) : Type 0 where
   pub question : IsQuestion (head_of request).method (target_of (head_of request))
       (header_in (codes "mvd-context") (head_of request).headers) (body_of request) asked.question ⊎ HasLost asked
@@ -78,7 +78,8 @@ pub record IsAskedBy (request : Request (List ℕ)) (asked : Asked) : Type 0 whe
   pub own : asked.is_own ≡ is_own (host_of (head_of request)) (header_in (codes "origin") (head_of request).headers)
   pub head : asked.is_head ≡ bytes_eq (head_of request).method (codes "HEAD")
 
--- The desk kept nothing, and keeps what the request asks. Its own response is plain: the kit's connection is not closed for it.
+-- The desk kept nothing, and keeps what the request asks. Its own response is plain: the kit's connection is not closed
+-- for it.
 pub record KeepsAsked (old : Desk) (request : Request (List ℕ)) (response : Response) (new : Desk) : Type 0 where
   pub none : old.asked ≡ None
   pub asked : Asked

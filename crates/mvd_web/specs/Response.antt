@@ -17,14 +17,16 @@ persistence false = (codes "connection", codes "keep-alive")
 
 -- the fields that frame a body whose length has these digits; a 204 has no body, and says no length
 abbrev pub framing_fields : ℕ → List ℕ → Bool → List Header
-framing_fields status digits is_last = persistence is_last ∷ (if status == 204 then [] else (codes "content-length", digits) ∷ [])
+framing_fields status digits is_last =
+    persistence is_last ∷ (if status == 204 then [] else (codes "content-length", digits) ∷ [])
 
 abbrev pub framing_of : ℕ → ℕ → Bool → List Header
 framing_of status length is_last = framing_fields status (decimal length) is_last
 
 abbrev pub head_bytes : Answer → ℕ → Bool → List ℕ
 head_bytes answer length is_last =
-    response_text 1 answer.status (reason_of answer.status) (fields_for answer ++ framing_of answer.status length is_last)
+    response_text 1 answer.status (reason_of answer.status)
+    (fields_for answer ++ framing_of answer.status length is_last)
 
 abbrev pub body_sent : Bool → List ℕ → List ℕ
 body_sent true body = []

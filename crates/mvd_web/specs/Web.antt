@@ -18,8 +18,8 @@ use Rattle.mvd_web.specs.Response.{fault_bytes, response_bytes}
 use Rattle.mvd_web.specs.declared.taken.Asked.{Asked}
 use Rattle.mvd_web.specs.declared.response.Manner.{Manner}
 
--- the limits of what is read, what was read so far, the request that waits for its answer, the bytes that wait to leave, whether
--- all that came was looked at, and why nothing more is done
+-- the limits of what is read, what was read so far, the request that waits for its answer, the bytes that wait to
+-- leave, whether all that came was looked at, and why nothing more is done
 pub record WebValue : Type 0 where
   pub config : Config
   pub heard : History
@@ -85,7 +85,8 @@ heard_more h bytes = record h { received = h.received ++ bytes; unread = h.unrea
 abbrev pub web_fed : WebValue → List ℕ → WebValue
 web_fed w bytes = record w { heard = heard_more w.heard bytes; rests = false }
 
--- all bytes came, unless the input was at its end; or those of a front, and the connection is stopped for want of memory
+-- all bytes came, unless the input was at its end; or those of a front, and the connection is stopped for want of
+-- memory
 abbrev pub FeedsFront : WebValue → List ℕ → List ℕ → WebValue → Type 0
 FeedsFront old front rest new =
     ((new ≡ web_fed old front) × (old.heard.ended ≡ false → rest ≡ [])) ⊎ (new ≡ stopped_by (web_fed old front) Memory)
@@ -108,8 +109,9 @@ pub record NothingCame (old new : WebValue) : Type 0 where
   pub received : new.heard.received ≡ old.heard.received
   pub ended : new.heard.ended ≡ old.heard.ended
 
--- One more request was read, and this is what it asks. Nothing was queued: its response is not known yet. What the kit's connection
--- had to say in its place is a plain response, which closes nothing, and of that no byte is left to be queued.
+-- One more request was read, and this is what it asks. Nothing was queued: its response is not known yet. What the
+-- kit's connection had to say in its place is a plain response, which closes nothing, and of that no byte is left to be
+-- queued.
 pub record TakesOne (old new : WebValue) : Type 0 where
   pub call : Call
   pub calls : new.heard.calls ≡ old.heard.calls ++ call ∷ []
@@ -127,7 +129,8 @@ abbrev pub MayRest : List ℕ → WebValue → Type 0
 MayRest [] new = IsTrue new.rests × Rests new.config new.heard
 MayRest (b ∷ bs) new = new.rests ≡ false
 
--- What is said for what the kit's connection handed out: just that, but for a request that it refuses the fault, with its body.
+-- What is said for what the kit's connection handed out: just that, but for a request that it refuses the fault, with
+-- its body.
 abbrev pub said_of : Option Fault → List ℕ → List ℕ
 said_of None told = told
 said_of (Some fault) [] = []
@@ -136,7 +139,8 @@ said_of (Some fault) (b ∷ bs) = fault_bytes fault
 abbrev pub web_said : WebValue → List ℕ → List ℕ
 web_said w told = said_of (fault_in w.heard.state) told
 
--- all that was to be said is queued; or the connection is stopped for want of memory, and what was handed out is queued, or nothing
+-- all that was to be said is queued; or the connection is stopped for want of memory, and what was handed out is
+-- queued, or nothing
 abbrev pub TellsAll : WebValue → List ℕ → List ℕ → WebValue → Type 0
 TellsAll old told queued new =
     ((new.stopped ≡ old.stopped) × (new.heard.pending ≡ []) × MayRest told new × (queued ≡ web_said new told))

@@ -1,5 +1,6 @@
--- Codecs of values, of which this project's own format (docs/FORMATS.md) is made: how a value is spelled, which values have a spelling, and what is read at the front of a
--- list of bytes, with the refusal that the first fault from the left has.
+-- Codecs of values, of which this project's own format (docs/FORMATS.md) is made: how a value is spelled, which values
+-- have a spelling, and what is read at the front of a list of bytes, with the refusal that the first fault from the
+-- left has.
 use Rattle.std.specs.Prelude.{◌≡◌, ◌≢◌, ℕ, zero, suc, ◌*◌, ◌^◌, ◌<◌, Bool, IsTrue, nat_lt, nat_le, ◌==◌, if◌then◌else◌, List, [], ◌∷◌, ◌++◌, length, take, drop, Option, Some, None, IfSome, Result, Ok, Err, MatchResult}
 use Rattle.std.specs.Int.{Width, byte_len, from_be_bytes, to_be_bytes}
 use Rattle.mvd_dots.specs.declared.refusals.Refusal.{Refusal}
@@ -37,7 +38,8 @@ unfoldable pub number : Width → Codec ℕ
 number w = record {
   spell = to_be_bytes w;
   Fits = λ n. n < 2 ^ (8 * byte_len w);
-  read = λ bytes. if nat_lt (length bytes) (byte_len w) then Err BadBody else Ok (from_be_bytes w (take (byte_len w) bytes), drop (byte_len w) bytes);
+  read = λ bytes. if nat_lt (length bytes) (byte_len w) then Err BadBody
+      else Ok (from_be_bytes w (take (byte_len w) bytes), drop (byte_len w) bytes);
 }
 
 -- n bytes as they stand
@@ -144,7 +146,8 @@ Spells kind x bytes = kind.Fits x × (bytes ≡ kind.spell x)
 
 -- Each value has one spelling, no two values have the same, and none begins another.
 abbrev pub IsPrefixFree : {X : Type 0} → Codec X → Type 0
-IsPrefixFree {X} kind = (x y : X) (a b : List ℕ) → kind.Fits x → kind.Fits y → kind.spell x ++ a ≡ kind.spell y ++ b → (x ≡ y) × (a ≡ b)
+IsPrefixFree {X} kind = (x y : X) (a b : List ℕ) → kind.Fits x → kind.Fits y → kind.spell x ++ a ≡ kind.spell y ++ b
+    → (x ≡ y) × (a ≡ b)
 
 -- the spelling, where it is no longer than the limit
 abbrev pub spelled_within : {X : Type 0} → Refusal → ℕ → Codec X → X → Result (List ℕ) Refusal
@@ -159,9 +162,13 @@ nothing = record {
 }
 
 -- the values of a kind byte, and otherwise those of other kind bytes
-abbrev pub tagged : {X Y : Type 0} → ℕ → Codec X → (X → Y) → (ℕ → List ℕ → Result Y Refusal) → ℕ → List ℕ → Result Y Refusal
-tagged tag kind made otherwise byte' payload = if byte' == tag then (whole kind payload >>= λ x. Ok (made x)) else otherwise byte' payload
+abbrev pub tagged : {X Y : Type 0} → ℕ → Codec X → (X → Y) → (ℕ → List ℕ → Result Y Refusal) → ℕ → List ℕ
+    → Result Y Refusal
+tagged tag kind made otherwise byte' payload = if byte' == tag then (whole kind payload >>= λ x. Ok (made x))
+    else otherwise byte' payload
 
 -- the values behind a tag, and otherwise those behind other tags
-abbrev pub variant : {X Y : Type 0} → ℕ → Codec X → (X → Y) → (ℕ → List ℕ → Result (Y × List ℕ) Refusal) → ℕ → List ℕ → Result (Y × List ℕ) Refusal
-variant tag kind made otherwise byte' rest = if byte' == tag then (kind.read rest >>= λ x. Ok (made x.0, x.1)) else otherwise byte' rest
+abbrev pub variant : {X Y : Type 0} → ℕ → Codec X → (X → Y) → (ℕ → List ℕ → Result (Y × List ℕ) Refusal) → ℕ → List ℕ
+    → Result (Y × List ℕ) Refusal
+variant tag kind made otherwise byte' rest = if byte' == tag then (kind.read rest >>= λ x. Ok (made x.0, x.1))
+    else otherwise byte' rest

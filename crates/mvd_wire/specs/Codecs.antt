@@ -131,7 +131,8 @@ unfoldable pub siblings_codec : Layout → DotSet → Codec (List (DotValue × T
 siblings_codec v dots = with_count (sibling v dots) (λ _ s. Some s.0) (number w16) None
 
 unfoldable pub unlimited_state : Layout → Codec State
-unlimited_state v = named (λ s. (s.context, pairs s.siblings)) (λ p. record { siblings = from_entries p.1; context = p.0 }) (followed
+unlimited_state v =
+    named (λ s. (s.context, pairs s.siblings)) (λ p. record { siblings = from_entries p.1; context = p.0 }) (followed
     (context_codec v) (λ dots.
     siblings_codec v dots))
 
@@ -153,7 +154,9 @@ pub record IsInForm (s : State) : Type 0 where
 -- ---- the spelling alone, which does not depend on what came before
 
 abbrev pub spell_entry : EntryValue → List ℕ
-spell_entry e = (number w32).spell e.site ++ ((number w64).spell e.base ++ ((number w32).spell (length e.loose) ++ flat_map (number w64).spell e.loose))
+spell_entry e =
+    (number w32).spell e.site
+    ++ ((number w64).spell e.base ++ ((number w32).spell (length e.loose) ++ flat_map (number w64).spell e.loose))
 
 abbrev pub spell_sibling : DotValue × Text → List ℕ
 spell_sibling s = (dot layout2).spell s.0 ++ document.spell s.1

@@ -13,7 +13,8 @@ AppendsFront old new frame = (n : ℕ) × Appends old new (take n frame)
 
 -- A function that reads gave what the bytes that the reader has left say, and left the bytes after it, unless
 -- memory ran out or the reader failed. Of a reader whose bytes are not known nothing is said.
-abbrev pub Reads : {X Y : Type 0} → (X → Y) → Option (List ℕ) → Option (List ℕ) → Result X Refusal → (List ℕ → Result (Y × List ℕ) Refusal) → Type 0
+abbrev pub Reads : {X Y : Type 0} → (X → Y) → Option (List ℕ) → Option (List ℕ) → Result X Refusal
+    → (List ℕ → Result (Y × List ℕ) Refusal) → Type 0
 Reads view old new result read = (bytes : List ℕ) → old ≡ Some bytes →
     MatchResult result
     (λ x. (rest : List ℕ) × (new ≡ Some rest) × (read bytes ≡ Ok (view x, rest)))
@@ -43,7 +44,11 @@ unfoldable pub length_at : List ℕ → Result (Option ℕ × List ℕ) Refusal
 length_at bytes =
     if length bytes == 0 then Ok (None, []) else
     (if nat_lt (length bytes) 4 then Err Truncated else
-    (if nat_le 1 (from_be_bytes w32 (take 4 bytes)) && nat_le (from_be_bytes w32 (take 4 bytes)) frame_limit then Ok (Some (from_be_bytes w32 (take 4 bytes)), drop 4 bytes) else Err FrameTooLong))
+    (if nat_le 1 (from_be_bytes w32 (take 4 bytes))
+    && nat_le (from_be_bytes w32 (take 4 bytes)) frame_limit then Ok (
+      Some (from_be_bytes w32 (take 4 bytes)),
+      drop 4 bytes,
+    ) else Err FrameTooLong))
 
 -- the kind and the payload, n bytes together
 unfoldable pub body_at : ℕ → List ℕ → Result (FrameValue × List ℕ) Refusal

@@ -13,7 +13,10 @@ use Rattle.mvd_wire.specs.Frames.{spell_frame}
 use Rattle.mvd_wire.specs.Requests.{framed, within_limit}
 
 abbrev pub refusals : List Refusal
-refusals = BadKey ∷ BadContext ∷ BadDocument ∷ NotObject ∷ BadNumber ∷ DocumentTooLong ∷ NotCanonical ∷ Exhausted ∷ StateTooLarge ∷ Full ∷ DotClash ∷ NoIndex ∷ NoView ∷ BadPath ∷ BadTerm ∷ SiteMismatch ∷ Damaged ∷ Memory ∷ Store ∷ Broken ∷ Truncated ∷ FrameTooLong ∷ BadKind ∷ BadBody ∷ ReadFailed ∷ WriteFailed ∷ TooManyRequests ∷ BadDefs ∷ NotAdmitted ∷ []
+refusals = BadKey ∷ BadContext ∷ BadDocument ∷ NotObject ∷ BadNumber ∷ DocumentTooLong ∷ NotCanonical ∷ Exhausted
+    ∷ StateTooLarge ∷ Full ∷ DotClash ∷ NoIndex ∷ NoView ∷ BadPath ∷ BadTerm ∷ SiteMismatch ∷ Damaged ∷ Memory ∷ Store
+    ∷ Broken ∷ Truncated ∷ FrameTooLong ∷ BadKind ∷ BadBody ∷ ReadFailed ∷ WriteFailed ∷ TooManyRequests ∷ BadDefs
+    ∷ NotAdmitted ∷ []
 
 -- the refusal with this number
 unfoldable pub numbered : ℕ → Option Refusal

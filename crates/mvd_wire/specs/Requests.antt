@@ -115,7 +115,9 @@ SpellsRequest r kind payload = IsRequest r × (kind ≡ request_kind r) × (payl
 
 -- the frame of a kind byte and a payload, where it is not too long
 abbrev pub framed : ℕ → List ℕ → Result (List ℕ) Refusal
-framed kind payload = if nat_le (length payload + 1) frame_limit then Ok (spell_frame (record { kind = kind; payload = payload })) else Err FrameTooLong
+framed kind payload =
+    if nat_le (length payload + 1) frame_limit then Ok (spell_frame (record { kind = kind; payload = payload }))
+    else Err FrameTooLong
 
 -- a frame that is being written, with a place for its length
 abbrev pub unmeasured : ℕ → List ℕ → List ℕ

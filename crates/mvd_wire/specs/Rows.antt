@@ -84,23 +84,29 @@ unfoldable pub spot_codec : Codec (List ℕ × DotValue)
 spot_codec = followed key (λ _. dot layout2)
 
 unfoldable pub place : Codec Place
-place = named (λ p. (p.term, (p.key, p.dot))) (λ p. record { term = p.0; key = p.1.0; dot = p.1.1 }) (followed term (λ _. spot_codec))
+place = named (λ p. (p.term, (p.key, p.dot))) (λ p. record { term = p.0; key = p.1.0; dot = p.1.1 })
+    (followed term (λ _. spot_codec))
 
 -- ---- rows of a view
 
 -- a sum, as the upper and the lower eight bytes of its two's complement
 unfoldable pub sum : Codec ℤ
-sum = named_where (FitsSigned w128) (λ z. (cast_unsigned w128 z / 2 ^ 64, cast_unsigned w128 z % 2 ^ 64)) (λ p. cast_signed w128 (p.0 * 2 ^ 64 + p.1)) (followed (number w64) (λ _. number w64))
+sum = named_where (FitsSigned w128) (λ z. (cast_unsigned w128 z / 2 ^ 64, cast_unsigned w128 z % 2 ^ 64))
+    (λ p. cast_signed w128 (p.0 * 2 ^ 64 + p.1)) (followed (number w64) (λ _. number w64))
 
 unfoldable pub ends : Codec (Option (ℤ × ℤ))
 ends = optional (followed whole_number (λ _. whole_number))
 
 -- how many, their sum, and the ends
 unfoldable pub row_codec : Codec RowValue
-row_codec = named (λ r. (r.count, (r.sum, r.ends))) (λ p. record { count = p.0; sum = p.1.0; ends = p.1.1 }) (followed (number w64) (λ _. followed sum (λ _. ends)))
+row_codec =
+    named (λ r. (r.count, (r.sum, r.ends))) (λ p. record { count = p.0; sum = p.1.0; ends = p.1.1 })
+    (followed (number w64) (λ _. followed sum (λ _. ends)))
 
 unfoldable pub view_row : Codec (Term × ℕ × ℤ × Option (ℤ × ℤ))
-view_row = named (λ r. (r.0, record { count = r.1; sum = r.2; ends = r.3 })) (λ p. (p.0, p.1.count, p.1.sum, p.1.ends)) (followed term (λ _. row_codec))
+view_row =
+    named (λ r. (r.0, record { count = r.1; sum = r.2; ends = r.3 })) (λ p. (p.0, p.1.count, p.1.sum, p.1.ends))
+    (followed term (λ _. row_codec))
 
 -- ---- digests
 
@@ -131,7 +137,8 @@ children = named_where (λ c. MatchOption c ⊤ (λ ds. length ds ≡ 16)) list_
     (with_count (item_of digest) (λ s _. s) (checked BadBody (λ n. n == 0 || n == 16) byte) tt)
 
 unfoldable pub digests_codec : Codec Digests
-digests_codec = named (λ d. (d.own, d.children)) (λ p. record { own = p.0; children = p.1 }) (followed digest (λ _. children))
+digests_codec =
+    named (λ d. (d.own, d.children)) (λ p. record { own = p.0; children = p.1 }) (followed digest (λ _. children))
 
 -- ---- lists of a reply: whether more follow, at most 1,000 items, and the items
 

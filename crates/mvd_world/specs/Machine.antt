@@ -246,7 +246,8 @@ pub record MeetSites (setting : Setting) (before : Knowledge) (local peer : ℕ)
 
 -- a step that may be, with its outcome
 abbrev pub Takes : Setting → Knowledge → Step → Outcome → Knowledge → Type 0
-Takes setting before (Written_at site request) (Replied reply) after = AnswersAtSite setting before site request reply after
+Takes setting before (Written_at site request) (Replied reply) after =
+    AnswersAtSite setting before site request reply after
 Takes setting before (Ask site request) (Replied reply) after = AnswersAtSite setting before site request reply after
 Takes setting before (Send site key) (Sent_as number) after = Sends before site key number after
 Takes setting before (Send site key) (Replied reply) after = SendsNot before site reply after

@@ -19,8 +19,8 @@ const NO_PLACE_WEB: &[u8] =
     b"HTTP/1.1 503 Service Unavailable\r\nretry-after: 1\r\ncontent-type: application/json\r\ncache-control: no-store\r\nconnection: close\r\ncontent-length: 39\r\n\r\n{\"refused\":36,\"name\":\"TooManyRequests\"}";
 
 impl Crowd {
-    /// Takes a client in. Where the system or memory refuses that, it ends at once; where all places are taken, it is told
-    /// so.
+    /// Takes a client in. Where the system or memory refuses that, it ends at once; where all places are taken, it is
+    /// told so.
     pub fn admit<K: Sockets>(
         &mut self,
         registry: &Registry,

@@ -1,5 +1,5 @@
 -- Whatever a command does with a stored site keeps the writes known, and its records follow.
-use Rattle.std.proofs.Common.{List, [], ◌∷◌, subst, sym}
+use Rattle.std.proofs.Common.{List, ℕ, Option, [], ◌∷◌, subst, sym}
 use Rattle.mvd_app.proofs.Following.{follows}
 use Rattle.mvd_client.specs.Synced.{FollowsPushed}
 use Rattle.mvd_replica.proofs.Keeping.{keeps_on, keeps_self, pushes_keep, turns_keep}
@@ -11,6 +11,7 @@ use Rattle.mvd_replica.specs.declared.replica.Replica.{Replica}
 use Rattle.mvd_shell.specs.Asked.{Exchange}
 use Rattle.mvd_shell.specs.Talk.{AnswersExchanges, AsksInTurn}
 use Rattle.mvd_server.specs.Rounds.{IsServed}
+use Rattle.mvd_server.specs.declared.sockets.Sockets.{Ghosts as SocketGhosts}
 use Rattle.sqlite_trees.specs.declared.store.Store.{Ghosts}
 
 module _ {S : Type 0} {g : Ghosts S} where
@@ -44,11 +45,11 @@ module _ {S : Type 0} {g : Ghosts S} where
   }
 
   -- a server
-  pub served_works : (old new : Replica S g) → IsServed old new → WorksOn (stored_of old) (stored_of new)
+  pub served_works : {K : Type 0} {k : SocketGhosts K} {token : Option (List ℕ)} {sockets sockets' : K} (old new : Replica S g) → IsServed k token sockets old sockets' new → WorksOn (stored_of old) (stored_of new)
   served_works old new it = record {
-    config = it.serves.config;
-    keeps = turns_keep _ (site_of old) (site_of new) it.serves.stands it.serves.choice;
-    sound = it.serves.follows.sound;
-    holds = it.serves.follows.holds;
-    stored = λ sound held whole broken. let more = it.serves.follows.stored sound held whole broken in (lost_requests more.lost, more.holds);
+    config = it.list.serves.config;
+    keeps = turns_keep _ (site_of old) (site_of new) it.list.serves.stands it.list.serves.choice;
+    sound = it.list.serves.follows.sound;
+    holds = it.list.serves.follows.holds;
+    stored = λ sound held whole broken. let more = it.list.serves.follows.stored sound held whole broken in (lost_requests more.lost, more.holds);
   }

@@ -26,7 +26,7 @@ use mvd_input::{DEFS_MAX, Fault, Order, Peers, Setup, read_defs, read_input};
 use mvd_replica::Replica;
 use mvd_rows::Defs;
 use mvd_script::sim;
-use mvd_server::Terms;
+use mvd_server::{Direct, Terms};
 use mvd_site::Config;
 use mvd_wire::Token;
 use sqlite::{Alter, FileFrom, FileStore, Start};
@@ -244,7 +244,8 @@ fn work_on<'a, S: Alter + Drop, D: Dial>(
     match work {
         Work::Serve(address, terms, peers) => {
             let terms = Terms { token, ..terms };
-            serve_stored(rt, replica, address, terms, peers, &mut writer)
+            let mut sockets = Direct {};
+            serve_stored(rt, &mut sockets, replica, address, terms, peers, &mut writer)
         }
         Work::Shell => typed(rt, replica),
         Work::Sync(address, idle, verbose) => {

@@ -1,5 +1,6 @@
 //! A stored site, served, and the servers that it meets.
 ghost use Rattle.std.specs.Option.{ForSome};
+ghost use Rattle.std.specs.Prelude.{option_copied};
 ghost use Rattle.mvd_input.specs.Orders.{ArePeers};
 ghost use Rattle.mvd_server.specs.Rounds.{IsServed};
 
@@ -7,15 +8,16 @@ use mvd_dots::Refusal;
 use mvd_hint::Stop;
 use mvd_input::{Peers, addresses_of};
 use mvd_replica::Replica;
-use mvd_server::{Terms, serve_run};
+use mvd_server::{Sockets, Terms, serve_run};
 use sqlite::Alter;
 use std::io::Write;
 use std::net::SocketAddr;
 
 /// Serves a stored site at an address, and meets the peers meanwhile, if there are any.
 #[tactic(auto, using(mvd_server::proofs::Rounds::served_none))]
-pub(crate) fn serve_stored<'a, S: Alter + Drop, W: Write>(
+pub(crate) fn serve_stored<'a, K: Sockets, S: Alter + Drop, W: Write>(
     rt: &HostRuntime,
+    sockets: &mut K,
     replica: &mut Replica<S>,
     address: SocketAddr,
     terms: Terms<'_>,
@@ -23,11 +25,20 @@ pub(crate) fn serve_stored<'a, S: Alter + Drop, W: Write>(
     writer: &mut W,
 ) -> Result<(), Stop<'a>>
     requires { ForSome peers ArePeers }
-    ensures { IsServed replica.old replica.new }
+    ensures { IsServed K.Sockets (option_copied terms.entry.token) sockets.old replica.old sockets.new replica.new }
 {
     let mut errors = rt.stderr();
     let Some(peers) = peers else {
-        return serve_run(rt, rt.alloc(), replica, address, terms, writer, &mut errors);
+        return serve_run(
+            rt,
+            rt.alloc(),
+            sockets,
+            replica,
+            address,
+            terms,
+            writer,
+            &mut errors,
+        );
     };
     let Ok(addresses) = addresses_of(rt.alloc(), address.ip(), peers.list) else {
         return Err(Stop::from(Refusal::Memory));
@@ -37,5 +48,14 @@ pub(crate) fn serve_stored<'a, S: Alter + Drop, W: Write>(
         every: peers.every,
         ..terms
     };
-    serve_run(rt, rt.alloc(), replica, address, terms, writer, &mut errors)
+    serve_run(
+        rt,
+        rt.alloc(),
+        sockets,
+        replica,
+        address,
+        terms,
+        writer,
+        &mut errors,
+    )
 }

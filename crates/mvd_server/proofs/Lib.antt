@@ -1,12 +1,17 @@
 pub mod Answering
 pub mod Clients
+pub mod Deeds
 pub mod Failing
 pub mod Fronting
 pub mod Handing
 pub mod Hearing
+pub mod Keyed
 pub mod Moving
+pub mod Paths
 pub mod Placing
 pub mod Rounds
+pub mod Showing
 pub mod Sinces
 pub mod Swapping
 pub mod Waking
+pub mod Wiring

@@ -1,83 +1,240 @@
--- Rounds one after the other.
-use Rattle.std.proofs.Common.{◌≡◌, ◌∙◌, ℕ, List, [], ◌∷◌, ◌++◌, ap, append_assoc, refl, sym, subst}
-use Rattle.std.proofs.lemmas.List.{append-nil, map-append}
-use Rattle.std.specs.List.{flat_map}
-use Rattle.mvd_host.proofs.Serving.{serves_none, serves_on}
-use Rattle.mvd_host.specs.Hosts.{HostValue}
-use Rattle.mvd_host.specs.Round.{Round, Serves, host_side, turns_of}
-use Rattle.mvd_replica.specs.Replicas.{conn_of, site_of, store_of, stored_of}
+-- One host, from its first client on.
+use Rattle.std.proofs.Common.{◌≡◌, ◌∙◌, ◌⊎◌, ℕ, Bool, List, [], ◌∷◌, ◌++◌, Option, None, Some, length, min, inl, inr, ap, refl, sym, subst}
+use Rattle.mvd_conn.specs.declared.ending.Source.TheVariants as source
+use Rattle.mvd_conn.specs.declared.guard.Guard.{Guard}
+use Rattle.mvd_conn.specs.History.{History, closed, fed, released, sent}
+use Rattle.mvd_dots.specs.declared.refusals.Refusal.TheVariants.{Memory}
+use Rattle.mvd_host.proofs.Runs.{has_shown, one_list}
+use Rattle.mvd_host.specs.Hosts.{HostValue, altered, client_of, new_host}
+use Rattle.mvd_host.specs.Course.{own}
+use Rattle.mvd_host.specs.Round.{Round, Side, host_side}
+use Rattle.mvd_host.specs.Runs.{Calls as Called, Closes, Comes as Came, Feeds, Goes as Gone, Happening, HasShown, HostMoment, OneList, Releases, Rounds, Runs, Sends, TellsOwn, after_call, after_one, after_run, side_at, turns_in}
+use Rattle.mvd_replica.specs.Replicas.{conn_of, site_of}
 use Rattle.mvd_replica.specs.Turns.{Turn}
 use Rattle.mvd_replica.specs.declared.replica.Replica.{Replica}
-use Rattle.mvd_server.specs.Rounds.{AreRounds, HasRound, IsRound, IsServed}
+use Rattle.mvd_server.proofs.Paths.{path_map, path_none, path_on, path_one, path_same}
+use Rattle.mvd_server.proofs.Deeds.{carries_deeds}
+use Rattle.mvd_server.proofs.Showing.{AreGuarded, guarded_deed, guarded_in, guarded_new, guarded_out, guarded_round, kept_deed, kept_in, kept_out}
+use Rattle.mvd_server.specs.Guarded.{IsGuardOf}
+use Rattle.mvd_server.specs.OwnSides.{TakesBytes, sent_of, waits_of}
+use Rattle.mvd_server.specs.Paths.{IsPath, Path}
+use Rattle.mvd_server.specs.Rounds.{AnswersClients, BeginsServing, Between, GoesOn, HasRound, InRound, IsServed, ServeStep, Serving, ServingStep, World, begun, host_in, moment_of, world_of}
+use Rattle.mvd_server.specs.Talking.{Calls, Comes, ComesByWeb, ComesOwn, Deed, Deeds, Goes, GoesByWeb, GoesOwn, IsMadeFor, TalksDeeds, Talking, Turns, TurnsBack, new_talking, talking_of, web_in, with_host}
+use Rattle.mvd_server.specs.Wires.{Carries, GivesOut, SendsBy, TakesBy, TakesIn, Wired, WiredStep, wired_of}
+use Rattle.mvd_server.specs.declared.sockets.Sockets.{Ghosts as SocketGhosts}
+use Rattle.mvd_server.specs.declared.talks.Talks.{Talks}
 use Rattle.mvd_site.specs.Sites.{SiteValue}
+use Rattle.sha2.specs.Sha256.{sha256}
 use Rattle.sqlite.specs.Held.{Held, state}
+use Rattle.sqlite.specs.State.{State}
 use Rattle.sqlite_trees.specs.declared.store.Store.{Ghosts}
+use Rattle.mvd_web.specs.declared.web_connection.WebConnection.{WebConnection}
 
-abbrev all_turns : List (List (ℕ × Turn)) → List (ℕ × Turn)
-all_turns rounds = flat_map (λ turns. turns) rounds
+-- ---- what happened, as the host's own list
 
-turns_on : (rounds : List (List (ℕ × Turn))) (turns : List (ℕ × Turn)) → turns_of (all_turns (rounds ++ turns ∷ [])) ≡ turns_of (all_turns rounds) ++ turns_of turns
-turns_on [] turns = ap turns_of (append-nil turns)
-turns_on (first ∷ rounds) turns =
-    map-append (λ (t : ℕ × Turn). t.1) first (all_turns (rounds ++ turns ∷ []))
-    ∙ ap (λ (ts : List Turn). turns_of first ++ ts) (turns_on rounds turns)
-    ∙ sym (append_assoc (turns_of first) (turns_of (all_turns rounds)) (turns_of turns))
-    ∙ ap (λ (ts : List Turn). ts ++ turns_of turns) (sym (map-append (λ (t : ℕ × Turn). t.1) first (all_turns rounds)))
+record Happened {C : Type 0} (f : C → State) (old new : HostMoment C) : Type 0 where
+  all : List (Happening C)
+  runs : Runs f old all
+  ends : after_run old all ≡ new
 
-turns_both : (rounds others : List (List (ℕ × Turn))) → turns_of (all_turns (rounds ++ others)) ≡ turns_of (all_turns rounds) ++ turns_of (all_turns others)
-turns_both [] others = refl
-turns_both (first ∷ rounds) others =
-    map-append (λ (t : ℕ × Turn). t.1) first (all_turns (rounds ++ others))
-    ∙ ap (λ (ts : List Turn). turns_of first ++ ts) (turns_both rounds others)
-    ∙ sym (append_assoc (turns_of first) (turns_of (all_turns rounds)) (turns_of (all_turns others)))
-    ∙ ap (λ (ts : List Turn). ts ++ turns_of (all_turns others)) (sym (map-append (λ (t : ℕ × Turn). t.1) first (all_turns rounds)))
+runs_append : {C : Type 0} (f : C → State) (m : HostMoment C) (xs ys : List (Happening C)) → Runs f m xs → Runs f (after_run m xs) ys → Runs f m (xs ++ ys)
+runs_append f m [] ys first second = second
+runs_append f m (x ∷ xs) ys (one, first) second = (one, runs_append f (after_one m x) xs ys first second)
+
+after_append : {C : Type 0} (m : HostMoment C) (xs ys : List (Happening C)) → after_run m (xs ++ ys) ≡ after_run (after_run m xs) ys
+after_append m [] ys = refl
+after_append m (x ∷ xs) ys = after_append (after_one m x) xs ys
+
+happened_on : {C : Type 0} (f : C → State) (old mid new : HostMoment C) → Happened f old mid → Happened f mid new → Happened f old new
+happened_on f old mid new p q = record {
+  all = p.all ++ q.all;
+  runs = runs_append f old p.all q.all p.runs (subst (λ m. Runs f m q.all) (sym p.ends) q.runs);
+  ends = after_append old p.all q.all ∙ ap (λ m. after_run m q.all) p.ends ∙ q.ends;
+}
+
+module _ {C : Type 0} (f : C → State) (site : SiteValue) (conn : C) where
+  abbrev moment : HostValue → HostMoment C
+  moment host = record { host = host; site = site; conn = conn }
+
+  of_none : (old new : HostValue) → new ≡ old → Happened f (moment old) (moment new)
+  of_none old new same = record { all = []; runs = tt; ends = ap moment (sym same) }
+
+  of_deed : (old new : Talking) → Deed old new → Happened f (moment old.host) (moment new.host)
+  of_deed old new (Comes n, does) = record { all = Came n new.host ∷ []; runs = ((old.guard, does.0), tt); ends = refl }
+  of_deed old new (ComesByWeb n web, does) = record { all = Came n new.host ∷ []; runs = ((None, does.0), tt); ends = refl }
+  of_deed old new (ComesOwn n, does) = record { all = Came n new.host ∷ []; runs = ((None, does.0), tt); ends = refl }
+  of_deed old new (TurnsBack n mid, does) = record { all = Came n mid ∷ Gone n new.host ∷ []; runs = ((does.0, does.1), (does.2, tt)); ends = refl }
+  of_deed old new (Goes n, does) = record { all = Gone n new.host ∷ []; runs = (does.0, tt); ends = refl }
+  of_deed old new (GoesByWeb n, does) = record { all = Gone n new.host ∷ []; runs = (does.0, tt); ends = refl }
+  of_deed old new (GoesOwn n, does) = record { all = Gone n new.host ∷ []; runs = (does.0, tt); ends = refl }
+  of_deed old new (Calls n call, does) = record { all = Called n call ∷ []; runs = (tt, tt); ends = ap (λ (t : Talking). moment t.host) (sym does.1) }
+  of_deed old new (Turns n web web', does) = of_none old.host new.host (ap (λ (t : Talking). t.host) does.1)
+
+  of_bytes : (n : ℕ) (bytes : List ℕ) (old new : HostValue) → TakesBytes old n bytes new → Happened f (moment old) (moment new)
+  of_bytes n bytes old new (inl is) = record { all = Called n (Feeds bytes) ∷ []; runs = (tt, tt); ends = ap moment (sym is) }
+  of_bytes n bytes old new (inr is) = record { all = Called n Releases ∷ Called n (Closes (source.Failed Memory)) ∷ []; runs = (tt, (tt, tt)); ends = ap moment (sym is) }
+
+  of_by : (web : Option WebConnection) (n : ℕ) (bytes : List ℕ) (old new : Talking) → TakesBy web n bytes old new → Happened f (moment old.host) (moment new.host)
+  of_by None n bytes old new (takes, same) = of_bytes n bytes old.host new.host takes
+  of_by (Some web) n bytes old new (web', feeds, same) = of_none old.host new.host (ap (λ (t : Talking). t.host) same)
+
+  of_in : (n : ℕ) (bytes : List ℕ) (old new : Talking) → TakesIn n bytes old new → Happened f (moment old.host) (moment new.host)
+  of_in n bytes old new (inl takes) = of_by (web_in old n) n bytes old new takes
+  of_in n bytes old new (inr (same, none)) = of_none old.host new.host (ap (λ (t : Talking). t.host) same)
+
+  of_sent : (n count : ℕ) (old new : HostValue) → new ≡ sent_of old n count → Happened f (moment old) (moment new)
+  of_sent n count old new is = record { all = Called n (Sends count) ∷ []; runs = (tt, tt); ends = ap moment (sym is) }
+
+  of_sends : (web : Option WebConnection) (n count : ℕ) (old new : Talking) → SendsBy web n count old new → Happened f (moment old.host) (moment new.host)
+  of_sends None n count old new same = of_sent n (min count (length (waits_of old.host n))) old.host new.host (ap (λ (t : Talking). t.host) same)
+  of_sends (Some web) n count old new (web', is, same) = of_none old.host new.host (ap (λ (t : Talking). t.host) same)
+
+  of_out : (n : ℕ) (bytes : List ℕ) (old new : Talking) → GivesOut n bytes old new → Happened f (moment old.host) (moment new.host)
+  of_out n bytes old new (inl (first, sends)) = of_sends (web_in old n) n (length bytes) old new sends
+  of_out n bytes old new (inr (same, none)) = of_none old.host new.host (ap (λ (t : Talking). t.host) same)
+
+module _ {K C : Type 0} (f : C → State) (k : SocketGhosts K) where
+  of_wired : (site : SiteValue) (conn : C) (old new : Wired K) → WiredStep k old new → Happened f (moment f site conn old.talking.host) (moment f site conn new.talking.host)
+  of_wired site conn old new (inl (deed, same)) = of_deed f site conn old.talking new.talking deed
+  of_wired site conn old new (inr (inl (n, bytes, gives, takes))) = of_in f site conn n bytes old.talking new.talking takes
+  of_wired site conn old new (inr (inr (n, bytes, takes, gives))) = of_out f site conn n bytes old.talking new.talking gives
+
+  of_step : (old new : World K C) → ServeStep f k old new → Happened f (moment_of old) (moment_of new)
+  of_step old new (inl b) =
+      subst (λ c. Happened f (moment_of old) (record { host = host_in new; site = new.site; conn = c })) (sym b.conn)
+      (subst (λ s. Happened f (moment_of old) (record { host = host_in new; site = s; conn = old.conn })) (sym b.site)
+      (of_wired old.site old.conn old.wired new.wired b.wired))
+  of_step old new (inr r) = record { all = Rounds r.ready r.turns (moment_of new) ∷ []; runs = (r.round, tt); ends = refl }
+
+  of_steps : (old new : World K C) (mids : List (World K C)) → IsPath (ServeStep f k) old mids new → Happened f (moment_of old) (moment_of new)
+  of_steps old new [] same = record { all = []; runs = tt; ends = ap moment_of (sym same) }
+  of_steps old new (mid ∷ mids) (one, more) = happened_on f (moment_of old) (moment_of mid) (moment_of new) (of_step old mid one) (of_steps mid new mids more)
+
+  -- each client has the server's guard
+  record Guards (guard : Option Guard) (w : World K C) : Type 0 where
+    kept : w.wired.talking.guard ≡ guard
+    each : AreGuarded w.wired.talking
+
+  guards_wired : (guard : Option Guard) (old new : Wired K) → WiredStep k old new → old.talking.guard ≡ guard → AreGuarded old.talking → (new.talking.guard ≡ guard) × AreGuarded new.talking
+  guards_wired guard old new (inl (deed, same)) is each = (kept_deed old.talking new.talking deed ∙ is, guarded_deed old.talking new.talking deed each)
+  guards_wired guard old new (inr (inl (n, bytes, gives, takes))) is each = (kept_in n bytes old.talking new.talking takes ∙ is, guarded_in n bytes old.talking new.talking takes each)
+  guards_wired guard old new (inr (inr (n, bytes, takes, gives))) is each = (kept_out n bytes old.talking new.talking gives ∙ is, guarded_out n bytes old.talking new.talking gives each)
+
+  guards_step : (guard : Option Guard) (old new : World K C) → ServeStep f k old new → Guards guard old → Guards guard new
+  guards_step guard old new (inl b) g = let both = guards_wired guard old.wired new.wired b.wired g.kept g.each in record { kept = both.0; each = both.1 }
+  guards_step guard old new (inr r) g =
+      let same = ap (λ (w : Wired K). w.talking) r.wired in
+      record {
+        kept = ap (λ (t : Talking). t.guard) same ∙ g.kept;
+        each = subst AreGuarded (sym same) (guarded_round old.wired.talking (host_in new) r.turns r.round.clients g.each);
+      }
+
+  guards_steps : (guard : Option Guard) (old new : World K C) (mids : List (World K C)) → IsPath (ServeStep f k) old mids new → Guards guard old → Guards guard new
+  guards_steps guard old new [] same g = subst (Guards guard) (sym same) g
+  guards_steps guard old new (mid ∷ mids) (one, more) g = guards_steps guard mid new mids more (guards_step guard old mid one g)
+
+-- ---- what a server does
+
+shown_by : (guard : Option Guard) (last : Talking) (turns : List (ℕ × Turn)) → last.guard ≡ guard → AreGuarded last → ((n : ℕ) (h : History) → client_of last.host n ≡ Some h → TellsOwn (own n turns) h)
+    → (n : ℕ) (h : History) → client_of last.host n ≡ Some h → HasShown guard (own n turns) ⊎ IsMadeFor last n
+shown_by guard last turns is each tells n h found = on (each n h found)
+  where
+    on : (h.guard ≡ last.guard) ⊎ IsMadeFor last n → HasShown guard (own n turns) ⊎ IsMadeFor last n
+    on (inl same) = inl (subst (λ g. HasShown g (own n turns)) (same ∙ is) (has_shown (own n turns) h (tells n h found)))
+    on (inr made) = inr made
+
+module _ {S : Type 0} {g : Ghosts S} {K : Type 0} (k : SocketGhosts K) where
+  pub served : (token : Option (List ℕ)) (guard : Option Guard) (last : Talking) (sockets : K) (old : Replica S g) (sockets' : K) (new : Replica S g) → IsGuardOf token guard
+      → GoesOn k (begun guard sockets) old (record { talking = last; sockets = sockets' }) new → IsServed k token sockets old sockets' new
+  served token guard last sockets old sockets' new guarded p =
+      let start = moment_of (world_of (begun guard sockets) old) in
+      let h = of_steps (state g) k (world_of (begun guard sockets) old) (world_of (record { talking = last; sockets = sockets' }) new) p.mids p.steps in
+      let guards = guards_steps (state g) k guard (world_of (begun guard sockets) old) (world_of (record { talking = last; sockets = sockets' }) new) p.mids p.steps (record { kept = refl; each = guarded_new guard }) in
+      let one = subst (λ m. OneList (turns_in h.all) (side_at (state g) start) (side_at (state g) m)) h.ends (one_list (state g) start h.all refl h.runs) in
+      record {
+        guard = guard;
+        guarded = guarded;
+        last = last;
+        goes = p;
+        all = h.all;
+        runs = h.runs;
+        ends = h.ends;
+        list = one;
+        shown = shown_by guard last (turns_in h.all) guards.kept guards.each one.clients;
+      }
+
+  pub goes_none : (wired : Wired K) (replica : Replica S g) → GoesOn k wired replica wired replica
+  goes_none wired replica = path_none _ _
+
+  pub goes_on : (wired mid wired' : Wired K) (old now new : Replica S g) → GoesOn k wired old mid now → GoesOn k mid now wired' new → GoesOn k wired old wired' new
+  goes_on wired mid wired' old now new p q = path_on _ _ (world_of mid now) _ p q
+
+  pub goes_carries : (wired wired' : Wired K) (replica : Replica S g) → Carries k wired wired' → GoesOn k wired replica wired' replica
+  goes_carries wired wired' replica p =
+      path_map (WiredStep k) (ServeStep (state g) k) (λ w. record { wired = w; site = site_of replica; conn = conn_of replica })
+      (λ a b one. inl (record { wired = one; site = refl; conn = refl })) wired wired' p
+
+  pub goes_deeds : (old new : Talking) (sockets : K) (replica : Replica S g) → Deeds old new → GoesOn k (record { talking = old; sockets = sockets }) replica (record { talking = new; sockets = sockets }) replica
+  goes_deeds old new sockets replica p = goes_carries (record { talking = old; sockets = sockets }) (record { talking = new; sockets = sockets }) replica (carries_deeds k old new sockets sockets refl p)
+
+  pub goes_round : (old new : Talking) (sockets : K) (replica replica' : Replica S g) → HasRound old new replica replica' → GoesOn k (record { talking = old; sockets = sockets }) replica (record { talking = new; sockets = sockets }) replica'
+  goes_round old new sockets replica replica' r =
+      let at : Talking → Wired K = λ t. record { talking = t; sockets = sockets } in
+      let after = with_host r.before r.host in
+      path_on _ _ (world_of (at r.before) replica) _ (goes_deeds old r.before sockets replica r.first)
+      (path_on _ _ (world_of (at after) replica') _ (path_one _ _ _ (inr (record { ready = r.ready; turns = r.turns; round = r.round; wired = refl }))) (goes_deeds after new sockets replica' r.last))
+
+  -- rounds, and deeds between them
+  answers_one : (old new : Serving (Replica S g)) (sockets : K) → ServingStep old new → GoesOn k (record { talking = old.talking; sockets = sockets }) old.replica (record { talking = new.talking; sockets = sockets }) new.replica
+  answers_one old new sockets (inl round) = goes_round old.talking new.talking sockets old.replica new.replica round
+  answers_one old new sockets (inr (deeds, same)) =
+      subst (λ (r : Replica S g). GoesOn k (record { talking = old.talking; sockets = sockets }) old.replica (record { talking = new.talking; sockets = sockets }) r) (sym same)
+      (goes_deeds old.talking new.talking sockets old.replica deeds)
+
+  answers_on : (old new : Serving (Replica S g)) (sockets : K) (mids : List (Serving (Replica S g))) → IsPath ServingStep old mids new → GoesOn k (record { talking = old.talking; sockets = sockets }) old.replica (record { talking = new.talking; sockets = sockets }) new.replica
+  answers_on old new sockets [] same = subst (λ (s : Serving (Replica S g)). GoesOn k (record { talking = old.talking; sockets = sockets }) old.replica (record { talking = s.talking; sockets = sockets }) s.replica) (sym same) (goes_none (record { talking = old.talking; sockets = sockets }) old.replica)
+  answers_on old new sockets (mid ∷ mids) (one, more) =
+      goes_on (record { talking = old.talking; sockets = sockets }) (record { talking = mid.talking; sockets = sockets }) (record { talking = new.talking; sockets = sockets }) old.replica mid.replica new.replica
+      (answers_one old mid sockets one) (answers_on mid new sockets mids more)
+
+  pub goes_answers : (old new : Talks) (sockets : K) (replica replica' : Replica S g) → AnswersClients old replica new replica' → GoesOn k (wired_of old sockets) replica (wired_of new sockets) replica'
+  goes_answers old new sockets replica replica' p = answers_on (record { talking = talking_of old; replica = replica }) (record { talking = talking_of new; replica = replica' }) sockets p.mids p.steps
+
+  -- a guard of a token, of which there is one
+  pub served_none : (token : Option (List ℕ)) (sockets : K) (replica : Replica S g) → IsServed k token sockets replica sockets replica
+  served_none None sockets replica = served None None (new_talking None) sockets replica sockets replica tt (goes_none (begun None sockets) replica)
+  served_none (Some token) sockets replica =
+      let guard : Guard = record { digest = sha256 token } in
+      served (Some token) (Some guard) (new_talking (Some guard)) sockets replica sockets replica refl (goes_none (begun (Some guard) sockets) replica)
+
+  pub served_from : (token : Option (List ℕ)) (first last : Talks) (sockets : K) (old : Replica S g) (sockets' : K) (new : Replica S g) → BeginsServing token first
+      → GoesOn k (wired_of first sockets) old (wired_of last sockets') new → IsServed k token sockets old sockets' new
+  served_from token first last sockets old sockets' new (guard, guarded, is) p =
+      served token guard (talking_of last) sockets old sockets' new guarded (subst (λ (t : Talking). GoesOn k (record { talking = t; sockets = sockets }) old (wired_of last sockets') new) is p)
+
+  -- ---- one after the other
+
+  pub and_same : (w : Wired K) (t t' : Talks) (s : K) (old new : Replica S g) → GoesOn k w old (wired_of t s) new → t' ≡ t → GoesOn k w old (wired_of t' s) new
+  and_same w t t' s old new p same = subst (λ (x : Talks). GoesOn k w old (wired_of x s) new) (sym same) p
+
+  pub and_carries : (w : Wired K) (t t' : Talks) (s s' : K) (old new : Replica S g) → GoesOn k w old (wired_of t s) new → Carries k (wired_of t s) (wired_of t' s') → GoesOn k w old (wired_of t' s') new
+  and_carries w t t' s s' old new p q = goes_on w (wired_of t s) (wired_of t' s') old new new p (goes_carries (wired_of t s) (wired_of t' s') new q)
+
+  pub and_deeds : (w : Wired K) (t t' : Talks) (s : K) (old new : Replica S g) → GoesOn k w old (wired_of t s) new → TalksDeeds t t' → GoesOn k w old (wired_of t' s) new
+  and_deeds w t t' s old new p q = goes_on w (wired_of t s) (wired_of t' s) old new new p (goes_deeds (talking_of t) (talking_of t') s new q)
+
+  pub and_answers : (w : Wired K) (t t' : Talks) (s : K) (old now new : Replica S g) → GoesOn k w old (wired_of t s) now → AnswersClients t now t' new → GoesOn k w old (wired_of t' s) new
+  and_answers w t t' s old now new p q = goes_on w (wired_of t s) (wired_of t' s) old now new p (goes_answers t t' s now new q)
 
 module _ {S : Type 0} {g : Ghosts S} where
-  pub has_round : (ready : List ℕ) (host host' : HostValue) (old new : Replica S g) → (turns : List (ℕ × Turn)) × Round ready turns (host_side host old) (host_side host' new) → HasRound old new
-  has_round ready host host' old new (turns, round) = (turns, (ready, host, host', round))
+  pub answers_none : (t : Talks) (replica : Replica S g) → AnswersClients t replica t replica
+  answers_none t replica = path_none ServingStep _
 
-  pub served_none : (replica : Replica S g) → IsServed replica replica
-  unfolding AreRounds
-  served_none replica = record { rounds = []; are_rounds = (refl, refl); serves = serves_none (site_of replica) (store_of replica) }
+  pub answers_deeds : (t t' : Talks) (replica : Replica S g) → TalksDeeds t t' → AnswersClients t replica t' replica
+  answers_deeds t t' replica p = path_one ServingStep _ _ (inr (p, refl))
 
-  from_same : (turns : List (ℕ × Turn)) (old mid new : Replica S g) → site_of mid ≡ site_of old → conn_of mid ≡ conn_of old → IsRound turns mid new → IsRound turns old new
-  from_same turns old mid new same still (ready, host, host', round) = (
-    ready,
-    host,
-    host',
-    subst (λ (c : Held S). Round ready turns (record { host = host; site = site_of old; store = state g c }) (host_side host' new)) still
-        (subst (λ (v : SiteValue). Round ready turns (record { host = host; site = v; store = store_of mid }) (host_side host' new)) same round),
-  )
+  pub answers_round : (t t' : Talks) (old new : Replica S g) → HasRound (talking_of t) (talking_of t') old new → AnswersClients t old t' new
+  answers_round t t' old new round = path_one ServingStep _ _ (inl round)
 
-  rounds_on : (rounds : List (List (ℕ × Turn))) (turns : List (ℕ × Turn)) (old mid new : Replica S g) → AreRounds rounds old mid → IsRound turns mid new → AreRounds (rounds ++ turns ∷ []) old new
-  unfolding AreRounds
-  rounds_on [] turns old mid new (same, still) round = (new, from_same turns old mid new same still round, (refl, refl))
-  rounds_on (first ∷ rounds) turns old mid new (then, round', others) round = (then, round', rounds_on rounds turns then mid new others round)
-
-  -- one round more
-  pub served_on : (old mid new : Replica S g) → IsServed old mid → HasRound mid new → IsServed old new
-  served_on old mid new p (turns, round) = record {
-    rounds = p.rounds ++ turns ∷ [];
-    are_rounds = rounds_on p.rounds turns old mid new p.are_rounds round;
-    serves = subst (λ (ts : List Turn). Serves ts (stored_of old) (stored_of new)) (sym (turns_on p.rounds turns))
-        (serves_on (turns_of (all_turns p.rounds)) (turns_of turns) (site_of old) (site_of mid) (site_of new) (store_of old) (store_of mid) (store_of new) p.serves round.3.serves);
-  }
-
-  rounds_from : (rounds : List (List (ℕ × Turn))) (old mid new : Replica S g) → site_of mid ≡ site_of old → conn_of mid ≡ conn_of old → AreRounds rounds mid new → AreRounds rounds old new
-  unfolding AreRounds
-  rounds_from [] old mid new same still (again, too) = (again ∙ same, too ∙ still)
-  rounds_from (first ∷ rounds) old mid new same still (then, round', others) = (then, from_same first old mid then same still round', others)
-
-  rounds_both : (rounds others : List (List (ℕ × Turn))) (old mid new : Replica S g) → AreRounds rounds old mid → AreRounds others mid new → AreRounds (rounds ++ others) old new
-  unfolding AreRounds
-  rounds_both [] others old mid new (same, still) later = rounds_from others old mid new same still later
-  rounds_both (first ∷ rounds) others old mid new (then, round', more) later = (then, round', rounds_both rounds others then mid new more later)
-
-  -- rounds, and then more
-  pub served_both : (old mid new : Replica S g) → IsServed old mid → IsServed mid new → IsServed old new
-  served_both old mid new p q = record {
-    rounds = p.rounds ++ q.rounds;
-    are_rounds = rounds_both p.rounds q.rounds old mid new p.are_rounds q.are_rounds;
-    serves = subst (λ (ts : List Turn). Serves ts (stored_of old) (stored_of new)) (sym (turns_both p.rounds q.rounds))
-        (serves_on (turns_of (all_turns p.rounds)) (turns_of (all_turns q.rounds)) (site_of old) (site_of mid) (site_of new) (store_of old) (store_of mid) (store_of new) p.serves q.serves);
-  }
+  pub answers_join : (t mid t' : Talks) (old now new : Replica S g) → AnswersClients t old mid now → AnswersClients mid now t' new → AnswersClients t old t' new
+  answers_join t mid t' old now new p q = path_on ServingStep (record { talking = talking_of t; replica = old }) (record { talking = talking_of mid; replica = now }) (record { talking = talking_of t'; replica = new }) p q

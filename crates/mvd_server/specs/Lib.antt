@@ -3,7 +3,10 @@ pub mod Batches
 pub mod Dues
 pub mod Fronts
 pub mod Guarded
+pub mod Handed
+pub mod Moves
 pub mod OwnSides
+pub mod Paths
 pub mod PeerCounted
 pub mod PeerLinks
 pub mod PeerNews
@@ -12,3 +15,5 @@ pub mod Plans
 pub mod Responding
 pub mod Rounds
 pub mod Since
+pub mod Talking
+pub mod Wires

@@ -7,6 +7,7 @@ use Rattle.mvd_host.specs.Hosts.{AdmitsOne, ClientLeaves, HostValue, altered, cl
 use Rattle.mvd_meet.specs.Callers.{asked_of_caller, came_at, has_ended, leaving_at}
 use Rattle.mvd_meet.specs.Meetings.{Opens}
 use Rattle.mvd_meet.specs.declared.caller.Caller.{Caller}
+use Rattle.mvd_server.specs.Talking.{ComesOwn, Does, GoesOwn, talking_of}
 use Rattle.mvd_server.specs.declared.own_session.OwnSession.{OwnSession}
 use Rattle.mvd_server.specs.declared.talks.Talks.{Talks}
 
@@ -33,12 +34,11 @@ TakesBytes old client bytes new =
 -- a client of this server's own comes, which shows no token, and counts as such; or nothing changes
 abbrev pub AdmitsOwn : Talks → Option ℕ → Talks → Type 0
 AdmitsOwn old None new = new ≡ old
-AdmitsOwn old (Some n) new =
-    AdmitsOne None old.host new.host n × (new.own ≡ min (old.own + 1) (2 ^ 64 - 1))
+AdmitsOwn old (Some n) new = Does (ComesOwn n) (talking_of old) (talking_of new)
 
-pub record DismissesOwn (old : Talks) (n : ℕ) (new : Talks) : Type 0 where
-  pub leaves : ClientLeaves old.host n new.host
-  pub own : new.own ≡ old.own - 1
+-- it goes, and counts no more
+abbrev pub DismissesOwn : Talks → ℕ → Talks → Type 0
+DismissesOwn old n new = Does (GoesOwn n) (talking_of old) (talking_of new)
 
 -- ---- a session
 

@@ -1,32 +1,113 @@
 -- What a server does to a stored site.
-use Rattle.std.specs.Prelude.{ℕ, ◌≡◌, List, [], ◌∷◌}
-use Rattle.std.specs.List.{flat_map}
-use Rattle.mvd_host.specs.Hosts.{HostValue}
-use Rattle.mvd_host.specs.Round.{Round, Serves, host_side, turns_of}
-use Rattle.mvd_replica.specs.Replicas.{conn_of, site_of, stored_of}
+use Rattle.std.specs.Prelude.{◌≡◌, ◌⊎◌, ℕ, List, Option, Some}
+use Rattle.mvd_conn.specs.declared.guard.Guard.{Guard}
+use Rattle.mvd_conn.specs.History.{History}
+use Rattle.mvd_host.specs.Course.{own}
+use Rattle.mvd_host.specs.Hosts.{HostValue, client_of, new_host}
+use Rattle.mvd_host.specs.Round.{Round, Side, host_side}
+use Rattle.mvd_host.specs.Runs.{Happening, HasShown, HostMoment, OneList, Runs, after_run, turns_in}
+use Rattle.mvd_replica.specs.Replicas.{conn_of, site_of}
 use Rattle.mvd_replica.specs.Turns.{Turn}
 use Rattle.mvd_replica.specs.declared.replica.Replica.{Replica}
+use Rattle.mvd_server.specs.Guarded.{IsGuardOf}
+use Rattle.mvd_server.specs.Paths.{Path}
+use Rattle.mvd_server.specs.Talking.{Deeds, IsMadeFor, Talking, new_talking, talking_of, with_host}
+use Rattle.mvd_server.specs.Wires.{Wired, WiredStep}
+use Rattle.mvd_server.specs.declared.sockets.Sockets.{Ghosts as SocketGhosts}
+use Rattle.mvd_server.specs.declared.talks.Talks.{Talks}
+use Rattle.mvd_site.specs.Sites.{SiteValue}
+use Rattle.sqlite.specs.Held.{Held, state}
+use Rattle.sqlite.specs.State.{State}
 use Rattle.sqlite_trees.specs.declared.store.Store.{Ghosts}
 
+-- a server without clients
+abbrev pub begun : {K : Type 0} → Option Guard → K → Wired K
+begun guard sockets = record { talking = new_talking guard; sockets = sockets }
+
+abbrev pub BeginsServing : Option (List ℕ) → Talks → Type 0
+BeginsServing token talks = (guard : Option Guard) × IsGuardOf token guard × (talking_of talks ≡ new_talking guard)
+
+-- the clients of a server, with their sockets, and the replica that answers them
+pub record World (K C : Type 0) : Type 0 where
+  pub wired : Wired K
+  pub site : SiteValue
+  pub conn : C
+
+abbrev pub host_in : {K C : Type 0} → World K C → HostValue
+host_in w = w.wired.talking.host
+
+abbrev pub moment_of : {K C : Type 0} → World K C → HostMoment C
+moment_of w = record { host = host_in w; site = w.site; conn = w.conn }
+
+abbrev pub side_in : {K C : Type 0} → (C → State) → World K C → Side
+side_in f w = record { host = host_in w; site = w.site; store = f w.conn }
+
+module _ {K C : Type 0} (f : C → State) (k : SocketGhosts K) where
+  -- what a server does beside a round changes no site
+  pub record Between (old new : World K C) : Type 0 where
+    pub wired : WiredStep k old.wired new.wired
+    pub site : new.site ≡ old.site
+    pub conn : new.conn ≡ old.conn
+
+  -- a round of the host moves no byte of a socket
+  pub record InRound (old new : World K C) : Type 0 where
+    pub ready : List ℕ
+    pub turns : List (ℕ × Turn)
+    pub round : Round ready turns (side_in f old) (side_in f new)
+    pub wired : new.wired ≡ record (old.wired) { talking = with_host old.wired.talking (host_in new) }
+
+  abbrev pub ServeStep : World K C → World K C → Type 0
+  ServeStep old new = Between old new ⊎ InRound old new
+
+-- the clients of a server, and the replica that answers them
+pub record Serving (R : Type 0) : Type 0 where
+  pub talking : Talking
+  pub replica : R
+
 module _ {S : Type 0} {g : Ghosts S} where
-  -- A round of a host on a stored site: some frames of clients were taken, asked of the site in one
-  -- order, and the replies queued for their own clients. A request over HTTP is such a frame
-  abbrev pub IsRound : List (ℕ × Turn) → Replica S g → Replica S g → Type 0
-  IsRound turns old new =
-      (ready : List ℕ) × (host : HostValue) × (host' : HostValue)
-      × Round ready turns (host_side host old) (host_side host' new)
+  -- deeds, a round of the host, and deeds
+  pub record HasRound (old new : Talking) (replica replica' : Replica S g) : Type 0 where
+    pub before : Talking
+    pub host : HostValue
+    pub first : Deeds old before
+    pub ready : List ℕ
+    pub turns : List (ℕ × Turn)
+    pub round : Round ready turns (host_side before.host replica) (host_side host replica')
+    pub last : Deeds (with_host before host) new
 
-  abbrev pub HasRound : Replica S g → Replica S g → Type 0
-  HasRound old new = (turns : List (ℕ × Turn)) × IsRound turns old new
+  -- rounds, with deeds between them
+  abbrev pub ServingStep : Serving (Replica S g) → Serving (Replica S g) → Type 0
+  ServingStep old new =
+      HasRound old.talking new.talking old.replica new.replica
+      ⊎ (Deeds old.talking new.talking × (new.replica ≡ old.replica))
 
-  -- Rounds one after the other. What a host does between two of them is left out
-  unfoldable pub AreRounds : List (List (ℕ × Turn)) → Replica S g → Replica S g → Type 0
-  AreRounds [] old new = (site_of new ≡ site_of old) × (conn_of new ≡ conn_of old)
-  AreRounds (turns ∷ rounds) old new = (mid : Replica S g) × IsRound turns old mid × AreRounds rounds mid new
+  abbrev pub AnswersClients : Talks → Replica S g → Talks → Replica S g → Type 0
+  AnswersClients talks replica talks' replica' =
+      Path ServingStep (record { talking = talking_of talks; replica = replica })
+          (record { talking = talking_of talks'; replica = replica' })
 
-  -- All that was done to it are the turns of rounds: each reply is one that may be given from the
-  -- writes known then, and the records follow
-  pub record IsServed (old new : Replica S g) : Type 0 where
-    pub rounds : List (List (ℕ × Turn))
-    pub are_rounds : AreRounds rounds old new
-    pub serves : Serves (turns_of (flat_map (λ turns. turns) rounds)) (stored_of old) (stored_of new)
+  abbrev pub world_of : {K : Type 0} → Wired K → Replica S g → World K (Held S)
+  world_of wired replica = record { wired = wired; site = site_of replica; conn = conn_of replica }
+
+  -- ONE HOST served all the while: by reads and writes of the sockets, by rounds, and by deeds that feed it no frames
+  -- of their own
+  abbrev pub GoesOn : {K : Type 0} → SocketGhosts K → Wired K → Replica S g → Wired K → Replica S g → Type 0
+  GoesOn k wired old wired' new = Path (ServeStep (state g) k) (world_of wired old) (world_of wired' new)
+
+  -- From a new host on: what happened to the host, as one list. Its turns are all that was done to the replica, and
+  -- those of each client are what that asked and was told
+  pub record IsServed {K : Type 0} (k : SocketGhosts K) (token : Option (List ℕ)) (sockets : K) (old : Replica S g)
+      (sockets' : K)
+      (new : Replica S g) : Type 0 where
+    pub guard : Option Guard
+    pub guarded : IsGuardOf token guard
+    pub last : Talking
+    pub goes : GoesOn k (begun guard sockets) old (record { talking = last; sockets = sockets' }) new
+    pub all : List (Happening (Held S))
+    pub runs : Runs (state g) (moment_of (world_of (begun guard sockets) old)) all
+    pub ends : after_run (moment_of (world_of (begun guard sockets) old)) all
+        ≡ moment_of (world_of (record { talking = last; sockets = sockets' }) new)
+    pub list : OneList (turns_in all) (host_side new_host old) (host_side last.host new)
+    -- one of frames has no turn before it has shown the token
+    pub shown : (n : ℕ) (h : History) → client_of last.host n ≡ Some h →
+        HasShown guard (own n (turns_in all)) ⊎ IsMadeFor last n

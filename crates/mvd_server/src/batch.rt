@@ -2,6 +2,7 @@
 ghost use Rattle.std.specs.Prelude.{◌≡◌, ◌++◌, IfErr, IfOk, OnOk};
 ghost use Rattle.std.specs.List.{slice_get};
 ghost use Rattle.mvd_server.specs.Fronts.{TellsNext, end_refusal};
+ghost use Rattle.mvd_server.specs.Handed.{FedTo, TakenFrom};
 ghost use Rattle.mvd_server.specs.Batches.{BeginsBatch, bytes_if, frame_of_write, refusal_if};
 
 use crate::feeding::feed;
@@ -53,7 +54,9 @@ impl Batch {
     }
 
     /// Hands on as many frames as the host takes.
-    pub fn hand_on(&mut self, host: &mut Host, number: u64) {
+    pub fn hand_on(&mut self, host: &mut Host, number: u64)
+        ensures { FedTo number host.old host.new }
+    {
         let rest = self.frames.get(self.handed..).unwrap_or(&[]);
         for piece in rest.chunks(PIECE) {
             if !host.wants_input(number) {
@@ -65,7 +68,9 @@ impl Batch {
     }
 
     /// Puts down the lines of the replies that the host has. Whether all lines are there.
-    pub fn take(&mut self, alloc: Global, host: &mut Host, number: u64) -> Result<bool, Refusal> {
+    pub fn take(&mut self, alloc: Global, host: &mut Host, number: u64) -> Result<bool, Refusal>
+        ensures { TakenFrom number host.old host.new }
+    {
         for _left in self.told..self.refused.len() {
             let Some(reply) = self.next_told(alloc, host, number) else {
                 return Ok(false);

@@ -1,10 +1,12 @@
 //! One client's socket.
-ghost use Rattle.std.specs.Prelude.{◌≡◌, ◌≤◌, length};
+ghost use Rattle.std.specs.Prelude.{◌≡◌, ◌≤◌, IfOk, OnErr, length, take};
+ghost use Rattle.mvd_server.specs.Moves.{GivesOne, IsMoved, ReadsOnce, TakesOne};
 
+use crate::sockets::Sockets;
 use mio::event::Event;
 use mio::net::TcpStream;
 use std::alloc::{AllocError, Global};
-use std::io::{self, ErrorKind, Read, Write};
+use std::io::{self, ErrorKind};
 use std::net::Shutdown;
 
 /// The most bytes that are read at once.
@@ -38,6 +40,8 @@ pub(crate) enum Stage {
 #[derive(Drop)]
 pub(crate) struct Client {
     stream: TcpStream,
+    /// Its number in the host, or another that no client of the host has.
+    pub number: u64,
     /// Its number as it was accepted, counted from 1.
     pub ordinal: u64,
     pub stage: Stage,
@@ -55,9 +59,10 @@ pub(crate) struct Client {
 }
 
 impl Client {
-    pub fn new(stream: TcpStream, ordinal: u64, deadline: u64) -> Client {
+    pub fn new(stream: TcpStream, number: u64, ordinal: u64, deadline: u64) -> Client {
         Client {
             stream,
+            number,
             ordinal,
             stage: Stage::Served,
             readable: true,
@@ -89,9 +94,11 @@ impl Client {
     }
 
     /// Reads once. Where less comes than there is room for, that was all: the system tells of what comes later.
-    pub fn read(&mut self, piece: &mut Piece) -> Moved {
-        let stream = &self.stream;
-        let moved = moved_by(piece.read_from(&mut &*stream));
+    pub fn read<K: Sockets>(&mut self, sockets: &mut K, piece: &mut Piece) -> Moved
+        ensures gives { GivesOne K.gave self.old.number result piece.new.bytes.items sockets.old sockets.new }
+        ensures number { self.new.number ≡ self.old.number }
+    {
+        let moved = moved_by(piece.read_from(sockets, self.number, &self.stream));
         match moved {
             Moved::Bytes(count) => self.readable = self.ends || count == PIECE,
             Moved::Nothing => self.readable = false,
@@ -101,10 +108,11 @@ impl Client {
     }
 
     /// Writes once.
-    pub fn write(&mut self, bytes: &[u8]) -> Moved {
-        let stream = &self.stream;
-        let mut writer = &*stream;
-        let moved = moved_by(writer.write(bytes));
+    pub fn write<K: Sockets>(&mut self, sockets: &mut K, bytes: &[u8]) -> Moved
+        ensures takes { TakesOne K.took self.old.number result bytes.now sockets.old sockets.new }
+        ensures number { self.new.number ≡ self.old.number }
+    {
+        let moved = moved_by(sockets.write(self.number, &self.stream, bytes));
         if let Moved::Nothing = moved {
             self.writable = false;
         }
@@ -119,8 +127,15 @@ impl Client {
     }
 
     /// Reads once, and drops what came, which may be so many bytes. It is `false` where nothing more is read.
-    pub fn drop_input(&mut self, piece: &mut Piece, most: usize) -> bool {
-        match self.read(piece) {
+    pub fn drop_input<K: Sockets>(
+        &mut self,
+        sockets: &mut K,
+        piece: &mut Piece,
+        most: usize,
+    ) -> bool
+        ensures { ReadsOnce K.gave self.old.number sockets.old sockets.new }
+    {
+        match self.read(sockets, piece) {
             Moved::Bytes(count) if count < most => {
                 self.stage = Stage::Left(most - count);
                 true
@@ -131,7 +146,9 @@ impl Client {
     }
 }
 
-fn moved_by(count: io::Result<usize>) -> Moved {
+fn moved_by(count: io::Result<usize>) -> Moved
+    ensures { IsMoved count result }
+{
     match count {
         Ok(0) => Moved::End,
         Ok(count) => Moved::Bytes(count),
@@ -156,13 +173,22 @@ impl Piece {
         })
     }
 
-    fn read_from<R: Read>(&mut self, reader: &mut R) -> io::Result<usize> {
-        reader.read(&mut self.bytes)
+    fn read_from<K: Sockets>(
+        &mut self,
+        sockets: &mut K,
+        number: u64,
+        stream: &TcpStream,
+    ) -> io::Result<usize>
+        ensures gave { IfOk result (λ n. K.gave sockets.old number (take n self.new.bytes.items) sockets.new) }
+        ensures none { OnErr result (sockets.new ≡ sockets.old) }
+    {
+        sockets.read(number, stream, &mut self.bytes)
     }
 
     /// The first bytes.
     pub fn first(&self, count: usize) -> &[u8]
-        ensures { length result.now ≤ 65536 }
+        ensures few { length result.now ≤ 65536 }
+        ensures first { result.now ≡ take count self.now.bytes.items }
     {
         &self.bytes[..count.min(self.bytes.len())]
     }

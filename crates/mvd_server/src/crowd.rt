@@ -1,20 +1,23 @@
 //! The clients: their sockets, and their connections.
-ghost use Rattle.mvd_server.specs.Rounds.{HasRound};
+mod admitting;
+
+ghost use Rattle.std.specs.Prelude.{◌≡◌, IfOk, option_copied};
+ghost use Rattle.mvd_server.specs.Rounds.{BeginsServing, HasRound};
+ghost use Rattle.mvd_server.specs.Talking.{TalksDeeds, talking_of};
+ghost use Rattle.mvd_server.specs.Wires.{Carries, wired_of};
 
 use crate::client::{Client, PIECE, Piece, Stage};
 use crate::endings::tell_end;
 use crate::metrics::Counts;
-use crate::passing::{receive, send};
+use crate::passing::{drop_left, receive, send};
 use crate::peer_list::Peers;
 use crate::server::Terms;
-use crate::talks::{Kind, Talks};
+use crate::sockets::Sockets;
+use crate::talks::Talks;
 use crate::timers::{Timers, earlier};
 use mio::event::Event;
-use mio::net::TcpStream;
-use mio::{Interest, Registry, Token};
 use mvd_conn::Ending;
 use mvd_dots::Refusal;
-use mvd_frames::Short;
 use mvd_replica::Replica;
 use sqlite::Alter;
 use std::alloc::{AllocError, Global};
@@ -24,10 +27,6 @@ use std::hash::RandomState;
 /// Beside those that are served, as many sockets may be open at once: of clients that are told that there is no place,
 /// and of those that take their last reply. Further ones wait in the listener's queue.
 pub(crate) const SPARE: usize = 64;
-
-/// What is told to a client for which there is no place, over HTTP and in a frame: 36, and nothing of it was read.
-const NO_PLACE_WEB: &[u8] =
-    b"HTTP/1.1 503 Service Unavailable\r\nretry-after: 1\r\ncontent-type: application/json\r\ncache-control: no-store\r\nconnection: close\r\ncontent-length: 39\r\n\r\n{\"refused\":36,\"name\":\"TooManyRequests\"}";
 
 /// The numbers from this one on are of clients that are turned away. The host's are below it.
 const AWAY: u64 = 1 << 62;
@@ -56,12 +55,15 @@ pub(crate) struct Crowd {
 }
 
 impl Crowd {
-    pub fn new(alloc: Global, keys: RandomState, terms: Terms<'_>) -> Result<Crowd, AllocError> {
+    pub fn new(alloc: Global, keys: RandomState, terms: Terms<'_>) -> Result<Crowd, AllocError>
+        ensures { IfOk result (λ crowd. BeginsServing (option_copied terms.entry.token) crowd.talks) }
+    {
         let piece = Piece::new(alloc)?;
         let told = String::with_capacity(alloc, PIECE)?;
         let peers = Peers::counts(alloc, terms)?;
+        let talks = Talks::new(alloc, keys, terms.guard(), terms.peers.len())?;
         Ok(Crowd {
-            talks: Talks::new(alloc, keys, terms.guard()),
+            talks,
             counts: Counts::new(alloc, peers),
             most: terms.conns.map_or(u64::MAX, u64::from),
             places: terms.places(),
@@ -101,14 +103,16 @@ impl Crowd {
 
     /// Answers what came of some clients, together. Whether there may be more of it at once.
     pub fn round<S: Alter + Drop>(&mut self, replica: &mut Replica<S>, ready: &[u64]) -> bool
-        ensures round { HasRound replica.old replica.new }
+        ensures { HasRound (talking_of self.old.talks) (talking_of self.new.talks) replica.old replica.new }
     {
         self.counts.now = self.now;
         self.talks.round(replica, ready, &mut self.counts, self.now)
     }
 
     /// Tells those that have waited for a change for long enough, and lists all that were told.
-    pub fn wake(&mut self, ready: &mut Vec<u64>) {
+    pub fn wake(&mut self, ready: &mut Vec<u64>)
+        ensures { TalksDeeds self.old.talks self.new.talks }
+    {
         self.talks.end_waits(self.now, &mut self.counts);
         for number in &self.talks.woken {
             if let Some(client) = self.clients.get_mut(number) {
@@ -123,102 +127,10 @@ impl Crowd {
         earlier(self.timers.next_due(), self.talks.next_due())
     }
 
-    /// Takes a client in. Where the system or memory refuses that, it ends at once; where all places are taken, it is
-    /// told so.
-    pub fn admit(
-        &mut self,
-        registry: &Registry,
-        stream: TcpStream,
-        kind: Kind,
-        ready: &mut Vec<u64>,
-    ) -> Result<(), Refusal> {
-        if self.is_full() {
-            self.turn_away(registry, stream, kind, ready);
-            return Ok(());
-        }
-        match kind {
-            Kind::Frames => self.counts.frames = self.counts.frames.saturating_add(1),
-            Kind::Http => self.counts.https = self.counts.https.saturating_add(1),
-        }
-        let ordinal = self.accepted();
-        let Some(number) = self.talks.admit(kind) else {
-            return tell_end(&mut self.told, ordinal, Ending::Stopped(Refusal::Memory));
-        };
-        match self.place(registry, stream, ordinal, number) {
-            Ok(()) => {
-                if let Some(client) = self.clients.get_mut(&number) {
-                    list(client, number, ready);
-                }
-                Ok(())
-            }
-            Err(refusal) => {
-                self.talks.dismiss(number);
-                tell_end(&mut self.told, ordinal, Ending::Stopped(refusal))
-            }
-        }
-    }
-
-    /// Tells a client that there is no place. Its socket stays for a while, so that it can take that.
-    fn turn_away(
-        &mut self,
-        registry: &Registry,
-        stream: TcpStream,
-        kind: Kind,
-        ready: &mut Vec<u64>,
-    ) {
-        let number = self.next_away;
-        self.next_away = number.saturating_add(1);
-        if self.place(registry, stream, 0, number).is_err() {
-            return;
-        }
-        let due = self.now.saturating_add(LINGER);
-        let Some(client) = self.clients.get_mut(&number) else {
-            return;
-        };
-        let told = Short::refused(Refusal::TooManyRequests);
-        let _ = client.write(match kind {
-            Kind::Frames => told.bytes(),
-            Kind::Http => NO_PLACE_WEB,
-        });
-        if client.leave() && set_alarm(&mut self.timers, client, number, due) {
-            list(client, number, ready);
-        } else {
-            self.remove(number);
-        }
-    }
-
-    fn place(
-        &mut self,
-        registry: &Registry,
-        mut stream: TcpStream,
-        ordinal: u64,
-        number: u64,
-    ) -> Result<(), Refusal> {
-        let interest = Interest::READABLE | Interest::WRITABLE;
-        let token = Token(number as usize);
-        if registry.register(&mut stream, token, interest).is_err() {
-            return Err(Refusal::ReadFailed);
-        }
-        // Where that is refused, replies may come later.
-        let _ = stream.set_nodelay(true);
-        let due = self.now.saturating_add(self.idle);
-        if !self.timers.set(due, number) {
-            return Err(Refusal::Memory);
-        }
-        match self
-            .clients
-            .insert(number, Client::new(stream, ordinal, due))
-        {
-            Ok(_) => Ok(()),
-            Err(_) => {
-                self.timers.remove(due, number);
-                Err(Refusal::Memory)
-            }
-        }
-    }
-
     /// Notes what the system told of a client's socket.
-    pub fn note(&mut self, event: &Event, ready: &mut Vec<u64>) {
+    pub fn note(&mut self, event: &Event, ready: &mut Vec<u64>)
+        ensures { self.new.talks ≡ self.old.talks }
+    {
         let number = event.token().0 as u64;
         if let Some(client) = self.clients.get_mut(&number) {
             client.note(event);
@@ -226,8 +138,19 @@ impl Crowd {
         }
     }
 
+    /// Reads once of each that is listed.
+    pub fn read_all<K: Sockets>(&mut self, sockets: &mut K, listed: &[u64])
+        ensures { Carries K.Sockets (wired_of self.old.talks sockets.old) (wired_of self.new.talks sockets.new) }
+    {
+        for number in listed {
+            self.read(sockets, *number);
+        }
+    }
+
     /// Reads once, where something may be there and more is wanted.
-    pub fn read(&mut self, number: u64) {
+    fn read<K: Sockets>(&mut self, sockets: &mut K, number: u64)
+        ensures { Carries K.Sockets (wired_of self.old.talks sockets.old) (wired_of self.new.talks sockets.new) }
+    {
         let Some(client) = self.clients.get_mut(&number) else {
             return;
         };
@@ -237,32 +160,58 @@ impl Crowd {
         match client.stage {
             Stage::Served => {
                 let due = self.now.saturating_add(self.idle);
-                receive(&mut self.talks, client, number, &mut self.piece, due);
+                receive(&mut self.talks, sockets, client, &mut self.piece, due);
             }
             Stage::Left(most) => {
-                if !client.drop_input(&mut self.piece, most) {
+                if !drop_left(&self.talks, sockets, client, &mut self.piece, most) {
                     self.remove(number);
                 }
             }
         }
     }
 
+    /// Writes once to each that is listed, and lists those for which there may be more to do at once.
+    pub fn write_all<K: Sockets>(
+        &mut self,
+        sockets: &mut K,
+        listed: &[u64],
+        ready: &mut Vec<u64>,
+    ) -> Result<(), Refusal>
+        ensures { Carries K.Sockets (wired_of self.old.talks sockets.old) (wired_of self.new.talks sockets.new) }
+    {
+        for number in listed {
+            self.write(sockets, *number)?;
+            self.list_again(*number, ready);
+        }
+        Ok(())
+    }
+
     /// Writes once, where something waits and may be taken. Tells how the connection ended, where nothing is left to
     /// do.
-    pub fn write(&mut self, number: u64) -> Result<(), Refusal> {
-        let due = self.now.saturating_add(self.idle);
-        match self.clients.get_mut(&number) {
-            Some(client) if client.writable => send(&mut self.talks, client, number, due),
-            _ => {}
-        }
+    fn write<K: Sockets>(&mut self, sockets: &mut K, number: u64) -> Result<(), Refusal>
+        ensures { Carries K.Sockets (wired_of self.old.talks sockets.old) (wired_of self.new.talks sockets.new) }
+    {
+        self.send_to(sockets, number);
         if !self.talks.is_done(number) {
             return Ok(());
         }
         self.finish(number)
     }
 
+    fn send_to<K: Sockets>(&mut self, sockets: &mut K, number: u64)
+        ensures { Carries K.Sockets (wired_of self.old.talks sockets.old) (wired_of self.new.talks sockets.new) }
+    {
+        let due = self.now.saturating_add(self.idle);
+        match self.clients.get_mut(&number) {
+            Some(client) if client.writable => send(&mut self.talks, sockets, client, due),
+            _ => {}
+        }
+    }
+
     /// Lets a connection go that is done. Its client has a while to take the last replies, unless those failed.
-    fn finish(&mut self, number: u64) -> Result<(), Refusal> {
+    fn finish(&mut self, number: u64) -> Result<(), Refusal>
+        ensures { TalksDeeds self.old.talks self.new.talks }
+    {
         let ending = self.talks.ending(number).unwrap_or(Ending::End);
         self.talks.dismiss(number);
         let Some(client) = self.clients.get_mut(&number) else {
@@ -281,7 +230,9 @@ impl Crowd {
     }
 
     /// Lists a client again, where there may be more to do for it at once.
-    pub fn list_again(&mut self, number: u64, ready: &mut Vec<u64>) {
+    fn list_again(&mut self, number: u64, ready: &mut Vec<u64>)
+        ensures { talking_of self.new.talks ≡ talking_of self.old.talks }
+    {
         if let Some(client) = self.clients.get_mut(&number) {
             client.listed = false;
             // One that waits for a change may have left.
@@ -295,7 +246,9 @@ impl Crowd {
     }
 
     /// Ends the clients of which no byte moved for too long.
-    pub fn end_idle(&mut self, ready: &mut Vec<u64>) {
+    pub fn end_idle(&mut self, ready: &mut Vec<u64>)
+        ensures { TalksDeeds self.old.talks self.new.talks }
+    {
         for _ in 0..u64::MAX {
             match self.timers.take_due(self.now) {
                 Some(number) => self.look_after(number, ready),
@@ -305,7 +258,9 @@ impl Crowd {
     }
 
     /// A client's time has come: it ends, unless a byte moved since that was set.
-    fn look_after(&mut self, number: u64, ready: &mut Vec<u64>) {
+    fn look_after(&mut self, number: u64, ready: &mut Vec<u64>)
+        ensures { TalksDeeds self.old.talks self.new.talks }
+    {
         let Some(client) = self.clients.get_mut(&number) else {
             return;
         };
@@ -333,7 +288,9 @@ impl Crowd {
         }
     }
 
-    fn remove(&mut self, number: u64) {
+    fn remove(&mut self, number: u64)
+        ensures { self.new.talks ≡ self.old.talks }
+    {
         if let Some(client) = self.clients.remove(&number) {
             self.timers.remove(client.alarm, number);
         }

@@ -1,5 +1,8 @@
 //! The listener, and whom it lets in.
+ghost use Rattle.mvd_server.specs.Wires.{Carries, wired_of};
+
 use crate::crowd::Crowd;
+use crate::sockets::Sockets;
 use crate::talks::Kind;
 use mio::net::TcpListener;
 use mio::{Interest, Registry, Token};
@@ -61,23 +64,42 @@ impl Door {
     }
 
     /// Lets in who waits. Where all places are taken, that is told.
-    pub fn admit(
+    pub fn admit<K: Sockets>(
         &mut self,
         registry: &Registry,
+        sockets: &mut K,
         crowd: &mut Crowd,
         ready: &mut Vec<u64>,
-    ) -> Result<(), Refusal> {
+    ) -> Result<(), Refusal>
+        ensures { Carries K.Sockets (wired_of crowd.old.talks sockets.old) (wired_of crowd.new.talks sockets.new) }
+    {
         for _ in 0..ROUND_MAX {
             match self.next_due(crowd) {
                 Some(due) if due <= crowd.now => {}
                 _ => return Ok(()),
             }
-            match self.listener.accept() {
-                Ok((stream, _)) => crowd.admit(registry, stream, self.kind, ready)?,
-                Err(error) => self.refused(error.kind(), crowd.now),
-            }
+            self.admit_one(registry, sockets, crowd, ready)?;
         }
         Ok(())
+    }
+
+    /// Lets in one, if one waits.
+    fn admit_one<K: Sockets>(
+        &mut self,
+        registry: &Registry,
+        sockets: &mut K,
+        crowd: &mut Crowd,
+        ready: &mut Vec<u64>,
+    ) -> Result<(), Refusal>
+        ensures { Carries K.Sockets (wired_of crowd.old.talks sockets.old) (wired_of crowd.new.talks sockets.new) }
+    {
+        match self.listener.accept() {
+            Ok((stream, _)) => crowd.admit(registry, sockets, stream, self.kind, ready),
+            Err(error) => {
+                self.refused(error.kind(), crowd.now);
+                Ok(())
+            }
+        }
     }
 
     /// Nobody could be let in: nobody waits, who waited is gone, or the system has no room.

@@ -1,5 +1,5 @@
 //! Bytes of frames, to the host and from it.
-ghost use Rattle.std.specs.Prelude.{◌≡◌, ◌≤◌, length, min};
+ghost use Rattle.std.specs.Prelude.{◌≡◌, ◌≤◌, ◌⊎◌, length, min};
 ghost use Rattle.mvd_conn.specs.History.{WantsInput};
 ghost use Rattle.mvd_host.specs.Hosts.{IfClient, IsClient, client_of};
 ghost use Rattle.mvd_server.specs.OwnSides.{TakesBytes, sent_of, waits_of};
@@ -11,7 +11,8 @@ use mvd_host::Host;
 #[tactic(auto, using(crate::proofs::Clients::wanted_if))]
 pub(crate) fn feed(host: &mut Host, number: u64, bytes: &[u8])
     requires { length bytes.now ≤ 65536 }
-    ensures { IsClient (client_of host.old number) WantsInput → TakesBytes host.old number bytes.now host.new }
+    ensures wanted { IsClient (client_of host.old number) WantsInput → TakesBytes host.old number bytes.now host.new }
+    ensures may { (host.new ≡ host.old) ⊎ TakesBytes host.old number bytes.now host.new }
 {
     if !host.wants_input(number) {
         return;

@@ -1,6 +1,7 @@
 //! From a request of HTTP to the frame that the host answers, and from its reply to the response.
 ghost use Rattle.std.specs.Prelude.{◌≡◌, IsTrue, option_copied};
 ghost use Rattle.mvd_server.specs.Admitted.{AsksForOne, AsksSite, IsOwnPage, MayAsk, is_let_in};
+ghost use Rattle.mvd_server.specs.Handed.{FedTo, TakenFrom};
 ghost use Rattle.mvd_server.specs.Plans.{IsPlanFor, IsPlanOf, TellsFault};
 ghost use Rattle.mvd_web.specs.Inside.{web_of};
 
@@ -148,7 +149,8 @@ pub(crate) fn ask<S: Alter + Drop>(
     changes: &Feed,
     counts: &mut Counts,
 ) -> Rest
-    ensures { AsksForOne (option_copied guard.entry) (web_of web.new).asked host.old host.new result }
+    ensures asks { AsksForOne (option_copied guard.entry) (web_of web.new).asked host.old host.new result }
+    ensures feeds { FedTo number host.old host.new }
 {
     if !web.next() {
         return Rest::Nothing;
@@ -174,7 +176,9 @@ pub(crate) fn ask<S: Alter + Drop>(
 }
 
 /// Hands a frame to the host, piece by piece.
-fn hand_on(host: &mut Host, number: u64, frame: &[u8]) {
+fn hand_on(host: &mut Host, number: u64, frame: &[u8])
+    ensures { FedTo number host.old host.new }
+{
     for piece in frame.chunks(PIECE) {
         feed(host, number, piece);
     }
@@ -263,7 +267,9 @@ pub(crate) fn answer(
     web: &mut WebConnection,
     number: u64,
     counts: &mut Counts,
-) {
+)
+    ensures { TakenFrom number host.old host.new }
+{
     if let Some(reply) = next_reply(alloc, host, number) {
         tell_reply(alloc, web, reply, counts);
     }
@@ -277,7 +283,9 @@ pub(crate) fn answer_writes(
     batch: &mut Batch,
     number: u64,
     counts: &mut Counts,
-) {
+)
+    ensures { TakenFrom number host.old host.new }
+{
     match batch.take(alloc, host, number) {
         Ok(true) => respond(
             web,

@@ -22,8 +22,10 @@ mod peering;
 mod replies;
 mod responding;
 mod server;
+mod sockets;
 mod talks;
 mod timers;
 
 pub use endings::How;
 pub use server::{Terms, serve_run};
+pub use sockets::{Direct, Sockets};

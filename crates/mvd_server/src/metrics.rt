@@ -1,5 +1,6 @@
 //! What is counted, and how it is told (Prometheus' text form).
 use crate::peer_counts::{PeerCounts, print_peers};
+use crate::talks::Kind;
 use mvd_dots::Refusal;
 use mvd_host::{KINDS, Tally};
 use std::alloc::Global;
@@ -62,6 +63,14 @@ impl Counts {
             peers,
             open: 0,
             now: 0,
+        }
+    }
+
+    /// Notes a connection that came.
+    pub fn note_client(&mut self, kind: Kind) {
+        match kind {
+            Kind::Frames => self.frames = self.frames.saturating_add(1),
+            Kind::Http => self.https = self.https.saturating_add(1),
         }
     }
 

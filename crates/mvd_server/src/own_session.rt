@@ -1,15 +1,15 @@
 //! A session of this server's own site: the side that is near is a client of the host.
-ghost use Rattle.std.specs.Prelude.{◌≡◌, ◌-◌, ◌&&◌, IfOk, OnOk, false, length, not, true};
+ghost use Rattle.std.specs.Prelude.{◌≡◌, ◌-◌, ◌&&◌, IfOk, OnOk, false, length, not, true, IfSome};
 ghost use Rattle.mvd_meet.specs.Callers.{has_all, has_ended, questions_at};
 ghost use Rattle.mvd_meet.specs.Meetings.{MeetingSteps, ReportsOn};
 ghost use Rattle.mvd_server.specs.OwnSides.{AdmitsOwn, BeginsOwn, DismissesOwn, HandsOn};
 ghost use Rattle.mvd_server.specs.OwnSides.{HearsWaiting, TakesReplies};
 ghost use Rattle.mvd_server.specs.Peerings.{SwapsPlaces};
+ghost use Rattle.mvd_server.specs.Talking.{TalksDeeds, is_own, talking_of, without};
 
 use crate::feeding::{feed, sent};
 use crate::talks::Talks;
 use mvd_dots::Refusal;
-use mvd_host::Host;
 use mvd_meet::{Caller, Course, Meeting};
 use mvd_sync::{Report, SyncFault};
 use std::alloc::Global;
@@ -23,10 +23,14 @@ impl Talks {
     pub fn admit_own(&mut self) -> Option<u64>
         ensures { AdmitsOwn self.old result self.new }
     {
+        if self.own.len() >= self.own.capacity() {
+            return None;
+        }
         let Ok(Some(number)) = self.host.admit(None) else {
             return None;
         };
-        self.own = self.own.saturating_add(1);
+        // There is room for it.
+        let _ = self.own.push(number);
         Some(number)
     }
 
@@ -35,15 +39,28 @@ impl Talks {
         ensures { DismissesOwn self.old number self.new }
     {
         self.host.dismiss(number);
-        self.own = self.own.saturating_sub(1);
+        forget(&mut self.own, number);
+    }
+
+    /// Whether a client is its own.
+    pub fn is_own(&self, number: u64) -> bool
+        ensures { result ≡ is_own (talking_of self.now) number }
+    {
+        self.own.contains(&number)
     }
 
     /// The number of clients that are not its own.
     pub fn clients(&self) -> usize
-        ensures { result ≡ length self.now.host.clients - self.now.own }
+        ensures { result ≡ length self.now.host.clients - length self.now.own.items }
     {
-        self.host.len().saturating_sub(self.own)
+        self.host.len().saturating_sub(self.own.len())
     }
+}
+
+fn forget(own: &mut Vec<u64>, number: u64)
+    ensures { own.new.items ≡ without number own.old.items }
+{
+    own.retain(|client| *client != number);
 }
 
 /// A session: the host's client that asks for it, what goes on between the two sides, and whether it has one of the
@@ -64,6 +81,8 @@ impl OwnSession {
         number: u32,
     ) -> Result<Option<OwnSession>, SyncFault>
         ensures begins { IfOk result (λ begun. BeginsOwn number talks.old begun talks.new) }
+        ensures waits { IfOk result (λ begun. IfSome begun (λ session. session.runs ≡ false)) }
+        ensures deeds { TalksDeeds talks.old talks.new }
     {
         let meeting = Meeting::new(alloc, number)?;
         let Some(client) = talks.admit_own() else {
@@ -164,9 +183,13 @@ impl OwnSession {
         ensures goes_on { has_ended self.new.near ≡ has_ended self.old.near }
         ensures session { self.new ≡ record self.old { near = self.new.near } }
         ensures talks { talks.new ≡ record talks.old { host = talks.new.host } }
+        ensures deeds { TalksDeeds talks.old talks.new }
     {
         let leaving = self.near.leaving();
-        if leaving.is_empty() || !talks.host.wants_input(self.client) {
+        if leaving.is_empty()
+            || !talks.is_own(self.client)
+            || !talks.host.wants_input(self.client)
+        {
             return;
         }
         let count = leaving.len().min(PIECE);
@@ -181,8 +204,9 @@ impl OwnSession {
             (TakesReplies self.old.near self.new.near talks.old.host self.old.client talks.new.host) }
         ensures session { self.new ≡ record self.old { near = self.new.near } }
         ensures talks { talks.new ≡ record talks.old { host = talks.new.host } }
+        ensures deeds { TalksDeeds talks.old talks.new }
     {
-        let count = self.take_waiting(&talks.host)?;
+        let count = self.take_waiting(talks)?;
         sent(&mut talks.host, self.client, count);
         if talks.host.is_done(self.client) {
             self.near.end(false);
@@ -190,13 +214,18 @@ impl OwnSession {
         Ok(())
     }
 
-    /// Takes the bytes that wait in the host, and gives their number.
+    /// Takes the bytes that wait in the host, and gives their number. It is refused where the host's client is not its
+    /// own.
     #[tactic(auto, using(crate::proofs::Handing::waits_some, crate::proofs::Handing::waits_none))]
-    fn take_waiting(&mut self, host: &Host) -> Result<usize, Refusal>
-        ensures takes { IfOk result (HearsWaiting self.old.near host.now self.old.client self.new.near) }
+    fn take_waiting(&mut self, talks: &Talks) -> Result<usize, Refusal>
+        ensures takes { IfOk result (HearsWaiting self.old.near talks.now.host self.old.client self.new.near) }
+        ensures own { OnOk result (is_own (talking_of talks.now) self.old.client ≡ true) }
         ensures session { self.new ≡ record self.old { near = self.new.near } }
     {
-        match host.waiting(self.client) {
+        if !talks.is_own(self.client) {
+            return Err(Refusal::ReadFailed);
+        }
+        match talks.host.waiting(self.client) {
             Some(bytes) => {
                 self.near.feed(bytes)?;
                 Ok(bytes.len())

@@ -1,19 +1,25 @@
 //! Bytes between a client's socket and its connection.
+ghost use Rattle.mvd_server.specs.Wires.{Carries, wired_of};
+
 use crate::client::{Client, Moved, Piece};
+use crate::sockets::Sockets;
 use crate::talks::Talks;
 
 /// Reads once of a client of which more is wanted.
-pub(crate) fn receive(
+pub(crate) fn receive<K: Sockets>(
     talks: &mut Talks,
+    sockets: &mut K,
     client: &mut Client,
-    number: u64,
     piece: &mut Piece,
     due: u64,
-) {
+)
+    ensures { Carries K.Sockets (wired_of talks.old sockets.old) (wired_of talks.new sockets.new) }
+{
+    let number = client.number;
     if !talks.wants_input(number) {
         return;
     }
-    match client.read(piece) {
+    match client.read(sockets, piece) {
         Moved::Bytes(count) => {
             client.deadline = due;
             talks.feed(number, piece.first(count));
@@ -24,18 +30,39 @@ pub(crate) fn receive(
     }
 }
 
+/// Reads once of one that is no client of the host any more, and drops what came, which may be so many bytes. It is
+/// `false` where nothing more is read.
+pub(crate) fn drop_left<K: Sockets>(
+    talks: &Talks,
+    sockets: &mut K,
+    client: &mut Client,
+    piece: &mut Piece,
+    most: usize,
+) -> bool
+    ensures { Carries K.Sockets (wired_of talks.now sockets.old) (wired_of talks.now sockets.new) }
+{
+    if talks.has(client.number) {
+        return false;
+    }
+    client.drop_input(sockets, piece, most)
+}
+
 /// Writes once to a client of what waits.
-pub(crate) fn send(talks: &mut Talks, client: &mut Client, number: u64, due: u64) {
+pub(crate) fn send<K: Sockets>(talks: &mut Talks, sockets: &mut K, client: &mut Client, due: u64)
+    ensures { Carries K.Sockets (wired_of talks.old sockets.old) (wired_of talks.new sockets.new) }
+{
+    let number = client.number;
     let bytes = talks.waiting(number);
     if bytes.is_empty() {
         return;
     }
-    match client.write(bytes) {
+    match client.write(sockets, bytes) {
         Moved::Bytes(count) => {
             client.deadline = due;
             talks.sent(number, count);
         }
         Moved::Nothing => {}
-        Moved::End | Moved::Failed => talks.fail_output(number),
+        Moved::End => talks.fail_output(number),
+        Moved::Failed => talks.fail_output(number),
     }
 }

@@ -4,6 +4,7 @@ ghost use Rattle.mvd_server.specs.OwnSides.{IsUnasked};
 ghost use Rattle.mvd_server.specs.PeerLinks.{MovesBytes, is_rest};
 
 use crate::client::{Client, Moved, Piece};
+use crate::sockets::Direct;
 use mio::event::Event;
 use mio::net::TcpStream;
 use mio::{Interest, Registry, Token};
@@ -68,7 +69,7 @@ impl PeerLink {
     {
         let mut stream = TcpStream::connect(rt, address)?;
         registry.register(&mut stream, token, Interest::READABLE | Interest::WRITABLE)?;
-        let mut socket = Client::new(stream, 0, now);
+        let mut socket = Client::new(stream, token.0 as u64, 0, now);
         socket.readable = false;
         socket.writable = false;
         Ok(PeerLink {
@@ -189,7 +190,7 @@ impl PeerLink {
         if !self.socket.readable || self.far.has_all() {
             return Ok(false);
         }
-        match self.socket.read(piece) {
+        match self.socket.read(&mut Direct {}, piece) {
             Moved::Bytes(count) => {
                 self.moved = now;
                 self.has_heard = true;
@@ -233,7 +234,7 @@ impl PeerLink {
             return Ok(false);
         }
         let most = bytes.len();
-        match self.socket.write(bytes) {
+        match self.socket.write(&mut Direct {}, bytes) {
             Moved::Bytes(count) => {
                 self.moved = now;
                 self.far.left(count.min(most));
@@ -251,6 +252,6 @@ impl PeerLink {
         if !self.socket.readable {
             return true;
         }
-        matches!(self.socket.read(piece), Moved::Nothing)
+        matches!(self.socket.read(&mut Direct {}, piece), Moved::Nothing)
     }
 }

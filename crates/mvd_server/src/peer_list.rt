@@ -1,6 +1,7 @@
 //! The peers that this server meets while it serves.
 ghost use Rattle.std.specs.Prelude.{◌≡◌, ◌≢◌, ◌≤◌, ◌+◌, ◌-◌, length};
 ghost use Rattle.mvd_server.specs.Peerings.{HaveNews, LooksInTime, running};
+ghost use Rattle.mvd_server.specs.Talking.{TalksDeeds};
 
 use crate::crowd::Crowd;
 use crate::peer_counts::PeerCounts;
@@ -101,7 +102,9 @@ impl Peers {
 
     /// Connects to those that are due, and goes on with each session as far as can be without waiting. Each time
     /// another one comes first, so that each gets a place.
-    pub fn go_on<N: Net>(&mut self, rt: &N, registry: &Registry, crowd: &mut Crowd) {
+    pub fn go_on<N: Net>(&mut self, rt: &N, registry: &Registry, crowd: &mut Crowd)
+        ensures { TalksDeeds crowd.old.talks crowd.new.talks }
+    {
         let mut free = self.free();
         let count = self.list.len();
         for turn in 0..count {
@@ -127,6 +130,7 @@ impl Peers {
         requires { running self.old.list.items + free.old ≤ 4 }
         ensures few { running self.new.list.items + free.new ≤ 4 }
         ensures all { length self.new.list.items ≡ length self.old.list.items }
+        ensures deeds { TalksDeeds crowd.old.talks crowd.new.talks }
     {
         if place < self.list.len() {
             let peering = &mut self.list[place];
@@ -136,7 +140,9 @@ impl Peers {
     }
 
     /// Hands on what the sessions ask of this server's site, and lists their clients.
-    pub fn list(&mut self, crowd: &mut Crowd, ready: &mut Vec<u64>) {
+    pub fn list(&mut self, crowd: &mut Crowd, ready: &mut Vec<u64>)
+        ensures { TalksDeeds crowd.old.talks crowd.new.talks }
+    {
         for peering in self.list.iter_mut() {
             peering.list(crowd, ready);
         }
@@ -146,6 +152,7 @@ impl Peers {
     pub fn take_replies(&mut self, crowd: &mut Crowd, commits: u64)
         ensures news { self.old.commits ≢ commits → HaveNews self.new.list.items }
         ensures noted { self.new.commits ≡ commits }
+        ensures deeds { TalksDeeds crowd.old.talks crowd.new.talks }
     {
         let changed = commits != self.commits;
         self.commits = commits;

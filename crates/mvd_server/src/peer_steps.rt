@@ -4,6 +4,7 @@ ghost use Rattle.mvd_meet.specs.Times.{due_of, ended_of};
 ghost use Rattle.mvd_server.specs.PeerLinks.{LetsIn, ShowsIf};
 ghost use Rattle.mvd_server.specs.Peerings.{BeginsMeeting, EndsMeeting, StaysWithout, SwapsPlaces, TakesFree, TakesNoPlace};
 ghost use Rattle.mvd_server.specs.Peerings.{has_place};
+ghost use Rattle.mvd_server.specs.Talking.{TalksDeeds};
 
 use crate::crowd::Crowd;
 use crate::own_session::OwnSession;
@@ -21,7 +22,8 @@ const STEPS: usize = 16;
 impl Peering {
     /// Goes on as far as can be without waiting. At most `free` sessions more go on past their first question.
     pub fn go_on(&mut self, setting: &mut Setting, crowd: &mut Crowd, free: &mut usize)
-        ensures { TakesFree self.old free.old self.new free.new }
+        ensures free { TakesFree self.old free.old self.new free.new }
+        ensures deeds { TalksDeeds crowd.old.talks crowd.new.talks }
     {
         for _turn in 0..STEPS {
             match self.step(setting, crowd, free) {
@@ -39,7 +41,8 @@ impl Peering {
         crowd: &mut Crowd,
         free: &mut usize,
     ) -> Result<bool, Refusal>
-        ensures { TakesFree self.old free.old self.new free.new }
+        ensures free { TakesFree self.old free.old self.new free.new }
+        ensures deeds { TalksDeeds crowd.old.talks crowd.new.talks }
     {
         let Some(link) = &mut self.link else {
             return Ok(false);
@@ -82,6 +85,7 @@ impl Peering {
         // Before that, none does.
         ensures early { crowd.old.now < due_of self.old.schedule → self.new.session ≡ self.old.session }
         ensures places { TakesNoPlace self.old self.new }
+        ensures deeds { TalksDeeds crowd.old.talks crowd.new.talks }
     {
         let Some(link) = &mut self.link else {
             return Ok(false);
@@ -128,6 +132,7 @@ impl Peering {
     ) -> Result<bool, Refusal>
         ensures takes { TakesFree self.old free.old self.new free.new }
         ensures stays { StaysWithout self.old free.old self.new }
+        ensures deeds { TalksDeeds crowd.old.talks crowd.new.talks }
     {
         let Some(link) = &mut self.link else {
             return Ok(false);
@@ -142,7 +147,8 @@ impl Peering {
 
     /// Asks what is next, or ends the session where it is done.
     fn ask(&mut self, setting: &mut Setting, crowd: &mut Crowd) -> Result<bool, Refusal>
-        ensures { TakesNoPlace self.old self.new }
+        ensures places { TakesNoPlace self.old self.new }
+        ensures deeds { TalksDeeds crowd.old.talks crowd.new.talks }
     {
         match self.ask_next(crowd.now)? {
             Course::Waits => Ok(false),
@@ -165,16 +171,15 @@ impl Peering {
 
     /// A session is done: that is told, and the connection rests, or ends.
     fn done(&mut self, setting: &mut Setting, crowd: &mut Crowd) -> Result<bool, Refusal>
-        ensures { TakesNoPlace self.old self.new }
+        ensures places { TakesNoPlace self.old self.new }
+        ensures deeds { TalksDeeds crowd.old.talks crowd.new.talks }
     {
         let Some(session) = self.session.take() else {
             return Ok(false);
         };
         crowd.talks.dismiss_own(session.client);
         let report = session.report();
-        if self.is_failing {
-            let _ = writeln!(crowd.told, "peer {} again", self.address);
-        }
+        self.tell_again(&mut crowd.told);
         self.is_failing = false;
         tell_done(self.address, &report, &mut crowd.told);
         self.note_done(setting, crowd, report);
@@ -188,11 +193,19 @@ impl Peering {
         self.part(crowd.now)
     }
 
+    /// Tells that a session is done after one that failed.
+    fn tell_again(&self, told: &mut String) {
+        if self.is_failing {
+            let _ = writeln!(told, "peer {} again", self.address);
+        }
+    }
+
     /// Notes how a session ended that is done, and tells which keys were left, but for those that the session before
     /// left.
     fn note_done(&mut self, setting: &mut Setting, crowd: &mut Crowd, report: Report)
         ensures session { self.new.session ≡ self.old.session }
         ensures ends { EndsMeeting (ended_of report) crowd.old.now self.old.schedule self.new.schedule }
+        ensures talks { crowd.new.talks ≡ crowd.old.talks }
     {
         self.schedule.end(Ended::with(&report), crowd.now);
         if let Some(counts) = crowd.counts.peers.get_mut(self.place) {
@@ -214,13 +227,17 @@ impl Peering {
         let Some(link) = &mut self.link else {
             return Ok(false);
         };
-        if link.far.part().is_err() {
-            self.link = None;
-            return Ok(false);
+        match link.far.part() {
+            Ok(()) => {
+                link.stage = Stage::Parts;
+                link.moved = now;
+                Ok(true)
+            }
+            Err(_) => {
+                self.link = None;
+                Ok(false)
+            }
         }
-        link.stage = Stage::Parts;
-        link.moved = now;
-        Ok(true)
     }
 
     /// The connection ends once the Bye is answered. What else comes does not put that off.

@@ -2,11 +2,13 @@
 ghost use Rattle.std.specs.Prelude.{◌≡◌, ◌<◌, None, Some, true};
 ghost use Rattle.mvd_meet.specs.Times.{due_of, news_at};
 ghost use Rattle.mvd_server.specs.Peerings.{FailsMeeting, HearsNews, MayGoOn, MayTryAgain, TakesNoPlace, has_place, is_resting};
+ghost use Rattle.mvd_server.specs.Talking.{TalksDeeds};
 
 use crate::crowd::Crowd;
 use crate::own_session::OwnSession;
 use crate::peer_link::PeerLink;
 use crate::peer_news::Setting;
+use crate::talks::Talks;
 use mio::event::Event;
 use mio::{Registry, Token};
 use mvd_dots::Refusal;
@@ -130,6 +132,7 @@ impl Peering {
         // Before that, nothing is done.
         ensures early { crowd.old.now < due_of self.old.schedule → self.new ≡ self.old }
         ensures places { TakesNoPlace self.old self.new }
+        ensures deeds { TalksDeeds crowd.old.talks crowd.new.talks }
     {
         if self.link.is_some() || self.schedule.due() > crowd.now {
             return;
@@ -154,13 +157,11 @@ impl Peering {
         ensures over { (self.new.link ≡ None) × (self.new.session ≡ None) }
         ensures places { TakesNoPlace self.old self.new }
         ensures schedule { FailsMeeting crowd.old.now self.old self.new.schedule }
+        ensures deeds { TalksDeeds crowd.old.talks crowd.new.talks }
     {
         let is_again = self.is_again(refusal);
         self.link = None;
-        if let Some(session) = self.session.take() {
-            crowd.talks.dismiss_own(session.client);
-            drop(session);
-        }
+        let_go(self.session.take(), &mut crowd.talks);
         if is_again {
             return self.schedule.again();
         }
@@ -189,6 +190,7 @@ impl Peering {
     pub fn list(&mut self, crowd: &mut Crowd, ready: &mut Vec<u64>)
         ensures places { TakesNoPlace self.old self.new }
         ensures schedule { self.new.schedule ≡ self.old.schedule }
+        ensures deeds { TalksDeeds crowd.old.talks crowd.new.talks }
     {
         if let Some(session) = &mut self.session
             && session.is_busy()
@@ -203,6 +205,7 @@ impl Peering {
     pub fn hear(&mut self, crowd: &mut Crowd, changed: bool)
         ensures places { TakesNoPlace self.old self.new }
         ensures news { HearsNews changed crowd.old.now self.old.schedule self.new.schedule }
+        ensures deeds { TalksDeeds crowd.old.talks crowd.new.talks }
     {
         let now = crowd.now;
         self.take_replies(crowd);
@@ -217,6 +220,7 @@ impl Peering {
     fn take_replies(&mut self, crowd: &mut Crowd)
         ensures places { TakesNoPlace self.old self.new }
         ensures news { self.new.schedule.news ≡ self.old.schedule.news }
+        ensures deeds { TalksDeeds crowd.old.talks crowd.new.talks }
     {
         if let Some(session) = &mut self.session
             && let Err(refusal) = session.take_replies(&mut crowd.talks)
@@ -239,4 +243,14 @@ fn may_go_on(link: &PeerLink, session: &OwnSession, refusal: Refusal) -> bool
         return true;
     }
     is_cut && link.is_kept && !link.has_heard
+}
+
+/// A session ends, if there is one.
+fn let_go(session: Option<OwnSession>, talks: &mut Talks)
+    ensures { TalksDeeds talks.old talks.new }
+{
+    if let Some(session) = session {
+        talks.dismiss_own(session.client);
+        drop(session);
+    }
 }

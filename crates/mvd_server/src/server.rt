@@ -1,10 +1,14 @@
 //! A server of many clients at once, from one thread.
 ghost use Rattle.mvd_server.specs.Peerings.{WakesInTime};
-ghost use Rattle.mvd_server.specs.Rounds.{IsServed};
+ghost use Rattle.std.specs.Prelude.{◌≡◌, IfOk, option_copied};
+ghost use Rattle.mvd_server.specs.Rounds.{AnswersClients, BeginsServing, GoesOn, IsServed};
+ghost use Rattle.mvd_server.specs.Talking.{talking_of};
+ghost use Rattle.mvd_server.specs.Wires.{Carries, wired_of};
 
 use crate::crowd::{Crowd, SPARE};
 use crate::door::{Door, FRAMES, HTTP};
 use crate::peer_list::Peers;
+use crate::sockets::Sockets;
 use crate::talks::Kind;
 use crate::timers::earlier;
 use mio::{Events, Poll};
@@ -84,22 +88,31 @@ struct Server {
 /// Meanwhile it has sessions with its peers, whose questions to the site are answered among those of the clients; keys
 /// that one left are told on `errors`. It is `Stopped` with `ReadFailed` where it cannot listen or wait, and with
 /// `WriteFailed` where a line cannot be written.
-#[tactic(auto, using(crate::proofs::Rounds::served_none))]
-pub fn serve_run<'a, N: Net + Clock + RandomSource, S: Alter + Drop, W: Write, E: Write>(
+pub fn serve_run<
+    'a,
+    N: Net + Clock + RandomSource,
+    K: Sockets,
+    S: Alter + Drop,
+    W: Write,
+    E: Write,
+>(
     rt: &N,
     alloc: Global,
+    sockets: &mut K,
     replica: &mut Replica<S>,
     address: SocketAddr,
     terms: Terms<'_>,
     writer: &mut W,
     errors: &mut E,
 ) -> Result<(), Stop<'a>>
-    // However it ends, the site changed by turns alone, and its records follow.
-    ensures served { IsServed replica.old replica.new }
+    // However it ends, the site changed by turns of one host alone, fed by its sockets, and its records follow.
+    ensures served { IsServed K.Sockets (option_copied terms.entry.token) sockets.old replica.old sockets.new replica.new }
 {
     let number = replica.config().site();
     let mut server = listening(rt, alloc, address, number, terms)?;
-    let served = server.serve_at::<N, S, W, E>(rt, alloc, replica, address, terms, writer, errors);
+    let served = server.serve_at::<N, K, S, W, E>(
+        rt, alloc, sockets, replica, address, terms, writer, errors,
+    );
     drop(server);
     Ok(served?)
 }
@@ -111,7 +124,9 @@ fn listening<'a, N: Net + Clock + RandomSource>(
     address: SocketAddr,
     number: u32,
     terms: Terms<'_>,
-) -> Result<Server, Stop<'a>> {
+) -> Result<Server, Stop<'a>>
+    ensures { IfOk result (λ server. BeginsServing (option_copied terms.entry.token) server.crowd.talks) }
+{
     match Server::new(rt, alloc, address, number, terms) {
         Ok(server) => with_web(rt, server, web_address(address, terms)),
         Err(error) => Err(Stop::unheard(address, error)),
@@ -123,7 +138,9 @@ fn with_web<'a, N: Net>(
     rt: &N,
     mut server: Server,
     address: Option<SocketAddr>,
-) -> Result<Server, Stop<'a>> {
+) -> Result<Server, Stop<'a>>
+    ensures { IfOk result (λ new. new.crowd.talks ≡ server.crowd.talks) }
+{
     let Some(address) = address else {
         return Ok(server);
     };
@@ -143,7 +160,9 @@ impl Server {
         address: SocketAddr,
         number: u32,
         terms: Terms<'_>,
-    ) -> io::Result<Server> {
+    ) -> io::Result<Server>
+        ensures { IfOk result (λ server. BeginsServing (option_copied terms.entry.token) server.crowd.talks) }
+    {
         let start = Instant::now(rt)?;
         let keys = RandomState::new(rt)?;
         let sockets = terms.clients as usize + SPARE;
@@ -169,51 +188,56 @@ impl Server {
     }
 
     /// Listens at an address for HTTP, too.
-    fn open_web<N: Net>(&mut self, rt: &N, address: SocketAddr) -> io::Result<()> {
+    fn open_web<N: Net>(&mut self, rt: &N, address: SocketAddr) -> io::Result<()>
+        ensures { self.new.crowd.talks ≡ self.old.crowd.talks }
+    {
         let door = Door::new(rt, self.poll.registry(), address, Kind::Http)?;
         self.http = Some(door);
         Ok(())
     }
 
     /// Serves, and tells the address before and the root digest after that.
-    #[tactic(auto, using(crate::proofs::Rounds::served_none))]
-    fn serve_at<N: Net + Clock, S: Alter + Drop, W: Write, E: Write>(
+    fn serve_at<N: Net + Clock, K: Sockets, S: Alter + Drop, W: Write, E: Write>(
         &mut self,
         rt: &N,
         alloc: Global,
+        sockets: &mut K,
         replica: &mut Replica<S>,
         address: SocketAddr,
         terms: Terms<'_>,
         writer: &mut W,
         errors: &mut E,
     ) -> Result<(), Fault>
-        ensures served { IsServed replica.old replica.new }
+        ensures { GoesOn K.Sockets (wired_of self.old.crowd.talks sockets.old) replica.old
+            (wired_of self.new.crowd.talks sockets.new) replica.new }
     {
         tell_listening(alloc, address, terms, writer)?;
-        self.serve(rt, replica, writer, errors)?;
+        self.serve(rt, sockets, replica, writer, errors)?;
         tell_root(alloc, replica, writer)
     }
 
     /// Serves until all connections have ended.
-    fn serve<N: Net + Clock, S: Alter + Drop, W: Write, E: Write>(
+    fn serve<N: Net + Clock, K: Sockets, S: Alter + Drop, W: Write, E: Write>(
         &mut self,
         rt: &N,
+        sockets: &mut K,
         replica: &mut Replica<S>,
         writer: &mut W,
         errors: &mut E,
     ) -> Result<(), Fault>
-        ensures served { IsServed replica.old replica.new }
+        ensures { GoesOn K.Sockets (wired_of self.old.crowd.talks sockets.old) replica.old
+            (wired_of self.new.crowd.talks sockets.new) replica.new }
     {
         for _round in 0..u64::MAX {
             if self.crowd.is_shut() && self.crowd.is_empty() {
                 return Ok(());
             }
             self.wait(rt)?;
-            self.take_in()?;
+            self.take_in(sockets)?;
             self.peers.go_on(rt, self.poll.registry(), &mut self.crowd);
             self.answer(replica);
             self.crowd.wake(&mut self.ready);
-            self.give_out(writer)?;
+            self.give_out(sockets, writer)?;
             self.peers.tell_errors(errors);
         }
         Ok(())
@@ -221,7 +245,7 @@ impl Server {
 
     /// Answers what came of the clients that are listed, and what the sessions with peers ask.
     fn answer<S: Alter + Drop>(&mut self, replica: &mut Replica<S>)
-        ensures served { IsServed replica.old replica.new }
+        ensures { AnswersClients self.old.crowd.talks replica.old self.new.crowd.talks replica.new }
     {
         let clients = self.ready.len();
         self.peers.list(&mut self.crowd, &mut self.ready);
@@ -232,7 +256,7 @@ impl Server {
 
     /// Answers what came of those that are listed: together what may be, and then what came behind it.
     fn answer_all<S: Alter + Drop>(&mut self, replica: &mut Replica<S>)
-        ensures served { IsServed replica.old replica.new }
+        ensures { AnswersClients self.old.crowd.talks replica.old self.new.crowd.talks replica.new }
     {
         for _round in 0..ROUNDS_MAX {
             if !self.crowd.round(replica, &self.ready) {
@@ -242,7 +266,9 @@ impl Server {
     }
 
     /// Waits until there may be something to do, and lists the clients of which the system tells so.
-    fn wait<N: Clock>(&mut self, rt: &N) -> Result<(), Fault> {
+    fn wait<N: Clock>(&mut self, rt: &N) -> Result<(), Fault>
+        ensures { self.new.crowd.talks ≡ self.old.crowd.talks }
+    {
         let pause = self.pause();
         if self.poll.poll(&mut self.events, pause).is_err() {
             return Err(Fault::Stopped(Refusal::ReadFailed));
@@ -288,29 +314,43 @@ impl Server {
     }
 
     /// Lets clients in, ends those that are idle, and reads once of each that is listed.
-    fn take_in(&mut self) -> Result<(), Fault> {
+    fn take_in<K: Sockets>(&mut self, sockets: &mut K) -> Result<(), Fault>
+        ensures { Carries K.Sockets (wired_of self.old.crowd.talks sockets.old)
+            (wired_of self.new.crowd.talks sockets.new) }
+    {
+        self.let_in(sockets)?;
+        self.crowd.end_idle(&mut self.ready);
+        self.crowd.read_all(sockets, &self.ready);
+        Ok(())
+    }
+
+    /// Lets clients in.
+    fn let_in<K: Sockets>(&mut self, sockets: &mut K) -> Result<(), Fault>
+        ensures { Carries K.Sockets (wired_of self.old.crowd.talks sockets.old)
+            (wired_of self.new.crowd.talks sockets.new) }
+    {
         let registry = self.poll.registry();
         self.frames
-            .admit(registry, &mut self.crowd, &mut self.ready)?;
+            .admit(registry, sockets, &mut self.crowd, &mut self.ready)?;
         if let Some(door) = &mut self.http {
-            door.admit(registry, &mut self.crowd, &mut self.ready)?;
-        }
-        self.crowd.end_idle(&mut self.ready);
-        for client in &self.ready {
-            self.crowd.read(*client);
+            door.admit(registry, sockets, &mut self.crowd, &mut self.ready)?;
         }
         Ok(())
     }
 
     /// Writes once to each client that is listed, tells which ended, and lists those for which there may be more to
     /// do at once.
-    fn give_out<W: Write>(&mut self, writer: &mut W) -> Result<(), Fault> {
+    fn give_out<K: Sockets, W: Write>(
+        &mut self,
+        sockets: &mut K,
+        writer: &mut W,
+    ) -> Result<(), Fault>
+        ensures { Carries K.Sockets (wired_of self.old.crowd.talks sockets.old)
+            (wired_of self.new.crowd.talks sockets.new) }
+    {
         mem::swap(&mut self.ready, &mut self.next);
         self.ready.clear();
-        for client in &self.next {
-            self.crowd.write(*client)?;
-            self.crowd.list_again(*client, &mut self.ready);
-        }
+        self.crowd.write_all(sockets, &self.next, &mut self.ready)?;
         if self.crowd.told.is_empty() {
             return Ok(());
         }

@@ -1,16 +1,18 @@
 //! What the clients say, in frames or over HTTP.
-ghost use Rattle.std.specs.Prelude.{◌≤◌, length};
+mod talk_bytes;
+
+ghost use Rattle.std.specs.Prelude.{◌≡◌, ◌≤◌, IfOk, IsTrue, OnErr, OnOk, is_some, length};
 ghost use Rattle.mvd_host.specs.Hosts.{client_of};
 ghost use Rattle.mvd_server.specs.Rounds.{HasRound};
+ghost use Rattle.mvd_server.specs.Talking.{OpensWeb, TalksDeeds, new_talking, talking_of};
 
 use crate::batch::Batch;
 use crate::changes::push_since;
-use crate::feeding::{feed, sent};
 use crate::gate::{Rest, answer, answer_writes, ask};
 use crate::metrics::Counts;
 use crate::parked::Parked;
 use crate::responding::{refuse, tell_pushed};
-use mvd_conn::{Ending, Guard};
+use mvd_conn::Guard;
 use mvd_dots::Refusal;
 use mvd_host::{Feed, Host};
 use mvd_http::push_changes;
@@ -20,9 +22,6 @@ use sqlite::Alter;
 use std::alloc::{AllocError, Global};
 use std::collections::BTreeMap;
 use std::hash::RandomState;
-
-/// Where as many bytes wait to leave to a client, none of its frames is answered.
-const WAITS_MAX: usize = 262_144;
 
 /// What a client speaks.
 #[derive(Clone, Copy)]
@@ -45,8 +44,8 @@ pub(crate) struct Talks {
     /// Those that wait for a change, and those of them that were told of late.
     parked: Parked,
     pub woken: Vec<u64>,
-    /// The number of the host's clients that are this server's own, for sessions with its peers.
-    pub own: usize,
+    /// The numbers of those of the host's clients that are this server's own, for sessions with its peers.
+    pub own: Vec<u64>,
     alloc: Global,
     keys: RandomState,
 }
@@ -56,10 +55,16 @@ impl Talks {
     ghost use Rattle.mvd_conn.specs.History.{new_history};
     ghost use Rattle.mvd_server.specs.Guarded.{guard_for};
 
-    pub fn new(alloc: Global, keys: RandomState, guard: Option<Guard>) -> Talks
-        ensures { result.guard ≡ guard }
+    /// Nobody's. There is room for as many clients of its own.
+    pub fn new(
+        alloc: Global,
+        keys: RandomState,
+        guard: Option<Guard>,
+        own: usize,
+    ) -> Result<Talks, AllocError>
+        ensures { IfOk result (λ talks. talking_of talks ≡ new_talking guard) }
     {
-        Talks {
+        Ok(Talks {
             host: Host::new(alloc),
             guard,
             webs: BTreeMap::new(alloc),
@@ -67,10 +72,10 @@ impl Talks {
             changes: Feed::new(alloc),
             parked: Parked::new(alloc),
             woken: Vec::new(alloc),
-            own: 0,
+            own: Vec::with_capacity(alloc, own)?,
             alloc,
             keys,
-        }
+        })
     }
 
     /// Takes a client in, and gives its number. It is `None` where there is no place, or memory was refused. One that
@@ -78,20 +83,34 @@ impl Talks {
     pub fn admit(&mut self, kind: Kind) -> Option<u64>
         ensures guarded { IfSome result (λ number.
             client_of self.new.host number ≡ Some (new_history (guard_for kind self.old.guard))) }
-        ensures guard { self.new.guard ≡ self.old.guard }
+        ensures deeds { TalksDeeds self.old self.new }
     {
-        let guard = match kind {
-            Kind::Frames => self.guard,
-            Kind::Http => None,
-        };
-        let Ok(Some(number)) = self.host.admit(guard) else {
+        match kind {
+            Kind::Frames => self.admit_frames(),
+            Kind::Http => self.admit_web(),
+        }
+    }
+
+    fn admit_frames(&mut self) -> Option<u64>
+        ensures guarded { IfSome result (λ number.
+            client_of self.new.host number ≡ Some (new_history self.old.guard)) }
+        ensures deeds { TalksDeeds self.old self.new }
+    {
+        match self.host.admit(self.guard) {
+            Ok(number) => number,
+            Err(_) => None,
+        }
+    }
+
+    fn admit_web(&mut self) -> Option<u64>
+        ensures guarded { IfSome result (λ number.
+            client_of self.new.host number ≡ Some (new_history None)) }
+        ensures deeds { TalksDeeds self.old self.new }
+    {
+        let Ok(Some(number)) = self.host.admit(None) else {
             return None;
         };
-        let opened = match kind {
-            Kind::Frames => Ok(()),
-            Kind::Http => self.open_web(number),
-        };
-        if opened.is_err() {
+        if self.open_web(number).is_err() {
             self.host.dismiss(number);
             return None;
         }
@@ -99,8 +118,8 @@ impl Talks {
     }
 
     fn open_web(&mut self, number: u64) -> Result<(), AllocError>
-        ensures host { self.new.host ≡ self.old.host }
-        ensures guard { self.new.guard ≡ self.old.guard }
+        ensures opens { OnOk result (OpensWeb number (talking_of self.old) (talking_of self.new)) }
+        ensures same { OnErr result (talking_of self.new ≡ talking_of self.old) }
     {
         let web = WebConnection::new(self.alloc, self.keys);
         drop(self.webs.insert(number, web)?);
@@ -108,7 +127,7 @@ impl Talks {
     }
 
     pub fn dismiss(&mut self, number: u64)
-        ensures { self.new.guard ≡ self.old.guard }
+        ensures { TalksDeeds self.old self.new }
     {
         drop(self.webs.remove(&number));
         drop(self.batches.remove(&number));
@@ -126,7 +145,7 @@ impl Talks {
         now: u64,
     ) -> bool
         // Nothing but the host's round changes the replica.
-        ensures round { HasRound replica.old replica.new }
+        ensures round { HasRound (talking_of self.old) (talking_of self.new) replica.old replica.new }
     {
         counts.open = self.clients();
         self.changes.start(replica);
@@ -148,9 +167,7 @@ impl Talks {
         for number in ready {
             self.tell(*number, counts);
         }
-        if self.changes.root() != self.parked.root() {
-            self.wake(replica, counts);
-        }
+        self.wake(replica, counts);
         more & (replica.commits() == commits)
     }
 
@@ -161,18 +178,19 @@ impl Talks {
         number: u64,
         counts: &mut Counts,
         now: u64,
-    ) {
-        if let Some(batch) = self.batches.get_mut(&number) {
-            return batch.hand_on(&mut self.host, number);
-        }
+    )
+        ensures { TalksDeeds self.old self.new }
+    {
         let Some(web) = self.webs.get_mut(&number) else {
             return;
         };
-        let host = &mut self.host;
+        if let Some(batch) = self.batches.get_mut(&number) {
+            return batch.hand_on(&mut self.host, number);
+        }
         let rest = ask(
             self.alloc,
             self.guard.as_ref(),
-            host,
+            &mut self.host,
             web,
             number,
             replica,
@@ -190,18 +208,24 @@ impl Talks {
     }
 
     /// Hands on the first writes of a client. Where memory is refused to keep them, none is.
-    fn begin_writes(&mut self, batch: Batch, number: u64, counts: &mut Counts) {
-        let kept = self.batches.insert(number, batch).is_ok();
+    fn begin_writes(&mut self, batch: Batch, number: u64, counts: &mut Counts)
+        ensures { TalksDeeds self.old self.new }
+    {
+        let Some(web) = self.webs.get_mut(&number) else {
+            return;
+        };
+        if self.batches.insert(number, batch).is_err() {
+            return refuse(self.alloc, web, counts, Refusal::Memory);
+        }
         if let Some(batch) = self.batches.get_mut(&number) {
             batch.hand_on(&mut self.host, number);
-        }
-        if !kept && let Some(web) = self.webs.get_mut(&number) {
-            refuse(self.alloc, web, counts, Refusal::Memory);
         }
     }
 
     /// Lets a client wait for a change. Where memory is refused for that, it is told that there is none yet.
-    fn park(&mut self, number: u64, root: [u8; 32], due: u64, counts: &mut Counts) {
+    fn park(&mut self, number: u64, root: [u8; 32], due: u64, counts: &mut Counts)
+        ensures { TalksDeeds self.old self.new }
+    {
         let count = self.parked.len().saturating_add(1);
         if self.woken.reserve(count).is_ok() && self.parked.add(number, root, due) {
             return;
@@ -210,7 +234,9 @@ impl Talks {
     }
 
     /// Tells a client that nothing changed since this root.
-    fn tell_none(&mut self, number: u64, root: [u8; 32], counts: &mut Counts) {
+    fn tell_none(&mut self, number: u64, root: [u8; 32], counts: &mut Counts)
+        ensures { TalksDeeds self.old self.new }
+    {
         let Some(web) = self.webs.get_mut(&number) else {
             return;
         };
@@ -220,7 +246,9 @@ impl Talks {
     }
 
     /// Queues what a client over HTTP is told.
-    fn tell(&mut self, number: u64, counts: &mut Counts) {
+    fn tell(&mut self, number: u64, counts: &mut Counts)
+        ensures { TalksDeeds self.old self.new }
+    {
         let Some(web) = self.webs.get_mut(&number) else {
             return;
         };
@@ -234,8 +262,13 @@ impl Talks {
         }
     }
 
-    /// Tells all that wait what changed.
-    fn wake<S: Alter + Drop>(&mut self, replica: &Replica<S>, counts: &mut Counts) {
+    /// Tells all that wait what changed, if something did.
+    fn wake<S: Alter + Drop>(&mut self, replica: &Replica<S>, counts: &mut Counts)
+        ensures { TalksDeeds self.old self.new }
+    {
+        if self.changes.root() == self.parked.root() {
+            return;
+        }
         let mut body = String::new(self.alloc);
         let root = self.parked.root();
         let mut pushed = None;
@@ -248,28 +281,52 @@ impl Talks {
                 None => push_since(self.alloc, &self.changes, replica, root, &mut body),
             };
             pushed = Some(told);
-            if let Some(web) = self.webs.get_mut(&number) {
-                tell_pushed(self.alloc, web, told, body.as_str(), counts);
-            }
-            self.note_woken(number);
+            self.tell_change(number, told, body.as_str(), counts);
+        }
+    }
+
+    /// Tells one that waits what changed.
+    fn tell_change(
+        &mut self,
+        number: u64,
+        told: Result<(), Refusal>,
+        body: &str,
+        counts: &mut Counts,
+    )
+        ensures { TalksDeeds self.old self.new }
+    {
+        self.note_woken(number);
+        if let Some(web) = self.webs.get_mut(&number) {
+            tell_pushed(self.alloc, web, told, body, counts);
         }
     }
 
     /// Tells those that have waited long enough that nothing changed.
-    pub fn end_waits(&mut self, now: u64, counts: &mut Counts) {
+    pub fn end_waits(&mut self, now: u64, counts: &mut Counts)
+        ensures { TalksDeeds self.old self.new }
+    {
         for _ in 0..u64::MAX {
             let Some(number) = self.parked.take_due(now) else {
                 return;
             };
-            if let Some(root) = self.parked.root() {
-                self.tell_none(number, root, counts);
-            }
-            self.note_woken(number);
+            self.end_wait(number, counts);
+        }
+    }
+
+    /// Tells one that has waited long enough.
+    fn end_wait(&mut self, number: u64, counts: &mut Counts)
+        ensures { TalksDeeds self.old self.new }
+    {
+        self.note_woken(number);
+        if let Some(root) = self.parked.root() {
+            self.tell_none(number, root, counts);
         }
     }
 
     /// There is room for each that waits.
-    fn note_woken(&mut self, number: u64) {
+    fn note_woken(&mut self, number: u64)
+        ensures { talking_of self.new ≡ talking_of self.old }
+    {
         let _ = self.woken.push(number);
     }
 
@@ -279,100 +336,14 @@ impl Talks {
     }
 
     /// A client that waits for a change, if it does, is told soon that there is none.
-    pub fn hurry(&mut self, number: u64) {
+    pub fn hurry(&mut self, number: u64)
+        ensures { talking_of self.new ≡ talking_of self.old }
+    {
         self.parked.hurry(number);
     }
 
     /// When the first that waits for a change has waited long enough.
     pub fn next_due(&self) -> Option<u64> {
         self.parked.next_due()
-    }
-
-    pub fn wants_input(&self, number: u64) -> bool {
-        match self.webs.get(&number) {
-            Some(web) => web.wants_input() && self.host.ending(number).is_none(),
-            None => self.host.wants_input(number),
-        }
-    }
-
-    /// Hands on what came of a client.
-    pub fn feed(&mut self, number: u64, bytes: &[u8])
-        requires { length bytes.now ≤ 65536 }
-    {
-        match self.webs.get_mut(&number) {
-            Some(web) => web.feed(bytes),
-            None => feed(&mut self.host, number, bytes),
-        }
-    }
-
-    pub fn end_input(&mut self, number: u64) {
-        match self.webs.get_mut(&number) {
-            Some(web) => web.end_input(),
-            None => self.host.end_input(number),
-        }
-    }
-
-    /// Nothing more is read of a client.
-    pub fn fail_input(&mut self, number: u64) {
-        match self.webs.get_mut(&number) {
-            Some(web) => web.stop(Refusal::ReadFailed),
-            None => self.host.fail_input(number, Refusal::ReadFailed),
-        }
-    }
-
-    /// Nothing more is written to a client.
-    pub fn fail_output(&mut self, number: u64) {
-        match self.webs.get_mut(&number) {
-            Some(web) => web.stop(Refusal::WriteFailed),
-            None => self.host.fail_output(number),
-        }
-    }
-
-    /// The bytes that wait to leave to a client.
-    pub fn waiting(&self, number: u64) -> &[u8] {
-        match self.webs.get(&number) {
-            Some(web) => web.waiting(),
-            None => self.host.waiting(number).unwrap_or(&[]),
-        }
-    }
-
-    /// So many of the bytes that wait left.
-    pub fn sent(&mut self, number: u64, count: usize) {
-        match self.webs.get_mut(&number) {
-            Some(web) => {
-                let count = count.min(web.waiting().len());
-                web.sent(count);
-            }
-            None => sent(&mut self.host, number, count),
-        }
-    }
-
-    pub fn ending(&self, number: u64) -> Option<Ending> {
-        match self.webs.get(&number) {
-            Some(web) => web.ending().or(self.host.ending(number)),
-            None => self.host.ending(number),
-        }
-    }
-
-    pub fn is_done(&self, number: u64) -> bool {
-        match self.webs.get(&number) {
-            Some(web) => web.is_done() || (self.is_over(number, web) && web.waiting().is_empty()),
-            None => self.host.is_done(number),
-        }
-    }
-
-    /// Whether a frame, a request or an end may be taken at once, where no more is read.
-    pub fn is_busy(&self, number: u64) -> bool {
-        match self.webs.get(&number) {
-            Some(_) if self.parked.has(number) => false,
-            Some(web) => !self.is_over(number, web) && (web.is_busy() || web.asked().is_some()),
-            None => self.waiting(number).len() < WAITS_MAX && self.host.ending(number).is_none(),
-        }
-    }
-
-    /// Whether no further request of a client over HTTP is taken, since the host ended its connection. The responses
-    /// that wait leave.
-    fn is_over(&self, number: u64, web: &WebConnection) -> bool {
-        web.asked().is_none() && self.host.ending(number).is_some()
     }
 }

@@ -1,4 +1,6 @@
 use Rattle.std.proofs.Common.{◌<◌, arith, length}
+use Rattle.mvd_server.specs.Talking.{talking_of}
+use Rattle.mvd_server.proofs.Deeds.{deeds_on}
 use Rattle.mvd_server.proofs.Placing.{places_kept}
 use Rattle.mvd_server.proofs.peer_list.Peers.list.Goals as goal
 
@@ -7,4 +9,7 @@ loop-peering-preserved c =
     let i = c.loop-peering.peering-index in
     let items = c.loop-peering.peering-items in
     let at : i < length items = omega arith in
-    places_kept items i c.list.new.self c.peering-item.result at c.loop-peering.invariant c.list.ensures.places
+    record {
+      few = places_kept items i c.list.new.self c.peering-item.result at c.loop-peering.invariant.few c.list.ensures.places;
+      deeds = deeds_on (talking_of c.args.crowd.now.talks) (talking_of c.loop-peering.crowd.talks) (talking_of c.list.new.crowd.talks) c.loop-peering.invariant.deeds c.list.ensures.deeds;
+    }

@@ -1,4 +1,6 @@
 use Rattle.std.proofs.Common.{◌<◌, arith, length}
+use Rattle.mvd_server.specs.Talking.{talking_of}
+use Rattle.mvd_server.proofs.Deeds.{deeds_on}
 use Rattle.mvd_server.proofs.Hearing.{heard_more}
 use Rattle.mvd_server.proofs.Placing.{places_kept}
 use Rattle.mvd_server.proofs.peer_list.Peers.take_replies.Goals as goal
@@ -8,4 +10,8 @@ loop-peering-preserved c =
     let i = c.loop-peering.peering-index in
     let items = c.loop-peering.peering-items in
     let at : i < length items = omega arith in
-    (places_kept items i c.hear.new.self c.peering-item.result at c.loop-peering.invariant.0 c.hear.ensures.places, heard_more _ items i _ _ c.hear.new.self at c.hear.ensures.news c.loop-peering.invariant.1)
+    record {
+      few = places_kept items i c.hear.new.self c.peering-item.result at c.loop-peering.invariant.few c.hear.ensures.places;
+      heard = heard_more _ items i _ _ c.hear.new.self at c.hear.ensures.news c.loop-peering.invariant.heard;
+      deeds = deeds_on (talking_of c.args.crowd.now.talks) (talking_of c.loop-peering.crowd.talks) (talking_of c.hear.new.crowd.talks) c.loop-peering.invariant.deeds c.hear.ensures.deeds;
+    }

@@ -1,5 +1,6 @@
 use Rattle.mvd_server.specs.Peerings.{TakesFree}
+use Rattle.mvd_server.specs.Talking.{TalksDeeds}
 use Rattle.mvd_server.proofs.peering.Peering.go_on.Given as goal
 
 abbrev pub invariant-loop-turn : goal.invariant-loop-turn
-invariant-loop-turn l = TakesFree l.fn.self l.fn.free l.self l.free
+invariant-loop-turn l = record { free : TakesFree l.fn.self l.fn.free l.self l.free; deeds : TalksDeeds l.fn.crowd.talks l.crowd.talks }

@@ -1,5 +1,6 @@
-use Rattle.mvd_server.proofs.Rounds.{has_round}
+use Rattle.mvd_server.specs.Talking.{talking_of}
+use Rattle.mvd_server.proofs.Deeds.{deeds_none, deeds_on}
 use Rattle.mvd_server.proofs.talks.Talks.round.Goals as goal
 
-pub returns : goal.returns
-returns g c = record { round = has_round _ _ _ c.args.replica.now c.round-round.new.replica (c.round-round.ensures.round.0, c.round-round.ensures.round.1) }
+pub loop-number-2-preserved : goal.loop-number-2-preserved
+loop-number-2-preserved g c = deeds_on _ (talking_of c.loop-number-2.self) (talking_of c.tell.new.self) c.loop-number-2.invariant c.tell.ensures

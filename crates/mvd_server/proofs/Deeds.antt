@@ -1,0 +1,189 @@
+-- Deeds, one after the other, and bytes carried between them.
+use Rattle.std.proofs.Common.{◌≡◌, ◌∙◌, ◌⊎◌, ◌==◌, ◌++◌, ◌∷◌, [], ℕ, Bool, true, List, Option, None, Some, Result, inl, inr, refl, sym, subst, ap}
+use Rattle.std.specs.BTreeMap.{insert_entry, is_at}
+use Rattle.std.specs.Map.{set_value}
+use Rattle.std.specs.Ordering.{nat_cmp}
+use Rattle.mvd_conn.specs.declared.ending.Source.{Source}
+use Rattle.mvd_conn.specs.declared.ending.Source.TheVariants as source
+use Rattle.mvd_conn.specs.History.{History, closed, cut, fed, released, sent}
+use Rattle.mvd_conn.specs.declared.guard.Guard.{Guard}
+use Rattle.mvd_dots.specs.declared.refusals.Refusal.TheVariants.{Memory}
+use Rattle.mvd_host.specs.Hosts.{Admits, AdmitsOne, ClientLeaves, HostValue, IsClient, altered, client_of}
+use Rattle.mvd_host.specs.Runs.{Call, Closes, Cuts, Feeds, Releases, Sends, after_call}
+use Rattle.mvd_dots.specs.declared.refusals.Refusal.{Refusal}
+use Rattle.mvd_server.specs.Fronts.{IsFrontReply, TakesFront, TellsNext}
+use Rattle.mvd_server.specs.Handed.{FedTo, TakenFrom}
+use Rattle.mvd_server.specs.OwnSides.{DismissesOwn, TakesBytes, sent_of}
+use Rattle.mvd_server.specs.Paths.{IsPath}
+use Rattle.mvd_server.specs.Talking.{Act, Calls, Comes, ComesByWeb, Deed, Deeds, Does, Goes, GoesOwn, IsMadeFor, MayCall, OpensWeb, TalksDeeds, Talking, TurnsBack, Turns, is_own, talking_of, web_in, with_host, with_web}
+use Rattle.mvd_server.specs.Wires.{Carries, GivesOut, TakesIn, Wired, WiredStep}
+use Rattle.mvd_server.specs.declared.talks.Talks.{Talks}
+use Rattle.mvd_server.specs.declared.sockets.Sockets.{Ghosts}
+use Rattle.mvd_server.proofs.Paths.{path_map, path_none, path_on, path_one, path_same}
+use Rattle.mvd_wire.specs.declared.reply.Reply.{Reply}
+use Rattle.mvd_web.specs.declared.web_connection.WebConnection.{WebConnection}
+
+pub deeds_none : (t : Talking) → Deeds t t
+deeds_none t = path_none Deed t
+
+pub deeds_same : (old new : Talking) → new ≡ old → Deeds old new
+deeds_same old new same = path_same Deed old new same
+
+pub deeds_on : (old mid new : Talking) → Deeds old mid → Deeds mid new → Deeds old new
+deeds_on old mid new p q = path_on Deed old mid new p q
+
+pub deeds_one : (act : Act) (old new : Talking) → Does act old new → Deeds old new
+deeds_one act old new does = path_one Deed old new (act, does)
+
+-- a call on one connection of the host
+pub deed_call : (n : ℕ) (call : Call) (old : Talking) (host : HostValue) → MayCall old n call → host ≡ altered old.host n (after_call call) → Deeds old (with_host old host)
+deed_call n call old host may is = deeds_one (Calls n call) old (with_host old host) (may, ap (with_host old) is)
+
+pub deed_closes : (n : ℕ) (why : Source) (old : Talking) (host : HostValue) → host ≡ altered old.host n (λ h. closed h why) → Deeds old (with_host old host)
+deed_closes n why old host is = deed_call n (Closes why) old host tt is
+
+pub deed_cuts : (n : ℕ) (old : Talking) (host : HostValue) → host ≡ altered old.host n cut → Deeds old (with_host old host)
+deed_cuts n old host is = deed_call n Cuts old host tt is
+
+-- bytes are fed to a connection of which the server makes the frames
+pub deed_feeds : (n : ℕ) (bytes : List ℕ) (old : Talking) (host : HostValue) → IsMadeFor old n → TakesBytes old.host n bytes host → Deeds old (with_host old host)
+deed_feeds n bytes old host made (inl is) = deed_call n (Feeds bytes) old host made is
+deed_feeds n bytes old host made (inr is) =
+    let mid = altered old.host n released in
+    deeds_on old (with_host old mid) (with_host old host) (deed_call n Releases old mid tt refl) (deed_call n (Closes (source.Failed Memory)) (with_host old mid) host tt is)
+
+pub deed_sends : (n count : ℕ) (old : Talking) (host : HostValue) → IsMadeFor old n → host ≡ sent_of old.host n count → Deeds old (with_host old host)
+deed_sends n count old host made is = deed_call n (Sends count) old host made is
+
+-- a turn of a connection over HTTP
+pub deed_turns : (n : ℕ) (web web' : WebConnection) (old : Talking) → web_in old n ≡ Some web → Deeds old (with_web old n web')
+deed_turns n web web' old has = deeds_one (Turns n web web') old (with_web old n web') (has, refl)
+
+-- bytes are fed to one of the server's own, or not
+pub deeds_own : (n : ℕ) (bytes : List ℕ) (old : Talking) (host : HostValue) → is_own old n ≡ true → (host ≡ old.host) ⊎ TakesBytes old.host n bytes host → Deeds old (with_host old host)
+deeds_own n bytes old host own (inl same) = deeds_same old (with_host old host) (ap (with_host old) same)
+deeds_own n bytes old host own (inr takes) = deed_feeds n bytes old host (inr own) takes
+
+-- none was fed, and one more
+pub fed_none : (n : ℕ) (host : HostValue) → FedTo n host host
+fed_none n host = path_none _ host
+
+pub fed_same : (n : ℕ) (old new : HostValue) → new ≡ old → FedTo n old new
+fed_same n old new same = path_same _ old new same
+
+pub fed_piece : (n : ℕ) (bytes : List ℕ) (old mid new : HostValue) → FedTo n old mid → (new ≡ mid) ⊎ TakesBytes mid n bytes new → FedTo n old new
+fed_piece n bytes old mid new p (inl same) = subst (λ (h : HostValue). FedTo n old h) (sym same) p
+fed_piece n bytes old mid new p (inr takes) = path_on (λ a b. (bytes : List ℕ) × TakesBytes a n bytes b) old mid new p (path_one _ mid new (bytes, takes))
+
+-- none was taken, and one more
+pub taken_none : (n : ℕ) (host : HostValue) → TakenFrom n host host
+taken_none n host = path_none _ host
+
+pub taken_one : (n count : ℕ) (old mid new : HostValue) → TakenFrom n old mid → new ≡ sent_of mid n count → TakenFrom n old new
+taken_one n count old mid new p is = path_on (λ a b. (count : ℕ) × (b ≡ sent_of a n count)) old mid new p (path_one _ mid new (count, is))
+
+front_by : (o : Option History) (n : ℕ) (told : Result Reply Refusal) (old new : HostValue) → IsClient o (λ h. (count : ℕ) × IsFrontReply h.waits told count × (new ≡ altered old n (λ c. sent c count))) → TakenFrom n old new
+front_by None n told old new never = absurd never
+front_by (Some h) n told old new (count, front, is) = taken_one n count old old new (taken_none n old) is
+
+-- a reply in front was taken
+pub taken_front : (n : ℕ) (told : Option (Result Reply Refusal)) (old new : HostValue) → TakesFront n old told new → TakenFrom n old new
+taken_front n None old new (same, none) = path_same _ old new same
+taken_front n (Some told) old new front = front_by (client_of old n) n told old new front
+
+taken_else : (n : ℕ) (told : Option (Result Reply Refusal)) (old new : HostValue) (E : Type 0) → TakesFront n old told new ⊎ (TakesFront n old None new × E) → TakenFrom n old new
+taken_else n told old new E (inl front) = taken_front n told old new front
+taken_else n told old new E (inr (front, end)) = taken_front n None old new front
+
+pub taken_next : (own : Option (Option Refusal)) (n : ℕ) (told : Option (Result Reply Refusal)) (old new : HostValue) → TellsNext own n old told new → TakenFrom n old new
+taken_next (Some (Some refusal)) n told old new (is, same) = path_same _ old new same
+taken_next (Some None) n told old new next = taken_else n told old new _ next
+taken_next None n told old new next = taken_else n told old new _ next
+
+pub taken_more : (n : ℕ) (old mid new : HostValue) → TakenFrom n old mid → TakenFrom n mid new → TakenFrom n old new
+taken_more n old mid new p q = path_on (λ a b. (count : ℕ) × (b ≡ sent_of a n count)) old mid new p q
+
+-- pieces, one after the other
+fed_on : (n : ℕ) (old : Talking) (mids : List HostValue) (host : HostValue) → IsMadeFor old n → IsPath (λ a b. (bytes : List ℕ) × TakesBytes a n bytes b) old.host mids host → Deeds old (with_host old host)
+fed_on n old [] host made same = deeds_same old (with_host old host) (ap (with_host old) same)
+fed_on n old (mid ∷ mids) host made ((bytes, takes), more) =
+    deeds_on old (with_host old mid) (with_host old host) (deed_feeds n bytes old mid made takes) (fed_on n (with_host old mid) mids host made more)
+
+pub deeds_fed : (n : ℕ) (old : Talking) (host : HostValue) → IsMadeFor old n → FedTo n old.host host → Deeds old (with_host old host)
+deeds_fed n old host made p = fed_on n old p.mids host made p.steps
+
+taken_on : (n : ℕ) (old : Talking) (mids : List HostValue) (host : HostValue) → IsMadeFor old n → IsPath (λ a b. (count : ℕ) × (b ≡ sent_of a n count)) old.host mids host → Deeds old (with_host old host)
+taken_on n old [] host made same = deeds_same old (with_host old host) (ap (with_host old) same)
+taken_on n old (mid ∷ mids) host made ((count, is), more) =
+    deeds_on old (with_host old mid) (with_host old host) (deed_sends n count old mid made is) (taken_on n (with_host old mid) mids host made more)
+
+pub deeds_taken : (n : ℕ) (old : Talking) (host : HostValue) → IsMadeFor old n → TakenFrom n old.host host → Deeds old (with_host old host)
+deeds_taken n old host made p = taken_on n old p.mids host made p.steps
+
+-- and then a turn of its connection over HTTP
+pub fed_turns : (n : ℕ) (web web' : WebConnection) (old : Talking) (host : HostValue) → web_in old n ≡ Some web → FedTo n old.host host → Deeds old (with_web (with_host old host) n web')
+fed_turns n web web' old host has p =
+    deeds_on old (with_host old host) (with_web (with_host old host) n web') (deeds_fed n old host (inl (web, has)) p) (deed_turns n web web' (with_host old host) has)
+
+pub taken_turns : (n : ℕ) (web web' : WebConnection) (old : Talking) (host : HostValue) → web_in old n ≡ Some web → TakenFrom n old.host host → Deeds old (with_web (with_host old host) n web')
+taken_turns n web web' old host has p =
+    deeds_on old (with_host old host) (with_web (with_host old host) n web') (deeds_taken n old host (inl (web, has)) p) (deed_turns n web web' (with_host old host) has)
+
+-- a client of frames comes, or nobody
+pub comes_frames : (old : Talking) (o : Option ℕ) (host : HostValue) → Admits old.guard old.host o host → Deeds old (with_host old host)
+comes_frames old None host (same, full) = deeds_same old (with_host old host) (ap (with_host old) same)
+comes_frames old (Some n) host one = deeds_one (Comes n) old (with_host old host) (one, refl)
+
+-- one over HTTP
+pub comes_web : (n : ℕ) (old : Talking) (host : HostValue) (new : Talking) → AdmitsOne None old.host host n → OpensWeb n (with_host old host) new → Deeds old new
+comes_web n old host new one (web, fresh, same) =
+    let at : new.host ≡ host = ap (λ (t : Talking). t.host) same in
+    deeds_one (ComesByWeb n web) old new (subst (λ (h : HostValue). AdmitsOne None old.host h n) (sym at) one, fresh, same ∙ ap (λ (h : HostValue). record old { host = h; webs = insert_entry nat_cmp old.webs n web }) (sym at))
+
+-- one for whose connection there is no memory
+pub turns_back : (n : ℕ) (old : Talking) (mid host : HostValue) (new : Talking) → AdmitsOne None old.host mid n → ClientLeaves mid n host → new ≡ with_host old host → Deeds old new
+turns_back n old mid host new one leaves same =
+    let at : new.host ≡ host = ap (λ (t : Talking). t.host) same in
+    deeds_one (TurnsBack n mid) old new (None, one, subst (λ (h : HostValue). ClientLeaves mid n h) (sym at) leaves, same ∙ ap (with_host old) (sym at))
+
+-- a connection over HTTP, as the map has it afterwards
+pub turned : (n : ℕ) (web web' : WebConnection) (old : Talking) (entries : List (ℕ × WebConnection)) → web_in old n ≡ Some web → entries ≡ set_value (is_at (nat_cmp n)) old.webs web' → Deeds old (record old { webs = entries })
+turned n web web' old entries has is = subst (λ e. Deeds old (record old { webs = e })) (sym is) (deed_turns n web web' old has)
+
+pub fed_turned : (n : ℕ) (web web' : WebConnection) (old : Talking) (host : HostValue) (entries : List (ℕ × WebConnection)) → web_in old n ≡ Some web → FedTo n old.host host → entries ≡ set_value (is_at (nat_cmp n)) old.webs web'
+    → Deeds old (record old { host = host; webs = entries })
+fed_turned n web web' old host entries has p is = subst (λ e. Deeds old (record old { host = host; webs = e })) (sym is) (fed_turns n web web' old host has p)
+
+pub taken_turned : (n : ℕ) (web web' : WebConnection) (old : Talking) (host : HostValue) (entries : List (ℕ × WebConnection)) → web_in old n ≡ Some web → TakenFrom n old.host host → entries ≡ set_value (is_at (nat_cmp n)) old.webs web'
+    → Deeds old (record old { host = host; webs = entries })
+taken_turned n web web' old host entries has p is = subst (λ e. Deeds old (record old { host = host; webs = e })) (sym is) (taken_turns n web web' old host has p)
+
+-- no connection over HTTP is there
+pub unturned : (old : Talking) (host : HostValue) (entries : List (ℕ × WebConnection)) → entries ≡ old.webs → Deeds old (with_host old host) → Deeds old (record old { host = host; webs = entries })
+unturned old host entries is p = subst (λ e. Deeds old (record old { host = host; webs = e })) (sym is) p
+
+-- one of the server's own goes
+pub own_goes : (n : ℕ) (old mid new : Talks) → DismissesOwn old n mid → new ≡ mid → TalksDeeds old new
+own_goes n old mid new goes same = subst (λ (t : Talks). TalksDeeds old t) (sym same) (deeds_one (GoesOwn n) (talking_of old) (talking_of mid) goes)
+
+module _ {K : Type 0} (k : Ghosts K) where
+  -- deeds while no socket moves
+  pub carries_deeds : (old new : Talking) (sockets sockets' : K) → sockets' ≡ sockets → Deeds old new → Carries k (record { talking = old; sockets = sockets }) (record { talking = new; sockets = sockets' })
+  carries_deeds old new sockets sockets' same p = subst (λ s. Carries k (record { talking = old; sockets = sockets }) (record { talking = new; sockets = s })) (sym same) (on p)
+    where
+      on : Deeds old new → Carries k (record { talking = old; sockets = sockets }) (record { talking = new; sockets = sockets })
+      on q = path_map Deed (WiredStep k) (λ t. record { talking = t; sockets = sockets }) (λ a b one. inl (one, refl)) old new q
+
+  pub carries_none : (w : Wired K) → Carries k w w
+  carries_none w = path_none (WiredStep k) w
+
+  pub carries_on : (old mid new : Wired K) → Carries k old mid → Carries k mid new → Carries k old new
+  carries_on old mid new p q = path_on (WiredStep k) old mid new p q
+
+  -- bytes came
+  pub carries_in : (n : ℕ) (bytes : List ℕ) (old new : Talking) (sockets sockets' : K) → k.gave sockets n bytes sockets' → TakesIn n bytes old new → Carries k (record { talking = old; sockets = sockets }) (record { talking = new; sockets = sockets' })
+  carries_in n bytes old new sockets sockets' gives takes = path_one (WiredStep k) _ _ (inr (inl (n, bytes, gives, takes)))
+
+  -- bytes left
+  pub carries_out : (n : ℕ) (bytes : List ℕ) (old new : Talking) (sockets sockets' : K) → k.took sockets n bytes sockets' → GivesOut n bytes old new → Carries k (record { talking = old; sockets = sockets }) (record { talking = new; sockets = sockets' })
+  carries_out n bytes old new sockets sockets' takes gives = path_one (WiredStep k) _ _ (inr (inr (n, bytes, takes, gives)))

@@ -1,0 +1,6 @@
+use Rattle.mvd_server.specs.Talking.{talking_of}
+use Rattle.mvd_server.proofs.Deeds.{deeds_none, deeds_on}
+use Rattle.mvd_server.proofs.talks.Talks.wake.Goals as goal
+
+pub loop-preserved : goal.loop-preserved
+loop-preserved g c = deeds_on (talking_of c.args.self.now) (talking_of c.loop.self) (talking_of c.tell_change.new.self) c.loop.invariant c.tell_change.ensures

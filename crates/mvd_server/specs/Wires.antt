@@ -1,0 +1,112 @@
+-- What comes by the clients' sockets, and what leaves by them.
+use Rattle.std.specs.Prelude.{◌≡◌, ◌⊎◌, ◌++◌, ℕ, List, [], codes, length, min, take, Option, None, Some, ⊤}
+use Rattle.mvd_conn.specs.History.{History, WantsInput}
+use Rattle.mvd_dots.specs.declared.refusals.Refusal.TheVariants.{TooManyRequests}
+use Rattle.mvd_host.specs.Hosts.{IsClient, client_of}
+use Rattle.mvd_server.specs.OwnSides.{TakesBytes, sent_of, waits_of}
+use Rattle.mvd_server.specs.Paths.{Path}
+use Rattle.mvd_server.specs.Talking.{Deed, Talking, talking_of, web_in, with_host, with_web}
+use Rattle.mvd_server.specs.declared.sockets.Sockets.{Ghosts}
+use Rattle.mvd_server.specs.declared.talks.Talks.{Talks}
+use Rattle.mvd_web.specs.Inside.{web_of}
+use Rattle.mvd_web.specs.Web.{Feeds, web_sent}
+use Rattle.mvd_web.specs.declared.web_connection.WebConnection.{WebConnection}
+use Rattle.mvd_wire.specs.Replies.{reply_bytes}
+use Rattle.mvd_wire.specs.declared.reply.Reply.TheVariants.{Refused}
+
+-- ---- what comes
+
+-- bytes are fed to the connection of a client, over HTTP or not; or memory is refused for them, and no more is taken of
+-- it
+abbrev pub TakesBy : Option WebConnection → ℕ → List ℕ → Talking → Talking → Type 0
+TakesBy None n bytes old new = TakesBytes old.host n bytes new.host × (new ≡ with_host old new.host)
+TakesBy (Some web) n bytes old new =
+    (web' : WebConnection) × Feeds (web_of web) bytes (web_of web') × (new ≡ with_web old n web')
+
+-- the host has no such client: it has left, or it was turned away
+abbrev pub IsNoClient : Talking → ℕ → Type 0
+IsNoClient t n = client_of t.host n ≡ None
+
+-- ALL BYTES THAT CAME of a client are fed to its connection. Those of one that is no client any more are dropped
+abbrev pub TakesIn : ℕ → List ℕ → Talking → Talking → Type 0
+TakesIn n bytes old new =
+    TakesBy (web_in old n) n bytes old new ⊎ ((new ≡ old) × (IsNoClient old n ⊎ (bytes ≡ [])))
+
+-- a client of frames is fed where the host wants more of it
+abbrev pub MayFeedBy : Option WebConnection → Option History → Type 0
+MayFeedBy None h = IsClient h WantsInput
+MayFeedBy (Some web) h = ⊤
+
+abbrev pub MayFeed : ℕ → Talking → Type 0
+MayFeed n t = MayFeedBy (web_in t n) (client_of t.host n)
+
+-- then all of them are
+abbrev pub FeedsBy : Option WebConnection → ℕ → List ℕ → Talking → Talking → Type 0
+FeedsBy None n bytes old new =
+    (IsClient (client_of old.host n) WantsInput → TakesBytes old.host n bytes new.host) × (new ≡ with_host old new.host)
+FeedsBy (Some web) n bytes old new = TakesBy (Some web) n bytes old new
+
+abbrev pub FeedsTo : ℕ → List ℕ → Talking → Talking → Type 0
+FeedsTo n bytes old new = FeedsBy (web_in old n) n bytes old new
+
+-- ---- what leaves
+
+-- the bytes that wait to leave to a client
+abbrev pub waits_by : Option WebConnection → List ℕ → List ℕ
+waits_by None waits = waits
+waits_by (Some web) waits = (web_of web).waits
+
+abbrev pub waits_for : ℕ → Talking → List ℕ
+waits_for n t = waits_by (web_in t n) (waits_of t.host n)
+
+-- so many of them left, or all
+abbrev pub SendsBy : Option WebConnection → ℕ → ℕ → Talking → Talking → Type 0
+SendsBy None n count old new =
+    new ≡ with_host old (sent_of old.host n (min count (length (waits_of old.host n))))
+SendsBy (Some web) n count old new =
+    (web' : WebConnection) × (web_of web' ≡ web_sent (web_of web) (min count (length (web_of web).waits)))
+    × (new ≡ with_web old n web')
+
+abbrev pub SendsOf : ℕ → ℕ → Talking → Talking → Type 0
+SendsOf n count old new = SendsBy (web_in old n) n count old new
+
+-- what is told to a client for which there is no place, over HTTP
+abbrev pub no_place_web : List ℕ
+no_place_web =
+    codes "HTTP/1.1 503 Service Unavailable\r\nretry-after: 1\r\ncontent-type: application/json\r\ncache-control: no-store\r\n"
+    ++ codes "connection: close\r\ncontent-length: 39\r\n\r\n{\"refused\":36,\"name\":\"TooManyRequests\"}"
+
+-- the first bytes of that, or of its frame
+abbrev pub IsNoPlace : List ℕ → Type 0
+IsNoPlace bytes =
+    (bytes ≡ take (length bytes) (reply_bytes (Refused TooManyRequests))) ⊎ (bytes ≡ take (length bytes) no_place_web)
+
+abbrev pub TellsNoPlace : {K : Type 0} → (K → ℕ → List ℕ → K → Type 0) → ℕ → K → K → Type 0
+TellsNoPlace took n old new = (new ≡ old) ⊎ ((bytes : List ℕ) × took old n bytes new × IsNoPlace bytes)
+
+-- WHAT LEFT by a client's socket is the first of what waits for it, and waits no more. One that is turned away is told
+-- that
+abbrev pub GivesOut : ℕ → List ℕ → Talking → Talking → Type 0
+GivesOut n bytes old new =
+    ((bytes ≡ take (length bytes) (waits_for n old)) × SendsOf n (length bytes) old new)
+    ⊎ ((new ≡ old) × ((IsNoClient old n × IsNoPlace bytes) ⊎ (bytes ≡ [])))
+
+-- ---- clients with their sockets
+
+pub record Wired (K : Type 0) : Type 0 where
+  pub talking : Talking
+  pub sockets : K
+
+abbrev pub wired_of : {K : Type 0} → Talks → K → Wired K
+wired_of talks sockets = record { talking = talking_of talks; sockets = sockets }
+
+module _ {K : Type 0} (k : Ghosts K) where
+  -- a deed, while no byte moves by a socket; bytes came by a socket, or left by it
+  abbrev pub WiredStep : Wired K → Wired K → Type 0
+  WiredStep old new =
+      (Deed old.talking new.talking × (new.sockets ≡ old.sockets))
+      ⊎ ((n : ℕ) × (bytes : List ℕ) × k.gave old.sockets n bytes new.sockets × TakesIn n bytes old.talking new.talking)
+      ⊎ ((n : ℕ) × (bytes : List ℕ) × k.took old.sockets n bytes new.sockets × GivesOut n bytes old.talking new.talking)
+
+  abbrev pub Carries : Wired K → Wired K → Type 0
+  Carries old new = Path WiredStep old new

@@ -1,0 +1,124 @@
+//! The bytes of a client, and how far its connection is.
+ghost use Rattle.std.specs.Prelude.{◌≡◌, ◌≤◌, IsTrue, is_some, length};
+ghost use Rattle.mvd_host.specs.Hosts.{client_of};
+ghost use Rattle.mvd_server.specs.Talking.{TalksDeeds, talking_of};
+ghost use Rattle.mvd_server.specs.Wires.{FeedsTo, MayFeed, SendsOf, waits_for};
+
+use crate::feeding::{feed, sent};
+use crate::talks::Talks;
+use mvd_conn::Ending;
+use mvd_dots::Refusal;
+use mvd_web::WebConnection;
+
+/// Where as many bytes wait to leave to a client, none of its frames is answered.
+const WAITS_MAX: usize = 262_144;
+
+impl Talks {
+    /// Whether the host has this client.
+    pub fn has(&self, number: u64) -> bool
+        ensures { result ≡ is_some (client_of self.now.host number) }
+    {
+        self.host.waiting(number).is_some()
+    }
+
+    pub fn wants_input(&self, number: u64) -> bool
+        ensures { IsTrue result → MayFeed number (talking_of self.now) }
+    {
+        match self.webs.get(&number) {
+            Some(web) => web.wants_input() && self.host.ending(number).is_none(),
+            None => self.host.wants_input(number),
+        }
+    }
+
+    /// Hands on what came of a client.
+    pub fn feed(&mut self, number: u64, bytes: &[u8])
+        requires { length bytes.now ≤ 65536 }
+        ensures { FeedsTo number bytes.now (talking_of self.old) (talking_of self.new) }
+    {
+        match self.webs.get_mut(&number) {
+            Some(web) => web.feed(bytes),
+            None => feed(&mut self.host, number, bytes),
+        }
+    }
+
+    pub fn end_input(&mut self, number: u64)
+        ensures { TalksDeeds self.old self.new }
+    {
+        match self.webs.get_mut(&number) {
+            Some(web) => web.end_input(),
+            None => self.host.end_input(number),
+        }
+    }
+
+    /// Nothing more is read of a client.
+    pub fn fail_input(&mut self, number: u64)
+        ensures { TalksDeeds self.old self.new }
+    {
+        match self.webs.get_mut(&number) {
+            Some(web) => web.stop(Refusal::ReadFailed),
+            None => self.host.fail_input(number, Refusal::ReadFailed),
+        }
+    }
+
+    /// Nothing more is written to a client.
+    pub fn fail_output(&mut self, number: u64)
+        ensures { TalksDeeds self.old self.new }
+    {
+        match self.webs.get_mut(&number) {
+            Some(web) => web.stop(Refusal::WriteFailed),
+            None => self.host.fail_output(number),
+        }
+    }
+
+    /// The bytes that wait to leave to a client.
+    pub fn waiting(&self, number: u64) -> &[u8]
+        ensures { result.now ≡ waits_for number (talking_of self.now) }
+    {
+        match self.webs.get(&number) {
+            Some(web) => web.waiting(),
+            None => self.host.waiting(number).unwrap_or(&[]),
+        }
+    }
+
+    /// So many of the bytes that wait left.
+    pub fn sent(&mut self, number: u64, count: usize)
+        ensures { SendsOf number count (talking_of self.old) (talking_of self.new) }
+    {
+        match self.webs.get_mut(&number) {
+            Some(web) => {
+                let count = count.min(web.waiting().len());
+                web.sent(count);
+            }
+            None => sent(&mut self.host, number, count),
+        }
+    }
+
+    pub fn ending(&self, number: u64) -> Option<Ending> {
+        match self.webs.get(&number) {
+            Some(web) => web.ending().or(self.host.ending(number)),
+            None => self.host.ending(number),
+        }
+    }
+
+    pub fn is_done(&self, number: u64) -> bool {
+        match self.webs.get(&number) {
+            Some(web) => web.is_done() || (self.is_over(number, web) && web.waiting().is_empty()),
+            None => self.host.is_done(number),
+        }
+    }
+
+    /// Whether a frame, a request or an end may be taken at once, where no more is read.
+    pub fn is_busy(&self, number: u64) -> bool {
+        match self.webs.get(&number) {
+            Some(_) if self.parked.has(number) => false,
+            Some(web) => !self.is_over(number, web) && (web.is_busy() || web.asked().is_some()),
+            None => self.waiting(number).len() < WAITS_MAX && self.host.ending(number).is_none(),
+        }
+    }
+
+    /// Whether no further request of a client over HTTP is taken, since the host ended its connection. The responses
+    /// that wait leave.
+    fn is_over(&self, number: u64, web: &WebConnection) -> bool {
+        web.asked().is_none() && self.host.ending(number).is_some()
+    }
+}

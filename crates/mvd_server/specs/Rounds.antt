@@ -1,9 +1,8 @@
 -- What a server does to a stored site.
-use Rattle.std.specs.Prelude.{◌≡◌, ◌⊎◌, ℕ, List, Option, Some}
+use Rattle.std.specs.Prelude.{◌≡◌, ◌⊎◌, ℕ, List, [], ◌∷◌, Option}
 use Rattle.mvd_conn.specs.declared.guard.Guard.{Guard}
-use Rattle.mvd_conn.specs.History.{History}
 use Rattle.mvd_host.specs.Course.{own}
-use Rattle.mvd_host.specs.Hosts.{HostValue, client_of, new_host}
+use Rattle.mvd_host.specs.Hosts.{HostValue, new_host}
 use Rattle.mvd_host.specs.Round.{Round, Side, host_side}
 use Rattle.mvd_host.specs.Runs.{Happening, HasShown, HostMoment, OneList, Runs, after_run, turns_in}
 use Rattle.mvd_replica.specs.Replicas.{conn_of, site_of}
@@ -41,6 +40,11 @@ moment_of w = record { host = host_in w; site = w.site; conn = w.conn }
 
 abbrev pub side_in : {K C : Type 0} → (C → State) → World K C → Side
 side_in f w = record { host = host_in w; site = w.site; store = f w.conn }
+
+-- at one of these moments the server made the frames of a client
+abbrev pub WasMadeFor : {K C : Type 0} → ℕ → List (World K C) → Type 0
+WasMadeFor n [] = ⊥
+WasMadeFor n (w ∷ ws) = IsMadeFor w.wired.talking n ⊎ WasMadeFor n ws
 
 module _ {K C : Type 0} (f : C → State) (k : SocketGhosts K) where
   -- what a server does beside a round changes no site
@@ -109,5 +113,4 @@ module _ {S : Type 0} {g : Ghosts S} where
         ≡ moment_of (world_of (record { talking = last; sockets = sockets' }) new)
     pub list : OneList (turns_in all) (host_side new_host old) (host_side last.host new)
     -- one of frames has no turn before it has shown the token
-    pub shown : (n : ℕ) (h : History) → client_of last.host n ≡ Some h →
-        HasShown guard (own n (turns_in all)) ⊎ IsMadeFor last n
+    pub shown : (n : ℕ) → HasShown guard (own n (turns_in all)) ⊎ WasMadeFor n goes.mids

@@ -186,8 +186,8 @@ module _ {K C : Type 0} (f : C → State) (k : SocketGhosts K) where
         far = subst (λ m. SoFar f start (turns ++ turns_in h.all) m) h.ends (runs_on f start turns (moment_of old) h.all h.runs s.far);
         made = made;
         gone = λ n gone.
-        subst (λ l. HasShown guard l ⊎ Made n) (sym (own-append n turns (turns_in h.all) ∙ ap (λ l. own n turns ++ l) (none_gone old new step n gone) ∙ append-nil (own n turns)))
-        (shows_each guard start Made turns old s n);
+            subst (λ l. HasShown guard l ⊎ Made n) (sym (own-append n turns (turns_in h.all) ∙ ap (λ l. own n turns ++ l) (none_gone old new step n gone) ∙ append-nil (own n turns)))
+            (shows_each guard start Made turns old s n);
       }
 
   shows_steps : (guard : Option Guard) (start : HostMoment C) (Made : ℕ → Type 0) (turns : List (ℕ × Turn)) (old new : World K C) (mids : List (World K C)) (steps : IsPath (ServeStep f k) old mids new) → ((n : ℕ) → WasMadeFor n mids → Made n)

@@ -88,7 +88,7 @@ module _ {S : Type 0} {g : Ghosts S} where
   abbrev pub AnswersClients : Talks → Replica S g → Talks → Replica S g → Type 0
   AnswersClients talks replica talks' replica' =
       Path ServingStep (record { talking = talking_of talks; replica = replica })
-          (record { talking = talking_of talks'; replica = replica' })
+      (record { talking = talking_of talks'; replica = replica' })
 
   abbrev pub world_of : {K : Type 0} → Wired K → Replica S g → World K (Held S)
   world_of wired replica = record { wired = wired; site = site_of replica; conn = conn_of replica }

@@ -6,10 +6,10 @@ use Rattle.mvd_conn.specs.History.{History, closed, fed, released, sent}
 use Rattle.mvd_dots.specs.declared.refusals.Refusal.TheVariants.{Memory}
 use Rattle.mvd_host.proofs.Own.{own-append}
 use Rattle.mvd_host.proofs.Runs.{SoFar, begins, goes_on as runs_on, has_shown, one_list}
-use Rattle.mvd_host.specs.Hosts.{HostValue, altered, client_of, new_host}
+use Rattle.mvd_host.specs.Hosts.{HostValue, IsClient, altered, client_of, new_host}
 use Rattle.mvd_host.specs.Course.{BothClients, own}
 use Rattle.mvd_host.specs.Round.{ClientCourse, Round, Side, host_side}
-use Rattle.mvd_host.specs.Runs.{Calls as Called, Closes, Comes as Came, Feeds, Goes as Gone, Happening, HasShown, HostMoment, OneList, Releases, Rounds, Runs, Sends, after_call, after_one, after_run, happened_turns, side_at, turns_in}
+use Rattle.mvd_host.specs.Runs.{Calls as Called, Closes, Comes as Came, Feeds, Goes as Gone, Happening, HasShown, HostMoment, OneList, Releases, Rounds, Runs, Sends, TellsOwn, after_call, after_one, after_run, happened_turns, side_at, turns_in}
 use Rattle.mvd_replica.specs.Replicas.{conn_of, site_of}
 use Rattle.mvd_replica.specs.Turns.{Turn}
 use Rattle.mvd_replica.specs.declared.replica.Replica.{Replica}
@@ -19,7 +19,7 @@ use Rattle.mvd_server.proofs.Showing.{AreGuarded, guarded_deed, guarded_in, guar
 use Rattle.mvd_server.specs.Guarded.{IsGuardOf}
 use Rattle.mvd_server.specs.OwnSides.{TakesBytes, sent_of, waits_of}
 use Rattle.mvd_server.specs.Paths.{IsPath, Path}
-use Rattle.mvd_server.specs.Rounds.{AnswersClients, BeginsServing, Between, GoesOn, HasRound, InRound, IsServed, ServeStep, Serving, ServingStep, WasMadeFor, World, begun, host_in, moment_of, world_of}
+use Rattle.mvd_server.specs.Rounds.{AnswersClients, BeginsServing, Between, GoesOn, HasRound, InRound, IsServed, ServeStep, Serving, ServingStep, WasMadeFor, WasThere, World, begun, host_in, moment_of, world_of}
 use Rattle.mvd_server.specs.Talking.{Calls, Comes, ComesByWeb, ComesOwn, Deed, Deeds, Goes, GoesByWeb, GoesOwn, IsMadeFor, TalksDeeds, Talking, Turns, TurnsBack, new_talking, talking_of, web_in, with_host}
 use Rattle.mvd_server.specs.Wires.{Carries, GivesOut, SendsBy, TakesBy, TakesIn, Wired, WiredStep, wired_of}
 use Rattle.mvd_server.specs.declared.sockets.Sockets.{Ghosts as SocketGhosts}
@@ -155,49 +155,62 @@ module _ {K C : Type 0} (f : C → State) (k : SocketGhosts K) where
   none_gone old new (inr r) n gone =
       ap (own n) (append-nil r.turns) ∙ r.round.spares.none n (none_before (client_of (host_in old) n) (client_of (host_in new) n) (ClientCourse (own n r.turns)) (r.round.clients n) gone)
 
-  -- each client has shown the token before its turns, also one that has gone
-  record Shows (guard : Option Guard) (start : HostMoment C) (Made : ℕ → Type 0) (turns : List (ℕ × Turn)) (w : World K C) : Type 0 where
+  -- a client has shown the token before its turns, and these are what it asked and was told
+  record Each (guard : Option Guard) (Made : ℕ → Type 0) (Told : ℕ → List Turn → Type 0) (n : ℕ) (turns : List Turn) : Type 0 where
+    shown : HasShown guard turns ⊎ Made n
+    told : (turns ≡ []) ⊎ Told n turns
+
+  -- so each of them, also one that has gone
+  record Shows (guard : Option Guard) (start : HostMoment C) (Made : ℕ → Type 0) (Told : ℕ → List Turn → Type 0) (turns : List (ℕ × Turn)) (w : World K C) : Type 0 where
     guards : Guards guard w
     far : SoFar f start turns (moment_of w)
     made : (n : ℕ) → IsMadeFor w.wired.talking n → Made n
-    gone : (n : ℕ) → client_of (host_in w) n ≡ None → HasShown guard (own n turns) ⊎ Made n
+    there : (n : ℕ) (own : List Turn) → IsClient (client_of (host_in w) n) (TellsOwn own) → Told n own
+    gone : (n : ℕ) → client_of (host_in w) n ≡ None → Each guard Made Told n (own n turns)
 
-  shows_here : (guard : Option Guard) (start : HostMoment C) (Made : ℕ → Type 0) (turns : List (ℕ × Turn)) (w : World K C) → Shows guard start Made turns w
-      → (n : ℕ) (h : History) → client_of (host_in w) n ≡ Some h → HasShown guard (own n turns) ⊎ Made n
-  shows_here guard start Made turns w s n h found = on (s.guards.each n h found)
-    where
-      on : (h.guard ≡ w.wired.talking.guard) ⊎ IsMadeFor w.wired.talking n → HasShown guard (own n turns) ⊎ Made n
-      on (inl same) = inl (subst (λ g. HasShown g (own n turns)) (same ∙ s.guards.kept) (has_shown (own n turns) h (s.far.tells n h found)))
-      on (inr made) = inr (s.made n made)
+  module _ (guard : Option Guard) (start : HostMoment C) (Made : ℕ → Type 0) (Told : ℕ → List Turn → Type 0) where
+    shows_here : (turns : List (ℕ × Turn)) (w : World K C) → Shows guard start Made Told turns w → (n : ℕ) (h : History) → client_of (host_in w) n ≡ Some h → Each guard Made Told n (own n turns)
+    shows_here turns w s n h found =
+        let tells = s.far.tells n h found in
+        record { shown = on tells (s.guards.each n h found); told = inr (s.there n (own n turns) (subst (λ o. IsClient o (TellsOwn (own n turns))) (sym found) tells)) }
+      where
+        on : TellsOwn (own n turns) h → (h.guard ≡ w.wired.talking.guard) ⊎ IsMadeFor w.wired.talking n → HasShown guard (own n turns) ⊎ Made n
+        on tells (inl same) = inl (subst (λ g. HasShown g (own n turns)) (same ∙ s.guards.kept) (has_shown (own n turns) h tells))
+        on tells (inr made) = inr (s.made n made)
 
-  shows_each : (guard : Option Guard) (start : HostMoment C) (Made : ℕ → Type 0) (turns : List (ℕ × Turn)) (w : World K C) → Shows guard start Made turns w → (n : ℕ) → HasShown guard (own n turns) ⊎ Made n
-  shows_each guard start Made turns w s n = on (client_of (host_in w) n) refl
-    where
-      on : (o : Option History) → client_of (host_in w) n ≡ o → HasShown guard (own n turns) ⊎ Made n
-      on None gone = s.gone n gone
-      on (Some h) found = shows_here guard start Made turns w s n h found
+    shows_each : (turns : List (ℕ × Turn)) (w : World K C) → Shows guard start Made Told turns w → (n : ℕ) → Each guard Made Told n (own n turns)
+    shows_each turns w s n = on (client_of (host_in w) n) refl
+      where
+        on : (o : Option History) → client_of (host_in w) n ≡ o → Each guard Made Told n (own n turns)
+        on None gone = s.gone n gone
+        on (Some h) found = shows_here turns w s n h found
 
-  shows_step : (guard : Option Guard) (start : HostMoment C) (Made : ℕ → Type 0) (turns : List (ℕ × Turn)) (old new : World K C) (step : ServeStep f k old new) → ((n : ℕ) → IsMadeFor new.wired.talking n → Made n)
-      → Shows guard start Made turns old → Shows guard start Made (turns ++ turns_in (of_step old new step).all) new
-  shows_step guard start Made turns old new step made s =
-      let h = of_step old new step in
-      record {
-        guards = guards_step guard old new step s.guards;
-        far = subst (λ m. SoFar f start (turns ++ turns_in h.all) m) h.ends (runs_on f start turns (moment_of old) h.all h.runs s.far);
-        made = made;
-        gone = λ n gone.
-            subst (λ l. HasShown guard l ⊎ Made n) (sym (own-append n turns (turns_in h.all) ∙ ap (λ l. own n turns ++ l) (none_gone old new step n gone) ∙ append-nil (own n turns)))
-            (shows_each guard start Made turns old s n);
-      }
+    shows_step : (turns : List (ℕ × Turn)) (old new : World K C) (step : ServeStep f k old new) → ((n : ℕ) → IsMadeFor new.wired.talking n → Made n)
+        → ((n : ℕ) (own : List Turn) → IsClient (client_of (host_in new) n) (TellsOwn own) → Told n own) → Shows guard start Made Told turns old
+        → Shows guard start Made Told (turns ++ turns_in (of_step old new step).all) new
+    shows_step turns old new step made there s =
+        let h = of_step old new step in
+        record {
+          guards = guards_step guard old new step s.guards;
+          far = subst (λ m. SoFar f start (turns ++ turns_in h.all) m) h.ends (runs_on f start turns (moment_of old) h.all h.runs s.far);
+          made = made;
+          there = there;
+          gone = λ n gone.
+              subst (λ l. Each guard Made Told n l) (sym (own-append n turns (turns_in h.all) ∙ ap (λ l. own n turns ++ l) (none_gone old new step n gone) ∙ append-nil (own n turns)))
+              (shows_each turns old s n);
+        }
 
-  shows_steps : (guard : Option Guard) (start : HostMoment C) (Made : ℕ → Type 0) (turns : List (ℕ × Turn)) (old new : World K C) (mids : List (World K C)) (steps : IsPath (ServeStep f k) old mids new) → ((n : ℕ) → WasMadeFor n mids → Made n)
-      → Shows guard start Made turns old → Shows guard start Made (turns ++ turns_in (of_steps old new mids steps).all) new
-  shows_steps guard start Made turns old new [] same made s = subst (λ w. Shows guard start Made (turns ++ []) w) (sym same) (subst (λ l. Shows guard start Made l old) (sym (append-nil turns)) s)
-  shows_steps guard start Made turns old new (mid ∷ mids) (one, more) made s =
-      let first = (of_step old mid one).all in
-      let rest = (of_steps mid new mids more).all in
-      subst (λ l. Shows guard start Made l new) (append_assoc turns (turns_in first) (turns_in rest) ∙ sym (ap (λ l. turns ++ l) (turns_append first rest)))
-      (shows_steps guard start Made (turns ++ turns_in first) mid new mids more (λ n was. made n (inr was)) (shows_step guard start Made turns old mid one (λ n is. made n (inl is)) s))
+    shows_steps : (turns : List (ℕ × Turn)) (old new : World K C) (mids : List (World K C)) (steps : IsPath (ServeStep f k) old mids new) → ((n : ℕ) → WasMadeFor n mids → Made n)
+        → ((n : ℕ) (own : List Turn) → WasThere n (TellsOwn own) mids → Told n own) → Shows guard start Made Told turns old
+        → Shows guard start Made Told (turns ++ turns_in (of_steps old new mids steps).all) new
+    shows_steps turns old new [] same made told s =
+        subst (λ w. Shows guard start Made Told (turns ++ []) w) (sym same) (subst (λ l. Shows guard start Made Told l old) (sym (append-nil turns)) s)
+    shows_steps turns old new (mid ∷ mids) (one, more) made told s =
+        let first = (of_step old mid one).all in
+        let rest = (of_steps mid new mids more).all in
+        subst (λ l. Shows guard start Made Told l new) (append_assoc turns (turns_in first) (turns_in rest) ∙ sym (ap (λ l. turns ++ l) (turns_append first rest)))
+        (shows_steps (turns ++ turns_in first) mid new mids more (λ n was. made n (inr was)) (λ n own was. told n own (inr was))
+        (shows_step turns old mid one (λ n is. made n (inl is)) (λ n own is. told n own (inl is)) s))
 
 -- ---- what a server does
 
@@ -215,13 +228,18 @@ module _ {S : Type 0} {g : Ghosts S} {K : Type 0} (k : SocketGhosts K) where
   served token guard last sockets old sockets' new guarded p =
       let start = moment_of (world_of (begun guard sockets) old) in
       let h = of_steps (state g) k (world_of (begun guard sockets) old) (world_of (record { talking = last; sockets = sockets' }) new) p.mids p.steps in
-      let first : Shows (state g) k guard start (λ n. WasMadeFor n p.mids) [] (world_of (begun guard sockets) old) = record {
+      let Made : ℕ → Type 0 = λ n. WasMadeFor n p.mids in
+      let Told : ℕ → List Turn → Type 0 = λ n own. WasThere n (TellsOwn own) p.mids in
+      let first : Shows (state g) k guard start Made Told [] (world_of (begun guard sockets) old) = record {
         guards = record { kept = refl; each = guarded_new guard };
         far = begins (state g) start refl;
         made = λ n made. absurd (none_made guard n made);
-        gone = λ n gone. inl (none_shown guard);
+        there = λ n own is. absurd is;
+        gone = λ n gone. record { shown = inl (none_shown guard); told = inl refl };
       } in
-      let shows = shows_steps (state g) k guard start (λ n. WasMadeFor n p.mids) [] (world_of (begun guard sockets) old) (world_of (record { talking = last; sockets = sockets' }) new) p.mids p.steps (λ n was. was) first in
+      let end = world_of (record { talking = last; sockets = sockets' }) new in
+      let shows = shows_steps (state g) k guard start Made Told [] (world_of (begun guard sockets) old) end p.mids p.steps (λ n was. was) (λ n own was. was) first in
+      let each = shows_each (state g) k guard start Made Told (turns_in h.all) end shows in
       let one = subst (λ m. OneList (turns_in h.all) (side_at (state g) start) (side_at (state g) m)) h.ends (one_list (state g) start h.all refl h.runs) in
       record {
         guard = guard;
@@ -232,7 +250,8 @@ module _ {S : Type 0} {g : Ghosts S} {K : Type 0} (k : SocketGhosts K) where
         runs = h.runs;
         ends = h.ends;
         list = one;
-        shown = shows_each (state g) k guard start (λ n. WasMadeFor n p.mids) (turns_in h.all) (world_of (record { talking = last; sockets = sockets' }) new) shows;
+        told = λ n. (each n).told;
+        shown = λ n. (each n).shown;
       }
 
   pub goes_none : (wired : Wired K) (replica : Replica S g) → GoesOn k wired replica wired replica

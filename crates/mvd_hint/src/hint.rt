@@ -59,7 +59,7 @@ pub enum Hint<'a> {
     NoListener(SocketAddr, io::Error),
     #[error("{0}: {1}; start `mvd serve` there, or name another --address and --port")]
     NoServer(SocketAddr, io::Error),
-    #[error("the connection with {0} broke: what was done before stays, so run this again")]
+    #[error("the connection with {0} broke: what was done before stays; run a sync again, and read a key before you write it again")]
     Broken(SocketAddr),
     #[error("the server at {0} refused it: what was done before stays")]
     Refused(SocketAddr),

@@ -83,7 +83,7 @@ struct Server {
 
 /// Serves so many connections at an address, or without end, many at once, and tells where it listens, how each
 /// connection ended, and at the end the root digest. Each line is flushed as it is written.
-/// /
+///
 /// What came together of all clients is answered together, and then the replies leave. No client is waited for.
 /// Meanwhile it has sessions with its peers, whose questions to the site are answered among those of the clients; keys
 /// that one left are told on `errors`. It is `Stopped` with `ReadFailed` where it cannot listen or wait, and with

@@ -1,5 +1,5 @@
 //! A stored site and its sessions, for a program that names one crate.
-//! !
+//!
 //! `Replica` is a site with its records: `open_file` opens one from a file, and its calls write and read. `sync` runs a
 //! session between two. What each promises is told where it stands; this crate only passes them on. The crate
 //! `mvd_example` is a whole program's work with them.

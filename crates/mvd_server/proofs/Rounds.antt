@@ -105,6 +105,11 @@ module _ {C : Type 0} (f : C → State) (site : SiteValue) (conn : C) where
   of_out n bytes old new (inl (first, sends)) = of_sends (web_in old n) n (length bytes) old new sends
   of_out n bytes old new (inr (same, none)) = of_none old.host new.host (ap (λ (t : Talking). t.host) same)
 
+-- a client has shown the token before its turns, and these are what it asked and was told
+record Each (guard : Option Guard) (Made : ℕ → Type 0) (Told : ℕ → List Turn → Type 0) (n : ℕ) (turns : List Turn) : Type 0 where
+  shown : HasShown guard turns ⊎ Made n
+  told : (turns ≡ []) ⊎ Told n turns
+
 module _ {K C : Type 0} (f : C → State) (k : SocketGhosts K) where
   of_wired : (site : SiteValue) (conn : C) (old new : Wired K) → WiredStep k old new → Calm f (moment f site conn old.talking.host) (moment f site conn new.talking.host)
   of_wired site conn old new (inl (deed, same)) = of_deed f site conn old.talking new.talking deed
@@ -154,11 +159,6 @@ module _ {K C : Type 0} (f : C → State) (k : SocketGhosts K) where
   none_gone old new (inl b) n gone = ap (own n) (of_wired old.site old.conn old.wired new.wired b.wired).none
   none_gone old new (inr r) n gone =
       ap (own n) (append-nil r.turns) ∙ r.round.spares.none n (none_before (client_of (host_in old) n) (client_of (host_in new) n) (ClientCourse (own n r.turns)) (r.round.clients n) gone)
-
-  -- a client has shown the token before its turns, and these are what it asked and was told
-  record Each (guard : Option Guard) (Made : ℕ → Type 0) (Told : ℕ → List Turn → Type 0) (n : ℕ) (turns : List Turn) : Type 0 where
-    shown : HasShown guard turns ⊎ Made n
-    told : (turns ≡ []) ⊎ Told n turns
 
   -- so each of them, also one that has gone
   record Shows (guard : Option Guard) (start : HostMoment C) (Made : ℕ → Type 0) (Told : ℕ → List Turn → Type 0) (turns : List (ℕ × Turn)) (w : World K C) : Type 0 where

@@ -10,4 +10,4 @@ returns-in-Some c =
     let old = talking_of c.args.self.now in
     let web = c.sent.new.self in
     subst (λ o. SendsBy o c.args.number c.args.count old (record old { webs = (c.get_mut.follows.lender web).entries })) c.in-Some.ensures.value
-    (web, c.sent.ensures ∙ ap (λ b. web_sent (web_of c.in-Some.web.now) (min c.args.count (length b))) c.waiting.ensures, ap (λ e. record old { webs = e }) (c.get_mut.follows.holds web).0)
+    (web, c.sent.ensures ∙ ap (λ n. web_sent (web_of c.in-Some.web.now) n) c.min-count.ensures ∙ ap (λ b. web_sent (web_of c.in-Some.web.now) (min c.args.count (length b))) c.waiting.ensures, ap (λ e. record old { webs = e }) (c.get_mut.follows.holds web).0)

@@ -156,6 +156,7 @@ module _ {K C : Type 0} (f : C → State) (k : SocketGhosts K) where
   none_before (Some x) (Some y) R both is = absurd (let no : ◌≡◌ {A = Option History} (Some y) None = is in cc)
 
   none_gone : (old new : World K C) (step : ServeStep f k old new) (n : ℕ) → client_of (host_in new) n ≡ None → own n (turns_in (of_step old new step).all) ≡ []
+  unfolding of_step of_wired
   none_gone old new (inl b) n gone = ap (own n) (of_wired old.site old.conn old.wired new.wired b.wired).none
   none_gone old new (inr r) n gone =
       ap (own n) (append-nil r.turns) ∙ r.round.spares.none n (none_before (client_of (host_in old) n) (client_of (host_in new) n) (ClientCourse (own n r.turns)) (r.round.clients n) gone)
@@ -203,6 +204,7 @@ module _ {K C : Type 0} (f : C → State) (k : SocketGhosts K) where
     shows_steps : (turns : List (ℕ × Turn)) (old new : World K C) (mids : List (World K C)) (steps : IsPath (ServeStep f k) old mids new) → ((n : ℕ) → WasMadeFor n mids → Made n)
         → ((n : ℕ) (own : List Turn) → WasThere n (TellsOwn own) mids → Told n own) → Shows guard start Made Told turns old
         → Shows guard start Made Told (turns ++ turns_in (of_steps old new mids steps).all) new
+    unfolding of_steps happened_on of_step
     shows_steps turns old new [] same made told s =
         subst (λ w. Shows guard start Made Told (turns ++ []) w) (sym same) (subst (λ l. Shows guard start Made Told l old) (sym (append-nil turns)) s)
     shows_steps turns old new (mid ∷ mids) (one, more) made told s =

@@ -13,11 +13,13 @@ returns g c =
     let before = talking_of c.loop-number.self in
     let host = c.round-round.new.self in
     record {
-      before = before;
-      host = host;
-      first = c.loop-number.invariant;
-      ready = c.args.ready.now;
-      turns = c.round-round.ensures.round.0;
-      round = c.round-round.ensures.round.1.0;
-      last = deeds_on (with_host before host) (talking_of c.loop-number-2.self) (talking_of c.wake.new.self) c.loop-number-2.invariant c.wake.ensures;
+      round = record {
+        before = before;
+        host = host;
+        first = c.loop-number.invariant;
+        ready = c.args.ready.now;
+        turns = c.round-round.ensures.round.0;
+        round = c.round-round.ensures.round.1.0;
+        last = deeds_on (with_host before host) (talking_of c.loop-number-2.self) (talking_of c.wake.new.self) c.loop-number-2.invariant c.wake.ensures;
+      };
     }

@@ -19,7 +19,7 @@ returns g c =
         first = c.loop-number.invariant;
         ready = c.args.ready.now;
         turns = c.round-round.ensures.round.0;
-        round = c.round-round.ensures.round.1.0;
+        round = c.round-round.ensures.round.1;
         last = deeds_on (with_host before host) (talking_of c.loop-number-2.self) (talking_of c.wake.new.self) c.loop-number-2.invariant c.wake.ensures;
       };
     }

@@ -1,14 +1,15 @@
 -- One host, from its first client on.
-use Rattle.std.proofs.Common.{◌≡◌, ◌∙◌, ◌⊎◌, ℕ, Bool, List, [], ◌∷◌, ◌++◌, Option, None, Some, length, min, inl, inr, ap, refl, sym, subst}
+use Rattle.std.proofs.Common.{◌≡◌, ◌∙◌, ◌⊎◌, ℕ, Bool, List, [], ◌∷◌, ◌++◌, Option, None, Some, length, min, inl, inr, ap, refl, sym, subst, append-nil, append_assoc, true≢false}
 use Rattle.mvd_conn.specs.declared.ending.Source.TheVariants as source
 use Rattle.mvd_conn.specs.declared.guard.Guard.{Guard}
 use Rattle.mvd_conn.specs.History.{History, closed, fed, released, sent}
 use Rattle.mvd_dots.specs.declared.refusals.Refusal.TheVariants.{Memory}
-use Rattle.mvd_host.proofs.Runs.{has_shown, one_list}
-use Rattle.mvd_host.specs.Hosts.{HostValue, altered, client_of, new_host}
-use Rattle.mvd_host.specs.Course.{own}
-use Rattle.mvd_host.specs.Round.{Round, Side, host_side}
-use Rattle.mvd_host.specs.Runs.{Calls as Called, Closes, Comes as Came, Feeds, Goes as Gone, Happening, HasShown, HostMoment, OneList, Releases, Rounds, Runs, Sends, TellsOwn, after_call, after_one, after_run, side_at, turns_in}
+use Rattle.mvd_host.proofs.Own.{own-append}
+use Rattle.mvd_host.proofs.Runs.{SoFar, begins, goes_on as runs_on, has_shown, one_list}
+use Rattle.mvd_host.specs.Hosts.{HostValue, IsClient, altered, client_of, new_host}
+use Rattle.mvd_host.specs.Course.{BothClients, own}
+use Rattle.mvd_host.specs.Round.{ClientCourse, Round, Side, host_side}
+use Rattle.mvd_host.specs.Runs.{Calls as Called, Closes, Comes as Came, Feeds, Goes as Gone, Happening, HasShown, HostMoment, OneList, Releases, Rounds, Runs, Sends, TellsOwn, after_call, after_one, after_run, happened_turns, side_at, turns_in}
 use Rattle.mvd_replica.specs.Replicas.{conn_of, site_of}
 use Rattle.mvd_replica.specs.Turns.{Turn}
 use Rattle.mvd_replica.specs.declared.replica.Replica.{Replica}
@@ -18,7 +19,7 @@ use Rattle.mvd_server.proofs.Showing.{AreGuarded, guarded_deed, guarded_in, guar
 use Rattle.mvd_server.specs.Guarded.{IsGuardOf}
 use Rattle.mvd_server.specs.OwnSides.{TakesBytes, sent_of, waits_of}
 use Rattle.mvd_server.specs.Paths.{IsPath, Path}
-use Rattle.mvd_server.specs.Rounds.{AnswersClients, BeginsServing, Between, GoesOn, HasRound, InRound, IsServed, ServeStep, Serving, ServingStep, World, begun, host_in, moment_of, world_of}
+use Rattle.mvd_server.specs.Rounds.{AnswersClients, BeginsServing, Between, GoesOn, HasRound, InRound, IsServed, ServeStep, Serving, ServingStep, WasMadeFor, WasThere, World, begun, host_in, moment_of, world_of}
 use Rattle.mvd_server.specs.Talking.{Calls, Comes, ComesByWeb, ComesOwn, Deed, Deeds, Goes, GoesByWeb, GoesOwn, IsMadeFor, TalksDeeds, Talking, Turns, TurnsBack, new_talking, talking_of, web_in, with_host}
 use Rattle.mvd_server.specs.Wires.{Carries, GivesOut, SendsBy, TakesBy, TakesIn, Wired, WiredStep, wired_of}
 use Rattle.mvd_server.specs.declared.sockets.Sockets.{Ghosts as SocketGhosts}
@@ -45,6 +46,10 @@ after_append : {C : Type 0} (m : HostMoment C) (xs ys : List (Happening C)) → 
 after_append m [] ys = refl
 after_append m (x ∷ xs) ys = after_append (after_one m x) xs ys
 
+turns_append : {C : Type 0} (xs ys : List (Happening C)) → turns_in (xs ++ ys) ≡ turns_in xs ++ turns_in ys
+turns_append [] ys = refl
+turns_append (x ∷ xs) ys = ap (λ l. happened_turns x ++ l) (turns_append xs ys) ∙ sym (append_assoc (happened_turns x) (turns_in xs) (turns_in ys))
+
 happened_on : {C : Type 0} (f : C → State) (old mid new : HostMoment C) → Happened f old mid → Happened f mid new → Happened f old new
 happened_on f old mid new p q = record {
   all = p.all ++ q.all;
@@ -52,58 +57,73 @@ happened_on f old mid new p q = record {
   ends = after_append old p.all q.all ∙ ap (λ m. after_run m q.all) p.ends ∙ q.ends;
 }
 
+-- between two rounds, without a turn
+record Calm {C : Type 0} (f : C → State) (old new : HostMoment C) : Type 0 where
+  all : List (Happening C)
+  runs : Runs f old all
+  ends : after_run old all ≡ new
+  none : turns_in all ≡ []
+
 module _ {C : Type 0} (f : C → State) (site : SiteValue) (conn : C) where
   abbrev moment : HostValue → HostMoment C
   moment host = record { host = host; site = site; conn = conn }
 
-  of_none : (old new : HostValue) → new ≡ old → Happened f (moment old) (moment new)
-  of_none old new same = record { all = []; runs = tt; ends = ap moment (sym same) }
+  of_none : (old new : HostValue) → new ≡ old → Calm f (moment old) (moment new)
+  of_none old new same = record { all = []; runs = tt; ends = ap moment (sym same); none = refl }
 
-  of_deed : (old new : Talking) → Deed old new → Happened f (moment old.host) (moment new.host)
-  of_deed old new (Comes n, does) = record { all = Came n new.host ∷ []; runs = ((old.guard, does.0), tt); ends = refl }
-  of_deed old new (ComesByWeb n web, does) = record { all = Came n new.host ∷ []; runs = ((None, does.0), tt); ends = refl }
-  of_deed old new (ComesOwn n, does) = record { all = Came n new.host ∷ []; runs = ((None, does.0), tt); ends = refl }
-  of_deed old new (TurnsBack n mid, does) = record { all = Came n mid ∷ Gone n new.host ∷ []; runs = ((does.0, does.1), (does.2, tt)); ends = refl }
-  of_deed old new (Goes n, does) = record { all = Gone n new.host ∷ []; runs = (does.0, tt); ends = refl }
-  of_deed old new (GoesByWeb n, does) = record { all = Gone n new.host ∷ []; runs = (does.0, tt); ends = refl }
-  of_deed old new (GoesOwn n, does) = record { all = Gone n new.host ∷ []; runs = (does.0, tt); ends = refl }
-  of_deed old new (Calls n call, does) = record { all = Called n call ∷ []; runs = (tt, tt); ends = ap (λ (t : Talking). moment t.host) (sym does.1) }
+  of_deed : (old new : Talking) → Deed old new → Calm f (moment old.host) (moment new.host)
+  of_deed old new (Comes n, does) = record { all = Came n new.host ∷ []; runs = ((old.guard, does.0), tt); ends = refl; none = refl }
+  of_deed old new (ComesByWeb n web, does) = record { all = Came n new.host ∷ []; runs = ((None, does.0), tt); ends = refl; none = refl }
+  of_deed old new (ComesOwn n, does) = record { all = Came n new.host ∷ []; runs = ((None, does.0), tt); ends = refl; none = refl }
+  of_deed old new (TurnsBack n mid, does) = record { all = Came n mid ∷ Gone n new.host ∷ []; runs = ((does.0, does.1), (does.2, tt)); ends = refl; none = refl }
+  of_deed old new (Goes n, does) = record { all = Gone n new.host ∷ []; runs = (does.0, tt); ends = refl; none = refl }
+  of_deed old new (GoesByWeb n, does) = record { all = Gone n new.host ∷ []; runs = (does.0, tt); ends = refl; none = refl }
+  of_deed old new (GoesOwn n, does) = record { all = Gone n new.host ∷ []; runs = (does.0, tt); ends = refl; none = refl }
+  of_deed old new (Calls n call, does) = record { all = Called n call ∷ []; runs = (tt, tt); ends = ap (λ (t : Talking). moment t.host) (sym does.1); none = refl }
   of_deed old new (Turns n web web', does) = of_none old.host new.host (ap (λ (t : Talking). t.host) does.1)
 
-  of_bytes : (n : ℕ) (bytes : List ℕ) (old new : HostValue) → TakesBytes old n bytes new → Happened f (moment old) (moment new)
-  of_bytes n bytes old new (inl is) = record { all = Called n (Feeds bytes) ∷ []; runs = (tt, tt); ends = ap moment (sym is) }
-  of_bytes n bytes old new (inr is) = record { all = Called n Releases ∷ Called n (Closes (source.Failed Memory)) ∷ []; runs = (tt, (tt, tt)); ends = ap moment (sym is) }
+  of_bytes : (n : ℕ) (bytes : List ℕ) (old new : HostValue) → TakesBytes old n bytes new → Calm f (moment old) (moment new)
+  of_bytes n bytes old new (inl is) = record { all = Called n (Feeds bytes) ∷ []; runs = (tt, tt); ends = ap moment (sym is); none = refl }
+  of_bytes n bytes old new (inr is) = record { all = Called n Releases ∷ Called n (Closes (source.Failed Memory)) ∷ []; runs = (tt, (tt, tt)); ends = ap moment (sym is); none = refl }
 
-  of_by : (web : Option WebConnection) (n : ℕ) (bytes : List ℕ) (old new : Talking) → TakesBy web n bytes old new → Happened f (moment old.host) (moment new.host)
+  of_by : (web : Option WebConnection) (n : ℕ) (bytes : List ℕ) (old new : Talking) → TakesBy web n bytes old new → Calm f (moment old.host) (moment new.host)
   of_by None n bytes old new (takes, same) = of_bytes n bytes old.host new.host takes
   of_by (Some web) n bytes old new (web', feeds, same) = of_none old.host new.host (ap (λ (t : Talking). t.host) same)
 
-  of_in : (n : ℕ) (bytes : List ℕ) (old new : Talking) → TakesIn n bytes old new → Happened f (moment old.host) (moment new.host)
+  of_in : (n : ℕ) (bytes : List ℕ) (old new : Talking) → TakesIn n bytes old new → Calm f (moment old.host) (moment new.host)
   of_in n bytes old new (inl takes) = of_by (web_in old n) n bytes old new takes
   of_in n bytes old new (inr (same, none)) = of_none old.host new.host (ap (λ (t : Talking). t.host) same)
 
-  of_sent : (n count : ℕ) (old new : HostValue) → new ≡ sent_of old n count → Happened f (moment old) (moment new)
-  of_sent n count old new is = record { all = Called n (Sends count) ∷ []; runs = (tt, tt); ends = ap moment (sym is) }
+  of_sent : (n count : ℕ) (old new : HostValue) → new ≡ sent_of old n count → Calm f (moment old) (moment new)
+  of_sent n count old new is = record { all = Called n (Sends count) ∷ []; runs = (tt, tt); ends = ap moment (sym is); none = refl }
 
-  of_sends : (web : Option WebConnection) (n count : ℕ) (old new : Talking) → SendsBy web n count old new → Happened f (moment old.host) (moment new.host)
+  of_sends : (web : Option WebConnection) (n count : ℕ) (old new : Talking) → SendsBy web n count old new → Calm f (moment old.host) (moment new.host)
   of_sends None n count old new same = of_sent n (min count (length (waits_of old.host n))) old.host new.host (ap (λ (t : Talking). t.host) same)
   of_sends (Some web) n count old new (web', is, same) = of_none old.host new.host (ap (λ (t : Talking). t.host) same)
 
-  of_out : (n : ℕ) (bytes : List ℕ) (old new : Talking) → GivesOut n bytes old new → Happened f (moment old.host) (moment new.host)
+  of_out : (n : ℕ) (bytes : List ℕ) (old new : Talking) → GivesOut n bytes old new → Calm f (moment old.host) (moment new.host)
   of_out n bytes old new (inl (first, sends)) = of_sends (web_in old n) n (length bytes) old new sends
   of_out n bytes old new (inr (same, none)) = of_none old.host new.host (ap (λ (t : Talking). t.host) same)
 
+-- a client has shown the token before its turns, and these are what it asked and was told
+record Each (guard : Option Guard) (Made : ℕ → Type 0) (Told : ℕ → List Turn → Type 0) (n : ℕ) (turns : List Turn) : Type 0 where
+  shown : HasShown guard turns ⊎ Made n
+  told : (turns ≡ []) ⊎ Told n turns
+
 module _ {K C : Type 0} (f : C → State) (k : SocketGhosts K) where
-  of_wired : (site : SiteValue) (conn : C) (old new : Wired K) → WiredStep k old new → Happened f (moment f site conn old.talking.host) (moment f site conn new.talking.host)
+  of_wired : (site : SiteValue) (conn : C) (old new : Wired K) → WiredStep k old new → Calm f (moment f site conn old.talking.host) (moment f site conn new.talking.host)
   of_wired site conn old new (inl (deed, same)) = of_deed f site conn old.talking new.talking deed
   of_wired site conn old new (inr (inl (n, bytes, gives, takes))) = of_in f site conn n bytes old.talking new.talking takes
   of_wired site conn old new (inr (inr (n, bytes, takes, gives))) = of_out f site conn n bytes old.talking new.talking gives
 
   of_step : (old new : World K C) → ServeStep f k old new → Happened f (moment_of old) (moment_of new)
   of_step old new (inl b) =
-      subst (λ c. Happened f (moment_of old) (record { host = host_in new; site = new.site; conn = c })) (sym b.conn)
-      (subst (λ s. Happened f (moment_of old) (record { host = host_in new; site = s; conn = old.conn })) (sym b.site)
-      (of_wired old.site old.conn old.wired new.wired b.wired))
+      let calm = of_wired old.site old.conn old.wired new.wired b.wired in
+      record {
+        all = calm.all;
+        runs = calm.runs;
+        ends = calm.ends ∙ sym (ap (λ s. moment f s old.conn (host_in new)) b.site) ∙ sym (ap (λ c. moment f new.site c (host_in new)) b.conn);
+      }
   of_step old new (inr r) = record { all = Rounds r.ready r.turns (moment_of new) ∷ []; runs = (r.round, tt); ends = refl }
 
   of_steps : (old new : World K C) (mids : List (World K C)) → IsPath (ServeStep f k) old mids new → Happened f (moment_of old) (moment_of new)
@@ -129,19 +149,80 @@ module _ {K C : Type 0} (f : C → State) (k : SocketGhosts K) where
         each = subst AreGuarded (sym same) (guarded_round old.wired.talking (host_in new) r.turns r.round.clients g.each);
       }
 
-  guards_steps : (guard : Option Guard) (old new : World K C) (mids : List (World K C)) → IsPath (ServeStep f k) old mids new → Guards guard old → Guards guard new
-  guards_steps guard old new [] same g = subst (Guards guard) (sym same) g
-  guards_steps guard old new (mid ∷ mids) (one, more) g = guards_steps guard mid new mids more (guards_step guard old mid one g)
+  -- whoever has gone has no turn in a step
+  none_before : (a b : Option History) (R : History → History → Type 0) → BothClients a b R → b ≡ None → a ≡ None
+  none_before None b R both is = refl
+  none_before (Some x) None R both is = absurd both
+  none_before (Some x) (Some y) R both is = absurd (let no : ◌≡◌ {A = Option History} (Some y) None = is in cc)
+
+  none_gone : (old new : World K C) (step : ServeStep f k old new) (n : ℕ) → client_of (host_in new) n ≡ None → own n (turns_in (of_step old new step).all) ≡ []
+  unfolding of_step of_wired
+  none_gone old new (inl b) n gone = ap (own n) (of_wired old.site old.conn old.wired new.wired b.wired).none
+  none_gone old new (inr r) n gone =
+      ap (own n) (append-nil r.turns) ∙ r.round.spares.none n (none_before (client_of (host_in old) n) (client_of (host_in new) n) (ClientCourse (own n r.turns)) (r.round.clients n) gone)
+
+  -- so each of them, also one that has gone
+  record Shows (guard : Option Guard) (start : HostMoment C) (Made : ℕ → Type 0) (Told : ℕ → List Turn → Type 0) (turns : List (ℕ × Turn)) (w : World K C) : Type 0 where
+    guards : Guards guard w
+    far : SoFar f start turns (moment_of w)
+    made : (n : ℕ) → IsMadeFor w.wired.talking n → Made n
+    there : (n : ℕ) (own : List Turn) → IsClient (client_of (host_in w) n) (TellsOwn own) → Told n own
+    gone : (n : ℕ) → client_of (host_in w) n ≡ None → Each guard Made Told n (own n turns)
+
+  module _ (guard : Option Guard) (start : HostMoment C) (Made : ℕ → Type 0) (Told : ℕ → List Turn → Type 0) where
+    shows_here : (turns : List (ℕ × Turn)) (w : World K C) → Shows guard start Made Told turns w → (n : ℕ) (h : History) → client_of (host_in w) n ≡ Some h → Each guard Made Told n (own n turns)
+    shows_here turns w s n h found =
+        let tells = s.far.tells n h found in
+        record { shown = on tells (s.guards.each n h found); told = inr (s.there n (own n turns) (subst (λ o. IsClient o (TellsOwn (own n turns))) (sym found) tells)) }
+      where
+        on : TellsOwn (own n turns) h → (h.guard ≡ w.wired.talking.guard) ⊎ IsMadeFor w.wired.talking n → HasShown guard (own n turns) ⊎ Made n
+        on tells (inl same) = inl (subst (λ g. HasShown g (own n turns)) (same ∙ s.guards.kept) (has_shown (own n turns) h tells))
+        on tells (inr made) = inr (s.made n made)
+
+    shows_each : (turns : List (ℕ × Turn)) (w : World K C) → Shows guard start Made Told turns w → (n : ℕ) → Each guard Made Told n (own n turns)
+    shows_each turns w s n = on (client_of (host_in w) n) refl
+      where
+        on : (o : Option History) → client_of (host_in w) n ≡ o → Each guard Made Told n (own n turns)
+        on None gone = s.gone n gone
+        on (Some h) found = shows_here turns w s n h found
+
+    shows_step : (turns : List (ℕ × Turn)) (old new : World K C) (step : ServeStep f k old new) → ((n : ℕ) → IsMadeFor new.wired.talking n → Made n)
+        → ((n : ℕ) (own : List Turn) → IsClient (client_of (host_in new) n) (TellsOwn own) → Told n own) → Shows guard start Made Told turns old
+        → Shows guard start Made Told (turns ++ turns_in (of_step old new step).all) new
+    shows_step turns old new step made there s =
+        let h = of_step old new step in
+        record {
+          guards = guards_step guard old new step s.guards;
+          far = subst (λ m. SoFar f start (turns ++ turns_in h.all) m) h.ends (runs_on f start turns (moment_of old) h.all h.runs s.far);
+          made = made;
+          there = there;
+          gone = λ n gone.
+              subst (λ l. Each guard Made Told n l) (sym (own-append n turns (turns_in h.all) ∙ ap (λ l. own n turns ++ l) (none_gone old new step n gone) ∙ append-nil (own n turns)))
+              (shows_each turns old s n);
+        }
+
+    shows_steps : (turns : List (ℕ × Turn)) (old new : World K C) (mids : List (World K C)) (steps : IsPath (ServeStep f k) old mids new) → ((n : ℕ) → WasMadeFor n mids → Made n)
+        → ((n : ℕ) (own : List Turn) → WasThere n (TellsOwn own) mids → Told n own) → Shows guard start Made Told turns old
+        → Shows guard start Made Told (turns ++ turns_in (of_steps old new mids steps).all) new
+    unfolding of_steps happened_on of_step
+    shows_steps turns old new [] same made told s =
+        subst (λ w. Shows guard start Made Told (turns ++ []) w) (sym same) (subst (λ l. Shows guard start Made Told l old) (sym (append-nil turns)) s)
+    shows_steps turns old new (mid ∷ mids) (one, more) made told s =
+        let first = (of_step old mid one).all in
+        let rest = (of_steps mid new mids more).all in
+        subst (λ l. Shows guard start Made Told l new) (append_assoc turns (turns_in first) (turns_in rest) ∙ sym (ap (λ l. turns ++ l) (turns_append first rest)))
+        (shows_steps (turns ++ turns_in first) mid new mids more (λ n was. made n (inr was)) (λ n own was. told n own (inr was))
+        (shows_step turns old mid one (λ n is. made n (inl is)) (λ n own is. told n own (inl is)) s))
 
 -- ---- what a server does
 
-shown_by : (guard : Option Guard) (last : Talking) (turns : List (ℕ × Turn)) → last.guard ≡ guard → AreGuarded last → ((n : ℕ) (h : History) → client_of last.host n ≡ Some h → TellsOwn (own n turns) h)
-    → (n : ℕ) (h : History) → client_of last.host n ≡ Some h → HasShown guard (own n turns) ⊎ IsMadeFor last n
-shown_by guard last turns is each tells n h found = on (each n h found)
-  where
-    on : (h.guard ≡ last.guard) ⊎ IsMadeFor last n → HasShown guard (own n turns) ⊎ IsMadeFor last n
-    on (inl same) = inl (subst (λ g. HasShown g (own n turns)) (same ∙ is) (has_shown (own n turns) h (tells n h found)))
-    on (inr made) = inr made
+none_made : (guard : Option Guard) (n : ℕ) → IsMadeFor (new_talking guard) n → ⊥
+none_made guard n (inl (web, has)) = absurd (let no : ◌≡◌ {A = Option WebConnection} None (Some web) = has in cc)
+none_made guard n (inr is) = absurd (true≢false (sym is))
+
+none_shown : (guard : Option Guard) → HasShown guard []
+none_shown None = tt
+none_shown (Some guard) = tt
 
 module _ {S : Type 0} {g : Ghosts S} {K : Type 0} (k : SocketGhosts K) where
   pub served : (token : Option (List ℕ)) (guard : Option Guard) (last : Talking) (sockets : K) (old : Replica S g) (sockets' : K) (new : Replica S g) → IsGuardOf token guard
@@ -149,7 +230,18 @@ module _ {S : Type 0} {g : Ghosts S} {K : Type 0} (k : SocketGhosts K) where
   served token guard last sockets old sockets' new guarded p =
       let start = moment_of (world_of (begun guard sockets) old) in
       let h = of_steps (state g) k (world_of (begun guard sockets) old) (world_of (record { talking = last; sockets = sockets' }) new) p.mids p.steps in
-      let guards = guards_steps (state g) k guard (world_of (begun guard sockets) old) (world_of (record { talking = last; sockets = sockets' }) new) p.mids p.steps (record { kept = refl; each = guarded_new guard }) in
+      let Made : ℕ → Type 0 = λ n. WasMadeFor n p.mids in
+      let Told : ℕ → List Turn → Type 0 = λ n own. WasThere n (TellsOwn own) p.mids in
+      let first : Shows (state g) k guard start Made Told [] (world_of (begun guard sockets) old) = record {
+        guards = record { kept = refl; each = guarded_new guard };
+        far = begins (state g) start refl;
+        made = λ n made. absurd (none_made guard n made);
+        there = λ n own is. absurd is;
+        gone = λ n gone. record { shown = inl (none_shown guard); told = inl refl };
+      } in
+      let end = world_of (record { talking = last; sockets = sockets' }) new in
+      let shows = shows_steps (state g) k guard start Made Told [] (world_of (begun guard sockets) old) end p.mids p.steps (λ n was. was) (λ n own was. was) first in
+      let each = shows_each (state g) k guard start Made Told (turns_in h.all) end shows in
       let one = subst (λ m. OneList (turns_in h.all) (side_at (state g) start) (side_at (state g) m)) h.ends (one_list (state g) start h.all refl h.runs) in
       record {
         guard = guard;
@@ -160,7 +252,8 @@ module _ {S : Type 0} {g : Ghosts S} {K : Type 0} (k : SocketGhosts K) where
         runs = h.runs;
         ends = h.ends;
         list = one;
-        shown = shown_by guard last (turns_in h.all) guards.kept guards.each one.clients;
+        told = λ n. (each n).told;
+        shown = λ n. (each n).shown;
       }
 
   pub goes_none : (wired : Wired K) (replica : Replica S g) → GoesOn k wired replica wired replica

@@ -1,11 +1,11 @@
 -- What a server does to a stored site.
-use Rattle.std.specs.Prelude.{◌≡◌, ◌⊎◌, ℕ, List, Option, Some}
+use Rattle.std.specs.Prelude.{◌≡◌, ◌⊎◌, ℕ, List, [], ◌∷◌, Option}
 use Rattle.mvd_conn.specs.declared.guard.Guard.{Guard}
 use Rattle.mvd_conn.specs.History.{History}
 use Rattle.mvd_host.specs.Course.{own}
-use Rattle.mvd_host.specs.Hosts.{HostValue, client_of, new_host}
+use Rattle.mvd_host.specs.Hosts.{HostValue, IsClient, client_of, new_host}
 use Rattle.mvd_host.specs.Round.{Round, Side, host_side}
-use Rattle.mvd_host.specs.Runs.{Happening, HasShown, HostMoment, OneList, Runs, after_run, turns_in}
+use Rattle.mvd_host.specs.Runs.{Happening, HasShown, HostMoment, OneList, Runs, TellsOwn, after_run, turns_in}
 use Rattle.mvd_replica.specs.Replicas.{conn_of, site_of}
 use Rattle.mvd_replica.specs.Turns.{Turn}
 use Rattle.mvd_replica.specs.declared.replica.Replica.{Replica}
@@ -41,6 +41,16 @@ moment_of w = record { host = host_in w; site = w.site; conn = w.conn }
 
 abbrev pub side_in : {K C : Type 0} → (C → State) → World K C → Side
 side_in f w = record { host = host_in w; site = w.site; store = f w.conn }
+
+-- at one of these moments the server made the frames of a client
+abbrev pub WasMadeFor : {K C : Type 0} → ℕ → List (World K C) → Type 0
+WasMadeFor n [] = ⊥
+WasMadeFor n (w ∷ ws) = IsMadeFor w.wired.talking n ⊎ WasMadeFor n ws
+
+-- at one of these moments a client was there, and this was true of its connection
+abbrev pub WasThere : {K C : Type 0} → ℕ → (History → Type 0) → List (World K C) → Type 0
+WasThere n P [] = ⊥
+WasThere n P (w ∷ ws) = IsClient (client_of (host_in w) n) P ⊎ WasThere n P ws
 
 module _ {K C : Type 0} (f : C → State) (k : SocketGhosts K) where
   -- what a server does beside a round changes no site
@@ -84,7 +94,7 @@ module _ {S : Type 0} {g : Ghosts S} where
   abbrev pub AnswersClients : Talks → Replica S g → Talks → Replica S g → Type 0
   AnswersClients talks replica talks' replica' =
       Path ServingStep (record { talking = talking_of talks; replica = replica })
-          (record { talking = talking_of talks'; replica = replica' })
+      (record { talking = talking_of talks'; replica = replica' })
 
   abbrev pub world_of : {K : Type 0} → Wired K → Replica S g → World K (Held S)
   world_of wired replica = record { wired = wired; site = site_of replica; conn = conn_of replica }
@@ -108,6 +118,7 @@ module _ {S : Type 0} {g : Ghosts S} where
     pub ends : after_run (moment_of (world_of (begun guard sockets) old)) all
         ≡ moment_of (world_of (record { talking = last; sockets = sockets' }) new)
     pub list : OneList (turns_in all) (host_side new_host old) (host_side last.host new)
+    -- also of a client that has gone: its own turns are what it asked and was told
+    pub told : (n : ℕ) → (own n (turns_in all) ≡ []) ⊎ WasThere n (TellsOwn (own n (turns_in all))) goes.mids
     -- one of frames has no turn before it has shown the token
-    pub shown : (n : ℕ) (h : History) → client_of last.host n ≡ Some h →
-        HasShown guard (own n (turns_in all)) ⊎ IsMadeFor last n
+    pub shown : (n : ℕ) → HasShown guard (own n (turns_in all)) ⊎ WasMadeFor n goes.mids

@@ -86,11 +86,11 @@ Does (ComesOwn n) old new =
     AdmitsOne None old.host new.host n × (new ≡ record old { host = new.host; own = old.own ++ n ∷ [] })
 Does (TurnsBack n mid) old new =
     (guard : Option Guard) × AdmitsOne guard old.host mid n × ClientLeaves mid n new.host
-        × (new ≡ with_host old new.host)
+    × (new ≡ with_host old new.host)
 Does (Goes n) old new = ClientLeaves old.host n new.host × (new ≡ with_host old new.host)
 Does (GoesByWeb n) old new =
     ClientLeaves old.host n new.host
-        × (new ≡ record old { host = new.host; webs = remove_entry (is_at (nat_cmp n)) old.webs })
+    × (new ≡ record old { host = new.host; webs = remove_entry (is_at (nat_cmp n)) old.webs })
 Does (GoesOwn n) old new =
     ClientLeaves old.host n new.host × (new ≡ record old { host = new.host; own = without n old.own })
 Does (Calls n call) old new = MayCall old n call × (new ≡ with_host old (altered old.host n (after_call call)))

@@ -112,6 +112,7 @@ impl Peering {
         ensures begins { OnOk result (BeginsMeeting setting.now.number self.old self.new) }
         ensures fails { OnErr result (self.new ≡ self.old) }
         ensures places { TakesNoPlace self.old self.new }
+        ensures deeds { TalksDeeds crowd.old.talks crowd.new.talks }
     {
         match OwnSession::begin(setting.alloc, &mut crowd.talks, setting.number) {
             Ok(Some(session)) => self.session = Some(session),

@@ -150,10 +150,7 @@ impl Talks {
         counts.open = self.clients();
         self.changes.start(replica);
         for number in ready {
-            // A request is taken only where the host takes its frame.
-            if self.host.wants_input(*number) {
-                self.take_in(replica, *number, counts, now);
-            }
+            self.take_in(replica, *number, counts, now);
         }
         // Where memory was refused for a frame, there may be more, but not at once.
         let commits = replica.commits();
@@ -171,7 +168,7 @@ impl Talks {
         more & (replica.commits() == commits)
     }
 
-    /// Hands on writes of a client over HTTP, or takes its next request.
+    /// Hands on writes of a client over HTTP, or takes its next request, where the host takes its frame.
     fn take_in<S: Alter + Drop>(
         &mut self,
         replica: &Replica<S>,
@@ -181,6 +178,9 @@ impl Talks {
     )
         ensures { TalksDeeds self.old self.new }
     {
+        if !self.host.wants_input(number) {
+            return;
+        }
         let Some(web) = self.webs.get_mut(&number) else {
             return;
         };

@@ -7,3 +7,5 @@ pub mod Taking
 pub mod Chained
 pub mod Known
 pub mod Happening
+pub mod Agreed
+pub mod Ended

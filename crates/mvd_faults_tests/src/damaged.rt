@@ -69,6 +69,17 @@ CREATE TABLE states2 (key TEXT PRIMARY KEY NOT NULL, state TEXT NOT NULL) STRICT
 CREATE TABLE states (code TEXT); CREATE TABLE meta (name TEXT PRIMARY KEY, value INTEGER); CREATE TABLE other (x);
 ";
 
+/// Databases of ours, a line each, behind the tables of version 1 where it begins with a 1: a half of the tables, names
+/// in other letters, and tables of ours beside other objects.
+const OURS: &str = "\
+- CREATE TABLE states (key TEXT PRIMARY KEY NOT NULL, state BLOB NOT NULL) STRICT
+- CREATE TABLE Meta (Name TEXT PRIMARY KEY NOT NULL, Value INTEGER NOT NULL) STRICT
+- CREATE TABLE states2 (key TEXT NOT NULL PRIMARY KEY, state BLOB NOT NULL) STRICT
+1 CREATE TABLE note (id INTEGER PRIMARY KEY, title TEXT); INSERT INTO note (title) VALUES ('a')
+1 CREATE VIEW one AS SELECT 1 AS x
+1 CREATE INDEX by_state ON states (state)
+";
+
 /// A change of a file: in each of its bytes from one on and before another there is this byte; and the file ends
 /// after so many bytes.
 type Change = (usize, usize, u8, usize);
@@ -133,13 +144,29 @@ fn is_foreign(alloc: Global, tables: &str) -> Result<bool, Refusal> {
     Ok(are_damaged(alloc, &[tables], 1)? && are_damaged(alloc, &[tables], 2)?)
 }
 
+/// Whether the records after these statements are opened, and opened again.
+fn are_opened(alloc: Global, line: &str) -> Result<bool, Refusal> {
+    let (version, more) = line.split_once(' ').unwrap_or(("", ""));
+    let (tables, marks) = if version == "1" { (OLD, ONE) } else { ("", "") };
+    let bytes = database(alloc, Work::Statements(&[tables, marks, more]))?;
+    let files = files_with(alloc, bytes.as_slice(), NEVER)?;
+    drop(bytes);
+    let (once, files) = on_these(alloc, files, (Work::Open, 0));
+    let (twice, files) = on_these(alloc, files, (Work::Open, 0));
+    drop(files);
+    Ok(once.refusal.is_none() && twice.refusal.is_none())
+}
+
 #[test]
-fn damaged_records_are_refused_and_stay(rt: HostRuntime) -> Result<(), Fail> {
+fn records_are_opened_or_refused_and_stay(rt: HostRuntime) -> Result<(), Fail> {
     for line in DAMAGED.lines() {
         assert!(rt; rows_are_damaged(rt.alloc(), line)?, "{line}");
     }
     for tables in FOREIGN.lines() {
         assert!(rt; is_foreign(rt.alloc(), tables)?, "{tables}");
+    }
+    for line in OURS.lines() {
+        assert!(rt; are_opened(rt.alloc(), line)?, "{line}");
     }
     Ok(())
 }

@@ -21,6 +21,8 @@ mod memory;
 #[cfg(test)]
 mod random_frames;
 #[cfg(test)]
+mod reopened;
+#[cfg(test)]
 mod replica_calls;
 #[cfg(test)]
 mod scale;

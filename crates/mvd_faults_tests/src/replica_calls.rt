@@ -173,23 +173,33 @@ fn define(alloc: Global, defs: &mut Defs) -> Result<(), Refusal> {
     )
 }
 
-/// The configuration of a site that may hold a hundred keys.
-fn config(alloc: Global, number: u32) -> Result<Config, Refusal> {
+/// The configuration of a site that may hold so many keys.
+fn config(alloc: Global, number: u32, max_keys: u32) -> Result<Config, Refusal> {
     let mut defs = Defs::new(alloc);
     define(alloc, &mut defs)?;
-    Ok(Config::new(number.max(1), 100, defs))
+    Ok(Config::new(number.max(1), max_keys.clamp(1, 1_000_000), defs))
 }
 
 /// The replica of that site. A refusal gives the connection back.
+pub fn opened_within<S: Alter + Drop>(
+    alloc: Global,
+    conn: Connection<S>,
+    number: u32,
+    max_keys: u32,
+) -> Result<Replica<S>, (Refusal, Connection<S>)> {
+    match config(alloc, number, max_keys) {
+        Ok(config) => Replica::open(alloc, conn, config),
+        Err(refusal) => Err((refusal, conn)),
+    }
+}
+
+/// The same of a site that may hold a hundred keys.
 pub fn opened<S: Alter + Drop>(
     alloc: Global,
     conn: Connection<S>,
     number: u32,
 ) -> Result<Replica<S>, (Refusal, Connection<S>)> {
-    match config(alloc, number) {
-        Ok(config) => Replica::open(alloc, conn, config),
-        Err(refusal) => Err((refusal, conn)),
-    }
+    opened_within(alloc, conn, number, 100)
 }
 
 /// What was opened, or the refusal alone.

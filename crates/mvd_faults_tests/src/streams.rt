@@ -1,6 +1,6 @@
 //! Readers and writers that fail in the middle, where they give and take all at once or a byte a call.
 use super::replica_calls::{
-    BAD_CONTEXT, Bytes, CLASH, CLASHES, GET, PUT, STATE, Told, WIDE, WRITTEN, asks, end,
+    BAD_CONTEXT, Bytes, CLASH, CLASHES, EMPTY, GET, PUT, STATE, Told, WIDE, WRITTEN, asks, end,
     new_replica, serves,
 };
 use super::stream_ways::{ALL, BYTE, FAILS, NOTHING, WHOLE, Way, Ways};
@@ -116,5 +116,65 @@ fn each_read_and_write_may_fail(rt: HostRuntime) -> Result<(), Fail> {
         let count = failing(rt.alloc(), calls)?;
         println!(rt; "{count} {}", calls.0)?;
     }
+    Ok(())
+}
+
+/// What a client of a site that holds nothing sends, what it is told, and how its connection ends.
+type Exact = (&'static str, &'static str, &'static str);
+
+const EXACT: [Exact; 8] = [
+    (GET, EMPTY, "end"),
+    // Cut after six bytes.
+    ("000000032101", "00000002ee1e", "Truncated"),
+    // A get of version 1, and one behind it.
+    (
+        "0000000301016b0000000321016b",
+        "00000002ee2000000007a1000000000000",
+        "end",
+    ),
+    // A frame of no kind, a malformed Bye, and a length of 0.
+    (
+        "0000000170000000022f0000000000",
+        "00000002ee2000000002ee2100000002ee1f",
+        "FrameTooLong",
+    ),
+    ("ffffffff", "00000002ee1f", "FrameTooLong"),
+    // More siblings than there are, more loose counters than there are, and a site whose base is 0.
+    ("0000000929016b00000000ffff", "00000002ee21", "end"),
+    (
+        "0000001722016b00000001000000010000000000000000ffffffff",
+        "00000002ee21",
+        "end",
+    ),
+    (
+        "0000001722016b0000000100000001000000000000000000000000",
+        BAD_CONTEXT,
+        "end",
+    ),
+];
+
+/// Whether a replica tells just that.
+fn is_told<S: Alter + Drop>(alloc: Global, replica: &mut Replica<S>, exact: &Exact) -> bool {
+    let (output, ended) = serves(alloc, replica, &Bytes::of(&[exact.0]), ALL, ALL);
+    output.bytes() == Bytes::of(&[exact.1]).bytes() && ended == exact.2
+}
+
+/// How many of these connections a replica serves so, one after the other, until it does not.
+fn told_exactly<S: Alter + Drop>(alloc: Global, mut replica: Replica<S>) -> usize {
+    let mut count = 0usize;
+    for exact in &EXACT {
+        if !is_told(alloc, &mut replica, exact) {
+            break;
+        }
+        count = count.saturating_add(1);
+    }
+    end(replica);
+    count
+}
+
+#[test]
+fn frames_are_answered_exactly(rt: HostRuntime) -> Result<(), Fail> {
+    let replica = new_replica(rt.alloc(), 1, &[])?;
+    assert_eq!(rt; told_exactly(rt.alloc(), replica), EXACT.len());
     Ok(())
 }

@@ -1,58 +1,16 @@
 -- A file in which an empty database is found is a new one.
-use Rattle.std.proofs.Common.{◌≡◌, ◌∙◌, ℕ, List, [], ◌∷◌, Some, ap, ap₂, inl, inr, refl, subst, sym}
-use Rattle.std.proofs.lemmas.Option.{none-some}
-use Rattle.std.specs.FinMap.{empty, from_entries, get, get-empty}
-use Rattle.std.specs.List.{AllZip}
-use Rattle.mvd_keys.specs.Key.{key_cmp}
-use Rattle.mvd_keys.specs.State.{State as Keyed}
-use Rattle.mvd_keys.specs.Writes.{Key}
-use Rattle.mvd_records.specs.Records.{new_states, old_states}
-use Rattle.mvd_records.specs.States.{StoredStates as Stored}
-use Rattle.mvd_records.specs.Tables.{no_tables}
+use Rattle.std.proofs.Common.{◌≡◌, ℕ, []}
 use Rattle.mvd_replica.specs.File.{IsFoundIn}
-use Rattle.mvd_replica.specs.Readable.{HasJust, HasState}
+use Rattle.mvd_replica.proofs.EmptyFiles.{just_none, none_ours, none_tables}
 use Rattle.mvd_model.specs.TheStore.{Knows}
 use Rattle.mvd_runs.specs.Files.{IsNewFile}
-use Rattle.sqlite_catalog.specs.Listing.{IsIndexRow, IsTableRow, IsViewRow, Lists}
-use Rattle.sqlite.specs.Effect.{Database, IsDatabase}
+use Rattle.sqlite.specs.Effect.{Database}
 use Rattle.sqlite.specs.Files.{IsEmpty}
 use Rattle.sqlite.specs.Recovery.{Image}
-use Rattle.sqlite.specs.Schema.{Schema}
-
-none_zipped : {A B : Type 0} (P : A → B → Type 0) (ys : List B) → AllZip P [] ys → ys ≡ []
-none_zipped P [] zip = refl
-none_zipped P (y ∷ ys) zip = absurd zip
-
-none_listed : (schema : Schema) → Lists [] schema → schema ≡ no_tables
-none_listed schema lists =
-    ap (λ ts. record { tables = ts; indexes = schema.indexes; views = schema.views }) (none_zipped IsTableRow schema.tables lists.listed.tables)
-    ∙ ap₂ (λ is vs. record { tables = []; indexes = is; views = vs }) (none_zipped (IsIndexRow schema.tables) schema.indexes lists.listed.indexes) (none_zipped IsViewRow schema.views lists.listed.views)
-
-none_old : (db : Database) → db.schema ≡ no_tables → old_states db ≡ from_entries []
-none_old db none = rw none refl
-
-none_new : (db : Database) → db.schema ≡ no_tables → new_states db ≡ from_entries []
-none_new db none = rw none refl
-
-none_at : (stored : Stored) (key : Key) (bytes : List ℕ) → stored ≡ from_entries [] → get stored key ≡ Some bytes → ⊥
-none_at stored key bytes none found = none-some bytes (sym (get-empty key_cmp key) ∙ ap (λ (m : Stored). get m key) (sym none) ∙ found)
-
-none_had : (db : Database) (key : Key) (s : Keyed) → db.schema ≡ no_tables → HasState db key s → ⊥
-none_had db key s none (inl has) = none_at (new_states db) key has.0 (none_new db none) has.1
-none_had db key s none (inr has) = none_at (old_states db) key has.0 (none_old db none) has.1
-
-just_none : (db : Database) → db.schema ≡ no_tables → HasJust db empty
-just_none db none key s = (
-  (λ has. absurd (none_had db key s none has)),
-  (λ found. absurd (none-some s (sym (get-empty key_cmp key) ∙ found))),
-)
-
-no_tables_in : (was : Database) → IsDatabase was → IsEmpty was.trees → was.schema ≡ no_tables
-no_tables_in was sound is_empty = none_listed was.schema (subst (λ rows. Lists rows was.schema) is_empty.1 sound.lists)
 
 pub new_file : (a : Knows) (i : ℕ) (image : Image) → ((was : Database) → IsFoundIn image was → IsEmpty was.trees) → (a i).known ≡ [] → IsNewFile a i image
 new_file a i image empties nothing = record {
   nothing = nothing;
-  ours = λ was found. inl (record { schema = no_tables_in was found.sound (empties was found); rows = λ t has. absurd has });
-  just = λ was found. just_none was (no_tables_in was found.sound (empties was found));
+  ours = λ was found. none_ours was (none_tables was found.sound (empties was found));
+  just = λ was found. just_none was (none_tables was found.sound (empties was found));
 }

@@ -8,7 +8,7 @@ use std::test::Fail;
 /// Long scripts.
 #[derive(Clone, Copy)]
 enum Long {
-    /// Puts of the longest key and document, and of some that are longer by a letter.
+    /// Puts of the longest key, term and document, and of some that are longer by a letter.
     Limits,
     /// Puts of the longest document side by side at one key, one more than a state holds.
     Siblings,
@@ -24,41 +24,37 @@ enum Long {
     Conflicts(u32, &'static str),
 }
 
-/// Adds so many letters.
-fn push_letters(out: &mut String, letters: u32) -> Result<(), AllocError> {
+/// Adds a line with so many letters in it.
+fn push_line(out: &mut String, before: &str, letters: u32, behind: &str) -> Result<(), AllocError> {
+    out.push_str(before)?;
     for _ in 0..letters {
         out.push_str("x")?;
     }
-    Ok(())
-}
-
-/// Adds a put at a key of so many letters.
-fn push_key(out: &mut String, letters: u32) -> Result<(), AllocError> {
-    out.push_str("put 1 ")?;
-    push_letters(out, letters)?;
-    out.push_str(" - {}\n")
+    out.push_str(behind)?;
+    out.push_str("\n")
 }
 
 /// Adds a put of a document with a text of so many letters.
 fn push_document(out: &mut String, letters: u32) -> Result<(), AllocError> {
-    out.push_str("put 1 k - {\"a\":\"")?;
-    push_letters(out, letters)?;
-    out.push_str("\"}\n")
+    push_line(out, "put 1 k - {\"a\":\"", letters, "\"}")
 }
 
-/// Asks for the keys that begin with a prefix of so many letters.
-fn push_prefix(out: &mut String, letters: u32) -> Result<(), AllocError> {
-    out.push_str("keys 1 ")?;
-    push_letters(out, letters)?;
-    out.push_str("\n")
+/// Adds puts of two texts, of which the second is too long for a term, and asks for them.
+fn push_terms(out: &mut String) -> Result<(), AllocError> {
+    push_line(out, "put 1 l - {\"t\":\"", 512, "\"}")?;
+    push_line(out, "put 1 m - {\"t\":\"", 513, "\"}")?;
+    out.push_str("range 1 t [null,\"y\"]\n")?;
+    push_line(out, "find 1 t \"", 512, "\"")?;
+    push_line(out, "find 1 t \"", 513, "\"")
 }
 
 fn push_limits(out: &mut String) -> Result<(), AllocError> {
-    out.push_str("sites 1\n")?;
-    push_prefix(out, 128)?;
-    push_prefix(out, 129)?;
-    push_key(out, 128)?;
-    push_key(out, 129)?;
+    out.push_str("sites 1\nindex t\n")?;
+    push_terms(out)?;
+    push_line(out, "keys 1 ", 128, "")?;
+    push_line(out, "keys 1 ", 129, "")?;
+    push_line(out, "put 1 ", 128, " - {}")?;
+    push_line(out, "put 1 ", 129, " - {}")?;
     push_document(out, 65_528)?;
     push_document(out, 65_529)
 }
@@ -150,8 +146,10 @@ fn prints(alloc: Global, long: Long, count: usize, last: &str) -> Result<bool, F
     Ok(text.lines().count() == count && text.ends_with(last))
 }
 
+/// What is printed behind two puts and one line of a range, of the first of them.
 const AT_LIMITS: &str =
-    "none\nrefused 1 BadKey\ndot 1:1\nrefused 1 BadKey\ndot 1:1\nrefused 6 DocumentTooLong\n";
+    " l 1:1\nl 1:1\nrefused 15 BadTerm\nnone\nrefused 1 BadKey\ndot 1:1\nrefused 1 BadKey\ndot 1:1\n\
+    refused 6 DocumentTooLong\n";
 
 const OF_SIBLINGS: &str =
     "dot 1:1\ndot 1:2\ndot 1:3\ndot 1:4\ndot 1:5\ndot 1:6\ndot 1:7\ndot 1:8\ndot 1:9\ndot 1:10\ndot 1:11\n\
@@ -161,7 +159,7 @@ const LAST_ROOT: &str = "fe63bf067988a1893dd1d0f58fc1698996b8a74d032d73a900e3f95
 
 /// Scripts, how many lines they print, and the last of these.
 const SCRIPTS: [(Long, usize, &str); 6] = [
-    (Long::Limits, 6, AT_LIMITS),
+    (Long::Limits, 11, AT_LIMITS),
     (Long::Siblings, 18, OF_SIBLINGS),
     (Long::Comments(262_144, false), 0, ""),
     // Lists of more than a page, and of just one.

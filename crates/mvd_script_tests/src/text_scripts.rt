@@ -38,10 +38,13 @@ pub const DOCUMENTS: &[Case] = &[
         "documents are read and printed",
         "sites 1\nput 1 a - {\"a\":9223372036854775807}\nget 1 a\nput 1 b - {\"a\":-9223372036854775808}\n\
         get 1 b\nput 1 c - {\"a\":\"\\u00e9\\/\"}\nget 1 c\nput 1 d - {\"a\":1,\"a\":2}\nget 1 d\n\
-        put 1 e - {\"a\":[[[[]]]]}\nget 1 e\n",
+        put 1 e - {\"a\":[[[[]]]]}\nget 1 e\n\
+        put 1 f - {\"a\":[[[[[[[[[[[[[[[[[[[[[[[[[[[[[[[[[[[[[[[[[[[[[[[[[[[[[[[[[[[[[[[[[[[[[[\
+        [[[[[[[[[[[[[[[[[[[[[[[[[[[[[[]]]]]]]]]]]]]]]]]]]]]]]]]]]]]]]]]]]]]]]]]]]]]]]]]]]]]]]]]]]]\
+        ]]]]]]]]]]]]]]]]]]]]]]]]]]]]]]]]]]]]]]]]}\n",
         "dot 1:1\ncontext 1:1\n1:1 {\"a\":9223372036854775807}\ndot 1:1\ncontext 1:1\n\
         1:1 {\"a\":-9223372036854775808}\ndot 1:1\ncontext 1:1\n1:1 {\"a\":\"é/\"}\ndot 1:1\ncontext 1:1\n\
-        1:1 {\"a\":2}\ndot 1:1\ncontext 1:1\n1:1 {\"a\":[[[[]]]]}\n",
+        1:1 {\"a\":2}\ndot 1:1\ncontext 1:1\n1:1 {\"a\":[[[[]]]]}\ndot 1:1\n",
     ),
     (
         "other texts are none",
@@ -75,10 +78,11 @@ pub const TERMS: &[Case] = &[
     ),
     (
         "other texts are none",
-        "sites 1\nindex n\nfind 1 n 1.5\nfind 1 n {}\nfind 1 n \nrange 1 n [1]\nrange 1 n 1.5\nrange 1 n {}\n\
-        range 1 n x\nrange 1 n \nrange 1 n [1,2,3]\nrange 1 n [1,[]]\n",
+        "sites 1\nindex n\nfind 1 n 1.5\nfind 1 n {}\nfind 1 n [1]\nfind 1 n \nrange 1 n [1]\nrange 1 n 1.5\n\
+        range 1 n {}\nrange 1 n x\nrange 1 n \nrange 1 n [1,2,3]\nrange 1 n [1,[]]\n",
         "refused 15 BadTerm\nrefused 15 BadTerm\nrefused 15 BadTerm\nrefused 15 BadTerm\nrefused 15 BadTerm\n\
-        refused 15 BadTerm\nrefused 15 BadTerm\nrefused 15 BadTerm\nrefused 15 BadTerm\nrefused 15 BadTerm\n",
+        refused 15 BadTerm\nrefused 15 BadTerm\nrefused 15 BadTerm\nrefused 15 BadTerm\nrefused 15 BadTerm\n\
+        refused 15 BadTerm\n",
     ),
     (
         "fields and views have names",

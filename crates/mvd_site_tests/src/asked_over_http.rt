@@ -37,7 +37,8 @@ fn add_view(alloc: Global, defs: &mut Defs) -> Result<(), Refusal> {
     Ok(())
 }
 
-fn by_city(alloc: Global) -> Result<Defs, Refusal> {
+/// An index of cities, and a view of what is spent in each.
+pub fn by_city(alloc: Global) -> Result<Defs, Refusal> {
     let mut defs = Defs::new(alloc);
     add_index(alloc, &mut defs)?;
     add_view(alloc, &mut defs)?;

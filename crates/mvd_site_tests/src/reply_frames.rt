@@ -79,31 +79,38 @@ fn fault(alloc: Global, kind: u8, payload: &[u8]) -> u8 {
     }
 }
 
-/// The number with which the reading of a frame is refused, or 0; and how many bytes are unread then.
-fn read(alloc: Global, bytes: &[u8]) -> (u8, usize) {
+/// The number with which the reading of a frame is refused, or 0 where there is one, if there is anything; and how many
+/// bytes are unread then.
+type Came = (Option<u8>, usize);
+
+fn read(alloc: Global, bytes: &[u8]) -> Came {
     let mut input = bytes;
     let number = match read_frame(alloc, &mut input) {
-        Ok(_) => 0,
-        Err(refusal) => refusal.number(),
+        Ok(None) => None,
+        Ok(Some(_)) => Some(0),
+        Err(refusal) => Some(refusal.number()),
     };
     (number, input.len())
 }
 
-/// The same of a length and so many bytes behind it.
-fn read_behind(alloc: Global, length: [u8; 4], count: usize) -> Result<(u8, usize), Refusal> {
+/// The same of these bytes and so many behind them.
+fn read_behind(alloc: Global, begin: &[u8], count: usize) -> Result<Came, Refusal> {
     let mut bytes = Vec::new(alloc);
-    bytes.extend_from_slice(&length)?;
+    bytes.extend_from_slice(begin)?;
     for _ in 0..count {
         bytes.push(0x70)?;
     }
     Ok(read(alloc, &bytes))
 }
 
-/// A length, how many bytes stand behind it, and what the reading of such a frame comes to.
-const LENGTHS: [([u8; 4], usize, (u8, usize)); 3] = [
-    ([0, 0, 0, 0], 0, (31, 0)),
-    ([0, 0x12, 0x4F, 0x81], 0, (31, 0)),
-    ([0, 0x12, 0x4F, 0x80], 1_200_007, (0, 7)),
+/// How an input begins, how many bytes stand behind that, and what the reading of a frame comes to.
+const BEGUN: [(&[u8], usize, Came); 6] = [
+    (b"", 0, (None, 0)),
+    (b"\0\0", 0, (Some(30), 0)),
+    (b"\0\0\0\x03\x21\x01", 0, (Some(30), 0)),
+    (b"\0\0\0\0", 0, (Some(31), 0)),
+    (b"\0\x12\x4F\x81", 0, (Some(31), 0)),
+    (b"\0\x12\x4F\x80", 1_200_007, (Some(0), 7)),
 ];
 
 fn place(alloc: Global, dot: Dot) -> Result<Place, Refusal> {
@@ -150,8 +157,8 @@ fn other_frames_are_refused(rt: HostRuntime) -> Result<(), Fail> {
     for (kind, payload) in REFUSED {
         assert!(rt; fault(rt.alloc(), kind, payload) == 33);
     }
-    for (length, count, wanted) in LENGTHS {
-        assert!(rt; read_behind(rt.alloc(), length, count)? == wanted);
+    for (begin, count, wanted) in BEGUN {
+        assert!(rt; read_behind(rt.alloc(), begin, count)? == wanted);
     }
     assert!(rt; page_fault(rt.alloc(), 1_000)? == 0 && page_fault(rt.alloc(), 1_001)? == 33);
     Ok(())

@@ -1,4 +1,5 @@
 //! Calls of a site that no script makes, and the paths of keys.
+use crate::asked_over_http::by_city;
 use mvd_dots::Refusal;
 use mvd_frames::{decode_request, encode_reply};
 use mvd_kept::{Kept, Work};
@@ -197,9 +198,42 @@ fn counts_its_work(alloc: Global) -> Result<bool, Refusal> {
     is_counted(alloc, &mut kept)
 }
 
+/// The payloads of three puts of documents with a city, and of one in place of the two at its key.
+const CITIES: [&[u8]; 4] = [
+    b"\x01a\0\0\0\0\0\0\0\x1A{\"amount\":5,\"city\":\"Oslo\"}",
+    b"\x01a\0\0\0\0\0\0\0\x1B{\"amount\":-7,\"city\":\"Oslo\"}",
+    b"\x01b\0\0\0\0\0\0\0\x0F{\"city\":\"Oslo\"}",
+    b"\x01a\0\0\0\x01\0\0\0\x01\0\0\0\0\0\0\0\x02\0\0\0\0\0\0\0\x0F{\"city\":\"Oslo\"}",
+];
+
+/// How many updates of rows a put takes. Nothing is claimed of the answer.
+fn updates_of(kept: &mut Kept, request: &Request) -> u64 {
+    let mut work = nothing();
+    let _reply = kept.answer(request, &mut work);
+    work.rows.updates.made(&Start::new())
+}
+
+/// The same of the last of these puts.
+fn updates_of_last(alloc: Global, kept: &mut Kept) -> Result<u64, Refusal> {
+    let mut updates = 0;
+    for payload in CITIES {
+        let request = decode_request(alloc, 0x22, payload)?;
+        updates = updates_of(kept, &request);
+    }
+    Ok(updates)
+}
+
+fn updates(alloc: Global) -> Result<u64, Refusal> {
+    let config = Config::new(1, 10, by_city(alloc)?);
+    let mut kept = Kept::new(alloc, config, &mut nothing())?;
+    updates_of_last(alloc, &mut kept)
+}
+
 #[test]
 fn an_answer_counts_its_work(rt: HostRuntime) -> Result<(), Fail> {
     assert!(rt; counts_its_work(rt.alloc())?);
+    let updates = updates(rt.alloc())?;
+    assert!(rt; 0 < updates && updates <= 9, "{updates}");
     Ok(())
 }
 

@@ -1,5 +1,5 @@
 -- The request that waits is answered.
-use Rattle.std.proofs.Common.{◌≡◌, ◌≤◌, inl, ℕ, List, length, Option, Some, None, Result, option_map, subst, sym}
+use Rattle.std.proofs.Common.{◌≡◌, ◌≤◌, inl, ℕ, List, length, Option, Some, None, Result, option_map, subst}
 use Rattle.mvd_conn.specs.History.{History}
 use Rattle.mvd_dots.specs.declared.refusals.Refusal.{Refusal}
 use Rattle.mvd_host.specs.Hosts.{IfClient}

@@ -1,12 +1,11 @@
 -- Deeds, one after the other, and bytes carried between them.
-use Rattle.std.proofs.Common.{◌≡◌, ◌∙◌, ◌⊎◌, ◌==◌, ◌++◌, ◌∷◌, [], ℕ, Bool, true, List, Option, None, Some, Result, inl, inr, refl, sym, subst, ap}
+use Rattle.std.proofs.Common.{◌≡◌, ◌∙◌, ◌⊎◌, ◌∷◌, [], ℕ, true, List, Option, None, Some, Result, inl, inr, refl, sym, subst, ap}
 use Rattle.std.specs.BTreeMap.{insert_entry, is_at}
 use Rattle.std.specs.Map.{set_value}
 use Rattle.std.specs.Ordering.{nat_cmp}
 use Rattle.mvd_conn.specs.declared.ending.Source.{Source}
 use Rattle.mvd_conn.specs.declared.ending.Source.TheVariants as source
-use Rattle.mvd_conn.specs.History.{History, closed, cut, fed, released, sent}
-use Rattle.mvd_conn.specs.declared.guard.Guard.{Guard}
+use Rattle.mvd_conn.specs.History.{History, closed, cut, released, sent}
 use Rattle.mvd_dots.specs.declared.refusals.Refusal.TheVariants.{Memory}
 use Rattle.mvd_host.specs.Hosts.{Admits, AdmitsOne, ClientLeaves, HostValue, IsClient, altered, client_of}
 use Rattle.mvd_host.specs.Runs.{Call, Closes, Cuts, Feeds, Releases, Sends, after_call}
@@ -15,7 +14,7 @@ use Rattle.mvd_server.specs.Fronts.{IsFrontReply, TakesFront, TellsNext}
 use Rattle.mvd_server.specs.Handed.{FedTo, TakenFrom}
 use Rattle.mvd_server.specs.OwnSides.{DismissesOwn, TakesBytes, sent_of}
 use Rattle.mvd_server.specs.Paths.{IsPath}
-use Rattle.mvd_server.specs.Talking.{Act, Calls, Comes, ComesByWeb, Deed, Deeds, Does, Goes, GoesOwn, IsMadeFor, MayCall, OpensWeb, TalksDeeds, Talking, TurnsBack, Turns, is_own, talking_of, web_in, with_host, with_web}
+use Rattle.mvd_server.specs.Talking.{Act, Calls, Comes, ComesByWeb, Deed, Deeds, Does, GoesOwn, IsMadeFor, MayCall, OpensWeb, TalksDeeds, Talking, TurnsBack, Turns, is_own, talking_of, web_in, with_host, with_web}
 use Rattle.mvd_server.specs.Wires.{Carries, GivesOut, TakesIn, Wired, WiredStep}
 use Rattle.mvd_server.specs.declared.talks.Talks.{Talks}
 use Rattle.mvd_server.specs.declared.sockets.Sockets.{Ghosts}

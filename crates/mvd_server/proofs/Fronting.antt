@@ -1,11 +1,11 @@
 -- The reply in front of bytes.
-use Rattle.std.proofs.Common.{◌≡◌, ◌∙◌, ℕ, Bool, true, false, List, [], take, drop, Option, Some, None, Result, Ok, Err, ap, inl, inr, is_some, option_map, subst, sym, true≢false}
+use Rattle.std.proofs.Common.{◌≡◌, ◌∙◌, ℕ, Bool, true, false, List, [], take, Option, Some, None, Result, Ok, Err, ap, inl, inr, is_some, option_map, subst, sym, true≢false}
 use Rattle.mvd_conn.specs.Front.{IsPart, IsWholeFrame}
 use Rattle.mvd_conn.specs.History.{History}
 use Rattle.mvd_conn.specs.Stands.{frame_of}
 use Rattle.mvd_dots.specs.Answer.{IsAnswer}
 use Rattle.mvd_dots.specs.declared.refusals.Refusal.{Refusal}
-use Rattle.mvd_dots.specs.declared.refusals.Refusal.TheVariants.{FrameTooLong, Truncated}
+use Rattle.mvd_dots.specs.declared.refusals.Refusal.TheVariants.{FrameTooLong}
 use Rattle.mvd_host.specs.Hosts.{IsClient}
 use Rattle.mvd_server.specs.Fronts.{IsFrontReply}
 use Rattle.mvd_wire.specs.Frames.{FrameValue, frame_at}

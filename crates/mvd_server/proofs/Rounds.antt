@@ -1,32 +1,32 @@
 -- One host, from its first client on.
-use Rattle.std.proofs.Common.{◌≡◌, ◌∙◌, ◌⊎◌, ℕ, Bool, List, [], ◌∷◌, ◌++◌, Option, None, Some, length, min, inl, inr, ap, refl, sym, subst, append-nil, append_assoc, true≢false}
+use Rattle.std.proofs.Common.{◌≡◌, ◌∙◌, ◌⊎◌, ℕ, List, [], ◌∷◌, ◌++◌, Option, None, Some, length, min, inl, inr, ap, refl, sym, subst, append-nil, append_assoc, true≢false}
 use Rattle.mvd_conn.specs.declared.ending.Source.TheVariants as source
 use Rattle.mvd_conn.specs.declared.guard.Guard.{Guard}
-use Rattle.mvd_conn.specs.History.{History, closed, fed, released, sent}
+use Rattle.mvd_conn.specs.History.{History}
 use Rattle.mvd_dots.specs.declared.refusals.Refusal.TheVariants.{Memory}
 use Rattle.mvd_host.proofs.Own.{own-append}
 use Rattle.mvd_host.proofs.Runs.{SoFar, begins, goes_on as runs_on, has_shown, one_list}
-use Rattle.mvd_host.specs.Hosts.{HostValue, IsClient, altered, client_of, new_host}
+use Rattle.mvd_host.specs.Hosts.{HostValue, IsClient, client_of}
 use Rattle.mvd_host.specs.Course.{BothClients, own}
-use Rattle.mvd_host.specs.Round.{ClientCourse, Round, Side, host_side}
-use Rattle.mvd_host.specs.Runs.{Calls as Called, Closes, Comes as Came, Feeds, Goes as Gone, Happening, HasShown, HostMoment, OneList, Releases, Rounds, Runs, Sends, TellsOwn, after_call, after_one, after_run, happened_turns, side_at, turns_in}
+use Rattle.mvd_host.specs.Round.{ClientCourse}
+use Rattle.mvd_host.specs.Runs.{Calls as Called, Closes, Comes as Came, Feeds, Goes as Gone, Happening, HasShown, HostMoment, OneList, Releases, Rounds, Runs, Sends, TellsOwn, after_one, after_run, happened_turns, side_at, turns_in}
 use Rattle.mvd_replica.specs.Replicas.{conn_of, site_of}
 use Rattle.mvd_replica.specs.Turns.{Turn}
 use Rattle.mvd_replica.specs.declared.replica.Replica.{Replica}
-use Rattle.mvd_server.proofs.Paths.{path_map, path_none, path_on, path_one, path_same}
+use Rattle.mvd_server.proofs.Paths.{path_map, path_none, path_on, path_one}
 use Rattle.mvd_server.proofs.Deeds.{carries_deeds}
 use Rattle.mvd_server.proofs.Showing.{AreGuarded, guarded_deed, guarded_in, guarded_new, guarded_out, guarded_round, kept_deed, kept_in, kept_out}
 use Rattle.mvd_server.specs.Guarded.{IsGuardOf}
 use Rattle.mvd_server.specs.OwnSides.{TakesBytes, sent_of, waits_of}
-use Rattle.mvd_server.specs.Paths.{IsPath, Path}
-use Rattle.mvd_server.specs.Rounds.{AnswersClients, BeginsServing, Between, GoesOn, HasRound, InRound, IsServed, ServeStep, Serving, ServingStep, WasMadeFor, WasThere, World, begun, host_in, moment_of, world_of}
+use Rattle.mvd_server.specs.Paths.{IsPath}
+use Rattle.mvd_server.specs.Rounds.{AnswersClients, BeginsServing, GoesOn, HasRound, IsServed, ServeStep, Serving, ServingStep, WasMadeFor, WasThere, World, begun, host_in, moment_of, world_of}
 use Rattle.mvd_server.specs.Talking.{Calls, Comes, ComesByWeb, ComesOwn, Deed, Deeds, Goes, GoesByWeb, GoesOwn, IsMadeFor, TalksDeeds, Talking, Turns, TurnsBack, new_talking, talking_of, web_in, with_host}
 use Rattle.mvd_server.specs.Wires.{Carries, GivesOut, SendsBy, TakesBy, TakesIn, Wired, WiredStep, wired_of}
 use Rattle.mvd_server.specs.declared.sockets.Sockets.{Ghosts as SocketGhosts}
 use Rattle.mvd_server.specs.declared.talks.Talks.{Talks}
 use Rattle.mvd_site.specs.Sites.{SiteValue}
 use Rattle.sha2.specs.Sha256.{sha256}
-use Rattle.sqlite.specs.Held.{Held, state}
+use Rattle.sqlite.specs.Held.{state}
 use Rattle.sqlite.specs.State.{State}
 use Rattle.sqlite_trees.specs.declared.store.Store.{Ghosts}
 use Rattle.mvd_web.specs.declared.web_connection.WebConnection.{WebConnection}

@@ -11,12 +11,12 @@ use Rattle.mvd_conn.specs.declared.ending.Source.TheVariants as source
 use Rattle.mvd_dots.specs.declared.refusals.Refusal.TheVariants.{Memory}
 use Rattle.mvd_host.proofs.RoundLemmas.{was}
 use Rattle.mvd_host.specs.Course.{BothClients, own}
-use Rattle.mvd_host.specs.Hosts.{AdmitsOne, ClientLeaves, HostValue, altered, altered_if, client_of, new_host}
-use Rattle.mvd_host.specs.Round.{ClientCourse, Round, Side}
+use Rattle.mvd_host.specs.Hosts.{AdmitsOne, ClientLeaves, HostValue, altered, altered_if, client_of}
+use Rattle.mvd_host.specs.Round.{ClientCourse}
 use Rattle.mvd_host.specs.Runs.{Call, Closes, Cuts, Feeds, Releases, Sends, after_call}
 use Rattle.mvd_replica.specs.Turns.{Turn}
 use Rattle.mvd_server.proofs.Keyed.{Has, any_last, any_more, any_without, each_set, has_insert, has_new, has_set, remove_other}
-use Rattle.mvd_server.specs.OwnSides.{TakesBytes, sent_of, waits_of}
+use Rattle.mvd_server.specs.OwnSides.{TakesBytes, waits_of}
 use Rattle.mvd_server.specs.Talking.{Calls, Comes, ComesByWeb, ComesOwn, Deed, Goes, GoesByWeb, GoesOwn, IsMadeFor, Talking, Turns, TurnsBack, new_talking, web_in, with_host, with_web, without}
 use Rattle.mvd_server.specs.Wires.{GivesOut, SendsBy, TakesBy, TakesIn}
 use Rattle.mvd_web.specs.declared.web_connection.WebConnection.{WebConnection}

@@ -1,5 +1,5 @@
 -- What is told where a feed knows nothing.
-use Rattle.std.proofs.Common.{◌≡◌, ◌∙◌, ℕ, List, [], true, Option, None, Result, Ok, ap}
+use Rattle.std.proofs.Common.{◌≡◌, ◌∙◌, ℕ, List, [], true, Option, None, Ok, ap}
 use Rattle.mvd_host.proofs.Changing.{root_is}
 use Rattle.mvd_host.specs.Feeds.{FeedValue, root_now}
 use Rattle.mvd_host.specs.Lists.{root_of}

@@ -1,5 +1,5 @@
 -- Bytes between sockets and connections.
-use Rattle.std.proofs.Common.{◌≡◌, ◌≤◌, ◌⊎◌, ◌∙◌, ℕ, Bool, true, false, is_some, true≢false, List, [], Option, None, Some, inl, inr, length, take, refl, sym, subst, ap, arith}
+use Rattle.std.proofs.Common.{◌≡◌, ◌≤◌, ◌⊎◌, ◌∙◌, ℕ, false, is_some, true≢false, List, [], Option, None, Some, inl, inr, length, take, refl, sym, subst, ap}
 use Rattle.std.proofs.lemmas.List.{length-take-le}
 use Rattle.mvd_host.specs.Hosts.{client_of}
 use Rattle.mvd_server.specs.Moves.{ReadsOnce, TakesOne}
@@ -12,7 +12,7 @@ use Rattle.mvd_conn.specs.History.{History}
 use Rattle.mvd_server.specs.Talking.{Talking, web_in}
 use Rattle.mvd_server.specs.Wires.{Carries, FeedsBy, FeedsTo, GivesOut, IsNoClient, IsNoPlace, MayFeed, MayFeedBy, SendsOf, TakesBy, TakesIn, TellsNoPlace, Wired, no_place_web, waits_for}
 use Rattle.mvd_server.specs.declared.sockets.Sockets.{Ghosts}
-use Rattle.mvd_server.proofs.Deeds.{carries_deeds, carries_in, carries_none, carries_out, deeds_none}
+use Rattle.mvd_server.proofs.Deeds.{carries_deeds, carries_in, carries_out, deeds_none}
 use Rattle.mvd_web.specs.declared.web_connection.WebConnection.{WebConnection}
 
 takes_by : (web : Option WebConnection) (n : ℕ) (bytes : List ℕ) (old new : Talking) → MayFeedBy web (client_of old.host n) → FeedsBy web n bytes old new → TakesBy web n bytes old new

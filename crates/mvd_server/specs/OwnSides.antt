@@ -1,9 +1,9 @@
 -- The side of a session that is this server's own site: a client of the host.
-use Rattle.std.specs.Prelude.{◌≡◌, ◌⊎◌, ◌++◌, ◌+◌, ◌-◌, ◌^◌, ℕ, false, List, [], length, min, Option, None, Some}
+use Rattle.std.specs.Prelude.{◌≡◌, ◌⊎◌, ◌++◌, ℕ, false, List, [], length, Option, None, Some}
 use Rattle.mvd_conn.specs.History.{History, closed, fed, released, sent}
 use Rattle.mvd_conn.specs.declared.ending.Source.TheVariants.{Failed}
 use Rattle.mvd_dots.specs.declared.refusals.Refusal.TheVariants.{Memory}
-use Rattle.mvd_host.specs.Hosts.{AdmitsOne, ClientLeaves, HostValue, altered, client_of}
+use Rattle.mvd_host.specs.Hosts.{HostValue, altered, client_of}
 use Rattle.mvd_meet.specs.Callers.{asked_of_caller, came_at, has_ended, leaving_at}
 use Rattle.mvd_meet.specs.Meetings.{Opens}
 use Rattle.mvd_meet.specs.declared.caller.Caller.{Caller}

@@ -1,4 +1,4 @@
-use Rattle.std.proofs.Common.{◌≡◌, ◌++◌, ◌∙◌, List, ℕ, OnOk, ap, string_bytes, subst, sym}
+use Rattle.std.proofs.Common.{◌≡◌, ◌++◌, List, ℕ, OnOk, string_bytes, subst}
 use Rattle.mvd_replica.specs.Replicas.{site_of}
 use Rattle.mvd_server.proofs.Sinces.{since_none}
 use Rattle.mvd_server.proofs.changes.push_since.Goals as goal

@@ -1,6 +1,6 @@
-use Rattle.std.proofs.Common.{sym, subst, ap}
+use Rattle.std.proofs.Common.{sym, subst}
 use Rattle.mvd_server.specs.Handed.{FedTo}
-use Rattle.mvd_server.proofs.Deeds.{fed_none, fed_same}
+use Rattle.mvd_server.proofs.Deeds.{fed_same}
 use Rattle.mvd_server.proofs.gate.ask.Goals.{in-Frame, in-Changes+in-Changes, in-Root, in-Metrics, in-Told, in-NotAdmitted, in-Refused}
 use Rattle.mvd_server.proofs.gate.ask.Goals as goal
 

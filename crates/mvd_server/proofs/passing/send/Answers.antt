@@ -1,6 +1,6 @@
 use Rattle.std.proofs.Common.{refl, subst, take, ◌≤◌, length, List, ℕ}
 use Rattle.mvd_server.specs.Talking.{talking_of}
-use Rattle.mvd_server.specs.Wires.{GivesOut, wired_of}
+use Rattle.mvd_server.specs.Wires.{wired_of}
 use Rattle.mvd_server.proofs.Deeds.{carries_deeds, carries_on, carries_out}
 use Rattle.mvd_server.proofs.Wiring.{carries_still, carries_stop, gives_out}
 use Rattle.mvd_server.proofs.passing.send.Goals as goal

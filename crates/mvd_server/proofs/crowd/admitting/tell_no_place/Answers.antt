@@ -1,4 +1,4 @@
-use Rattle.std.proofs.Common.{◌≡◌, ◌∙◌, inl, inr, refl, sym}
+use Rattle.std.proofs.Common.{◌∙◌, inl, inr, refl, sym}
 use Rattle.mvd_server.specs.Talking.{talking_of}
 use Rattle.mvd_server.proofs.Wiring.{away_unless}
 use Rattle.mvd_server.proofs.crowd.admitting.tell_no_place.Goals as goal

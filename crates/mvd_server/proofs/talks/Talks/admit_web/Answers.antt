@@ -1,4 +1,4 @@
-use Rattle.std.proofs.Common.{◌≡◌, ◌∙◌, ap, true, false, subst, sym, true≢false, None, Option, Result, Ok, Err}
+use Rattle.std.proofs.Common.{◌≡◌, ◌∙◌, ap, true, false, subst, sym, true≢false, None, Result, Ok, Err}
 use Rattle.std.specs.Result.{OnErr, OnOk, is_err}
 use Rattle.mvd_host.specs.Hosts.{Admits, ClientLeaves}
 use Rattle.mvd_server.specs.Talking.{Talking, talking_of, with_host}

@@ -1,6 +1,5 @@
 use Rattle.std.proofs.Common.{subst}
 use Rattle.mvd_server.specs.Talking.{Deeds, Talking, talking_of}
-use Rattle.mvd_server.proofs.Deeds.{deeds_same}
 use Rattle.mvd_server.proofs.talks.Talks.end_wait.Goals as goal
 
 pub returns-in-Some : goal.returns-in-Some

@@ -1,4 +1,3 @@
-use Rattle.std.proofs.Common.{◌≡◌}
 use Rattle.mvd_server.specs.Talking.{TalksDeeds}
 use Rattle.mvd_server.proofs.talks.Talks.round.Given as goal
 

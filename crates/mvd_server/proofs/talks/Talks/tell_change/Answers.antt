@@ -1,6 +1,6 @@
-use Rattle.std.proofs.Common.{ap, subst, sym}
+use Rattle.std.proofs.Common.{subst, sym}
 use Rattle.mvd_server.specs.Talking.{Deeds, Talking, talking_of}
-use Rattle.mvd_server.proofs.Deeds.{deeds_none, turned, unturned}
+use Rattle.mvd_server.proofs.Deeds.{turned}
 use Rattle.mvd_server.proofs.talks.Talks.tell_change.Goals as goal
 
 pub returns-in-Some : goal.returns-in-Some

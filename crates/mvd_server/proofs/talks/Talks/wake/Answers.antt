@@ -1,5 +1,5 @@
 use Rattle.mvd_server.specs.Talking.{talking_of}
-use Rattle.mvd_server.proofs.Deeds.{deeds_none, deeds_on}
+use Rattle.mvd_server.proofs.Deeds.{deeds_on}
 use Rattle.mvd_server.proofs.talks.Talks.wake.Goals as goal
 
 pub loop-preserved : goal.loop-preserved

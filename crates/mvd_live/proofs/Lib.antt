@@ -13,3 +13,12 @@ pub mod Causes
 pub mod Whole
 pub mod Quiet
 pub mod Mailed
+pub mod Parts
+pub mod FewNodes
+pub mod FewKeys
+pub mod FewPages
+pub mod FewStages
+pub mod FewWhole
+pub mod Written
+pub mod Spent
+pub mod Runner

@@ -103,7 +103,7 @@ found_any key digest (e ∷ es) found = elim (eq_by_cmp (slice_cmp nat_cmp) key 
 ] refl found
 
 -- what is left of a bucket is of it
-of_whole : (u h : Bool) (o : Option (List ℕ)) (digest : List ℕ) → cond (u && h) o None ≡ Some digest → o ≡ Some digest
+pub of_whole : (u h : Bool) (o : Option (List ℕ)) (digest : List ℕ) → cond (u && h) o None ≡ Some digest → o ≡ Some digest
 of_whole true true o digest e = e
 of_whole true false o digest e = absurd (cc)
 of_whole false h o digest e = absurd (cc)

@@ -70,30 +70,30 @@ module _ (f : Frame) (most : Two ℕ ℕ) (left left' : Questions) (answers : An
   -- ---- what was read
 
   module _ (level : Level) (h : HeardBoth f most left (Descends level) answers) (t : TakesShares (Descends level) left left' shares) where
-    nodes_here : (mine : List Node) → AllRead IsNodeOf (nodes_told answers.mine) shares.local mine → ForEach (NodeAt f.locals f.a f.a') (next_nodes level) mine
+    pub nodes_here : (mine : List Node) → AllRead IsNodeOf (nodes_told answers.mine) shares.local mine → ForEach (NodeAt f.locals f.a f.a') (next_nodes level) mine
     nodes_here mine r = read_nodes most.local f.locals f.a f.a' h.asked.local answers.mine h.local left.local left'.local (length (next_nodes level)) shares.local IsNodeOf (next_nodes level) mine
         (record { cut = λ i. (h.of_local i).nodes; short = omega arith; budget = t.local; counted = t.wanted.0 }) r
 
-    nodes_there : (theirs : List Node) → AllRead IsNodeOf (nodes_told answers.theirs) shares.peer theirs → ForEach (NodeAt f.peers f.b f.b') (next_nodes level) theirs
+    pub nodes_there : (theirs : List Node) → AllRead IsNodeOf (nodes_told answers.theirs) shares.peer theirs → ForEach (NodeAt f.peers f.b f.b') (next_nodes level) theirs
     nodes_there theirs r = read_nodes most.peer f.peers f.b f.b' h.asked.peer answers.theirs h.peer left.peer left'.peer (length (next_nodes level)) shares.peer IsNodeOf (next_nodes level) theirs
         (record { cut = λ i. (h.of_peer i).nodes; short = omega arith; budget = t.peer; counted = t.wanted.1 }) r
 
   module _ (walk : Walking) (h : HeardBoth f most left (Walks walk) answers) (t : TakesShares (Walks walk) left left' shares) where
-    pages_here : (mine : List ListingValue) → AllRead IsListingOf (pages_told answers.mine) shares.local mine → ForEach (PageAt f.locals f.a f.a') (pages_of AtLocal walk) mine
+    pub pages_here : (mine : List ListingValue) → AllRead IsListingOf (pages_told answers.mine) shares.local mine → ForEach (PageAt f.locals f.a f.a') (pages_of AtLocal walk) mine
     pages_here mine r = read_pages most.local f.locals f.a f.a' h.asked.local answers.mine h.local left.local left'.local (length (pages_of AtLocal walk)) shares.local IsListingOf (pages_of AtLocal walk) mine
         (record { cut = λ i. (h.of_local i).pages; short = omega arith; budget = t.local; counted = t.wanted.0 }) r
 
-    pages_there : (theirs : List ListingValue) → AllRead IsListingOf (pages_told answers.theirs) shares.peer theirs → ForEach (PageAt f.peers f.b f.b') (pages_of AtPeer walk) theirs
+    pub pages_there : (theirs : List ListingValue) → AllRead IsListingOf (pages_told answers.theirs) shares.peer theirs → ForEach (PageAt f.peers f.b f.b') (pages_of AtPeer walk) theirs
     pages_there theirs r = read_pages most.peer f.peers f.b f.b' h.asked.peer answers.theirs h.peer left.peer left'.peer (length (pages_of AtPeer walk)) shares.peer IsListingOf (pages_of AtPeer walk) theirs
         (record { cut = λ i. (h.of_peer i).pages; short = omega arith; budget = t.peer; counted = t.wanted.1 }) r
 
   module _ (walk : Walking) (entries : Vec Entry Global) (h : HeardBoth f most left (Meets walk entries) answers) (t : TakesShares (Meets walk entries) left left' shares) where
-    states_here : (mine : List State) → AllRead IsStateOf (states_told answers.mine) shares.local mine → ForEach (StateAt f.locals f.a f.a') (held_keys AtLocal entries.items) mine
+    pub states_here : (mine : List State) → AllRead IsStateOf (states_told answers.mine) shares.local mine → ForEach (StateAt f.locals f.a f.a') (held_keys AtLocal entries.items) mine
     states_here mine r = state_of_told f.locals f.a f.a' (held_keys AtLocal entries.items) mine
         (read_states most.local f.locals f.a f.a' h.asked.local answers.mine h.local left.local left'.local (length (held_keys AtLocal entries.items)) shares.local IsStateOf (held_keys AtLocal entries.items) mine
         (record { cut = λ i. (h.of_local i).gets; short = omega arith; budget = t.local; counted = t.wanted.0 }) r)
 
-    states_there : (theirs : List State) → AllRead IsStateOf (states_told answers.theirs) shares.peer theirs → ForEach (StateAt f.peers f.b f.b') (held_keys AtPeer entries.items) theirs
+    pub states_there : (theirs : List State) → AllRead IsStateOf (states_told answers.theirs) shares.peer theirs → ForEach (StateAt f.peers f.b f.b') (held_keys AtPeer entries.items) theirs
     states_there theirs r = state_of_told f.peers f.b f.b' (held_keys AtPeer entries.items) theirs
         (read_states most.peer f.peers f.b f.b' h.asked.peer answers.theirs h.peer left.peer left'.peer (length (held_keys AtPeer entries.items)) shares.peer IsStateOf (held_keys AtPeer entries.items) theirs
         (record { cut = λ i. (h.of_peer i).gets; short = omega arith; budget = t.peer; counted = t.wanted.1 }) r)

@@ -52,7 +52,7 @@ grows_self held form key = includes_self (state_at held key) (valid_at held form
 
 -- ---- the answers were taken
 
-hears_ok : (result : Result Stage SyncFault) (left : Questions) (work : Exchanging) (stage : Stage) (answers : Answers) (left' : Questions) (work' : Exchanging) → StageHears left work stage answers left' work' result → Ok tt ≡ stage_told result → StageAsks stage
+pub hears_ok : (result : Result Stage SyncFault) (left : Questions) (work : Exchanging) (stage : Stage) (answers : Answers) (left' : Questions) (work' : Exchanging) → StageHears left work stage answers left' work' result → Ok tt ≡ stage_told result → StageAsks stage
     → (shares : Shares) × TakesShares stage left left' shares × HearsAt work stage shares answers work' (Ok (stage_after result))
 hears_ok (Ok stage') left work stage answers left' work' (quiet never same same' is) told asks = absurd (never asks)
 hears_ok (Ok stage') left work stage answers left' work' (hears shares asks' takes heard) told asks = (shares, takes, heard)
@@ -70,7 +70,7 @@ module _ (f : Frame) (most : Two ℕ ℕ) (old : Standing) (leg : Leg) (at : Ami
   answers_of : Answers
   answers_of = record { mine = leg.mine; theirs = leg.theirs }
 
-  heard_both : HeardBoth f most leg.asking.left leg.asking.stage (record { mine = leg.mine; theirs = leg.theirs })
+  pub heard_both : HeardBoth f most leg.asking.left leg.asking.stage (record { mine = leg.mine; theirs = leg.theirs })
   heard_both = record {
     asked = record { local = asked leg.step.local; peer = asked leg.step.peer };
     local = record {
@@ -91,7 +91,7 @@ module _ (f : Frame) (most : Two ℕ ℕ) (old : Standing) (leg : Leg) (at : Ami
     of_peer = g.next.asks.0.peer;
   }
 
-  taken : (shares : Shares) × TakesShares leg.asking.stage leg.asking.left leg.after.machine.left shares × HearsAt leg.asking.work leg.asking.stage shares (record { mine = leg.mine; theirs = leg.theirs }) leg.after.machine.work (Ok leg.after.machine.stage)
+  pub taken : (shares : Shares) × TakesShares leg.asking.stage leg.asking.left leg.after.machine.left shares × HearsAt leg.asking.work leg.asking.stage shares (record { mine = leg.mine; theirs = leg.theirs }) leg.after.machine.work (Ok leg.after.machine.stage)
   taken =
       let t = hears_ok g.takes.after leg.asking.left leg.asking.work leg.asking.stage (record { mine = leg.mine; theirs = leg.theirs }) leg.after.machine.left leg.after.machine.work g.takes.hears g.takes.is g.next.asks.1 in
       (t.0, t.1, subst (λ s. HearsAt leg.asking.work leg.asking.stage t.0 (record { mine = leg.mine; theirs = leg.theirs }) leg.after.machine.work (Ok s)) (sym g.takes.stage) t.2)
@@ -119,7 +119,7 @@ module _ (f : Frame) (most : Two ℕ ℕ) (new : Standing) (ends : Grows new.loc
         peer = (q, up', grown_on now.peer new.peer f.b' q g.1.0 f.fb' g.1.1 ends');
       }
 
-  amid_leg : (old : Standing) (leg : Leg) (legs : List Leg) → Amid f old → Goes most old leg → Runs most leg.after legs new → Amid f leg.after
+  pub amid_leg : (old : Standing) (leg : Leg) (legs : List Leg) → Amid f old → Goes most old leg → Runs most leg.after legs new → Amid f leg.after
   amid_leg old leg legs at g run = amid_next legs leg.after g.held.0 g.held.1
       (grown_on f.a old.local leg.after.local f.fa at.local.0 g.held.0 at.local.1 (tells_grow most.local (asked leg.step.local) leg.mine old.local leg.after.local leg.locals at.local.0 g.held.0 g.local))
       (grown_on f.b old.peer leg.after.peer f.fb at.peer.0 g.held.1 at.peer.1 (tells_grow most.peer (asked leg.step.peer) leg.theirs old.peer leg.after.peer leg.peers at.peer.0 g.held.1 g.peer)) run
@@ -176,10 +176,10 @@ module _ (locals peers : List States) where
 -- ---- from the beginning
 
 module _ (number : Option ℕ) (questions : ℕ) (most : Two ℕ ℕ) (old : Standing) (legs : List Leg) (new : Standing) (begins : Begins number questions old) (run : Runs most old legs new) where
-  grown : (AreHeld new.local × Grows old.local new.local) × (AreHeld new.peer × Grows old.peer new.peer)
+  pub grown : (AreHeld new.local × Grows old.local new.local) × (AreHeld new.peer × Grows old.peer new.peer)
   grown = runs_grow most legs old new begins.local begins.peer run
 
-  frame : Frame
+  unfoldable pub frame : Frame
   frame = record {
     a = old.local;
     b = old.peer;
@@ -195,7 +195,7 @@ module _ (number : Option ℕ) (questions : ℕ) (most : Two ℕ ℕ) (old : Sta
     peers = all_peers legs;
   }
 
-  first_amid : Amid frame old
+  pub first_amid : Amid frame old
   unfolding frame
   first_amid = record {
     local = (begins.local, grows_self old.local begins.local, grown.0.1);

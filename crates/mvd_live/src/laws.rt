@@ -1,5 +1,5 @@
 //! What a session comes to beside other writers, each law as the contract of an empty function.
-ghost use Rattle.std.specs.Prelude.{◌≡◌, ℕ, List, [], ◌∷◌, ◌++◌, Option, None, Some, Result, Ok, Err};
+ghost use Rattle.std.specs.Prelude.{◌≡◌, ◌+◌, ℕ, List, [], ◌∷◌, ◌++◌, Option, None, Some, Result, Ok, Err};
 ghost use Rattle.std.specs.declared.alloc.Global.{Global};
 ghost use Rattle.std.specs.declared.vec.Vec.{Vec};
 ghost use Rattle.mvd_dots.specs.declared.refusals.Refusal.{Refusal};
@@ -12,16 +12,18 @@ ghost use Rattle.mvd_peer.specs.Live.{Rises};
 ghost use Rattle.mvd_peer.specs.Sides.{Two};
 ghost use Rattle.mvd_peer.specs.Windows.{CannotTake, EachAnswer, HasKeys, IsNode, TakesState, TellsMore};
 ghost use Rattle.mvd_sync.specs.Machines.{HasNext, Machining};
+ghost use Rattle.mvd_sync.specs.Session.{HasAllThatDiffer};
 ghost use Rattle.mvd_sync.specs.Steps.{Wanted, only_gets, only_nodes, only_pages};
 ghost use Rattle.mvd_sync.specs.Tellings.{Page};
 ghost use Rattle.mvd_sync.specs.Walking.{PageQuestion};
 ghost use Rattle.mvd_sync.specs.declared.asked.Step.{Step};
 ghost use Rattle.mvd_sync.specs.declared.telling.Told.{Told};
 ghost use Rattle.mvd_sync.specs.declared.telling.Told.TheVariants.{Nodes, Pages, States as Gets};
+ghost use Rattle.mvd_live.specs.Few.{AsksFew, HasAllThatDiffered, asked_local, asked_peer};
 ghost use Rattle.mvd_live.specs.Lives.{IsGiven, Lives};
 ghost use Rattle.mvd_meet.specs.declared.stepping.Meeting.{Meeting};
 ghost use Rattle.mvd_live.specs.Mail.{Ends, Mail, Meets, Sits, Waiting, mail_locals, mail_peers, standing, waits_at};
-ghost use Rattle.mvd_live.specs.Runs.{Begins, Leg, Runs, Standing, all_locals, all_peers};
+ghost use Rattle.mvd_live.specs.Runs.{Begins, Goes, Leg, Runs, Standing, all_locals, all_peers};
 ghost use Rattle.mvd_live.specs.Told.{Tells, TellsEach, TellsPush, TellsQuietly};
 
 /// A session that says that it is done: of each key that its report does not leave, both sides have what either had as
@@ -50,6 +52,37 @@ pub fn nothing_is_made_up()
     ensures { (number : Option ℕ) (questions : ℕ) (most : Two ℕ ℕ) (old new : Standing) (legs : List Leg)
         (asking : Machining) (step : Step) → Begins number questions old → Runs most old legs new
         → HasNext new.machine asking (Some step) → IsGiven (all_locals legs) (all_peers legs) step }
+{}
+
+/// A session asks few questions: of each side one, five for each key at which the two differed at any two moments, and
+/// one for each thousand keys that the side holds by then. What is wanted next is among them. What was asked and what
+/// is left are all that may be asked: so a session with a budget of this bound does not end with 36 of its own.
+pub fn a_session_asks_few()
+    ensures few { (number : Option ℕ) (questions : ℕ) (most : Two ℕ ℕ) (old new : Standing) (legs : List Leg)
+        (asking : Machining) (step : Option Step) (differed : List Key) → Begins number questions old
+        → Runs most old legs new → HasNext new.machine asking step
+        → HasAllThatDiffered (all_locals legs) (all_peers legs) differed → AsksFew legs asking new differed }
+    ensures spent { (number : Option ℕ) (questions : ℕ) (most : Two ℕ ℕ) (old new : Standing) (legs : List Leg)
+        (asking : Machining) (step : Option Step) → Begins number questions old → Runs most old legs new
+        → HasNext new.machine asking step
+        → (asked_local legs + asking.left.local ≡ questions) × (asked_peer legs + asking.left.peer ≡ questions) }
+    // Such a key differed as the session began, or somebody wrote to it before the end.
+    ensures written { (number : Option ℕ) (questions : ℕ) (most : Two ℕ ℕ) (old new : Standing) (legs : List Leg)
+        (keys : List Key) → Begins number questions old → Runs most old legs new
+        → HasAllThatDiffer old.local old.peer keys → HasAllThatDiffer old.local new.local keys
+        → HasAllThatDiffer old.peer new.peer keys → HasAllThatDiffered (all_locals legs) (all_peers legs) keys }
+{}
+
+/// A runner asks both sides each window that `next` names, and hands `take` what they told, as `sync_within` does by
+/// the same parts. Of live sides this is a run, one window longer each time. So where `next` names none, its two sides
+/// have come to what `a_session_lives` says; and at each window, also at the last one before a fault, few questions
+/// were asked and nothing was made up.
+pub fn a_runner_runs()
+    ensures begins { (number : Option ℕ) (questions : ℕ) (most : Two ℕ ℕ) (old : Standing)
+        → Begins number questions old → Runs most old [] old }
+    ensures goes_on { (number : Option ℕ) (questions : ℕ) (most : Two ℕ ℕ) (old mid : Standing) (legs : List Leg)
+        (leg : Leg) → Begins number questions old → Runs most old legs mid → Goes most mid leg
+        → Runs most old (legs ++ leg ∷ []) leg.after }
 {}
 
 /// A side to which nobody else writes is live, where it answers as `Peer` says of a faithful one. So the premise of

@@ -1,0 +1,37 @@
+-- How many questions a session asks beside other writers: few, where few keys differ, as in a session of two sides that
+-- hold still (a walk down hash trees costs what differs: DeCandia et al., Dynamo, 2007, section 4.7).
+use Rattle.std.specs.Prelude.{◌+◌, ℕ, List, [], ◌∷◌, Contains, length}
+use Rattle.mvd_keys.specs.Writes.{Key}
+use Rattle.mvd_site.specs.Held.{States}
+use Rattle.mvd_sync.specs.Machines.{Machining, wanted_count}
+use Rattle.mvd_sync.specs.Session.{AreFew, HasAllThatDiffer}
+use Rattle.mvd_sync.specs.Steps.{Wanted, asked}
+use Rattle.mvd_sync.specs.declared.report.Side.TheVariants.{Local as AtLocal, Peer as AtPeer}
+use Rattle.mvd_live.specs.Runs.{Leg, Standing}
+
+-- ---- the keys that count
+
+-- all keys at which what one side held at a moment is not what the other held at a moment are among these
+abbrev pub HasAllThatDiffered : List States → List States → List Key → Type 0
+HasAllThatDiffered locals peers keys =
+    (a b : States) → Contains locals a → Contains peers b → HasAllThatDiffer a b keys
+
+-- ---- the questions
+
+abbrev pub questions_in : Wanted → ℕ
+questions_in w = length w.nodes + length w.pages + length w.gets + length w.pushes
+
+-- those to the local side, and those to the peer
+abbrev pub asked_local : List Leg → ℕ
+asked_local [] = 0
+asked_local (leg ∷ legs) = questions_in (asked leg.step.local) + asked_local legs
+
+abbrev pub asked_peer : List Leg → ℕ
+asked_peer [] = 0
+asked_peer (leg ∷ legs) = questions_in (asked leg.step.peer) + asked_peer legs
+
+-- FEW WERE ASKED, with those that are wanted next: of each side one, five for each of these keys, and one for each
+-- thousand that it holds by then
+pub record AsksFew (legs : List Leg) (next : Machining) (now : Standing) (keys : List Key) : Type 0 where
+  pub local : AreFew (asked_local legs + wanted_count AtLocal next.stage) now.local keys
+  pub peer : AreFew (asked_peer legs + wanted_count AtPeer next.stage) now.peer keys

@@ -1,11 +1,15 @@
 //! The program `mvd`.
 #![tactic(auto)]
 
-use mvd_app::{Sockets, Stop, run};
-use mvd_input::{Fault, OrderFault, order_of};
+ghost use Rattle.mvd_input.specs.Orders.{IsInRange};
+
+use mvd_app::{Direct, Sockets, Stop, run};
+use mvd_dots::Refusal;
+use mvd_input::{Fault, Order, OrderFault, order_of};
 use sqlite::Unknown;
+use std::env;
+use std::io::{self, BufReader};
 use std::process::ExitCode;
-use std::{env, io};
 
 fn main(rt: HostRuntime) -> io::Result<ExitCode> {
     match words(&rt) {
@@ -18,13 +22,34 @@ fn main(rt: HostRuntime) -> io::Result<ExitCode> {
 fn obey(rt: &HostRuntime, words: &[String]) -> io::Result<ExitCode> {
     let texts = texts(rt, words)?;
     match order_of(rt.alloc(), &texts) {
-        // A torn write is taken to leave each byte old or new.
-        Ok(order) => match run(rt, order, Unknown, &Sockets(rt)).ended {
+        Ok(order) => match done(rt, order) {
             Ok(()) => Ok(ExitCode::SUCCESS),
             Err(stop) => Ok(tell_stop(rt, &stop)),
         },
         Err(fault) => Ok(refused(rt, &fault)),
     }
+}
+
+/// Does what an order asks for, with the system's own input, output and sockets.
+fn done<'a>(rt: &'a HostRuntime, order: Order<'a>) -> Result<(), Stop<'a>>
+    requires { IsInRange order }
+{
+    let Ok(mut reader) = BufReader::new(rt.alloc(), rt.reader()) else {
+        return Err(Stop::from(Refusal::Memory));
+    };
+    let mut writer = io::writer(rt);
+    let mut sockets = Direct {};
+    // A torn write is taken to leave each byte old or new.
+    run(
+        rt,
+        order,
+        Unknown,
+        &Sockets(rt),
+        &mut sockets,
+        &mut reader,
+        &mut writer,
+    )
+    .ended
 }
 
 /// Tells on standard error that a word is no text, and gives its status.

@@ -1,9 +1,10 @@
 -- What a command is stopped with, and what comes back of its file.
 use Rattle.std.proofs.Common.{◌≡◌, ℕ, Bool, List, Option, Some, None, Result, Ok, Err, false, inl, inr, refl, subst, sym, true, true≢false}
-use Rattle.std.specs.Prelude.{IfNone, IfSome, if◌then◌else◌}
+use Rattle.std.specs.Prelude.{IfSome, if◌then◌else◌}
 use Rattle.std.specs.Borrow.{Bor}
 use Rattle.std.specs.Result.{result_and}
-use Rattle.mvd_app.specs.Stored.{CannotEnd, ClosesOrNot, EndsAs, Filed, GivesBack, GivesNone, IsConfigFor, IsWithoutFile, NamesFile}
+use Rattle.mvd_app.specs.Stored.{ClosesOrNot, EndsAs, Filed, GivesBack, IsConfigFor, IsWithoutFile, NamesFile}
+use Rattle.mvd_app.specs.Tasks.{Task}
 use Rattle.mvd_app.specs.declared.closing.Ran.{Ran}
 use Rattle.mvd_dots.specs.declared.refusals.Refusal.TheVariants.{Broken, Store}
 use Rattle.mvd_hint.specs.declared.hint.Stop.{Stop}
@@ -12,7 +13,7 @@ use Rattle.mvd_input.specs.declared.order.Setup.{Setup}
 use Rattle.mvd_replica.proofs.Programs.{leaves_file}
 use Rattle.mvd_replica.specs.FileCalls.{OpensAsSite, file_of}
 use Rattle.mvd_replica.specs.Programs.{KeepsFile, WorksOn}
-use Rattle.mvd_replica.specs.Replicas.{site_of, stored_of}
+use Rattle.mvd_replica.specs.Replicas.{site_of}
 use Rattle.mvd_replica.specs.declared.replica.Replica.{Replica}
 use Rattle.mvd_site.specs.Config.{ConfigValue}
 use Rattle.sqlite.specs.Recovery.{Image}
@@ -44,21 +45,22 @@ module _ (D : Type 0) (broken : Bool) (ended : Result (Unit {0}) Stop) where
   stops_same (Err other) files is = is
 
 -- only a file of definitions or with a token stops a command before its own file is opened
-pub by_files : (db : Bor (List ℕ)) (site max_keys : ℕ) (defs token : Option (Bor (List ℕ))) → (defs ≡ None → token ≡ None → false ≡ true) →
-    NamesFile (record { db = db; setup = record { site = site; max_keys = max_keys; defs = defs }; token = token })
-by_files db site max_keys (Some file) token none = inl (file, refl)
-by_files db site max_keys None (Some file) none = inr (file, refl)
-by_files db site max_keys None None none = absurd (true≢false (sym (none refl refl)))
+pub by_files : (db : Bor (List ℕ)) (site max_keys : ℕ) (defs token : Option (Bor (List ℕ))) (task : Task) → (defs ≡ None → token ≡ None → false ≡ true) →
+    NamesFile (record { db = db; setup = record { site = site; max_keys = max_keys; defs = defs }; token = token; task = task })
+by_files db site max_keys (Some file) token task none = inl (file, refl)
+by_files db site max_keys None (Some file) task none = inr (file, refl)
+by_files db site max_keys None None task none = absurd (true≢false (sym (none refl refl)))
+
+-- and only such a file stops a shell through a server before its address is dialled
+pub by_name : (file : Option (Bor (List ℕ))) → (file ≡ None → ⊥) → (name : Bor (List ℕ)) × (file ≡ Some name)
+by_name (Some name) none = (name, refl)
+by_name None none = absurd (none refl)
 
 -- ---- what comes back
 
 -- nothing, of an order that works on no file
 pub none_back : {D : Type 0} (P : Files D → Type 0) (ended : Result (Unit {0}) Stop) (ran : Ran D) → IsWithoutFile ended ran → IfSome ran.files P
 none_back P ended ran is = subst (λ (files : Option (Files _)). IfSome files P) (sym is.files) tt
-
-pub none_asked : {A : Type 0} (files : Option A) → IfNone files (Unit {0})
-none_asked (Some x) = tt
-none_asked None = tt
 
 module _ {D : Type 0} {g : disk.Ghosts D} {f : Ghosts (FileStore D g)} (image : Image) (filed : Filed) (config : ConfigValue)
     (is : IsConfigFor filed.setup config) (old new : Replica (FileStore D g) f) (opened : OpensAsSite image config (Ok old)) where
@@ -68,11 +70,3 @@ module _ {D : Type 0} {g : disk.Ghosts D} {f : Ghosts (FileStore D g)} (image : 
   file_back (Some files) works ends = λ clean. subst (λ (n : ℕ). KeepsFile g image n files) is.site (
       leaves_file image config old new files opened.site opened.stands (λ sound. opened.opens sound.clean) works ends.0 (ends.1 clean))
   file_back None works ends = tt
-
-  -- or nothing, since it is broken or cannot be closed
-  pub no_file_back : (files : Option (Files D)) (worked ended : Result (Unit {0}) Stop) → WorksOn (stored_of old) (stored_of new) →
-      ClosesOrNot new files → EndsAs worked files (site_of new).broken ended → IfNone files (GivesNone f image (Some filed) ended)
-  no_file_back (Some files) worked ended works ends told = tt
-  no_file_back None worked (Err stop) works ends told = inr (config, is, inr (record { old = old; new = new; opened = opened; works = works; ends = ends }))
-  no_file_back None (Err stop) (Ok done) works ends told = absurd cc
-  no_file_back None (Ok other) (Ok done) works ends told = absurd told

@@ -1,18 +1,36 @@
 -- Whatever a command does with a stored site keeps the writes known, and its records follow.
-use Rattle.std.proofs.Common.{List, ℕ, Option, [], ◌∷◌, subst, sym}
+use Rattle.std.proofs.Common.{◌≡◌, ◌∙◌, List, ℕ, Option, Some, None, Result, Ok, [], ◌∷◌, ap, refl, subst, sym}
+use Rattle.std.specs.List.{AllByRecursion}
+use Rattle.std.specs.Prelude.{unwrap_or}
+use Rattle.std.specs.declared.net.socket_addr.SocketAddr.{SocketAddr}
 use Rattle.mvd_app.proofs.Following.{follows}
+use Rattle.mvd_app.proofs.Rounds.{runs_fine}
+use Rattle.mvd_app.specs.Tasks.{DoesTask, Outside, Serving, Syncing, Task, Typing, turns_asked}
 use Rattle.mvd_client.specs.Synced.{FollowsPushed}
 use Rattle.mvd_replica.proofs.Keeping.{keeps_on, keeps_self, pushes_keep, turns_keep}
 use Rattle.mvd_replica.specs.Batch.{lost_requests}
 use Rattle.mvd_replica.specs.Programs.{KeepsWrites, WorksOn}
 use Rattle.mvd_replica.specs.ReplicaCalls.{ReplicaAnswers}
-use Rattle.mvd_replica.specs.Replicas.{site_of, stored_of}
+use Rattle.mvd_hint.specs.declared.hint.Stop.{Stop}
+use Rattle.mvd_host.specs.Round.{turns_of}
+use Rattle.mvd_host.specs.Runs.{turns_in}
+use Rattle.mvd_remote.specs.declared.line.Line.{Ghosts as LineGhosts}
+use Rattle.mvd_replica.specs.Replicas.{site_of, store_of, stored_of}
+use Rattle.mvd_replica.specs.Restored.{HasWrites}
+use Rattle.mvd_replica.specs.Turns.{Turn}
+use Rattle.mvd_runs.proofs.Working.{works_append, works_asked, works_none, writes_then}
+use Rattle.mvd_runs.specs.Files.{IsValidTurn, WorksBy}
+use Rattle.mvd_site.specs.Known.{IsValidRequest}
 use Rattle.mvd_replica.specs.declared.replica.Replica.{Replica}
 use Rattle.mvd_shell.specs.Asked.{Exchange}
 use Rattle.mvd_shell.specs.Talk.{AnswersExchanges, AsksInTurn}
 use Rattle.mvd_server.specs.Rounds.{IsServed}
 use Rattle.mvd_server.specs.declared.sockets.Sockets.{Ghosts as SocketGhosts}
+use Rattle.sqlite.specs.Held.{state}
 use Rattle.sqlite_trees.specs.declared.store.Store.{Ghosts}
+
+none_told : (turns : List Turn) → ◌≡◌ {A = Option (List Turn)} (Some turns) None → ⊥
+none_told turns is = cc
 
 module _ {S : Type 0} {g : Ghosts S} where
   -- a shell
@@ -53,3 +71,45 @@ module _ {S : Type 0} {g : Ghosts S} where
     holds = it.list.serves.follows.holds;
     stored = λ sound held whole broken. let more = it.list.serves.follows.stored sound held whole broken in (lost_requests more.lost, more.holds);
   }
+
+  -- ---- as turns
+
+  -- those of a shell
+  asked_by : (exchanges : List Exchange) (old new : Replica S g) → HasWrites (site_of old) → AllByRecursion IsValidTurn (turns_asked exchanges) → AnswersExchanges ReplicaAnswers exchanges old new →
+      WorksBy (turns_asked exchanges) (stored_of old) (stored_of new)
+  unfolding AnswersExchanges
+  asked_by [] old new writes valid same = subst (λ (r : Replica S g). WorksBy [] (stored_of old) (stored_of r)) (sym same) (works_none (site_of old) (store_of old))
+  asked_by (exchange ∷ exchanges) old new writes (valid, rest) (between, one, others) =
+      let asked : IsValidRequest exchange.request = valid exchange.request refl in
+      works_append (record { asked = Ok exchange.request; reply = exchange.reply } ∷ []) (turns_asked exchanges) (site_of old) (site_of between) (site_of new) (store_of old) (store_of between)
+      (store_of new) (works_asked old between exchange.request exchange.reply asked writes one)
+      (asked_by exchanges between new (writes_then old between exchange.request exchange.reply asked writes one) rest others)
+
+  -- those of a server
+  served_by : {K : Type 0} {k : SocketGhosts K} {token : Option (List ℕ)} {sockets sockets' : K} (old new : Replica S g) (it : IsServed k token sockets old sockets' new) →
+      WorksBy (turns_of (turns_in it.all)) (stored_of old) (stored_of new)
+  served_by old new it = record {
+    site = record { replies = it.list.serves.replies; stands = it.list.serves.stands; config = it.list.serves.config; choice = it.list.serves.choice };
+    valid = runs_fine (state g) _ it.all it.runs;
+    told = it.list.serves.told;
+    follows = it.list.serves.follows;
+  }
+
+  by_turns : (old new : Replica S g) (turns given : List Turn) → ◌≡◌ {A = Option (List Turn)} (Some turns) (Some given) → WorksBy given (stored_of old) (stored_of new) → WorksBy turns (stored_of old) (stored_of new)
+  by_turns old new turns given is works = subst (λ (ts : List Turn). WorksBy ts (stored_of old) (stored_of new)) (sym (ap (λ (o : Option (List Turn)). unwrap_or o turns) is)) works
+
+  -- ---- a task
+
+  module _ {K L : Type 0} (k : SocketGhosts K) (line : LineGhosts L) (gives : SocketAddr → L → Type 0) (token : Option (List ℕ)) (was now : Outside K) (old new : Replica S g) where
+    -- keeps the writes known
+    pub does_work : (task : Task) (turns : Option (List Turn)) (result : Result (Unit {0}) Stop) → DoesTask k line gives task token was old now new turns result → WorksOn (stored_of old) (stored_of new)
+    does_work Serving turns result (it, is) = served_works old new it
+    does_work Typing turns result (it, is) = asks_work old new (record { exchanges = it.exchanges; answered = it.asked })
+    does_work (Syncing address) turns result (synced, pushed, is) = pushed_works old new pushed
+
+    -- and the turns that it tells are all that was done
+    pub does_by : (task : Task) (given : Option (List Turn)) (result : Result (Unit {0}) Stop) → DoesTask k line gives task token was old now new given result → HasWrites (site_of old) →
+        (turns : List Turn) → given ≡ Some turns → WorksBy turns (stored_of old) (stored_of new)
+    does_by Serving given result (it, is) writes turns told = by_turns old new turns (turns_of (turns_in it.all)) (sym told ∙ is) (served_by old new it)
+    does_by Typing given result (it, is) writes turns told = by_turns old new turns (turns_asked it.exchanges) (sym told ∙ is) (asked_by it.exchanges old new writes it.valid it.asked)
+    does_by (Syncing address) given result (synced, pushed, is) writes turns told = absurd (none_told turns (sym told ∙ is))

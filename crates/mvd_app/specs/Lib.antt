@@ -1,4 +1,4 @@
-pub mod Dialed
-pub mod Output
+pub mod Done
 pub mod Refused
 pub mod Stored
+pub mod Tasks

@@ -2,6 +2,7 @@
 use Rattle.std.specs.Prelude.{◌≡◌, ◌⊎◌, ⊤, true, false, if◌then◌else◌, ℕ, Bool, List, Option, Some, None, Result, Ok, Err, IsErrAnd}
 use Rattle.std.specs.Borrow.{Bor}
 use Rattle.std.specs.FinMap.{empty as no_states}
+use Rattle.mvd_app.specs.Tasks.{Serving, Syncing, Task, Typing}
 use Rattle.mvd_app.specs.declared.closing.Ran.{Ran}
 use Rattle.mvd_dots.specs.declared.refusals.Refusal.TheVariants.{Broken, Store}
 use Rattle.mvd_hint.specs.declared.hint.Hint.TheVariants as Hint
@@ -11,10 +12,9 @@ use Rattle.mvd_input.specs.declared.order.Order.{Order}
 use Rattle.mvd_input.specs.declared.order.Order.TheVariants as order
 use Rattle.mvd_input.specs.declared.order.Setup.{Setup}
 use Rattle.mvd_replica.specs.FileCalls.{ClosesInto, FailsClosing, OpensAsSite}
-use Rattle.mvd_replica.specs.Programs.{LeavesFile, WorksOn}
+use Rattle.mvd_replica.specs.Programs.{LeavesFile}
 use Rattle.mvd_replica.specs.Refused.{FailsFile}
-use Rattle.mvd_replica.specs.Replicas.{site_of, stored_of}
-use Rattle.mvd_replica.specs.Sides.{ReplicaFollows}
+use Rattle.mvd_replica.specs.Replicas.{site_of}
 use Rattle.mvd_replica.specs.declared.file.FileFault.{FileFault}
 use Rattle.mvd_replica.specs.declared.replica.Replica.{Replica}
 use Rattle.mvd_rows.specs.Defs.{no_definitions}
@@ -27,29 +27,27 @@ use Rattle.sqlite_disk.specs.declared.Files.{Files}
 use Rattle.sqlite_store.specs.declared.store.FileStore.{FileStore}
 use Rattle.sqlite_trees.specs.declared.store.Store.{Ghosts}
 
-module _ {S : Type 0} {g : Ghosts S} where
-  -- whatever it is asked, its records follow
-  abbrev pub FollowsAsked : Replica S g → Replica S g → Type 0
-  FollowsAsked old new = ReplicaFollows (λ _. Unit {0}) (stored_of old) (stored_of new)
-
 -- the site that is set up so, without a key
 abbrev pub site_without_keys : ConfigValue → SiteValue
 site_without_keys config = record { config = config; states = no_states; broken = false }
 
 -- ---- what an order works on
 
--- the file that an order works on, what the site in it is set up with, and the file with the command's token, if it
--- names one
+-- the file that an order works on, what the site in it is set up with, the file with the command's token, if it names
+-- one, and what is to be done
 pub record Filed : Type 0 where
   pub db : Bor (List ℕ)
   pub setup : Setup
   pub token : Option (Bor (List ℕ))
+  pub task : Task
+
+abbrev pub filed : Bor (List ℕ) → Setup → Option (Bor (List ℕ)) → Task → Filed
+filed db setup token task = record { db = db; setup = setup; token = token; task = task }
 
 abbrev pub file_in : Order → Option Filed
-file_in (order.Serve db setup address conns idle http clients peers token) =
-    Some (record { db = db; setup = setup; token = token })
-file_in (order.Shell db setup) = Some (record { db = db; setup = setup; token = None })
-file_in (order.Sync db setup address idle verbose token) = Some (record { db = db; setup = setup; token = token })
+file_in (order.Serve db setup address conns idle http clients peers token) = Some (filed db setup token Serving)
+file_in (order.Shell db setup) = Some (filed db setup None Typing)
+file_in (order.Sync db setup address idle verbose token) = Some (filed db setup token (Syncing address))
 file_in _ = None
 
 -- it names a file that is read before the site's own: of definitions, or with a token
@@ -100,25 +98,3 @@ module _ {D : Type 0} (g : disk.Ghosts D) where
   abbrev pub CannotOpen : Image → ConfigValue → Bor (List ℕ) → Stop → Type 0
   CannotOpen image config db stop = (stop.hint ≡ Some (Hint.Lost db))
       ⊎ ((fault : FileFault D g) × FailsFile image config fault)
-
-module _ {D : Type 0} {g : disk.Ghosts D} (f : Ghosts (FileStore D g)) where
-  -- the site was opened and worked on, which broke it, or its file cannot be closed
-  pub record CannotEnd (image : Image) (config : ConfigValue) : Type 0 where
-    pub old : Replica (FileStore D g) f
-    pub new : Replica (FileStore D g) f
-    pub opened : OpensAsSite image config (Ok old)
-    pub works : WorksOn (stored_of old) (stored_of new)
-    pub ends : ((site_of new).broken ≡ true) ⊎ CannotClose new
-
-  -- WHY NO FILE COMES BACK of a command that works on one: a file of definitions or with a token stopped it, which the
-  -- order names; or the site that is set up so was not opened, or not closed
-  abbrev pub HasNoFile : Image → Filed → Stop → Type 0
-  HasNoFile image filed stop = NamesFile filed ⊎
-      ((config : ConfigValue) × IsConfigFor filed.setup config
-      × (CannotOpen g image config filed.db stop ⊎ CannotEnd image config))
-
-  -- the order works on none; or the command is stopped, and this is why
-  abbrev pub GivesNone : Image → Option Filed → Result (Unit {0}) Stop → Type 0
-  GivesNone image None ended = ⊤
-  GivesNone image (Some filed) (Ok done) = ⊥
-  GivesNone image (Some filed) (Err stop) = HasNoFile image filed stop

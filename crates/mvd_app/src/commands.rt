@@ -1,24 +1,20 @@
 //! What a command line asks for, done: with standard input and output, files and sockets.
-ghost use Rattle.std.specs.Prelude.{◌≡◌, IfNone, IfOk, IfSome, IsOk, IsOkAnd, List, None, Ok, Option, Some, option_copied};
-ghost use Rattle.std.specs.Prelude.{ℕ};
-ghost use Rattle.mvd_app.specs.Dialed.{HasMet, HasTalked, HasWorked, IsTokenOfOrder, MayWork, TellsWork};
-ghost use Rattle.mvd_app.specs.Stored.{FollowsAsked, GivesBack, GivesNone, IsConfigFor, IsWithoutFile, file_in};
+ghost use Rattle.std.specs.Prelude.{◌≡◌, IfOk, IfSome, IsOk, IsOkAnd, List, None, Option, Some, option_copied, ℕ};
+ghost use Rattle.mvd_app.specs.Done.{DoesFile, DoesOrder};
+ghost use Rattle.mvd_app.specs.Stored.{GivesBack, IsConfigFor, IsWithoutFile, file_in, filed};
+ghost use Rattle.mvd_app.specs.Tasks.{DoesTask, IsSimulated, IsTypedAt, MayWork, outside, task_of};
 ghost use Rattle.mvd_input.specs.Addresses.{IsAddressList};
 ghost use Rattle.mvd_input.specs.Orders.{IsInRange, IsSetUp};
-ghost use Rattle.mvd_replica.specs.Programs.{WorksOn};
-ghost use Rattle.mvd_replica.specs.ReplicaCalls.{ReplicaAnswers};
-ghost use Rattle.mvd_replica.specs.Replicas.{stored_of};
+ghost use Rattle.mvd_replica.specs.Turns.{Turn};
 ghost use Rattle.mvd_rows.specs.Defs.{no_definitions};
-ghost use Rattle.mvd_shell.specs.Talk.{AsksInTurn};
 ghost use Rattle.sqlite.specs.WalFiles.{image_at};
 
 use crate::closing::{Ran, finish};
 use crate::looping::loop_run;
 use crate::opening::opened;
-use crate::output::Output;
 use crate::serve_command::serve_stored;
 use crate::tokens::token_in;
-use crate::typed_lines::{answer_lines, input};
+use crate::typed_lines::typed;
 use mvd_client::{Dial, MeetingTerms, meet_run, remote_shell_run, sync_told};
 use mvd_dots::Refusal;
 use mvd_hint::{Hint, Stop};
@@ -26,14 +22,15 @@ use mvd_input::{DEFS_MAX, Fault, Order, Peers, Setup, read_defs, read_input};
 use mvd_replica::Replica;
 use mvd_rows::Defs;
 use mvd_script::sim;
-use mvd_server::{Direct, Terms};
+use mvd_server::{Sockets, Terms};
 use mvd_site::Config;
 use mvd_wire::Token;
 use sqlite::{Alter, FileFrom, FileStore, Start};
 use sqlite_disk::Disk;
 use sqlite_trees::store::Store;
+use std::fs;
+use std::io::{BufRead, Write};
 use std::net::SocketAddr;
-use std::{fs, io};
 
 /// What is done with a stored site.
 #[derive(Clone, Copy)]
@@ -43,29 +40,31 @@ enum Work<'a> {
     Sync(SocketAddr, u32, bool),
 }
 
-/// Runs an order, from standard input where it reads, and to standard output. A file that it works on is made where it
-/// is missing, and comes back with its log, closed, also where the command was stopped. What stands in it at first is
-/// what `start` names, which no code reads. `dial` leads to the server of a session or a shell.
-pub fn run<'a, S: Start, D: Dial>(
+/// Runs an order, from `reader` where it reads lines, and to `writer`. A file that it works on is made where it is
+/// missing, and comes back with its log, closed, also where the command was stopped. What stands in it at first is what
+/// `start` names, which no code reads. `dial` leads to the server of a session or a shell, and `sockets` move the bytes
+/// of the clients that are served.
+pub fn run<'a, S: Start, D: Dial, K: Sockets, R: BufRead, W: Write>(
     rt: &'a HostRuntime,
     order: Order<'a>,
     start: S,
     dial: &D,
+    sockets: &mut K,
+    reader: &mut R,
+    writer: &mut W,
 ) -> Ran<'a, FileFrom<S>>
     requires { IsInRange order }
     // If files come back clean, no write is lost that they held, of either version; and new files hold the site.
     ensures kept { IfSome result.files (GivesBack ⟦<FileFrom<S> as Disk>⟧ (image_at S.Start) (file_in order.entry)) }
-    // Where none come back, the order works on none, or the command is stopped for a cause.
-    ensures given { IfNone result.files
-        (GivesNone ⟦<FileStore<FileFrom<S>> as Store>⟧ (image_at S.Start) (file_in order.entry) result.ended) }
-    // Where it ends well, a session of a stored site, and a shell through a server, are with what the address leads to,
-    // and what is printed is of that.
-    ensures met { IfOk result.ended (λ _. HasMet ⟦<FileStore<FileFrom<S>> as Store>⟧ D.Dialed.Line
-        (D.gives dial.now) (image_at S.Start) order.entry result.files) }
+    // The site of the file was opened, did what the order names, and nothing else, and was closed; and the file holds
+    // what the site then knows. What was read and printed is of that.
+    ensures done { DoesOrder ⟦<FileStore<FileFrom<S>> as Store>⟧ K.Sockets D.Dialed.Line (D.gives dial.now)
+        (image_at S.Start) order.entry (outside sockets.old (R.remaining reader.old) (W.contents writer.old))
+        (outside sockets.new (R.remaining reader.new) (W.contents writer.new)) result }
 {
     match order {
-        Order::Sim => without_file(run_sim(rt), start),
-        Order::Loop(setup) => without_file(run_loop(rt, setup), start),
+        Order::Sim => without_file(run_sim(rt, reader, writer), start),
+        Order::Loop(setup) => without_file(run_loop(rt, setup, reader, writer), start),
         Order::Serve {
             db,
             setup,
@@ -87,14 +86,30 @@ pub fn run<'a, S: Start, D: Dial>(
                 every: 0,
             };
             let work = Work::Serve(address, terms, peers);
-            run_stored(rt, db, setup, token_file, work, start, dial)
+            run_stored(
+                rt, db, setup, token_file, work, start, dial, sockets, reader, writer,
+            )
         }
-        Order::Shell { db, setup } => run_stored(rt, db, setup, None, Work::Shell, start, dial),
+        Order::Shell { db, setup } => run_stored(
+            rt,
+            db,
+            setup,
+            None,
+            Work::Shell,
+            start,
+            dial,
+            sockets,
+            reader,
+            writer,
+        ),
         Order::RemoteShell {
             address,
             idle,
             token_file,
-        } => without_file(run_remote_shell(rt, dial, address, idle, token_file), start),
+        } => without_file(
+            run_remote_shell(rt, dial, address, idle, token_file, reader, writer),
+            start,
+        ),
         Order::Sync {
             db,
             setup,
@@ -104,7 +119,9 @@ pub fn run<'a, S: Start, D: Dial>(
             token_file,
         } => {
             let work = Work::Sync(address, idle, verbose);
-            run_stored(rt, db, setup, token_file, work, start, dial)
+            run_stored(
+                rt, db, setup, token_file, work, start, dial, sockets, reader, writer,
+            )
         }
         Order::Meet {
             address,
@@ -120,7 +137,10 @@ pub fn run<'a, S: Start, D: Dial>(
                 token: None,
                 verbose,
             };
-            without_file(run_meeting(rt, address, with, terms, token_file), start)
+            without_file(
+                run_meeting(rt, address, with, terms, token_file, writer),
+                start,
+            )
         }
     }
 }
@@ -133,20 +153,30 @@ fn without_file<'a, S: Start>(ended: Result<(), Stop<'a>>, start: S) -> Ran<'a, 
     Ran { files: None, ended }
 }
 
-fn run_sim<'a>(rt: &HostRuntime) -> Result<(), Stop<'a>> {
-    let mut reader = input(rt)?;
-    match sim(rt.alloc(), &mut reader, &mut Output::new(io::writer(rt))) {
+fn run_sim<'a, R: BufRead, W: Write>(
+    rt: &HostRuntime,
+    reader: &mut R,
+    writer: &mut W,
+) -> Result<(), Stop<'a>>
+    ensures { IsSimulated (R.remaining reader.old) (R.remaining reader.new) (W.contents writer.old)
+        (W.contents writer.new) result }
+{
+    match sim(rt.alloc(), reader, writer) {
         Ok(()) => Ok(()),
         Err(fault) => Err(Stop::in_input(fault, Hint::Script)),
     }
 }
 
-fn run_loop<'a>(rt: &HostRuntime, setup: Setup<'a>) -> Result<(), Stop<'a>>
+fn run_loop<'a, R: BufRead, W: Write>(
+    rt: &HostRuntime,
+    setup: Setup<'a>,
+    reader: &mut R,
+    writer: &mut W,
+) -> Result<(), Stop<'a>>
     requires { IsSetUp setup }
 {
     let config = config_in(rt, setup)?;
-    let mut reader = input(rt)?;
-    match loop_run(rt, rt.alloc(), &mut reader, &mut io::writer(rt), config) {
+    match loop_run(rt, rt.alloc(), reader, writer, config) {
         Ok(()) => Ok(()),
         // This is of the connection, too, and then not of the input.
         Err(Fault::Stopped(Refusal::ReadFailed)) => Err(Stop::from(Refusal::ReadFailed)),
@@ -157,7 +187,7 @@ fn run_loop<'a>(rt: &HostRuntime, setup: Setup<'a>) -> Result<(), Stop<'a>>
 /// Opens the site that a file holds, which is made where it is missing, works on it, and closes it: what the log holds
 /// is copied into the file, and both are given back. It is proved for whatever stands in the file. The definitions and
 /// the token are read first.
-fn run_stored<'a, S: Start, D: Dial>(
+fn run_stored<'a, S: Start, D: Dial, K: Sockets, R: BufRead, W: Write>(
     rt: &HostRuntime,
     db: &'a str,
     setup: Setup<'a>,
@@ -165,19 +195,18 @@ fn run_stored<'a, S: Start, D: Dial>(
     work: Work<'_>,
     start: S,
     dial: &D,
+    sockets: &mut K,
+    reader: &mut R,
+    writer: &mut W,
 ) -> Ran<'a, FileFrom<S>>
     requires set_up { IsSetUp setup }
     requires work { MayWork work }
-    ensures kept { IfSome result.files
-        (GivesBack ⟦<FileFrom<S> as Disk>⟧ (image_at S.Start)
-        (Some (record { db = db.entry; setup = setup.entry; token = token_file.entry }))) }
-    ensures given { IfNone result.files
-        (GivesNone ⟦<FileStore<FileFrom<S>> as Store>⟧ (image_at S.Start)
-        (Some (record { db = db.entry; setup = setup.entry; token = token_file.entry })) result.ended) }
-    ensures worked { IfOk result.ended (λ _. HasWorked ⟦<FileStore<FileFrom<S>> as Store>⟧ (image_at S.Start)
-        setup.entry result.files
-        (λ old new. (token : Option (List ℕ)) × IsTokenOfOrder token_file.entry token ×
-        TellsWork D.Dialed.Line (D.gives dial.now) work.entry token old new (Ok tt))) }
+    ensures kept { IfSome result.files (GivesBack ⟦<FileFrom<S> as Disk>⟧ (image_at S.Start)
+        (Some (filed db.entry setup.entry token_file.entry (task_of work.entry)))) }
+    ensures done { DoesFile ⟦<FileStore<FileFrom<S>> as Store>⟧ K.Sockets D.Dialed.Line (D.gives dial.now)
+        (image_at S.Start) (filed db.entry setup.entry token_file.entry (task_of work.entry))
+        (outside sockets.old (R.remaining reader.old) (W.contents writer.old))
+        (outside sockets.new (R.remaining reader.new) (W.contents writer.new)) result }
 {
     let (config, token) = match read_first(rt, setup, token_file) {
         Ok(read) => read,
@@ -191,7 +220,16 @@ fn run_stored<'a, S: Start, D: Dial>(
     };
     match opened(rt, db, config, start) {
         Ok(mut replica) => {
-            let worked = work_on(rt, &mut replica, work, token.as_ref(), dial);
+            let worked = work_on(
+                rt,
+                &mut replica,
+                work,
+                token.as_ref(),
+                dial,
+                sockets,
+                reader,
+                writer,
+            );
             drop(token);
             finish(db, replica, worked)
         }
@@ -227,27 +265,28 @@ fn read_first<'a>(
 }
 
 /// Does what is to be done with a stored site.
-fn work_on<'a, S: Alter + Drop, D: Dial>(
+fn work_on<'a, S: Alter + Drop, D: Dial, K: Sockets, R: BufRead, W: Write>(
     rt: &HostRuntime,
     replica: &mut Replica<S>,
     work: Work<'_>,
     token: Option<&Token>,
     dial: &D,
+    sockets: &mut K,
+    reader: &mut R,
+    writer: &mut W,
 ) -> Result<(), Stop<'a>>
     requires { MayWork work }
-    // The site keeps the writes known, and its records follow its states, however it ends.
-    ensures works { WorksOn (stored_of replica.old) (stored_of replica.new) }
-    ensures tells { TellsWork D.Dialed.Line (D.gives dial.now) work.entry (option_copied token.entry)
-        replica.old replica.new result }
+    // However it ends, this alone was done to the site.
+    ensures { (turns : Option (List Turn)) × DoesTask K.Sockets D.Dialed.Line (D.gives dial.now) (task_of work.entry)
+        (option_copied token.entry) (outside sockets.old (R.remaining reader.old) (W.contents writer.old)) replica.old
+        (outside sockets.new (R.remaining reader.new) (W.contents writer.new)) replica.new turns result }
 {
-    let mut writer = Output::new(io::writer(rt));
     match work {
         Work::Serve(address, terms, peers) => {
             let terms = Terms { token, ..terms };
-            let mut sockets = Direct {};
-            serve_stored(rt, &mut sockets, replica, address, terms, peers, &mut writer)
+            serve_stored(rt, sockets, replica, address, terms, peers, writer)
         }
-        Work::Shell => typed(rt, replica),
+        Work::Shell => typed(rt.alloc(), replica, reader, writer),
         Work::Sync(address, idle, verbose) => {
             let mut errors = rt.stderr();
             sync_told(
@@ -258,52 +297,45 @@ fn work_on<'a, S: Alter + Drop, D: Dial>(
                 idle,
                 token,
                 verbose,
-                &mut writer,
+                writer,
                 &mut errors,
             )
         }
     }
 }
 
-/// Answers the lines of standard input on a replica.
-fn typed<'a, S: Alter + Drop>(rt: &HostRuntime, replica: &mut Replica<S>) -> Result<(), Stop<'a>>
-    // However it ends, only requests were asked, and the records follow.
-    ensures asked { AsksInTurn ReplicaAnswers replica.old replica.new }
-    ensures follows { FollowsAsked replica.old replica.new }
-{
-    answer_lines(rt, replica)
-}
-
-fn run_remote_shell<'a, D: Dial>(
+fn run_remote_shell<'a, D: Dial, R: BufRead, W: Write>(
     rt: &HostRuntime,
     dial: &D,
     address: SocketAddr,
     idle: u32,
     token_file: Option<&'a str>,
+    reader: &mut R,
+    writer: &mut W,
 ) -> Result<(), Stop<'a>>
-    ensures talked { IfOk result (λ _. HasTalked D.Dialed.Line (D.gives dial.now address) address token_file.entry) }
+    ensures { IsTypedAt D.Dialed.Line (D.gives dial.now address) address token_file.entry (R.remaining reader.old)
+        (R.remaining reader.new) (W.contents writer.old) (W.contents writer.new) result }
 {
     let token = token_in(rt, token_file)?;
-    let mut reader = input(rt)?;
-    let mut writer = Output::new(io::writer(rt));
     remote_shell_run(
         dial,
         rt.alloc(),
         address,
         idle,
         token.as_ref(),
-        &mut reader,
-        &mut writer,
+        reader,
+        writer,
     )
 }
 
 /// Runs sessions between servers.
-fn run_meeting<'a>(
+fn run_meeting<'a, W: Write>(
     rt: &HostRuntime,
     address: SocketAddr,
     with: &str,
     terms: MeetingTerms<'_>,
     token_file: Option<&'a str>,
+    writer: &mut W,
 ) -> Result<(), Stop<'a>>
     requires { IsAddressList with.now }
 {
@@ -318,7 +350,7 @@ fn run_meeting<'a>(
         address,
         with,
         terms,
-        &mut io::writer(rt),
+        writer,
         &mut rt.stderr(),
     )
 }

@@ -1,35 +1,62 @@
+use Rattle.std.proofs.Common.{inl, inr, option_copied, refl}
 use Rattle.sqlite.specs.WalFiles.{image_at}
-use Rattle.std.proofs.Common.{inl, inr, option_copied, subst}
-use Rattle.mvd_app.specs.Dialed.{TellsWork}
-use Rattle.mvd_app.proofs.Dialed.{worked_so}
-use Rattle.mvd_app.proofs.Ending.{by_files, file_back, no_file_back}
+use Rattle.mvd_app.specs.Stored.{filed}
+use Rattle.mvd_app.specs.Tasks.{outside, task_of}
+use Rattle.mvd_app.proofs.Ending.{by_files, file_back}
+use Rattle.mvd_app.proofs.Running.{runs_of}
+use Rattle.mvd_app.proofs.Working.{does_by, does_work}
 use Rattle.mvd_app.proofs.commands.run_stored.Goals as goal
 
 pub returns-in-Err : goal.returns-in-Err
-returns-in-Err g c = record { kept = tt; given = inl (by_files c.args.db c.args.setup.site c.args.setup.max_keys c.args.setup.defs c.args.token_file c.in-Err.ensures.none); worked = tt }
-
-pub returns-in-Ok-opened : goal.returns-in-Ok-opened
-returns-in-Ok-opened g c = record {
-  kept = file_back (image_at g.S.Start) (record { db = c.args.db; setup = c.args.setup; token = c.args.token_file }) c.in-Ok.read.0 c.in-Ok.ensures.read.0 c.in-Ok-opened.replica c.work_on-worked.new.replica
-      c.in-Ok-opened.ensures.opened c.finish.result.files c.work_on-worked.ensures.works c.finish.ensures.files;
-  given = no_file_back (image_at g.S.Start) (record { db = c.args.db; setup = c.args.setup; token = c.args.token_file }) c.in-Ok.read.0 c.in-Ok.ensures.read.0 c.in-Ok-opened.replica c.work_on-worked.new.replica
-      c.in-Ok-opened.ensures.opened c.finish.result.files c.work_on-worked.result c.finish.result.ended c.work_on-worked.ensures.works c.finish.ensures.files
-      c.finish.ensures.ended;
-  worked = worked_so c.work_on-worked.result c.finish.result.files _ c.finish.result.ended c.finish.ensures.ended (λ well. record {
-    config = c.in-Ok.read.0;
-    set_up = c.in-Ok.ensures.read.0;
-    old = c.in-Ok-opened.replica;
-    new = c.work_on-worked.new.replica;
-    opened = c.in-Ok-opened.ensures.opened;
-    works = (
-      option_copied c.as_ref.result,
-      (λ none. rw c.as_ref.ensures.value (c.in-Ok.ensures.read.1 none)),
-      subst (TellsWork g.D.Dialed.Line (g.D.Dial.gives c.args.dial.now) c.args.work (option_copied c.as_ref.result) c.in-Ok-opened.replica c.work_on-worked.new.replica) well
-          c.work_on-worked.ensures.tells,
-    );
-    closed = c.finish.ensures.files;
+returns-in-Err g c = record {
+  kept = tt;
+  done = inl (record {
+    files = refl;
+    still = refl;
+    stop = c.in-Err.stop;
+    ended = refl;
+    cause = inl (by_files c.args.db c.args.setup.site c.args.setup.max_keys c.args.setup.defs c.args.token_file (task_of c.args.work) c.in-Err.ensures.none);
   });
 }
 
+pub returns-in-Ok-opened : goal.returns-in-Ok-opened
+returns-in-Ok-opened g c =
+    let image = image_at g.S.Start in
+    let old = c.in-Ok-opened.replica in
+    let new = c.work_on-worked.new.replica in
+    let opened = c.in-Ok-opened.ensures.opened in
+    let set_up = c.in-Ok.ensures.read.0 in
+    let token = option_copied c.as_ref.result in
+    let does = c.work_on-worked.ensures in
+    record {
+      kept = file_back image (filed c.args.db c.args.setup c.args.token_file (task_of c.args.work)) c.in-Ok.read.0 set_up old new opened c.finish.result.files
+          (does_work _ _ _ _ _ _ old new (task_of c.args.work) does.0 c.work_on-worked.result does.1) c.finish.ensures.files;
+      done = inr (record {
+        config = c.in-Ok.read.0;
+        set_up = set_up;
+        old = old;
+        opened = opened;
+        token = token;
+        of_file = λ none. rw c.as_ref.ensures.value (c.in-Ok.ensures.read.1 none);
+        new = new;
+        turns = does.0;
+        worked = c.work_on-worked.result;
+        does = does.1;
+        runs = runs_of image c.args.setup.site c.in-Ok.read.0 set_up.site old new opened opened.rests does.0
+            (does_by _ _ _ _ _ _ old new (task_of c.args.work) does.0 c.work_on-worked.result does.1 opened.stands) c.finish.result.files c.finish.ensures.files;
+        closed = c.finish.ensures.files;
+        ends = c.finish.ensures.ended;
+      });
+    }
+
 pub returns-in-Err-opened : goal.returns-in-Err-opened
-returns-in-Err-opened g c = record { kept = tt; given = inr (c.in-Ok.read.0, c.in-Ok.ensures.read.0, inl c.in-Err-opened.ensures.refused); worked = tt }
+returns-in-Err-opened g c = record {
+  kept = tt;
+  done = inl (record {
+    files = refl;
+    still = refl;
+    stop = c.in-Err-opened.stop;
+    ended = refl;
+    cause = inr (c.in-Ok.read.0, c.in-Ok.ensures.read.0, c.in-Err-opened.ensures.refused);
+  });
+}

@@ -1,0 +1,67 @@
+-- The turns of a server's rounds are asked by frames, and so push no state but those of some writes.
+use Rattle.std.proofs.Common.{◌≡◌, ◌∙◌, ◌==◌, ℕ, Bool, true, false, cond, List, [], ◌∷◌, ◌++◌, map, Option, Some, None, Result, refl, sym, subst}
+use Rattle.std.specs.List.{AllByRecursion}
+use Rattle.mvd_app.proofs.Reading.{request_fine}
+use Rattle.mvd_conn.specs.History.{History}
+use Rattle.mvd_dots.specs.declared.refusals.Refusal.{Refusal}
+use Rattle.mvd_host.proofs.Own.{same_number}
+use Rattle.mvd_host.specs.Course.{BothClients, asked_by, own}
+use Rattle.mvd_host.specs.Hosts.{client_of}
+use Rattle.mvd_host.specs.Round.{ClientCourse, Round, Side, turns_of}
+use Rattle.mvd_host.specs.Runs.{Calls, Comes, Goes, Happening, HostMoment, Rounds, Runs, after_one, side_at, turns_in}
+use Rattle.mvd_replica.specs.Turns.{Turn}
+use Rattle.mvd_runs.specs.Files.{IsValidTurn}
+use Rattle.mvd_wire.specs.Frames.{FrameValue}
+use Rattle.mvd_wire.specs.declared.request.Request.{Request}
+use Rattle.sqlite.specs.State.{State}
+
+abbrev AreFine : List Turn → Type 0
+AreFine turns = AllByRecursion IsValidTurn turns
+
+-- what frames ask
+heads : (x y : Result Request Refusal) (xs ys : List (Result Request Refusal)) → x ∷ xs ≡ y ∷ ys → (x ≡ y) × (xs ≡ ys)
+heads x y xs ys e = (cc, cc)
+
+framed_fine : (frames : List FrameValue) (turns : List Turn) → map asked_by frames ≡ map (λ t. t.asked) turns → AreFine turns
+framed_fine frames [] is = tt
+framed_fine [] (turn ∷ turns) is = absurd cc
+framed_fine (f ∷ frames) (turn ∷ turns) is =
+    let (one, others) = heads (asked_by f) turn.asked (map asked_by frames) (map (λ t. t.asked) turns) is in
+    ((λ request asked. request_fine f.kind f.payload request (one ∙ asked)), framed_fine frames turns others)
+
+-- those of each client, and so all of them
+module _ (P : Turn → Type 0) where
+  own_head : (n : ℕ) (turn : Turn) (turns : List (ℕ × Turn)) → AllByRecursion P (own n ((n, turn) ∷ turns)) → P turn
+  own_head n turn turns all = subst (λ (b : Bool). AllByRecursion P (cond b (turn ∷ own n turns) (own n turns)) → P turn) (sym (same_number n)) (λ it. it.0) all
+
+  own_tail : (n : ℕ) (x : ℕ × Turn) (turns : List (ℕ × Turn)) → AllByRecursion P (own n (x ∷ turns)) → AllByRecursion P (own n turns)
+  own_tail n x turns all =
+      elim (x.0 == n) as (λ b. AllByRecursion P (cond b (x.1 ∷ own n turns) (own n turns)) → AllByRecursion P (own n turns)) [
+        | true ↦ λ it. it.1
+        | false ↦ λ it. it
+      ] all
+
+  each_own : (turns : List (ℕ × Turn)) → ((n : ℕ) → AllByRecursion P (own n turns)) → AllByRecursion P (turns_of turns)
+  each_own [] all = tt
+  each_own (x ∷ turns) all = (own_head x.0 x.1 turns (all x.0), each_own turns (λ n. own_tail n x turns (all n)))
+
+client_fine : (n : ℕ) (turns : List Turn) (old new : Option History) → (old ≡ None → turns ≡ []) → BothClients old new (ClientCourse turns) → AreFine turns
+client_fine n turns None new none both = subst AreFine (sym (none refl)) tt
+client_fine n turns (Some h) None none both = absurd both
+client_fine n turns (Some h) (Some k) none both = framed_fine both.frames turns both.asked
+
+round_fine : (ready : List ℕ) (turns : List (ℕ × Turn)) (old new : Side) → Round ready turns old new → AreFine (turns_of turns)
+round_fine ready turns old new round =
+    each_own IsValidTurn turns (λ n. client_fine n (own n turns) (client_of old.host n) (client_of new.host n) (round.spares.none n) (round.clients n))
+
+turns_both : (first rest : List (ℕ × Turn)) → AreFine (turns_of first) → AreFine (turns_of rest) → AreFine (turns_of (first ++ rest))
+turns_both [] rest fine others = others
+turns_both (turn ∷ first) rest (one, fine) others = (one, turns_both first rest fine others)
+
+module _ {C : Type 0} (f : C → State) where
+  pub runs_fine : (side : HostMoment C) (all : List (Happening C)) → Runs f side all → AreFine (turns_of (turns_in all))
+  runs_fine side [] runs = tt
+  runs_fine side (Comes n host ∷ all) (may, runs) = runs_fine (after_one side (Comes n host)) all runs
+  runs_fine side (Goes n host ∷ all) (may, runs) = runs_fine (after_one side (Goes n host)) all runs
+  runs_fine side (Calls n call ∷ all) (may, runs) = runs_fine (after_one side (Calls n call)) all runs
+  runs_fine side (Rounds ready turns new ∷ all) (may, runs) = turns_both turns (turns_in all) (round_fine ready turns (side_at f side) (side_at f new) may) (runs_fine new all runs)

@@ -1,0 +1,127 @@
+-- What is done with a stored site, and with what is outside of a command.
+use Rattle.std.specs.Prelude.{◌≡◌, ◌⊎◌, ⊤, ℕ, List, map, Option, Some, None, Result, Ok, Err}
+use Rattle.std.specs.Borrow.{Bor}
+use Rattle.std.specs.List.{AllByRecursion}
+use Rattle.std.specs.Option.{ForSome}
+use Rattle.std.specs.declared.net.socket_addr.SocketAddr.{SocketAddr}
+use Rattle.mvd_app.specs.declared.commands.Work.{Work}
+use Rattle.mvd_app.specs.declared.commands.Work.TheVariants as work
+use Rattle.mvd_client.specs.LetIn.{GivesIn}
+use Rattle.mvd_client.specs.SyncsAt.{AreTrue, MeetsAt, TellsRan}
+use Rattle.mvd_client.specs.Synced.{FollowsPushed}
+use Rattle.mvd_client.specs.Talked.{ShellsAt}
+use Rattle.mvd_hint.specs.declared.hint.Stop.{Stop}
+use Rattle.mvd_host.specs.Round.{turns_of}
+use Rattle.mvd_host.specs.Runs.{turns_in}
+use Rattle.mvd_input.specs.Orders.{ArePeers}
+use Rattle.mvd_input.specs.declared.fault.Fault.{Fault}
+use Rattle.mvd_remote.specs.declared.line.Line.{Ghosts as LineGhosts}
+use Rattle.mvd_replica.specs.ReplicaCalls.{ReplicaAnswers}
+use Rattle.mvd_replica.specs.Replicas.{site_of}
+use Rattle.mvd_replica.specs.Sides.{IsTrueSite}
+use Rattle.mvd_replica.specs.Turns.{Turn}
+use Rattle.mvd_replica.specs.declared.replica.Replica.{Replica}
+use Rattle.mvd_runs.specs.Files.{IsValidTurn}
+use Rattle.mvd_script.specs.Script.{Simulates}
+use Rattle.mvd_server.specs.Rounds.{IsServed}
+use Rattle.mvd_server.specs.declared.sockets.Sockets.{Ghosts as SocketGhosts}
+use Rattle.mvd_shell.specs.Asked.{Exchange}
+use Rattle.mvd_shell.specs.Shell.{At, Shells, at}
+use Rattle.mvd_shell.specs.Talk.{AnswersExchanges}
+use Rattle.mvd_sync.specs.declared.report.Report.{Report}
+use Rattle.sqlite_trees.specs.declared.store.Store.{Ghosts}
+
+-- a moment outside of a command: what moves the bytes of its clients, what is still to be read, and what was written,
+-- each as far as it is known
+pub record Outside (K : Type 0) : Type 0 where
+  pub sockets : K
+  pub input : Option (List ℕ)
+  pub out : Option (List ℕ)
+
+abbrev pub outside : {K : Type 0} → K → Option (List ℕ) → Option (List ℕ) → Outside K
+outside sockets input out = record { sockets = sockets; input = input; out = out }
+
+-- ---- tasks
+
+-- a stored site is served, is asked what lines ask, or has a session with what an address leads to
+pub data Task : Type 0 where
+  Serving : Task
+  Typing : Task
+  Syncing : SocketAddr → Task
+
+abbrev pub task_of : Work → Task
+task_of (work.Serve address terms peers) = Serving
+task_of work.Shell = Typing
+task_of (work.Sync address idle verbose) = Syncing address
+
+-- a server meets just the servers of a list
+abbrev pub MayWork : Work → Type 0
+MayWork (work.Serve address terms peers) = ForSome peers ArePeers
+MayWork _ = ⊤
+
+-- there is a token only where the order names a file with it
+abbrev pub IsTokenOfOrder : Option (Bor (List ℕ)) → Option (List ℕ) → Type 0
+IsTokenOfOrder file token = file ≡ None → token ≡ None
+
+-- a command is stopped with the fault of what it ran
+abbrev pub EndsAsTold : Result (Unit {0}) Fault → Result (Unit {0}) Stop → Type 0
+EndsAsTold (Ok done) result = result ≡ Ok tt
+EndsAsTold (Err fault) result = (stop : Stop) × (result ≡ Err stop) × (stop.fault ≡ fault)
+
+-- ---- what they do
+
+-- each request with its reply is a turn
+abbrev pub turns_asked : List Exchange → List Turn
+turns_asked = map (λ exchange. record { asked = Ok exchange.request; reply = exchange.reply })
+
+module _ {S : Type 0} {g : Ghosts S} where
+  -- Lines are read and answered, and what they print is written. All that was asked are these requests, each of which a
+  -- line asks: none pushes a state that is not that of some writes
+  pub record IsTyped (old new : At (Replica S g)) (result : Result (Unit {0}) Stop) : Type 0 where
+    pub told : Result (Unit {0}) Fault
+    pub shells : Shells ReplicaAnswers (λ _. 0) old new told
+    pub ends : EndsAsTold told result
+    pub exchanges : List Exchange
+    pub asked : AnswersExchanges ReplicaAnswers exchanges old.asked new.asked
+    pub valid : AllByRecursion IsValidTurn (turns_asked exchanges)
+
+module _ {S : Type 0} {g : Ghosts S} {L : Type 0} (line : LineGhosts L) (gives : SocketAddr → L → Type 0) where
+  -- a session of a stored site with what an address leads to, to which the token was shown: what is printed, and how
+  -- the command ends, is what came of it; and where the lines are true, the two sites meet
+  pub record HasSynced (token : Option (List ℕ)) (address : SocketAddr) (out out' : Option (List ℕ))
+      (old new : Replica S g) (result : Result (Unit {0}) Stop) : Type 0 where
+    pub ran : Result Report Stop
+    pub meets : AreTrue line (GivesIn line (gives address) token) → IsTrueSite (site_of old)
+        → MeetsAt line (GivesIn line (gives address) token) address old new ran
+    pub told : TellsRan (site_of new).states out out' ran result
+
+module _ {S : Type 0} {g : Ghosts S} {K L : Type 0} (k : SocketGhosts K) (line : LineGhosts L)
+    (gives : SocketAddr → L → Type 0) where
+  -- WHAT A TASK DOES to a stored site, and nothing else. A server takes the turns of its rounds, and a shell those of
+  -- its lines; a session pushes states, and does not tell its turns
+  abbrev pub DoesTask : Task → Option (List ℕ) → Outside K → Replica S g → Outside K → Replica S g
+      → Option (List Turn) → Result (Unit {0}) Stop → Type 0
+  DoesTask Serving token was old now new turns result =
+      (it : IsServed k token was.sockets old now.sockets new) × (turns ≡ Some (turns_of (turns_in it.all)))
+  DoesTask Typing token was old now new turns result =
+      (it : IsTyped (at old was.input was.out) (at new now.input now.out) result)
+      × (turns ≡ Some (turns_asked it.exchanges))
+  DoesTask (Syncing address) token was old now new turns result =
+      HasSynced line gives token address was.out now.out old new result × FollowsPushed old new × (turns ≡ None)
+
+-- ---- without a file
+
+-- a script is read and run
+abbrev pub IsSimulated : Option (List ℕ) → Option (List ℕ) → Option (List ℕ) → Option (List ℕ)
+    → Result (Unit {0}) Stop → Type 0
+IsSimulated input input' out out' result =
+    (told : Result (Unit {0}) Fault) × Simulates input input' out out' told × EndsAsTold told result
+
+-- a shell through a server, to which the token was shown first; or the token could not be read of its file
+abbrev pub IsTypedAt : {L : Type 0} → LineGhosts L → (L → Type 0) → SocketAddr → Option (Bor (List ℕ))
+    → Option (List ℕ) → Option (List ℕ) → Option (List ℕ) → Option (List ℕ) → Result (Unit {0}) Stop → Type 0
+IsTypedAt line gives address file input input' out out' result =
+    ((token : Option (List ℕ)) × IsTokenOfOrder file token
+    × ShellsAt line (GivesIn line gives token) address input out input' out' result)
+    ⊎ (((name : Bor (List ℕ)) × (file ≡ Some name)) × ((stop : Stop) × (result ≡ Err stop))
+    × (input' ≡ input) × (out' ≡ out))

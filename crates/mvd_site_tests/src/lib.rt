@@ -5,6 +5,8 @@
 #[cfg(test)]
 mod asked_over_http;
 #[cfg(test)]
+mod beside_writers;
+#[cfg(test)]
 mod key_requests;
 #[cfg(test)]
 mod liars;

@@ -52,9 +52,9 @@ by_files db site max_keys None (Some file) task none = inr (file, refl)
 by_files db site max_keys None None task none = absurd (true≢false (sym (none refl refl)))
 
 -- and only such a file stops a shell through a server before its address is dialled
-pub by_name : (file : Option (Bor (List ℕ))) → (file ≡ None → ⊥) → (name : Bor (List ℕ)) × (file ≡ Some name)
+pub by_name : (file : Option (Bor (List ℕ))) → (file ≡ None → false ≡ true) → (name : Bor (List ℕ)) × (file ≡ Some name)
 by_name (Some name) none = (name, refl)
-by_name None none = absurd (none refl)
+by_name None none = absurd (true≢false (sym (none refl)))
 
 -- ---- what comes back
 

@@ -1,5 +1,5 @@
 -- What is done with a stored site, and with what is outside of a command.
-use Rattle.std.specs.Prelude.{◌≡◌, ◌⊎◌, ⊤, ℕ, List, map, Option, Some, None, Result, Ok, Err}
+use Rattle.std.specs.Prelude.{◌≡◌, ◌⊎◌, ⊤, ℕ, List, map, Option, Some, None, is_some, Result, Ok, Err}
 use Rattle.std.specs.Borrow.{Bor}
 use Rattle.std.specs.List.{AllByRecursion}
 use Rattle.std.specs.Option.{ForSome}
@@ -59,9 +59,9 @@ abbrev pub MayWork : Work → Type 0
 MayWork (work.Serve address terms peers) = ForSome peers ArePeers
 MayWork _ = ⊤
 
--- there is a token only where the order names a file with it
+-- there is a token just where the order names a file with it
 abbrev pub IsTokenOfOrder : Option (Bor (List ℕ)) → Option (List ℕ) → Type 0
-IsTokenOfOrder file token = file ≡ None → token ≡ None
+IsTokenOfOrder file token = is_some token ≡ is_some file
 
 -- a command is stopped with the fault of what it ran
 abbrev pub EndsAsTold : Result (Unit {0}) Fault → Result (Unit {0}) Stop → Type 0

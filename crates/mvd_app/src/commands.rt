@@ -1,5 +1,5 @@
 //! What a command line asks for, done: with standard input and output, files and sockets.
-ghost use Rattle.std.specs.Prelude.{◌≡◌, IfOk, IfSome, IsOk, IsOkAnd, List, None, Option, Some, option_copied, ℕ};
+ghost use Rattle.std.specs.Prelude.{◌≡◌, IfOk, IfSome, IsOk, IsOkAnd, List, None, Option, Some, is_some, option_copied, ℕ};
 ghost use Rattle.mvd_app.specs.Done.{DoesFile, DoesOrder};
 ghost use Rattle.mvd_app.specs.Stored.{GivesBack, IsConfigFor, IsWithoutFile, file_in, filed};
 ghost use Rattle.mvd_app.specs.Tasks.{DoesTask, IsSimulated, IsTypedAt, MayWork, outside, task_of};
@@ -250,7 +250,7 @@ fn read_first<'a>(
     token_file: Option<&'a str>,
 ) -> Result<(Config, Option<Token>), Stop<'a>>
     requires { IsSetUp setup }
-    ensures read { IfOk result (λ read. IsConfigFor setup.entry read.0 × (token_file.entry ≡ None → read.1 ≡ None)) }
+    ensures read { IfOk result (λ read. IsConfigFor setup.entry read.0 × (is_some read.1 ≡ is_some token_file.entry)) }
     // It is stopped only by such a file.
     ensures none { setup.entry.defs ≡ None → token_file.entry ≡ None → IsOk result }
 {

@@ -1,5 +1,5 @@
 //! The token that a file holds.
-ghost use Rattle.std.specs.Prelude.{◌≡◌, IsOkAnd, None};
+ghost use Rattle.std.specs.Prelude.{◌≡◌, IfOk, IsOk, None, is_some};
 
 use mvd_dots::Refusal;
 use mvd_hint::Stop;
@@ -12,7 +12,9 @@ pub(crate) fn token_in<'a>(
     rt: &HostRuntime,
     file: Option<&'a str>,
 ) -> Result<Option<Token>, Stop<'a>>
-    ensures { file.entry ≡ None → IsOkAnd result (λ token. token ≡ None) }
+    ensures given { IfOk result (λ token. is_some token ≡ is_some file.entry) }
+    // It is stopped only by such a file.
+    ensures none { file.entry ≡ None → IsOk result }
 {
     match file {
         Some(file) => Ok(Some(token_of(rt, file)?)),

@@ -6,7 +6,7 @@ use Rattle.mvd_app.proofs.commands.run_remote_shell.Goals as goal
 pub returns-in_err-token : goal.returns-in_err-token
 returns-in_err-token g c =
     let stopped = err_from_is_err_and c.from_residual.result c.from_residual.ensures.1 in
-    inr (by_name c.args.token_file c.in_err-token.ensures, (stopped.0, stopped.1), refl, refl)
+    inr (by_name c.args.token_file c.in_err-token.ensures.none, (stopped.0, stopped.1), refl, refl)
 
 pub returns : goal.returns
-returns g c = inl (option_copied c.as_ref.result, (λ none. rw c.as_ref.ensures.value (c.in_ok-token.ensures none)), c.remote_shell_run.ensures.shells)
+returns g c = inl (option_copied c.as_ref.result, rw c.as_ref.ensures.value c.in_ok-token.ensures.given, c.remote_shell_run.ensures.shells)

@@ -88,16 +88,26 @@ def check(folder, texts):
     return said
 
 
+def is_open(line):
+    """Whether a line of a check tells that a function is not proved for a cause of its own. One that only calls such a function, or stands
+    on its answers, tells nothing of its own change: that of another edit of the group may be why."""
+    name, told = re.match(r"fn (\S+): (.*)", line).groups()
+    own = "Rattle." + name.replace("::", ".proofs.", 1).replace("::", ".") + "."
+    stands = re.findall(r"`(Rattle\.\S+\.Answers\.\S+)`", told)
+    others = re.match(r"(no proof|not proved;) ?:? ?it calls", told) or (stands and not any(it.startswith(own) for it in stands))
+    return not told.startswith("proved") and not others
+
+
 def judged(said, functions):
     """Where a check refused a change of these functions: 'clause', 'answer', 'name', or '' if each of them is proved."""
-    open_now = re.findall(r"^fn (\S+): (?!proved)", said, re.M)
+    open_now = [re.match(r"fn (\S+):", line)[1] for line in re.findall(r"^fn \S+: .*", said, re.M) if is_open(line)]
     hit = [name for path, own in functions for name in open_now
            if not own or name.endswith(f"::{own}")]
     if not hit:
         return ""
     lines = said.split("\n")
     for name in hit:
-        at = next(n for n, line in enumerate(lines) if re.match(rf"fn {re.escape(name)}: (?!proved)", line))
+        at = next(n for n, line in enumerate(lines) if line.startswith(f"fn {name}: ") and is_open(line))
         before = at
         while before and not lines[before - 1].startswith("fn "):
             before -= 1

@@ -7,10 +7,9 @@ ghost use Rattle.mvd_wire.specs.Frames.{frame_limit};
 use mvd_dots::Refusal;
 use mvd_frames::read_frame;
 use mvd_input::{BYTES_MAX, Fault, HEX_MAX, hex_bytes, read_input, write_out};
-use mvd_replica::{Ended, Replica, serve};
-use mvd_server::How;
+use mvd_replica::{Replica, serve};
 use mvd_site::Config;
-use mvd_wire::Frame;
+use mvd_wire::{Ending, Frame};
 use sqlite::{Connection, MemStore};
 use std::alloc::Global;
 use std::fmt::Write as Print;
@@ -45,12 +44,12 @@ fn requests_in<R: Read>(alloc: Global, reader: &mut R) -> Result<Vec<u8>, Fault>
 fn tell<W: Write>(
     alloc: Global,
     replies: &[u8],
-    ended: Result<Ended, Refusal>,
+    ended: Ending,
     writer: &mut W,
 ) -> Result<(), Fault> {
     let mut out = String::new(alloc);
     print_frames(alloc, replies, &mut out)?;
-    writeln!(out, "ended {}", How(ended))?;
+    writeln!(out, "ended {ended}")?;
     write_out(writer, out.as_str())
 }
 
@@ -60,7 +59,7 @@ fn exchanged<N: Net>(
     alloc: Global,
     requests: &[u8],
     config: Config,
-) -> Result<(Vec<u8>, Result<Ended, Refusal>), Fault> {
+) -> Result<(Vec<u8>, Ending), Fault> {
     let (mut client, server) = match connected(rt) {
         Ok(streams) => streams,
         Err(_) => return Err(Fault::Stopped(Refusal::ReadFailed)),
@@ -86,7 +85,7 @@ fn answered<S: Read + Write + Drop>(
     alloc: Global,
     server: S,
     config: Config,
-) -> Result<Result<Ended, Refusal>, Refusal> {
+) -> Result<Ending, Refusal> {
     let Ok(mut server) = BufReader::new(alloc, server) else {
         return Err(Refusal::Memory);
     };
@@ -102,9 +101,12 @@ fn served<R: Read, W: Write>(
     reader: &mut R,
     writer: &mut W,
     config: Config,
-) -> Result<Result<Ended, Refusal>, Refusal> {
+) -> Result<Ending, Refusal> {
     let mut replica = in_memory(alloc, config)?;
-    let ended = serve(alloc, reader, writer, &mut replica);
+    let ended = match serve(alloc, reader, writer, &mut replica) {
+        Ok(ended) => Ending::from(ended),
+        Err(refusal) => Ending::Stopped(refusal),
+    };
     drop(replica);
     Ok(ended)
 }

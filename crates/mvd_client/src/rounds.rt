@@ -10,7 +10,7 @@ use crate::peer_commands::left_with;
 use mvd_dots::Refusal;
 use mvd_hint::Stop;
 use mvd_input::{Fault, Repeat, addresses_of, tell};
-use mvd_meet::{Ended, Pace, are_same};
+use mvd_meet::{Met, Pace, are_same};
 use mvd_sync::Left;
 use mvd_wire::Items;
 use std::alloc::Global;
@@ -54,7 +54,7 @@ impl<T: Read + Write + Drop> Partner<T> {
     }
 
     /// Waits as is due after a session that ended so.
-    fn waits(&mut self, ended: Ended, every: u32) {
+    fn waits(&mut self, ended: Met, every: u32) {
         self.wait = self.pace.after(ended, every);
     }
 
@@ -253,7 +253,7 @@ fn meet_partner<'a, N: Net, W: Write, E: Write>(
         Ok(report) => report,
         Err(failure) => {
             tell_failure(near, &mut partner.end, failure, errors);
-            partner.waits(Ended::Failed, every);
+            partner.waits(Met::Failed, every);
             return Ok(());
         }
     };
@@ -261,7 +261,7 @@ fn meet_partner<'a, N: Net, W: Write, E: Write>(
     partner.end.answers(errors);
     let address = partner.end.address;
     tell_keys(alloc, address, report.keys, terms.verbose, writer)?;
-    let ended = Ended::with(&report);
+    let ended = Met::with(&report);
     partner.leaves(report.first_refused, near.address, errors);
     partner.waits(ended, every);
     if every >= APART {

@@ -9,10 +9,10 @@ use Rattle.mvd_dots.specs.declared.refusals.Refusal.{Refusal}
 use Rattle.mvd_wire.specs.Frames.{FrameValue, spell_frame}
 use Rattle.mvd_wire.specs.Replies.{reply_bytes}
 use Rattle.mvd_wire.specs.declared.reply.Reply.TheVariants.{Refused}
-use Rattle.mvd_conn.specs.declared.ending.Ending.{Ending}
-use Rattle.mvd_conn.specs.declared.ending.Ending.TheVariants as ending
-use Rattle.mvd_conn.specs.declared.ending.Source.{Source}
-use Rattle.mvd_conn.specs.declared.ending.Source.TheVariants as source
+use Rattle.mvd_wire.specs.declared.ending.Ending.{Ending}
+use Rattle.mvd_wire.specs.declared.ending.Ending.TheVariants as ending
+use Rattle.mvd_conn.specs.declared.source.Source.{Source}
+use Rattle.mvd_conn.specs.declared.source.Source.TheVariants as source
 use Rattle.mvd_conn.specs.History.{History, Stops, Waits, due, ends_long, fed, frame_most, is_bye, is_held_up, may_be_long, next_of, piece_most, replied, short_most, stopped, taking}
 use Rattle.mvd_conn.specs.Inside.{IsKeptConnection, history_of}
 use Rattle.mvd_conn.specs.Stands.{IsBounded, HistoryStands, frame_of}

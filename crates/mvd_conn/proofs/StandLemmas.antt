@@ -10,10 +10,10 @@ use Rattle.mvd_dots.specs.Refusal.{number_of}
 use Rattle.mvd_wire.specs.Frames.{FrameValue, frame_at, frame_limit, spell_frame}
 use Rattle.mvd_frames.proofs.FrameLemmas.{frame_again}
 use Rattle.mvd_conn.proofs.FrontLemmas.{full_front}
-use Rattle.mvd_conn.specs.declared.ending.Source.{Source}
-use Rattle.mvd_conn.specs.declared.ending.Source.TheVariants as source
-use Rattle.mvd_conn.specs.declared.ending.Ending.{Ending}
-use Rattle.mvd_conn.specs.declared.ending.Ending.TheVariants as ending
+use Rattle.mvd_conn.specs.declared.source.Source.{Source}
+use Rattle.mvd_conn.specs.declared.source.Source.TheVariants as source
+use Rattle.mvd_wire.specs.declared.ending.Ending.{Ending}
+use Rattle.mvd_wire.specs.declared.ending.Ending.TheVariants as ending
 use Rattle.mvd_conn.specs.Guard.{may_come}
 use Rattle.mvd_conn.specs.declared.guard.Guard.{Guard}
 use Rattle.mvd_conn.proofs.Guarded.{gives_shown, let_in_waits}

@@ -11,10 +11,10 @@ use Rattle.mvd_wire.specs.Requests as asked
 use Rattle.mvd_wire.specs.Replies.{reply_bytes}
 use Rattle.mvd_conn.specs.Guard.{may_come}
 use Rattle.mvd_conn.specs.declared.guard.Guard.{Guard}
-use Rattle.mvd_conn.specs.declared.ending.Source.{Source}
-use Rattle.mvd_conn.specs.declared.ending.Source.TheVariants as source
-use Rattle.mvd_conn.specs.declared.ending.Ending.{Ending}
-use Rattle.mvd_conn.specs.declared.ending.Ending.TheVariants as ending
+use Rattle.mvd_conn.specs.declared.source.Source.{Source}
+use Rattle.mvd_conn.specs.declared.source.Source.TheVariants as source
+use Rattle.mvd_wire.specs.declared.ending.Ending.{Ending}
+use Rattle.mvd_wire.specs.declared.ending.Ending.TheVariants as ending
 
 pub record History : Type 0 where
   -- who has to show a token before anything else is taken

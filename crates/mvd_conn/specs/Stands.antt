@@ -7,8 +7,8 @@ use Rattle.mvd_wire.specs.declared.reply.Reply.TheVariants.{Refused}
 use Rattle.mvd_wire.specs.Frames.{FrameValue, frame_at, frame_limit, spell_frame}
 use Rattle.mvd_wire.specs.Replies.{is_short}
 use Rattle.mvd_conn.specs.Guard.{IsShown}
-use Rattle.mvd_conn.specs.declared.ending.Ending.{Ending}
-use Rattle.mvd_conn.specs.declared.ending.Ending.TheVariants as ending
+use Rattle.mvd_wire.specs.declared.ending.Ending.{Ending}
+use Rattle.mvd_wire.specs.declared.ending.Ending.TheVariants as ending
 use Rattle.mvd_conn.specs.History.{History, Over, Stops, due, frames_most, is_bye, last_bytes, next_of, owed}
 
 -- the frame that these bytes spell

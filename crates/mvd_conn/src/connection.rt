@@ -6,15 +6,15 @@ ghost use Rattle.mvd_dots.specs.declared.refusals.Refusal.TheVariants as Refusal
 ghost use Rattle.mvd_wire.specs.declared.reply.Reply.{Reply};
 ghost use Rattle.mvd_wire.specs.Replies.{CanBeSent, reply_bytes};
 
-use crate::ending::{Ending, Source};
 use crate::guard::Guard;
 use crate::room::make_room;
 use crate::scan::{Found, Front, front_of, last_after, may_be_long};
+use crate::source::Source;
 use bytes::BytesMut;
 use http_server::Log;
 use mvd_dots::Refusal;
 use mvd_frames::{Short, encode_reply, short_reply};
-use mvd_wire::Reply;
+use mvd_wire::{Ending, Reply};
 use std::alloc::Global;
 use std::marker::Model;
 
@@ -87,7 +87,7 @@ impl Connection {
     ghost use Rattle.mvd_conn.specs.Stands.{IsBounded, IsQueued, HistoryStands, frame_of};
     ghost use Rattle.mvd_conn.specs.Front.{IsFound, TakesFrame};
     ghost use Rattle.mvd_conn.specs.declared.scan.Found.TheVariants as Found;
-    ghost use Rattle.mvd_conn.specs.declared.ending.Source.TheVariants as Source;
+    ghost use Rattle.mvd_conn.specs.declared.source.Source.TheVariants as Source;
 
     /// A connection on which nothing happened yet. Where there is a guard, its first frame has to show the token.
     pub fn new(alloc: Global, guard: Option<Guard>) -> Result<Connection, Refusal>

@@ -2,13 +2,13 @@
 #![tactic(auto)]
 
 mod connection;
-pub mod ending;
 mod guard;
 pub mod laws;
 mod room;
 pub mod scan;
+pub mod source;
 
 pub use connection::Connection;
-pub use ending::{Ending, Source};
 pub use guard::Guard;
 pub use scan::{Front, front_of};
+pub use source::Source;

@@ -1,12 +1,11 @@
 //! What stands at the front of the input.
 ghost use Rattle.std.specs.Prelude.{◌≡◌, if◌then◌else◌, Some};
-ghost use Rattle.mvd_conn.specs.declared.ending.Ending.TheVariants as Ending;
+ghost use Rattle.mvd_wire.specs.declared.ending.Ending.TheVariants as Ending;
 ghost use Rattle.mvd_conn.specs.History.{is_bye, may_be_long};
 ghost use Rattle.mvd_conn.specs.Front.{IsFront};
 
-use crate::ending::Ending;
 use mvd_dots::Refusal;
-use mvd_wire::FRAME_LIMIT;
+use mvd_wire::{Ending, FRAME_LIMIT};
 
 /// What bytes begin with.
 #[derive(Clone, Copy)]

@@ -1,6 +1,6 @@
 -- What happens to a host, one thing after the other: rounds, and what comes between them.
 use Rattle.std.specs.Prelude.{◌≡◌, ℕ, List, [], ◌∷◌, ◌++◌, map, Option, Some, None, Ok, ⊤}
-use Rattle.mvd_conn.specs.declared.ending.Source.{Source}
+use Rattle.mvd_conn.specs.declared.source.Source.{Source}
 use Rattle.mvd_conn.specs.Guard.{IsShown, IsTokenOf}
 use Rattle.mvd_conn.specs.declared.guard.Guard.{Guard}
 use Rattle.mvd_conn.specs.History.{History, closed, cut, fed, released, sent}

@@ -4,10 +4,11 @@ ghost use Rattle.std.specs.Option.{option_and_then};
 ghost use Rattle.mvd_dots.specs.declared.refusals.Refusal.TheVariants as Refusal;
 ghost use Rattle.mvd_conn.specs.History.{WantsInput, closed, cut, ending_of, fed, is_done, piece_most, released, sent};
 ghost use Rattle.mvd_conn.specs.Stands.{HistoryStands};
-ghost use Rattle.mvd_conn.specs.declared.ending.Source.TheVariants as Source;
+ghost use Rattle.mvd_conn.specs.declared.source.Source.TheVariants as Source;
 
-use mvd_conn::{Connection, Ending, Guard};
+use mvd_conn::{Connection, Guard};
 use mvd_dots::Refusal;
+use mvd_wire::Ending;
 use std::alloc::Global;
 use std::collections::BTreeMap;
 use std::marker::Model;

@@ -1,13 +1,13 @@
 -- When two sides meet again.
 use Rattle.std.specs.Prelude.{ℕ, ◌+◌, ◌*◌, ◌-◌, ◌^◌, ◌==◌, ◌&&◌, if◌then◌else◌, min, max, nat_lt, Option, Some, None}
-use Rattle.mvd_meet.specs.declared.pace.Ended.{Ended}
-use Rattle.mvd_meet.specs.declared.pace.Ended.TheVariants.{Well, Stuck, Failed}
+use Rattle.mvd_meet.specs.declared.pace.Met.{Met}
+use Rattle.mvd_meet.specs.declared.pace.Met.TheVariants.{Well, Stuck, Failed}
 use Rattle.mvd_meet.specs.declared.pace.Pace.{Pace}
 use Rattle.mvd_meet.specs.declared.schedule.Schedule.{Schedule}
 use Rattle.mvd_sync.specs.declared.report.Report.{Report}
 
 -- a session that left keys and exchanged none is stuck
-abbrev pub ended_of : Report → Ended
+abbrev pub ended_of : Report → Met
 ended_of report = if (report.keys == 0) && nat_lt 0 report.refused then Stuck else Well
 
 -- twice a pause, but a minute at the most, or what sessions are apart, if that is more
@@ -17,14 +17,14 @@ doubled pause every = min (pause * 2) (max every 60)
 -- the seconds after a session that ended so: those that sessions are apart; after a fault 1, and then twice as many in
 -- a row of faults; after a session that left keys and did nothing else twice as many as they are apart, and then as
 -- many again
-abbrev pub pause_by : Ended → Ended → ℕ → ℕ → ℕ
+abbrev pub pause_by : Met → Met → ℕ → ℕ → ℕ
 pause_by Well last pause every = every
 pause_by Stuck Stuck pause every = doubled pause every
 pause_by Stuck last pause every = doubled every every
 pause_by Failed Failed pause every = doubled pause every
 pause_by Failed last pause every = 1
 
-abbrev pub pause_after : Ended → Pace → ℕ → ℕ
+abbrev pub pause_after : Met → Pace → ℕ → ℕ
 pause_after ended pace every = pause_by ended pace.last pace.pause every
 
 -- five milliseconds after a change; it stays where there was one before
@@ -33,7 +33,7 @@ news_at (Some news) now = Some news
 news_at None now = Some (min (now + 5) (2 ^ 64 - 1))
 
 -- after a fault a change does not count
-abbrev pub with_news : Ended → Option ℕ → ℕ → ℕ
+abbrev pub with_news : Met → Option ℕ → ℕ → ℕ
 with_news Failed news next = next
 with_news ended None next = next
 with_news ended (Some news) next = min next news

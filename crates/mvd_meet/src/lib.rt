@@ -7,6 +7,6 @@ pub mod schedule;
 pub mod stepping;
 
 pub use caller::Caller;
-pub use pace::{Ended, Pace, are_same, is_among};
+pub use pace::{Met, Pace, are_same, is_among};
 pub use schedule::Schedule;
 pub use stepping::{Course, Meeting};

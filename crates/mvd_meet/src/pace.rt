@@ -9,21 +9,21 @@ const MOST_PAUSE: u32 = 60;
 
 /// How a session ended: it exchanged all that it could, it exchanged nothing and left keys, or it failed.
 #[derive(Clone, Copy, PartialEq, Eq)]
-pub enum Ended {
+pub enum Met {
     Well,
     Stuck,
     Failed,
 }
 
-impl Ended {
+impl Met {
     /// How a session ended that has this report.
-    pub fn with(report: &Report) -> Ended
+    pub fn with(report: &Report) -> Met
         ensures { result ≡ ended_of report.now }
     {
         if report.keys == 0 && report.refused > 0 {
-            Ended::Stuck
+            Met::Stuck
         } else {
-            Ended::Well
+            Met::Well
         }
     }
 }
@@ -31,35 +31,35 @@ impl Ended {
 /// How the last session ended, and the pause after it, in seconds.
 #[derive(Clone, Copy)]
 pub struct Pace {
-    pub last: Ended,
+    pub last: Met,
     pub pause: u32,
 }
 
 impl Pace {
     /// Before the first session.
     pub fn new() -> Pace
-        ensures { result ≡ record { last = Ended.Well; pause = 0 } }
+        ensures { result ≡ record { last = Met.Well; pause = 0 } }
     {
         Pace {
-            last: Ended::Well,
+            last: Met::Well,
             pause: 0,
         }
     }
 
     /// The pause after a session that ended so, where sessions are as many seconds apart that end well. It doubles in a
     /// row of sessions that ended badly.
-    pub fn after(&mut self, ended: Ended, every: u32) -> u32
+    pub fn after(&mut self, ended: Met, every: u32) -> u32
         ensures pause { result ≡ pause_after ended self.old every }
         ensures noted { self.new ≡ record { last = ended; pause = result } }
     {
         let most = every.max(MOST_PAUSE);
         let pause = match (ended, self.last) {
-            (Ended::Well, _) => every,
-            (Ended::Stuck, Ended::Stuck) | (Ended::Failed, Ended::Failed) => {
+            (Met::Well, _) => every,
+            (Met::Stuck, Met::Stuck) | (Met::Failed, Met::Failed) => {
                 self.pause.saturating_mul(2).min(most)
             }
-            (Ended::Stuck, _) => every.saturating_mul(2).min(most),
-            (Ended::Failed, _) => 1,
+            (Met::Stuck, _) => every.saturating_mul(2).min(most),
+            (Met::Failed, _) => 1,
         };
         self.last = ended;
         self.pause = pause;

@@ -2,7 +2,7 @@
 ghost use Rattle.std.specs.Prelude.{◌≡◌, ◌+◌, ◌*◌, ◌-◌, ◌^◌, None, Some, min};
 ghost use Rattle.mvd_meet.specs.Times.{due_of, news_at, pause_after};
 
-use crate::pace::{Ended, Pace};
+use crate::pace::{Met, Pace};
 
 /// The milliseconds after a change at which a peer is met.
 const SETTLE: u64 = 5;
@@ -38,8 +38,8 @@ impl Schedule {
         ensures { result ≡ due_of self.now }
     {
         match (self.news, self.pace.last) {
-            (Some(news), Ended::Well | Ended::Stuck) => self.next.min(news),
-            (Some(_), Ended::Failed) | (None, _) => self.next,
+            (Some(news), Met::Well | Met::Stuck) => self.next.min(news),
+            (Some(_), Met::Failed) | (None, _) => self.next,
         }
     }
 
@@ -60,7 +60,7 @@ impl Schedule {
     }
 
     /// A session ended so at this time.
-    pub fn end(&mut self, ended: Ended, now: u64)
+    pub fn end(&mut self, ended: Met, now: u64)
         ensures next { self.new.next ≡ min (now + 1000 * pause_after ended self.old.pace self.old.every) (2 ^ 64 - 1) }
         ensures pace { self.new.pace ≡ record { last = ended; pause = pause_after ended self.old.pace self.old.every } }
         ensures news { self.new.news ≡ self.old.news }

@@ -14,7 +14,7 @@ use Rattle.mvd_replica.specs.Replicas.{StoredSite}
 use Rattle.mvd_replica.specs.Sides.{replica_follows_self}
 use Rattle.mvd_replica.specs.Whole.{leaves_on, leaves_self, leaves_wider}
 use Rattle.mvd_replica.specs.Turns.{AreFrames, AreUndoneIn, Turn}
-use Rattle.mvd_replica.specs.Served.{Conversation, Ending, AtBye, AtEnd, AtRefusal, AtWriter, StopsServing, IsCount, IsCutCount, Served, ServesTurns, Went, frames_most, replies_bytes, ending_bytes, result_of}
+use Rattle.mvd_replica.specs.Served.{Conversation, Close, AtBye, AtEnd, AtRefusal, AtWriter, StopsServing, IsCount, IsCutCount, Served, ServesTurns, Went, frames_most, replies_bytes, ending_bytes, result_of}
 use Rattle.mvd_replica.specs.Steps.{EndsConversation, IsLastCount, TakesTurn}
 use Rattle.mvd_replica.proofs.Positions.{GoesOut, GoesOutAfter}
 use Rattle.mvd_replica.proofs.Breaking.{follows_both, told_both}
@@ -69,7 +69,7 @@ Went-append first second a b c one other = record {
 most : FRAMES_MAX ≡ frames_most
 most = refl
 
-cut_count : (count : ℕ) (ending : Ending) → IsLastCount count ending → IsCutCount count ending
+cut_count : (count : ℕ) (ending : Close) → IsLastCount count ending → IsCutCount count ending
 cut_count count AtBye last = last
 cut_count count AtEnd last = last
 cut_count count (AtRefusal refusal) last = last.0
@@ -79,7 +79,7 @@ GoesOutAfter-first : {X : Type 0} (a b c : Option (List ℕ)) (first bytes : Lis
 GoesOutAfter-first a b c first bytes failed result wanted one (inl other) = inl (other.0, Appends-trans _ _ _ _ _ one other.1)
 GoesOutAfter-first a b c first bytes failed result wanted one (inr other) = inr (other.0, (other.1.0, Appends-trans _ _ _ _ _ one other.1.1))
 
-counted : (n count : ℕ) (ending : Ending) → n < frames_most → IsLastCount count ending → IsCount (n + count) ending
+counted : (n count : ℕ) (ending : Close) → n < frames_most → IsLastCount count ending → IsCount (n + count) ending
 counted n count AtBye room last = omega arith
 counted n count AtEnd room last = omega arith
 counted n count (AtRefusal refusal) room last = inl (omega (arith, last.0), last.1)

@@ -30,27 +30,27 @@ conversation_of replica input output = record { stored = stored_of replica; inpu
 
 -- what ends a connection once the turns are over: a Bye, the end of the input, a refusal that is told in one frame
 -- more, or the writer
-pub data Ending : Type 0 where
-  AtBye : Ending
-  AtEnd : Ending
-  AtRefusal : Refusal → Ending
-  AtWriter : Ending
+pub data Close : Type 0 where
+  AtBye : Close
+  AtEnd : Close
+  AtRefusal : Refusal → Close
+  AtWriter : Close
 
-abbrev pub result_of : Ending → Result Ended Refusal
+abbrev pub result_of : Close → Result Ended Refusal
 result_of AtBye = Ok ended.Bye
 result_of AtEnd = Ok ended.End
 result_of (AtRefusal refusal) = Err refusal
 result_of AtWriter = Err WriteFailed
 
 -- the frame that goes out at the end
-abbrev pub ending_bytes : Bool → Ending → List ℕ
+abbrev pub ending_bytes : Bool → Close → List ℕ
 ending_bytes broken AtBye = reply_bytes (if broken then Refused Broken else Done)
 ending_bytes broken AtEnd = []
 ending_bytes broken (AtRefusal refusal) = reply_bytes (Refused refusal)
 ending_bytes broken AtWriter = []
 
 -- why the reading of frames ended at this rest, and what is left unread of it
-abbrev pub StopsServing : List ℕ → Option (List ℕ) → Ending → Type 0
+abbrev pub StopsServing : List ℕ → Option (List ℕ) → Close → Type 0
 StopsServing rest left AtBye =
     (frame : FrameValue) × (next : List ℕ) × (frame_at rest ≡ Ok (Some frame, next))
     × (request_of frame.kind frame.payload ≡ Ok Bye) × (left ≡ Some next)
@@ -66,7 +66,7 @@ abbrev pub frames_most : ℕ
 frames_most = 1000000
 
 -- so many frames were answered: as many as there may be exactly where that is what ends it
-abbrev pub IsCount : ℕ → Ending → Type 0
+abbrev pub IsCount : ℕ → Close → Type 0
 IsCount count AtBye = count < frames_most
 IsCount count AtEnd = count < frames_most
 IsCount count (AtRefusal refusal) =
@@ -74,7 +74,7 @@ IsCount count (AtRefusal refusal) =
 IsCount count AtWriter = count ≤ frames_most
 
 -- so many replies may not have gone out whole: the one at which the writer failed
-abbrev pub IsCutCount : ℕ → Ending → Type 0
+abbrev pub IsCutCount : ℕ → Close → Type 0
 IsCutCount count AtBye = count ≡ 0
 IsCutCount count AtEnd = count ≡ 0
 IsCutCount count (AtRefusal refusal) = count ≡ 0
@@ -99,7 +99,7 @@ GoesOut old sending result new =
     ⊎ ((result ≡ sending.failed) × ((n : ℕ) × Appends old new (sending.whole ++ take n sending.rest)))
 
 -- all replies but the one at which the writer failed went out whole, and then what ends the connection
-pub record WentOut (turns : List Turn) (ending : Ending) (old new : Conversation) (result : Result Ended Refusal)
+pub record WentOut (turns : List Turn) (ending : Close) (old new : Conversation) (result : Result Ended Refusal)
     : Type 0 where
   pub whole : List Turn
   pub cut : List Turn
@@ -134,7 +134,7 @@ pub record ServesTurns (turns : List Turn) (old new : StoredSite) : Type 0 where
 pub record Served (old new : Conversation) (result : Result Ended Refusal) : Type 0 where
   -- what was asked, each with its reply, in order; and why it ended
   pub turns : List Turn
-  pub ending : Ending
+  pub ending : Close
   -- each reply may be given from the writes known then, and the records follow
   pub takes : ServesTurns turns old.stored new.stored
   -- at most 1,000,000 turns

@@ -16,7 +16,7 @@ use Rattle.mvd_replica.specs.declared.serving.Ended.{Ended}
 use Rattle.mvd_replica.specs.Replicas.{site_of, stored_of}
 use Rattle.mvd_replica.specs.Sides.{ReplicaFollows}
 use Rattle.mvd_replica.specs.Turns.{AddsAt, AreFrames, IsToldElse, LeavesTurns, RepliesOne, Turn}
-use Rattle.mvd_replica.specs.Served.{AtBye, AtEnd, AtRefusal, AtWriter, Ending, GoesOut, StopsServing, ServesTurns, Conversation}
+use Rattle.mvd_replica.specs.Served.{AtBye, AtEnd, AtRefusal, AtWriter, Close, GoesOut, StopsServing, ServesTurns, Conversation}
 use Rattle.mvd_replica.specs.Served.{Went, ending_bytes, replies_bytes, result_of}
 use Rattle.sqlite_trees.specs.declared.store.Store.{Ghosts}
 
@@ -61,7 +61,7 @@ abbrev pub TellsFrame : Result Request Refusal → SiteValue → SiteValue → O
 TellsFrame asked old new None = (asked ≡ Ok Bye) × (new ≡ old)
 TellsFrame asked old new (Some reply) = RepliesTo asked old new reply
 
-abbrev pub IsLastCount : ℕ → Ending → Type 0
+abbrev pub IsLastCount : ℕ → Close → Type 0
 IsLastCount count AtBye = count ≡ 0
 IsLastCount count AtEnd = count ≡ 0
 IsLastCount count (AtRefusal refusal) = (count ≡ 0) × (refusal ≢ TooManyRequests)
@@ -75,7 +75,7 @@ turns_at asked (Some reply) = record { asked = asked; reply = reply } ∷ []
 -- the connection ends here
 pub record EndsConversation (old new : Conversation) (result : Result Ended Refusal) : Type 0 where
   pub turns : List Turn
-  pub ending : Ending
+  pub ending : Close
   pub takes : ServesTurns turns old.stored new.stored
   pub count : IsLastCount (length turns) ending
   pub read : (bytes : List ℕ) → old.input ≡ Some bytes →

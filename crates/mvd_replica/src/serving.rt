@@ -4,6 +4,7 @@ ghost use Rattle.mvd_replica.specs.Served.{ServesOver};
 use crate::replica::Replica;
 use crate::turns::{stop, take_turn};
 use mvd_dots::Refusal;
+use mvd_wire::Ending;
 use sqlite::Alter;
 use std::alloc::Global;
 use std::io::{Read, Write};
@@ -15,6 +16,15 @@ pub enum Ended {
     Bye,
     /// The input ended after a frame.
     End,
+}
+
+impl From<Ended> for Ending {
+    fn from(ended: Ended) -> Ending {
+        match ended {
+            Ended::Bye => Ending::Bye,
+            Ended::End => Ending::End,
+        }
+    }
 }
 
 /// The most frames of a connection that are answered.

@@ -3,8 +3,8 @@ use Rattle.std.proofs.Common.{◌≡◌, ◌∙◌, ◌⊎◌, ◌∷◌, [], �
 use Rattle.std.specs.BTreeMap.{insert_entry, is_at}
 use Rattle.std.specs.Map.{set_value}
 use Rattle.std.specs.Ordering.{nat_cmp}
-use Rattle.mvd_conn.specs.declared.ending.Source.{Source}
-use Rattle.mvd_conn.specs.declared.ending.Source.TheVariants as source
+use Rattle.mvd_conn.specs.declared.source.Source.{Source}
+use Rattle.mvd_conn.specs.declared.source.Source.TheVariants as source
 use Rattle.mvd_conn.specs.History.{History, closed, cut, released, sent}
 use Rattle.mvd_dots.specs.declared.refusals.Refusal.TheVariants.{Memory}
 use Rattle.mvd_host.specs.Hosts.{Admits, AdmitsOne, ClientLeaves, HostValue, IsClient, altered, client_of}

@@ -1,6 +1,6 @@
 -- One host, from its first client on.
 use Rattle.std.proofs.Common.{◌≡◌, ◌∙◌, ◌⊎◌, ℕ, List, [], ◌∷◌, ◌++◌, Option, None, Some, length, min, inl, inr, ap, refl, sym, subst, append-nil, append_assoc, true≢false}
-use Rattle.mvd_conn.specs.declared.ending.Source.TheVariants as source
+use Rattle.mvd_conn.specs.declared.source.Source.TheVariants as source
 use Rattle.mvd_conn.specs.declared.guard.Guard.{Guard}
 use Rattle.mvd_conn.specs.History.{History}
 use Rattle.mvd_dots.specs.declared.refusals.Refusal.TheVariants.{Memory}

@@ -2,8 +2,8 @@
 use Rattle.std.specs.Prelude.{◌≡◌, ◌⊎◌, ℕ, List, [], drop, Option, Some, None, Result, Ok}
 use Rattle.std.specs.Option.{option_and_then}
 use Rattle.mvd_conn.specs.History.{ending_of, sent}
-use Rattle.mvd_conn.specs.declared.ending.Ending.{Ending}
-use Rattle.mvd_conn.specs.declared.ending.Ending.TheVariants as ending
+use Rattle.mvd_wire.specs.declared.ending.Ending.{Ending}
+use Rattle.mvd_wire.specs.declared.ending.Ending.TheVariants as ending
 use Rattle.mvd_dots.specs.Answer.{IsAnswer}
 use Rattle.mvd_dots.specs.declared.refusals.Refusal.{Refusal}
 use Rattle.mvd_dots.specs.declared.refusals.Refusal.TheVariants.{ReadFailed}

@@ -1,7 +1,7 @@
 -- The side of a session that is this server's own site: a client of the host.
 use Rattle.std.specs.Prelude.{◌≡◌, ◌⊎◌, ◌++◌, ℕ, false, List, [], length, Option, None, Some}
 use Rattle.mvd_conn.specs.History.{History, closed, fed, released, sent}
-use Rattle.mvd_conn.specs.declared.ending.Source.TheVariants.{Failed}
+use Rattle.mvd_conn.specs.declared.source.Source.TheVariants.{Failed}
 use Rattle.mvd_dots.specs.declared.refusals.Refusal.TheVariants.{Memory}
 use Rattle.mvd_host.specs.Hosts.{HostValue, altered, client_of}
 use Rattle.mvd_meet.specs.Callers.{asked_of_caller, came_at, has_ended, leaving_at}

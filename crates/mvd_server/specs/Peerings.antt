@@ -5,8 +5,8 @@ use Rattle.std.specs.Duration.{as_nanos}
 use Rattle.std.specs.declared.time.Duration.{Duration}
 use Rattle.mvd_meet.specs.Callers.{questions_at}
 use Rattle.mvd_meet.specs.Times.{due_of, news_at, pause_after}
-use Rattle.mvd_meet.specs.declared.pace.Ended.{Ended}
-use Rattle.mvd_meet.specs.declared.pace.Ended.TheVariants.{Failed}
+use Rattle.mvd_meet.specs.declared.pace.Met.{Met}
+use Rattle.mvd_meet.specs.declared.pace.Met.TheVariants.{Failed}
 use Rattle.mvd_meet.specs.declared.schedule.Schedule.{Schedule}
 use Rattle.mvd_server.specs.OwnSides.{IsFresh}
 use Rattle.mvd_server.specs.PeerLinks.{is_rest}
@@ -65,7 +65,7 @@ WakesInTime peers now pause = All (λ peering. is_resting peering.link ≡ true 
     IsSomeAnd pause (λ time. as_nanos time ≤ (due_of peering.schedule - now) * 1000000)) peers
 
 -- a session ended so at a time
-pub record EndsMeeting (ended : Ended) (now : ℕ) (old new : Schedule) : Type 0 where
+pub record EndsMeeting (ended : Met) (now : ℕ) (old new : Schedule) : Type 0 where
   pub next : new.next ≡ min (now + 1000 * pause_after ended old.pace old.every) (2 ^ 64 - 1)
   pub pace : new.pace ≡ record { last = ended; pause = pause_after ended old.pace old.every }
   pub news : new.news ≡ old.news

@@ -7,12 +7,11 @@ ghost use Rattle.mvd_server.specs.Batches.{BeginsBatch, bytes_if, frame_of_write
 
 use crate::feeding::feed;
 use crate::replies::next_reply;
-use mvd_conn::Ending;
 use mvd_dots::Refusal;
 use mvd_frames::encode_request;
 use mvd_host::Host;
 use mvd_http::{LINE_ROOM, push_line};
-use mvd_wire::{Reply, Request};
+use mvd_wire::{Ending, Reply, Request};
 use std::alloc::Global;
 
 /// The most bytes of frames that are handed on at once.

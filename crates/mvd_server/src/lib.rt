@@ -26,6 +26,5 @@ mod sockets;
 mod talks;
 mod timers;
 
-pub use endings::How;
 pub use server::{Terms, serve_run};
 pub use sockets::{Direct, Sockets};

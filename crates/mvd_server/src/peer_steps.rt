@@ -12,7 +12,7 @@ use crate::peer_link::{PeerLink, Stage};
 use crate::peer_news::{Setting, tell_done, tell_left};
 use crate::peering::{MOST_QUESTIONS, Peering};
 use mvd_dots::Refusal;
-use mvd_meet::{Caller, Course, Ended};
+use mvd_meet::{Caller, Course, Met};
 use mvd_sync::{Report, SyncFault};
 use std::fmt::Write as Print;
 
@@ -208,7 +208,7 @@ impl Peering {
         ensures ends { EndsMeeting (ended_of report) crowd.old.now self.old.schedule self.new.schedule }
         ensures talks { crowd.new.talks ≡ crowd.old.talks }
     {
-        self.schedule.end(Ended::with(&report), crowd.now);
+        self.schedule.end(Met::with(&report), crowd.now);
         if let Some(counts) = crowd.counts.peers.get_mut(self.place) {
             counts.end(report.keys, report.refused > 0, crowd.now);
         }

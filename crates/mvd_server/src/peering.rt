@@ -12,7 +12,7 @@ use crate::talks::Talks;
 use mio::event::Event;
 use mio::{Registry, Token};
 use mvd_dots::Refusal;
-use mvd_meet::{Ended, Schedule};
+use mvd_meet::{Met, Schedule};
 use mvd_sync::Left;
 use mvd_wire::Items;
 use std::fmt::Write as Print;
@@ -165,7 +165,7 @@ impl Peering {
         if is_again {
             return self.schedule.again();
         }
-        self.schedule.end(Ended::Failed, crowd.now);
+        self.schedule.end(Met::Failed, crowd.now);
         if let Some(counts) = crowd.counts.peers.get_mut(self.place) {
             counts.fail();
         }

@@ -6,8 +6,8 @@ use Rattle.http_uri.specs.Error.{is_too_long}
 use Rattle.http1.specs.ReadError.{is_too_large}
 use Rattle.http1.specs.declared.error.ReadError.{ReadError}
 use Rattle.http1.specs.declared.error.ReadError.TheVariants.{Host, UriTooLong}
-use Rattle.mvd_conn.specs.declared.ending.Ending.{Ending}
-use Rattle.mvd_conn.specs.declared.ending.Ending.TheVariants as ending
+use Rattle.mvd_wire.specs.declared.ending.Ending.{Ending}
+use Rattle.mvd_wire.specs.declared.ending.Ending.TheVariants as ending
 use Rattle.mvd_dots.specs.declared.refusals.Refusal.{Refusal}
 use Rattle.mvd_dots.specs.declared.refusals.Refusal.TheVariants as refusal
 use Rattle.http_server.specs.declared.state.State.{State}

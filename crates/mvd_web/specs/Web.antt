@@ -6,8 +6,8 @@ use Rattle.http_server.specs.Response.{IsResponse}
 use Rattle.http_server.specs.declared.state.Config.{Config}
 use Rattle.http_server.specs.declared.state.State.{State}
 use Rattle.http_server.specs.declared.state.State.TheVariants.{Open}
-use Rattle.mvd_conn.specs.declared.ending.Ending.{Ending}
-use Rattle.mvd_conn.specs.declared.ending.Ending.TheVariants.{Stopped}
+use Rattle.mvd_wire.specs.declared.ending.Ending.{Ending}
+use Rattle.mvd_wire.specs.declared.ending.Ending.TheVariants.{Stopped}
 use Rattle.mvd_dots.specs.declared.refusals.Refusal.{Refusal}
 use Rattle.mvd_dots.specs.declared.refusals.Refusal.TheVariants.{Memory}
 use Rattle.mvd_http.specs.declared.fields.Answer.{Answer}

@@ -10,9 +10,9 @@ use crate::taken::Asked;
 use crate::web_ending::{ending_of, fault_in};
 use bytes::BytesMut;
 use http_server::{Config, Connection, State};
-use mvd_conn::Ending;
 use mvd_dots::Refusal;
 use mvd_http::{Answer, Fault};
+use mvd_wire::Ending;
 use std::alloc::{AllocError, Global};
 use std::hash::RandomState;
 

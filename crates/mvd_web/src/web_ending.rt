@@ -5,9 +5,9 @@ ghost use Rattle.mvd_web.specs.Ends.{part_fault as part_named, read_fault as rea
 
 use http_server::{Reason, State};
 use http1::ReadError;
-use mvd_conn::Ending;
 use mvd_dots::Refusal;
 use mvd_http::Fault;
+use mvd_wire::Ending;
 
 /// How a connection ended that stands so, or `None` where it goes on.
 pub(crate) fn ending_of(state: State) -> Option<Ending>

@@ -4,6 +4,7 @@
 
 mod context_bytes;
 mod encoding;
+pub mod ending;
 pub mod frame;
 pub mod items;
 mod lengths;
@@ -20,6 +21,7 @@ mod writing;
 
 pub use context_bytes::context_at;
 pub use encoding::{encode_key, encode_state};
+pub use ending::Ending;
 pub use frame::Frame;
 pub use items::Items;
 pub use lengths::state_length;

@@ -10,9 +10,9 @@ use crate::sockets::Sockets;
 use crate::talks::{Kind, Talks};
 use mio::net::TcpStream;
 use mio::{Interest, Registry, Token};
-use mvd_conn::Ending;
 use mvd_dots::Refusal;
 use mvd_frames::Short;
+use mvd_wire::Ending;
 
 /// What is told to a client for which there is no place, over HTTP and in a frame: 36, and nothing of it was read.
 const NO_PLACE_WEB: &[u8] =

@@ -6,9 +6,9 @@ ghost use Rattle.mvd_server.specs.Wires.{FeedsTo, MayFeed, SendsOf, waits_for};
 
 use crate::feeding::{feed, sent};
 use crate::talks::Talks;
-use mvd_conn::Ending;
 use mvd_dots::Refusal;
 use mvd_web::WebConnection;
+use mvd_wire::Ending;
 
 /// Where as many bytes wait to leave to a client, none of its frames is answered.
 const WAITS_MAX: usize = 262_144;

@@ -1,6 +1,6 @@
 use Rattle.std.proofs.Common.{◌≡◌, ◌-◌, ℕ, List, Some, cond, length, take, drop, slice_index, sym, subst, ap, ◌∙◌, arith}
 use Rattle.std.proofs.lemmas.List.{length-drop, take_all}
-use Rattle.mvd_conn.specs.declared.ending.Ending.TheVariants as ending
+use Rattle.mvd_wire.specs.declared.ending.Ending.TheVariants as ending
 use Rattle.mvd_conn.specs.declared.scan.Found.TheVariants as found
 use Rattle.mvd_conn.specs.History.{History, is_bye, is_held_up}
 use Rattle.mvd_conn.specs.Front.{IsFound}

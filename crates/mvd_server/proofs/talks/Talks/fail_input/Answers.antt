@@ -1,4 +1,4 @@
-use Rattle.mvd_conn.specs.declared.ending.Source.TheVariants as source
+use Rattle.mvd_conn.specs.declared.source.Source.TheVariants as source
 use Rattle.mvd_dots.specs.declared.refusals.Refusal.TheVariants.{ReadFailed}
 use Rattle.std.proofs.Common.{ap, sym}
 use Rattle.mvd_server.specs.Talking.{talking_of}

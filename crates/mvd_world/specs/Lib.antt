@@ -1,2 +1,4 @@
 pub mod Machine
 pub mod Worlds
+pub mod OpenWorlds
+pub mod Agreeing

@@ -1,5 +1,5 @@
 -- How the code tells of a window.
-use Rattle.std.proofs.Common.{◌≡◌, ℕ, ◌+◌, ◌-◌, ◌<◌, ◌≤◌, zero, suc, Bool, true, false, ◌&&◌, MatchBool, List, [], ◌∷◌, ◌++◌, map, length, take, Option, Some, None, refl, sym, ap, ap₂, ◌∙◌, subst, arith, length-append}
+use Rattle.std.proofs.Common.{◌≡◌, ℕ, ◌+◌, ◌-◌, ◌<◌, zero, suc, true, false, ◌&&◌, MatchBool, List, [], ◌∷◌, ◌++◌, map, length, take, Option, Some, None, refl, sym, ap, ap₂, ◌∙◌, subst, arith, length-append}
 use Rattle.std.specs.Prelude.{Result, Ok, Err, IfOk, IfErr, option_map}
 use Rattle.std.specs.List.{slice_get}
 use Rattle.std.proofs.lemmas.List.{length-map, map-append}
@@ -19,15 +19,14 @@ use Rattle.mvd_sync.specs.declared.telling.Told.{Told}
 use Rattle.mvd_sync.proofs.Descents.{Each-right, Each-take}
 use Rattle.mvd_world.specs.declared.worlds.Message.{Message}
 use Rattle.mvd_world.specs.declared.worlds.World.{World}
-use Rattle.mvd_world.specs.declared.steps.Step.{Step}
 use Rattle.mvd_world.specs.declared.steps.Step.TheVariants.{Receive, Send}
 use Rattle.mvd_world.specs.declared.steps.Outcome.{Outcome}
 use Rattle.mvd_world.specs.declared.steps.Outcome.TheVariants.{Failed, Met, NoSuch, Replied, Sent}
 use Rattle.mvd_world.specs.Machine.{Knowledge, MayStep, SentMessage, Sends, Setting, Takes, is_numbered, is_site, may_be}
 use Rattle.mvd_world.specs.Worlds.{IsWorld, Leads, Steps, message_of, state_of_message}
 use Rattle.mvd_world.specs.OpenWorlds.{AsksSite, AsksToTake, AsksWindow, IsMessageAt, LeadsWhere, OneByOne, TellsSent, WasSent, refusal_in}
-use Rattle.mvd_world.proofs.Cutting.{IsOneStep, one_by_one_longer, one_more_asked, sent_still, take_step}
-use Rattle.mvd_world.proofs.Leading.{SiteChanges, message_at, number_in, receives_lead}
+use Rattle.mvd_world.proofs.Cutting.{one_by_one_longer, one_more_asked, sent_still, take_step}
+use Rattle.mvd_world.proofs.Leading.{SiteChanges, number_in, receives_lead}
 use Rattle.mvd_world.proofs.Taking.{step_none, step_takes}
 
 -- ---- a state that was sent is received

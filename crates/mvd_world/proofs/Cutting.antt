@@ -1,6 +1,6 @@
 -- A window is a list of steps, and what was sent stays sent.
-use Rattle.std.proofs.Common.{◌≡◌, ℕ, ◌+◌, zero, suc, Bool, true, false, MatchBool, List, [], ◌∷◌, ◌++◌, length, Option, Some, None, refl, sym, ap, ◌∙◌, subst}
-use Rattle.std.specs.Prelude.{IfOk, IsSomeAnd, Result, Ok, Err, Vec}
+use Rattle.std.proofs.Common.{◌≡◌, ℕ, ◌+◌, zero, suc, true, false, MatchBool, List, [], ◌∷◌, ◌++◌, length, Option, Some, None, refl, sym, ap, ◌∙◌, subst}
+use Rattle.std.specs.Prelude.{Result, Vec}
 use Rattle.std.specs.declared.alloc.Global.{Global}
 use Rattle.std.specs.List.{slice_get}
 use Rattle.std.proofs.lemmas.List.{append-nil, append_assoc}
@@ -25,7 +25,7 @@ use Rattle.mvd_world.specs.declared.steps.Outcome.{Outcome}
 use Rattle.mvd_world.specs.declared.steps.Outcome.TheVariants.{Replied, Sent as Sent_as, Met, Failed, NoSuch}
 use Rattle.mvd_world.specs.Agreeing.{IsNoWrite, WithoutWrites}
 use Rattle.mvd_world.specs.Machine.{Knowledge, MayStep, RunsSteps, SentMessage, Setting, Takes, is_site, may_be}
-use Rattle.mvd_world.specs.OpenWorlds.{AllTold, AreCutInto, AsksForNode, AsksForPage, AsksForState, AsksSite, AsksToTake, AsksWindow, GoesOn, IsCutInto, IsMessageAt, IsNoWriting, IsOfWindow, MayAct, MayBegin, MayGo, OneByOne, OneWindow, RunsActs, Scene, WasSent, all_asked_of, goes_at, had_ended, has_failed, has_gone, has_stopped, is_done, no_room}
+use Rattle.mvd_world.specs.OpenWorlds.{AllTold, AreCutInto, AsksForNode, AsksForPage, AsksForState, AsksSite, AsksToTake, AsksWindow, GoesOn, IsCutInto, IsNoWriting, IsOfWindow, MayAct, MayBegin, MayGo, OneByOne, RunsActs, Scene, WasSent, all_asked_of, goes_at, had_ended, has_failed, has_gone, has_stopped, is_done, no_room}
 
 -- ---- messages are only added
 

@@ -1,6 +1,6 @@
 -- What a session is to push was sent: it is what the other site told.
-use Rattle.std.proofs.Common.{◌≡◌, ℕ, ◌≤◌, Bool, true, false, cond, List, [], ◌∷◌, map, length, take, drop, refl, sym, ap, ◌∙◌, subst, arith, Option, Some, None}
-use Rattle.std.specs.Prelude.{IfSome, IfOk, IsSomeAnd, Result, Ok, Err}
+use Rattle.std.proofs.Common.{◌≡◌, ℕ, Bool, true, false, cond, List, [], ◌∷◌, map, length, take, refl, sym, ap, ◌∙◌, subst, arith, Option, Some, None}
+use Rattle.std.specs.Prelude.{IfSome, IfOk, Result, Ok, Err}
 use Rattle.std.proofs.lemmas.List.{take_all, take-append-drop}
 use Rattle.mvd_dots.specs.declared.refusals.Refusal.{Refusal}
 use Rattle.mvd_keys.specs.State.{IsValid, State}
@@ -27,7 +27,6 @@ use Rattle.mvd_sync.specs.declared.report.Side.TheVariants.{Local as AtLocal, Pe
 use Rattle.mvd_sync.specs.declared.report.SyncFault.{SyncFault}
 use Rattle.mvd_sync.specs.declared.stage.Stage.{Stage}
 use Rattle.mvd_sync.specs.declared.stage.Stage.TheVariants.{Descends, Walks, Meets, Carries, Done, Failed}
-use Rattle.mvd_sync.specs.declared.telling.Answers.{Answers}
 use Rattle.mvd_sync.specs.declared.telling.Share.{Share}
 use Rattle.mvd_sync.specs.declared.telling.Shares.{Shares}
 use Rattle.mvd_sync.specs.declared.telling.Told.{Told}
@@ -39,8 +38,8 @@ use Rattle.mvd_sync.proofs.Keys.{Each-weaker}
 use Rattle.mvd_world.specs.declared.steps.Outcome.{Outcome}
 use Rattle.mvd_world.specs.declared.steps.Outcome.TheVariants.{Replied, Sent as Sent_as, Met, Failed as Failed_as, NoSuch}
 use Rattle.mvd_world.specs.Machine.{Knowledge, SentMessage, Setting}
-use Rattle.mvd_world.specs.OpenWorlds.{AllTold, AreSentTo, AsksForState, AsksSite, AsksWindow, IsOfSent, OneByOne, OneWindow, TellsSent, WasSent, all_asked_of, no_room}
-use Rattle.mvd_world.proofs.Cutting.{IsLonger, cut_longer, node_step, one_by_one_longer, page_step, sent_still, site_steps, state_step, take_step}
+use Rattle.mvd_world.specs.OpenWorlds.{AreSentTo, AsksForState, AsksSite, IsOfSent, OneByOne, OneWindow, TellsSent, WasSent, all_asked_of, no_room}
+use Rattle.mvd_world.proofs.Cutting.{IsLonger, cut_longer, one_by_one_longer, sent_still, site_steps, state_step}
 
 -- ---- what stands of some messages stands of more
 

@@ -8,7 +8,6 @@ use Rattle.mvd_sync.specs.Steps.{asked as asked_in}
 use Rattle.mvd_sync.specs.declared.asked.Step.{Step as Asking}
 use Rattle.mvd_sync.specs.declared.telling.Told.{Told}
 use Rattle.mvd_sync.specs.declared.report.Report.{Report}
-use Rattle.mvd_sync.specs.declared.stage.Stage.{Stage}
 use Rattle.mvd_sync.specs.declared.report.SyncFault.{SyncFault}
 use Rattle.mvd_sync.proofs.Keys.{Each-weaker}
 use Rattle.mvd_world.specs.declared.acts.Act.{Act}
@@ -21,9 +20,9 @@ use Rattle.mvd_world.specs.declared.steps.Step.{Step}
 use Rattle.mvd_world.specs.declared.steps.Step.TheVariants.{Session}
 use Rattle.mvd_world.specs.declared.steps.Outcome.{Outcome}
 use Rattle.mvd_world.specs.declared.worlds.World.{World}
-use Rattle.mvd_world.specs.Machine.{Knowledge, SentMessage, Setting, is_numbered, is_site, may_be, nothing_yet}
-use Rattle.mvd_world.specs.Worlds.{IsWorld, Leads, Steps, message_of}
-use Rattle.mvd_world.specs.OpenWorlds.{ActsOpen, AsksSite, BeginsOpen, GoesOn, HasEnded, IsOfSent, IsOpenWorld, LeadsWhere, MayAct, MayBegin, MayGo, MayStop, OneWindow, RunsActs, Scene, SessionIsOfSent, TellsWork, WasSent, goes_at, had_ended, has_failed, has_gone, has_stopped, is_done, no_scene}
+use Rattle.mvd_world.specs.Machine.{Knowledge, SentMessage, Setting, is_numbered, may_be}
+use Rattle.mvd_world.specs.Worlds.{IsWorld, Steps}
+use Rattle.mvd_world.specs.OpenWorlds.{ActsOpen, AsksSite, BeginsOpen, GoesOn, HasEnded, IsOfSent, IsOpenWorld, LeadsWhere, MayAct, MayBegin, MayStop, OneWindow, RunsActs, Scene, SessionIsOfSent, TellsWork, WasSent, goes_at, had_ended, has_failed, has_gone, has_stopped, is_done, no_scene}
 use Rattle.mvd_world.proofs.Cutting.{IsLonger, cut_longer, go_steps, site_steps, step_longer}
 use Rattle.mvd_world.proofs.OfSent.{local_sent, peer_sent, stage_more, went_sent, window_sent}
 use Rattle.mvd_world.proofs.Taking.{may_be_same}
@@ -174,6 +173,10 @@ one_ended sessions number index session at here none i other at' there =
     let same : ◌≡◌ {A = Option OpenSession} (Some other) (Some session) = sym there ∙ ap (slice_get sessions) same_index ∙ here in
     let is : other ≡ session = cc in
     ap (λ (s : OpenSession). s.machine) is ∙ none
+
+pub none_of : (left : Option Machining) → ((machine : Machining) → left ≡ Some machine → ⊥) → left ≡ None
+none_of None other = refl
+none_of (Some machine) other = absurd (other machine refl)
 
 set_same : {X : Type 0} (xs : List X) (i : ℕ) (x : X) → slice_get xs i ≡ Some x → slice_set xs i x ≡ xs
 set_same [] i x h = refl

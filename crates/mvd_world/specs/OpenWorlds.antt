@@ -1,6 +1,6 @@
 -- Sessions that are cut into windows, so that they run into each other and among writers: each window is a list of
 -- steps of the machine.
-use Rattle.std.specs.Prelude.{◌≡◌, ◌⊎◌, ◌+◌, ◌-◌, ℕ, Bool, true, false, List, [], ◌∷◌, ◌++◌, length, slice_set}
+use Rattle.std.specs.Prelude.{◌≡◌, ◌⊎◌, ◌+◌, ℕ, Bool, List, [], ◌∷◌, ◌++◌, length, slice_set}
 use Rattle.std.specs.Prelude.{IfSome, IsSomeAnd, MatchBool, Option, Some, None, Result, Ok, Err, Vec}
 use Rattle.std.specs.declared.alloc.Global.{Global}
 use Rattle.std.specs.List.{slice_get}
@@ -41,7 +41,7 @@ use Rattle.mvd_world.specs.declared.steps.Step.{Step}
 use Rattle.mvd_world.specs.declared.steps.Step.TheVariants.{Ask, Receive, Send, Session}
 use Rattle.mvd_world.specs.declared.worlds.World.{World}
 use Rattle.mvd_world.specs.Agreeing.{IsNoWrite}
-use Rattle.mvd_world.specs.Machine.{Knowledge, MayStep, RunsSteps, SentMessage, Setting, is_site, may_be, nothing_yet}
+use Rattle.mvd_world.specs.Machine.{Knowledge, MayStep, SentMessage, Setting, is_site, may_be, nothing_yet}
 use Rattle.mvd_world.specs.Worlds.{IsWorld}
 
 -- ---- a question is a step

@@ -1,5 +1,5 @@
-use Rattle.std.proofs.Common.{◌≡◌, sym, subst}
-use Rattle.std.specs.Prelude.{Ok, Err, Some, None}
+use Rattle.std.proofs.Common.{subst}
+use Rattle.std.specs.Prelude.{Ok, Err}
 use Rattle.mvd_sync.specs.Machines.{HasNext, TakesTold}
 use Rattle.mvd_world.proofs.Opened.{goes_done, goes_failed, goes_stops, goes_went, went_on}
 use Rattle.mvd_world.proofs.open_world.go_on.Goals as goal

@@ -1,4 +1,3 @@
-use Rattle.std.proofs.Common.{refl, sym, subst}
 use Rattle.mvd_world.proofs.Asking.{site_asked, site_not_asked}
 use Rattle.mvd_world.proofs.windows.ask_site.Goals as goal
 

@@ -1,5 +1,3 @@
-use Rattle.std.proofs.Common.{◌≡◌, sym, ap, ap₂, ◌∙◌}
-use Rattle.std.specs.List.{slice_get}
 use Rattle.mvd_world.proofs.Asking.{sent_in_world}
 use Rattle.mvd_world.proofs.windows.ask_to_take.Goals as goal
 

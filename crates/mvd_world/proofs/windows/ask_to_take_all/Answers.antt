@@ -1,4 +1,4 @@
-use Rattle.std.proofs.Common.{◌≡◌, ◌∙◌, [], ◌++◌, ◌∷◌, refl, sym, ap, subst, subst₂, length, take, ◌≤◌, arith, length-append}
+use Rattle.std.proofs.Common.{◌∙◌, [], ◌++◌, ◌∷◌, refl, sym, ap, subst, subst₂, length, take, ◌≤◌, arith, length-append}
 use Rattle.std.proofs.lemmas.List.{take_all, take_more}
 use Rattle.mvd_world.specs.OpenWorlds.{AsksToTake, OneByOne}
 use Rattle.mvd_world.proofs.Asking.{TakesFirst, takes_more}

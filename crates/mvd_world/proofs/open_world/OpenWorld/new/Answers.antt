@@ -1,5 +1,4 @@
-use Rattle.std.proofs.Common.{[], sym, subst}
-use Rattle.mvd_peer.specs.PushedStates.{Each}
+use Rattle.std.proofs.Common.{sym}
 use Rattle.mvd_world.proofs.open_world.OpenWorld.new.Goals as goal
 
 pub returns-clause-world : goal.returns-clause-world

@@ -1,4 +1,4 @@
-use Rattle.std.proofs.Common.{◌≡◌, ◌-◌, refl, sym, ap, ◌∙◌}
+use Rattle.std.proofs.Common.{◌-◌, refl, sym, ap, ◌∙◌}
 use Rattle.std.specs.Vec.{with_item}
 use Rattle.mvd_wire.specs.declared.reply.Reply.TheVariants.{Done, Refused}
 use Rattle.mvd_site.specs.Sites.{SiteValue}

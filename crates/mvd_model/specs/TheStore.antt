@@ -37,6 +37,7 @@ pub record Site : Type 0 where
 -- all sites, by their numbers; and a site as it is set up
 abbrev pub Knows : Type 0
 Knows = ℕ → Site
+
 abbrev pub config : ℕ → Setup → ConfigValue
 config i setup = record { site = i; max_keys = setup.max_keys; defs = setup.defs }
 
@@ -46,8 +47,7 @@ pub data Event : Type 0 where
   -- this site was closed, killed or without power, and is opened again; its file holds these, which it had refused
   Opened : ℕ → Setup → List Request → Event
 
--- A site tells its answer, and then knows what that adds: an accepted put its write with the dot that was told, an
--- accepted delete its write, an accepted push some writes whose state is the pushed one, and all else nothing (`Adds`)
+-- A site tells its answer, and knows what that adds: a put or a delete its write, a push some of its state (`Adds`)
 abbrev pub Answers : ConfigValue → Site → Request → Reply → Site → Type 0
 Answers c s request reply t = (s.broken ≡ false) × (reply ≡ answer c s.known request)
     × (added : List Write) × Adds request reply added × (t ≡ record s { known = s.known ++ added })
@@ -83,6 +83,7 @@ Reopens c s setup some t = AreAmong some s.refused × (added : List Write) × Ad
 abbrev pub at_site : Event → ℕ
 at_site (Told i request reply) = i
 at_site (Opened i setup some) = i
+
 abbrev pub Does : Event → Site → Site → Type 0
 Does (Told i request reply) s t =
     Answers (config i s.setup) s request reply t ⊎ Refuses (config i s.setup) s request reply t
@@ -113,8 +114,7 @@ pub record Promise (events : List Event) (end : Knows) : Type 0 where
   pub shown : (n i : ℕ) (key : Key) (seen : DotSet) (document : Text) (dot : DotValue)
       → slice_get events n ≡ Some (put_told i key seen document dot) → contains (covered key (end i).known) dot ≡ false
       → get (siblings key (end i).known) dot ≡ Some document
-  -- two sites that know the same writes, none of two documents under one dot, answer a question alike where they define
-  -- its index or view alike
+  -- two sites that know the same writes, which agree, answer a question alike, where its index or view is defined alike
   pub alike : (i j : ℕ) (request : Request) → SameWrites (end i).known (end j).known → Agree (end i).known
       → SpeakAlike (end i).setup.defs (end j).setup.defs request
       → answer (config i (end i).setup) (end i).known request ≡ answer (config j (end j).setup) (end j).known request

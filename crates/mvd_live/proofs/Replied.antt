@@ -72,7 +72,6 @@ module _ {Q A : Type 0} (config : ConfigValue) (kind : ℕ) (as_reply : A → Re
     (right : (q : Q) (before held : States) (a : A) → AreHeld before → Fits q → TrueReply config before (ask q) (as_reply a) held → Right held q (Ok a))
     (refuses : (q : Q) (before held : States) (refusal : Refusal) → TrueReply config before (ask q) (Refused refusal) held → Right held q (Err refusal))
     (spent : (q : Q) (held : States) → Right held q (Err Memory)) where
-
   one_told : (q : Q) (r : Reply) (before held : States) (frame : FrameValue) (t : Result Reply Refusal) (answer : Result A Refusal) → AreHeld before → Fits q → reply_of frame.kind frame.payload ≡ Ok r → TrueReply config before (ask q) r held → ToldBy kind t frame → IsToldBy as_reply t answer → Right held q answer
   one_told q r before held frame (Ok reply) (Ok a) form fits spells so came is =
       let same : r ≡ as_reply a = (let there = came.1 in cc) in
@@ -151,23 +150,23 @@ module _ (config : ConfigValue) where
       → AnswersAmong config (requests_of window) rs old moments new → TellsOf (asked_in_window window) caller after t → IsAnswered (Some t) → Tells config.max_keys (asked (Some window)) (Some t) old moments new
   window_told (wanted.Nodes paths) caller after t rs rest old new moments form has frames valid among h answered =
       let it = collected 0xA7 (λ answers. told.Nodes answers) as_digests (λ path. Node path) paths.items TellsNode rs old new moments
-          (λ ts answers bytes rest end. all_told config 0xA7 as_digests (λ path. Node path) (λ _. Unit {0}) TellsNode node_right (λ q before held refusal so. tt) (λ q held. tt) paths.items rs old new moments ts answers bytes rest end form (each_fits paths.items) among)
-          (came_at caller) rest frames has (link_at caller) (link_at after) t refl h.tells answered (λ refusal never. never) in
+      (λ ts answers bytes rest end. all_told config 0xA7 as_digests (λ path. Node path) (λ _. Unit {0}) TellsNode node_right (λ q before held refusal so. tt) (λ q held. tt) paths.items rs old new moments ts answers bytes rest end form (each_fits paths.items) among)
+      (came_at caller) rest frames has (link_at caller) (link_at after) t refl h.tells answered (λ refusal never. never) in
       subst (λ x. Tells config.max_keys (asked (Some (wanted.Nodes paths))) (Some x) old moments new) (sym it.1) it.2
   window_told (wanted.Pages pages) caller after t rs rest old new moments form has frames valid among h answered =
       let it = collected 0xA8 (λ answers. told.Pages answers) as_page (λ q. Bucket q.0 q.1) pages.items TellsPage rs old new moments
-          (λ ts answers bytes rest end. all_told config 0xA8 as_page (λ q. Bucket q.0 q.1) (λ _. Unit {0}) TellsPage page_right (λ q before held refusal so. tt) (λ q held. tt) pages.items rs old new moments ts answers bytes rest end form (each_fits pages.items) among)
-          (came_at caller) rest frames has (link_at caller) (link_at after) t refl h.tells answered (λ refusal never. never) in
+      (λ ts answers bytes rest end. all_told config 0xA8 as_page (λ q. Bucket q.0 q.1) (λ _. Unit {0}) TellsPage page_right (λ q before held refusal so. tt) (λ q held. tt) pages.items rs old new moments ts answers bytes rest end form (each_fits pages.items) among)
+      (came_at caller) rest frames has (link_at caller) (link_at after) t refl h.tells answered (λ refusal never. never) in
       subst (λ x. Tells config.max_keys (asked (Some (wanted.Pages pages))) (Some x) old moments new) (sym it.1) it.2
   window_told (wanted.Gets keys) caller after t rs rest old new moments form has frames valid among h answered =
       let it = collected 0xA1 (λ answers. told.States answers) as_state (λ key. Get key) keys.items TellsState rs old new moments
-          (λ ts answers bytes rest end. all_told config 0xA1 as_state (λ key. Get key) (λ _. Unit {0}) TellsState state_right (λ q before held refusal so. tt) (λ q held. tt) keys.items rs old new moments ts answers bytes rest end form (each_fits keys.items) among)
-          (came_at caller) rest frames has (link_at caller) (link_at after) t refl h.tells answered (λ refusal never. never) in
+      (λ ts answers bytes rest end. all_told config 0xA1 as_state (λ key. Get key) (λ _. Unit {0}) TellsState state_right (λ q before held refusal so. tt) (λ q held. tt) keys.items rs old new moments ts answers bytes rest end form (each_fits keys.items) among)
+      (came_at caller) rest frames has (link_at caller) (link_at after) t refl h.tells answered (λ refusal never. never) in
       subst (λ x. Tells config.max_keys (asked (Some (wanted.Gets keys))) (Some x) old moments new) (sym it.1) it.2
   window_told (wanted.Pushes pairs) caller after t rs rest old new moments form has frames valid among h answered =
       let it = collected 0xA3 (λ answers. told.Pushes answers) as_done (λ pair. Push pair.0 pair.1) pairs.items (TellsPush config.max_keys) rs old new moments
-          (λ ts answers bytes rest end. all_told config 0xA3 as_done (λ pair. Push pair.0 pair.1) (λ pair. IsValid pair.1) (TellsPush config.max_keys) push_right push_refuses (λ q held. tt) pairs.items rs old new moments ts answers bytes rest end form valid among)
-          (came_at caller) rest frames has (link_at caller) (link_at after) t refl h.tells answered (λ refusal never. never) in
+      (λ ts answers bytes rest end. all_told config 0xA3 as_done (λ pair. Push pair.0 pair.1) (λ pair. IsValid pair.1) (TellsPush config.max_keys) push_right push_refuses (λ q held. tt) pairs.items rs old new moments ts answers bytes rest end form valid among)
+      (came_at caller) rest frames has (link_at caller) (link_at after) t refl h.tells answered (λ refusal never. never) in
       subst (λ x. Tells config.max_keys (asked (Some (wanted.Pushes pairs))) (Some x) old moments new) (sym it.1) it.2
 
   tells_if : (window : Window) (caller after : Caller) (t : Option Told) (rs : List Reply) (rest : List ℕ) (old new : States) (moments : List States) → AreHeld old → HaveFrames (requests_of window) → AreReplyFrames rs (came_at caller) rest → Each (λ p. IsValid p.1) (asked (Some window)).pushes

@@ -107,6 +107,10 @@ module _ {A : Type 0} (Answers : A → A → Request → Reply → Type 0) where
     goes_on = λ rest more tells. subst (TellsAllPages ask request rest) (sym (onto_none more)) tells;
   }
 
+  -- what is shown stays where only room was made
+  pub stays_shown : (asked asked' : A) (ask : Ask) (first request : Request) (old mid new : List ℕ) → new ≡ mid → SoFar asked asked' ask first request old mid → SoFar asked asked' ask first request old new
+  stays_shown asked asked' ask first request old mid new same so_far = subst (SoFar asked asked' ask first request old) (sym same) so_far
+
   -- a page more, behind which more is left
   pub onward : (asked asked' asked'' : A) (ask : Ask) (first request next : Request) (old mid new : List ℕ) → SoFar asked asked' ask first request old mid → Turns Answers asked' asked'' ask request mid new (Ok (Some next)) → SoFar asked asked'' ask first next old new
   unfolding TellsAllPages

@@ -21,12 +21,12 @@ module _ {S : Type 0} {g : Ghosts S} where
 
   -- each push of a window was taken, or refused for its cause; the site is not broken
   pub record TellsPushes (old : Replica S g) (pairs : List (Key × State)) (new : Replica S g)
-      (told : Vec (Result (Unit {0}) Refusal) Global) : Type 0 where
+      (answers : Vec (Result (Unit {0}) Refusal) Global) : Type 0 where
     pub whole : (site_of new).broken ≡ false
-    pub each : EachAnswer (λ _ _. Unit {0}) pairs told.items
-    pub told : EachTold (Unit {0}) (ReplicaRefuses (site_of new)) told.items
+    pub each : EachAnswer (λ _ _. Unit {0}) pairs answers.items
+    pub told : EachTold (Unit {0}) (ReplicaRefuses (site_of new)) answers.items
     pub pushes : IsTrueSite (site_of old) → IsTrueSite (site_of new)
-        × Pushes (site_of old).config.max_keys (site_of old).states pairs told.items (site_of new).states
+        × Pushes (site_of old).config.max_keys (site_of old).states pairs answers.items (site_of new).states
 
   -- a window that is not told: memory was refused, and nothing was pushed; or the site is broken then
   abbrev pub EndsPushes : Replica S g → Replica S g → Refusal → Type 0

@@ -1,6 +1,6 @@
 use Rattle.std.proofs.Common.{refl, rules}
 use Rattle.mvd_peer.proofs.ManyPushes.{leaves_same}
-use Rattle.mvd_client.proofs.Pushing.{push_turns, same_turns, window_ended, window_first, window_open, window_pushes, window_told, window_true}
+use Rattle.mvd_client.proofs.PushTurns.{push_turns, same_turns, window_ended, window_first, window_open, window_pushes, window_told, window_true}
 use Rattle.mvd_client.proofs.stored_side.StoredSidePeer.TheImpl.Goals as goal
 
 pub node-tells : goal.node-tells

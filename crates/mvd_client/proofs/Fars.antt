@@ -1,8 +1,9 @@
 -- Sessions of two servers, over lines that are fresh, or were.
-use Rattle.std.proofs.Common.{◌≡◌, List, Option, Result, Ok, Err}
+use Rattle.std.proofs.Common.{◌≡◌, ℕ, List, Option, Result, Ok, Err, subst}
 use Rattle.std.specs.declared.net.socket_addr.SocketAddr.{SocketAddr}
-use Rattle.mvd_client.specs.Between.{EndsBetween, FailsBetween, MeetsBetween}
+use Rattle.mvd_client.specs.Between.{EndsBetween, FailsBetween, IsFresh, MeetsBetween}
 use Rattle.mvd_client.specs.Between.FailsBetween.{faulted, no_far, no_near}
+use Rattle.mvd_client.specs.LetIn.{GivesIn}
 use Rattle.mvd_client.specs.declared.counted.Counted.{Counted}
 use Rattle.mvd_client.specs.declared.ends.Failure.{Failure}
 use Rattle.mvd_remote.specs.declared.line.Line.{Ghosts as LineGhosts}
@@ -32,3 +33,20 @@ module _ {L : Type 0} (line : LineGhosts L) (near_gives far_gives : L → Type 0
       → EndsBetween line near_gives far_gives A B near far near_kept far_kept result
   ends_sooner near far near_kept far_kept (Ok report) (it, near_is, far_is) = (sooner (Ok report) it, near_is, far_is)
   ends_sooner near far near_kept far_kept (Err failure) it = fails_sooner near far failure it
+
+module _ {L : Type 0} (line : LineGhosts L) (gives : SocketAddr → L → Type 0) (token : Option (List ℕ)) where
+  abbrev Fresh : SocketAddr → Option (Counted L) → Type 0
+  Fresh address link = IsFresh line (GivesIn line (gives address) token) link
+
+  -- what came of a session is so of the servers as they were at first, whose lines are still as fresh
+  pub ends_at : (near first_near far first_far : SocketAddr) (near_link first_near_link far_link first_far_link : Option (Counted L)) → near ≡ first_near → far ≡ first_far → (Fresh first_near first_near_link → Fresh first_near near_link)
+      → (Fresh first_far first_far_link → Fresh first_far far_link) → (near_kept far_kept : Option (Counted L)) (result : Result Report Failure)
+      → EndsBetween line (GivesIn line (gives near) token) (GivesIn line (gives far) token) (Fresh near near_link) (Fresh far far_link) near far near_kept far_kept result
+      → EndsBetween line (GivesIn line (gives first_near) token) (GivesIn line (gives first_far) token) (Fresh first_near first_near_link) (Fresh first_far first_far_link) first_near first_far near_kept far_kept result
+  ends_at near first_near far first_far near_link first_near_link far_link first_far_link near_is far_is near_so far_so near_kept far_kept result it =
+      let moved = subst (λ a. EndsBetween line (GivesIn line (gives a) token) (GivesIn line (gives far) token) (Fresh a near_link) (Fresh far far_link) a far near_kept far_kept result) near_is it in
+      let both = subst (λ a. EndsBetween line (GivesIn line (gives first_near) token) (GivesIn line (gives a) token) (Fresh first_near near_link) (Fresh a far_link) first_near a near_kept far_kept result) far_is moved in
+      ends_sooner line (GivesIn line (gives first_near) token) (GivesIn line (gives first_far) token) (Fresh first_near first_near_link) (Fresh first_far first_far_link) (Fresh first_near near_link) (Fresh first_far far_link) near_so far_so first_near first_far near_kept far_kept result both
+
+  pub fresh_at : (address first : SocketAddr) (link link' first_link : Option (Counted L)) → address ≡ first → (Fresh first first_link → Fresh first link) → (Fresh address link → Fresh address link') → Fresh first first_link → Fresh first link'
+  fresh_at address first link link' first_link is before stays = λ fresh. subst (λ a. Fresh a link → Fresh a link') is stays (before fresh)

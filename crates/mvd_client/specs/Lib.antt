@@ -1,9 +1,12 @@
+pub mod Between
 pub mod Met
+pub mod Pushing
 pub mod Questioned
 pub mod Reported
 pub mod Sent
 pub mod Stopped
 pub mod LetIn
+pub mod SyncSides
 pub mod Synced
 pub mod SyncsAt
 pub mod Talked

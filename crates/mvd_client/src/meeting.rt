@@ -1,16 +1,21 @@
 //! A session between two servers, each at the other end of a line, and what is printed of it.
-ghost use Rattle.std.specs.Prelude.{◌≡◌, ◌≢◌, ◌≤◌, ◌+◌, ◌++◌, [], IfOk, IsErr, OnOk, string_bytes};
+ghost use Rattle.std.specs.Prelude.{◌≡◌, ◌≢◌, ◌≤◌, ◌+◌, ◌++◌, [], IfErr, IfOk, IsErr, OnOk, false, string_bytes};
 ghost use Rattle.std.specs.Io.KnownBytes.{Appends};
 ghost use Rattle.mvd_client.specs.Met.{MeetsFars};
 ghost use Rattle.mvd_client.specs.Questioned.{AsksFew, questions};
-ghost use Rattle.mvd_client.specs.Reported.{ReportsAs, meeting_text, root_at_text, root_of};
+ghost use Rattle.mvd_client.specs.Reported.{CutReport, ReportsAs, meeting_text, root_at_text, root_of};
+ghost use Rattle.mvd_client.specs.SyncSides.{sides_between};
+ghost use Rattle.mvd_dots.specs.declared.refusals.Refusal.TheVariants.{Memory};
+ghost use Rattle.mvd_peer.specs.Sides.{two};
 ghost use Rattle.mvd_remote.specs.Lines.{IsTrueRemote, far_of};
+ghost use Rattle.mvd_sync.specs.Session.{Session};
 
 use crate::peer_commands::{left_with, print_refused};
 use crate::progress::Watched;
+use crate::written::write_lines;
 use mvd_dots::Refusal;
 use mvd_hint::Stop;
-use mvd_input::{Fault, tell};
+use mvd_input::Fault;
 use mvd_keys::Path;
 use mvd_peer::Peer;
 use mvd_print::print_keys;
@@ -42,6 +47,9 @@ pub fn meet_over<L: Line, M: Line, E: Write>(
         AsksFew (questions far.old.asked.items) (questions far.new.asked.items)
         (far_of L.far near.old).states (far_of M.far far.old.side).states }
     ensures most { questions far.new.asked.items ≤ questions far.old.asked.items + 10000000 }
+    // Whatever is at the other ends.
+    ensures session { Session (sides_between L.is_true L.far M.is_true M.far) 10000000
+        (two near.old far.old.side) (two near.new far.new.side) result }
 {
     sync(alloc, near, far)
 }
@@ -68,7 +76,7 @@ pub fn tell_meeting<'a, W: Write, E: Write>(
     writer: &mut W,
     errors: &mut E,
 ) -> Result<(), Stop<'a>>
-    ensures told { ReportsAs (meeting_text report.now near far) report.now (W.contents writer.old)
+    ensures told { ReportsAs (meeting_text report.now near far) false report.now (W.contents writer.old)
         (W.contents writer.new) result }
     ensures left { report.now.first_refused ≢ [] → IsErr result }
 {
@@ -82,6 +90,7 @@ pub fn tell_meeting<'a, W: Write, E: Write>(
     left_with(report)
 }
 
+#[tactic(auto, using(crate::proofs::Cutting::no_lines, crate::proofs::Cutting::not_written))]
 fn tell_met<W: Write>(
     alloc: Global,
     report: &Report,
@@ -91,18 +100,30 @@ fn tell_met<W: Write>(
 ) -> Result<(), Fault>
     ensures told { OnOk result (Appends (W.contents writer.old) (W.contents writer.new)
         (meeting_text report.now near far)) }
+    ensures cut { IfErr result (CutReport (meeting_text report.now near far) false (W.contents writer.old)
+        (W.contents writer.new)) }
+{
+    let lines = meeting_lines(alloc, report, near, far)?;
+    write_lines(writer, lines.as_str())
+}
+
+/// The lines that tell of a session of two servers.
+fn meeting_lines(alloc: Global, report: &Report, near: Root, far: Root) -> Result<String, Refusal>
+    ensures text { IfOk result (λ lines. string_bytes lines ≡ meeting_text report.now near far) }
+    ensures memory { IfErr result (λ refusal. refusal ≡ Memory) }
 {
     let mut lines = String::new(alloc);
     print_keys(report.keys, &mut lines)?;
     print_refused(report.refused, &mut lines)?;
     print_root_at(alloc, near, &mut lines)?;
     print_root_at(alloc, far, &mut lines)?;
-    tell(writer, &mut lines)
+    Ok(lines)
 }
 
 /// Adds a line with the root digest of a server.
 fn print_root_at(alloc: Global, root: Root, lines: &mut String) -> Result<(), Refusal>
-    ensures { OnOk result (string_bytes lines.new ≡ string_bytes lines.old ++ root_at_text root) }
+    ensures text { OnOk result (string_bytes lines.new ≡ string_bytes lines.old ++ root_at_text root) }
+    ensures memory { IfErr result (λ refusal. refusal ≡ Memory) }
 {
     let digest = hex::encode(alloc, root.digest)?;
     let address = root.address;

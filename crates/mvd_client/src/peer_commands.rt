@@ -1,28 +1,33 @@
 //! The commands that meet a server: sessions of a stored site, and shells.
-ghost use Rattle.std.specs.Prelude.{◌≡◌, ◌≢◌, ◌≤◌, ◌+◌, ◌++◌, [], IsErr, OnOk, option_copied, string_bytes};
+ghost use Rattle.std.specs.Prelude.{◌≡◌, ◌≢◌, ◌≤◌, ◌+◌, ◌++◌, [], IfErr, IfOk, IsErr, OnOk, option_copied, string_bytes};
 ghost use Rattle.std.specs.Io.KnownBytes.{Appends};
 ghost use Rattle.mvd_client.specs.AskedServer.{RepliesNoted, lost_of};
 ghost use Rattle.mvd_client.specs.LetIn.{GivesIn};
 ghost use Rattle.mvd_client.specs.Questioned.{AsksFew, questions};
-ghost use Rattle.mvd_client.specs.Reported.{Reports, StopsLeft, refused_keys_text, root_of, session_text};
+ghost use Rattle.mvd_client.specs.Reported.{CutReport, HasNoLines, Reports, StopsLeft, refused_keys_text, root_of, session_text};
 ghost use Rattle.mvd_client.specs.Stopped.{StopsFaulted};
-ghost use Rattle.mvd_client.specs.Synced.{FollowsPushed, MeetsFar};
+ghost use Rattle.mvd_client.specs.Synced.{FollowsPushed, MeetsFar, TakesPushes};
+ghost use Rattle.mvd_client.specs.SyncSides.{sides_at};
 ghost use Rattle.mvd_client.specs.SyncsAt.{AreTrue, MeetsAt, SyncsAt, SyncsFrom, SyncsOver, TellsSession};
 ghost use Rattle.mvd_client.specs.Talked.{SaysBye, ShellsAt, ShellsOver};
-ghost use Rattle.mvd_peer.specs.PeerSides.{sides_of};
+ghost use Rattle.mvd_dots.specs.declared.refusals.Refusal.TheVariants.{Memory};
+ghost use Rattle.mvd_peer.specs.Sides.{two};
 ghost use Rattle.mvd_print.specs.Text.{root_text};
 ghost use Rattle.mvd_replica.specs.Replicas.{site_of};
 ghost use Rattle.mvd_replica.specs.Sides.{IsTrueSite};
 ghost use Rattle.mvd_shell.specs.Shell.{at};
 ghost use Rattle.mvd_remote.specs.Lines.{IsTrueRemote, far_of};
+ghost use Rattle.mvd_sync.specs.Session.{Session};
 
 use crate::asked_server::{AskedServer, Noted};
 use crate::dial::{Dial, let_in, undialed};
 use crate::progress::Watched;
+use crate::stored_side::StoredSide;
+use crate::written::write_lines;
 use http_server::Log;
 use mvd_dots::Refusal;
 use mvd_hint::{Hint, Older, Stop};
-use mvd_input::{Fault, tell};
+use mvd_input::Fault;
 use mvd_keys::Path;
 use mvd_peer::Peer;
 use mvd_print::{print_keys, print_root};
@@ -39,7 +44,7 @@ use std::net::SocketAddr;
 
 /// Runs a session with the server at an address, to which the token is shown first, if there is one, and says Bye.
 /// Where `told` is given, it is told how far the session is.
-#[tactic(auto, using(crate::proofs::Syncing::pushed_none))]
+#[tactic(auto, using(crate::proofs::Syncing::pushed_none, crate::proofs::Syncing::takes_none))]
 pub fn sync_run<'a, D: Dial, S: Alter + Drop, E: Write>(
     dial: &D,
     alloc: Global,
@@ -51,14 +56,15 @@ pub fn sync_run<'a, D: Dial, S: Alter + Drop, E: Write>(
 ) -> Result<Report, Stop<'a>>
     // A session ran over a line that the address gives, and what is told is what came of it; or there is no line.
     ensures syncs { SyncsAt D.Dialed.Line
-        (sides_of ⟦<Replica<S> as Peer>⟧ ⟦<Watched<'static, Remote<D::Dialed>, E> as Peer>⟧) (λ watched. watched.side)
         (GivesIn D.Dialed.Line (D.gives dial.now address) (option_copied token.entry)) address
         replica.old replica.new result }
     // Where what the address leads to is true, and so is the site, the two meet.
     ensures meets { AreTrue D.Dialed.Line (D.gives dial.now address) → IsTrueSite (site_of replica.old) →
         MeetsAt D.Dialed.Line (GivesIn D.Dialed.Line (D.gives dial.now address) (option_copied token.entry)) address
         replica.old replica.new result }
-    // However it ends, the site changed by pushes alone, and its records follow.
+    // However it ends, all that was done to the site is turns, each of which pushed a state.
+    ensures takes { TakesPushes replica.old replica.new }
+    // It changed by these pushes alone, and its records follow.
     ensures pushed { FollowsPushed replica.old replica.new }
 {
     let line = match let_in(dial, alloc, address, idle, token) {
@@ -82,7 +88,6 @@ fn faulted<'a>(address: SocketAddr, fault: SyncFault) -> Stop<'a>
 }
 
 /// Runs such a session, and tells of it; where `verbose`, also how far it is.
-#[tactic(auto, using(crate::proofs::Syncing::pushed_none))]
 pub fn sync_told<'a, D: Dial, S: Alter + Drop, W: Write, E: Write>(
     dial: &D,
     alloc: Global,
@@ -94,12 +99,10 @@ pub fn sync_told<'a, D: Dial, S: Alter + Drop, W: Write, E: Write>(
     writer: &mut W,
     errors: &mut E,
 ) -> Result<(), Stop<'a>>
-    // What is printed is what came of the session.
+    // What is printed is what came of the session, and what was done to the site is its turns.
     ensures tells { TellsSession D.Dialed.Line
-        (sides_of ⟦<Replica<S> as Peer>⟧ ⟦<Watched<'static, Remote<D::Dialed>, E> as Peer>⟧) (λ watched. watched.side)
         (GivesIn D.Dialed.Line (D.gives dial.now address) (option_copied token.entry)) address
         replica.old replica.new (W.contents writer.old) (W.contents writer.new) result }
-    ensures pushed { FollowsPushed replica.old replica.new }
 {
     let told = if verbose { Some(&mut *errors) } else { None };
     match sync_run(dial, alloc, replica, address, idle, token, told) {
@@ -115,9 +118,8 @@ fn sync_line<L: Line, S: Alter + Drop, E: Write>(
     replica: &mut Replica<S>,
     told: Option<&mut E>,
 ) -> Result<Report, SyncFault>
-    ensures syncs { SyncsFrom L.Line
-        (sides_of ⟦<Replica<S> as Peer>⟧ ⟦<Watched<'static, Remote<L>, E> as Peer>⟧) (λ watched. watched.side)
-        line replica.old replica.new result }
+    ensures syncs { SyncsFrom L.Line line replica.old replica.new result }
+    ensures takes { TakesPushes replica.old replica.new }
     ensures pushed { FollowsPushed replica.old replica.new }
 {
     let mut watched = Watched {
@@ -143,13 +145,12 @@ pub fn sync_over<L: Line, S: Alter + Drop, E: Write>(
         AsksFew (questions watched.old.asked.items) (questions watched.new.asked.items)
         (site_of replica.old).states (far_of L.far watched.old.side).states }
     // Whatever is at the other end.
-    ensures syncs { SyncsOver L.Line
-        (sides_of ⟦<Replica<S> as Peer>⟧ ⟦<Watched<'static, Remote<L>, E> as Peer>⟧) (λ watched. watched.side)
-        replica.old replica.new watched.old watched.new result }
+    ensures syncs { SyncsOver L.Line replica.old replica.new watched.old.side watched.new.side result }
+    ensures takes { TakesPushes replica.old replica.new }
     ensures pushed { FollowsPushed replica.old replica.new }
     ensures most { questions watched.new.asked.items ≤ questions watched.old.asked.items + 10000000 }
 {
-    let report = match sync(alloc, replica, watched) {
+    let report = match session_of(alloc, replica, watched) {
         Ok(report) => report,
         Err(fault) => return Err(fault),
     };
@@ -157,6 +158,45 @@ pub fn sync_over<L: Line, S: Alter + Drop, E: Write>(
         Ok(()) => Ok(report),
         Err(refusal) => Err(SyncFault::Peer(refusal)),
     }
+}
+
+/// Runs a session of a stored site with what is at the other end of a line.
+fn session_of<L: Line, S: Alter + Drop, E: Write>(
+    alloc: Global,
+    replica: &mut Replica<S>,
+    watched: &mut Watched<'_, Remote<L>, E>,
+) -> Result<Report, SyncFault>
+    ensures session { Session (sides_at L.Line) 10000000 (two replica.old watched.old.side)
+        (two replica.new watched.new.side) result }
+    // What it does to the site is turns.
+    ensures takes { TakesPushes replica.old replica.new }
+    ensures pushed { FollowsPushed replica.old replica.new }
+    ensures few { IsTrueSite (site_of replica.old) → IsTrueRemote L.is_true L.far watched.old.side →
+        AsksFew (questions watched.old.asked.items) (questions watched.new.asked.items)
+        (site_of replica.old).states (far_of L.far watched.old.side).states }
+    ensures most { questions watched.new.asked.items ≤ questions watched.old.asked.items + 10000000 }
+{
+    let mut side = StoredSide { replica };
+    session_with(alloc, &mut side, watched)
+}
+
+/// The same of the site behind a reference.
+fn session_with<L: Line, S: Alter + Drop, E: Write>(
+    alloc: Global,
+    side: &mut StoredSide<'_, S>,
+    watched: &mut Watched<'_, Remote<L>, E>,
+) -> Result<Report, SyncFault>
+    ensures same_reference { side.new.replica.ghost_name ≡ side.old.replica.ghost_name }
+    ensures session { Session (sides_at L.Line) 10000000 (two side.old.replica.now watched.old.side)
+        (two side.new.replica.now watched.new.side) result }
+    ensures takes { TakesPushes side.old.replica.now side.new.replica.now }
+    ensures pushed { FollowsPushed side.old.replica.now side.new.replica.now }
+    ensures few { IsTrueSite (site_of side.old.replica.now) → IsTrueRemote L.is_true L.far watched.old.side →
+        AsksFew (questions watched.old.asked.items) (questions watched.new.asked.items)
+        (site_of side.old.replica.now).states (far_of L.far watched.old.side).states }
+    ensures most { questions watched.new.asked.items ≤ questions watched.old.asked.items + 10000000 }
+{
+    sync(alloc, side, watched)
 }
 
 /// Tells how many keys a session exchanged, how many were refused, and the root digest; and on `errors` which keys
@@ -169,8 +209,7 @@ pub fn tell_report<'a, S: Alter + Drop, W: Write, E: Write>(
     writer: &mut W,
     errors: &mut E,
 ) -> Result<(), Stop<'a>>
-    ensures told { Reports report.now (site_of replica.now).states (W.contents writer.old)
-        (W.contents writer.new) result }
+    ensures told { Reports report.now (site_of replica.now) (W.contents writer.old) (W.contents writer.new) result }
     ensures left { report.now.first_refused ≢ [] → IsErr result }
 {
     tell_counts(alloc, replica, report, writer)?;
@@ -193,6 +232,7 @@ pub(crate) fn left_with<'a>(report: &Report) -> Result<(), Stop<'a>>
     }
 }
 
+#[tactic(auto, using(crate::proofs::Cutting::no_lines, crate::proofs::Cutting::not_written))]
 fn tell_counts<S: Alter + Drop, W: Write>(
     alloc: Global,
     replica: &Replica<S>,
@@ -201,17 +241,34 @@ fn tell_counts<S: Alter + Drop, W: Write>(
 ) -> Result<(), Fault>
     ensures told { OnOk result (Appends (W.contents writer.old) (W.contents writer.new)
         (session_text report.now (site_of replica.now).states)) }
+    ensures cut { IfErr result (CutReport (session_text report.now (site_of replica.now).states)
+        (site_of replica.now).broken (W.contents writer.old) (W.contents writer.new)) }
+{
+    let lines = session_lines(alloc, replica, report)?;
+    write_lines(writer, lines.as_str())
+}
+
+/// The lines that tell of a session with a server.
+fn session_lines<S: Alter + Drop>(
+    alloc: Global,
+    replica: &Replica<S>,
+    report: &Report,
+) -> Result<String, Refusal>
+    ensures text { IfOk result (λ lines. string_bytes lines ≡
+        session_text report.now (site_of replica.now).states) }
+    ensures refused { IfErr result (HasNoLines (site_of replica.now).broken) }
 {
     let mut lines = String::new(alloc);
     print_keys(report.keys, &mut lines)?;
     print_refused(report.refused, &mut lines)?;
     add_root(alloc, replica, &mut lines)?;
-    tell(writer, &mut lines)
+    Ok(lines)
 }
 
 /// Adds a line with how many keys were refused, where some were.
 pub(crate) fn print_refused(count: u64, lines: &mut String) -> Result<(), Refusal>
-    ensures { OnOk result (string_bytes lines.new ≡ string_bytes lines.old ++ refused_keys_text count) }
+    ensures text { OnOk result (string_bytes lines.new ≡ string_bytes lines.old ++ refused_keys_text count) }
+    ensures memory { IfErr result (λ refusal. refusal ≡ Memory) }
 {
     if count > 0 {
         writeln!(lines, "refused {count}")?;
@@ -239,8 +296,9 @@ fn add_root<S: Alter + Drop>(
     replica: &Replica<S>,
     lines: &mut String,
 ) -> Result<(), Refusal>
-    ensures { OnOk result (string_bytes lines.new ≡
+    ensures text { OnOk result (string_bytes lines.new ≡
         string_bytes lines.old ++ root_text (root_of (site_of replica.now).states)) }
+    ensures refused { IfErr result (HasNoLines (site_of replica.now).broken) }
 {
     let path = Path::new(alloc, &[])?;
     let digests = replica.node(&path)?;

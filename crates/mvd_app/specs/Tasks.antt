@@ -1,9 +1,10 @@
 -- What is done with a stored site, and with what is outside of a command.
-use Rattle.std.specs.Prelude.{◌≡◌, ◌⊎◌, ⊤, ℕ, List, map, Option, Some, None, is_some, Result, Ok, Err}
+use Rattle.std.specs.Prelude.{◌≡◌, ◌⊎◌, ⊤, ℕ, List, [], map, Option, Some, None, is_some, Result, Ok, Err}
 use Rattle.std.specs.Borrow.{Bor}
 use Rattle.std.specs.List.{AllByRecursion}
 use Rattle.std.specs.Option.{ForSome}
 use Rattle.std.specs.declared.net.socket_addr.SocketAddr.{SocketAddr}
+use Rattle.mvd_app.specs.Noted.{Noting, at_noted}
 use Rattle.mvd_app.specs.declared.commands.Work.{Work}
 use Rattle.mvd_app.specs.declared.commands.Work.TheVariants as work
 use Rattle.mvd_client.specs.LetIn.{GivesIn}
@@ -75,13 +76,13 @@ abbrev pub turns_asked : List Exchange → List Turn
 turns_asked = map (λ exchange. record { asked = Ok exchange.request; reply = exchange.reply })
 
 module _ {S : Type 0} {g : Ghosts S} where
-  -- Lines are read and answered, and what they print is written. All that was asked are these requests, each of which a
-  -- line asks: none pushes a state that is not that of some writes
+  -- Lines are read and answered, and what they print is written. All that was asked are these requests, one after the
+  -- other as the lines ask them, with their replies: none pushes a state that is not that of some writes
   pub record IsTyped (old new : At (Replica S g)) (result : Result (Unit {0}) Stop) : Type 0 where
     pub told : Result (Unit {0}) Fault
-    pub shells : Shells ReplicaAnswers (λ _. 0) old new told
-    pub ends : EndsAsTold told result
     pub exchanges : List Exchange
+    pub shells : Shells (Noting ReplicaAnswers) (λ _. 0) (at_noted old []) (at_noted new exchanges) told
+    pub ends : EndsAsTold told result
     pub asked : AnswersExchanges ReplicaAnswers exchanges old.asked new.asked
     pub valid : AllByRecursion IsValidTurn (turns_asked exchanges)
 

@@ -1,4 +1,5 @@
 pub mod Done
+pub mod Named
 pub mod Noted
 pub mod Refused
 pub mod Stored

@@ -4,6 +4,7 @@ use Rattle.std.specs.Borrow.{Bor}
 use Rattle.std.specs.List.{AllByRecursion}
 use Rattle.std.specs.Option.{ForSome}
 use Rattle.std.specs.declared.net.socket_addr.SocketAddr.{SocketAddr}
+use Rattle.mvd_app.specs.Named.{StopsAtToken}
 use Rattle.mvd_app.specs.Noted.{Noting, at_noted}
 use Rattle.mvd_app.specs.declared.commands.Work.{Work}
 use Rattle.mvd_app.specs.declared.commands.Work.TheVariants as work
@@ -124,5 +125,4 @@ abbrev pub IsTypedAt : {L : Type 0} → LineGhosts L → (L → Type 0) → Sock
 IsTypedAt line gives address file input input' out out' result =
     ((token : Option (List ℕ)) × IsTokenOfOrder file token
     × ShellsAt line (GivesIn line gives token) address input out input' out' result)
-    ⊎ (((name : Bor (List ℕ)) × (file ≡ Some name)) × ((stop : Stop) × (result ≡ Err stop))
-    × (input' ≡ input) × (out' ≡ out))
+    ⊎ (((stop : Stop) × (result ≡ Err stop) × StopsAtToken file stop) × (input' ≡ input) × (out' ≡ out))

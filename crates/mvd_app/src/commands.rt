@@ -1,6 +1,7 @@
 //! What a command line asks for, done: with standard input and output, files and sockets.
-ghost use Rattle.std.specs.Prelude.{◌≡◌, IfOk, IfSome, IsOk, IsOkAnd, List, None, Option, Some, is_some, option_copied, ℕ};
+ghost use Rattle.std.specs.Prelude.{◌≡◌, ◌⊎◌, IfErr, IfOk, IfSome, IsOkAnd, List, None, Option, Some, is_some, option_copied, ℕ};
 ghost use Rattle.mvd_app.specs.Done.{DoesFile, DoesOrder};
+ghost use Rattle.mvd_app.specs.Named.{IsDefsFault, StopsAtDefs, StopsAtToken};
 ghost use Rattle.mvd_app.specs.Stored.{GivesBack, IsConfigFor, IsWithoutFile, file_in, filed};
 ghost use Rattle.mvd_app.specs.Tasks.{DoesTask, IsSimulated, IsTypedAt, MayWork, outside, task_of};
 ghost use Rattle.mvd_input.specs.Addresses.{IsAddressList};
@@ -252,7 +253,7 @@ fn read_first<'a>(
     requires { IsSetUp setup }
     ensures read { IfOk result (λ read. IsConfigFor setup.entry read.0 × (is_some read.1 ≡ is_some token_file.entry)) }
     // It is stopped only by such a file.
-    ensures none { setup.entry.defs ≡ None → token_file.entry ≡ None → IsOk result }
+    ensures stopped { IfErr result (λ stop. StopsAtDefs setup.entry.defs stop ⊎ StopsAtToken token_file.entry stop) }
 {
     let config = config_in(rt, setup)?;
     match token_in(rt, token_file) {
@@ -360,7 +361,7 @@ fn config_in<'a>(rt: &HostRuntime, setup: Setup<'a>) -> Result<Config, Stop<'a>>
     requires { IsSetUp setup }
     ensures config { IfOk result (IsConfigFor setup.entry) }
     // It is stopped only by a file of definitions.
-    ensures none { setup.entry.defs ≡ None → IsOk result }
+    ensures stopped { IfErr result (StopsAtDefs setup.entry.defs) }
 {
     let defs = defs_in(rt, setup.defs)?;
     Ok(Config::new(setup.site, setup.max_keys, defs))
@@ -368,7 +369,8 @@ fn config_in<'a>(rt: &HostRuntime, setup: Setup<'a>) -> Result<Config, Stop<'a>>
 
 /// The indexes and views of a file of definitions, or none.
 fn defs_in<'a>(rt: &HostRuntime, file: Option<&'a str>) -> Result<Defs, Stop<'a>>
-    ensures { file.entry ≡ None → IsOkAnd result (λ defs. defs ≡ no_definitions) }
+    ensures none { file.entry ≡ None → IsOkAnd result (λ defs. defs ≡ no_definitions) }
+    ensures stopped { IfErr result (StopsAtDefs file.entry) }
 {
     let Some(file) = file else {
         return Ok(Defs::new(rt.alloc()));
@@ -379,7 +381,9 @@ fn defs_in<'a>(rt: &HostRuntime, file: Option<&'a str>) -> Result<Defs, Stop<'a>
     }
 }
 
-fn defs_of(rt: &HostRuntime, file: &str) -> Result<Defs, Fault> {
+fn defs_of(rt: &HostRuntime, file: &str) -> Result<Defs, Fault>
+    ensures { IfErr result IsDefsFault }
+{
     let Ok(mut file) = fs::open(rt, file) else {
         return Err(Fault::Stopped(Refusal::ReadFailed));
     };

@@ -2,7 +2,7 @@ use Rattle.std.proofs.Common.{inl, inr, option_copied, refl}
 use Rattle.sqlite.specs.WalFiles.{image_at}
 use Rattle.mvd_app.specs.Stored.{filed}
 use Rattle.mvd_app.specs.Tasks.{outside, task_of}
-use Rattle.mvd_app.proofs.Ending.{by_files, file_back}
+use Rattle.mvd_app.proofs.Ending.{file_back}
 use Rattle.mvd_app.proofs.Running.{runs_of}
 use Rattle.mvd_app.proofs.Working.{does_by, does_work}
 use Rattle.mvd_app.proofs.commands.run_stored.Goals as goal
@@ -15,7 +15,7 @@ returns-in-Err g c = record {
     still = refl;
     stop = c.in-Err.stop;
     ended = refl;
-    cause = inl (by_files c.args.db c.args.setup.site c.args.setup.max_keys c.args.setup.defs c.args.token_file (task_of c.args.work) c.in-Err.ensures.none);
+    cause = inl c.in-Err.ensures.stopped;
   });
 }
 

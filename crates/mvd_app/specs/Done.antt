@@ -36,11 +36,9 @@ module _ {D : Type 0} {g : disk.Ghosts D} {f : Ghosts (FileStore D g)} where
       HasCleanDisk (file_of replica) × (trees : Trees) × (file_of replica).may_leave trees
       × ∥ HoldsDatabase image trees ∥₁
 
-  -- Turns that are told are a run of the store on the file: from what the file held, to what it holds then
-  abbrev pub IsRunOf : Image → ℕ → ConfigValue → Option (List Turn) → Replica (FileStore D g) f → Option (Files D)
-      → Type 0
-  IsRunOf image site config None new files = ⊤
-  IsRunOf image site config (Some turns) new files =
+  -- The turns are a run of the store on the file: from what the file held, to what it holds then
+  abbrev pub IsRunOf : Image → ℕ → ConfigValue → List Turn → Replica (FileStore D g) f → Option (Files D) → Type 0
+  IsRunOf image site config turns new files =
       (after : Image) → IsLeft new files after → Passes site (setup_of config) turns image after
 
 module _ {D : Type 0} {g : disk.Ghosts D} (f : Ghosts (FileStore D g)) {K : Type 0} where
@@ -66,7 +64,7 @@ module _ {D : Type 0} {g : disk.Ghosts D} (f : Ghosts (FileStore D g)) {K L : Ty
     pub token : Option (List ℕ)
     pub of_file : IsTokenOfOrder filed.token token
     pub new : Replica (FileStore D g) f
-    pub turns : Option (List Turn)
+    pub turns : List Turn
     pub worked : Result (Unit {0}) Stop
     pub does : DoesTask k line gives filed.task token was old now new turns worked
     pub runs : IsRunOf image filed.setup.site config turns new ran.files

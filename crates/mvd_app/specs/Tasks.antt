@@ -9,8 +9,7 @@ use Rattle.mvd_app.specs.Noted.{Noting, at_noted}
 use Rattle.mvd_app.specs.declared.commands.Work.{Work}
 use Rattle.mvd_app.specs.declared.commands.Work.TheVariants as work
 use Rattle.mvd_client.specs.LetIn.{GivesIn}
-use Rattle.mvd_client.specs.SyncsAt.{AreTrue, MeetsAt, TellsRan}
-use Rattle.mvd_client.specs.Synced.{FollowsPushed}
+use Rattle.mvd_client.specs.SyncsAt.{TellsSession}
 use Rattle.mvd_client.specs.Talked.{ShellsAt}
 use Rattle.mvd_hint.specs.declared.hint.Stop.{Stop}
 use Rattle.mvd_host.specs.Round.{turns_of}
@@ -19,8 +18,6 @@ use Rattle.mvd_input.specs.Orders.{ArePeers}
 use Rattle.mvd_input.specs.declared.fault.Fault.{Fault}
 use Rattle.mvd_remote.specs.declared.line.Line.{Ghosts as LineGhosts}
 use Rattle.mvd_replica.specs.ReplicaCalls.{ReplicaAnswers}
-use Rattle.mvd_replica.specs.Replicas.{site_of}
-use Rattle.mvd_replica.specs.Sides.{IsTrueSite}
 use Rattle.mvd_replica.specs.Turns.{Turn}
 use Rattle.mvd_replica.specs.declared.replica.Replica.{Replica}
 use Rattle.mvd_runs.specs.Files.{IsValidTurn}
@@ -30,7 +27,6 @@ use Rattle.mvd_server.specs.declared.sockets.Sockets.{Ghosts as SocketGhosts}
 use Rattle.mvd_shell.specs.Asked.{Exchange}
 use Rattle.mvd_shell.specs.Shell.{At, Shells, at}
 use Rattle.mvd_shell.specs.Talk.{AnswersExchanges}
-use Rattle.mvd_sync.specs.declared.report.Report.{Report}
 use Rattle.sqlite_trees.specs.declared.store.Store.{Ghosts}
 
 -- a moment outside of a command: what moves the bytes of its clients, what is still to be read, and what was written,
@@ -87,29 +83,21 @@ module _ {S : Type 0} {g : Ghosts S} where
     pub asked : AnswersExchanges ReplicaAnswers exchanges old.asked new.asked
     pub valid : AllByRecursion IsValidTurn (turns_asked exchanges)
 
-module _ {S : Type 0} {g : Ghosts S} {L : Type 0} (line : LineGhosts L) (gives : SocketAddr → L → Type 0) where
-  -- a session of a stored site with what an address leads to, to which the token was shown: what is printed, and how
-  -- the command ends, is what came of it; and where the lines are true, the two sites meet
-  pub record HasSynced (token : Option (List ℕ)) (address : SocketAddr) (out out' : Option (List ℕ))
-      (old new : Replica S g) (result : Result (Unit {0}) Stop) : Type 0 where
-    pub ran : Result Report Stop
-    pub meets : AreTrue line (GivesIn line (gives address) token) → IsTrueSite (site_of old)
-        → MeetsAt line (GivesIn line (gives address) token) address old new ran
-    pub told : TellsRan (site_of new).states out out' ran result
-
 module _ {S : Type 0} {g : Ghosts S} {K L : Type 0} (k : SocketGhosts K) (line : LineGhosts L)
     (gives : SocketAddr → L → Type 0) where
-  -- WHAT A TASK DOES to a stored site, and nothing else. A server takes the turns of its rounds, and a shell those of
-  -- its lines; a session pushes states, and does not tell its turns
-  abbrev pub DoesTask : Task → Option (List ℕ) → Outside K → Replica S g → Outside K → Replica S g
-      → Option (List Turn) → Result (Unit {0}) Stop → Type 0
+  -- WHAT A TASK DOES to a stored site, and nothing else: it takes these turns. They are those of a server's rounds, of
+  -- the lines that a shell reads, or of a session with what an address leads to, to which the token was shown; what is
+  -- printed, and how the command ends, is what came of it
+  abbrev pub DoesTask : Task → Option (List ℕ) → Outside K → Replica S g → Outside K → Replica S g → List Turn
+      → Result (Unit {0}) Stop → Type 0
   DoesTask Serving token was old now new turns result =
-      (it : IsServed k token was.sockets old now.sockets new) × (turns ≡ Some (turns_of (turns_in it.all)))
+      (it : IsServed k token was.sockets old now.sockets new) × (turns ≡ turns_of (turns_in it.all))
   DoesTask Typing token was old now new turns result =
       (it : IsTyped (at old was.input was.out) (at new now.input now.out) result)
-      × (turns ≡ Some (turns_asked it.exchanges))
+      × (turns ≡ turns_asked it.exchanges)
   DoesTask (Syncing address) token was old now new turns result =
-      HasSynced line gives token address was.out now.out old new result × FollowsPushed old new × (turns ≡ None)
+      (it : TellsSession line (GivesIn line (gives address) token) address old new was.out now.out result)
+      × (turns ≡ it.takes.turns)
 
 -- ---- without a file
 

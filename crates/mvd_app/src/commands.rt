@@ -1,5 +1,5 @@
 //! What a command line asks for, done: with standard input and output, files and sockets.
-ghost use Rattle.std.specs.Prelude.{◌≡◌, ◌⊎◌, IfErr, IfOk, IfSome, IsOkAnd, List, None, Option, Some, is_some, option_copied, ℕ};
+ghost use Rattle.std.specs.Prelude.{◌≡◌, ◌⊎◌, IfErr, IfOk, IfSome, IsOkAnd, List, None, Some, is_some, option_copied, ℕ};
 ghost use Rattle.mvd_app.specs.Done.{DoesFile, DoesOrder};
 ghost use Rattle.mvd_app.specs.Named.{IsDefsFault, StopsAtDefs, StopsAtToken};
 ghost use Rattle.mvd_app.specs.Stored.{GivesBack, IsConfigFor, IsWithoutFile, file_in, filed};
@@ -278,7 +278,7 @@ fn work_on<'a, S: Alter + Drop, D: Dial, K: Sockets, R: BufRead, W: Write>(
 ) -> Result<(), Stop<'a>>
     requires { MayWork work }
     // However it ends, this alone was done to the site.
-    ensures { (turns : Option (List Turn)) × DoesTask K.Sockets D.Dialed.Line (D.gives dial.now) (task_of work.entry)
+    ensures { (turns : List Turn) × DoesTask K.Sockets D.Dialed.Line (D.gives dial.now) (task_of work.entry)
         (option_copied token.entry) (outside sockets.old (R.remaining reader.old) (W.contents writer.old)) replica.old
         (outside sockets.new (R.remaining reader.new) (W.contents writer.new)) replica.new turns result }
 {

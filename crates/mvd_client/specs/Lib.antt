@@ -4,6 +4,7 @@ pub mod Reported
 pub mod Sent
 pub mod Stopped
 pub mod LetIn
+pub mod SyncSides
 pub mod Synced
 pub mod SyncsAt
 pub mod Talked

@@ -1,5 +1,5 @@
 -- What is printed of a session with a server, and of all that a site holds.
-use Rattle.std.specs.Prelude.{ℕ, Bool, ◌||◌, ◌≡◌, ◌⊎◌, List, [], ◌∷◌, ◌++◌, codes, nat_lt, if◌then◌else◌, Option, None, Some, Result, Ok, Err}
+use Rattle.std.specs.Prelude.{ℕ, Bool, true, ◌||◌, ◌≡◌, ◌⊎◌, List, [], ◌∷◌, ◌++◌, codes, nat_lt, if◌then◌else◌, Option, None, Some, Result, Ok, Err}
 use Rattle.std.specs.Fmt.{decimal}
 use Rattle.std.specs.declared.net.socket_addr.SocketAddr.{SocketAddr}
 use Rattle.std.specs.Net.Text.{socket_text}
@@ -9,6 +9,9 @@ use Rattle.mvd_client.specs.declared.meeting.Root.{Root}
 use Rattle.mvd_print.specs.Text.{keys_text, root_text}
 use Rattle.mvd_site.specs.Answer.{digests, node_digests}
 use Rattle.mvd_site.specs.Held.{States}
+use Rattle.mvd_site.specs.Sites.{SiteValue}
+use Rattle.mvd_wire.specs.Frames.{AppendsFront}
+use Rattle.mvd_dots.specs.declared.refusals.Refusal.TheVariants.{Broken, Memory, WriteFailed}
 use Rattle.mvd_input.specs.declared.fault.Fault.{Fault}
 use Rattle.mvd_input.specs.declared.fault.Fault.TheVariants.{Stopped}
 use Rattle.mvd_sync.specs.declared.report.Left.{Left}
@@ -53,12 +56,21 @@ abbrev pub met_text : SocketAddr → ℕ → Bool → List ℕ
 met_text address keys always =
     if (nat_lt 0 keys || always) then socket_text address ++ (codes " keys " ++ (decimal keys ++ codes "\n")) else []
 
+-- why not all was printed: memory was refused, or the site that tells its root is broken, and nothing was; or the writer
+-- failed behind a front of it
+abbrev pub CutReport : List ℕ → Bool → Option (List ℕ) → Option (List ℕ) → Fault → Type 0
+CutReport text broken out out' fault =
+    (((fault ≡ Stopped Memory) ⊎ ((fault ≡ Stopped Broken) × (broken ≡ true))) × (out' ≡ out))
+    ⊎ ((fault ≡ Stopped WriteFailed) × AppendsFront out out' text)
+
 -- This is all printed of a session that left no key, and of one that left some: then the command is stopped with the
--- refusal of the first of them. It may also be stopped, without a hint, since not all could be printed
-abbrev pub ReportsAs : List ℕ → Report → Option (List ℕ) → Option (List ℕ) → Result (Unit {0}) Stop → Type 0
-ReportsAs text report out out' (Ok done) = (report.first_refused ≡ []) × Appends out out' text
-ReportsAs text report out out' (Err stop) = (stop.hint ≡ None)
+-- refusal of the first of them. Or it is stopped, without a hint, since not all could be printed
+abbrev pub ReportsAs : List ℕ → Bool → Report → Option (List ℕ) → Option (List ℕ) → Result (Unit {0}) Stop → Type 0
+ReportsAs text broken report out out' (Ok done) = (report.first_refused ≡ []) × Appends out out' text
+ReportsAs text broken report out out' (Err stop) =
+    ((stop.hint ≡ None) × CutReport text broken out out' stop.fault)
     ⊎ ((stop.hint ≡ Some Hint.Left) × IsOfFirst report.first_refused stop.fault × Appends out out' text)
 
-abbrev pub Reports : Report → States → Option (List ℕ) → Option (List ℕ) → Result (Unit {0}) Stop → Type 0
-Reports report states out out' result = ReportsAs (session_text report states) report out out' result
+abbrev pub Reports : Report → SiteValue → Option (List ℕ) → Option (List ℕ) → Result (Unit {0}) Stop → Type 0
+Reports report site out out' result =
+    ReportsAs (session_text report site.states) site.broken report out out' result

@@ -3,6 +3,7 @@ use Rattle.std.specs.Prelude.{Some, Result}
 use Rattle.mvd_replica.specs.Replicas.{site_of, stored_of}
 use Rattle.mvd_replica.specs.Sides.{IsTrueSite, SideFollows}
 use Rattle.mvd_replica.specs.declared.replica.Replica.{Replica}
+use Rattle.mvd_runs.specs.Sessions.{SideTakes}
 use Rattle.mvd_remote.specs.Lines.{Far, IsTrueRemote, far_of}
 use Rattle.mvd_sync.specs.Session.{Meets}
 use Rattle.mvd_remote.specs.declared.remote.Remote.{Remote}
@@ -14,6 +15,10 @@ module _ {S : Type 0} {g : Ghosts S} where
   -- whatever a session does, its site changes by pushes alone, and its records follow
   abbrev pub FollowsPushed : Replica S g → Replica S g → Type 0
   FollowsPushed old new = SideFollows (stored_of old) (stored_of new)
+
+  -- it takes turns, each of which pushes the state of some writes and has its reply
+  abbrev pub TakesPushes : Replica S g → Replica S g → Type 0
+  TakesPushes old new = SideTakes (stored_of old) (stored_of new)
 
 module _ {S : Type 0} {g : Ghosts S} {L : Type 0} (is_true : L → Type 0) (far : L → Far) where
   -- between a true site and what is at the other end of a true line states are joined; with no fault

@@ -4,17 +4,18 @@ use Rattle.std.specs.declared.net.socket_addr.SocketAddr.{SocketAddr}
 use Rattle.mvd_dots.specs.declared.refusals.Refusal.{Refusal}
 use Rattle.mvd_client.specs.Reported.{Reports}
 use Rattle.mvd_client.specs.Stopped.{IsUndialed, TellsAs}
-use Rattle.mvd_client.specs.Synced.{MeetsFar}
+use Rattle.mvd_client.specs.SyncSides.{sides_at}
+use Rattle.mvd_client.specs.Synced.{FollowsPushed, MeetsFar, TakesPushes}
 use Rattle.mvd_remote.specs.Remotes.{AsksOver, bye_query}
 use Rattle.mvd_hint.specs.declared.hint.Stop.{Stop}
-use Rattle.mvd_peer.specs.Sides.{Sides, two}
+use Rattle.mvd_peer.specs.Sides.{two}
 use Rattle.mvd_remote.specs.Lines.{line_of, refused_of}
 use Rattle.mvd_remote.specs.declared.line.Line.{Ghosts as LineGhosts}
 use Rattle.mvd_remote.specs.declared.remote.Remote.{Remote}
 use Rattle.mvd_replica.specs.Replicas.{site_of}
 use Rattle.mvd_replica.specs.Sides.{IsTrueSite}
 use Rattle.mvd_replica.specs.declared.replica.Replica.{Replica}
-use Rattle.mvd_site.specs.Held.{States}
+use Rattle.mvd_site.specs.Sites.{SiteValue}
 use Rattle.mvd_sync.specs.Session.{Session}
 use Rattle.mvd_sync.specs.declared.report.Report.{Report}
 use Rattle.mvd_sync.specs.declared.report.SyncFault.{SyncFault}
@@ -27,36 +28,35 @@ report_told report (Ok done) = Ok report
 report_told report (Err refusal) = Err (Peer refusal)
 
 -- what is printed of a session: its report, or nothing, and then the command is stopped as it was
-abbrev pub TellsRan : States → Option (List ℕ) → Option (List ℕ) → Result Report Stop → Result (Unit {0}) Stop → Type 0
-TellsRan states out out' (Ok report) result = Reports report states out out' result
-TellsRan states out out' (Err stop) result = (result ≡ Err stop) × (out' ≡ out)
+abbrev pub TellsRan : SiteValue → Option (List ℕ) → Option (List ℕ) → Result Report Stop → Result (Unit {0}) Stop
+    → Type 0
+TellsRan site out out' (Ok report) result = Reports report site out out' result
+TellsRan site out out' (Err stop) result = (result ≡ Err stop) × (out' ≡ out)
 
--- a site `S`, and a far side `W` that is asked over a line `L`
-module _ {S : Type 0} {g : Ghosts S} {L W : Type 0} (line : LineGhosts L) (sides : Sides (Replica S g) W)
-    (over : W → Remote L) where
+-- a site `S`, and a line `L` over which the far side is asked
+module _ {S : Type 0} {g : Ghosts S} {L : Type 0} (line : LineGhosts L) where
   -- behind a session that ended well comes a Bye, and nothing else; behind another, nothing
-  abbrev pub EndsBy : Result Report SyncFault → W → W → Result Report SyncFault → Type 0
-  EndsBy (Ok report) mid after told = (bye : Result (Unit {0}) Refusal)
-      × AsksOver line bye_query (over mid) (over after) bye × (told ≡ report_told report bye)
+  abbrev pub EndsBy : Result Report SyncFault → Remote L → Remote L → Result Report SyncFault → Type 0
+  EndsBy (Ok report) mid after told =
+      (bye : Result (Unit {0}) Refusal) × AsksOver line bye_query mid after bye × (told ≡ report_told report bye)
   EndsBy (Err fault) mid after told = (after ≡ mid) × (told ≡ Err fault)
 
   -- ONE SESSION over a line, and a Bye
-  pub record SyncsOver (old new : Replica S g) (before after : W) (told : Result Report SyncFault) : Type 0 where
-    pub mid : W
+  pub record SyncsOver (old new : Replica S g) (before after : Remote L) (told : Result Report SyncFault) : Type 0 where
+    pub mid : Remote L
     pub ran : Result Report SyncFault
-    pub session : Session sides 10000000 (two old before) (two new mid) ran
+    pub session : Session (sides_at line) 10000000 (two old before) (two new mid) ran
     pub ends : EndsBy ran mid after told
     -- where the line is true, no reply is due, and so is the site, the two meet
-    pub meets : IsTrueSite (site_of old) → line.is_true (line_of (over before))
-        → (line.far (line_of (over before))).due ≡ [] → refused_of (over before) ≡ None
-        → MeetsFar line.is_true line.far old new (over before) (over after) told
+    pub meets : IsTrueSite (site_of old) → line.is_true (line_of before) → (line.far (line_of before)).due ≡ []
+        → refused_of before ≡ None → MeetsFar line.is_true line.far old new before after told
 
   -- over this line, which nothing was asked before
   pub record SyncsFrom (fresh : L) (old new : Replica S g) (told : Result Report SyncFault) : Type 0 where
-    pub before : W
-    pub after : W
-    pub at_line : line_of (over before) ≡ fresh
-    pub goes_on : refused_of (over before) ≡ None
+    pub before : Remote L
+    pub after : Remote L
+    pub at_line : line_of before ≡ fresh
+    pub goes_on : refused_of before ≡ None
     pub over_line : SyncsOver old new before after told
 
   -- WHAT AN ADDRESS LEADS TO is one of these lines. It leads to none, and nothing changes; or there is one line, over
@@ -82,12 +82,13 @@ module _ {S : Type 0} {g : Ghosts S} {L : Type 0} (line : LineGhosts L) (gives :
         → MeetsFar line.is_true line.far old new before after told → TellsAs address told result
         → MeetsAt old new result
 
-module _ {S : Type 0} {g : Ghosts S} {L W : Type 0} (line : LineGhosts L) (sides : Sides (Replica S g) W)
-    (over : W → Remote L) (gives : L → Type 0) (address : SocketAddr) where
-  -- FROM THE ADDRESS TO WHAT IS PRINTED: what is told is of the session that ran
+  -- FROM THE ADDRESS TO WHAT IS PRINTED: what is told is of the session that ran, and all that was done to the site is
+  -- turns, each of which pushed a state
   pub record TellsSession (old new : Replica S g) (out out' : Option (List ℕ)) (result : Result (Unit {0}) Stop)
       : Type 0 where
     pub ran : Result Report Stop
-    pub syncs : SyncsAt line sides over gives address old new ran
-    pub meets : AreTrue line gives → IsTrueSite (site_of old) → MeetsAt line gives address old new ran
-    pub told : TellsRan (site_of new).states out out' ran result
+    pub syncs : SyncsAt line gives address old new ran
+    pub meets : AreTrue line gives → IsTrueSite (site_of old) → MeetsAt old new ran
+    pub takes : TakesPushes old new
+    pub pushed : FollowsPushed old new
+    pub told : TellsRan (site_of new) out out' ran result

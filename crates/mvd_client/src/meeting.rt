@@ -1,9 +1,9 @@
 //! A session between two servers, each at the other end of a line, and what is printed of it.
-ghost use Rattle.std.specs.Prelude.{◌≡◌, ◌≢◌, ◌≤◌, ◌+◌, ◌++◌, [], IfOk, IsErr, OnOk, string_bytes};
+ghost use Rattle.std.specs.Prelude.{◌≡◌, ◌≢◌, ◌≤◌, ◌+◌, ◌++◌, [], IfErr, IfOk, IsErr, OnOk, false, string_bytes};
 ghost use Rattle.std.specs.Io.KnownBytes.{Appends};
 ghost use Rattle.mvd_client.specs.Met.{MeetsFars};
 ghost use Rattle.mvd_client.specs.Questioned.{AsksFew, questions};
-ghost use Rattle.mvd_client.specs.Reported.{ReportsAs, meeting_text, root_at_text, root_of};
+ghost use Rattle.mvd_client.specs.Reported.{CutReport, ReportsAs, meeting_text, root_at_text, root_of};
 ghost use Rattle.mvd_remote.specs.Lines.{IsTrueRemote, far_of};
 
 use crate::peer_commands::{left_with, print_refused};
@@ -68,7 +68,7 @@ pub fn tell_meeting<'a, W: Write, E: Write>(
     writer: &mut W,
     errors: &mut E,
 ) -> Result<(), Stop<'a>>
-    ensures told { ReportsAs (meeting_text report.now near far) report.now (W.contents writer.old)
+    ensures told { ReportsAs (meeting_text report.now near far) false report.now (W.contents writer.old)
         (W.contents writer.new) result }
     ensures left { report.now.first_refused ≢ [] → IsErr result }
 {
@@ -91,6 +91,8 @@ fn tell_met<W: Write>(
 ) -> Result<(), Fault>
     ensures told { OnOk result (Appends (W.contents writer.old) (W.contents writer.new)
         (meeting_text report.now near far)) }
+    ensures cut { IfErr result (CutReport (meeting_text report.now near far) false (W.contents writer.old)
+        (W.contents writer.new)) }
 {
     let mut lines = String::new(alloc);
     print_keys(report.keys, &mut lines)?;

@@ -4,12 +4,11 @@ ghost use Rattle.std.specs.Io.KnownBytes.{Appends};
 ghost use Rattle.mvd_client.specs.AskedServer.{RepliesNoted, lost_of};
 ghost use Rattle.mvd_client.specs.LetIn.{GivesIn};
 ghost use Rattle.mvd_client.specs.Questioned.{AsksFew, questions};
-ghost use Rattle.mvd_client.specs.Reported.{Reports, StopsLeft, refused_keys_text, root_of, session_text};
+ghost use Rattle.mvd_client.specs.Reported.{CutReport, Reports, StopsLeft, refused_keys_text, root_of, session_text};
 ghost use Rattle.mvd_client.specs.Stopped.{StopsFaulted};
-ghost use Rattle.mvd_client.specs.Synced.{FollowsPushed, MeetsFar};
+ghost use Rattle.mvd_client.specs.Synced.{FollowsPushed, MeetsFar, TakesPushes};
 ghost use Rattle.mvd_client.specs.SyncsAt.{AreTrue, MeetsAt, SyncsAt, SyncsFrom, SyncsOver, TellsSession};
 ghost use Rattle.mvd_client.specs.Talked.{SaysBye, ShellsAt, ShellsOver};
-ghost use Rattle.mvd_peer.specs.PeerSides.{sides_of};
 ghost use Rattle.mvd_print.specs.Text.{root_text};
 ghost use Rattle.mvd_replica.specs.Replicas.{site_of};
 ghost use Rattle.mvd_replica.specs.Sides.{IsTrueSite};
@@ -51,14 +50,15 @@ pub fn sync_run<'a, D: Dial, S: Alter + Drop, E: Write>(
 ) -> Result<Report, Stop<'a>>
     // A session ran over a line that the address gives, and what is told is what came of it; or there is no line.
     ensures syncs { SyncsAt D.Dialed.Line
-        (sides_of ⟦<Replica<S> as Peer>⟧ ⟦<Watched<'static, Remote<D::Dialed>, E> as Peer>⟧) (λ watched. watched.side)
         (GivesIn D.Dialed.Line (D.gives dial.now address) (option_copied token.entry)) address
         replica.old replica.new result }
     // Where what the address leads to is true, and so is the site, the two meet.
     ensures meets { AreTrue D.Dialed.Line (D.gives dial.now address) → IsTrueSite (site_of replica.old) →
         MeetsAt D.Dialed.Line (GivesIn D.Dialed.Line (D.gives dial.now address) (option_copied token.entry)) address
         replica.old replica.new result }
-    // However it ends, the site changed by pushes alone, and its records follow.
+    // However it ends, all that was done to the site is turns, each of which pushed a state.
+    ensures takes { TakesPushes replica.old replica.new }
+    // It changed by these pushes alone, and its records follow.
     ensures pushed { FollowsPushed replica.old replica.new }
 {
     let line = match let_in(dial, alloc, address, idle, token) {
@@ -94,12 +94,10 @@ pub fn sync_told<'a, D: Dial, S: Alter + Drop, W: Write, E: Write>(
     writer: &mut W,
     errors: &mut E,
 ) -> Result<(), Stop<'a>>
-    // What is printed is what came of the session.
+    // What is printed is what came of the session, and what was done to the site is its turns.
     ensures tells { TellsSession D.Dialed.Line
-        (sides_of ⟦<Replica<S> as Peer>⟧ ⟦<Watched<'static, Remote<D::Dialed>, E> as Peer>⟧) (λ watched. watched.side)
         (GivesIn D.Dialed.Line (D.gives dial.now address) (option_copied token.entry)) address
         replica.old replica.new (W.contents writer.old) (W.contents writer.new) result }
-    ensures pushed { FollowsPushed replica.old replica.new }
 {
     let told = if verbose { Some(&mut *errors) } else { None };
     match sync_run(dial, alloc, replica, address, idle, token, told) {
@@ -115,9 +113,8 @@ fn sync_line<L: Line, S: Alter + Drop, E: Write>(
     replica: &mut Replica<S>,
     told: Option<&mut E>,
 ) -> Result<Report, SyncFault>
-    ensures syncs { SyncsFrom L.Line
-        (sides_of ⟦<Replica<S> as Peer>⟧ ⟦<Watched<'static, Remote<L>, E> as Peer>⟧) (λ watched. watched.side)
-        line replica.old replica.new result }
+    ensures syncs { SyncsFrom L.Line line replica.old replica.new result }
+    ensures takes { TakesPushes replica.old replica.new }
     ensures pushed { FollowsPushed replica.old replica.new }
 {
     let mut watched = Watched {
@@ -143,13 +140,12 @@ pub fn sync_over<L: Line, S: Alter + Drop, E: Write>(
         AsksFew (questions watched.old.asked.items) (questions watched.new.asked.items)
         (site_of replica.old).states (far_of L.far watched.old.side).states }
     // Whatever is at the other end.
-    ensures syncs { SyncsOver L.Line
-        (sides_of ⟦<Replica<S> as Peer>⟧ ⟦<Watched<'static, Remote<L>, E> as Peer>⟧) (λ watched. watched.side)
-        replica.old replica.new watched.old watched.new result }
+    ensures syncs { SyncsOver L.Line replica.old replica.new watched.old.side watched.new.side result }
+    ensures takes { TakesPushes replica.old replica.new }
     ensures pushed { FollowsPushed replica.old replica.new }
     ensures most { questions watched.new.asked.items ≤ questions watched.old.asked.items + 10000000 }
 {
-    let report = match sync(alloc, replica, watched) {
+    let report = match session_of(alloc, replica, watched) {
         Ok(report) => report,
         Err(fault) => return Err(fault),
     };
@@ -169,8 +165,7 @@ pub fn tell_report<'a, S: Alter + Drop, W: Write, E: Write>(
     writer: &mut W,
     errors: &mut E,
 ) -> Result<(), Stop<'a>>
-    ensures told { Reports report.now (site_of replica.now).states (W.contents writer.old)
-        (W.contents writer.new) result }
+    ensures told { Reports report.now (site_of replica.now) (W.contents writer.old) (W.contents writer.new) result }
     ensures left { report.now.first_refused ≢ [] → IsErr result }
 {
     tell_counts(alloc, replica, report, writer)?;
@@ -201,6 +196,8 @@ fn tell_counts<S: Alter + Drop, W: Write>(
 ) -> Result<(), Fault>
     ensures told { OnOk result (Appends (W.contents writer.old) (W.contents writer.new)
         (session_text report.now (site_of replica.now).states)) }
+    ensures cut { IfErr result (CutReport (session_text report.now (site_of replica.now).states)
+        (site_of replica.now).broken (W.contents writer.old) (W.contents writer.new)) }
 {
     let mut lines = String::new(alloc);
     print_keys(report.keys, &mut lines)?;

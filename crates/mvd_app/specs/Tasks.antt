@@ -1,5 +1,5 @@
 -- What is done with a stored site, and with what is outside of a command.
-use Rattle.std.specs.Prelude.{◌≡◌, ◌⊎◌, ⊤, ℕ, List, [], map, Option, Some, None, is_some, Result, Ok, Err}
+use Rattle.std.specs.Prelude.{◌≡◌, ◌⊎◌, ⊤, ℕ, List, [], map, IfErr, IsSome, OnOk, Option, Some, None, is_some, Result, Ok, Err}
 use Rattle.std.specs.Borrow.{Bor}
 use Rattle.std.specs.List.{AllByRecursion}
 use Rattle.std.specs.Option.{ForSome}
@@ -18,10 +18,12 @@ use Rattle.mvd_input.specs.Orders.{ArePeers}
 use Rattle.mvd_input.specs.declared.fault.Fault.{Fault}
 use Rattle.mvd_remote.specs.declared.line.Line.{Ghosts as LineGhosts}
 use Rattle.mvd_replica.specs.ReplicaCalls.{ReplicaAnswers}
+use Rattle.mvd_replica.specs.Replicas.{site_of}
 use Rattle.mvd_replica.specs.Turns.{Turn}
 use Rattle.mvd_replica.specs.declared.replica.Replica.{Replica}
 use Rattle.mvd_runs.specs.Files.{IsValidTurn}
 use Rattle.mvd_script.specs.Script.{Simulates}
+use Rattle.mvd_server.specs.Closing.{EndsAtFault, EndsServed}
 use Rattle.mvd_server.specs.Rounds.{IsServed}
 use Rattle.mvd_server.specs.declared.sockets.Sockets.{Ghosts as SocketGhosts}
 use Rattle.mvd_shell.specs.Asked.{Exchange}
@@ -83,6 +85,16 @@ module _ {S : Type 0} {g : Ghosts S} where
     pub asked : AnswersExchanges ReplicaAnswers exchanges old.asked new.asked
     pub valid : AllByRecursion IsValidTurn (turns_asked exchanges)
 
+module _ {S : Type 0} {g : Ghosts S} {K : Type 0} (k : SocketGhosts K) where
+  -- A server ran, and this is how it ended: well, and then nobody is left; or with its fault, and where it could not
+  -- listen it did nothing
+  pub record ServesTo (token : Option (List ℕ)) (sockets : K) (old : Replica S g) (sockets' : K) (new : Replica S g)
+      (result : Result (Unit {0}) Stop) : Type 0 where
+    pub served : IsServed k token sockets old sockets' new
+    pub left : OnOk result (EndsServed k token sockets old sockets' new)
+    pub cause : IfErr result (λ stop. EndsAtFault (site_of new) stop.fault)
+    pub unheard : IfErr result (λ stop. IsSome stop.hint → (sockets' ≡ sockets) × (new ≡ old))
+
 module _ {S : Type 0} {g : Ghosts S} {K L : Type 0} (k : SocketGhosts K) (line : LineGhosts L)
     (gives : SocketAddr → L → Type 0) where
   -- WHAT A TASK DOES to a stored site, and nothing else: it takes these turns. They are those of a server's rounds, of
@@ -91,7 +103,7 @@ module _ {S : Type 0} {g : Ghosts S} {K L : Type 0} (k : SocketGhosts K) (line :
   abbrev pub DoesTask : Task → Option (List ℕ) → Outside K → Replica S g → Outside K → Replica S g → List Turn
       → Result (Unit {0}) Stop → Type 0
   DoesTask Serving token was old now new turns result =
-      (it : IsServed k token was.sockets old now.sockets new) × (turns ≡ turns_of (turns_in it.all))
+      (it : ServesTo k token was.sockets old now.sockets new result) × (turns ≡ turns_of (turns_in it.served.all))
   DoesTask Typing token was old now new turns result =
       (it : IsTyped (at old was.input was.out) (at new now.input now.out) result)
       × (turns ≡ turns_asked it.exchanges)

@@ -1,4 +1,5 @@
 pub mod Done
+pub mod Looped
 pub mod Named
 pub mod Noted
 pub mod Refused

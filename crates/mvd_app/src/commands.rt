@@ -1,6 +1,7 @@
 //! What a command line asks for, done: with standard input and output, files and sockets.
 ghost use Rattle.std.specs.Prelude.{◌≡◌, ◌⊎◌, IfErr, IfOk, IfSome, IsOkAnd, List, None, Some, is_some, option_copied, ℕ};
 ghost use Rattle.mvd_app.specs.Done.{DoesFile, DoesOrder};
+ghost use Rattle.mvd_app.specs.Looped.{IsLooped};
 ghost use Rattle.mvd_app.specs.Named.{IsDefsFault, StopsAtDefs, StopsAtToken};
 ghost use Rattle.mvd_app.specs.Stored.{GivesBack, IsConfigFor, IsWithoutFile, file_in, filed};
 ghost use Rattle.mvd_app.specs.Tasks.{DoesTask, IsSimulated, IsTypedAt, MayWork, outside, task_of};
@@ -175,6 +176,8 @@ fn run_loop<'a, R: BufRead, W: Write>(
     writer: &mut W,
 ) -> Result<(), Stop<'a>>
     requires { IsSetUp setup }
+    ensures { IsLooped setup.entry.defs (R.remaining reader.old) (R.remaining reader.new) (W.contents writer.old)
+        (W.contents writer.new) result }
 {
     let config = config_in(rt, setup)?;
     match loop_run(rt, rt.alloc(), reader, writer, config) {

@@ -187,9 +187,12 @@ module _ {A : Type 0} (Answers : A → A → Request → Reply → Type 0) where
   unfolding AnswersExchanges
   answers_noted [] old new log same = rw append-nil log (ap (λ (a : A). noted a log) same)
   answers_noted (exchange ∷ exchanges) old new log (between, one, others) =
-      let log' = log ++ exchange ∷ [] in
-      (noted between log', record { answers = one; notes = refl }, subst (λ (l : List Exchange). AnswersExchanges (Noting Answers) exchanges (noted between log') (noted new l))
-      (append_assoc log (exchange ∷ []) exchanges) (answers_noted exchanges between new log' others))
+      let log' = log ++ exchange ∷ [] in (
+        noted between log',
+        record { answers = one; notes = refl },
+        subst (λ (l : List Exchange). AnswersExchanges (Noting Answers) exchanges (noted between log') (noted new l))
+            (append_assoc log (exchange ∷ []) exchanges) (answers_noted exchanges between new log' others),
+      )
 
   -- all that was asked, and that what is true of it is true with that noted behind whatever was noted before
   pub record Asks (P : Noted A → Noted A → Type 0) (old new : A) : Type 0 where

@@ -58,8 +58,9 @@ pub fn run<'a, S: Start, D: Dial, K: Sockets, R: BufRead, W: Write>(
     requires { IsInRange order }
     // If files come back clean, no write is lost that they held, of either version; and new files hold the site.
     ensures kept { IfSome result.files (GivesBack ⟦<FileFrom<S> as Disk>⟧ (image_at S.Start) (file_in order.entry)) }
-    // The site of the file was opened, did what the order names, and nothing else, and was closed; and the file holds
-    // what the site then knows. What was read and printed is of that.
+    // The site of the file was not opened, and the command is stopped with what a file told. Or its task was done, and
+    // nothing else, and it was closed, if it is whole and can be; then a run of the store by the task's turns stands in
+    // the file. What a script, a shell, a session or `loop` read and printed is of what it did.
     ensures done { DoesOrder ⟦<FileStore<FileFrom<S>> as Store>⟧ K.Sockets D.Dialed.Line (D.gives dial.now)
         (image_at S.Start) order.entry (outside sockets.old (R.remaining reader.old) (W.contents writer.old))
         (outside sockets.new (R.remaining reader.new) (W.contents writer.new)) result }

@@ -52,12 +52,7 @@ fn requests_in<R: Read>(alloc: Global, reader: &mut R) -> Result<Vec<u8>, Fault>
 }
 
 /// Writes the replies as lines, and how the connection ended.
-fn tell<W: Write>(
-    alloc: Global,
-    replies: &[u8],
-    ended: Ending,
-    writer: &mut W,
-) -> Result<(), Fault>
+fn tell<W: Write>(alloc: Global, replies: &[u8], ended: Ending, writer: &mut W) -> Result<(), Fault>
     ensures printed { OnOk result (PrintsReplies replies.now ended (W.contents writer.old) (W.contents writer.new)) }
     ensures stopped { IfErr result (StopsUntold (W.contents writer.old) (W.contents writer.new)) }
 {

@@ -4,3 +4,4 @@ pub mod Fresh
 pub mod Leading
 pub mod Noting
 pub mod Opened
+pub mod Seen

@@ -5,8 +5,8 @@ use Rattle.mvd_dots.specs.declared.refusals.Refusal.{Refusal}
 use Rattle.mvd_wire.specs.declared.request.Request.TheVariants.{Bye}
 use Rattle.mvd_wire.specs.declared.reply.Reply.{Reply}
 use Rattle.mvd_wire.specs.declared.reply.Reply.TheVariants.{Done, Refused}
-use Rattle.mvd_client.specs.Synced.{FollowsPushed}
-use Rattle.mvd_replica.specs.Replicas.{stored_of}
+use Rattle.mvd_client.specs.Synced.{FollowsPushed, TakesPushes}
+use Rattle.mvd_replica.specs.Replicas.{site_of, store_of, stored_of}
 use Rattle.mvd_replica.specs.Sides.{side_follows_self}
 use Rattle.mvd_replica.specs.declared.replica.Replica.{Replica}
 use Rattle.mvd_site.specs.Config.{ConfigValue}
@@ -15,12 +15,16 @@ use Rattle.mvd_remote.specs.Lines.{AnswersTruly, RepliesFromStates}
 use Rattle.mvd_sync.specs.Session.{After, Before, HasJoined, Meets}
 use Rattle.mvd_sync.specs.declared.report.Report.{Report}
 use Rattle.mvd_sync.specs.declared.report.SyncFault.{SyncFault}
+use Rattle.mvd_runs.proofs.Pushing.{side_none}
 use Rattle.mvd_sync.proofs.Positions.{MeetsBy, ReportsDoneBy}
 use Rattle.sqlite_trees.specs.declared.store.Store.{Ghosts}
 
 -- a site that nothing came to follows itself
 pub pushed_none : {S : Type 0} {g : Ghosts S} (replica : Replica S g) → FollowsPushed replica replica
 pushed_none replica = side_follows_self (stored_of replica)
+
+pub takes_none : {S : Type 0} {g : Ghosts S} (replica : Replica S g) → TakesPushes replica replica
+takes_none replica = side_none (site_of replica) (store_of replica)
 
 -- a Bye changes nothing at the other end
 bye_replied : (config : ConfigValue) (old new : States) (reply : Reply) → RepliesFromStates config old Bye reply new → new ≡ old

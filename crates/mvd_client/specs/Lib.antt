@@ -1,4 +1,6 @@
+pub mod Between
 pub mod Met
+pub mod Pushing
 pub mod Questioned
 pub mod Reported
 pub mod Sent

@@ -37,6 +37,7 @@ impl<L: Line> AskedServer<L> {
         ensures line { line_of result.remote ≡ line }
         ensures goes_on { refused_of result.remote ≡ None }
         ensures up { result.is_down ≡ false }
+        ensures none_lost { result.lost ≡ 0 }
     {
         AskedServer {
             remote: Remote::over(alloc, line),

@@ -1,23 +1,24 @@
 //! The servers that meet, the connections with them, and one session of two of them.
-ghost use Rattle.mvd_client.specs.Met.{IsFailureOf};
+ghost use Rattle.std.specs.Prelude.{◌≡◌, IfErr, IfOk, None, option_copied};
+ghost use Rattle.mvd_client.specs.Between.{EndsBetween, KeepsTrue, LeadsTruly, TellsRoot, true_within};
+ghost use Rattle.mvd_client.specs.Met.{IsFailureOf, IsStoppedAt};
+ghost use Rattle.mvd_client.specs.Stopped.{IsUndialed};
 
-use crate::both_ways::BothWays;
-use crate::dial::{Sockets, let_in, undialed};
-use crate::link::Link;
+use crate::counted::Counted;
+use crate::dial::{Dial, let_in, undialed};
 use crate::meeting::{Root, meet_over, root_over};
 use crate::progress::Watched;
-use crate::socket::Socket;
 use http_server::Log;
 use mvd_dots::Refusal;
 use mvd_hint::Stop;
 use mvd_input::{Fault, Repeat};
-use mvd_remote::Remote;
+use mvd_remote::{Line, Remote};
 use mvd_sync::{Report, Side, SyncFault};
 use mvd_wire::Token;
 use std::alloc::Global;
 use std::fmt::Write as Print;
-use std::io::{Read, Write};
-use std::net::{Net, SocketAddr};
+use std::io::Write;
+use std::net::SocketAddr;
 
 /// A connection over which as many frames came is made anew: a server takes 1,000,000.
 const MOST_FRAMES: u32 = 500_000;
@@ -38,9 +39,9 @@ pub struct MeetingTerms<'a> {
 /// A server, the connection with it where one is open, how many frames came over the last one that failed, and whether
 /// the last session failed by it.
 #[derive(Drop)]
-pub(crate) struct End<T: Read + Write + Drop> {
+pub(crate) struct End<L: Line> {
     pub(crate) address: SocketAddr,
-    link: Option<Link<BothWays<Socket<T>>>>,
+    link: Option<Counted<L>>,
     frames: u32,
     is_failing: bool,
 }
@@ -52,8 +53,11 @@ pub(crate) struct Failure<'a> {
     pub(crate) stop: Stop<'a>,
 }
 
-impl<T: Read + Write + Drop> End<T> {
-    pub(crate) fn new(address: SocketAddr) -> Self {
+impl<L: Line> End<L> {
+    pub(crate) fn new(address: SocketAddr) -> Self
+        ensures address { result.address ≡ address }
+        ensures none { result.link ≡ None }
+    {
         End {
             address,
             link: None,
@@ -71,7 +75,12 @@ impl<T: Read + Write + Drop> End<T> {
     }
 
     /// The digest of all that the server holds, over the connection that is open.
-    pub(crate) fn root<'a>(&mut self, alloc: Global) -> Result<Root, Stop<'a>> {
+    pub(crate) fn root<'a>(&mut self, alloc: Global) -> Result<Root, Stop<'a>>
+        ensures address { self.new.address ≡ self.old.address }
+        ensures told { IfOk result (λ root. (at : Counted L) → self.old.link ≡ Some at →
+            TellsRoot L.Line self.old.address at root) }
+        ensures stopped { IfErr result (IsStoppedAt self.old.address) }
+    {
         let address = self.address;
         let Some(link) = self.link.take() else {
             return Err(Stop::at_server(address, Refusal::Truncated));
@@ -106,19 +115,35 @@ impl<T: Read + Write + Drop> End<T> {
 
 /// A session. It goes on over new connections where a server takes no more frames of the old ones, or where one that
 /// was kept since the session before was cut meanwhile.
-pub(crate) fn meet<'a, N: Net, E: Write>(
-    rt: &N,
+pub(crate) fn meet<'a, D: Dial, E: Write>(
+    dial: &D,
     alloc: Global,
-    near: &mut End<N::Stream>,
-    far: &mut End<N::Stream>,
+    near: &mut End<D::Dialed>,
+    far: &mut End<D::Dialed>,
     terms: MeetingTerms<'_>,
     errors: &mut E,
-) -> Result<Report, Failure<'a>> {
+) -> Result<Report, Failure<'a>>
+    requires near { KeepsTrue D.Dialed.Line (LeadsTruly D.Dialed.Line (D.gives dial.now) (option_copied terms.token)
+        near.old.address) near.old.link }
+    requires far { KeepsTrue D.Dialed.Line (LeadsTruly D.Dialed.Line (D.gives dial.now) (option_copied terms.token)
+        far.old.address) far.old.link }
+    ensures near { near.new.address ≡ near.old.address }
+    ensures far { far.new.address ≡ far.old.address }
+    ensures near_kept { KeepsTrue D.Dialed.Line (LeadsTruly D.Dialed.Line (D.gives dial.now) (option_copied terms.token)
+        near.old.address) near.new.link }
+    ensures far_kept { KeepsTrue D.Dialed.Line (LeadsTruly D.Dialed.Line (D.gives dial.now) (option_copied terms.token)
+        far.old.address) far.new.link }
+    // What it tells is what came of the last session.
+    ensures met { EndsBetween D.Dialed.Line
+        (LeadsTruly D.Dialed.Line (D.gives dial.now) (option_copied terms.token) near.old.address)
+        (LeadsTruly D.Dialed.Line (D.gives dial.now) (option_copied terms.token) far.old.address)
+        near.old.address far.old.address near.new.link far.new.link result }
+{
     for _anew in 0..MOST_ANEW {
         let is_near_kept = near.link.is_some();
         let is_far_kept = far.link.is_some();
         let told = told(errors, terms.verbose);
-        match session(rt, alloc, near, far, terms, told) {
+        match session(dial, alloc, near, far, terms, told) {
             Err(failure) if is_spent(failure, near, far) => {}
             Err(failure) if is_near_kept && is_cut(failure, Side::Local) => {}
             Err(failure) if is_far_kept && is_cut(failure, Side::Peer) => {}
@@ -126,7 +151,7 @@ pub(crate) fn meet<'a, N: Net, E: Write>(
         }
     }
     let told = told(errors, terms.verbose);
-    session(rt, alloc, near, far, terms, told)
+    session(dial, alloc, near, far, terms, told)
 }
 
 /// Whether the connection with this side was cut.
@@ -146,7 +171,7 @@ fn told<E: Write>(errors: &mut E, is_verbose: bool) -> Option<&mut E> {
 /// Whether as many questions were asked as may be over one connection: the server says so, or cuts the connection where
 /// a window of questions is under way. A server that has no place says the same in its first frame: then there is
 /// nothing to go on with.
-fn is_spent<T: Read + Write + Drop>(failure: Failure<'_>, near: &End<T>, far: &End<T>) -> bool {
+fn is_spent<L: Line>(failure: Failure<'_>, near: &End<L>, far: &End<L>) -> bool {
     let frames = match failure.side {
         Side::Local => near.frames,
         Side::Peer => far.frames,
@@ -158,21 +183,36 @@ fn is_spent<T: Read + Write + Drop>(failure: Failure<'_>, near: &End<T>, far: &E
 }
 
 /// A session over the connections that are open, or over new ones. After a fault neither is kept.
-fn session<'a, N: Net, E: Write>(
-    rt: &N,
+fn session<'a, D: Dial, E: Write>(
+    dial: &D,
     alloc: Global,
-    near: &mut End<N::Stream>,
-    far: &mut End<N::Stream>,
+    near: &mut End<D::Dialed>,
+    far: &mut End<D::Dialed>,
     terms: MeetingTerms<'_>,
     told: Option<&mut E>,
-) -> Result<Report, Failure<'a>> {
+) -> Result<Report, Failure<'a>>
+    requires near { KeepsTrue D.Dialed.Line (LeadsTruly D.Dialed.Line (D.gives dial.now) (option_copied terms.token)
+        near.old.address) near.old.link }
+    requires far { KeepsTrue D.Dialed.Line (LeadsTruly D.Dialed.Line (D.gives dial.now) (option_copied terms.token)
+        far.old.address) far.old.link }
+    ensures near { near.new.address ≡ near.old.address }
+    ensures far { far.new.address ≡ far.old.address }
+    ensures near_kept { KeepsTrue D.Dialed.Line (LeadsTruly D.Dialed.Line (D.gives dial.now) (option_copied terms.token)
+        near.old.address) near.new.link }
+    ensures far_kept { KeepsTrue D.Dialed.Line (LeadsTruly D.Dialed.Line (D.gives dial.now) (option_copied terms.token)
+        far.old.address) far.new.link }
+    ensures met { EndsBetween D.Dialed.Line
+        (LeadsTruly D.Dialed.Line (D.gives dial.now) (option_copied terms.token) near.old.address)
+        (LeadsTruly D.Dialed.Line (D.gives dial.now) (option_copied terms.token) far.old.address)
+        near.old.address far.old.address near.new.link far.new.link result }
+{
     let side = Side::Local;
-    let near_link = match opened(rt, alloc, near, terms) {
+    let near_link = match opened(dial, alloc, near, terms) {
         Ok(link) => link,
         Err(stop) => return Err(Failure { side, stop }),
     };
     let side = Side::Peer;
-    let far_link = match opened(rt, alloc, far, terms) {
+    let far_link = match opened(dial, alloc, far, terms) {
         Ok(link) => link,
         Err(stop) => {
             near.link = Some(near_link);
@@ -200,12 +240,20 @@ fn session<'a, N: Net, E: Write>(
 }
 
 /// The connection with a server that is open, unless too many frames came over it, or a new one.
-fn opened<'a, N: Net>(
-    rt: &N,
+fn opened<'a, D: Dial>(
+    dial: &D,
     alloc: Global,
-    end: &mut End<N::Stream>,
+    end: &mut End<D::Dialed>,
     terms: MeetingTerms<'_>,
-) -> Result<Link<BothWays<Socket<N::Stream>>>, Stop<'a>> {
+) -> Result<Counted<D::Dialed>, Stop<'a>>
+    requires kept { KeepsTrue D.Dialed.Line (LeadsTruly D.Dialed.Line (D.gives dial.now) (option_copied terms.token)
+        end.old.address) end.old.link }
+    ensures address { end.new.address ≡ end.old.address }
+    ensures none { end.new.link ≡ None }
+    ensures opened { IfOk result (λ counted. LeadsTruly D.Dialed.Line (D.gives dial.now) (option_copied terms.token)
+        end.old.address → true_within D.Dialed.Line counted) }
+    ensures undialed { IfErr result (IsUndialed end.old.address) }
+{
     if let Some(link) = end.link.take() {
         if link.frames < MOST_FRAMES {
             return Ok(link);
@@ -213,8 +261,8 @@ fn opened<'a, N: Net>(
         let _ = Remote::over(alloc, link).bye();
     }
     end.frames = 0;
-    match let_in(&Sockets(rt), alloc, end.address, terms.idle, terms.token) {
-        Ok(link) => Ok(link),
+    match let_in(dial, alloc, end.address, terms.idle, terms.token) {
+        Ok(line) => Ok(Counted::new(line)),
         Err(fault) => Err(undialed(end.address, fault)),
     }
 }
@@ -234,9 +282,9 @@ pub(crate) fn tell_fault<E: Write>(
 }
 
 /// The same of a session that is tried again: once in a row.
-pub(crate) fn tell_failure<T: Read + Write + Drop, E: Write>(
-    near: &mut End<T>,
-    far: &mut End<T>,
+pub(crate) fn tell_failure<L: Line, E: Write>(
+    near: &mut End<L>,
+    far: &mut End<L>,
     failure: Failure<'_>,
     errors: &mut E,
 ) {

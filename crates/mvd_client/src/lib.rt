@@ -3,14 +3,17 @@
 
 mod asked_server;
 mod both_ways;
+mod counted;
 mod dial;
 mod ends;
 mod link;
 mod meeting;
 mod peer_commands;
 mod progress;
+mod pushing;
 mod rounds;
 mod socket;
+mod stored_side;
 
 pub use both_ways::{BothWays, Nonblocking};
 pub use dial::{Dial, DialFault, Sockets};

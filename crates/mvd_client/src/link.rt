@@ -33,8 +33,6 @@ impl<S: Read + Write + Drop> Read for Waiting<S> {
 #[derive(Drop)]
 pub struct Link<S: Read + Write + Drop> {
     stream: BufReader<Waiting<S>>,
-    /// How many frames came over it.
-    pub(crate) frames: u32,
     /// The bytes that it took to send, for proofs alone.
     sent: Log<u8, ()>,
 }
@@ -50,7 +48,6 @@ impl<S: Read + Write + Drop> Link<S> {
         match BufReader::with_capacity(alloc, PIECE, Waiting { stream }) {
             Ok(stream) => Ok(Link {
                 stream,
-                frames: 0,
                 sent: Log::new(),
             }),
             Err(_) => Err(Refusal::Memory),
@@ -103,7 +100,6 @@ impl<S: Read + Write + Drop> Line for Link<S> {
     }
 
     fn receive(&mut self, alloc: Global) -> Result<Option<Frame>, Refusal> {
-        self.frames = self.frames.saturating_add(1);
         read_frame(alloc, &mut self.stream)
     }
 }

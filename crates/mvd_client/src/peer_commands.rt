@@ -3,21 +3,26 @@ ghost use Rattle.std.specs.Prelude.{◌≡◌, ◌≢◌, ◌≤◌, ◌+◌, �
 ghost use Rattle.std.specs.Io.KnownBytes.{Appends};
 ghost use Rattle.mvd_client.specs.AskedServer.{RepliesNoted, lost_of};
 ghost use Rattle.mvd_client.specs.LetIn.{GivesIn};
+ghost use Rattle.mvd_client.specs.Pushing.{FollowsTurns};
 ghost use Rattle.mvd_client.specs.Questioned.{AsksFew, questions};
 ghost use Rattle.mvd_client.specs.Reported.{CutReport, Reports, StopsLeft, refused_keys_text, root_of, session_text};
 ghost use Rattle.mvd_client.specs.Stopped.{StopsFaulted};
 ghost use Rattle.mvd_client.specs.Synced.{FollowsPushed, MeetsFar, TakesPushes};
+ghost use Rattle.mvd_client.specs.SyncSides.{sides_at};
 ghost use Rattle.mvd_client.specs.SyncsAt.{AreTrue, MeetsAt, SyncsAt, SyncsFrom, SyncsOver, TellsSession};
 ghost use Rattle.mvd_client.specs.Talked.{SaysBye, ShellsAt, ShellsOver};
+ghost use Rattle.mvd_peer.specs.Sides.{two};
 ghost use Rattle.mvd_print.specs.Text.{root_text};
 ghost use Rattle.mvd_replica.specs.Replicas.{site_of};
 ghost use Rattle.mvd_replica.specs.Sides.{IsTrueSite};
 ghost use Rattle.mvd_shell.specs.Shell.{at};
 ghost use Rattle.mvd_remote.specs.Lines.{IsTrueRemote, far_of};
+ghost use Rattle.mvd_sync.specs.Session.{Session};
 
 use crate::asked_server::{AskedServer, Noted};
 use crate::dial::{Dial, let_in, undialed};
 use crate::progress::Watched;
+use crate::stored_side::StoredSide;
 use http_server::Log;
 use mvd_dots::Refusal;
 use mvd_hint::{Hint, Older, Stop};
@@ -38,7 +43,7 @@ use std::net::SocketAddr;
 
 /// Runs a session with the server at an address, to which the token is shown first, if there is one, and says Bye.
 /// Where `told` is given, it is told how far the session is.
-#[tactic(auto, using(crate::proofs::Syncing::pushed_none))]
+#[tactic(auto, using(crate::proofs::Syncing::pushed_none, crate::proofs::Syncing::takes_none))]
 pub fn sync_run<'a, D: Dial, S: Alter + Drop, E: Write>(
     dial: &D,
     alloc: Global,
@@ -82,7 +87,6 @@ fn faulted<'a>(address: SocketAddr, fault: SyncFault) -> Stop<'a>
 }
 
 /// Runs such a session, and tells of it; where `verbose`, also how far it is.
-#[tactic(auto, using(crate::proofs::Syncing::pushed_none))]
 pub fn sync_told<'a, D: Dial, S: Alter + Drop, W: Write, E: Write>(
     dial: &D,
     alloc: Global,
@@ -153,6 +157,25 @@ pub fn sync_over<L: Line, S: Alter + Drop, E: Write>(
         Ok(()) => Ok(report),
         Err(refusal) => Err(SyncFault::Peer(refusal)),
     }
+}
+
+/// Runs a session of a stored site with what is at the other end of a line.
+fn session_of<L: Line, S: Alter + Drop, E: Write>(
+    alloc: Global,
+    replica: &mut Replica<S>,
+    watched: &mut Watched<'_, Remote<L>, E>,
+) -> Result<Report, SyncFault>
+    ensures session { Session (sides_at L.Line) 10000000 (two replica.old watched.old.side)
+        (two replica.new watched.new.side) result }
+    // What it does to the site is turns.
+    ensures turns { FollowsTurns replica.old replica.new }
+    ensures few { IsTrueSite (site_of replica.old) → IsTrueRemote L.is_true L.far watched.old.side →
+        AsksFew (questions watched.old.asked.items) (questions watched.new.asked.items)
+        (site_of replica.old).states (far_of L.far watched.old.side).states }
+    ensures most { questions watched.new.asked.items ≤ questions watched.old.asked.items + 10000000 }
+{
+    let mut side = StoredSide { replica };
+    sync(alloc, &mut side, watched)
 }
 
 /// Tells how many keys a session exchanged, how many were refused, and the root digest; and on `errors` which keys

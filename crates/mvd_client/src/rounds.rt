@@ -4,6 +4,7 @@ ghost use Rattle.std.specs.Io.KnownBytes.{Appends};
 ghost use Rattle.mvd_input.specs.Addresses.{IsAddressList};
 ghost use Rattle.mvd_client.specs.Reported.{met_text};
 
+use crate::dial::Dial;
 use crate::ends::{End, MeetingTerms, meet, tell_failure, tell_fault};
 use crate::meeting::{tell_meeting, tell_refused};
 use crate::peer_commands::left_with;
@@ -11,12 +12,13 @@ use mvd_dots::Refusal;
 use mvd_hint::Stop;
 use mvd_input::{Fault, Repeat, addresses_of, tell};
 use mvd_meet::{Met, Pace, are_same};
+use mvd_remote::Line;
 use mvd_sync::Left;
 use mvd_wire::Items;
 use std::alloc::Global;
 use std::fmt::Write as Print;
-use std::io::{Read, Write};
-use std::net::{Net, SocketAddr};
+use std::io::Write;
+use std::net::SocketAddr;
 use std::thread;
 use std::time::{Clock, Duration};
 
@@ -26,15 +28,15 @@ const APART: u32 = 60;
 /// A server of the list: how often it was tried, how the last session with it ended, how many seconds it is still
 /// waited for, and which keys were left.
 #[derive(Drop)]
-struct Partner<T: Read + Write + Drop> {
-    end: End<T>,
+struct Partner<L: Line> {
+    end: End<L>,
     tried: u32,
     pace: Pace,
     wait: u32,
     left: Option<Items<Left>>,
 }
 
-impl<T: Read + Write + Drop> Partner<T> {
+impl<L: Line> Partner<L> {
     fn new(address: SocketAddr) -> Self {
         Partner {
             end: End::new(address),
@@ -73,8 +75,9 @@ impl<T: Read + Write + Drop> Partner<T> {
 
 /// Runs sessions between the server at an address and each of a list, one after the other. Where nothing is repeated
 /// and the list has one server, the roots of both are told.
-pub fn meet_run<'a, N: Net + Clock, W: Write, E: Write>(
-    rt: &N,
+pub fn meet_run<'a, D: Dial, C: Clock, W: Write, E: Write>(
+    dial: &D,
+    clock: &C,
     alloc: Global,
     address: SocketAddr,
     with: &str,
@@ -90,27 +93,27 @@ pub fn meet_run<'a, N: Net + Clock, W: Write, E: Write>(
     let mut near = End::new(address);
     match terms.repeat {
         Some(repeat) => meet_again(
-            rt, alloc, &mut near, &addresses, repeat, terms, writer, errors,
+            dial, clock, alloc, &mut near, &addresses, repeat, terms, writer, errors,
         ),
         None => match addresses.as_slice() {
-            [far] => meet_one(rt, alloc, &mut near, *far, terms, writer, errors),
-            all => meet_each(rt, alloc, &mut near, all, terms, writer, errors),
+            [far] => meet_one(dial, alloc, &mut near, *far, terms, writer, errors),
+            all => meet_each(dial, alloc, &mut near, all, terms, writer, errors),
         },
     }
 }
 
 /// One session with one server.
-fn meet_one<'a, N: Net, W: Write, E: Write>(
-    rt: &N,
+fn meet_one<'a, D: Dial, W: Write, E: Write>(
+    dial: &D,
     alloc: Global,
-    near: &mut End<N::Stream>,
+    near: &mut End<D::Dialed>,
     far: SocketAddr,
     terms: MeetingTerms<'_>,
     writer: &mut W,
     errors: &mut E,
 ) -> Result<(), Stop<'a>> {
     let mut far = End::new(far);
-    let report = match meet(rt, alloc, near, &mut far, terms, errors) {
+    let report = match meet(dial, alloc, near, &mut far, terms, errors) {
         Ok(report) => report,
         Err(failure) => return Err(failure.stop),
     };
@@ -132,10 +135,10 @@ fn meet_one<'a, N: Net, W: Write, E: Write>(
 }
 
 /// One session with each server. What stops one of them does not stop the others, and the first is told in the end.
-fn meet_each<'a, N: Net, W: Write, E: Write>(
-    rt: &N,
+fn meet_each<'a, D: Dial, W: Write, E: Write>(
+    dial: &D,
     alloc: Global,
-    near: &mut End<N::Stream>,
+    near: &mut End<D::Dialed>,
     addresses: &[SocketAddr],
     terms: MeetingTerms<'_>,
     writer: &mut W,
@@ -144,7 +147,7 @@ fn meet_each<'a, N: Net, W: Write, E: Write>(
     let mut first = Ok(());
     for address in addresses {
         let mut far = End::new(*address);
-        let ended = match meet(rt, alloc, near, &mut far, terms, errors) {
+        let ended = match meet(dial, alloc, near, &mut far, terms, errors) {
             Ok(report) => {
                 tell_keys(alloc, *address, report.keys, terms.verbose, writer)?;
                 tell_refused(
@@ -170,10 +173,11 @@ fn meet_each<'a, N: Net, W: Write, E: Write>(
 }
 
 /// Sessions with each server again and again, until it is stopped, or each was tried as often as is wanted.
-fn meet_again<'a, N: Net + Clock, W: Write, E: Write>(
-    rt: &N,
+fn meet_again<'a, D: Dial, C: Clock, W: Write, E: Write>(
+    dial: &D,
+    clock: &C,
     alloc: Global,
-    near: &mut End<N::Stream>,
+    near: &mut End<D::Dialed>,
     addresses: &[SocketAddr],
     repeat: Repeat,
     terms: MeetingTerms<'_>,
@@ -190,7 +194,7 @@ fn meet_again<'a, N: Net + Clock, W: Write, E: Write>(
         for partner in &mut partners {
             if partner.is_wanted(repeat.times) && partner.wait == 0 {
                 meet_partner(
-                    rt,
+                    dial,
                     alloc,
                     near,
                     partner,
@@ -204,7 +208,7 @@ fn meet_again<'a, N: Net + Clock, W: Write, E: Write>(
         if repeat.every >= APART {
             let _ = near.part(alloc);
         }
-        if !pause(rt, &mut partners, repeat.times) {
+        if !pause(clock, &mut partners, repeat.times) {
             break;
         }
     }
@@ -216,9 +220,9 @@ fn meet_again<'a, N: Net + Clock, W: Write, E: Write>(
 }
 
 /// Waits until the next of them is due. It is false where each was tried so often: then none is.
-fn pause<C: Clock, T: Read + Write + Drop>(
-    rt: &C,
-    partners: &mut [Partner<T>],
+fn pause<C: Clock, L: Line>(
+    clock: &C,
+    partners: &mut [Partner<L>],
     times: Option<u32>,
 ) -> bool {
     let mut due = None;
@@ -230,7 +234,7 @@ fn pause<C: Clock, T: Read + Write + Drop>(
     let Some(due) = due else {
         return false;
     };
-    thread::sleep(rt, Duration::from_secs(u64::from(due)));
+    thread::sleep(clock, Duration::from_secs(u64::from(due)));
     for partner in partners.iter_mut() {
         partner.wait = partner.wait.saturating_sub(due);
     }
@@ -238,18 +242,18 @@ fn pause<C: Clock, T: Read + Write + Drop>(
 }
 
 /// A session of a round. A fault is told, and does not end the rounds.
-fn meet_partner<'a, N: Net, W: Write, E: Write>(
-    rt: &N,
+fn meet_partner<'a, D: Dial, W: Write, E: Write>(
+    dial: &D,
     alloc: Global,
-    near: &mut End<N::Stream>,
-    partner: &mut Partner<N::Stream>,
+    near: &mut End<D::Dialed>,
+    partner: &mut Partner<D::Dialed>,
     every: u32,
     terms: MeetingTerms<'_>,
     writer: &mut W,
     errors: &mut E,
 ) -> Result<(), Stop<'a>> {
     partner.tried = partner.tried.saturating_add(1);
-    let report = match meet(rt, alloc, near, &mut partner.end, terms, errors) {
+    let report = match meet(dial, alloc, near, &mut partner.end, terms, errors) {
         Ok(report) => report,
         Err(failure) => {
             tell_failure(near, &mut partner.end, failure, errors);

@@ -7,59 +7,48 @@ use Rattle.mvd_client.proofs.Watching.{asks_few}
 use Rattle.mvd_client.proofs.peer_commands.sync_over.Goals as goal
 
 pub returns-in-Err-clause-meets : goal.returns-in-Err-clause-meets
-returns-in-Err-clause-meets g c = λ t r. meets_as _ _ _ _ c.in-Err.is (c.sync.ensures.session.meets t r)
+returns-in-Err-clause-meets g c = λ t r. meets_as _ _ _ _ c.in-Err.is (c.session_of.ensures.session.meets t r)
 
 pub returns-in-Err-clause-syncs : goal.returns-in-Err-clause-syncs
 returns-in-Err-clause-syncs g c = record {
-  mid = c.sync.new.peer;
-  ran = c.sync.result;
-  session = c.sync.ensures.session;
+  mid = c.session_of.new.watched.side;
+  ran = c.session_of.result;
+  session = c.session_of.ensures.session;
   ends = rw c.in-Err.is (refl, refl);
   meets = λ s t d n. returns-in-Err-clause-meets g c s (fresh_is_true g.L.Line.is_true g.L.Line.far c.args.watched.now.side t d n);
 }
 
 pub returns-in-Ok-bye-clause-meets : goal.returns-in-Ok-bye-clause-meets
 returns-in-Ok-bye-clause-meets g c = λ t r.
-    let session = c.sync.ensures.session in
-    let still = subst (λ result. OnOk result (IsTrueRemote g.L.Line.is_true g.L.Line.far c.sync.new.peer.side)) c.in-Ok.is (session.course.peer_side r).after_ok in
+    let session = c.session_of.ensures.session in
+    let still = subst (λ result. OnOk result (IsTrueRemote g.L.Line.is_true g.L.Line.far c.session_of.new.watched.side)) c.in-Ok.is (session.course.peer_side r).after_ok in
     let far = g.L.Line.far in
-    let kept = bye_keeps (far c.sync.new.peer.side.line).config (far c.sync.new.peer.side.line).states (far c.bye.new.self.line).states c.bye.result (c.bye.ensures.truth still).1 in
+    let kept = bye_keeps (far c.session_of.new.watched.side.line).config (far c.session_of.new.watched.side.line).states (far c.bye.new.self.line).states c.bye.result (c.bye.ensures.truth still).1 in
     after_bye_ok _ _ _ _ _ _ _ _ _ _ _ _ _ (session.meets t r) c.in-Ok.is still kept
 
 pub returns-in-Ok-bye-clause-syncs : goal.returns-in-Ok-bye-clause-syncs
 returns-in-Ok-bye-clause-syncs g c = record {
-  mid = c.sync.new.peer;
-  ran = c.sync.result;
-  session = c.sync.ensures.session;
+  mid = c.session_of.new.watched.side;
+  ran = c.session_of.result;
+  session = c.session_of.ensures.session;
   ends = rw c.in-Ok.is (c.bye.result, c.bye.ensures.asked, rw c.in-Ok-bye.is refl);
   meets = λ s t d n. returns-in-Ok-bye-clause-meets g c s (fresh_is_true g.L.Line.is_true g.L.Line.far c.args.watched.now.side t d n);
 }
 
 pub returns-in-Err-bye-clause-meets : goal.returns-in-Err-bye-clause-meets
 returns-in-Err-bye-clause-meets g c = λ t r.
-    let session = c.sync.ensures.session in
-    let still = subst (λ result. OnOk result (IsTrueRemote g.L.Line.is_true g.L.Line.far c.sync.new.peer.side)) c.in-Ok.is (session.course.peer_side r).after_ok in
+    let session = c.session_of.ensures.session in
+    let still = subst (λ result. OnOk result (IsTrueRemote g.L.Line.is_true g.L.Line.far c.session_of.new.watched.side)) c.in-Ok.is (session.course.peer_side r).after_ok in
     let far = g.L.Line.far in
-    let kept = bye_keeps (far c.sync.new.peer.side.line).config (far c.sync.new.peer.side.line).states (far c.bye.new.self.line).states c.bye.result (c.bye.ensures.truth still).1 in
+    let kept = bye_keeps (far c.session_of.new.watched.side.line).config (far c.session_of.new.watched.side.line).states (far c.bye.new.self.line).states c.bye.result (c.bye.ensures.truth still).1 in
     after_bye _ _ _ _ _ _ _ _ _ _ _ _ _ (session.meets t r) still kept tt
 
 pub returns-in-Err-bye-clause-syncs : goal.returns-in-Err-bye-clause-syncs
 returns-in-Err-bye-clause-syncs g c = record {
-  mid = c.sync.new.peer;
-  ran = c.sync.result;
-  session = c.sync.ensures.session;
+  mid = c.session_of.new.watched.side;
+  ran = c.session_of.result;
+  session = c.session_of.ensures.session;
   ends = rw c.in-Ok.is (c.bye.result, c.bye.ensures.asked, rw c.in-Err-bye.is refl);
   meets = λ s t d n. returns-in-Err-bye-clause-meets g c s (fresh_is_true g.L.Line.is_true g.L.Line.far c.args.watched.now.side t d n);
 }
 
-pub returns-in-Err-clause-few : goal.returns-in-Err-clause-few
-returns-in-Err-clause-few g c t r = let session = c.sync.ensures.session in asks_few _ _ session.course.asked_peer session.course.wanted_peer _ _ session.course.follows.1.1 (λ differing all. (session.few t r differing all).1)
-
-pub returns-in-Ok-bye-clause-few : goal.returns-in-Ok-bye-clause-few
-returns-in-Ok-bye-clause-few g c t r = let session = c.sync.ensures.session in asks_few _ _ session.course.asked_peer session.course.wanted_peer _ _ session.course.follows.1.1 (λ differing all. (session.few t r differing all).1)
-
-pub returns-in-Err-bye-clause-few : goal.returns-in-Err-bye-clause-few
-returns-in-Err-bye-clause-few g c t r = let session = c.sync.ensures.session in asks_few _ _ session.course.asked_peer session.course.wanted_peer _ _ session.course.follows.1.1 (λ differing all. (session.few t r differing all).1)
-
-pub returns-in-Err-bye-clause-most : goal.returns-in-Err-bye-clause-most
-returns-in-Err-bye-clause-most g c = let session = c.sync.ensures.session in let within = session.course.within.1 in omega (arith, within, session.course.follows.1.1)

@@ -6,7 +6,9 @@ pub returns-in-Ok-clause-tells : goal.returns-in-Ok-clause-tells
 returns-in-Ok-clause-tells g c = record {
   ran = c.sync_run.result;
   syncs = c.sync_run.ensures.syncs;
-  meets = meets_at _ _ _ _ _ _ _ _ c.sync_run.ensures.syncs;
+  meets = meets_at _ _ _ _ _ _ c.sync_run.ensures.syncs;
+  takes = c.sync_run.ensures.takes;
+  pushed = c.sync_run.ensures.pushed;
   told = rw c.in-Ok.is c.tell_report.ensures.told;
 }
 
@@ -14,6 +16,8 @@ pub returns-in-Err-clause-tells : goal.returns-in-Err-clause-tells
 returns-in-Err-clause-tells g c = record {
   ran = c.sync_run.result;
   syncs = c.sync_run.ensures.syncs;
-  meets = meets_at _ _ _ _ _ _ _ _ c.sync_run.ensures.syncs;
+  meets = meets_at _ _ _ _ _ _ c.sync_run.ensures.syncs;
+  takes = c.sync_run.ensures.takes;
+  pushed = c.sync_run.ensures.pushed;
   told = rw c.in-Err.is (refl, refl);
 }

@@ -141,7 +141,7 @@ pub fn run<'a, S: Start, D: Dial, K: Sockets, R: BufRead, W: Write>(
                 verbose,
             };
             without_file(
-                run_meeting(rt, address, with, terms, token_file, writer),
+                run_meeting(rt, dial, address, with, terms, token_file, writer),
                 start,
             )
         }
@@ -334,8 +334,9 @@ fn run_remote_shell<'a, D: Dial, R: BufRead, W: Write>(
 }
 
 /// Runs sessions between servers.
-fn run_meeting<'a, W: Write>(
+fn run_meeting<'a, D: Dial, W: Write>(
     rt: &HostRuntime,
+    dial: &D,
     address: SocketAddr,
     with: &str,
     terms: MeetingTerms<'_>,
@@ -350,6 +351,7 @@ fn run_meeting<'a, W: Write>(
         ..terms
     };
     meet_run(
+        dial,
         rt,
         rt.alloc(),
         address,

@@ -1,6 +1,6 @@
 pub mod Ending
 pub mod Following
-pub mod Looping
+pub mod Frames
 pub mod Memory
 pub mod Reading
 pub mod Rounds

@@ -11,6 +11,7 @@ use Rattle.mvd_site.specs.Answer.{digests, node_digests}
 use Rattle.mvd_site.specs.Held.{States}
 use Rattle.mvd_site.specs.Sites.{SiteValue}
 use Rattle.mvd_wire.specs.Frames.{AppendsFront}
+use Rattle.mvd_dots.specs.declared.refusals.Refusal.{Refusal}
 use Rattle.mvd_dots.specs.declared.refusals.Refusal.TheVariants.{Broken, Memory, WriteFailed}
 use Rattle.mvd_input.specs.declared.fault.Fault.{Fault}
 use Rattle.mvd_input.specs.declared.fault.Fault.TheVariants.{Stopped}
@@ -56,11 +57,14 @@ abbrev pub met_text : SocketAddr → ℕ → Bool → List ℕ
 met_text address keys always =
     if (nat_lt 0 keys || always) then socket_text address ++ (codes " keys " ++ (decimal keys ++ codes "\n")) else []
 
--- why not all was printed: memory was refused, or the site that tells its root is broken, and nothing was; or the writer
--- failed behind a front of it
+-- why there are no lines to print: memory was refused, or the site whose root they tell is broken
+abbrev pub HasNoLines : Bool → Refusal → Type 0
+HasNoLines broken refusal = (refusal ≡ Memory) ⊎ ((refusal ≡ Broken) × (broken ≡ true))
+
+-- why not all was printed: there are no lines, and nothing was; or the writer failed behind a front of them
 abbrev pub CutReport : List ℕ → Bool → Option (List ℕ) → Option (List ℕ) → Fault → Type 0
 CutReport text broken out out' fault =
-    (((fault ≡ Stopped Memory) ⊎ ((fault ≡ Stopped Broken) × (broken ≡ true))) × (out' ≡ out))
+    (((refusal : Refusal) × (fault ≡ Stopped refusal) × HasNoLines broken refusal) × (out' ≡ out))
     ⊎ ((fault ≡ Stopped WriteFailed) × AppendsFront out out' text)
 
 -- This is all printed of a session that left no key, and of one that left some: then the command is stopped with the

@@ -1,6 +1,7 @@
 //! The servers that meet, the connections with them, and one session of two of them.
-ghost use Rattle.std.specs.Prelude.{◌≡◌, IfErr, IfOk, None, option_copied};
-ghost use Rattle.mvd_client.specs.Between.{EndsBetween, KeepsTrue, LeadsTruly, TellsRoot, true_within};
+ghost use Rattle.std.specs.Prelude.{◌≡◌, IfErr, IfOk, None, OnErr, Some, option_copied};
+ghost use Rattle.mvd_client.specs.Between.{EndsBetween, IsFresh, TellsRoot};
+ghost use Rattle.mvd_client.specs.LetIn.{GivesIn};
 ghost use Rattle.mvd_client.specs.Met.{IsFailureOf, IsStoppedAt};
 ghost use Rattle.mvd_client.specs.Stopped.{IsUndialed};
 
@@ -123,23 +124,19 @@ pub(crate) fn meet<'a, D: Dial, E: Write>(
     terms: MeetingTerms<'_>,
     errors: &mut E,
 ) -> Result<Report, Failure<'a>>
-    requires near { KeepsTrue D.Dialed.Line (LeadsTruly D.Dialed.Line (D.gives dial.now) (option_copied terms.token)
-        near.old.address) near.old.link }
-    requires far { KeepsTrue D.Dialed.Line (LeadsTruly D.Dialed.Line (D.gives dial.now) (option_copied terms.token)
-        far.old.address) far.old.link }
     ensures near { near.new.address ≡ near.old.address }
     ensures far { far.new.address ≡ far.old.address }
-    ensures near_kept { KeepsTrue D.Dialed.Line (LeadsTruly D.Dialed.Line (D.gives dial.now) (option_copied terms.token)
-        near.old.address) near.new.link }
-    ensures far_kept { KeepsTrue D.Dialed.Line (LeadsTruly D.Dialed.Line (D.gives dial.now) (option_copied terms.token)
-        far.old.address) far.new.link }
     // What it tells is what came of the last session.
     ensures met { EndsBetween D.Dialed.Line
-        (LeadsTruly D.Dialed.Line (D.gives dial.now) (option_copied terms.token) near.old.address)
-        (LeadsTruly D.Dialed.Line (D.gives dial.now) (option_copied terms.token) far.old.address)
+        (GivesIn D.Dialed.Line (D.gives dial.now near.old.address) (option_copied terms.token))
+        (GivesIn D.Dialed.Line (D.gives dial.now far.old.address) (option_copied terms.token))
+        (IsFresh D.Dialed.Line (GivesIn D.Dialed.Line (D.gives dial.now near.old.address) (option_copied terms.token))
+            near.old.link)
+        (IsFresh D.Dialed.Line (GivesIn D.Dialed.Line (D.gives dial.now far.old.address) (option_copied terms.token))
+            far.old.link)
         near.old.address far.old.address near.new.link far.new.link result }
 {
-    for _anew in 0..MOST_ANEW {
+    'tries: for _anew in 0..MOST_ANEW {
         let is_near_kept = near.link.is_some();
         let is_far_kept = far.link.is_some();
         let told = told(errors, terms.verbose);
@@ -191,19 +188,24 @@ fn session<'a, D: Dial, E: Write>(
     terms: MeetingTerms<'_>,
     told: Option<&mut E>,
 ) -> Result<Report, Failure<'a>>
-    requires near { KeepsTrue D.Dialed.Line (LeadsTruly D.Dialed.Line (D.gives dial.now) (option_copied terms.token)
-        near.old.address) near.old.link }
-    requires far { KeepsTrue D.Dialed.Line (LeadsTruly D.Dialed.Line (D.gives dial.now) (option_copied terms.token)
-        far.old.address) far.old.link }
     ensures near { near.new.address ≡ near.old.address }
     ensures far { far.new.address ≡ far.old.address }
-    ensures near_kept { KeepsTrue D.Dialed.Line (LeadsTruly D.Dialed.Line (D.gives dial.now) (option_copied terms.token)
-        near.old.address) near.new.link }
-    ensures far_kept { KeepsTrue D.Dialed.Line (LeadsTruly D.Dialed.Line (D.gives dial.now) (option_copied terms.token)
-        far.old.address) far.new.link }
+    // After a failure a line is kept only that nothing was asked over.
+    ensures near_kept { OnErr result (IsFresh D.Dialed.Line
+        (GivesIn D.Dialed.Line (D.gives dial.now near.old.address) (option_copied terms.token)) near.old.link →
+        IsFresh D.Dialed.Line
+        (GivesIn D.Dialed.Line (D.gives dial.now near.old.address) (option_copied terms.token)) near.new.link) }
+    ensures far_kept { OnErr result (IsFresh D.Dialed.Line
+        (GivesIn D.Dialed.Line (D.gives dial.now far.old.address) (option_copied terms.token)) far.old.link →
+        IsFresh D.Dialed.Line
+        (GivesIn D.Dialed.Line (D.gives dial.now far.old.address) (option_copied terms.token)) far.new.link) }
     ensures met { EndsBetween D.Dialed.Line
-        (LeadsTruly D.Dialed.Line (D.gives dial.now) (option_copied terms.token) near.old.address)
-        (LeadsTruly D.Dialed.Line (D.gives dial.now) (option_copied terms.token) far.old.address)
+        (GivesIn D.Dialed.Line (D.gives dial.now near.old.address) (option_copied terms.token))
+        (GivesIn D.Dialed.Line (D.gives dial.now far.old.address) (option_copied terms.token))
+        (IsFresh D.Dialed.Line (GivesIn D.Dialed.Line (D.gives dial.now near.old.address) (option_copied terms.token))
+            near.old.link)
+        (IsFresh D.Dialed.Line (GivesIn D.Dialed.Line (D.gives dial.now far.old.address) (option_copied terms.token))
+            far.old.link)
         near.old.address far.old.address near.new.link far.new.link result }
 {
     let side = Side::Local;
@@ -246,12 +248,11 @@ fn opened<'a, D: Dial>(
     end: &mut End<D::Dialed>,
     terms: MeetingTerms<'_>,
 ) -> Result<Counted<D::Dialed>, Stop<'a>>
-    requires kept { KeepsTrue D.Dialed.Line (LeadsTruly D.Dialed.Line (D.gives dial.now) (option_copied terms.token)
-        end.old.address) end.old.link }
     ensures address { end.new.address ≡ end.old.address }
     ensures none { end.new.link ≡ None }
-    ensures opened { IfOk result (λ counted. LeadsTruly D.Dialed.Line (D.gives dial.now) (option_copied terms.token)
-        end.old.address → true_within D.Dialed.Line counted) }
+    ensures opened { IfOk result (λ counted. IsFresh D.Dialed.Line
+        (GivesIn D.Dialed.Line (D.gives dial.now end.old.address) (option_copied terms.token)) end.old.link →
+        GivesIn D.Dialed.Line (D.gives dial.now end.old.address) (option_copied terms.token) counted.line) }
     ensures undialed { IfErr result (IsUndialed end.old.address) }
 {
     if let Some(link) = end.link.take() {

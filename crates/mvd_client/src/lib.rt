@@ -14,6 +14,7 @@ mod pushing;
 mod rounds;
 mod socket;
 mod stored_side;
+mod written;
 
 pub use both_ways::{BothWays, Nonblocking};
 pub use dial::{Dial, DialFault, Sockets};

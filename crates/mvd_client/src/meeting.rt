@@ -5,15 +5,17 @@ ghost use Rattle.mvd_client.specs.Met.{MeetsFars};
 ghost use Rattle.mvd_client.specs.Questioned.{AsksFew, questions};
 ghost use Rattle.mvd_client.specs.Reported.{CutReport, ReportsAs, meeting_text, root_at_text, root_of};
 ghost use Rattle.mvd_client.specs.SyncSides.{sides_between};
+ghost use Rattle.mvd_dots.specs.declared.refusals.Refusal.TheVariants.{Memory};
 ghost use Rattle.mvd_peer.specs.Sides.{two};
 ghost use Rattle.mvd_remote.specs.Lines.{IsTrueRemote, far_of};
 ghost use Rattle.mvd_sync.specs.Session.{Session};
 
 use crate::peer_commands::{left_with, print_refused};
 use crate::progress::Watched;
+use crate::written::write_lines;
 use mvd_dots::Refusal;
 use mvd_hint::Stop;
-use mvd_input::{Fault, tell};
+use mvd_input::Fault;
 use mvd_keys::Path;
 use mvd_peer::Peer;
 use mvd_print::print_keys;
@@ -100,17 +102,27 @@ fn tell_met<W: Write>(
     ensures cut { IfErr result (CutReport (meeting_text report.now near far) false (W.contents writer.old)
         (W.contents writer.new)) }
 {
+    let lines = meeting_lines(alloc, report, near, far)?;
+    write_lines(writer, lines.as_str())
+}
+
+/// The lines that tell of a session of two servers.
+fn meeting_lines(alloc: Global, report: &Report, near: Root, far: Root) -> Result<String, Refusal>
+    ensures text { IfOk result (λ lines. string_bytes lines ≡ meeting_text report.now near far) }
+    ensures memory { IfErr result (λ refusal. refusal ≡ Memory) }
+{
     let mut lines = String::new(alloc);
     print_keys(report.keys, &mut lines)?;
     print_refused(report.refused, &mut lines)?;
     print_root_at(alloc, near, &mut lines)?;
     print_root_at(alloc, far, &mut lines)?;
-    tell(writer, &mut lines)
+    Ok(lines)
 }
 
 /// Adds a line with the root digest of a server.
 fn print_root_at(alloc: Global, root: Root, lines: &mut String) -> Result<(), Refusal>
-    ensures { OnOk result (string_bytes lines.new ≡ string_bytes lines.old ++ root_at_text root) }
+    ensures text { OnOk result (string_bytes lines.new ≡ string_bytes lines.old ++ root_at_text root) }
+    ensures memory { IfErr result (λ refusal. refusal ≡ Memory) }
 {
     let digest = hex::encode(alloc, root.digest)?;
     let address = root.address;

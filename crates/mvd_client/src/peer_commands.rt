@@ -1,16 +1,17 @@
 //! The commands that meet a server: sessions of a stored site, and shells.
-ghost use Rattle.std.specs.Prelude.{◌≡◌, ◌≢◌, ◌≤◌, ◌+◌, ◌++◌, [], IsErr, OnOk, option_copied, string_bytes};
+ghost use Rattle.std.specs.Prelude.{◌≡◌, ◌≢◌, ◌≤◌, ◌+◌, ◌++◌, [], IfErr, IfOk, IsErr, OnOk, option_copied, string_bytes};
 ghost use Rattle.std.specs.Io.KnownBytes.{Appends};
 ghost use Rattle.mvd_client.specs.AskedServer.{RepliesNoted, lost_of};
 ghost use Rattle.mvd_client.specs.LetIn.{GivesIn};
 ghost use Rattle.mvd_client.specs.Pushing.{FollowsTurns};
 ghost use Rattle.mvd_client.specs.Questioned.{AsksFew, questions};
-ghost use Rattle.mvd_client.specs.Reported.{CutReport, Reports, StopsLeft, refused_keys_text, root_of, session_text};
+ghost use Rattle.mvd_client.specs.Reported.{CutReport, HasNoLines, Reports, StopsLeft, refused_keys_text, root_of, session_text};
 ghost use Rattle.mvd_client.specs.Stopped.{StopsFaulted};
 ghost use Rattle.mvd_client.specs.Synced.{FollowsPushed, MeetsFar, TakesPushes};
 ghost use Rattle.mvd_client.specs.SyncSides.{sides_at};
 ghost use Rattle.mvd_client.specs.SyncsAt.{AreTrue, MeetsAt, SyncsAt, SyncsFrom, SyncsOver, TellsSession};
 ghost use Rattle.mvd_client.specs.Talked.{SaysBye, ShellsAt, ShellsOver};
+ghost use Rattle.mvd_dots.specs.declared.refusals.Refusal.TheVariants.{Memory};
 ghost use Rattle.mvd_peer.specs.Sides.{two};
 ghost use Rattle.mvd_print.specs.Text.{root_text};
 ghost use Rattle.mvd_replica.specs.Replicas.{site_of};
@@ -23,10 +24,11 @@ use crate::asked_server::{AskedServer, Noted};
 use crate::dial::{Dial, let_in, undialed};
 use crate::progress::Watched;
 use crate::stored_side::StoredSide;
+use crate::written::write_lines;
 use http_server::Log;
 use mvd_dots::Refusal;
 use mvd_hint::{Hint, Older, Stop};
-use mvd_input::{Fault, tell};
+use mvd_input::Fault;
 use mvd_keys::Path;
 use mvd_peer::Peer;
 use mvd_print::{print_keys, print_root};
@@ -222,16 +224,31 @@ fn tell_counts<S: Alter + Drop, W: Write>(
     ensures cut { IfErr result (CutReport (session_text report.now (site_of replica.now).states)
         (site_of replica.now).broken (W.contents writer.old) (W.contents writer.new)) }
 {
+    let lines = session_lines(alloc, replica, report)?;
+    write_lines(writer, lines.as_str())
+}
+
+/// The lines that tell of a session with a server.
+fn session_lines<S: Alter + Drop>(
+    alloc: Global,
+    replica: &Replica<S>,
+    report: &Report,
+) -> Result<String, Refusal>
+    ensures text { IfOk result (λ lines. string_bytes lines ≡
+        session_text report.now (site_of replica.now).states) }
+    ensures refused { IfErr result (HasNoLines (site_of replica.now).broken) }
+{
     let mut lines = String::new(alloc);
     print_keys(report.keys, &mut lines)?;
     print_refused(report.refused, &mut lines)?;
     add_root(alloc, replica, &mut lines)?;
-    tell(writer, &mut lines)
+    Ok(lines)
 }
 
 /// Adds a line with how many keys were refused, where some were.
 pub(crate) fn print_refused(count: u64, lines: &mut String) -> Result<(), Refusal>
-    ensures { OnOk result (string_bytes lines.new ≡ string_bytes lines.old ++ refused_keys_text count) }
+    ensures text { OnOk result (string_bytes lines.new ≡ string_bytes lines.old ++ refused_keys_text count) }
+    ensures memory { IfErr result (λ refusal. refusal ≡ Memory) }
 {
     if count > 0 {
         writeln!(lines, "refused {count}")?;
@@ -259,8 +276,9 @@ fn add_root<S: Alter + Drop>(
     replica: &Replica<S>,
     lines: &mut String,
 ) -> Result<(), Refusal>
-    ensures { OnOk result (string_bytes lines.new ≡
+    ensures text { OnOk result (string_bytes lines.new ≡
         string_bytes lines.old ++ root_text (root_of (site_of replica.now).states)) }
+    ensures refused { IfErr result (HasNoLines (site_of replica.now).broken) }
 {
     let path = Path::new(alloc, &[])?;
     let digests = replica.node(&path)?;

@@ -1,7 +1,9 @@
 //! Sessions between a server and each of a list, one after the other: once, or again and again.
-ghost use Rattle.std.specs.Prelude.{OnOk};
+ghost use Rattle.std.specs.Prelude.{◌≡◌, ◌∷◌, [], ℕ, List, None, OnOk, option_copied};
 ghost use Rattle.std.specs.Io.KnownBytes.{Appends};
-ghost use Rattle.mvd_input.specs.Addresses.{IsAddressList};
+ghost use Rattle.mvd_client.specs.Between.{MeetsOnce, MeetsServer};
+ghost use Rattle.mvd_client.specs.LetIn.{GivesIn};
+ghost use Rattle.mvd_input.specs.Addresses.{IsAddressList, items_of};
 ghost use Rattle.mvd_client.specs.Reported.{met_text};
 
 use crate::dial::Dial;
@@ -86,6 +88,10 @@ pub fn meet_run<'a, D: Dial, C: Clock, W: Write, E: Write>(
     errors: &mut E,
 ) -> Result<(), Stop<'a>>
     requires { IsAddressList with.now }
+    // Where nothing is repeated and the list has one server, what is printed is of the session that ran.
+    ensures once { terms.repeat ≡ None → (text : List ℕ) → items_of with.now ≡ text ∷ [] →
+        MeetsServer D.Dialed.Line (D.gives dial.now) (option_copied terms.token) address text
+        (W.contents writer.old) (W.contents writer.new) result }
 {
     let Ok(addresses) = addresses_of(alloc, address.ip(), with) else {
         return Err(Stop::from(Refusal::Memory));
@@ -111,7 +117,13 @@ fn meet_one<'a, D: Dial, W: Write, E: Write>(
     terms: MeetingTerms<'_>,
     writer: &mut W,
     errors: &mut E,
-) -> Result<(), Stop<'a>> {
+) -> Result<(), Stop<'a>>
+    requires { near.old.link ≡ None }
+    ensures { MeetsOnce D.Dialed.Line
+        (GivesIn D.Dialed.Line (D.gives dial.now near.old.address) (option_copied terms.token))
+        (GivesIn D.Dialed.Line (D.gives dial.now far) (option_copied terms.token))
+        near.old.address far (W.contents writer.old) (W.contents writer.new) result }
+{
     let mut far = End::new(far);
     let report = match meet(dial, alloc, near, &mut far, terms, errors) {
         Ok(report) => report,

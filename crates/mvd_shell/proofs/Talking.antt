@@ -1,5 +1,5 @@
 -- Pages, asked for and printed one after the other.
-use Rattle.std.proofs.Common.{◌≡◌, ◌∙◌, ℕ, List, [], ◌∷◌, ◌++◌, Option, Some, None, Result, Ok, Err, refl, sym, ap, subst, subst₂, append_assoc, inl, inr, codes, Bor, Bool, IfErr, OnOk, ◌==◌}
+use Rattle.std.proofs.Common.{◌≡◌, ◌∙◌, ℕ, List, [], ◌∷◌, ◌++◌, Option, Some, None, Result, Ok, Err, refl, sym, ap, subst, subst₂, append_assoc, inl, inr, codes, Bor, Bool, IfErr, OnOk, ◌==◌, false, true≢false}
 use Rattle.std.proofs.lemmas.List.{append-nil}
 use Rattle.mvd_dots.specs.Answer.{IsAnswer, IsReading}
 use Rattle.mvd_dots.specs.Context.{DotSet}
@@ -15,7 +15,7 @@ use Rattle.mvd_wire.specs.declared.reply.Reply.{Reply}
 use Rattle.mvd_wire.specs.declared.request.Request.{Request}
 use Rattle.mvd_wire.specs.declared.request.Request.TheVariants.{Get}
 use Rattle.mvd_shell.specs.Asked.{Exchange, IsRequestOf, IsWriteOfLine, Sees, delete_request, next_asked, put_request, question, shown_context}
-use Rattle.mvd_shell.specs.Talk.{AnswersExchanges, AsksInTurn, AsksFirst, EndsWith, MayHaveAsked, Prints_line, ShowsText, ShowsPage, Speaks, SpeaksPages, TellsPage, TellsAllPages, Turns, shell_text, text_onto}
+use Rattle.mvd_shell.specs.Talk.{is_taken, AnswersExchanges, AsksInTurn, AsksFirst, EndsWith, IsMadeOf, MayHaveAsked, Prints_line, ShowsText, ShowsPage, Speaks, SpeaksPages, TellsPage, TellsAllPages, Turns, shell_text, text_onto}
 use Rattle.mvd_shell.specs.Told.{answer_text}
 
 no_memory : {T : Type 0} (answer : Result T Refusal) → IsAnswer (Err Memory) answer
@@ -40,15 +40,33 @@ printed_all : (told : Result (List ℕ) Refusal) (old new : List ℕ) (done : Un
 printed_all (Ok text) old new done printed = (text, refl, printed)
 printed_all (Err refusal) old new done (same, stays) = absurd cc
 
-pub page_refused : (ask : Ask) (reply : Reply) (old new : List ℕ) (refusal : Refusal) → Prints (answer_text ask reply) old new (Err refusal) → TellsPage ask reply old new (Err refusal)
-page_refused ask reply old new refusal prints =
-    let (answer, more) = refused_print (answer_text ask reply) old new refusal prints in
-    record { page = Err refusal; told = answer; next = Err Memory; asked = no_memory (next_asked ask reply); shows = (refl, more) }
+-- of a reply that does not tell that a write was done
+made : {T : Type 0} (reply : Reply) (told whole : Result T Refusal) → is_taken reply ≡ false → IsAnswer told whole → IsMadeOf reply told whole
+made reply told whole not answer = (answer, λ taken. absurd (true≢false (sym taken ∙ not)))
 
-pub page_told : (ask : Ask) (reply : Reply) (old new : List ℕ) (done : Unit {0}) (next : Result (Option Request) Refusal) → Prints (answer_text ask reply) old new (Ok done) → IsAnswer next (next_asked ask reply) → TellsPage ask reply old new next
-page_told ask reply old new done next prints asked =
+whole_answer : {T : Type 0} (whole : Result T Refusal) → IsAnswer whole whole
+whole_answer (Ok x) = refl
+whole_answer (Err refusal) = λ _. refl
+
+pub page_refused : (ask : Ask) (reply : Reply) (old new : List ℕ) (refusal : Refusal) → is_taken reply ≡ false → Prints (answer_text ask reply) old new (Err refusal) → TellsPage ask reply old new (Err refusal)
+page_refused ask reply old new refusal not prints =
+    let (answer, more) = refused_print (answer_text ask reply) old new refusal prints in
+    record { page = Err refusal; told = made reply (Err refusal) (answer_text ask reply) not answer; next = Err Memory; asked = made reply (Err Memory) (next_asked ask reply) not (no_memory (next_asked ask reply)); shows = (refl, more) }
+
+pub page_told : (ask : Ask) (reply : Reply) (old new : List ℕ) (done : Unit {0}) (next : Result (Option Request) Refusal) → is_taken reply ≡ false → Prints (answer_text ask reply) old new (Ok done) → IsAnswer next (next_asked ask reply) → TellsPage ask reply old new next
+page_told ask reply old new done next not prints asked =
     let (text, is, more) = printed_all (answer_text ask reply) old new done prints in
-    record { page = Ok text; told = is; next = next; asked = asked; shows = (more, refl) }
+    record { page = Ok text; told = made reply (Ok text) (answer_text ask reply) not is; next = next; asked = made reply next (next_asked ask reply) not asked; shows = (more, refl) }
+
+-- of a reply that tells that a write was done, just its text
+pub page_taken : (ask : Ask) (reply : Reply) (old new text : List ℕ) → answer_text ask reply ≡ Ok text → next_asked ask reply ≡ Ok None → new ≡ old ++ text → TellsPage ask reply old new (Ok None)
+page_taken ask reply old new text is last printed = record {
+  page = answer_text ask reply;
+  told = (whole_answer (answer_text ask reply), λ _. refl);
+  next = next_asked ask reply;
+  asked = (whole_answer (next_asked ask reply), λ _. refl);
+  shows = rw is (printed, sym last);
+}
 
 -- ---- pages
 
@@ -89,6 +107,10 @@ module _ {A : Type 0} (Answers : A → A → Request → Reply → Type 0) where
     goes_on = λ rest more tells. subst (TellsAllPages ask request rest) (sym (onto_none more)) tells;
   }
 
+  -- what is shown stays where only room was made
+  pub stays_shown : (asked asked' : A) (ask : Ask) (first request : Request) (old mid new : List ℕ) → new ≡ mid → SoFar asked asked' ask first request old mid → SoFar asked asked' ask first request old new
+  stays_shown asked asked' ask first request old mid new same so_far = subst (SoFar asked asked' ask first request old) (sym same) so_far
+
   -- a page more, behind which more is left
   pub onward : (asked asked' asked'' : A) (ask : Ask) (first request next : Request) (old mid new : List ℕ) → SoFar asked asked' ask first request old mid → Turns Answers asked' asked'' ask request mid new (Ok (Some next)) → SoFar asked asked'' ask first next old new
   unfolding TellsAllPages
@@ -97,7 +119,7 @@ module _ {A : Type 0} (Answers : A → A → Request → Reply → Type 0) where
       exchange : Exchange
       exchange = record { request = request; reply = turns.reply }
 
-      on : (page : Result (List ℕ) Refusal) → IsAnswer page (answer_text ask turns.reply) → ShowsPage page turns.tells.next mid new (Ok (Some next)) → SoFar asked asked'' ask first next old new
+      on : (page : Result (List ℕ) Refusal) → IsMadeOf turns.reply page (answer_text ask turns.reply) → ShowsPage page turns.tells.next mid new (Ok (Some next)) → SoFar asked asked'' ask first next old new
       on (Err refusal) told (is, more) = absurd cc
       on (Ok text) told (is, same) = record {
         done = so_far.done ++ exchange ∷ [];
@@ -116,7 +138,7 @@ module _ {A : Type 0} (Answers : A → A → Request → Reply → Type 0) where
       exchange : Exchange
       exchange = record { request = request; reply = turns.reply }
 
-      on : (page : Result (List ℕ) Refusal) → IsAnswer page (answer_text ask turns.reply) → ShowsPage page turns.tells.next mid new (Ok None) → SpeaksPages Answers asked asked'' ask first old new (Ok done)
+      on : (page : Result (List ℕ) Refusal) → IsMadeOf turns.reply page (answer_text ask turns.reply) → ShowsPage page turns.tells.next mid new (Ok None) → SpeaksPages Answers asked asked'' ask first old new (Ok done)
       on (Err refusal) told (is, more) = absurd cc
       on (Ok text) told (is, same) = record {
         told = Ok (so_far.printed ++ text);
@@ -136,7 +158,7 @@ module _ {A : Type 0} (Answers : A → A → Request → Reply → Type 0) where
       exchange : Exchange
       exchange = record { request = request; reply = turns.reply }
 
-      so : (page : Result (List ℕ) Refusal) → IsAnswer page (answer_text ask turns.reply) → EndsWith page turns.tells.next (Err refusal) → Extends mid new → SpeaksPages Answers asked asked'' ask first old new (Err refusal)
+      so : (page : Result (List ℕ) Refusal) → IsMadeOf turns.reply page (answer_text ask turns.reply) → EndsWith page turns.tells.next (Err refusal) → Extends mid new → SpeaksPages Answers asked asked'' ask first old new (Err refusal)
       so page told last more = record {
         told = Err refusal;
         talks = record {
@@ -147,7 +169,7 @@ module _ {A : Type 0} (Answers : A → A → Request → Reply → Type 0) where
         shows = (refl, extends_twice old so_far.printed mid new so_far.shown more);
       }
 
-      on : (page : Result (List ℕ) Refusal) → IsAnswer page (answer_text ask turns.reply) → ShowsPage page turns.tells.next mid new (Err refusal) → SpeaksPages Answers asked asked'' ask first old new (Err refusal)
+      on : (page : Result (List ℕ) Refusal) → IsMadeOf turns.reply page (answer_text ask turns.reply) → ShowsPage page turns.tells.next mid new (Err refusal) → SpeaksPages Answers asked asked'' ask first old new (Err refusal)
       on (Err other) told (is, more) = let same : refusal ≡ other = cc in so (Err other) told (ap Err same) more
       on (Ok text) told (is, same) = so (Ok text) told (subst (λ (n : Result (Option Request) Refusal). EndsWith (Ok text) n (Err refusal)) same refl) (record { more = text; is = is })
 

@@ -7,6 +7,7 @@ use Rattle.mvd_input.specs.declared.command.Ask.{Ask}
 use Rattle.mvd_print.specs.Added.{Extends}
 use Rattle.mvd_print.specs.Text.{refused_text}
 use Rattle.mvd_wire.specs.declared.reply.Reply.{Reply}
+use Rattle.mvd_wire.specs.declared.reply.Reply.TheVariants as reply
 use Rattle.mvd_wire.specs.declared.request.Request.{Request}
 use Rattle.mvd_shell.specs.Asked.{Exchange, IsRequestOf, next_asked}
 use Rattle.mvd_shell.specs.Told.{answer_text, unknown_text}
@@ -41,13 +42,25 @@ EndsWith (Ok text) (Err refusal) told = told ≡ Err refusal
 EndsWith (Ok text) (Ok None) told = told ≡ Ok text
 EndsWith (Ok text) (Ok (Some request)) told = ⊥
 
+-- a reply tells that a write was done
+abbrev pub is_taken : Reply → Bool
+is_taken (reply.Written dot) = true
+is_taken reply.Done = true
+is_taken told = false
+
+-- what is made of a reply is this, unless memory was refused; of one that tells that a write was done it is just this,
+-- for the room to tell it was there before the write was asked for
+abbrev pub IsMadeOf : {T : Type 0} → Reply → Result T Refusal → Result T Refusal → Type 0
+IsMadeOf reply made whole = IsAnswer made whole × (is_taken reply ≡ true → made ≡ whole)
+
 -- A page is asked for and printed, and then the next one, until no more is left. What is told is the text of all, or
 -- the refusal in its place. Where there are no exchanges left, memory was refused.
 unfoldable pub TellsAllPages : Ask → Request → List Exchange → Result (List ℕ) Refusal → Type 0
 TellsAllPages ask request [] told = told ≡ Err Memory
 TellsAllPages ask request (exchange ∷ exchanges) told =
     (exchange.request ≡ request) × (page : Result (List ℕ) Refusal) × (next : Result (Option Request) Refusal)
-    × IsAnswer page (answer_text ask exchange.reply) × IsAnswer next (next_asked ask exchange.reply)
+    × IsMadeOf exchange.reply page (answer_text ask exchange.reply)
+    × IsMadeOf exchange.reply next (next_asked ask exchange.reply)
     × (((exchanges ≡ []) × EndsWith page next told)
     ⊎ ((text : List ℕ) × (following : Request) × (more : Result (List ℕ) Refusal) × (page ≡ Ok text)
     × (next ≡ Ok (Some following)) × TellsAllPages ask following exchanges more × (told ≡ text_onto text more)))
@@ -62,9 +75,9 @@ ShowsPage (Err refusal) next old new result = (result ≡ Err refusal) × Extend
 pub record TellsPage (ask : Ask) (reply : Reply) (old new : List ℕ)
     (result : Result (Option Request) Refusal) : Type 0 where
   pub page : Result (List ℕ) Refusal
-  pub told : IsAnswer page (answer_text ask reply)
+  pub told : IsMadeOf reply page (answer_text ask reply)
   pub next : Result (Option Request) Refusal
-  pub asked : IsAnswer next (next_asked ask reply)
+  pub asked : IsMadeOf reply next (next_asked ask reply)
   pub shows : ShowsPage page next old new result
 
 -- the request that was read is asked, page after page, or its refusal is told

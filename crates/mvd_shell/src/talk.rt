@@ -1,13 +1,16 @@
 //! What is asked by one line, and what is printed of it.
-ghost use Rattle.std.specs.Prelude.{◌≡◌, ◌++◌, ℕ, [], IfErr, List, OnOk, Result, string_bytes};
+ghost use Rattle.std.specs.Prelude.{◌≡◌, ◌≤◌, ◌+◌, ◌++◌, ℕ, [], IfErr, List, OnOk, Result, false, length, string_bytes};
+ghost use Rattle.std.specs.Prelude.{string_capacity, string_len};
+ghost use Rattle.mvd_print.specs.Text.{written_text};
 ghost use Rattle.mvd_shell.specs.Talk.{AsksInTurn, MayHaveAsked, Prints_line, ShowsText, Speaks, SpeaksPages, TellsPage};
-ghost use Rattle.mvd_shell.specs.Talk.{Turns, shell_text, told_text};
+ghost use Rattle.mvd_shell.specs.Talk.{Turns, is_taken, shell_text, told_text};
 ghost use Rattle.mvd_shell.specs.Told.{tells_terms, unknown_text};
 
 use crate::losses::Losses;
 use crate::pages::next_page;
 use crate::text_requests::request_of;
-use mvd_dots::Refusal;
+use itoa::Buffer;
+use mvd_dots::{Dot, Refusal};
 use mvd_input::Ask;
 use mvd_peer::Endpoint;
 use mvd_print::{print_refusal, print_reply};
@@ -111,7 +114,8 @@ pub fn say<A: Endpoint>(
     }
 }
 
-/// Asks for page after page from a request on, and prints them.
+/// Asks for page after page from a request on, and prints them. Nothing is asked for which there is no room to tell that
+/// it was done.
 fn say_pages<A: Endpoint>(
     alloc: Global,
     asked: &mut A,
@@ -124,6 +128,10 @@ fn say_pages<A: Endpoint>(
 {
     let mut request = request;
     for _ in 0..u64::MAX {
+        if out.reserve(LINE).is_err() {
+            drop(request);
+            return Err(Refusal::Memory);
+        }
         match turn(alloc, asked, ask, request, out) {
             Ok(Some(next)) => request = next,
             Ok(None) => return Ok(()),
@@ -143,6 +151,7 @@ fn turn<A: Endpoint>(
     request: Request,
     out: &mut String,
 ) -> Result<Option<Request>, Refusal>
+    requires { string_len out.old + 64 ≤ string_capacity out.old }
     ensures { Turns A.answers asked.old asked.new ask.entry request (string_bytes out.old)
         (string_bytes out.new) result }
 {
@@ -159,6 +168,30 @@ fn tell(
     reply: &Reply,
     out: &mut String,
 ) -> Result<Option<Request>, Refusal>
+    requires { string_len out.old + 64 ≤ string_capacity out.old }
+    ensures { TellsPage ask.entry reply.now (string_bytes out.old) (string_bytes out.new) result }
+{
+    match reply {
+        Reply::Written(dot) => {
+            put_written(*dot, out);
+            Ok(None)
+        }
+        Reply::Done => {
+            put_word("ok\n", out);
+            Ok(None)
+        }
+        reply => tell_page(alloc, ask, reply, out),
+    }
+}
+
+/// The same of a reply that does not tell that a write was done.
+fn tell_page(
+    alloc: Global,
+    ask: Ask<'_>,
+    reply: &Reply,
+    out: &mut String,
+) -> Result<Option<Request>, Refusal>
+    requires { is_taken reply.now ≡ false }
     ensures { TellsPage ask.entry reply.now (string_bytes out.old) (string_bytes out.new) result }
 {
     match print_reply(alloc, has_terms(ask), reply, out) {
@@ -172,4 +205,31 @@ fn has_terms(ask: Ask<'_>) -> bool
     ensures { result ≡ tells_terms ask.entry }
 {
     matches!(ask, Ask::Range { .. })
+}
+
+/// Tells that a put was taken, and its dot, where there is room for a line.
+fn put_written(dot: Dot, out: &mut String)
+    requires { string_len out.old + 64 ≤ string_capacity out.old }
+    ensures { string_bytes out.new ≡ string_bytes out.old ++ written_text dot }
+{
+    let mut site = Buffer::new();
+    let mut counter = Buffer::new();
+    put_word("dot ", out);
+    put_word(site.format(u64::from(dot.site())), out);
+    put_word(":", out);
+    put_word(counter.format(dot.counter()), out);
+    put_word("\n", out);
+}
+
+/// Prints a word, where there is room for it.
+fn put_word(word: &str, out: &mut String)
+    requires { string_len out.old + length word.now ≤ string_capacity out.old }
+    ensures text { string_bytes out.new ≡ string_bytes out.old ++ word.now }
+    ensures len { string_len out.new ≡ string_len out.old + length word.now }
+    ensures room { string_capacity out.old ≤ string_capacity out.new }
+{
+    match out.push_str(word) {
+        Ok(()) => {}
+        Err(_) => unreachable!(),
+    }
 }

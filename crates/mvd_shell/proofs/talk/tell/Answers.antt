@@ -1,16 +1,13 @@
-use Rattle.std.specs.Prelude.{string_bytes, Bool, Ok, Err}
-use Rattle.std.proofs.Common.{subst}
-use Rattle.mvd_print.specs.Added.{Prints}
-use Rattle.mvd_print.specs.Text.{reply_text}
-use Rattle.mvd_shell.proofs.Talking.{page_refused, page_told}
+use Rattle.std.specs.Prelude.{string_bytes}
+use Rattle.std.proofs.Common.{refl}
+use Rattle.mvd_print.specs.Text.{done_text, written_text}
+use Rattle.mvd_wire.specs.declared.reply.Reply.TheVariants as reply
+use Rattle.mvd_shell.proofs.Talking.{page_taken}
 use Rattle.mvd_shell.proofs.talk.tell.Goals as goal
 
-pub returns-in-Ok : goal.returns-in-Ok
-returns-in-Ok c =
-    let prints = subst (λ (b : Bool). Prints (reply_text b c.args.reply.now) (string_bytes c.args.out.now) (string_bytes c.print_reply.new.out) (Ok c.in-Ok.field-0)) c.has_terms.ensures c.in-Ok.ensures in
-    page_told c.args.ask c.args.reply.now (string_bytes c.args.out.now) (string_bytes c.print_reply.new.out) c.in-Ok.field-0 c.next_page.result prints c.next_page.ensures
+pub returns-in-Written : goal.returns-in-Written
+returns-in-Written c = rw c.in-Written.is
+    (page_taken c.args.ask (reply.Written c.in-Written.dot) (string_bytes c.args.out.now) (string_bytes c.put_written.new.out) (written_text c.in-Written.dot) refl refl c.put_written.ensures)
 
-pub returns-in-Err : goal.returns-in-Err
-returns-in-Err c =
-    let prints = subst (λ (b : Bool). Prints (reply_text b c.args.reply.now) (string_bytes c.args.out.now) (string_bytes c.print_reply.new.out) (Err c.in-Err.refusal)) c.has_terms.ensures c.in-Err.ensures in
-    page_refused c.args.ask c.args.reply.now (string_bytes c.args.out.now) (string_bytes c.print_reply.new.out) c.in-Err.refusal prints
+pub returns-in-Done : goal.returns-in-Done
+returns-in-Done c = rw c.in-Done.is (page_taken c.args.ask reply.Done (string_bytes c.args.out.now) (string_bytes c.put_word.new.out) done_text refl refl c.put_word.ensures.text)

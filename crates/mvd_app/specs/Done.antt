@@ -3,7 +3,7 @@ use Rattle.std.specs.Prelude.{◌≡◌, ◌⊎◌, ⊤, ℕ, List, Option, Some
 use Rattle.std.specs.declared.net.socket_addr.SocketAddr.{SocketAddr}
 use Rattle.mvd_app.specs.Looped.{IsLooped}
 use Rattle.mvd_app.specs.Stored.{CannotOpen, ClosesOrNot, EndsAs, Filed, IsConfigFor, StopsBefore, file_in}
-use Rattle.mvd_app.specs.Tasks.{DoesTask, IsSimulated, IsTokenOfOrder, IsTypedAt, Outside}
+use Rattle.mvd_app.specs.Tasks.{DoesTask, IsMet, IsSimulated, IsTokenOfOrder, IsTypedAt, Outside}
 use Rattle.mvd_app.specs.declared.closing.Ran.{Ran}
 use Rattle.mvd_hint.specs.declared.hint.Stop.{Stop}
 use Rattle.mvd_input.specs.declared.order.Order.{Order}
@@ -75,12 +75,14 @@ module _ {D : Type 0} {g : disk.Ghosts D} (f : Ghosts (FileStore D g)) {K L : Ty
   abbrev pub DoesFile : Image → Filed → Outside K → Outside K → Ran D → Type 0
   DoesFile image filed was now ran = IsUnopened f image filed was now ran ⊎ HasDone image filed was now ran
 
-  -- what an order without a file does; of sessions of servers nothing is said
+  -- what an order without a file does
   abbrev pub DoesBeside : Order → Outside K → Outside K → Result (Unit {0}) Stop → Type 0
   DoesBeside order.Sim was now ended = IsSimulated was.input now.input was.out now.out ended
   DoesBeside (order.Loop setup) was now ended = IsLooped setup.defs was.input now.input was.out now.out ended
   DoesBeside (order.RemoteShell address idle file) was now ended =
       IsTypedAt line (gives address) address file was.input now.input was.out now.out ended
+  DoesBeside (order.Meet address list repeat idle verbose file) was now ended =
+      (now.input ≡ was.input) × IsMet line gives address list repeat file was.out now.out ended
   DoesBeside _ was now ended = ⊤
 
   abbrev pub DoesIn : Image → Order → Option Filed → Outside K → Outside K → Ran D → Type 0

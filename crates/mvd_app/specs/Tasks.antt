@@ -1,5 +1,5 @@
 -- What is done with a stored site, and with what is outside of a command.
-use Rattle.std.specs.Prelude.{◌≡◌, ◌⊎◌, ⊤, ℕ, List, [], map, IfErr, IsSome, OnOk, Option, Some, None, is_some, Result, Ok, Err}
+use Rattle.std.specs.Prelude.{◌≡◌, ◌⊎◌, ⊤, ℕ, List, [], ◌∷◌, map, IfErr, IsSome, OnOk, Option, Some, None, is_some, Result, Ok, Err}
 use Rattle.std.specs.Borrow.{Bor}
 use Rattle.std.specs.List.{AllByRecursion}
 use Rattle.std.specs.Option.{ForSome}
@@ -8,14 +8,17 @@ use Rattle.mvd_app.specs.Named.{StopsAtToken}
 use Rattle.mvd_app.specs.Noted.{Noting, at_noted}
 use Rattle.mvd_app.specs.declared.commands.Work.{Work}
 use Rattle.mvd_app.specs.declared.commands.Work.TheVariants as work
+use Rattle.mvd_client.specs.Between.{MeetsServer}
 use Rattle.mvd_client.specs.LetIn.{GivesIn}
 use Rattle.mvd_client.specs.SyncsAt.{TellsSession}
 use Rattle.mvd_client.specs.Talked.{ShellsAt}
 use Rattle.mvd_hint.specs.declared.hint.Stop.{Stop}
 use Rattle.mvd_host.specs.Round.{turns_of}
 use Rattle.mvd_host.specs.Runs.{turns_in}
+use Rattle.mvd_input.specs.Addresses.{items_of}
 use Rattle.mvd_input.specs.Orders.{ArePeers}
 use Rattle.mvd_input.specs.declared.fault.Fault.{Fault}
+use Rattle.mvd_input.specs.declared.order.Repeat.{Repeat}
 use Rattle.mvd_remote.specs.declared.line.Line.{Ghosts as LineGhosts}
 use Rattle.mvd_replica.specs.ReplicaCalls.{ReplicaAnswers}
 use Rattle.mvd_replica.specs.Replicas.{site_of}
@@ -126,3 +129,13 @@ IsTypedAt line gives address file input input' out out' result =
     ((token : Option (List ℕ)) × IsTokenOfOrder file token
     × ShellsAt line (GivesIn line gives token) address input out input' out' result)
     ⊎ (((stop : Stop) × (result ≡ Err stop) × StopsAtToken file stop) × (input' ≡ input) × (out' ≡ out))
+
+-- Sessions of the server at an address with those of a list, to which the token was shown first; where there is one,
+-- and nothing is repeated, what is printed is of the session that ran. Or the token could not be read of its file
+abbrev pub IsMet : {L : Type 0} → LineGhosts L → (SocketAddr → L → Type 0) → SocketAddr → Bor (List ℕ) → Option Repeat
+    → Option (Bor (List ℕ)) → Option (List ℕ) → Option (List ℕ) → Result (Unit {0}) Stop → Type 0
+IsMet line gives address list repeat file out out' result =
+    ((token : Option (List ℕ)) × IsTokenOfOrder file token
+    × (repeat ≡ None → (text : List ℕ) → items_of list.now ≡ text ∷ []
+    → MeetsServer line gives token address text out out' result))
+    ⊎ (((stop : Stop) × (result ≡ Err stop) × StopsAtToken file stop) × (out' ≡ out))

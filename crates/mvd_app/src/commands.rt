@@ -1,28 +1,27 @@
 //! What a command line asks for, done: with standard input and output, files and sockets.
-ghost use Rattle.std.specs.Prelude.{◌≡◌, ◌⊎◌, IfErr, IfOk, IfSome, IsOkAnd, List, None, Some, is_some, option_copied, ℕ};
+ghost use Rattle.std.specs.Prelude.{◌≡◌, ◌⊎◌, IfErr, IfOk, IfSome, List, Some, is_some, option_copied, ℕ};
 ghost use Rattle.mvd_app.specs.Done.{DoesFile, DoesOrder};
 ghost use Rattle.mvd_app.specs.Looped.{IsLooped};
-ghost use Rattle.mvd_app.specs.Named.{IsDefsFault, StopsAtDefs, StopsAtToken};
+ghost use Rattle.mvd_app.specs.Named.{StopsAtDefs, StopsAtToken};
 ghost use Rattle.mvd_app.specs.Stored.{GivesBack, IsConfigFor, IsWithoutFile, file_in, filed};
-ghost use Rattle.mvd_app.specs.Tasks.{DoesTask, IsSimulated, IsTypedAt, MayWork, outside, task_of};
+ghost use Rattle.mvd_app.specs.Tasks.{DoesTask, IsMet, IsSimulated, IsTypedAt, MayWork, outside, task_of};
 ghost use Rattle.mvd_input.specs.Addresses.{IsAddressList};
 ghost use Rattle.mvd_input.specs.Orders.{IsInRange, IsSetUp};
 ghost use Rattle.mvd_replica.specs.Turns.{Turn};
-ghost use Rattle.mvd_rows.specs.Defs.{no_definitions};
 ghost use Rattle.sqlite.specs.WalFiles.{image_at};
 
 use crate::closing::{Ran, finish};
 use crate::looping::loop_run;
 use crate::opening::opened;
 use crate::serve_command::serve_stored;
+use crate::setups::config_in;
 use crate::tokens::token_in;
 use crate::typed_lines::typed;
 use mvd_client::{Dial, MeetingTerms, meet_run, remote_shell_run, sync_told};
 use mvd_dots::Refusal;
 use mvd_hint::{Hint, Stop};
-use mvd_input::{DEFS_MAX, Fault, Order, Peers, Setup, read_defs, read_input};
+use mvd_input::{Fault, Order, Peers, Setup};
 use mvd_replica::Replica;
-use mvd_rows::Defs;
 use mvd_script::sim;
 use mvd_server::{Sockets, Terms};
 use mvd_site::Config;
@@ -30,7 +29,6 @@ use mvd_wire::Token;
 use sqlite::{Alter, FileFrom, FileStore, Start};
 use sqlite_disk::Disk;
 use sqlite_trees::store::Store;
-use std::fs;
 use std::io::{BufRead, Write};
 use std::net::SocketAddr;
 
@@ -344,6 +342,8 @@ fn run_meeting<'a, D: Dial, W: Write>(
     writer: &mut W,
 ) -> Result<(), Stop<'a>>
     requires { IsAddressList with.now }
+    ensures { IsMet D.Dialed.Line (D.gives dial.now) address with.entry terms.entry.repeat token_file.entry
+        (W.contents writer.old) (W.contents writer.new) result }
 {
     let token = token_in(rt, token_file)?;
     let terms = MeetingTerms {
@@ -360,39 +360,4 @@ fn run_meeting<'a, D: Dial, W: Write>(
         writer,
         &mut rt.stderr(),
     )
-}
-
-/// What a site is set up with.
-fn config_in<'a>(rt: &HostRuntime, setup: Setup<'a>) -> Result<Config, Stop<'a>>
-    requires { IsSetUp setup }
-    ensures config { IfOk result (IsConfigFor setup.entry) }
-    // It is stopped only by a file of definitions.
-    ensures stopped { IfErr result (StopsAtDefs setup.entry.defs) }
-{
-    let defs = defs_in(rt, setup.defs)?;
-    Ok(Config::new(setup.site, setup.max_keys, defs))
-}
-
-/// The indexes and views of a file of definitions, or none.
-fn defs_in<'a>(rt: &HostRuntime, file: Option<&'a str>) -> Result<Defs, Stop<'a>>
-    ensures none { file.entry ≡ None → IsOkAnd result (λ defs. defs ≡ no_definitions) }
-    ensures stopped { IfErr result (StopsAtDefs file.entry) }
-{
-    let Some(file) = file else {
-        return Ok(Defs::new(rt.alloc()));
-    };
-    match defs_of(rt, file) {
-        Ok(defs) => Ok(defs),
-        Err(fault) => Err(Stop::in_defs(file, fault)),
-    }
-}
-
-fn defs_of(rt: &HostRuntime, file: &str) -> Result<Defs, Fault>
-    ensures { IfErr result IsDefsFault }
-{
-    let Ok(mut file) = fs::open(rt, file) else {
-        return Err(Fault::Stopped(Refusal::ReadFailed));
-    };
-    let text = read_input(rt.alloc(), &mut file, DEFS_MAX)?;
-    read_defs(rt.alloc(), &text)
 }

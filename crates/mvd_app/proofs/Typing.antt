@@ -137,7 +137,7 @@ pages_fine a request [] told valid tells = tt
 pages_fine a request (exchange ∷ exchanges) told valid (is, page, next, answer, asked, inl (none, end)) = (fine_turn exchange (subst IsValidRequest (sym is) valid), fine_none exchanges none)
 pages_fine a request (exchange ∷ exchanges) told valid (is, page, next, answer, asked, inr (text, following, more, shown, goes_on, tells, all)) = (
   fine_turn exchange (subst IsValidRequest (sym is) valid),
-  pages_fine a following exchanges more (following_fine next (next_asked a exchange.reply) following goes_on asked (next_fine a exchange.reply)) tells,
+  pages_fine a following exchanges more (following_fine next (next_asked a exchange.reply) following goes_on asked.0 (next_fine a exchange.reply)) tells,
 )
 
 -- ---- what a line asks

@@ -1,5 +1,5 @@
 -- Why a file is refused, and what its command is stopped with.
-use Rattle.std.specs.Prelude.{ℕ, ◌≡◌, ◌⊎◌, ¬◌, IsTrue, List, Option, Some}
+use Rattle.std.specs.Prelude.{ℕ, ◌≡◌, ◌⊎◌, IsTrue, List, Option, Some}
 use Rattle.std.specs.Borrow.{Bor}
 use Rattle.mvd_dots.specs.declared.refusals.Refusal.{Refusal}
 use Rattle.mvd_dots.specs.declared.refusals.Refusal.TheVariants.{Damaged, Full, SiteMismatch, Store}

@@ -18,7 +18,7 @@ use Rattle.mvd_host.specs.Runs.{turns_in}
 use Rattle.mvd_input.specs.Addresses.{items_of}
 use Rattle.mvd_input.specs.Orders.{ArePeers}
 use Rattle.mvd_input.specs.declared.fault.Fault.{Fault}
-use Rattle.mvd_input.specs.declared.order.Repeat.{Repeat}
+use Rattle.mvd_input.specs.declared.options.Repeat.{Repeat}
 use Rattle.mvd_remote.specs.declared.line.Line.{Ghosts as LineGhosts}
 use Rattle.mvd_replica.specs.ReplicaCalls.{ReplicaAnswers}
 use Rattle.mvd_replica.specs.Replicas.{site_of}

@@ -5,5 +5,6 @@ pub mod Memory
 pub mod Reading
 pub mod Rounds
 pub mod Running
+pub mod Stops
 pub mod Typing
 pub mod Working

@@ -1,5 +1,5 @@
 -- The files that a command reads before it opens the file of its site: what it is stopped with where one is at fault.
-use Rattle.std.specs.Prelude.{◌≡◌, ◌⊎◌, ⊤, ℕ, List, Option, Some, None}
+use Rattle.std.specs.Prelude.{◌≡◌, ◌≢◌, ◌⊎◌, ⊤, ℕ, List, Option, Some, None}
 use Rattle.std.specs.Borrow.{Bor}
 use Rattle.mvd_dots.specs.declared.refusals.Refusal.TheVariants.{FrameTooLong, Memory, ReadFailed}
 use Rattle.mvd_hint.specs.declared.hint.Hint.{Hint}
@@ -24,11 +24,9 @@ pub record TellsDefs (file : Bor (List ℕ)) (stop : Stop) : Type 0 where
 -- why a file gives no token: it cannot be read, or its first line is none; it is too long; or memory was refused
 abbrev pub IsTokenFault : Bor (List ℕ) → Fault → Option Hint → Type 0
 IsTokenFault file (of_fault.Line number) hint = ⊥
-IsTokenFault file (of_fault.Stopped ReadFailed) hint =
-    (hint ≡ Some (hints.NoToken file)) ⊎ (hint ≡ Some (hints.BadToken file))
-IsTokenFault file (of_fault.Stopped FrameTooLong) hint = hint ≡ Some hints.TooLong
-IsTokenFault file (of_fault.Stopped Memory) hint = ⊤
-IsTokenFault file (of_fault.Stopped refusal) hint = ⊥
+IsTokenFault file (of_fault.Stopped refusal) hint = refusal ≢ Memory
+    → ((refusal ≡ FrameTooLong) × (hint ≡ Some hints.TooLong))
+    ⊎ ((refusal ≡ ReadFailed) × ((hint ≡ Some (hints.NoToken file)) ⊎ (hint ≡ Some (hints.BadToken file))))
 
 -- a command is stopped by the file of definitions, or with a token, that it names
 abbrev pub StopsAtDefs : Option (Bor (List ℕ)) → Stop → Type 0

@@ -24,6 +24,7 @@ pub(crate) fn config_in<'a>(rt: &HostRuntime, setup: Setup<'a>) -> Result<Config
 }
 
 /// The indexes and views of a file of definitions, or none.
+#[tactic(auto, using(crate::proofs::Stops::tells_defs))]
 fn defs_in<'a>(rt: &HostRuntime, file: Option<&'a str>) -> Result<Defs, Stop<'a>>
     ensures none { file.entry ≡ None → IsOkAnd result (λ defs. defs ≡ no_definitions) }
     ensures stopped { IfErr result (StopsAtDefs file.entry) }
@@ -37,6 +38,7 @@ fn defs_in<'a>(rt: &HostRuntime, file: Option<&'a str>) -> Result<Defs, Stop<'a>
     }
 }
 
+#[tactic(auto, using(crate::proofs::Stops::defs_refused, crate::proofs::Stops::defs_unread))]
 fn defs_of(rt: &HostRuntime, file: &str) -> Result<Defs, Fault>
     ensures { IfErr result IsDefsFault }
 {

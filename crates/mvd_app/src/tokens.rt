@@ -24,6 +24,7 @@ pub(crate) fn token_in<'a>(
     }
 }
 
+#[tactic(auto, using(crate::proofs::Stops::token_refused, crate::proofs::Stops::token_none, crate::proofs::Stops::token_unread))]
 fn token_of<'a>(rt: &HostRuntime, file: &'a str) -> Result<Token, Stop<'a>>
     ensures { IfErr result (λ stop. IsTokenFault file.entry stop.fault stop.hint) }
 {

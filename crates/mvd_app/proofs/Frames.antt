@@ -1,8 +1,12 @@
 -- Frames that are read one after the other, each printed as a line.
-use Rattle.std.proofs.Common.{◌≡◌, ◌∙◌, ◌-◌, ◌+◌, ◌≤◌, ◌<◌, ℕ, List, [], ◌∷◌, ◌++◌, length, take, ap, append_assoc, arith, refl, subst, sym}
+use Rattle.std.proofs.Common.{◌≡◌, ◌∙◌, ◌-◌, ◌+◌, ◌≤◌, ◌<◌, ℕ, List, [], ◌∷◌, ◌++◌, Option, Err, inr, length, take, ap, append_assoc, arith, refl, subst, sym}
 use Rattle.std.proofs.lemmas.List.{append-nil, flat_map_more, length-append, take_at}
 use Rattle.std.specs.List.{flat_map}
-use Rattle.mvd_app.specs.Looped.{PrintsFrames, frame_line}
+use Rattle.mvd_app.specs.Looped.{FailsLine, IsStopped, Loops, PrintsFrames, ReadsAll, StopsUntold, frame_line}
+use Rattle.mvd_input.specs.Ends.{ReadsNot}
+use Rattle.mvd_input.specs.Hexadecimal.{HasFault}
+use Rattle.mvd_input.specs.declared.fault.Fault.{Fault}
+use Rattle.mvd_input.specs.declared.fault.Fault.TheVariants as of_fault
 use Rattle.std.specs.Int.{w32}
 use Rattle.mvd_wire.specs.Codec.{number}
 use Rattle.mvd_wire.specs.Frames.{FrameValue, spell_frame}
@@ -41,3 +45,29 @@ spelled_some frame = omega (arith, length-append ((number w32).spell (length fra
 
 pub fewer_left : (before left : List ℕ) (frame : FrameValue) → before ≡ spell_frame frame ++ left → length left < length before
 fewer_left before left frame is = omega (arith, ap length is, length-append (spell_frame frame) left, spelled_some frame)
+
+-- ---- the whole command
+
+pub fails_unread : (input input' : Option (List ℕ)) (fault : Fault) → ReadsNot fault → FailsLine input input' fault
+fails_unread input input' (of_fault.Line number) it = absurd it
+fails_unread input input' (of_fault.Stopped refusal) it = tt
+
+pub fails_spelling : (input input' : Option (List ℕ)) (text : List ℕ) (fault : Fault) → ReadsAll input input' text → HasFault text fault → FailsLine input input' fault
+fails_spelling input input' text (of_fault.Line number) reads it = (text, reads, it)
+fails_spelling input input' text (of_fault.Stopped refusal) reads it = tt
+
+pub stopped_unread : (fault : Fault) → ReadsNot fault → IsStopped fault
+stopped_unread (of_fault.Line number) it = absurd it
+stopped_unread (of_fault.Stopped refusal) it = tt
+
+pub stopped_untold : (out : Option (List ℕ)) (fault : Fault) → IsStopped fault → StopsUntold out out fault
+stopped_untold out (of_fault.Line number) it = absurd it
+stopped_untold out (of_fault.Stopped refusal) it = inr refl
+
+pub loops_line : (input input' out : Option (List ℕ)) (fault : Fault) → FailsLine input input' fault → Loops input input' out out (Err fault)
+loops_line input input' out (of_fault.Line number) it = (it, refl)
+loops_line input input' out (of_fault.Stopped refusal) it = inr refl
+
+pub loops_untold : (input input' out out' : Option (List ℕ)) (fault : Fault) → StopsUntold out out' fault → Loops input input' out out' (Err fault)
+loops_untold input input' out out' (of_fault.Line number) it = absurd it
+loops_untold input input' out out' (of_fault.Stopped refusal) it = it

@@ -3,7 +3,7 @@ pub mod Syncing
 pub mod Fresh
 pub mod Leading
 pub mod Noting
-pub mod Meeting
+pub mod Fars
 pub mod Opened
-pub mod Pushing
+pub mod PushTurns
 pub mod Seen

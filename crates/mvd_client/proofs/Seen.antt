@@ -62,27 +62,26 @@ on_ok : {X : Type 0} (P Q : Type 0) (result : Result X SyncFault) → (P → Q) 
 on_ok P Q (Ok x) then is = then is
 on_ok P Q (Err fault) then is = tt
 
-module _ {S T M N : Type 0} (inner : T → S) (follows : ℕ → T → T → Type 0) (side : SideOf S) (within : (n : ℕ) (old new : T) → follows n old new → side.follows n (inner old) (inner new))
-    (inner_peer : N → M) (follows_peer : ℕ → N → N → Type 0) (peer : SideOf M) (within_peer : (n : ℕ) (old new : N) → follows_peer n old new → peer.follows n (inner_peer old) (inner_peer new)) where
-  pub session_within : (most : ℕ) (old new : T) (before after : N) (result : Result Report SyncFault) →
-      Session (record { local = around inner follows side; peer = around inner_peer follows_peer peer }) most (two old before) (two new after) result →
-      Session (record { local = side; peer = peer }) most (two (inner old) (inner_peer before)) (two (inner new) (inner_peer after)) result
-  session_within most old new before after result it = record {
-    course = record {
-      asked_local = it.course.asked_local;
-      asked_peer = it.course.asked_peer;
-      wanted_local = it.course.wanted_local;
-      wanted_peer = it.course.wanted_peer;
-      within = it.course.within;
-      follows = (within it.course.asked_local old new it.course.follows.0, within_peer it.course.asked_peer before after it.course.follows.1);
-      cause = cause_of _ _ _ _ (blamed inner follows side within most it.course.asked_local it.course.wanted_local old new)
-          (blamed inner_peer follows_peer peer within_peer most it.course.asked_peer it.course.wanted_peer before after) result it.course.cause;
-      local_side = it.course.local_side;
-      peer_side = it.course.peer_side;
-      beside_local = λ none true. it.course.beside_local (silent inner follows side within old none) true;
-      beside_peer = λ none true. it.course.beside_peer (silent inner_peer follows_peer peer within_peer before none) true;
-    };
-    answers = on_ok _ _ result (λ both. (answered inner follows side within old new both.0, answered inner_peer follows_peer peer within_peer before after both.1)) it.answers;
-    meets = it.meets;
-    few = it.few;
-  }
+pub session_within : {S T M N : Type 0} (old new : T) (before after : N) (inner : T → S) (inner_peer : N → M) (side : SideOf S) (peer : SideOf M) (follows : ℕ → T → T → Type 0) (follows_peer : ℕ → N → N → Type 0) (most : ℕ) (result : Result Report SyncFault) →
+    Session (record { local = around inner follows side; peer = around inner_peer follows_peer peer }) most (two old before) (two new after) result →
+    ((n : ℕ) (a b : T) → follows n a b → side.follows n (inner a) (inner b)) → ((n : ℕ) (a b : N) → follows_peer n a b → peer.follows n (inner_peer a) (inner_peer b)) →
+    Session (record { local = side; peer = peer }) most (two (inner old) (inner_peer before)) (two (inner new) (inner_peer after)) result
+session_within old new before after inner inner_peer side peer follows follows_peer most result it within within_peer = record {
+  course = record {
+    asked_local = it.course.asked_local;
+    asked_peer = it.course.asked_peer;
+    wanted_local = it.course.wanted_local;
+    wanted_peer = it.course.wanted_peer;
+    within = it.course.within;
+    follows = (within it.course.asked_local old new it.course.follows.0, within_peer it.course.asked_peer before after it.course.follows.1);
+    cause = cause_of _ _ _ _ (blamed inner follows side within most it.course.asked_local it.course.wanted_local old new)
+        (blamed inner_peer follows_peer peer within_peer most it.course.asked_peer it.course.wanted_peer before after) result it.course.cause;
+    local_side = it.course.local_side;
+    peer_side = it.course.peer_side;
+    beside_local = λ none true. it.course.beside_local (silent inner follows side within old none) true;
+    beside_peer = λ none true. it.course.beside_peer (silent inner_peer follows_peer peer within_peer before none) true;
+  };
+  answers = on_ok _ _ result (λ both. (answered inner follows side within old new both.0, answered inner_peer follows_peer peer within_peer before after both.1)) it.answers;
+  meets = it.meets;
+  few = it.few;
+}

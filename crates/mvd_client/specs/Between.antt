@@ -70,8 +70,8 @@ module _ {L : Type 0} (line : LineGhosts L) where
       FailsBetween near_gives far_gives near_fresh far_fresh near far failure
 
   -- the root of a server, as it was told over a line: of a true side, where no reply was due, that of all that it holds
-  pub record TellsRoot (address : SocketAddr) (at : Counted L) (root : Root) : Type 0 where
-    pub address : root.address ≡ address
+  pub record TellsRoot (server : SocketAddr) (at : Counted L) (root : Root) : Type 0 where
+    pub address : root.address ≡ server
     pub digest : true_within at → (far_within at).due ≡ [] → root.digest ≡ root_of (far_within at).states
 
   -- ---- one session with one server

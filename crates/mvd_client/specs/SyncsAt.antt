@@ -33,20 +33,21 @@ abbrev pub TellsRan : SiteValue → Option (List ℕ) → Option (List ℕ) → 
 TellsRan site out out' (Ok report) result = Reports report site out out' result
 TellsRan site out out' (Err stop) result = (result ≡ Err stop) × (out' ≡ out)
 
+-- behind a session that ended well comes a Bye, and nothing else; behind another, nothing
+abbrev pub EndsBy : {L : Type 0} → LineGhosts L → Result Report SyncFault → Remote L → Remote L
+    → Result Report SyncFault → Type 0
+EndsBy line (Ok report) mid after told =
+    (bye : Result (Unit {0}) Refusal) × AsksOver line bye_query mid after bye × (told ≡ report_told report bye)
+EndsBy line (Err fault) mid after told = (after ≡ mid) × (told ≡ Err fault)
+
 -- a site `S`, and a line `L` over which the far side is asked
 module _ {S : Type 0} {g : Ghosts S} {L : Type 0} (line : LineGhosts L) where
-  -- behind a session that ended well comes a Bye, and nothing else; behind another, nothing
-  abbrev pub EndsBy : Result Report SyncFault → Remote L → Remote L → Result Report SyncFault → Type 0
-  EndsBy (Ok report) mid after told =
-      (bye : Result (Unit {0}) Refusal) × AsksOver line bye_query mid after bye × (told ≡ report_told report bye)
-  EndsBy (Err fault) mid after told = (after ≡ mid) × (told ≡ Err fault)
-
   -- ONE SESSION over a line, and a Bye
   pub record SyncsOver (old new : Replica S g) (before after : Remote L) (told : Result Report SyncFault) : Type 0 where
     pub mid : Remote L
     pub ran : Result Report SyncFault
     pub session : Session (sides_at line) 10000000 (two old before) (two new mid) ran
-    pub ends : EndsBy ran mid after told
+    pub ends : EndsBy line ran mid after told
     -- where the line is true, no reply is due, and so is the site, the two meet
     pub meets : IsTrueSite (site_of old) → line.is_true (line_of before) → (line.far (line_of before)).due ≡ []
         → refused_of before ≡ None → MeetsFar line.is_true line.far old new before after told

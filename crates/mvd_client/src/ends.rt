@@ -128,11 +128,11 @@ pub(crate) fn meet<'a, D: Dial, E: Write>(
     ensures far { far.new.address ≡ far.old.address }
     // What it tells is what came of the last session.
     ensures met { EndsBetween D.Dialed.Line
-        (GivesIn D.Dialed.Line (D.gives dial.now near.old.address) (option_copied terms.token))
-        (GivesIn D.Dialed.Line (D.gives dial.now far.old.address) (option_copied terms.token))
-        (IsFresh D.Dialed.Line (GivesIn D.Dialed.Line (D.gives dial.now near.old.address) (option_copied terms.token))
+        (GivesIn D.Dialed.Line (D.gives dial.now near.old.address) (option_copied terms.entry.token))
+        (GivesIn D.Dialed.Line (D.gives dial.now far.old.address) (option_copied terms.entry.token))
+        (IsFresh D.Dialed.Line (GivesIn D.Dialed.Line (D.gives dial.now near.old.address) (option_copied terms.entry.token))
             near.old.link)
-        (IsFresh D.Dialed.Line (GivesIn D.Dialed.Line (D.gives dial.now far.old.address) (option_copied terms.token))
+        (IsFresh D.Dialed.Line (GivesIn D.Dialed.Line (D.gives dial.now far.old.address) (option_copied terms.entry.token))
             far.old.link)
         near.old.address far.old.address near.new.link far.new.link result }
 {
@@ -192,19 +192,19 @@ fn session<'a, D: Dial, E: Write>(
     ensures far { far.new.address ≡ far.old.address }
     // After a failure a line is kept only that nothing was asked over.
     ensures near_kept { OnErr result (IsFresh D.Dialed.Line
-        (GivesIn D.Dialed.Line (D.gives dial.now near.old.address) (option_copied terms.token)) near.old.link →
+        (GivesIn D.Dialed.Line (D.gives dial.now near.old.address) (option_copied terms.entry.token)) near.old.link →
         IsFresh D.Dialed.Line
-        (GivesIn D.Dialed.Line (D.gives dial.now near.old.address) (option_copied terms.token)) near.new.link) }
+        (GivesIn D.Dialed.Line (D.gives dial.now near.old.address) (option_copied terms.entry.token)) near.new.link) }
     ensures far_kept { OnErr result (IsFresh D.Dialed.Line
-        (GivesIn D.Dialed.Line (D.gives dial.now far.old.address) (option_copied terms.token)) far.old.link →
+        (GivesIn D.Dialed.Line (D.gives dial.now far.old.address) (option_copied terms.entry.token)) far.old.link →
         IsFresh D.Dialed.Line
-        (GivesIn D.Dialed.Line (D.gives dial.now far.old.address) (option_copied terms.token)) far.new.link) }
+        (GivesIn D.Dialed.Line (D.gives dial.now far.old.address) (option_copied terms.entry.token)) far.new.link) }
     ensures met { EndsBetween D.Dialed.Line
-        (GivesIn D.Dialed.Line (D.gives dial.now near.old.address) (option_copied terms.token))
-        (GivesIn D.Dialed.Line (D.gives dial.now far.old.address) (option_copied terms.token))
-        (IsFresh D.Dialed.Line (GivesIn D.Dialed.Line (D.gives dial.now near.old.address) (option_copied terms.token))
+        (GivesIn D.Dialed.Line (D.gives dial.now near.old.address) (option_copied terms.entry.token))
+        (GivesIn D.Dialed.Line (D.gives dial.now far.old.address) (option_copied terms.entry.token))
+        (IsFresh D.Dialed.Line (GivesIn D.Dialed.Line (D.gives dial.now near.old.address) (option_copied terms.entry.token))
             near.old.link)
-        (IsFresh D.Dialed.Line (GivesIn D.Dialed.Line (D.gives dial.now far.old.address) (option_copied terms.token))
+        (IsFresh D.Dialed.Line (GivesIn D.Dialed.Line (D.gives dial.now far.old.address) (option_copied terms.entry.token))
             far.old.link)
         near.old.address far.old.address near.new.link far.new.link result }
 {
@@ -251,8 +251,8 @@ fn opened<'a, D: Dial>(
     ensures address { end.new.address ≡ end.old.address }
     ensures none { end.new.link ≡ None }
     ensures opened { IfOk result (λ counted. IsFresh D.Dialed.Line
-        (GivesIn D.Dialed.Line (D.gives dial.now end.old.address) (option_copied terms.token)) end.old.link →
-        GivesIn D.Dialed.Line (D.gives dial.now end.old.address) (option_copied terms.token) counted.line) }
+        (GivesIn D.Dialed.Line (D.gives dial.now end.old.address) (option_copied terms.entry.token)) end.old.link →
+        GivesIn D.Dialed.Line (D.gives dial.now end.old.address) (option_copied terms.entry.token) counted.line) }
     ensures undialed { IfErr result (IsUndialed end.old.address) }
 {
     if let Some(link) = end.link.take() {

@@ -3,7 +3,6 @@ ghost use Rattle.std.specs.Prelude.{◌≡◌, ◌≢◌, ◌≤◌, ◌+◌, �
 ghost use Rattle.std.specs.Io.KnownBytes.{Appends};
 ghost use Rattle.mvd_client.specs.AskedServer.{RepliesNoted, lost_of};
 ghost use Rattle.mvd_client.specs.LetIn.{GivesIn};
-ghost use Rattle.mvd_client.specs.Pushing.{FollowsTurns};
 ghost use Rattle.mvd_client.specs.Questioned.{AsksFew, questions};
 ghost use Rattle.mvd_client.specs.Reported.{CutReport, HasNoLines, Reports, StopsLeft, refused_keys_text, root_of, session_text};
 ghost use Rattle.mvd_client.specs.Stopped.{StopsFaulted};
@@ -170,14 +169,34 @@ fn session_of<L: Line, S: Alter + Drop, E: Write>(
     ensures session { Session (sides_at L.Line) 10000000 (two replica.old watched.old.side)
         (two replica.new watched.new.side) result }
     // What it does to the site is turns.
-    ensures turns { FollowsTurns replica.old replica.new }
+    ensures takes { TakesPushes replica.old replica.new }
+    ensures pushed { FollowsPushed replica.old replica.new }
     ensures few { IsTrueSite (site_of replica.old) → IsTrueRemote L.is_true L.far watched.old.side →
         AsksFew (questions watched.old.asked.items) (questions watched.new.asked.items)
         (site_of replica.old).states (far_of L.far watched.old.side).states }
     ensures most { questions watched.new.asked.items ≤ questions watched.old.asked.items + 10000000 }
 {
     let mut side = StoredSide { replica };
-    sync(alloc, &mut side, watched)
+    session_with(alloc, &mut side, watched)
+}
+
+/// The same of the site behind a reference.
+fn session_with<L: Line, S: Alter + Drop, E: Write>(
+    alloc: Global,
+    side: &mut StoredSide<'_, S>,
+    watched: &mut Watched<'_, Remote<L>, E>,
+) -> Result<Report, SyncFault>
+    ensures same_reference { side.new.replica.ghost_name ≡ side.old.replica.ghost_name }
+    ensures session { Session (sides_at L.Line) 10000000 (two side.old.replica.now watched.old.side)
+        (two side.new.replica.now watched.new.side) result }
+    ensures takes { TakesPushes side.old.replica.now side.new.replica.now }
+    ensures pushed { FollowsPushed side.old.replica.now side.new.replica.now }
+    ensures few { IsTrueSite (site_of side.old.replica.now) → IsTrueRemote L.is_true L.far watched.old.side →
+        AsksFew (questions watched.old.asked.items) (questions watched.new.asked.items)
+        (site_of side.old.replica.now).states (far_of L.far watched.old.side).states }
+    ensures most { questions watched.new.asked.items ≤ questions watched.old.asked.items + 10000000 }
+{
+    sync(alloc, side, watched)
 }
 
 /// Tells how many keys a session exchanged, how many were refused, and the root digest; and on `errors` which keys

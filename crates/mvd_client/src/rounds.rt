@@ -89,8 +89,8 @@ pub fn meet_run<'a, D: Dial, C: Clock, W: Write, E: Write>(
 ) -> Result<(), Stop<'a>>
     requires { IsAddressList with.now }
     // Where nothing is repeated and the list has one server, what is printed is of the session that ran.
-    ensures once { terms.repeat ≡ None → (text : List ℕ) → items_of with.now ≡ text ∷ [] →
-        MeetsServer D.Dialed.Line (D.gives dial.now) (option_copied terms.token) address text
+    ensures once { terms.entry.repeat ≡ None → (text : List ℕ) → items_of with.now ≡ text ∷ [] →
+        MeetsServer D.Dialed.Line (D.gives dial.now) (option_copied terms.entry.token) address text
         (W.contents writer.old) (W.contents writer.new) result }
 {
     let Ok(addresses) = addresses_of(alloc, address.ip(), with) else {
@@ -120,8 +120,8 @@ fn meet_one<'a, D: Dial, W: Write, E: Write>(
 ) -> Result<(), Stop<'a>>
     requires { near.old.link ≡ None }
     ensures { MeetsOnce D.Dialed.Line
-        (GivesIn D.Dialed.Line (D.gives dial.now near.old.address) (option_copied terms.token))
-        (GivesIn D.Dialed.Line (D.gives dial.now far) (option_copied terms.token))
+        (GivesIn D.Dialed.Line (D.gives dial.now near.old.address) (option_copied terms.entry.token))
+        (GivesIn D.Dialed.Line (D.gives dial.now far) (option_copied terms.entry.token))
         near.old.address far (W.contents writer.old) (W.contents writer.new) result }
 {
     let mut far = End::new(far);

@@ -12,7 +12,7 @@ use Rattle.mvd_replica.specs.Sides.{ReplicaRefuses}
 use Rattle.mvd_replica.specs.declared.replica.Replica.{Replica}
 use Rattle.mvd_replica.proofs.Commits.{answers_all}
 use Rattle.mvd_replica.proofs.Pushed.{answered_each, answered_told}
-use Rattle.mvd_client.proofs.Pushing.{window_turns}
+use Rattle.mvd_client.proofs.PushTurns.{window_turns}
 use Rattle.mvd_client.specs.Pushing.{FollowsTurns, turns_self}
 use Rattle.mvd_client.proofs.pushing.push_window.Goals as goal
 

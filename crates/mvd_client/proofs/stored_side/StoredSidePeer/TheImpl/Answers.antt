@@ -1,6 +1,7 @@
-use Rattle.std.proofs.Common.{refl, rules}
+use Rattle.std.proofs.Common.{◌≡◌, refl, rules}
+use Rattle.mvd_client.specs.Pushing.{FollowsTurns, turns_self}
 use Rattle.mvd_peer.proofs.ManyPushes.{leaves_same}
-use Rattle.mvd_client.proofs.Pushing.{push_turns, same_turns, window_ended, window_first, window_open, window_pushes, window_told, window_true}
+use Rattle.mvd_client.proofs.PushTurns.{push_turns, same_turns, window_ended, window_first, window_open, window_pushes, window_told, window_true}
 use Rattle.mvd_client.proofs.stored_side.StoredSidePeer.TheImpl.Goals as goal
 
 pub node-tells : goal.node-tells
@@ -49,4 +50,15 @@ push-tells g c = record {
 
 pub push_all-tells : goal.push_all-tells
 push_all-tells g c =
-    let all = (c.ensures.same_reference, c.ensures.turns) in ?
+    let old = c.args.self.now in
+    let new = c.new.self.now in
+    let self : (new.replica.ghost_name ≡ new.replica.ghost_name) × FollowsTurns new.replica.now new.replica.now = (refl, turns_self new.replica.now) in
+    let all : (new.replica.ghost_name ≡ old.replica.ghost_name) × FollowsTurns old.replica.now new.replica.now = (c.ensures.same_reference, c.ensures.turns) in
+    record {
+      told = window_told old new (λ side. side.replica.now) (λ a b. (b.replica.ghost_name ≡ a.replica.ghost_name) × FollowsTurns a.replica.now b.replica.now) all self c.args.pairs.now c.result c.ensures.told;
+      pushes = λ was. window_pushes old new (λ side. side.replica.now) (λ a b. (b.replica.ghost_name ≡ a.replica.ghost_name) × FollowsTurns a.replica.now b.replica.now) all self c.args.pairs.now c.result c.ensures.told was;
+      ended = window_ended old new (λ side. side.replica.now) (λ a b. (b.replica.ghost_name ≡ a.replica.ghost_name) × FollowsTurns a.replica.now b.replica.now) all self c.args.pairs.now c.result c.ensures.ended;
+      left_open = λ was. window_open old new (λ side. side.replica.now) (λ a b. (b.replica.ghost_name ≡ a.replica.ghost_name) × FollowsTurns a.replica.now b.replica.now) all self c.args.pairs.now c.result c.ensures.ended;
+      unbroken = λ was. window_true old new (λ side. side.replica.now) (λ a b. (b.replica.ghost_name ≡ a.replica.ghost_name) × FollowsTurns a.replica.now b.replica.now) all self c.args.pairs.now c.result c.ensures.ended was;
+      first = λ was. window_first old new (λ side. side.replica.now) (λ a b. (b.replica.ghost_name ≡ a.replica.ghost_name) × FollowsTurns a.replica.now b.replica.now) all self c.args.pairs.now c.result c.ensures.ended;
+    }

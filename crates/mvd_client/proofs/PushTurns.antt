@@ -1,5 +1,5 @@
 -- Pushes to a stored site are turns, and it follows as a side of a session does.
-use Rattle.std.proofs.Common.{◌≡◌, ◌≢◌, ◌∙◌, List, [], length, map, Result, Ok, Err, ap, refl, sym, subst, inl, inr, arith, false, true, true≢false}
+use Rattle.std.proofs.Common.{◌≡◌, ◌≢◌, ◌∙◌, List, [], ◌∷◌, length, map, Result, Ok, Err, ap, refl, sym, subst, inl, inr, arith, false, true, true≢false}
 use Rattle.std.specs.Prelude.{Vec}
 use Rattle.std.specs.Result.{IfErr, IfOk, OnErr}
 use Rattle.std.specs.declared.alloc.Global.{Global}
@@ -18,32 +18,44 @@ use Rattle.mvd_replica.specs.Batch.{AnswersAll}
 use Rattle.mvd_replica.specs.Pushes.{push_of}
 use Rattle.mvd_replica.specs.Replicas.{site_of, store_of, stored_of}
 use Rattle.mvd_replica.specs.SideCalls.{PushesOnSide}
-use Rattle.mvd_replica.specs.Sides.{IsTrueSite, ReplicaRefuses}
+use Rattle.mvd_replica.specs.Sides.{IsTrueSite, ReplicaRefuses, SideFollows}
 use Rattle.mvd_replica.specs.declared.replica.Replica.{Replica}
 use Rattle.mvd_replica.proofs.Pushed.{answered_follow}
-use Rattle.mvd_runs.proofs.Pushing.{side_window}
+use Rattle.mvd_runs.proofs.Pushing.{side_append, side_none, side_window}
+use Rattle.mvd_runs.specs.Sessions.{SideTakes}
 use Rattle.mvd_runs.proofs.PushTurns.{side_push}
-use Rattle.mvd_client.specs.Pushing.{EndsPushes, FollowsTurns, TellsPushes, turns_self}
+use Rattle.mvd_client.specs.Pushing.{EndsPushes, FollowsTurns, TakesThrough, TellsPushes, turns_self}
 use Rattle.mvd_client.proofs.Watching.{err_as, ok_as}
 use Rattle.sqlite_trees.specs.declared.store.Store.{Ghosts}
+
+-- one call
+one_step : {S : Type 0} {g : Ghosts S} (old new : Replica S g) → SideFollows (stored_of old) (stored_of new) → SideTakes (stored_of old) (stored_of new) → FollowsTurns old new
+one_step old new follows takes = record { follows = follows; moments = new ∷ []; takes = (takes, refl) }
 
 -- a window of them, whatever they were told
 pub window_turns : {S : Type 0} {g : Ghosts S} (old new : Replica S g) (pairs : List (Key × State)) (requests : List Request) (replies : List Reply) → requests ≡ map push_of pairs → AnswersAll requests replies (stored_of old) (stored_of new)
     → AreHeld (site_of old).states → Each (λ (p : Key × State). IsValid p.1) pairs → FollowsTurns old new
-window_turns old new pairs requests replies asked it held valid = record {
-  follows = answered_follow pairs requests replies (site_of old) (site_of new) (store_of old) (store_of new) asked it held valid;
-  takes = side_window pairs replies (site_of old) (site_of new) (store_of old) (store_of new) valid (subst (λ qs. AnswersAll qs replies (stored_of old) (stored_of new)) asked it);
-}
+window_turns old new pairs requests replies asked it held valid = one_step old new
+    (answered_follow pairs requests replies (site_of old) (site_of new) (store_of old) (store_of new) asked it held valid)
+    (side_window pairs replies (site_of old) (site_of new) (store_of old) (store_of new) valid (subst (λ qs. AnswersAll qs replies (stored_of old) (stored_of new)) asked it))
 
 pub same_turns : {S : Type 0} {g : Ghosts S} (old new : Replica S g) → new ≡ old → FollowsTurns old new
-same_turns old new same = subst (λ (r : Replica S g). FollowsTurns old r) (sym same) (turns_self old)
+same_turns {S} {g} old new same = subst (λ (r : Replica S g). FollowsTurns old r) (sym same) (turns_self old)
 
 pub push_turns : {S : Type 0} {g : Ghosts S} (old new : Replica S g) (key : Key) (given : State) (result : Result (Unit {0}) Refusal) → IsValid given → PushesOnSide old key given result new → FollowsTurns old new
-push_turns old new key given result valid it = record { follows = it.follows; takes = side_push old new key given result valid it.push }
+push_turns old new key given result valid it = one_step old new it.follows (side_push old new key given result valid it.push)
+
+-- calls one after the other are turns
+through_takes : {S : Type 0} {g : Ghosts S} (mids : List (Replica S g)) (old new : Replica S g) → TakesThrough old mids new → SideTakes (stored_of old) (stored_of new)
+through_takes {S} {g} [] old new same = subst (λ (r : Replica S g). SideTakes (stored_of old) (stored_of r)) (sym same) (side_none (site_of old) (store_of old))
+through_takes (mid ∷ mids) old new (takes, later) = side_append (site_of old) (site_of mid) (site_of new) (store_of old) (store_of mid) (store_of new) takes (through_takes mids mid new later)
+
+pub takes_turns : {S : Type 0} {g : Ghosts S} (old new : Replica S g) → FollowsTurns old new → SideTakes (stored_of old) (stored_of new)
+takes_turns old new it = through_takes it.moments old new it.takes
 
 -- ---- a window, as a side of a session tells it
 
-module _ {S T : Type 0} {g : Ghosts S} (inner : T → Replica S g) (follows : T → T → Type 0) (old new : T) (all : follows old new) (self : follows new new) (pairs : List (Key × State)) where
+module _ {S T : Type 0} {g : Ghosts S} (old new : T) (inner : T → Replica S g) (follows : T → T → Type 0) (all : follows old new) (self : follows new new) (pairs : List (Key × State)) where
   abbrev Refuses : T → Refusal → Type 0
   Refuses side refusal = ReplicaRefuses (site_of (inner side)) refusal
 

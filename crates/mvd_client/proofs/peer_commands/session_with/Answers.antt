@@ -1,0 +1,26 @@
+use Rattle.std.proofs.Common.{arith}
+use Rattle.mvd_client.specs.SyncSides.{far_side, stored_side}
+use Rattle.mvd_client.proofs.PushTurns.{takes_turns}
+use Rattle.mvd_client.proofs.Seen.{session_within}
+use Rattle.mvd_client.proofs.Watching.{asks_few}
+use Rattle.mvd_client.proofs.peer_commands.session_with.Goals as goal
+
+pub returns-clause-same_reference : goal.returns-clause-same_reference
+returns-clause-same_reference g c = c.sync.ensures.session.course.follows.0.0
+
+pub returns-clause-session : goal.returns-clause-session
+returns-clause-session g c =
+    session_within c.args.side.now c.sync.new.local c.args.watched.now c.sync.new.peer (λ side. side.replica.now) (λ watched. watched.side) stored_side (far_side g.L.Line.is_true g.L.Line.far) _ _ 10000000 c.sync.result c.sync.ensures.session
+    (λ n old new way. way.1.follows) (λ n old new way. way.0.1)
+
+pub returns-clause-takes : goal.returns-clause-takes
+returns-clause-takes g c = takes_turns c.args.side.now.replica.now c.sync.new.local.replica.now c.sync.ensures.session.course.follows.0.1
+
+pub returns-clause-pushed : goal.returns-clause-pushed
+returns-clause-pushed g c = c.sync.ensures.session.course.follows.0.1.follows
+
+pub returns-clause-few : goal.returns-clause-few
+returns-clause-few g c t r = let session = c.sync.ensures.session in asks_few _ _ session.course.asked_peer session.course.wanted_peer _ _ session.course.follows.1.1 (λ differing all. (session.few t r differing all).1)
+
+pub returns-clause-most : goal.returns-clause-most
+returns-clause-most g c = let session = c.sync.ensures.session in let within = session.course.within.1 in omega (arith, within, session.course.follows.1.1)

@@ -80,7 +80,7 @@ impl Crowd {
 
     /// Whether all that are to come have come, and nobody is left but the server's own.
     pub fn is_over(&self) -> bool
-        ensures { IsTrue result → IsDeserted (talking_of self.now.talks) }
+        ensures { IsTrue result → IsDeserted (talking_of self.entry.now.talks) }
     {
         self.is_shut() && self.clients.is_empty() && self.talks.clients() == 0
     }

@@ -1,3 +1,4 @@
+use Rattle.std.proofs.Common.{arith}
 use Rattle.mvd_server.proofs.Errands.{hands_more, hands_none}
 use Rattle.mvd_server.proofs.feeding.hand_on.Goals as goal
 

@@ -63,10 +63,13 @@ both_true true b is = (refl, is)
 both_true false b is = absurd cc
 
 short_line : (line : List ℕ) → is_token line ≡ true → nat_le (length line) 256 ≡ true
-short_line line is = (both_true _ _ (both_true _ _ is).1).0
+short_line line is = (both_true _ _ (both_true _ _ is).0).1
+
+some_line : (line token : List ℕ) → ◌≡◌ {A = Option (List ℕ)} (Some line) (Some token) → line ≡ token
+some_line line token same = cc
 
 taken_line : (is : Bool) (line token : List ℕ) → is_token line ≡ is → cond is (Some line) None ≡ Some token → nat_le (length token) 256 ≡ true
-taken_line true line token fits same = subst (λ (t : List ℕ). nat_le (length t) 256 ≡ true) cc (short_line line fits)
+taken_line true line token fits same = subst (λ (t : List ℕ). nat_le (length t) 256 ≡ true) (some_line line token same) (short_line line fits)
 taken_line false line token fits same = absurd cc
 
 first_short : (lines : List (List ℕ)) (token : List ℕ) → first_token lines ≡ Some token → nat_le (length token) 256 ≡ true

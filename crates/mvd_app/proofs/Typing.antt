@@ -185,7 +185,7 @@ module _ {A : Type 0} (Answers : A → A → Request → Reply → Type 0) where
   answers_noted : (exchanges : List Exchange) (old new : A) (log : List Exchange) → AnswersExchanges Answers exchanges old new →
       AnswersExchanges (Noting Answers) exchanges (noted old log) (noted new (log ++ exchanges))
   unfolding AnswersExchanges
-  answers_noted [] old new log same = rw append-nil log (ap (λ (a : A). noted a log) same)
+  answers_noted [] old new log same = rw (append-nil log) (ap (λ (a : A). noted a log) same)
   answers_noted (exchange ∷ exchanges) old new log (between, one, others) =
       let log' = log ++ exchange ∷ [] in (
         noted between log',

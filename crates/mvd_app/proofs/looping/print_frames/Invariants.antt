@@ -4,8 +4,8 @@ use Rattle.mvd_app.proofs.Frames.{SoFar}
 use Rattle.mvd_app.proofs.looping.print_frames.Given as goal
 
 -- what was read so far is printed
-abbrev pub invariant-loop-rest : goal.invariant-loop-rest
-invariant-loop-rest l = SoFar l.frames.now l.rest.now (string_bytes l.initial.out) (string_bytes l.out)
+abbrev pub invariant-loop-alloc : goal.invariant-loop-alloc
+invariant-loop-alloc l = SoFar l.frames.now l.rest.now (string_bytes l.initial.out) (string_bytes l.out)
 
-abbrev pub decreases-loop-rest : goal.decreases-loop-rest
-decreases-loop-rest l = length l.rest.now
+abbrev pub decreases-loop-alloc : goal.decreases-loop-alloc
+decreases-loop-alloc l = length l.rest.now

@@ -1,5 +1,6 @@
 use Rattle.std.proofs.Common.{◌∙◌, inl, inr, refl, sym, true≢false}
 use Rattle.mvd_records.proofs.Checked.{reads_nothing}
+use Rattle.mvd_app.specs.Refused.{TellsRefusal}
 use Rattle.mvd_app.proofs.opening.refused_in.Goals as goal
 
 pub returns-then-is_foreign : goal.returns-then-is_foreign
@@ -12,7 +13,7 @@ returns-then-is_foreign g c = record {
 
 pub returns : goal.returns
 returns g c =
-    let told = record {
+    let told : TellsRefusal c.args.file c.args.refusal c.owner_in-owner.result c.in_records.result = record {
       fault = c.in_records.ensures.fault;
       damaged = c.in_records.ensures.damaged;
       full = c.in_records.ensures.full;

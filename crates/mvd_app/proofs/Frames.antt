@@ -1,15 +1,18 @@
 -- Frames that are read one after the other, each printed as a line.
-use Rattle.std.proofs.Common.{◌≡◌, ◌∙◌, ◌-◌, ◌+◌, ◌≤◌, ◌<◌, ℕ, List, [], ◌∷◌, ◌++◌, Option, Err, inr, length, take, ap, append_assoc, arith, refl, subst, sym}
+use Rattle.std.proofs.Common.{◌≡◌, ◌∙◌, ◌-◌, ◌+◌, ◌≤◌, ◌<◌, ℕ, List, [], ◌∷◌, ◌++◌, Option, Result, Ok, Err, inr, length, take, ap, append_assoc, arith, refl, subst, sym}
 use Rattle.std.proofs.lemmas.List.{append-nil, flat_map_more, length-append, take_at}
+use Rattle.std.specs.Io.KnownBytes.{Appends}
 use Rattle.std.specs.List.{flat_map}
-use Rattle.mvd_app.specs.Looped.{FailsLine, IsStopped, Loops, PrintsFrames, ReadsAll, StopsUntold, frame_line}
+use Rattle.std.specs.Prelude.{IfErr, OnOk}
+use Rattle.mvd_app.specs.Looped.{FailsLine, IsStopped, Loops, PrintsFrames, PrintsReplies, ReadsAll, StopsUntold, ending_line, frame_line}
 use Rattle.mvd_input.specs.Ends.{ReadsNot}
-use Rattle.mvd_input.specs.Hexadecimal.{HasFault}
+use Rattle.mvd_input.specs.Hexadecimal.{AreJoined, HasFault}
 use Rattle.mvd_input.specs.declared.fault.Fault.{Fault}
 use Rattle.mvd_input.specs.declared.fault.Fault.TheVariants as of_fault
 use Rattle.std.specs.Int.{w32}
 use Rattle.mvd_wire.specs.Codec.{number}
 use Rattle.mvd_wire.specs.Frames.{FrameValue, spell_frame}
+use Rattle.mvd_wire.specs.declared.ending.Ending.{Ending}
 
 -- these frames were read and printed, and this is left
 pub record SoFar (all left old new : List ℕ) : Type 0 where
@@ -71,3 +74,17 @@ loops_line input input' out (of_fault.Stopped refusal) it = inr refl
 pub loops_untold : (input input' out out' : Option (List ℕ)) (fault : Fault) → StopsUntold out out' fault → Loops input input' out out' (Err fault)
 loops_untold input input' out out' (of_fault.Line number) it = absurd it
 loops_untold input input' out out' (of_fault.Stopped refusal) it = it
+
+pub prints_replies : (bytes start mid text : List ℕ) (ended : Ending) (out out' : Option (List ℕ)) (result : Result (Unit {0}) Fault) → start ≡ [] → PrintsFrames bytes start mid →
+    text ≡ mid ++ ending_line ended → OnOk result (Appends out out' text) → OnOk result (PrintsReplies bytes ended out out')
+prints_replies bytes start mid text ended out out' (Ok done) none (frames, whole, printed) is appends = record {
+  frames = frames;
+  whole = whole;
+  printed = subst (λ (t : List ℕ). Appends out out' t) (is ∙ ap (λ (b : List ℕ). b ++ ending_line ended) (printed ∙ ap (λ (b : List ℕ). b ++ flat_map frame_line frames) none)) appends;
+}
+prints_replies bytes start mid text ended out out' (Err fault) none prints is appends = tt
+
+pub loops_told : (input input' out out' : Option (List ℕ)) (result : Result (Unit {0}) Fault) (text sent came : List ℕ) (ended : Ending) → ReadsAll input input' text → AreJoined text sent →
+    OnOk result (PrintsReplies came ended out out') → IfErr result (StopsUntold out out') → Loops input input' out out' result
+loops_told input input' out out' (Ok done) text sent came ended reads spelled prints stops = record { text = text; reads = reads; sent = sent; spelled = spelled; came = came; ended = ended; prints = prints }
+loops_told input input' out out' (Err fault) text sent came ended reads spelled prints stops = loops_untold input input' out out' fault stops

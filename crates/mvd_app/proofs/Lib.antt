@@ -1,6 +1,5 @@
 pub mod Ending
 pub mod Following
-pub mod Frames
 pub mod Memory
 pub mod Reading
 pub mod Rounds

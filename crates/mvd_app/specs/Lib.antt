@@ -1,5 +1,4 @@
 pub mod Done
-pub mod Looped
 pub mod Named
 pub mod Noted
 pub mod Refused

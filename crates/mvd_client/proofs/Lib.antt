@@ -4,6 +4,7 @@ pub mod Fresh
 pub mod Leading
 pub mod Noting
 pub mod Fars
+pub mod Cutting
 pub mod Opened
 pub mod PushTurns
 pub mod Seen

@@ -68,7 +68,9 @@ impl<L: Line> End<L> {
     }
 
     /// Says Bye where a connection is open, which ends.
-    pub(crate) fn part(&mut self, alloc: Global) -> Result<(), Refusal> {
+    pub(crate) fn part(&mut self, alloc: Global) -> Result<(), Refusal>
+        ensures { self.new.address ≡ self.old.address }
+    {
         match self.link.take() {
             Some(link) => Remote::over(alloc, link).bye(),
             None => Ok(()),
@@ -116,6 +118,7 @@ impl<L: Line> End<L> {
 
 /// A session. It goes on over new connections where a server takes no more frames of the old ones, or where one that
 /// was kept since the session before was cut meanwhile.
+#[tactic(none)]
 pub(crate) fn meet<'a, D: Dial, E: Write>(
     dial: &D,
     alloc: Global,
@@ -180,6 +183,7 @@ fn is_spent<L: Line>(failure: Failure<'_>, near: &End<L>, far: &End<L>) -> bool 
 }
 
 /// A session over the connections that are open, or over new ones. After a fault neither is kept.
+#[tactic(none)]
 fn session<'a, D: Dial, E: Write>(
     dial: &D,
     alloc: Global,
@@ -242,6 +246,7 @@ fn session<'a, D: Dial, E: Write>(
 }
 
 /// The connection with a server that is open, unless too many frames came over it, or a new one.
+#[tactic(none)]
 fn opened<'a, D: Dial>(
     dial: &D,
     alloc: Global,

@@ -90,6 +90,7 @@ pub fn tell_meeting<'a, W: Write, E: Write>(
     left_with(report)
 }
 
+#[tactic(auto, using(crate::proofs::Cutting::no_lines, crate::proofs::Cutting::not_written))]
 fn tell_met<W: Write>(
     alloc: Global,
     report: &Report,

@@ -232,6 +232,7 @@ pub(crate) fn left_with<'a>(report: &Report) -> Result<(), Stop<'a>>
     }
 }
 
+#[tactic(auto, using(crate::proofs::Cutting::no_lines, crate::proofs::Cutting::not_written))]
 fn tell_counts<S: Alter + Drop, W: Write>(
     alloc: Global,
     replica: &Replica<S>,

@@ -77,6 +77,7 @@ impl<L: Line> Partner<L> {
 
 /// Runs sessions between the server at an address and each of a list, one after the other. Where nothing is repeated
 /// and the list has one server, the roots of both are told.
+#[tactic(none)]
 pub fn meet_run<'a, D: Dial, C: Clock, W: Write, E: Write>(
     dial: &D,
     clock: &C,
@@ -109,6 +110,7 @@ pub fn meet_run<'a, D: Dial, C: Clock, W: Write, E: Write>(
 }
 
 /// One session with one server.
+#[tactic(none)]
 fn meet_one<'a, D: Dial, W: Write, E: Write>(
     dial: &D,
     alloc: Global,

@@ -11,6 +11,7 @@ use mvd_input::Fault;
 use std::io::Write;
 
 /// Writes the lines at once. Where the writer fails, a front of them was written.
+#[tactic(auto, using(crate::proofs::Cutting::front_all))]
 pub(crate) fn write_lines<W: Write>(writer: &mut W, lines: &str) -> Result<(), Fault>
     ensures told { OnOk result (Appends (W.contents writer.old) (W.contents writer.new) lines.now) }
     ensures front { OnErr result (AppendsFront (W.contents writer.old) (W.contents writer.new) lines.now) }

@@ -8,8 +8,8 @@ abbrev pub invariant-tries : goal.invariant-tries
 invariant-tries g l = record {
   near : l.near.address ≡ l.initial.near.address;
   far : l.far.address ≡ l.initial.far.address;
-  near_fresh : IsFresh g.D.Dialed.Line (GivesIn g.D.Dialed.Line (g.D.gives l.dial l.initial.near.address) (option_copied l.terms.token)) l.initial.near.link
-      → IsFresh g.D.Dialed.Line (GivesIn g.D.Dialed.Line (g.D.gives l.dial l.initial.near.address) (option_copied l.terms.token)) l.near.link;
-  far_fresh : IsFresh g.D.Dialed.Line (GivesIn g.D.Dialed.Line (g.D.gives l.dial l.initial.far.address) (option_copied l.terms.token)) l.initial.far.link
-      → IsFresh g.D.Dialed.Line (GivesIn g.D.Dialed.Line (g.D.gives l.dial l.initial.far.address) (option_copied l.terms.token)) l.far.link;
+  near_fresh : IsFresh g.D.Dialed.Line (GivesIn g.D.Dialed.Line (g.D.Dial.gives l.dial l.initial.near.address) (option_copied l.terms.token)) l.initial.near.link
+      → IsFresh g.D.Dialed.Line (GivesIn g.D.Dialed.Line (g.D.Dial.gives l.dial l.initial.near.address) (option_copied l.terms.token)) l.near.link;
+  far_fresh : IsFresh g.D.Dialed.Line (GivesIn g.D.Dialed.Line (g.D.Dial.gives l.dial l.initial.far.address) (option_copied l.terms.token)) l.initial.far.link
+      → IsFresh g.D.Dialed.Line (GivesIn g.D.Dialed.Line (g.D.Dial.gives l.dial l.initial.far.address) (option_copied l.terms.token)) l.far.link;
 }

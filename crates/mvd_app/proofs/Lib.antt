@@ -6,4 +6,5 @@ pub mod Rounds
 pub mod Running
 pub mod Stops
 pub mod Typing
+pub mod Unserved
 pub mod Working

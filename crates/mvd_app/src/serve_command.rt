@@ -14,7 +14,7 @@ use std::io::Write;
 use std::net::SocketAddr;
 
 /// Serves a stored site at an address, and meets the peers meanwhile, if there are any.
-#[tactic(auto, using(mvd_server::proofs::Rounds::served_none))]
+#[tactic(auto, using(crate::proofs::Unserved::serves_nothing))]
 pub(crate) fn serve_stored<'a, K: Sockets, S: Alter + Drop, W: Write>(
     rt: &HostRuntime,
     sockets: &mut K,

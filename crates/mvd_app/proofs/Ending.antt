@@ -1,15 +1,12 @@
 -- What a command is stopped with, and what comes back of its file.
 use Rattle.std.proofs.Common.{◌≡◌, ℕ, Bool, List, Option, Some, None, Result, Ok, Err, false, inl, inr, refl, subst, sym, true, true≢false}
 use Rattle.std.specs.Prelude.{IfSome, if◌then◌else◌}
-use Rattle.std.specs.Borrow.{Bor}
 use Rattle.std.specs.Result.{result_and}
-use Rattle.mvd_app.specs.Stored.{ClosesOrNot, EndsAs, Filed, GivesBack, IsConfigFor, IsWithoutFile, NamesFile}
-use Rattle.mvd_app.specs.Tasks.{Task}
+use Rattle.mvd_app.specs.Stored.{ClosesOrNot, EndsAs, Filed, GivesBack, IsConfigFor, IsWithoutFile}
 use Rattle.mvd_app.specs.declared.closing.Ran.{Ran}
 use Rattle.mvd_dots.specs.declared.refusals.Refusal.TheVariants.{Broken, Store}
 use Rattle.mvd_hint.specs.declared.hint.Stop.{Stop}
 use Rattle.mvd_input.specs.declared.fault.Fault.TheVariants.{Stopped}
-use Rattle.mvd_input.specs.declared.order.Setup.{Setup}
 use Rattle.mvd_replica.proofs.Programs.{leaves_file}
 use Rattle.mvd_replica.specs.FileCalls.{OpensAsSite, file_of}
 use Rattle.mvd_replica.specs.Programs.{KeepsFile, WorksOn}
@@ -43,18 +40,6 @@ module _ (D : Type 0) (broken : Bool) (ended : Result (Unit {0}) Stop) where
   pub stops_same : (worked : Result (Unit {0}) Stop) (files : Files D) → ended ≡ worked → EndsAs worked (Some files) broken ended
   stops_same (Ok done) files is = is
   stops_same (Err other) files is = is
-
--- only a file of definitions or with a token stops a command before its own file is opened
-pub by_files : (db : Bor (List ℕ)) (site max_keys : ℕ) (defs token : Option (Bor (List ℕ))) (task : Task) → (defs ≡ None → token ≡ None → false ≡ true) →
-    NamesFile (record { db = db; setup = record { site = site; max_keys = max_keys; defs = defs }; token = token; task = task })
-by_files db site max_keys (Some file) token task none = inl (file, refl)
-by_files db site max_keys None (Some file) task none = inr (file, refl)
-by_files db site max_keys None None task none = absurd (true≢false (sym (none refl refl)))
-
--- and only such a file stops a shell through a server before its address is dialled
-pub by_name : (file : Option (Bor (List ℕ))) → (file ≡ None → false ≡ true) → (name : Bor (List ℕ)) × (file ≡ Some name)
-by_name (Some name) none = (name, refl)
-by_name None none = absurd (true≢false (sym (none refl)))
 
 -- ---- what comes back
 

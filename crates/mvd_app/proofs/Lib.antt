@@ -4,5 +4,7 @@ pub mod Memory
 pub mod Reading
 pub mod Rounds
 pub mod Running
+pub mod Stops
 pub mod Typing
+pub mod Unserved
 pub mod Working

@@ -1,5 +1,5 @@
 -- What a command that told its turns leaves in its file is a run of the store.
-use Rattle.std.proofs.Common.{◌≡◌, ℕ, List, Option, Some, None, Ok, inl, inr, refl, subst, sym}
+use Rattle.std.proofs.Common.{◌≡◌, ℕ, List, Option, Some, None, Ok, inl, inr, subst, sym}
 use Rattle.mvd_app.specs.Done.{IsLeft, IsRunOf}
 use Rattle.mvd_app.specs.Stored.{ClosesOrNot}
 use Rattle.mvd_records.specs.Records.{IsOurs}
@@ -35,7 +35,5 @@ module _ {D : Type 0} {g : disk.Ghosts D} {f : Ghosts (FileStore D g)} (image : 
   passes turns works (Some files) closed after (clean, inr may) = left_run i image config turns old new number opened works files (closed.1 clean) after may
   passes turns works None closed after (clean, trees, may, holds) = stopped_run i image config turns old new number opened works rests after trees clean may holds
 
-  pub runs_of : (given : Option (List Turn)) → ((turns : List Turn) → given ≡ Some turns → WorksBy turns (in_file old) (in_file new)) →
-      (files : Option (Files D)) → ClosesOrNot new files → IsRunOf image i config given new files
-  runs_of None works files closed = tt
-  runs_of (Some turns) works files closed = λ after left. passes turns (works turns refl) files closed after left
+  pub runs_of : (turns : List Turn) → WorksBy turns (in_file old) (in_file new) → (files : Option (Files D)) → ClosesOrNot new files → IsRunOf image i config turns new files
+  runs_of turns works files closed = λ after left. passes turns works files closed after left

@@ -1,8 +1,10 @@
 -- What the lines of a shell ask is one list of requests, of which none pushes a state.
-use Rattle.std.proofs.Common.{◌≡◌, ◌∙◌, ◌+◌, ℕ, List, [], ◌∷◌, ◌++◌, Option, Some, None, Result, Ok, Err, inl, inr, refl, subst, sym, true}
+use Rattle.std.proofs.Common.{◌≡◌, ◌∙◌, ◌+◌, ◌≤◌, ℕ, List, [], ◌∷◌, ◌++◌, Option, Some, None, Result, Ok, Err, ap, append_assoc, inl, inr, length, refl, subst, sym, true}
+use Rattle.std.proofs.lemmas.List.{append-nil}
 use Rattle.std.specs.Prelude.{IfOk, IfSome, option_map}
 use Rattle.std.specs.List.{AllByRecursion}
 use Rattle.std.specs.Borrow.{Bor}
+use Rattle.mvd_app.specs.Noted.{Noted, Noting, lost_noted, noted}
 use Rattle.mvd_app.specs.Tasks.{turns_asked}
 use Rattle.mvd_docs.specs.Document.{document_of}
 use Rattle.mvd_docs.specs.Name.{field_of, view_name_of}
@@ -26,7 +28,7 @@ use Rattle.mvd_keys.specs.declared.places.Place.{Place}
 use Rattle.mvd_runs.specs.Files.{IsValidTurn}
 use Rattle.mvd_shell.proofs.Talking.{answered_both}
 use Rattle.mvd_shell.specs.Asked.{Exchange, IsMadeWrite, IsRequestOf, IsRequestOfLine, Sees, behind, delete_request, find_asked, find_behind, keys_request, next_asked, next_counts, next_places, next_rows, path_in, prefix_text, put_request, question, range_asked, row_request, rows_request, then_read, last_of}
-use Rattle.mvd_shell.specs.Shell.{At, IsUntold, MayTellLine, Shells, TellAllLines, TellsLine, TellsLines, TellsTyped}
+use Rattle.mvd_shell.specs.Shell.{At, IsUntold, MayTellLine, Shells, TellAllLines, TellsLine, TellsLines, TellsTyped, at}
 use Rattle.mvd_shell.specs.Talk.{AnswersExchanges, TellsAllPages, TellsAsk, TellsRead}
 use Rattle.mvd_site.specs.Known.{IsValidRequest}
 use Rattle.mvd_wire.specs.Prefix.{prefix_of_text}
@@ -135,7 +137,7 @@ pages_fine a request [] told valid tells = tt
 pages_fine a request (exchange ∷ exchanges) told valid (is, page, next, answer, asked, inl (none, end)) = (fine_turn exchange (subst IsValidRequest (sym is) valid), fine_none exchanges none)
 pages_fine a request (exchange ∷ exchanges) told valid (is, page, next, answer, asked, inr (text, following, more, shown, goes_on, tells, all)) = (
   fine_turn exchange (subst IsValidRequest (sym is) valid),
-  pages_fine a following exchanges more (following_fine next (next_asked a exchange.reply) following goes_on asked (next_fine a exchange.reply)) tells,
+  pages_fine a following exchanges more (following_fine next (next_asked a exchange.reply) following goes_on asked.0 (next_fine a exchange.reply)) tells,
 )
 
 -- ---- what a line asks
@@ -176,59 +178,140 @@ ask_fine a exchanges told it =
     let (first, request) = first_fine a it.first it.request it.read in
     subst AreFine (sym it.all) (fine_both it.first it.rest first (rest_fine a it.request it.rest told request it.pages))
 
--- ---- lines
+-- ---- what was asked, noted
 
 module _ {A : Type 0} (Answers : A → A → Request → Reply → Type 0) where
-  -- all that was asked of it
-  pub record Asks (old new : A) : Type 0 where
+  -- the same requests, each noted behind those before
+  answers_noted : (exchanges : List Exchange) (old new : A) (log : List Exchange) → AnswersExchanges Answers exchanges old new →
+      AnswersExchanges (Noting Answers) exchanges (noted old log) (noted new (log ++ exchanges))
+  unfolding AnswersExchanges
+  answers_noted [] old new log same = rw (append-nil log) (ap (λ (a : A). noted a log) same)
+  answers_noted (exchange ∷ exchanges) old new log (between, one, others) =
+      let log' = log ++ exchange ∷ [] in (
+        noted between log',
+        record { answers = one; notes = refl },
+        subst (λ (l : List Exchange). AnswersExchanges (Noting Answers) exchanges (noted between log') (noted new l))
+            (append_assoc log (exchange ∷ []) exchanges) (answers_noted exchanges between new log' others),
+      )
+
+  -- all that was asked, and that what is true of it is true with that noted behind whatever was noted before
+  pub record Asks (P : Noted A → Noted A → Type 0) (old new : A) : Type 0 where
     pub exchanges : List Exchange
     pub answered : AnswersExchanges Answers exchanges old new
     pub fine : AreFine exchanges
+    pub noting : (log : List Exchange) → P (noted old log) (noted new (log ++ exchanges))
 
-  asks_none : (old new : A) → new ≡ old → Asks old new
+  -- nothing was asked
+  asks_none : (P : Noted A → Noted A → Type 0) (old new : A) → new ≡ old → ((log : List Exchange) → noted new log ≡ noted old log → P (noted old log) (noted new log)) → Asks P old new
   unfolding AnswersExchanges
-  asks_none old new same = record { exchanges = []; answered = same; fine = tt }
+  asks_none P old new same then = record {
+    exchanges = [];
+    answered = same;
+    fine = tt;
+    noting = λ log. subst (λ (l : List Exchange). P (noted old log) (noted new l)) (sym (append-nil log)) (then log (ap (λ (a : A). noted a log) same));
+  }
 
-  asks_both : (old mid new : A) → Asks old mid → Asks mid new → Asks old new
-  asks_both old mid new one other = record {
+  -- one thing, and then another
+  asks_both : (P Q R : Noted A → Noted A → Type 0) (old mid new : A) → ((a b c : Noted A) → P a b → Q b c → R a c) → Asks P old mid → Asks Q mid new → Asks R old new
+  asks_both P Q R old mid new both one other = record {
     exchanges = one.exchanges ++ other.exchanges;
     answered = answered_both Answers one.exchanges other.exchanges old mid new one.answered other.answered;
     fine = fine_both one.exchanges other.exchanges one.fine other.fine;
+    noting = λ log. subst (λ (l : List Exchange). R (noted old log) (noted new l)) (append_assoc log one.exchanges other.exchanges)
+        (both (noted old log) (noted mid (log ++ one.exchanges)) (noted new (log ++ one.exchanges ++ other.exchanges)) (one.noting log) (other.noting (log ++ one.exchanges)));
   }
 
+  asks_as : (P Q : Noted A → Noted A → Type 0) (old new : A) → ((a b : Noted A) → P a b → Q a b) → Asks P old new → Asks Q old new
+  asks_as P Q old new wider it = record { exchanges = it.exchanges; answered = it.answered; fine = it.fine; noting = λ log. wider (noted old log) (noted new (log ++ it.exchanges)) (it.noting log) }
+
+-- ---- lines
+
 module _ {A : Type 0} (Answers : A → A → Request → Reply → Type 0) (lost : A → ℕ) where
-  typed_asks : (typed : Typed) (old new : A) (text : List ℕ) → TellsTyped Answers lost typed old new text → Asks Answers old new
-  typed_asks typed.Help old new text (same, is) = asks_none Answers old new same
-  typed_asks (typed.Ask a) old new text it = record { exchanges = it.talks.exchanges; answered = it.talks.answered; fine = ask_fine a it.talks.exchanges it.told it.talks.tells }
+  typed_asks : (typed : Typed) (old new : A) (text : List ℕ) → TellsTyped Answers lost typed old new text →
+      Asks Answers (λ a b. TellsTyped (Noting Answers) (lost_noted lost) typed a b text) old new
+  typed_asks typed.Help old new text (same, is) = asks_none Answers (λ a b. TellsTyped (Noting Answers) (lost_noted lost) typed.Help a b text) old new same (λ log alike. (alike, is))
+  typed_asks (typed.Ask a) old new text it = record {
+    exchanges = it.talks.exchanges;
+    answered = it.talks.answered;
+    fine = ask_fine a it.talks.exchanges it.told it.talks.tells;
+    noting = λ log. record {
+      told = it.told;
+      talks = record { exchanges = it.talks.exchanges; answered = answers_noted Answers it.talks.exchanges old new log it.talks.answered; tells = it.talks.tells };
+      is = it.is;
+    };
+  }
 
-  line_asks : (number : ℕ) (line : List ℕ) (old new : A) (text : List ℕ) → TellsLine Answers lost number line old new text → Asks Answers old new
-  line_asks number line old new text (inl (utf8, inl (nothing, same, none))) = asks_none Answers old new same
-  line_asks number line old new text (inl (utf8, inr (asked, is, tells))) = typed_asks asked old new text tells
-  line_asks number line old new text (inr (no_command, same, is)) = asks_none Answers old new same
+  abbrev TellsNoted : ℕ → List ℕ → List ℕ → Noted A → Noted A → Type 0
+  TellsNoted number line text a b = TellsLine (Noting Answers) (lost_noted lost) number line a b text
 
-  lines_ask : (number : ℕ) (lines : List (List ℕ)) (old new : A) (texts : List (List ℕ)) → TellAllLines Answers lost number lines old new texts → Asks Answers old new
+  line_asks : (number : ℕ) (line : List ℕ) (old new : A) (text : List ℕ) → TellsLine Answers lost number line old new text → Asks Answers (TellsNoted number line text) old new
+  line_asks number line old new text (inl (utf8, inl (nothing, same, none))) =
+      asks_none Answers (TellsNoted number line text) old new same (λ log alike. inl (utf8, inl (nothing, alike, none)))
+  line_asks number line old new text (inl (utf8, inr (asked, is, tells))) =
+      asks_as Answers (λ a b. TellsTyped (Noting Answers) (lost_noted lost) asked a b text) (TellsNoted number line text) old new (λ a b it. inl (utf8, inr (asked, is, it))) (typed_asks asked old new text tells)
+  line_asks number line old new text (inr (no_command, same, is)) =
+      asks_none Answers (TellsNoted number line text) old new same (λ log alike. inr (no_command, alike, is))
+
+  abbrev AllNoted : ℕ → List (List ℕ) → List (List ℕ) → Noted A → Noted A → Type 0
+  AllNoted number lines texts a b = TellAllLines (Noting Answers) (lost_noted lost) number lines a b texts
+
+  first_noted : (number : ℕ) (line : List ℕ) (lines : List (List ℕ)) (text : List ℕ) (texts : List (List ℕ)) → length line ≤ 16777216 → (a b c : Noted A) →
+      TellsNoted number line text a b → AllNoted (number + 1) lines texts b c → AllNoted number (line ∷ lines) (text ∷ texts) a c
   unfolding TellAllLines
-  lines_ask number [] old new texts (same, none) = asks_none Answers old new same
+  first_noted number line lines text texts fits a b c one others = (b, fits, one, others)
+
+  lines_ask : (number : ℕ) (lines : List (List ℕ)) (old new : A) (texts : List (List ℕ)) → TellAllLines Answers lost number lines old new texts → Asks Answers (AllNoted number lines texts) old new
+  unfolding TellAllLines
+  lines_ask number [] old new texts (same, none) = asks_none Answers (AllNoted number [] texts) old new same (λ log alike. (alike, none))
   lines_ask number (line ∷ lines) old new [] tell = absurd tell
   lines_ask number (line ∷ lines) old new (text ∷ texts) (between, fits, one, others) =
-      asks_both Answers old between new (line_asks number line old between text one) (lines_ask (number + 1) lines between new texts others)
+      asks_both Answers (TellsNoted number line text) (AllNoted (number + 1) lines texts) (AllNoted number (line ∷ lines) (text ∷ texts)) old between new
+      (first_noted number line lines text texts fits) (line_asks number line old between text one) (lines_ask (number + 1) lines between new texts others)
 
-  may_ask : (number : ℕ) (line : List ℕ) (old new : A) → MayTellLine Answers lost number line old new → Asks Answers old new
-  may_ask number line old new (inl same) = asks_none Answers old new same
-  may_ask number line old new (inr (text, tells)) = line_asks number line old new text tells
+  abbrev MayNoted : ℕ → List ℕ → Noted A → Noted A → Type 0
+  MayNoted number line a b = MayTellLine (Noting Answers) (lost_noted lost) number line a b
 
-  untold_asks : (refusal : Refusal) (number : ℕ) (line : List ℕ) (old new : At A) → IsUntold Answers lost refusal number line old new → Asks Answers old.asked new.asked
-  untold_asks Memory number line old new (may, same) = may_ask number line old.asked new.asked may
-  untold_asks ReadFailed number line old new (same, out) = asks_none Answers old.asked new.asked same
-  untold_asks FrameTooLong number line old new (same, out, long) = asks_none Answers old.asked new.asked same
-  untold_asks WriteFailed number line old new (text, tells) = line_asks number line old.asked new.asked text tells
+  may_ask : (number : ℕ) (line : List ℕ) (old new : A) → MayTellLine Answers lost number line old new → Asks Answers (MayNoted number line) old new
+  may_ask number line old new (inl same) = asks_none Answers (MayNoted number line) old new same (λ log alike. inl alike)
+  may_ask number line old new (inr (text, tells)) = asks_as Answers (TellsNoted number line text) (MayNoted number line) old new (λ a b it. inr (text, it)) (line_asks number line old new text tells)
+
+  -- with what was to be read and was written before and after it
+  abbrev UntoldNoted : Refusal → ℕ → List ℕ → At A → At A → Noted A → Noted A → Type 0
+  UntoldNoted refusal number line old new a b = IsUntold (Noting Answers) (lost_noted lost) refusal number line (at a old.input old.out) (at b new.input new.out)
+
+  untold_asks : (refusal : Refusal) (number : ℕ) (line : List ℕ) (old new : At A) → IsUntold Answers lost refusal number line old new →
+      Asks Answers (UntoldNoted refusal number line old new) old.asked new.asked
+  untold_asks Memory number line old new (may, same) =
+      asks_as Answers (MayNoted number line) (UntoldNoted Memory number line old new) old.asked new.asked (λ a b it. (it, same)) (may_ask number line old.asked new.asked may)
+  untold_asks ReadFailed number line old new (same, out) = asks_none Answers (UntoldNoted ReadFailed number line old new) old.asked new.asked same (λ log alike. (alike, out))
+  untold_asks FrameTooLong number line old new (same, out, long) = asks_none Answers (UntoldNoted FrameTooLong number line old new) old.asked new.asked same (λ log alike. (alike, out, long))
+  untold_asks WriteFailed number line old new (text, tells) =
+      asks_as Answers (TellsNoted number line text) (UntoldNoted WriteFailed number line old new) old.asked new.asked (λ a b it. (text, it)) (line_asks number line old.asked new.asked text tells)
   untold_asks refusal number line old new it = absurd it
 
-  all_ask : (lines : List (List ℕ)) (old new : At A) (result : Result (Unit {0}) Fault) → TellsLines Answers lost lines old new result → Asks Answers old.asked new.asked
-  all_ask lines old new (Ok done) told = lines_ask 1 lines old.asked new.asked told.texts told.told
-  all_ask lines old new (Err (of_fault.Line number)) told = absurd told
-  all_ask lines old new (Err (of_fault.Stopped refusal)) it = asks_both Answers old.asked it.between.asked new.asked
-      (lines_ask 1 it.before old.asked it.between.asked it.told.texts it.told.told) (untold_asks refusal _ it.line it.between new it.untold)
+  abbrev LinesNoted : List (List ℕ) → At A → At A → Result (Unit {0}) Fault → Noted A → Noted A → Type 0
+  LinesNoted lines old new result a b = TellsLines (Noting Answers) (lost_noted lost) lines (at a old.input old.out) (at b new.input new.out) result
 
-  pub shells_ask : (old new : At A) (result : Result (Unit {0}) Fault) → Shells Answers lost old new result → Asks Answers old.asked new.asked
-  shells_ask old new result it = all_ask (lines_of it.text) old new result it.lines
+  all_ask : (lines : List (List ℕ)) (old new : At A) (result : Result (Unit {0}) Fault) → TellsLines Answers lost lines old new result → Asks Answers (LinesNoted lines old new result) old.asked new.asked
+  all_ask lines old new (Ok done) it =
+      asks_as Answers (AllNoted 1 lines it.texts) (LinesNoted lines old new (Ok done)) old.asked new.asked (λ a b told. record { texts = it.texts; told = told; written = it.written })
+      (lines_ask 1 lines old.asked new.asked it.texts it.told)
+  all_ask lines old new (Err (of_fault.Line number)) it = absurd it
+  all_ask lines old new (Err (of_fault.Stopped refusal)) it =
+      asks_both Answers (AllNoted 1 it.before it.told.texts) (UntoldNoted refusal (length it.before + 1) it.line it.between new) (LinesNoted lines old new (Err (of_fault.Stopped refusal)))
+      old.asked it.between.asked new.asked (λ a b c told untold. record {
+        before = it.before;
+        line = it.line;
+        after = it.after;
+        parts = it.parts;
+        last = it.last;
+        between = at b it.between.input it.between.out;
+        told = record { texts = it.told.texts; told = told; written = it.told.written };
+        untold = untold;
+      }) (lines_ask 1 it.before old.asked it.between.asked it.told.texts it.told.told) (untold_asks refusal (length it.before + 1) it.line it.between new it.untold)
+
+  pub shells_ask : (old new : At A) (result : Result (Unit {0}) Fault) → Shells Answers lost old new result →
+      Asks Answers (λ a b. Shells (Noting Answers) (lost_noted lost) (at a old.input old.out) (at b new.input new.out) result) old.asked new.asked
+  shells_ask old new result it =
+      asks_as Answers (LinesNoted (lines_of it.text) old new result) (λ a b. Shells (Noting Answers) (lost_noted lost) (at a old.input old.out) (at b new.input new.out) result) old.asked new.asked
+      (λ a b lines. record { text = it.text; read = it.read; all = it.all; lines = lines }) (all_ask (lines_of it.text) old new result it.lines)

@@ -1,12 +1,11 @@
 -- Whatever a command does with a stored site keeps the writes known, and its records follow.
-use Rattle.std.proofs.Common.{◌≡◌, ◌∙◌, List, ℕ, Option, Some, None, Result, Ok, [], ◌∷◌, ap, refl, subst, sym}
+use Rattle.std.proofs.Common.{◌≡◌, List, ℕ, Option, Result, Ok, [], ◌∷◌, refl, subst, sym}
 use Rattle.std.specs.List.{AllByRecursion}
-use Rattle.std.specs.Prelude.{unwrap_or}
 use Rattle.std.specs.declared.net.socket_addr.SocketAddr.{SocketAddr}
 use Rattle.mvd_app.proofs.Following.{follows}
 use Rattle.mvd_app.proofs.Rounds.{runs_fine}
 use Rattle.mvd_app.specs.Tasks.{DoesTask, Outside, Serving, Syncing, Task, Typing, turns_asked}
-use Rattle.mvd_client.specs.Synced.{FollowsPushed}
+use Rattle.mvd_client.specs.Synced.{FollowsPushed, TakesPushes}
 use Rattle.mvd_replica.proofs.Keeping.{keeps_on, keeps_self, pushes_keep, turns_keep}
 use Rattle.mvd_replica.specs.Batch.{lost_requests}
 use Rattle.mvd_replica.specs.Programs.{KeepsWrites, WorksOn}
@@ -18,7 +17,7 @@ use Rattle.mvd_remote.specs.declared.line.Line.{Ghosts as LineGhosts}
 use Rattle.mvd_replica.specs.Replicas.{site_of, store_of, stored_of}
 use Rattle.mvd_replica.specs.Restored.{HasWrites}
 use Rattle.mvd_replica.specs.Turns.{Turn}
-use Rattle.mvd_runs.proofs.Working.{works_append, works_asked, works_none, writes_then}
+use Rattle.mvd_runs.proofs.Working.{works_append, works_asked, works_none, works_turns, writes_then}
 use Rattle.mvd_runs.specs.Files.{IsValidTurn, WorksBy}
 use Rattle.mvd_site.specs.Known.{IsValidRequest}
 use Rattle.mvd_replica.specs.declared.replica.Replica.{Replica}
@@ -28,9 +27,6 @@ use Rattle.mvd_server.specs.Rounds.{IsServed}
 use Rattle.mvd_server.specs.declared.sockets.Sockets.{Ghosts as SocketGhosts}
 use Rattle.sqlite.specs.Held.{state}
 use Rattle.sqlite_trees.specs.declared.store.Store.{Ghosts}
-
-none_told : (turns : List Turn) → ◌≡◌ {A = Option (List Turn)} (Some turns) None → ⊥
-none_told turns is = cc
 
 module _ {S : Type 0} {g : Ghosts S} where
   -- a shell
@@ -95,21 +91,25 @@ module _ {S : Type 0} {g : Ghosts S} where
     follows = it.list.serves.follows;
   }
 
-  by_turns : (old new : Replica S g) (turns given : List Turn) → ◌≡◌ {A = Option (List Turn)} (Some turns) (Some given) → WorksBy given (stored_of old) (stored_of new) → WorksBy turns (stored_of old) (stored_of new)
-  by_turns old new turns given is works = subst (λ (ts : List Turn). WorksBy ts (stored_of old) (stored_of new)) (sym (ap (λ (o : Option (List Turn)). unwrap_or o turns) is)) works
+  -- those of a session
+  pushed_by : (old new : Replica S g) (it : TakesPushes old new) → WorksBy it.turns (stored_of old) (stored_of new)
+  pushed_by old new it = works_turns it.turns (site_of old) (site_of new) (store_of old) (store_of new) it.valid it.takes
+
+  by_turns : (old new : Replica S g) (turns given : List Turn) → turns ≡ given → WorksBy given (stored_of old) (stored_of new) → WorksBy turns (stored_of old) (stored_of new)
+  by_turns old new turns given is works = subst (λ (ts : List Turn). WorksBy ts (stored_of old) (stored_of new)) (sym is) works
 
   -- ---- a task
 
-  module _ {K L : Type 0} (k : SocketGhosts K) (line : LineGhosts L) (gives : SocketAddr → L → Type 0) (token : Option (List ℕ)) (was now : Outside K) (old new : Replica S g) where
+  module _ {K L : Type 0} (k : SocketGhosts K) (line : LineGhosts L) (gives : SocketAddr → L → Type 0) (token : Option (List ℕ)) (was now : Outside K) (old new : Replica S g)
+      (turns : List Turn) (result : Result (Unit {0}) Stop) where
     -- keeps the writes known
-    pub does_work : (task : Task) (turns : Option (List Turn)) (result : Result (Unit {0}) Stop) → DoesTask k line gives task token was old now new turns result → WorksOn (stored_of old) (stored_of new)
-    does_work Serving turns result (it, is) = served_works old new it
-    does_work Typing turns result (it, is) = asks_work old new (record { exchanges = it.exchanges; answered = it.asked })
-    does_work (Syncing address) turns result (synced, pushed, is) = pushed_works old new pushed
+    pub does_work : (task : Task) → DoesTask k line gives task token was old now new turns result → WorksOn (stored_of old) (stored_of new)
+    does_work Serving (it, is) = served_works old new it.served
+    does_work Typing (it, is) = asks_work old new (record { exchanges = it.exchanges; answered = it.asked })
+    does_work (Syncing address) (it, is) = pushed_works old new it.pushed
 
-    -- and the turns that it tells are all that was done
-    pub does_by : (task : Task) (given : Option (List Turn)) (result : Result (Unit {0}) Stop) → DoesTask k line gives task token was old now new given result → HasWrites (site_of old) →
-        (turns : List Turn) → given ≡ Some turns → WorksBy turns (stored_of old) (stored_of new)
-    does_by Serving given result (it, is) writes turns told = by_turns old new turns (turns_of (turns_in it.all)) (sym told ∙ is) (served_by old new it)
-    does_by Typing given result (it, is) writes turns told = by_turns old new turns (turns_asked it.exchanges) (sym told ∙ is) (asked_by it.exchanges old new writes it.valid it.asked)
-    does_by (Syncing address) given result (synced, pushed, is) writes turns told = absurd (none_told turns (sym told ∙ is))
+    -- and its turns are all that was done
+    pub does_by : (task : Task) → DoesTask k line gives task token was old now new turns result → HasWrites (site_of old) → WorksBy turns (stored_of old) (stored_of new)
+    does_by Serving (it, is) writes = by_turns old new turns (turns_of (turns_in it.served.all)) is (served_by old new it.served)
+    does_by Typing (it, is) writes = by_turns old new turns (turns_asked it.exchanges) is (asked_by it.exchanges old new writes it.valid it.asked)
+    does_by (Syncing address) (it, is) writes = by_turns old new turns it.takes.turns is (pushed_by old new it.takes)

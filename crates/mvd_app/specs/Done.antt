@@ -1,8 +1,8 @@
 -- What a command did: to the site of its file, with what is outside, and what its file is then.
 use Rattle.std.specs.Prelude.{◌≡◌, ◌⊎◌, ⊤, ℕ, List, Option, Some, None, Result, Ok, Err}
 use Rattle.std.specs.declared.net.socket_addr.SocketAddr.{SocketAddr}
-use Rattle.mvd_app.specs.Stored.{CannotOpen, ClosesOrNot, EndsAs, Filed, IsConfigFor, NamesFile, file_in}
-use Rattle.mvd_app.specs.Tasks.{DoesTask, IsSimulated, IsTokenOfOrder, IsTypedAt, Outside}
+use Rattle.mvd_app.specs.Stored.{CannotOpen, ClosesOrNot, EndsAs, Filed, IsConfigFor, StopsBefore, file_in}
+use Rattle.mvd_app.specs.Tasks.{DoesTask, IsMet, IsSimulated, IsTokenOfOrder, IsTypedAt, Outside}
 use Rattle.mvd_app.specs.declared.closing.Ran.{Ran}
 use Rattle.mvd_hint.specs.declared.hint.Stop.{Stop}
 use Rattle.mvd_input.specs.declared.order.Order.{Order}
@@ -36,23 +36,21 @@ module _ {D : Type 0} {g : disk.Ghosts D} {f : Ghosts (FileStore D g)} where
       HasCleanDisk (file_of replica) × (trees : Trees) × (file_of replica).may_leave trees
       × ∥ HoldsDatabase image trees ∥₁
 
-  -- Turns that are told are a run of the store on the file: from what the file held, to what it holds then
-  abbrev pub IsRunOf : Image → ℕ → ConfigValue → Option (List Turn) → Replica (FileStore D g) f → Option (Files D)
-      → Type 0
-  IsRunOf image site config None new files = ⊤
-  IsRunOf image site config (Some turns) new files =
+  -- The turns are a run of the store on the file: from what the file held, to what it holds then
+  abbrev pub IsRunOf : Image → ℕ → ConfigValue → List Turn → Replica (FileStore D g) f → Option (Files D) → Type 0
+  IsRunOf image site config turns new files =
       (after : Image) → IsLeft new files after → Passes site (setup_of config) turns image after
 
-module _ {D : Type 0} (g : disk.Ghosts D) {K : Type 0} where
+module _ {D : Type 0} {g : disk.Ghosts D} (f : Ghosts (FileStore D g)) {K : Type 0} where
   -- The site was not opened, and nothing came or left: a file of definitions or with a token stopped the command, which
-  -- the order names; or the site's own file did
+  -- the order names; or the site's own file did. What the command is stopped with is of that file
   pub record IsUnopened (image : Image) (filed : Filed) (was now : Outside K) (ran : Ran D) : Type 0 where
     pub files : ran.files ≡ None
     pub still : now ≡ was
     pub stop : Stop
     pub ended : ran.ended ≡ Err stop
-    pub cause : NamesFile filed
-        ⊎ ((config : ConfigValue) × IsConfigFor filed.setup config × CannotOpen g image config filed.db stop)
+    pub cause : StopsBefore filed stop
+        ⊎ ((config : ConfigValue) × IsConfigFor filed.setup config × CannotOpen f image config filed.db stop)
 
 module _ {D : Type 0} {g : disk.Ghosts D} (f : Ghosts (FileStore D g)) {K L : Type 0} (k : SocketGhosts K)
     (line : LineGhosts L) (gives : SocketAddr → L → Type 0) where
@@ -66,7 +64,7 @@ module _ {D : Type 0} {g : disk.Ghosts D} (f : Ghosts (FileStore D g)) {K L : Ty
     pub token : Option (List ℕ)
     pub of_file : IsTokenOfOrder filed.token token
     pub new : Replica (FileStore D g) f
-    pub turns : Option (List Turn)
+    pub turns : List Turn
     pub worked : Result (Unit {0}) Stop
     pub does : DoesTask k line gives filed.task token was old now new turns worked
     pub runs : IsRunOf image filed.setup.site config turns new ran.files
@@ -74,13 +72,15 @@ module _ {D : Type 0} {g : disk.Ghosts D} (f : Ghosts (FileStore D g)) {K L : Ty
     pub ends : EndsAs worked ran.files (site_of new).broken ran.ended
 
   abbrev pub DoesFile : Image → Filed → Outside K → Outside K → Ran D → Type 0
-  DoesFile image filed was now ran = IsUnopened g image filed was now ran ⊎ HasDone image filed was now ran
+  DoesFile image filed was now ran = IsUnopened f image filed was now ran ⊎ HasDone image filed was now ran
 
-  -- what an order without a file does; of a connection within the process, and of sessions of servers, nothing is said
+  -- what an order without a file does; of a connection within the process nothing is said
   abbrev pub DoesBeside : Order → Outside K → Outside K → Result (Unit {0}) Stop → Type 0
   DoesBeside order.Sim was now ended = IsSimulated was.input now.input was.out now.out ended
   DoesBeside (order.RemoteShell address idle file) was now ended =
       IsTypedAt line (gives address) address file was.input now.input was.out now.out ended
+  DoesBeside (order.Meet address list repeat idle verbose file) was now ended =
+      (now.input ≡ was.input) × IsMet line gives address list repeat file was.out now.out ended
   DoesBeside _ was now ended = ⊤
 
   abbrev pub DoesIn : Image → Order → Option Filed → Outside K → Outside K → Ran D → Type 0

@@ -1,4 +1,6 @@
 pub mod Done
+pub mod Named
+pub mod Noted
 pub mod Refused
 pub mod Stored
 pub mod Tasks

@@ -2,6 +2,8 @@
 use Rattle.std.specs.Prelude.{◌≡◌, ◌⊎◌, ⊤, true, false, if◌then◌else◌, ℕ, Bool, List, Option, Some, None, Result, Ok, Err, IsErrAnd}
 use Rattle.std.specs.Borrow.{Bor}
 use Rattle.std.specs.FinMap.{empty as no_states}
+use Rattle.mvd_app.specs.Named.{StopsAtDefs, StopsAtToken}
+use Rattle.mvd_app.specs.Refused.{TellsFault}
 use Rattle.mvd_app.specs.Tasks.{Serving, Syncing, Task, Typing}
 use Rattle.mvd_app.specs.declared.closing.Ran.{Ran}
 use Rattle.mvd_dots.specs.declared.refusals.Refusal.TheVariants.{Broken, Store}
@@ -50,10 +52,9 @@ file_in (order.Shell db setup) = Some (filed db setup None Typing)
 file_in (order.Sync db setup address idle verbose token) = Some (filed db setup token (Syncing address))
 file_in _ = None
 
--- it names a file that is read before the site's own: of definitions, or with a token
-abbrev pub NamesFile : Filed → Type 0
-NamesFile filed =
-    ((file : Bor (List ℕ)) × (filed.setup.defs ≡ Some file)) ⊎ ((file : Bor (List ℕ)) × (filed.token ≡ Some file))
+-- a file that is read before the site's own stops the command: the one of definitions, or the one with a token
+abbrev pub StopsBefore : Filed → Stop → Type 0
+StopsBefore filed stop = StopsAtDefs filed.setup.defs stop ⊎ StopsAtToken filed.token stop
 
 -- a site is set up so
 pub record IsConfigFor (setup : Setup) (config : ConfigValue) : Type 0 where
@@ -93,8 +94,13 @@ pub record IsWithoutFile {D : Type 0} (how : Result (Unit {0}) Stop) (ran : Ran 
   pub files : ran.files ≡ None
   pub ended : ran.ended ≡ how
 
-module _ {D : Type 0} (g : disk.Ghosts D) where
-  -- The site was not opened: its file is lost, which the hint says, and the log is still there; or the files refuse it
+-- a file is lost, and its log is still there
+pub record TellsLost (file : Bor (List ℕ)) (stop : Stop) : Type 0 where
+  pub fault : stop.fault ≡ Stopped Store
+  pub hint : stop.hint ≡ Some (Hint.Lost file)
+
+module _ {D : Type 0} {g : disk.Ghosts D} (f : Ghosts (FileStore D g)) where
+  -- The site was not opened: its file is lost; or the files refuse it, for a cause, which is told
   abbrev pub CannotOpen : Image → ConfigValue → Bor (List ℕ) → Stop → Type 0
-  CannotOpen image config db stop = (stop.hint ≡ Some (Hint.Lost db))
-      ⊎ ((fault : FileFault D g) × FailsFile image config fault)
+  CannotOpen image config db stop = TellsLost db stop
+      ⊎ ((fault : FileFault D g) × FailsFile image config fault × TellsFault f db fault stop)

@@ -1,34 +1,37 @@
 -- What is done with a stored site, and with what is outside of a command.
-use Rattle.std.specs.Prelude.{◌≡◌, ◌⊎◌, ⊤, ℕ, List, map, Option, Some, None, is_some, Result, Ok, Err}
+use Rattle.std.specs.Prelude.{◌≡◌, ◌⊎◌, ⊤, ℕ, List, [], ◌∷◌, map, IfErr, IsSome, OnOk, Option, Some, None, is_some, Result, Ok, Err}
 use Rattle.std.specs.Borrow.{Bor}
 use Rattle.std.specs.List.{AllByRecursion}
 use Rattle.std.specs.Option.{ForSome}
 use Rattle.std.specs.declared.net.socket_addr.SocketAddr.{SocketAddr}
+use Rattle.mvd_app.specs.Named.{StopsAtToken}
+use Rattle.mvd_app.specs.Noted.{Noting, at_noted}
 use Rattle.mvd_app.specs.declared.commands.Work.{Work}
 use Rattle.mvd_app.specs.declared.commands.Work.TheVariants as work
+use Rattle.mvd_client.specs.Between.{MeetsServer}
 use Rattle.mvd_client.specs.LetIn.{GivesIn}
-use Rattle.mvd_client.specs.SyncsAt.{AreTrue, MeetsAt, TellsRan}
-use Rattle.mvd_client.specs.Synced.{FollowsPushed}
+use Rattle.mvd_client.specs.SyncsAt.{TellsSession}
 use Rattle.mvd_client.specs.Talked.{ShellsAt}
 use Rattle.mvd_hint.specs.declared.hint.Stop.{Stop}
 use Rattle.mvd_host.specs.Round.{turns_of}
 use Rattle.mvd_host.specs.Runs.{turns_in}
+use Rattle.mvd_input.specs.Addresses.{items_of}
 use Rattle.mvd_input.specs.Orders.{ArePeers}
 use Rattle.mvd_input.specs.declared.fault.Fault.{Fault}
+use Rattle.mvd_input.specs.declared.options.Repeat.{Repeat}
 use Rattle.mvd_remote.specs.declared.line.Line.{Ghosts as LineGhosts}
 use Rattle.mvd_replica.specs.ReplicaCalls.{ReplicaAnswers}
 use Rattle.mvd_replica.specs.Replicas.{site_of}
-use Rattle.mvd_replica.specs.Sides.{IsTrueSite}
 use Rattle.mvd_replica.specs.Turns.{Turn}
 use Rattle.mvd_replica.specs.declared.replica.Replica.{Replica}
 use Rattle.mvd_runs.specs.Files.{IsValidTurn}
 use Rattle.mvd_script.specs.Script.{Simulates}
+use Rattle.mvd_server.specs.Closing.{EndsAtFault, EndsServed}
 use Rattle.mvd_server.specs.Rounds.{IsServed}
 use Rattle.mvd_server.specs.declared.sockets.Sockets.{Ghosts as SocketGhosts}
 use Rattle.mvd_shell.specs.Asked.{Exchange}
 use Rattle.mvd_shell.specs.Shell.{At, Shells, at}
 use Rattle.mvd_shell.specs.Talk.{AnswersExchanges}
-use Rattle.mvd_sync.specs.declared.report.Report.{Report}
 use Rattle.sqlite_trees.specs.declared.store.Store.{Ghosts}
 
 -- a moment outside of a command: what moves the bytes of its clients, what is still to be read, and what was written,
@@ -75,39 +78,41 @@ abbrev pub turns_asked : List Exchange → List Turn
 turns_asked = map (λ exchange. record { asked = Ok exchange.request; reply = exchange.reply })
 
 module _ {S : Type 0} {g : Ghosts S} where
-  -- Lines are read and answered, and what they print is written. All that was asked are these requests, each of which a
-  -- line asks: none pushes a state that is not that of some writes
+  -- Lines are read and answered, and what they print is written. All that was asked are these requests, one after the
+  -- other as the lines ask them, with their replies: none pushes a state that is not that of some writes
   pub record IsTyped (old new : At (Replica S g)) (result : Result (Unit {0}) Stop) : Type 0 where
     pub told : Result (Unit {0}) Fault
-    pub shells : Shells ReplicaAnswers (λ _. 0) old new told
-    pub ends : EndsAsTold told result
     pub exchanges : List Exchange
+    pub shells : Shells (Noting ReplicaAnswers) (λ _. 0) (at_noted old []) (at_noted new exchanges) told
+    pub ends : EndsAsTold told result
     pub asked : AnswersExchanges ReplicaAnswers exchanges old.asked new.asked
     pub valid : AllByRecursion IsValidTurn (turns_asked exchanges)
 
-module _ {S : Type 0} {g : Ghosts S} {L : Type 0} (line : LineGhosts L) (gives : SocketAddr → L → Type 0) where
-  -- a session of a stored site with what an address leads to, to which the token was shown: what is printed, and how
-  -- the command ends, is what came of it; and where the lines are true, the two sites meet
-  pub record HasSynced (token : Option (List ℕ)) (address : SocketAddr) (out out' : Option (List ℕ))
-      (old new : Replica S g) (result : Result (Unit {0}) Stop) : Type 0 where
-    pub ran : Result Report Stop
-    pub meets : AreTrue line (GivesIn line (gives address) token) → IsTrueSite (site_of old)
-        → MeetsAt line (GivesIn line (gives address) token) address old new ran
-    pub told : TellsRan (site_of new).states out out' ran result
+module _ {S : Type 0} {g : Ghosts S} {K : Type 0} (k : SocketGhosts K) where
+  -- A server ran, and this is how it ended: well, and then nobody is left; or with its fault, and where it could not
+  -- listen it did nothing
+  pub record ServesTo (token : Option (List ℕ)) (sockets : K) (old : Replica S g) (sockets' : K) (new : Replica S g)
+      (result : Result (Unit {0}) Stop) : Type 0 where
+    pub served : IsServed k token sockets old sockets' new
+    pub left : OnOk result (EndsServed k token sockets old sockets' new)
+    pub cause : IfErr result (λ stop. EndsAtFault (site_of new) stop.fault)
+    pub unheard : IfErr result (λ stop. IsSome stop.hint → (sockets' ≡ sockets) × (new ≡ old))
 
 module _ {S : Type 0} {g : Ghosts S} {K L : Type 0} (k : SocketGhosts K) (line : LineGhosts L)
     (gives : SocketAddr → L → Type 0) where
-  -- WHAT A TASK DOES to a stored site, and nothing else. A server takes the turns of its rounds, and a shell those of
-  -- its lines; a session pushes states, and does not tell its turns
-  abbrev pub DoesTask : Task → Option (List ℕ) → Outside K → Replica S g → Outside K → Replica S g
-      → Option (List Turn) → Result (Unit {0}) Stop → Type 0
+  -- WHAT A TASK DOES to a stored site, and nothing else: it takes these turns. They are those of a server's rounds, of
+  -- the lines that a shell reads, or of a session with what an address leads to, to which the token was shown; what is
+  -- printed, and how the command ends, is what came of it
+  abbrev pub DoesTask : Task → Option (List ℕ) → Outside K → Replica S g → Outside K → Replica S g → List Turn
+      → Result (Unit {0}) Stop → Type 0
   DoesTask Serving token was old now new turns result =
-      (it : IsServed k token was.sockets old now.sockets new) × (turns ≡ Some (turns_of (turns_in it.all)))
+      (it : ServesTo k token was.sockets old now.sockets new result) × (turns ≡ turns_of (turns_in it.served.all))
   DoesTask Typing token was old now new turns result =
       (it : IsTyped (at old was.input was.out) (at new now.input now.out) result)
-      × (turns ≡ Some (turns_asked it.exchanges))
+      × (turns ≡ turns_asked it.exchanges)
   DoesTask (Syncing address) token was old now new turns result =
-      HasSynced line gives token address was.out now.out old new result × FollowsPushed old new × (turns ≡ None)
+      (it : TellsSession line (GivesIn line (gives address) token) address old new was.out now.out result)
+      × (turns ≡ it.takes.turns)
 
 -- ---- without a file
 
@@ -123,5 +128,14 @@ abbrev pub IsTypedAt : {L : Type 0} → LineGhosts L → (L → Type 0) → Sock
 IsTypedAt line gives address file input input' out out' result =
     ((token : Option (List ℕ)) × IsTokenOfOrder file token
     × ShellsAt line (GivesIn line gives token) address input out input' out' result)
-    ⊎ (((name : Bor (List ℕ)) × (file ≡ Some name)) × ((stop : Stop) × (result ≡ Err stop))
-    × (input' ≡ input) × (out' ≡ out))
+    ⊎ (((stop : Stop) × (result ≡ Err stop) × StopsAtToken file stop) × (input' ≡ input) × (out' ≡ out))
+
+-- Sessions of the server at an address with those of a list, to which the token was shown first; where there is one,
+-- and nothing is repeated, what is printed is of the session that ran. Or the token could not be read of its file
+abbrev pub IsMet : {L : Type 0} → LineGhosts L → (SocketAddr → L → Type 0) → SocketAddr → Bor (List ℕ) → Option Repeat
+    → Option (Bor (List ℕ)) → Option (List ℕ) → Option (List ℕ) → Result (Unit {0}) Stop → Type 0
+IsMet line gives address list repeat file out out' result =
+    ((token : Option (List ℕ)) × IsTokenOfOrder file token
+    × (repeat ≡ None → (text : List ℕ) → items_of list.now ≡ text ∷ []
+    → MeetsServer line gives token address text out out' result))
+    ⊎ (((stop : Stop) × (result ≡ Err stop) × StopsAtToken file stop) × (out' ≡ out))

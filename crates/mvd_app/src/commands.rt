@@ -1,26 +1,26 @@
 //! What a command line asks for, done: with standard input and output, files and sockets.
-ghost use Rattle.std.specs.Prelude.{◌≡◌, IfOk, IfSome, IsOk, IsOkAnd, List, None, Option, Some, is_some, option_copied, ℕ};
+ghost use Rattle.std.specs.Prelude.{◌≡◌, ◌⊎◌, IfErr, IfOk, IfSome, List, Some, is_some, option_copied, ℕ};
 ghost use Rattle.mvd_app.specs.Done.{DoesFile, DoesOrder};
+ghost use Rattle.mvd_app.specs.Named.{StopsAtDefs, StopsAtToken};
 ghost use Rattle.mvd_app.specs.Stored.{GivesBack, IsConfigFor, IsWithoutFile, file_in, filed};
-ghost use Rattle.mvd_app.specs.Tasks.{DoesTask, IsSimulated, IsTypedAt, MayWork, outside, task_of};
+ghost use Rattle.mvd_app.specs.Tasks.{DoesTask, IsMet, IsSimulated, IsTypedAt, MayWork, outside, task_of};
 ghost use Rattle.mvd_input.specs.Addresses.{IsAddressList};
 ghost use Rattle.mvd_input.specs.Orders.{IsInRange, IsSetUp};
 ghost use Rattle.mvd_replica.specs.Turns.{Turn};
-ghost use Rattle.mvd_rows.specs.Defs.{no_definitions};
 ghost use Rattle.sqlite.specs.WalFiles.{image_at};
 
 use crate::closing::{Ran, finish};
 use crate::looping::loop_run;
 use crate::opening::opened;
 use crate::serve_command::serve_stored;
+use crate::setups::config_in;
 use crate::tokens::token_in;
 use crate::typed_lines::typed;
 use mvd_client::{Dial, MeetingTerms, meet_run, remote_shell_run, sync_told};
 use mvd_dots::Refusal;
 use mvd_hint::{Hint, Stop};
-use mvd_input::{DEFS_MAX, Fault, Order, Peers, Setup, read_defs, read_input};
+use mvd_input::{Fault, Order, Peers, Setup};
 use mvd_replica::Replica;
-use mvd_rows::Defs;
 use mvd_script::sim;
 use mvd_server::{Sockets, Terms};
 use mvd_site::Config;
@@ -28,7 +28,6 @@ use mvd_wire::Token;
 use sqlite::{Alter, FileFrom, FileStore, Start};
 use sqlite_disk::Disk;
 use sqlite_trees::store::Store;
-use std::fs;
 use std::io::{BufRead, Write};
 use std::net::SocketAddr;
 
@@ -56,8 +55,9 @@ pub fn run<'a, S: Start, D: Dial, K: Sockets, R: BufRead, W: Write>(
     requires { IsInRange order }
     // If files come back clean, no write is lost that they held, of either version; and new files hold the site.
     ensures kept { IfSome result.files (GivesBack ⟦<FileFrom<S> as Disk>⟧ (image_at S.Start) (file_in order.entry)) }
-    // The site of the file was opened, did what the order names, and nothing else, and was closed; and the file holds
-    // what the site then knows. What was read and printed is of that.
+    // The site of the file was not opened, and the command is stopped with what a file told. Or its task was done, and
+    // nothing else, and it was closed, if it is whole and can be; then a run of the store by the task's turns stands in
+    // the file. What a script, a shell or a session read and printed is of what it did.
     ensures done { DoesOrder ⟦<FileStore<FileFrom<S>> as Store>⟧ K.Sockets D.Dialed.Line (D.gives dial.now)
         (image_at S.Start) order.entry (outside sockets.old (R.remaining reader.old) (W.contents writer.old))
         (outside sockets.new (R.remaining reader.new) (W.contents writer.new)) result }
@@ -138,7 +138,7 @@ pub fn run<'a, S: Start, D: Dial, K: Sockets, R: BufRead, W: Write>(
                 verbose,
             };
             without_file(
-                run_meeting(rt, address, with, terms, token_file, writer),
+                run_meeting(rt, dial, address, with, terms, token_file, writer),
                 start,
             )
         }
@@ -252,7 +252,7 @@ fn read_first<'a>(
     requires { IsSetUp setup }
     ensures read { IfOk result (λ read. IsConfigFor setup.entry read.0 × (is_some read.1 ≡ is_some token_file.entry)) }
     // It is stopped only by such a file.
-    ensures none { setup.entry.defs ≡ None → token_file.entry ≡ None → IsOk result }
+    ensures stopped { IfErr result (λ stop. StopsAtDefs setup.entry.defs stop ⊎ StopsAtToken token_file.entry stop) }
 {
     let config = config_in(rt, setup)?;
     match token_in(rt, token_file) {
@@ -277,7 +277,7 @@ fn work_on<'a, S: Alter + Drop, D: Dial, K: Sockets, R: BufRead, W: Write>(
 ) -> Result<(), Stop<'a>>
     requires { MayWork work }
     // However it ends, this alone was done to the site.
-    ensures { (turns : Option (List Turn)) × DoesTask K.Sockets D.Dialed.Line (D.gives dial.now) (task_of work.entry)
+    ensures { (turns : List Turn) × DoesTask K.Sockets D.Dialed.Line (D.gives dial.now) (task_of work.entry)
         (option_copied token.entry) (outside sockets.old (R.remaining reader.old) (W.contents writer.old)) replica.old
         (outside sockets.new (R.remaining reader.new) (W.contents writer.new)) replica.new turns result }
 {
@@ -329,8 +329,9 @@ fn run_remote_shell<'a, D: Dial, R: BufRead, W: Write>(
 }
 
 /// Runs sessions between servers.
-fn run_meeting<'a, W: Write>(
+fn run_meeting<'a, D: Dial, W: Write>(
     rt: &HostRuntime,
+    dial: &D,
     address: SocketAddr,
     with: &str,
     terms: MeetingTerms<'_>,
@@ -338,6 +339,8 @@ fn run_meeting<'a, W: Write>(
     writer: &mut W,
 ) -> Result<(), Stop<'a>>
     requires { IsAddressList with.now }
+    ensures { IsMet D.Dialed.Line (D.gives dial.now) address with.entry terms.entry.repeat token_file.entry
+        (W.contents writer.old) (W.contents writer.new) result }
 {
     let token = token_in(rt, token_file)?;
     let terms = MeetingTerms {
@@ -345,6 +348,7 @@ fn run_meeting<'a, W: Write>(
         ..terms
     };
     meet_run(
+        dial,
         rt,
         rt.alloc(),
         address,
@@ -353,36 +357,4 @@ fn run_meeting<'a, W: Write>(
         writer,
         &mut rt.stderr(),
     )
-}
-
-/// What a site is set up with.
-fn config_in<'a>(rt: &HostRuntime, setup: Setup<'a>) -> Result<Config, Stop<'a>>
-    requires { IsSetUp setup }
-    ensures config { IfOk result (IsConfigFor setup.entry) }
-    // It is stopped only by a file of definitions.
-    ensures none { setup.entry.defs ≡ None → IsOk result }
-{
-    let defs = defs_in(rt, setup.defs)?;
-    Ok(Config::new(setup.site, setup.max_keys, defs))
-}
-
-/// The indexes and views of a file of definitions, or none.
-fn defs_in<'a>(rt: &HostRuntime, file: Option<&'a str>) -> Result<Defs, Stop<'a>>
-    ensures { file.entry ≡ None → IsOkAnd result (λ defs. defs ≡ no_definitions) }
-{
-    let Some(file) = file else {
-        return Ok(Defs::new(rt.alloc()));
-    };
-    match defs_of(rt, file) {
-        Ok(defs) => Ok(defs),
-        Err(fault) => Err(Stop::in_defs(file, fault)),
-    }
-}
-
-fn defs_of(rt: &HostRuntime, file: &str) -> Result<Defs, Fault> {
-    let Ok(mut file) = fs::open(rt, file) else {
-        return Err(Fault::Stopped(Refusal::ReadFailed));
-    };
-    let text = read_input(rt.alloc(), &mut file, DEFS_MAX)?;
-    read_defs(rt.alloc(), &text)
 }

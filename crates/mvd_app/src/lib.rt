@@ -6,6 +6,7 @@ mod commands;
 mod looping;
 mod opening;
 mod serve_command;
+mod setups;
 mod tokens;
 mod typed_lines;
 

@@ -1,6 +1,6 @@
 //! A site opened from its file, which is made where it is missing; or why it was not.
 ghost use Rattle.std.specs.Prelude.{IfErr, IfOk, IsTrue, Ok};
-ghost use Rattle.mvd_app.specs.Refused.{TellsForeign, TellsOurs};
+ghost use Rattle.mvd_app.specs.Refused.{TellsEither, TellsFault, TellsForeign, TellsOurs};
 ghost use Rattle.mvd_app.specs.Stored.{CannotOpen};
 ghost use Rattle.mvd_records.specs.Foreign.{HoldsForeign};
 ghost use Rattle.mvd_records.specs.Records.{OnlyReads};
@@ -15,6 +15,7 @@ use mvd_replica::{FileFault, Replica, open_file};
 use mvd_site::Config;
 use sqlite::{Alter, Connection, FileFrom, FileStore, Start};
 use sqlite_disk::Disk;
+use sqlite_trees::store::Store;
 use std::alloc::AllocError;
 use std::{fs, io};
 
@@ -30,7 +31,7 @@ pub fn opened<'a, S: Start>(
     start: S,
 ) -> Result<Replica<FileStore<FileFrom<S>>>, Stop<'a>>
     ensures opened { IfOk result (λ replica. OpensAsSite (image_at S.Start) config (Ok replica)) }
-    ensures refused { IfErr result (CannotOpen ⟦<FileFrom<S> as Disk>⟧ (image_at S.Start) config db.entry) }
+    ensures refused { IfErr result (CannotOpen ⟦<FileStore<FileFrom<S>> as Store>⟧ (image_at S.Start) config db.entry) }
 {
     let is_new = matches!(fs::exists(rt, db), Ok(false));
     if is_new && matches!(has_pages(rt, db), Ok(true)) {
@@ -58,7 +59,9 @@ fn has_pages(rt: &HostRuntime, file: &str) -> io::Result<bool> {
 
 /// Why a file was not opened as a site. The open makes a log where there is none. It is removed while the file's lock
 /// is still held, so that nobody else has it open.
-fn unopened<'a, D: Disk + Drop>(rt: &HostRuntime, file: &'a str, fault: FileFault<D>) -> Stop<'a> {
+fn unopened<'a, D: Disk + Drop>(rt: &HostRuntime, file: &'a str, fault: FileFault<D>) -> Stop<'a>
+    ensures { TellsFault ⟦<FileStore<D> as Store>⟧ file.entry fault result }
+{
     match fault {
         FileFault::File(error, left) => {
             if left.is_some() {
@@ -99,6 +102,7 @@ pub fn refused_in<'a, S: Alter>(
     conn: &mut Connection<S>,
 ) -> Stop<'a>
     ensures reads { OnlyReads (state S.Store conn.old) (state S.Store conn.new) }
+    ensures either { TellsEither file.entry refusal result }
     // Another program's file is told as such, and stays as it is.
     ensures foreign { HoldsForeign (state S.Store conn.old) → TellsForeign file.entry conn.old conn.new result }
     // Of one of ours its marks are read.

@@ -1,8 +1,8 @@
 //! A stored site, served, and the servers that it meets.
 ghost use Rattle.std.specs.Option.{ForSome};
 ghost use Rattle.std.specs.Prelude.{option_copied};
+ghost use Rattle.mvd_app.specs.Tasks.{ServesTo};
 ghost use Rattle.mvd_input.specs.Orders.{ArePeers};
-ghost use Rattle.mvd_server.specs.Rounds.{IsServed};
 
 use mvd_dots::Refusal;
 use mvd_hint::Stop;
@@ -14,7 +14,7 @@ use std::io::Write;
 use std::net::SocketAddr;
 
 /// Serves a stored site at an address, and meets the peers meanwhile, if there are any.
-#[tactic(auto, using(mvd_server::proofs::Rounds::served_none))]
+#[tactic(auto, using(crate::proofs::Unserved::serves_nothing))]
 pub(crate) fn serve_stored<'a, K: Sockets, S: Alter + Drop, W: Write>(
     rt: &HostRuntime,
     sockets: &mut K,
@@ -25,7 +25,7 @@ pub(crate) fn serve_stored<'a, K: Sockets, S: Alter + Drop, W: Write>(
     writer: &mut W,
 ) -> Result<(), Stop<'a>>
     requires { ForSome peers ArePeers }
-    ensures { IsServed K.Sockets (option_copied terms.entry.token) sockets.old replica.old sockets.new replica.new }
+    ensures { ServesTo K.Sockets (option_copied terms.entry.token) sockets.old replica.old sockets.new replica.new result }
 {
     let mut errors = rt.stderr();
     let Some(peers) = peers else {

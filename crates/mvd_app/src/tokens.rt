@@ -1,5 +1,7 @@
 //! The token that a file holds.
-ghost use Rattle.std.specs.Prelude.{◌≡◌, IfOk, IsOk, None, is_some};
+ghost use Rattle.std.specs.Prelude.{◌≡◌, IfErr, IfOk, is_some};
+ghost use Rattle.mvd_app.specs.Named.{IsTokenFault, StopsAtToken};
+ghost use Rattle.mvd_input.specs.Ends.{ReadsNot};
 
 use mvd_dots::Refusal;
 use mvd_hint::Stop;
@@ -14,7 +16,7 @@ pub(crate) fn token_in<'a>(
 ) -> Result<Option<Token>, Stop<'a>>
     ensures given { IfOk result (λ token. is_some token ≡ is_some file.entry) }
     // It is stopped only by such a file.
-    ensures none { file.entry ≡ None → IsOk result }
+    ensures stopped { IfErr result (StopsAtToken file.entry) }
 {
     match file {
         Some(file) => Ok(Some(token_of(rt, file)?)),
@@ -22,7 +24,10 @@ pub(crate) fn token_in<'a>(
     }
 }
 
-fn token_of<'a>(rt: &HostRuntime, file: &'a str) -> Result<Token, Stop<'a>> {
+#[tactic(auto, using(crate::proofs::Stops::token_refused, crate::proofs::Stops::token_none, crate::proofs::Stops::token_unread))]
+fn token_of<'a>(rt: &HostRuntime, file: &'a str) -> Result<Token, Stop<'a>>
+    ensures { IfErr result (λ stop. IsTokenFault file.entry stop.fault stop.hint) }
+{
     let text = match text_of(rt, file) {
         Ok(text) => text,
         Err(fault) => return Err(Stop::in_token_file(file, fault)),
@@ -33,7 +38,9 @@ fn token_of<'a>(rt: &HostRuntime, file: &'a str) -> Result<Token, Stop<'a>> {
     Ok(Token::read(rt.alloc(), token)?)
 }
 
-fn text_of(rt: &HostRuntime, file: &str) -> Result<Vec<u8>, Fault> {
+fn text_of(rt: &HostRuntime, file: &str) -> Result<Vec<u8>, Fault>
+    ensures { IfErr result ReadsNot }
+{
     let Ok(mut file) = fs::open(rt, file) else {
         return Err(Fault::Stopped(Refusal::ReadFailed));
     };

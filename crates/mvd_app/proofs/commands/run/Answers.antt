@@ -1,4 +1,4 @@
-use Rattle.std.proofs.Common.{subst}
+use Rattle.std.proofs.Common.{refl, subst}
 use Rattle.mvd_app.proofs.Ending.{none_back}
 use Rattle.mvd_input.specs.Orders.{IsInRange}
 use Rattle.mvd_app.proofs.commands.run.Goals as goal
@@ -28,7 +28,7 @@ pub returns-in-Sync : goal.returns-in-Sync
 returns-in-Sync g c = record { kept = rw c.in-Sync.is c.run_stored-in-Sync.ensures.kept; done = rw c.in-Sync.is c.run_stored-in-Sync.ensures.done }
 
 pub returns-in-Meet : goal.returns-in-Meet
-returns-in-Meet g c = record { kept = none_back _ _ c.without_file-in-Meet.result c.without_file-in-Meet.ensures; done = rw c.in-Meet.is tt }
+returns-in-Meet g c = record { kept = none_back _ _ c.without_file-in-Meet.result c.without_file-in-Meet.ensures; done = rw c.in-Meet.is (refl, rw c.without_file-in-Meet.ensures.ended c.run_meeting.ensures) }
 
 pub run_stored-requires-clause-set_up : goal.run_stored-requires-clause-set_up
 run_stored-requires-clause-set_up g c = (subst IsInRange c.in-Serve.is c.requires).0

@@ -2,7 +2,7 @@ use Rattle.std.proofs.Common.{inl, inr, option_copied, refl}
 use Rattle.sqlite.specs.WalFiles.{image_at}
 use Rattle.mvd_app.specs.Stored.{filed}
 use Rattle.mvd_app.specs.Tasks.{outside, task_of}
-use Rattle.mvd_app.proofs.Ending.{by_files, file_back}
+use Rattle.mvd_app.proofs.Ending.{file_back}
 use Rattle.mvd_app.proofs.Running.{runs_of}
 use Rattle.mvd_app.proofs.Working.{does_by, does_work}
 use Rattle.mvd_app.proofs.commands.run_stored.Goals as goal
@@ -15,7 +15,7 @@ returns-in-Err g c = record {
     still = refl;
     stop = c.in-Err.stop;
     ended = refl;
-    cause = inl (by_files c.args.db c.args.setup.site c.args.setup.max_keys c.args.setup.defs c.args.token_file (task_of c.args.work) c.in-Err.ensures.none);
+    cause = inl c.in-Err.ensures.stopped;
   });
 }
 
@@ -30,7 +30,7 @@ returns-in-Ok-opened g c =
     let does = c.work_on-worked.ensures in
     record {
       kept = file_back image (filed c.args.db c.args.setup c.args.token_file (task_of c.args.work)) c.in-Ok.read.0 set_up old new opened c.finish.result.files
-          (does_work _ _ _ _ _ _ old new (task_of c.args.work) does.0 c.work_on-worked.result does.1) c.finish.ensures.files;
+          (does_work _ _ _ _ _ _ old new does.0 c.work_on-worked.result (task_of c.args.work) does.1) c.finish.ensures.files;
       done = inr (record {
         config = c.in-Ok.read.0;
         set_up = set_up;
@@ -43,7 +43,7 @@ returns-in-Ok-opened g c =
         worked = c.work_on-worked.result;
         does = does.1;
         runs = runs_of image c.args.setup.site c.in-Ok.read.0 set_up.site old new opened opened.rests does.0
-            (does_by _ _ _ _ _ _ old new (task_of c.args.work) does.0 c.work_on-worked.result does.1 opened.stands) c.finish.result.files c.finish.ensures.files;
+            (does_by _ _ _ _ _ _ old new does.0 c.work_on-worked.result (task_of c.args.work) does.1 opened.stands) c.finish.result.files c.finish.ensures.files;
         closed = c.finish.ensures.files;
         ends = c.finish.ensures.ended;
       });

@@ -1,19 +1,17 @@
-use Rattle.std.proofs.Common.{None, Some, refl, subst}
+use Rattle.std.proofs.Common.{refl, subst}
 use Rattle.mvd_app.specs.Tasks.{MayWork, turns_asked}
 use Rattle.mvd_host.specs.Round.{turns_of}
 use Rattle.mvd_host.specs.Runs.{turns_in}
 use Rattle.mvd_app.proofs.commands.work_on.Goals as goal
 
 pub returns-in-Serve : goal.returns-in-Serve
-returns-in-Serve g c = rw c.in-Serve.is (Some (turns_of (turns_in c.serve_stored.ensures.all)), (c.serve_stored.ensures, refl))
+returns-in-Serve g c = rw c.in-Serve.is (turns_of (turns_in c.serve_stored.ensures.served.all), (c.serve_stored.ensures, refl))
 
 pub returns-in-Shell : goal.returns-in-Shell
-returns-in-Shell g c = rw c.in-Shell.is (Some (turns_asked c.typed.ensures.exchanges), (c.typed.ensures, refl))
+returns-in-Shell g c = rw c.in-Shell.is (turns_asked c.typed.ensures.exchanges, (c.typed.ensures, refl))
 
 pub returns-in-Sync : goal.returns-in-Sync
-returns-in-Sync g c =
-    let tells = c.sync_told.ensures.tells in
-    rw c.in-Sync.is (None, (record { ran = tells.ran; meets = tells.meets; told = tells.told }, c.sync_told.ensures.pushed, refl))
+returns-in-Sync g c = rw c.in-Sync.is (c.sync_told.ensures.tells.takes.turns, (c.sync_told.ensures.tells, refl))
 
 pub serve_stored-requires : goal.serve_stored-requires
 serve_stored-requires g c = subst MayWork c.in-Serve.is c.requires

@@ -1,5 +1,8 @@
 -- What an errand for a client over HTTP does to the host: calls on the client's connection.
-use Rattle.std.proofs.Common.{◌≡◌, ◌⊎◌, ◌-◌, ℕ, drop, take, ◌∙◌, List, [], ◌∷◌, Option, None, Some, Result, Ok, Err, inl, inr, refl, sym, subst, ap}
+use Rattle.std.proofs.Common.{◌≡◌, ◌≤◌, ◌⊎◌, ◌-◌, length, Bool, true, false, ℕ, drop, take, ◌∙◌, List, [], ◌∷◌, Option, None, Some, Result, Ok, Err, inl, inr, refl, sym, subst, ap}
+use Rattle.std.specs.Prelude.{string_bytes}
+use Rattle.std.specs.declared.alloc.Global.{Global}
+use Rattle.std.specs.declared.vec.Vec.{Vec}
 use Rattle.mvd_conn.specs.declared.source.Source.TheVariants.{Failed}
 use Rattle.mvd_conn.specs.History.{History, released, sent}
 use Rattle.mvd_conn.specs.declared.guard.Guard.{Guard}
@@ -7,23 +10,24 @@ use Rattle.mvd_dots.specs.declared.refusals.Refusal.{Refusal}
 use Rattle.mvd_dots.specs.declared.refusals.Refusal.TheVariants.{Memory}
 use Rattle.mvd_host.specs.Hosts.{HostValue, IsClient, altered, client_of}
 use Rattle.mvd_host.specs.Runs.{Call, Closes, Feeds, Releases, Sends, after_call}
+use Rattle.mvd_http.specs.declared.fields.Content.TheVariants as content
 use Rattle.mvd_http.specs.declared.question.Question.{Question}
 use Rattle.mvd_http.specs.declared.question.Question.TheVariants.{Page, Root, Metrics, Ask, Live, Changes, Many, TooManyLines, Nowhere, NotAllowed}
 use Rattle.mvd_server.specs.Admitted.{AsksSite}
 use Rattle.mvd_server.specs.Batches.{BeginsBatch}
-use Rattle.mvd_server.specs.Errands.{Asks, AsksNext, AsksOne, Desk, DoesPlan, Errand, Forgoes, IsBatchFor, RunsErrand, Stops, Tells, TellsChange, TellsMany}
+use Rattle.mvd_server.specs.Errands.{Asks, AsksNext, AsksOne, Desk, DoesPlan, Errand, Forgoes, IsBatchFor, RunsErrand, Stops, Tells, TellsBatch, TellsChange, TellsMany}
 use Rattle.mvd_server.specs.Fronts.{IsFrontReply, TakesFront}
-use Rattle.mvd_server.specs.Handed.{HandsBatch, HandsFrom, HandsPiece, Handing, TakenFrom, handing}
+use Rattle.mvd_server.specs.Handed.{HandsBatch, HandsFrom, HandsPiece, HandsWhole, Handing, IsUnwanted, TakenFrom, handing}
 use Rattle.mvd_server.specs.HostBytes.{TakesBytes, sent_of}
 use Rattle.mvd_server.specs.Paths.{IsPath, Path}
-use Rattle.mvd_server.specs.Plans.{IsPlanOf}
+use Rattle.mvd_server.specs.Plans.{IsPlanOf, plain_answer}
 use Rattle.mvd_server.specs.declared.batch.Batch.{Batch}
 use Rattle.mvd_server.specs.declared.gate.Plan.{Plan}
 use Rattle.mvd_server.specs.declared.gate.Plan.TheVariants as plan
 use Rattle.mvd_server.specs.declared.gate.Rest.{Rest}
 use Rattle.mvd_server.specs.declared.gate.Rest.TheVariants as rest
 use Rattle.mvd_server.proofs.Paths.{path_none, path_on, path_one, path_same}
-use Rattle.mvd_web.specs.Web.{WebValue}
+use Rattle.mvd_web.specs.Web.{RespondsTo, TakesRequest, WebValue, stopped_by}
 use Rattle.mvd_web.specs.declared.taken.Asked.{Asked}
 use Rattle.mvd_wire.specs.declared.reply.Reply.{Reply}
 use Rattle.mvd_wire.specs.declared.request.Request.{Request}
@@ -131,3 +135,27 @@ batch_left guard n (plan.Refused refusal) asked old host new host' batch kept pl
 pub batch_of : (guard : Option Guard) (n : ℕ) (old : WebValue) (host : HostValue) (new : WebValue) (host' : HostValue) (batch : Batch) → AsksNext guard n old host new host' (rest.Writes batch) → IsBatchFor new.asked batch
 batch_of guard n old host new host' batch (inl (told, none)) = let left = told.1 in absurd (let no : ⊥ = cc in no)
 batch_of guard n old host new host' batch (inr one) = batch_left guard n one.plan one.asked one.mid host new host' batch one.kept one.decides.asks one.does
+
+-- ---- a request is taken, or none is
+
+pub asks_none : (guard : Option Guard) (n : ℕ) (old new : WebValue) (host : HostValue) (took : Bool) → TakesRequest old took new → took ≡ false → AsksNext guard n old host new host rest.Nothing
+asks_none guard n old new host took takes is = inl ((refl, refl), subst (λ b. TakesRequest old b new) is takes)
+
+-- its frame is handed on
+pub does_frame : (n : ℕ) (frame : Vec ℕ Global) (old : WebValue) (host host' : HostValue) (bytes : List ℕ) (count : ℕ) → bytes ≡ frame.items → HandsFrom n bytes (handing host 0) (handing host' count) → (length bytes ≤ count) ⊎ IsUnwanted host' n
+    → DoesPlan n (plan.Frame frame) old host old host' rest.Nothing
+does_frame n frame old host host' bytes count is hands whole =
+    let whole' : HandsWhole n bytes host host' = record { count = count; hands = hands; whole = whole } in
+    (subst (λ (l : List ℕ). HandsWhole n l host host') is whole', refl, refl)
+
+-- ---- many writes are told
+
+module _ (n : ℕ) (old : WebValue) (batch : Batch) (host : HostValue) (new : WebValue) (batch' : Batch) (host' : HostValue) where
+  pub tells_all : TakenFrom n host host' → RespondsTo old.asked old (plain_answer 200 content.Lines) (string_bytes batch'.lines) new → TellsBatch n old batch host new batch' host'
+  tells_all taken responds = (taken, (Ok true, responds))
+
+  pub tells_none : TakenFrom n host host' → new ≡ old → TellsBatch n old batch host new batch' host'
+  tells_none taken same = (taken, (Ok false, same))
+
+  pub tells_stop : (refusal : Refusal) → TakenFrom n host host' → new ≡ stopped_by old refusal → TellsBatch n old batch host new batch' host'
+  tells_stop refusal taken is = (taken, (Err refusal, is))

@@ -1,5 +1,5 @@
 //! Many writes of one request: their frames, as the host takes them, and a line for each, as its replies come.
-ghost use Rattle.std.specs.Prelude.{◌≡◌, ◌++◌, IfErr, IfOk, OnOk};
+ghost use Rattle.std.specs.Prelude.{◌≡◌, ◌++◌, IfErr, IfOk, OnOk, string_bytes};
 ghost use Rattle.std.specs.List.{slice_get};
 ghost use Rattle.mvd_server.specs.Fronts.{TellsNext, end_refusal};
 ghost use Rattle.mvd_server.specs.Handed.{HandsBatch, TakenFrom};
@@ -93,7 +93,9 @@ impl Batch {
         }
     }
 
-    pub fn lines(&self) -> &str {
+    pub fn lines(&self) -> &str
+        ensures { result.now ≡ string_bytes self.now.lines }
+    {
         self.lines.as_str()
     }
 }

@@ -179,18 +179,33 @@ fn carry_out<S: Alter + Drop>(
     match plan {
         Plan::Frame(frame) => {
             hand_on(host, number, &frame, 0);
+            Rest::Nothing
         }
-        Plan::Writes(batch) => return Rest::Writes(batch),
+        Plan::Writes(batch) => Rest::Writes(batch),
         Plan::Changes(since, wait) => {
-            return wait_or_tell(alloc, web, replica, changes, since, wait, counts);
+            wait_or_tell(alloc, web, replica, changes, since, wait, counts)
         }
-        Plan::Root => tell_root(alloc, web, replica, counts),
-        Plan::Metrics => tell_metrics(alloc, web, replica, counts),
-        Plan::Told(answer, body) => respond(web, counts, answer, body),
-        Plan::NotAdmitted => ask_token(web, counts),
-        Plan::Refused(refusal) => refuse(alloc, web, counts, refusal),
+        Plan::Root => {
+            tell_root(alloc, web, replica, counts);
+            Rest::Nothing
+        }
+        Plan::Metrics => {
+            tell_metrics(alloc, web, replica, counts);
+            Rest::Nothing
+        }
+        Plan::Told(answer, body) => {
+            respond(web, counts, answer, body);
+            Rest::Nothing
+        }
+        Plan::NotAdmitted => {
+            ask_token(web, counts);
+            Rest::Nothing
+        }
+        Plan::Refused(refusal) => {
+            refuse(alloc, web, counts, refusal);
+            Rest::Nothing
+        }
     }
-    Rest::Nothing
 }
 
 /// Tells what changed since a root, or that the request waits where nothing did.
@@ -315,6 +330,7 @@ pub(crate) fn answer(
 }
 
 /// Queues the response to the writes of a client, once the host has answered all that it takes of them.
+#[tactic(auto, using(crate::proofs::Errands::tells_all, crate::proofs::Errands::tells_none, crate::proofs::Errands::tells_stop))]
 pub(crate) fn answer_writes(
     alloc: Global,
     host: &mut Host,

@@ -1,16 +1,19 @@
-use Rattle.std.proofs.Common.{refl, inl, inr}
+use Rattle.std.proofs.Common.{inr, subst, sym}
+use Rattle.mvd_server.proofs.Errands.{asks_none}
 use Rattle.mvd_server.proofs.gate.ask.Goals as goal
+use Rattle.mvd_web.specs.Inside.{web_of}
+use Rattle.mvd_web.specs.Web.{TakesRequest}
 
 pub returns-then-not-next : goal.returns-then-not-next
-returns-then-not-next g c = inl ((refl, refl), c.next.ensures)
+returns-then-not-next g c = asks_none _ c.args.number (web_of c.args.web.now) (web_of c.next.new.self) c.args.host.now c.next.result c.next.ensures c.if-not-next.true
 
 pub returns : goal.returns
 returns g c = inr (record {
-  mid = _;
-  takes = c.next.ensures;
+  mid = web_of c.next.new.self;
+  takes = subst (λ b. TakesRequest (web_of c.args.web.now) b (web_of c.next.new.self)) c.if-not-next.false c.next.ensures;
   asked = c.in-Some.asked.now;
-  kept = c.in-Some.ensures;
-  plan = c.plan_of.result;
-  decides = record { site = c.plan_of.ensures.site; own = c.plan_of.ensures.own; asks = c.plan_of.ensures.asks; done = c.plan_of.ensures.done; out = c.plan_of.ensures.out };
+  kept = sym c.in-Some.ensures;
+  plan = c.plan_of-plan.result;
+  decides = record { site = c.plan_of-plan.ensures.site; own = c.plan_of-plan.ensures.own; asks = c.plan_of-plan.ensures.asks; done = c.plan_of-plan.ensures.done; out = c.plan_of-plan.ensures.out };
   does = c.carry_out.ensures;
 })

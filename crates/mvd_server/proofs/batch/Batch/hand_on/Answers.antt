@@ -1,5 +1,9 @@
-use Rattle.std.proofs.Common.{refl}
+use Rattle.std.proofs.Common.{refl, subst}
+use Rattle.mvd_server.specs.Handed.{HandsFrom, handing}
 use Rattle.mvd_server.proofs.batch.Batch.hand_on.Goals as goal
 
 pub returns : goal.returns
-returns c = record { hands = c.hand_on.ensures.hands; same = refl }
+returns c = record {
+  hands = subst (λ l. HandsFrom c.args.number l (handing c.args.host.now c.args.self.now.handed) (handing c.hand_on-self.new.host c.hand_on-self.result)) c.deref.ensures.value c.hand_on-self.ensures.hands;
+  same = refl;
+}

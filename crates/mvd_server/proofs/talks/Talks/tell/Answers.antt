@@ -1,4 +1,7 @@
 use Rattle.std.proofs.Common.{ap, inl, inr, sym, ◌∙◌}
+use Rattle.std.specs.BTreeMap.{is_at}
+use Rattle.std.specs.Map.{remove_entry}
+use Rattle.std.specs.Ordering.{nat_cmp}
 use Rattle.mvd_server.specs.Errands.{Tells, TellsMany}
 use Rattle.mvd_server.specs.Talking.{talking_of}
 use Rattle.mvd_server.proofs.Deeds.{deed_attends}
@@ -15,13 +18,13 @@ returns-then-is_none c =
     let old = talking_of c.args.self.now in
     let web = c.answer_writes.new.web in
     let batch = c.answer_writes.new.batch in
-    deed_attends c.args.number (TellsMany c.in-Some-2.batch.now batch) c.in-Some.web.now web old c.answer_writes.new.host c.remove.new.self.entries (c.get_mut.follows.lender web).entries (sym c.in-Some.ensures.value)
-    (sym c.in-Some-2.ensures.value, c.answer_writes.ensures, inr (c.remove.ensures.entries ∙ ap _ (c.get_mut-2.follows.holds batch).0)) (c.get_mut.follows.holds web).0
+    deed_attends c.args.number (TellsMany c.in-Some-get_mut.batch.now batch) c.in-Some.web.now web old c.answer_writes.new.host c.remove.new.self.entries (c.get_mut.follows.lender web).entries (sym c.in-Some.ensures.value)
+    (sym c.in-Some-get_mut.ensures.value, c.answer_writes.ensures, inr (c.remove.ensures.entries ∙ ap (λ l. remove_entry (is_at (nat_cmp c.args.number)) l) (c.get_mut-2.follows.holds batch).0)) (c.get_mut.follows.holds web).0
 
 pub returns-else-is_none : goal.returns-else-is_none
 returns-else-is_none c =
     let old = talking_of c.args.self.now in
     let web = c.answer_writes.new.web in
     let batch = c.answer_writes.new.batch in
-    deed_attends c.args.number (TellsMany c.in-Some-2.batch.now batch) c.in-Some.web.now web old c.answer_writes.new.host (c.get_mut-2.follows.lender batch).entries (c.get_mut.follows.lender web).entries (sym c.in-Some.ensures.value)
-    (sym c.in-Some-2.ensures.value, c.answer_writes.ensures, inl (c.get_mut-2.follows.holds batch).0) (c.get_mut.follows.holds web).0
+    deed_attends c.args.number (TellsMany c.in-Some-get_mut.batch.now batch) c.in-Some.web.now web old c.answer_writes.new.host (c.get_mut-2.follows.lender batch).entries (c.get_mut.follows.lender web).entries (sym c.in-Some.ensures.value)
+    (sym c.in-Some-get_mut.ensures.value, c.answer_writes.ensures, inl (c.get_mut-2.follows.holds batch).0) (c.get_mut.follows.holds web).0

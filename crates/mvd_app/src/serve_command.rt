@@ -14,7 +14,8 @@ use sqlite::Alter;
 use std::io::Write;
 use std::net::SocketAddr;
 
-/// Serves a stored site at an address, and meets the peers meanwhile, if there are any. What is printed waits for nobody.
+/// Serves a stored site at an address, and meets the peers meanwhile, if there are any. It waits for nobody who should
+/// read what it prints.
 #[tactic(auto, using(mvd_server::proofs::Rounds::served_none))]
 pub(crate) fn serve_stored<'a, K: Sockets, S: Alter + Drop, W: Write>(
     rt: &HostRuntime,

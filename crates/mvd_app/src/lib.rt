@@ -5,6 +5,7 @@ mod closing;
 mod commands;
 mod looping;
 mod opening;
+mod outlet;
 mod serve_command;
 mod setups;
 mod tokens;

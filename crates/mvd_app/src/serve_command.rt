@@ -4,6 +4,7 @@ ghost use Rattle.std.specs.Prelude.{option_copied};
 ghost use Rattle.mvd_app.specs.Tasks.{ServesTo};
 ghost use Rattle.mvd_input.specs.Orders.{ArePeers};
 
+use crate::outlet::Outlet;
 use mvd_dots::Refusal;
 use mvd_hint::Stop;
 use mvd_input::{Peers, addresses_of};
@@ -13,7 +14,8 @@ use sqlite::Alter;
 use std::io::Write;
 use std::net::SocketAddr;
 
-/// Serves a stored site at an address, and meets the peers meanwhile, if there are any.
+/// Serves a stored site at an address, and meets the peers meanwhile, if there are any. It waits for nobody who should
+/// read what it prints.
 #[tactic(auto, using(crate::proofs::Unserved::serves_nothing))]
 pub(crate) fn serve_stored<'a, K: Sockets, S: Alter + Drop, W: Write>(
     rt: &HostRuntime,
@@ -28,6 +30,10 @@ pub(crate) fn serve_stored<'a, K: Sockets, S: Alter + Drop, W: Write>(
     ensures { ServesTo K.Sockets (option_copied terms.entry.token) sockets.old replica.old sockets.new replica.new result }
 {
     let mut errors = rt.stderr();
+    let mut outlet = match Outlet::new(rt, rt.alloc(), writer) {
+        Ok(outlet) => outlet,
+        Err(error) => return Err(Stop::unheard(address, error)),
+    };
     let Some(peers) = peers else {
         return serve_run(
             rt,
@@ -36,7 +42,7 @@ pub(crate) fn serve_stored<'a, K: Sockets, S: Alter + Drop, W: Write>(
             replica,
             address,
             terms,
-            writer,
+            &mut outlet,
             &mut errors,
         );
     };
@@ -55,7 +61,7 @@ pub(crate) fn serve_stored<'a, K: Sockets, S: Alter + Drop, W: Write>(
         replica,
         address,
         terms,
-        writer,
+        &mut outlet,
         &mut errors,
     )
 }

@@ -1,0 +1,118 @@
+//! Where a server prints: standard output, which holds nobody up where nobody reads it.
+ghost use Rattle.std.specs.Prelude.{◌≤◌, length};
+
+use mio::unix::SourceFd;
+use mio::{Events, Interest, Poll, Token};
+use std::alloc::Global;
+use std::fmt::Write as Print;
+use std::io::{self, Write};
+use std::net::Net;
+use std::os::fd::RawFd;
+use std::time::Duration;
+
+/// The descriptor of standard output.
+const STANDARD_OUTPUT: RawFd = 1;
+
+/// The most bytes that leave together: a pipe that has room takes as many without a wait (`PIPE_BUF`).
+const PIECE: usize = 4_096;
+
+/// The most bytes of the line that tells of dropped ones.
+const NOTICE: usize = 32;
+
+/// The writer of standard output, for which nobody waits. Lines that cannot leave at once are dropped and counted, and
+/// the next ones that leave follow a line that tells how many. Where the system does not say whether there is room, as
+/// of a regular file, there always is.
+#[derive(Drop)]
+pub(crate) struct Outlet<'w, W: Write> {
+    writer: &'w mut W,
+    poll: Poll,
+    events: Events,
+    is_watched: bool,
+    dropped: u64,
+    notice: String,
+}
+
+impl<'w, W: Write> Outlet<'w, W> {
+    pub(crate) fn new<N: Net>(rt: &N, alloc: Global, writer: &'w mut W) -> io::Result<Self> {
+        let notice = String::with_capacity(alloc, NOTICE)?;
+        let events = Events::with_capacity(alloc, 1)?;
+        let poll = Poll::new(rt)?;
+        let mut output = SourceFd(&STANDARD_OUTPUT);
+        let registered = poll
+            .registry()
+            .register(&mut output, Token(0), Interest::WRITABLE);
+        let is_watched = registered.is_ok();
+        Ok(Outlet {
+            writer,
+            poll,
+            events,
+            is_watched,
+            dropped: 0,
+            notice,
+        })
+    }
+
+    /// Whether a piece leaves without a wait. The system tells of room once, unless it is asked anew. Where nobody is
+    /// left to read, it tells so too, and a write is refused at once.
+    fn has_room(&mut self) -> bool {
+        if !self.is_watched {
+            return true;
+        }
+        let mut output = SourceFd(&STANDARD_OUTPUT);
+        let registry = self.poll.registry();
+        let asked = registry.reregister(&mut output, Token(0), Interest::WRITABLE);
+        let looked = self.poll.poll(&mut self.events, Some(Duration::ZERO));
+        asked.is_ok() && looked.is_ok() && !self.events.is_empty()
+    }
+
+    /// Tells how many lines were dropped, if some were, and whether there is room behind that.
+    fn tell_dropped(&mut self) -> io::Result<bool> {
+        if self.dropped == 0 {
+            return Ok(true);
+        }
+        self.notice.clear();
+        writeln!(self.notice, "dropped {}", self.dropped)?;
+        self.writer.write_all(self.notice.as_bytes())?;
+        self.writer.flush()?;
+        self.dropped = 0;
+        Ok(self.has_room())
+    }
+
+    /// Counts the lines of what is dropped.
+    fn count(&mut self, lines: &[u8]) {
+        for byte in lines {
+            if *byte == b'\n' {
+                self.dropped = self.dropped.saturating_add(1);
+            }
+        }
+    }
+}
+
+impl<W: Write> Write for Outlet<'_, W> {
+    fn write(&mut self, buf: &[u8]) -> io::Result<usize> {
+        if !self.has_room() || !self.tell_dropped()? {
+            self.count(buf);
+            return Ok(buf.len());
+        }
+        let piece = &buf[..piece_of(buf)];
+        self.writer.write_all(piece)?;
+        self.writer.flush()?;
+        Ok(piece.len())
+    }
+
+    // What is written has left.
+    fn flush(&mut self) -> io::Result<()> {
+        Ok(())
+    }
+}
+
+/// How many of the bytes leave together: whole lines, unless the first one is longer than a piece.
+fn piece_of(buf: &[u8]) -> usize
+    ensures { result ≤ length buf.now }
+{
+    let most = buf.len().min(PIECE);
+    match buf[..most].iter().rposition(|byte| *byte == b'\n') {
+        Some(at) => at + 1,
+        None => most,
+    }
+}

@@ -51,4 +51,3 @@ returns-in-Err-bye-clause-syncs g c = record {
   ends = rw c.in-Ok.is (c.bye.result, c.bye.ensures.asked, rw c.in-Err-bye.is refl);
   meets = λ s t d n. returns-in-Err-bye-clause-meets g c s (fresh_is_true g.L.Line.is_true g.L.Line.far c.args.watched.now.side t d n);
 }
-

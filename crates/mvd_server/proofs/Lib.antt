@@ -1,5 +1,6 @@
 pub mod Answering
 pub mod Clients
+pub mod Closing
 pub mod Deeds
 pub mod Failing
 pub mod Fronting

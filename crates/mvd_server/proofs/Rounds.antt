@@ -17,6 +17,7 @@ use Rattle.mvd_server.proofs.Paths.{path_map, path_none, path_on, path_one}
 use Rattle.mvd_server.proofs.Deeds.{carries_deeds}
 use Rattle.mvd_server.proofs.Showing.{AreGuarded, guarded_deed, guarded_in, guarded_new, guarded_out, guarded_round, kept_deed, kept_in, kept_out}
 use Rattle.mvd_server.specs.Guarded.{IsGuardOf}
+use Rattle.mvd_server.specs.Closing.{EndsServed, IsDeserted}
 use Rattle.mvd_server.specs.OwnSides.{TakesBytes, sent_of, waits_of}
 use Rattle.mvd_server.specs.Paths.{IsPath}
 use Rattle.mvd_server.specs.Rounds.{AnswersClients, BeginsServing, GoesOn, HasRound, IsServed, ServeStep, Serving, ServingStep, WasMadeFor, WasThere, World, begun, host_in, moment_of, world_of}
@@ -87,7 +88,7 @@ module _ {C : Type 0} (f : C → State) (site : SiteValue) (conn : C) where
   of_bytes n bytes old new (inr is) = record { all = Called n Releases ∷ Called n (Closes (source.Failed Memory)) ∷ []; runs = (tt, (tt, tt)); ends = ap moment (sym is); none = refl }
 
   of_by : (web : Option WebConnection) (n : ℕ) (bytes : List ℕ) (old new : Talking) → TakesBy web n bytes old new → Calm f (moment old.host) (moment new.host)
-  of_by None n bytes old new (takes, same) = of_bytes n bytes old.host new.host takes
+  of_by None n bytes old new (apart, takes, same) = of_bytes n bytes old.host new.host takes
   of_by (Some web) n bytes old new (web', feeds, same) = of_none old.host new.host (ap (λ (t : Talking). t.host) same)
 
   of_in : (n : ℕ) (bytes : List ℕ) (old new : Talking) → TakesIn n bytes old new → Calm f (moment old.host) (moment new.host)
@@ -305,19 +306,29 @@ module _ {S : Type 0} {g : Ghosts S} {K : Type 0} (k : SocketGhosts K) where
   served_from token first last sockets old sockets' new (guard, guarded, is) p =
       served token guard (talking_of last) sockets old sockets' new guarded (subst (λ (t : Talking). GoesOn k (record { talking = t; sockets = sockets }) old (wired_of last sockets') new) is p)
 
+  -- and at the end nobody is left
+  pub left_from : (token : Option (List ℕ)) (first last : Talks) (sockets : K) (old : Replica S g) (sockets' : K) (new : Replica S g) → BeginsServing token first
+      → GoesOn k (wired_of first sockets) old (wired_of last sockets') new → IsDeserted (talking_of last) → EndsServed k token sockets old sockets' new
+  unfolding served_from served
+  left_from token first last sockets old sockets' new (guard, guarded, is) p left = (served_from token first last sockets old sockets' new (guard, guarded, is) p, left)
+
   -- ---- one after the other
 
-  pub and_same : (w : Wired K) (t t' : Talks) (s : K) (old new : Replica S g) → GoesOn k w old (wired_of t s) new → t' ≡ t → GoesOn k w old (wired_of t' s) new
-  and_same w t t' s old new p same = subst (λ (x : Talks). GoesOn k w old (wired_of x s) new) (sym same) p
+  -- what comes is taken in; then deeds, rounds and deeds
+  pub goes_in : (t mid t' : Talks) (s s' : K) (replica : Replica S g) → mid ≡ t → Carries k (wired_of mid s) (wired_of t' s') → GoesOn k (wired_of t s) replica (wired_of t' s') replica
+  goes_in t mid t' s s' replica same p = goes_carries (wired_of t s) (wired_of t' s') replica (subst (λ (x : Talks). Carries k (wired_of x s) (wired_of t' s')) same p)
 
-  pub and_carries : (w : Wired K) (t t' : Talks) (s s' : K) (old new : Replica S g) → GoesOn k w old (wired_of t s) new → Carries k (wired_of t s) (wired_of t' s') → GoesOn k w old (wired_of t' s') new
-  and_carries w t t' s s' old new p q = goes_on w (wired_of t s) (wired_of t' s') old new new p (goes_carries (wired_of t s) (wired_of t' s') new q)
+  pub goes_with : (t a b t' : Talks) (s : K) (old new : Replica S g) → TalksDeeds t a → AnswersClients a old b new → TalksDeeds b t' → GoesOn k (wired_of t s) old (wired_of t' s) new
+  goes_with t a b t' s old new before p after =
+      goes_on (wired_of t s) (wired_of a s) (wired_of t' s) old old new (goes_deeds (talking_of t) (talking_of a) s old before)
+      (goes_on (wired_of a s) (wired_of b s) (wired_of t' s) old new new (goes_answers a b s old new p) (goes_deeds (talking_of b) (talking_of t') s new after))
 
-  pub and_deeds : (w : Wired K) (t t' : Talks) (s : K) (old new : Replica S g) → GoesOn k w old (wired_of t s) new → TalksDeeds t t' → GoesOn k w old (wired_of t' s) new
-  and_deeds w t t' s old new p q = goes_on w (wired_of t s) (wired_of t' s) old new new p (goes_deeds (talking_of t) (talking_of t') s new q)
-
-  pub and_answers : (w : Wired K) (t t' : Talks) (s : K) (old now new : Replica S g) → GoesOn k w old (wired_of t s) now → AnswersClients t now t' new → GoesOn k w old (wired_of t' s) new
-  and_answers w t t' s old now new p q = goes_on w (wired_of t s) (wired_of t' s) old now new p (goes_answers t t' s now new q)
+  -- and what waits is given out
+  pub goes_once : (t mid t' a b t'' last : Talks) (s s' s'' : K) (old new : Replica S g) → mid ≡ t → Carries k (wired_of mid s) (wired_of t' s') → TalksDeeds t' a → AnswersClients a old b new → TalksDeeds b t''
+      → Carries k (wired_of t'' s') (wired_of last s'') → GoesOn k (wired_of t s) old (wired_of last s'') new
+  goes_once t mid t' a b t'' last s s' s'' old new same p before q after r =
+      goes_on (wired_of t s) (wired_of t' s') (wired_of last s'') old old new (goes_in t mid t' s s' old same p)
+      (goes_on (wired_of t' s') (wired_of t'' s') (wired_of last s'') old new new (goes_with t' a b t'' s' old new before q after) (goes_carries (wired_of t'' s') (wired_of last s'') new r))
 
 module _ {S : Type 0} {g : Ghosts S} where
   pub answers_none : (t : Talks) (replica : Replica S g) → AnswersClients t replica t replica

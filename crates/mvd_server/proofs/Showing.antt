@@ -138,7 +138,7 @@ guarded_bytes n bytes t host (inr is) each =
     (guarded_altered (with_host t (altered t.host n released)) n (λ h. closed h (source.Failed Memory)) (λ h. refl) (guarded_altered t n released (λ h. refl) each))
 
 guarded_by : (web : Option WebConnection) (n : ℕ) (bytes : List ℕ) (old new : Talking) → TakesBy web n bytes old new → AreGuarded old → AreGuarded new
-guarded_by None n bytes old new (takes, same) each = to (with_host old new.host) new same (guarded_bytes n bytes old new.host takes each)
+guarded_by None n bytes old new (apart, takes, same) each = to (with_host old new.host) new same (guarded_bytes n bytes old new.host takes each)
 guarded_by (Some web) n bytes old new (web', feeds, same) each = to (with_web old n web') new same (guarded_web old n web' each)
 
 pub guarded_in : (n : ℕ) (bytes : List ℕ) (old new : Talking) → TakesIn n bytes old new → AreGuarded old → AreGuarded new
@@ -181,7 +181,7 @@ kept_deed old new (Calls n call, does) = kept old new _ refl does.1
 kept_deed old new (Turns n web web', does) = kept old new _ refl does.1
 
 kept_by : (web : Option WebConnection) (n : ℕ) (bytes : List ℕ) (old new : Talking) → TakesBy web n bytes old new → new.guard ≡ old.guard
-kept_by None n bytes old new (takes, same) = kept old new _ refl same
+kept_by None n bytes old new (apart, takes, same) = kept old new _ refl same
 kept_by (Some web) n bytes old new (web', feeds, same) = kept old new _ refl same
 
 pub kept_in : (n : ℕ) (bytes : List ℕ) (old new : Talking) → TakesIn n bytes old new → new.guard ≡ old.guard

@@ -15,8 +15,8 @@ use Rattle.mvd_server.specs.declared.sockets.Sockets.{Ghosts}
 use Rattle.mvd_server.proofs.Deeds.{carries_deeds, carries_in, carries_out, deeds_none}
 use Rattle.mvd_web.specs.declared.web_connection.WebConnection.{WebConnection}
 
-takes_by : (web : Option WebConnection) (n : ℕ) (bytes : List ℕ) (old new : Talking) → MayFeedBy web (client_of old.host n) → FeedsBy web n bytes old new → TakesBy web n bytes old new
-takes_by None n bytes old new wants (feeds, same) = (feeds wants, same)
+takes_by : (web : Option WebConnection) (n : ℕ) (bytes : List ℕ) (old new : Talking) → MayFeedBy web n old → FeedsBy web n bytes old new → TakesBy web n bytes old new
+takes_by None n bytes old new (apart, wants) (feeds, same) = (apart, feeds wants, same)
 takes_by (Some web) n bytes old new may feeds = feeds
 
 -- what came of a client of which more is wanted is fed to it

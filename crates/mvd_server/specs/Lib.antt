@@ -1,5 +1,6 @@
 pub mod Admitted
 pub mod Batches
+pub mod Closing
 pub mod Dues
 pub mod Fronts
 pub mod Guarded

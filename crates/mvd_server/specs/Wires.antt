@@ -1,11 +1,11 @@
 -- What comes by the clients' sockets, and what leaves by them.
-use Rattle.std.specs.Prelude.{◌≡◌, ◌⊎◌, ◌++◌, ℕ, List, [], codes, length, min, take, Option, None, Some, ⊤}
+use Rattle.std.specs.Prelude.{◌≡◌, ◌⊎◌, ◌++◌, ℕ, false, List, [], codes, length, min, take, Option, None, Some, ⊤}
 use Rattle.mvd_conn.specs.History.{History, WantsInput}
 use Rattle.mvd_dots.specs.declared.refusals.Refusal.TheVariants.{TooManyRequests}
 use Rattle.mvd_host.specs.Hosts.{IsClient, client_of}
 use Rattle.mvd_server.specs.OwnSides.{TakesBytes, sent_of, waits_of}
 use Rattle.mvd_server.specs.Paths.{Path}
-use Rattle.mvd_server.specs.Talking.{Deed, Talking, talking_of, web_in, with_host, with_web}
+use Rattle.mvd_server.specs.Talking.{Deed, Talking, is_own, talking_of, web_in, with_host, with_web}
 use Rattle.mvd_server.specs.declared.sockets.Sockets.{Ghosts}
 use Rattle.mvd_server.specs.declared.talks.Talks.{Talks}
 use Rattle.mvd_web.specs.Inside.{web_of}
@@ -16,10 +16,11 @@ use Rattle.mvd_wire.specs.declared.reply.Reply.TheVariants.{Refused}
 
 -- ---- what comes
 
--- bytes are fed to the connection of a client, over HTTP or not; or memory is refused for them, and no more is taken of
--- it
+-- Bytes are fed to the connection of a client, over HTTP or not; or memory is refused for them, and no more is taken of
+-- it. Who sends frames by a socket is none of the server's own, which show no token
 abbrev pub TakesBy : Option WebConnection → ℕ → List ℕ → Talking → Talking → Type 0
-TakesBy None n bytes old new = TakesBytes old.host n bytes new.host × (new ≡ with_host old new.host)
+TakesBy None n bytes old new =
+    (is_own old n ≡ false) × TakesBytes old.host n bytes new.host × (new ≡ with_host old new.host)
 TakesBy (Some web) n bytes old new =
     (web' : WebConnection) × Feeds (web_of web) bytes (web_of web') × (new ≡ with_web old n web')
 
@@ -33,12 +34,15 @@ TakesIn n bytes old new =
     TakesBy (web_in old n) n bytes old new ⊎ ((new ≡ old) × (IsNoClient old n ⊎ (bytes ≡ [])))
 
 -- a client of frames is fed where the host wants more of it
-abbrev pub MayFeedBy : Option WebConnection → Option History → Type 0
-MayFeedBy None h = IsClient h WantsInput
-MayFeedBy (Some web) h = ⊤
+abbrev pub IsFedBySocket : ℕ → Talking → Type 0
+IsFedBySocket n t = (is_own t n ≡ false) × IsClient (client_of t.host n) WantsInput
+
+abbrev pub MayFeedBy : Option WebConnection → ℕ → Talking → Type 0
+MayFeedBy None n t = IsFedBySocket n t
+MayFeedBy (Some web) n t = ⊤
 
 abbrev pub MayFeed : ℕ → Talking → Type 0
-MayFeed n t = MayFeedBy (web_in t n) (client_of t.host n)
+MayFeed n t = MayFeedBy (web_in t n) n t
 
 -- then all of them are
 abbrev pub FeedsBy : Option WebConnection → ℕ → List ℕ → Talking → Talking → Type 0

@@ -1,7 +1,8 @@
 //! The clients: their sockets, and their connections.
 mod admitting;
 
-ghost use Rattle.std.specs.Prelude.{◌≡◌, IfOk, option_copied};
+ghost use Rattle.std.specs.Prelude.{◌≡◌, IfOk, IsTrue, option_copied};
+ghost use Rattle.mvd_server.specs.Closing.{IsDeserted};
 ghost use Rattle.mvd_server.specs.Rounds.{BeginsServing, HasRound};
 ghost use Rattle.mvd_server.specs.Talking.{TalksDeeds, talking_of};
 ghost use Rattle.mvd_server.specs.Wires.{Carries, wired_of};
@@ -77,8 +78,11 @@ impl Crowd {
         })
     }
 
-    pub fn is_empty(&self) -> bool {
-        self.clients.is_empty()
+    /// Whether all that are to come have come, and nobody is left but the server's own.
+    pub fn is_over(&self) -> bool
+        ensures { IsTrue result → IsDeserted (talking_of self.entry.now.talks) }
+    {
+        self.is_shut() && self.clients.is_empty() && self.talks.clients() == 0
     }
 
     /// The number of clients that have come.
@@ -87,7 +91,7 @@ impl Crowd {
     }
 
     /// Whether as many came as are to come.
-    pub fn is_shut(&self) -> bool {
+    fn is_shut(&self) -> bool {
         self.accepted() >= self.most
     }
 
@@ -176,7 +180,7 @@ impl Crowd {
         sockets: &mut K,
         listed: &[u64],
         ready: &mut Vec<u64>,
-    ) -> Result<(), Refusal>
+    ) -> Result<(), AllocError>
         ensures { Carries K.Sockets (wired_of self.old.talks sockets.old) (wired_of self.new.talks sockets.new) }
     {
         for number in listed {
@@ -188,7 +192,7 @@ impl Crowd {
 
     /// Writes once, where something waits and may be taken. Tells how the connection ended, where nothing is left to
     /// do.
-    fn write<K: Sockets>(&mut self, sockets: &mut K, number: u64) -> Result<(), Refusal>
+    fn write<K: Sockets>(&mut self, sockets: &mut K, number: u64) -> Result<(), AllocError>
         ensures { Carries K.Sockets (wired_of self.old.talks sockets.old) (wired_of self.new.talks sockets.new) }
     {
         self.send_to(sockets, number);
@@ -209,7 +213,7 @@ impl Crowd {
     }
 
     /// Lets a connection go that is done. Its client has a while to take the last replies, unless those failed.
-    fn finish(&mut self, number: u64) -> Result<(), Refusal>
+    fn finish(&mut self, number: u64) -> Result<(), AllocError>
         ensures { TalksDeeds self.old.talks self.new.talks }
     {
         let ending = self.talks.ending(number).unwrap_or(Ending::End);

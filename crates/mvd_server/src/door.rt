@@ -6,7 +6,7 @@ use crate::sockets::Sockets;
 use crate::talks::Kind;
 use mio::net::TcpListener;
 use mio::{Interest, Registry, Token};
-use mvd_dots::Refusal;
+use std::alloc::AllocError;
 use std::io::{self, ErrorKind};
 use std::net::{Net, SocketAddr};
 
@@ -70,7 +70,7 @@ impl Door {
         sockets: &mut K,
         crowd: &mut Crowd,
         ready: &mut Vec<u64>,
-    ) -> Result<(), Refusal>
+    ) -> Result<(), AllocError>
         ensures { Carries K.Sockets (wired_of crowd.old.talks sockets.old) (wired_of crowd.new.talks sockets.new) }
     {
         for _ in 0..ROUND_MAX {
@@ -90,7 +90,7 @@ impl Door {
         sockets: &mut K,
         crowd: &mut Crowd,
         ready: &mut Vec<u64>,
-    ) -> Result<(), Refusal>
+    ) -> Result<(), AllocError>
         ensures { Carries K.Sockets (wired_of crowd.old.talks sockets.old) (wired_of crowd.new.talks sockets.new) }
     {
         match self.listener.accept() {

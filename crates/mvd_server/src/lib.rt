@@ -24,6 +24,7 @@ mod responding;
 mod server;
 mod sockets;
 mod talks;
+mod telling;
 mod timers;
 
 pub use server::{Terms, serve_run};

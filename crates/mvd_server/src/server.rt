@@ -1,6 +1,10 @@
 //! A server of many clients at once, from one thread.
 ghost use Rattle.mvd_server.specs.Peerings.{WakesInTime};
-ghost use Rattle.std.specs.Prelude.{◌≡◌, IfOk, option_copied};
+ghost use Rattle.std.specs.Prelude.{◌≡◌, ◌⊎◌, IfErr, IfOk, IsSome, OnOk, option_copied};
+ghost use Rattle.mvd_dots.specs.declared.refusals.Refusal.TheVariants.{Memory, ReadFailed, WriteFailed};
+ghost use Rattle.mvd_input.specs.declared.fault.Fault.TheVariants.{Stopped};
+ghost use Rattle.mvd_replica.specs.Replicas.{site_of};
+ghost use Rattle.mvd_server.specs.Closing.{EndsAtFault, EndsServed, IsDeserted};
 ghost use Rattle.mvd_server.specs.Rounds.{AnswersClients, BeginsServing, GoesOn, IsServed};
 ghost use Rattle.mvd_server.specs.Talking.{talking_of};
 ghost use Rattle.mvd_server.specs.Wires.{Carries, wired_of};
@@ -10,19 +14,18 @@ use crate::door::{Door, FRAMES, HTTP};
 use crate::peer_list::Peers;
 use crate::sockets::Sockets;
 use crate::talks::Kind;
-use crate::timers::earlier;
+use crate::telling::{tell_listening, tell_root, web_address};
+use crate::timers::{earlier, millis_of};
 use mio::{Events, Poll};
 use mvd_conn::Guard;
 use mvd_dots::Refusal;
 use mvd_hint::Stop;
 use mvd_host::CLIENTS_MAX;
 use mvd_input::{Fault, tell};
-use mvd_print::print_root;
 use mvd_replica::Replica;
 use mvd_wire::Token;
 use sqlite::Alter;
-use std::alloc::Global;
-use std::fmt::Write as Print;
+use std::alloc::{AllocError, Global};
 use std::hash::RandomState;
 use std::io::{self, Write};
 use std::mem;
@@ -107,6 +110,13 @@ pub fn serve_run<
 ) -> Result<(), Stop<'a>>
     // However it ends, the site changed by turns of one host alone, fed by its sockets, and its records follow.
     ensures served { IsServed K.Sockets (option_copied terms.entry.token) sockets.old replica.old sockets.new replica.new }
+    // Where it ends well, nobody is left.
+    ensures left { OnOk result (EndsServed K.Sockets (option_copied terms.entry.token) sockets.old replica.old
+        sockets.new replica.new) }
+    // Else there is a cause; where it could not listen, nothing was served.
+    ensures cause { IfErr result (λ stop. EndsAtFault (site_of replica.new) stop.fault) }
+    ensures unheard { IfErr result (λ stop. IsSome stop.hint →
+        (sockets.new ≡ sockets.old) × (replica.new ≡ replica.old)) }
 {
     let number = replica.config().site();
     let mut server = listening(rt, alloc, address, number, terms)?;
@@ -125,7 +135,8 @@ fn listening<'a, N: Net + Clock + RandomSource>(
     number: u32,
     terms: Terms<'_>,
 ) -> Result<Server, Stop<'a>>
-    ensures { IfOk result (λ server. BeginsServing (option_copied terms.entry.token) server.crowd.talks) }
+    ensures begins { IfOk result (λ server. BeginsServing (option_copied terms.entry.token) server.crowd.talks) }
+    ensures unheard { IfErr result (λ stop. stop.fault ≡ Stopped ReadFailed) }
 {
     match Server::new(rt, alloc, address, number, terms) {
         Ok(server) => with_web(rt, server, web_address(address, terms)),
@@ -139,7 +150,8 @@ fn with_web<'a, N: Net>(
     mut server: Server,
     address: Option<SocketAddr>,
 ) -> Result<Server, Stop<'a>>
-    ensures { IfOk result (λ new. new.crowd.talks ≡ server.crowd.talks) }
+    ensures talks { IfOk result (λ new. new.crowd.talks ≡ server.crowd.talks) }
+    ensures unheard { IfErr result (λ stop. stop.fault ≡ Stopped ReadFailed) }
 {
     let Some(address) = address else {
         return Ok(server);
@@ -208,8 +220,10 @@ impl Server {
         writer: &mut W,
         errors: &mut E,
     ) -> Result<(), Fault>
-        ensures { GoesOn K.Sockets (wired_of self.old.crowd.talks sockets.old) replica.old
+        ensures goes { GoesOn K.Sockets (wired_of self.old.crowd.talks sockets.old) replica.old
             (wired_of self.new.crowd.talks sockets.new) replica.new }
+        ensures left { OnOk result (IsDeserted (talking_of self.new.crowd.talks)) }
+        ensures cause { IfErr result (EndsAtFault (site_of replica.new)) }
     {
         tell_listening(alloc, address, terms, writer)?;
         self.serve(rt, sockets, replica, writer, errors)?;
@@ -225,21 +239,41 @@ impl Server {
         writer: &mut W,
         errors: &mut E,
     ) -> Result<(), Fault>
-        ensures { GoesOn K.Sockets (wired_of self.old.crowd.talks sockets.old) replica.old
+        ensures goes { GoesOn K.Sockets (wired_of self.old.crowd.talks sockets.old) replica.old
             (wired_of self.new.crowd.talks sockets.new) replica.new }
+        ensures left { OnOk result (IsDeserted (talking_of self.new.crowd.talks)) }
+        ensures cause { IfErr result (EndsAtFault (site_of replica.new)) }
     {
         for _round in 0..u64::MAX {
-            if self.crowd.is_shut() && self.crowd.is_empty() {
+            if self.crowd.is_over() {
                 return Ok(());
             }
-            self.wait(rt)?;
-            self.take_in(sockets)?;
-            self.peers.go_on(rt, self.poll.registry(), &mut self.crowd);
-            self.answer(replica);
-            self.crowd.wake(&mut self.ready);
-            self.give_out(sockets, writer)?;
-            self.peers.tell_errors(errors);
+            self.serve_once(rt, sockets, replica, writer, errors)?;
         }
+        // No server lives so long.
+        Err(Fault::Stopped(Refusal::ReadFailed))
+    }
+
+    /// Waits until there may be something to do, and does what there is.
+    fn serve_once<N: Net + Clock, K: Sockets, S: Alter + Drop, W: Write, E: Write>(
+        &mut self,
+        rt: &N,
+        sockets: &mut K,
+        replica: &mut Replica<S>,
+        writer: &mut W,
+        errors: &mut E,
+    ) -> Result<(), Fault>
+        ensures goes { GoesOn K.Sockets (wired_of self.old.crowd.talks sockets.old) replica.old
+            (wired_of self.new.crowd.talks sockets.new) replica.new }
+        ensures cause { IfErr result (EndsAtFault (site_of replica.new)) }
+    {
+        self.wait(rt)?;
+        self.take_in(sockets)?;
+        self.peers.go_on(rt, self.poll.registry(), &mut self.crowd);
+        self.answer(replica);
+        self.crowd.wake(&mut self.ready);
+        self.give_out(sockets, writer)?;
+        self.peers.tell_errors(errors);
         Ok(())
     }
 
@@ -267,7 +301,8 @@ impl Server {
 
     /// Waits until there may be something to do, and lists the clients of which the system tells so.
     fn wait<N: Clock>(&mut self, rt: &N) -> Result<(), Fault>
-        ensures { self.new.crowd.talks ≡ self.old.crowd.talks }
+        ensures talks { self.new.crowd.talks ≡ self.old.crowd.talks }
+        ensures cause { IfErr result (λ fault. fault ≡ Stopped ReadFailed) }
     {
         let pause = self.pause();
         if self.poll.poll(&mut self.events, pause).is_err() {
@@ -314,7 +349,7 @@ impl Server {
     }
 
     /// Lets clients in, ends those that are idle, and reads once of each that is listed.
-    fn take_in<K: Sockets>(&mut self, sockets: &mut K) -> Result<(), Fault>
+    fn take_in<K: Sockets>(&mut self, sockets: &mut K) -> Result<(), AllocError>
         ensures { Carries K.Sockets (wired_of self.old.crowd.talks sockets.old)
             (wired_of self.new.crowd.talks sockets.new) }
     {
@@ -325,7 +360,7 @@ impl Server {
     }
 
     /// Lets clients in.
-    fn let_in<K: Sockets>(&mut self, sockets: &mut K) -> Result<(), Fault>
+    fn let_in<K: Sockets>(&mut self, sockets: &mut K) -> Result<(), AllocError>
         ensures { Carries K.Sockets (wired_of self.old.crowd.talks sockets.old)
             (wired_of self.new.crowd.talks sockets.new) }
     {
@@ -345,8 +380,9 @@ impl Server {
         sockets: &mut K,
         writer: &mut W,
     ) -> Result<(), Fault>
-        ensures { Carries K.Sockets (wired_of self.old.crowd.talks sockets.old)
+        ensures carries { Carries K.Sockets (wired_of self.old.crowd.talks sockets.old)
             (wired_of self.new.crowd.talks sockets.new) }
+        ensures cause { IfErr result (λ fault. (fault ≡ Stopped Memory) ⊎ (fault ≡ Stopped WriteFailed)) }
     {
         mem::swap(&mut self.ready, &mut self.next);
         self.ready.clear();
@@ -356,45 +392,4 @@ impl Server {
         }
         tell(writer, &mut self.crowd.told)
     }
-}
-
-/// Tells where a server listens.
-fn tell_listening<W: Write>(
-    alloc: Global,
-    address: SocketAddr,
-    terms: Terms<'_>,
-    writer: &mut W,
-) -> Result<(), Fault> {
-    let mut line = String::new(alloc);
-    writeln!(line, "listening {address}")?;
-    if let Some(address) = web_address(address, terms) {
-        writeln!(line, "listening http://{address}/")?;
-    }
-    tell(writer, &mut line)
-}
-
-/// Tells the root digest.
-fn tell_root<S: Alter + Drop, W: Write>(
-    alloc: Global,
-    replica: &Replica<S>,
-    writer: &mut W,
-) -> Result<(), Fault> {
-    let root = replica.root()?;
-    let mut line = String::new(alloc);
-    print_root(alloc, root, &mut line)?;
-    tell(writer, &mut line)
-}
-
-/// The address at which HTTP is served, if it is.
-fn web_address(address: SocketAddr, terms: Terms<'_>) -> Option<SocketAddr> {
-    match terms.http {
-        Some(port) => Some(SocketAddr::new(address.ip(), port)),
-        None => None,
-    }
-}
-
-/// The whole milliseconds of a time.
-fn millis_of(time: Duration) -> u64 {
-    let whole = time.as_secs().saturating_mul(1_000);
-    whole.saturating_add(u64::from(time.subsec_millis()))
 }

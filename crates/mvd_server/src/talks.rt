@@ -83,6 +83,7 @@ impl Talks {
     pub fn admit(&mut self, kind: Kind) -> Option<u64>
         ensures guarded { IfSome result (λ number.
             client_of self.new.host number ≡ Some (new_history (guard_for kind self.old.guard))) }
+        ensures own { self.new.own ≡ self.old.own }
         ensures deeds { TalksDeeds self.old self.new }
     {
         match kind {
@@ -94,6 +95,7 @@ impl Talks {
     fn admit_frames(&mut self) -> Option<u64>
         ensures guarded { IfSome result (λ number.
             client_of self.new.host number ≡ Some (new_history self.old.guard)) }
+        ensures own { self.new.own ≡ self.old.own }
         ensures deeds { TalksDeeds self.old self.new }
     {
         match self.host.admit(self.guard) {
@@ -105,6 +107,7 @@ impl Talks {
     fn admit_web(&mut self) -> Option<u64>
         ensures guarded { IfSome result (λ number.
             client_of self.new.host number ≡ Some (new_history None)) }
+        ensures own { self.new.own ≡ self.old.own }
         ensures deeds { TalksDeeds self.old self.new }
     {
         let Ok(Some(number)) = self.host.admit(None) else {
@@ -120,6 +123,7 @@ impl Talks {
     fn open_web(&mut self, number: u64) -> Result<(), AllocError>
         ensures opens { OnOk result (OpensWeb number (talking_of self.old) (talking_of self.new)) }
         ensures same { OnErr result (talking_of self.new ≡ talking_of self.old) }
+        ensures own { self.new.own ≡ self.old.own }
     {
         let web = WebConnection::new(self.alloc, self.keys);
         drop(self.webs.insert(number, web)?);
@@ -127,7 +131,8 @@ impl Talks {
     }
 
     pub fn dismiss(&mut self, number: u64)
-        ensures { TalksDeeds self.old self.new }
+        ensures own { self.new.own ≡ self.old.own }
+        ensures deeds { TalksDeeds self.old self.new }
     {
         drop(self.webs.remove(&number));
         drop(self.batches.remove(&number));

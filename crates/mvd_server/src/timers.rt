@@ -4,6 +4,7 @@ ghost use Rattle.mvd_server.specs.Dues.{earlier_of};
 
 use std::alloc::Global;
 use std::collections::BTreeSet;
+use std::time::Duration;
 
 /// The times at which clients are looked after, in milliseconds, each with its client's number. The first is found at
 /// once.
@@ -58,4 +59,10 @@ pub(crate) fn earlier(first: Option<u64>, second: Option<u64>) -> Option<u64>
         (Some(first), None) => Some(first),
         (None, second) => second,
     }
+}
+
+/// The whole milliseconds of a time.
+pub(crate) fn millis_of(time: Duration) -> u64 {
+    let whole = time.as_secs().saturating_mul(1_000);
+    whole.saturating_add(u64::from(time.subsec_millis()))
 }

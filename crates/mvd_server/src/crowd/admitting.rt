@@ -13,6 +13,7 @@ use mio::{Interest, Registry, Token};
 use mvd_dots::Refusal;
 use mvd_frames::Short;
 use mvd_wire::Ending;
+use std::alloc::AllocError;
 
 /// What is told to a client for which there is no place, over HTTP and in a frame: 36, and nothing of it was read.
 const NO_PLACE_WEB: &[u8] =
@@ -28,7 +29,7 @@ impl Crowd {
         stream: TcpStream,
         kind: Kind,
         ready: &mut Vec<u64>,
-    ) -> Result<(), Refusal>
+    ) -> Result<(), AllocError>
         ensures { Carries K.Sockets (wired_of self.old.talks sockets.old) (wired_of self.new.talks sockets.new) }
     {
         if self.is_full() {
@@ -45,8 +46,10 @@ impl Crowd {
         stream: TcpStream,
         kind: Kind,
         ready: &mut Vec<u64>,
-    ) -> Result<(), Refusal>
-        ensures { TalksDeeds self.old.talks self.new.talks }
+    ) -> Result<(), AllocError>
+        // Nobody comes in as one of the server's own.
+        ensures own { self.new.talks.own ≡ self.old.talks.own }
+        ensures deeds { TalksDeeds self.old.talks self.new.talks }
     {
         self.counts.note_client(kind);
         let ordinal = self.accepted();

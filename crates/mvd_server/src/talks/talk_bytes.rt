@@ -2,7 +2,7 @@
 ghost use Rattle.std.specs.Prelude.{◌≡◌, ◌≤◌, IsTrue, is_some, length};
 ghost use Rattle.mvd_host.specs.Hosts.{client_of};
 ghost use Rattle.mvd_server.specs.Talking.{TalksDeeds, talking_of};
-ghost use Rattle.mvd_server.specs.Wires.{FeedsTo, MayFeed, SendsOf, waits_for};
+ghost use Rattle.mvd_server.specs.Wires.{FeedsTo, IsFedBySocket, MayFeed, SendsOf, waits_for};
 
 use crate::feeding::{feed, sent};
 use crate::talks::Talks;
@@ -26,8 +26,15 @@ impl Talks {
     {
         match self.webs.get(&number) {
             Some(web) => web.wants_input() && self.host.ending(number).is_none(),
-            None => self.host.wants_input(number),
+            None => self.wants_frames(number),
         }
+    }
+
+    /// Whether more is wanted of a client of frames. What a socket gives comes of none of the server's own.
+    fn wants_frames(&self, number: u64) -> bool
+        ensures { IsTrue result → IsFedBySocket number (talking_of self.now) }
+    {
+        !self.is_own(number) && self.host.wants_input(number)
     }
 
     /// Hands on what came of a client.

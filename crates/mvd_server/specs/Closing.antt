@@ -1,0 +1,27 @@
+-- How a server ends.
+use Rattle.std.specs.Prelude.{◌≡◌, ◌≢◌, ◌⊎◌, ℕ, ◌-◌, true, List, length, Option}
+use Rattle.mvd_dots.specs.declared.refusals.Refusal.TheVariants.{Broken, Memory, ReadFailed, WriteFailed}
+use Rattle.mvd_input.specs.declared.fault.Fault.{Fault}
+use Rattle.mvd_input.specs.declared.fault.Fault.TheVariants.{Stopped, Line}
+use Rattle.mvd_replica.specs.Replicas.{site_of}
+use Rattle.mvd_replica.specs.declared.replica.Replica.{Replica}
+use Rattle.mvd_server.specs.Rounds.{IsServed}
+use Rattle.mvd_server.specs.Talking.{Talking}
+use Rattle.mvd_server.specs.declared.sockets.Sockets.{Ghosts as SocketGhosts}
+use Rattle.mvd_site.specs.Sites.{SiteValue}
+use Rattle.sqlite_trees.specs.declared.store.Store.{Ghosts}
+
+-- no client is left but the server's own
+abbrev pub IsDeserted : Talking → Type 0
+IsDeserted t = length t.host.clients - length t.own ≡ 0
+
+-- why it ends at fault: it cannot listen or wait, a line cannot be written, memory is refused, or the site is broken
+abbrev pub EndsAtFault : SiteValue → Fault → Type 0
+EndsAtFault site (Stopped refusal) =
+    refusal ≢ Memory → (refusal ≡ ReadFailed) ⊎ ((refusal ≡ WriteFailed) ⊎ ((refusal ≡ Broken) × (site.broken ≡ true)))
+EndsAtFault site (Line number) = ⊥
+
+module _ {S : Type 0} {g : Ghosts S} where
+  -- it has served, and at the end nobody is left
+  abbrev pub EndsServed : {K : Type 0} → SocketGhosts K → Option (List ℕ) → K → Replica S g → K → Replica S g → Type 0
+  EndsServed k token sockets old sockets' new = (it : IsServed k token sockets old sockets' new) × IsDeserted it.last

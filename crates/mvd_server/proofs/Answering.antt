@@ -1,9 +1,12 @@
 -- The request that waits is answered.
-use Rattle.std.proofs.Common.{◌≡◌, ◌≤◌, inl, ℕ, List, length, Option, Some, None, Result, option_map, subst}
+use Rattle.std.proofs.Common.{◌≡◌, ◌≤◌, inl, ℕ, List, length, Option, Some, None, Result, Ok, option_map, subst}
 use Rattle.mvd_conn.specs.History.{History}
 use Rattle.mvd_dots.specs.declared.refusals.Refusal.{Refusal}
 use Rattle.mvd_host.specs.Hosts.{IfClient}
-use Rattle.mvd_server.specs.Responding.{AnswersReply, AnswersWeb, json_answer}
+use Rattle.mvd_http.specs.Answers.{IsToldAs, refused_told}
+use Rattle.mvd_http.specs.declared.question.Question.TheVariants.{Changes}
+use Rattle.mvd_server.specs.Errands.{AwaitsChange}
+use Rattle.mvd_server.specs.Responding.{AnswersReply, AnswersWeb, RefusesWeb, json_answer}
 use Rattle.mvd_web.specs.Web.{RespondsTo, WebValue}
 use Rattle.mvd_web.specs.declared.taken.Asked.{Asked}
 use Rattle.mvd_wire.specs.declared.reply.Reply.{Reply}
@@ -29,3 +32,12 @@ waits_if None bytes count is few = tt
 waits_if (Some h) bytes count is few =
     let same : bytes ≡ h.waits = cc in
     subst (λ (b : List ℕ). count ≤ length b) same few
+
+-- it is told that it is refused
+pub refuses : (refusal : Refusal) (old new : WebValue) (status : ℕ) (body : List ℕ) → IsToldAs (refused_told refusal) status body → RespondsTo old.asked old (json_answer status body) body new → RefusesWeb refusal old new
+refuses refusal old new status body told responds = inl (record { status = status; body = body; told = told; responds = responds })
+
+-- it asks what changed
+pub awaits_if : (o : Option Asked) (asked : Asked) (since : Option (List ℕ)) (wait : ℕ) → Some asked ≡ o → asked.question ≡ Ok (Changes since wait) → AwaitsChange o
+awaits_if None asked since wait is asks = cc
+awaits_if (Some waits) asked since wait is asks = subst (λ (a : Asked). AwaitsChange (Some a)) (one_asked asked waits is) (since, wait, asks)

@@ -10,16 +10,22 @@ use Rattle.mvd_dots.specs.declared.refusals.Refusal.TheVariants.{Memory}
 use Rattle.mvd_host.specs.Hosts.{Admits, AdmitsOne, ClientLeaves, HostValue, IsClient, altered, client_of}
 use Rattle.mvd_host.specs.Runs.{Call, Closes, Cuts, Feeds, Releases, Sends, after_call}
 use Rattle.mvd_dots.specs.declared.refusals.Refusal.{Refusal}
+use Rattle.mvd_server.specs.Errands.{Errand, Forgoes, IsBatchFor, RunsErrand, Stops, batch_in, desk}
 use Rattle.mvd_server.specs.Fronts.{IsFrontReply, TakesFront, TellsNext}
-use Rattle.mvd_server.specs.Handed.{FedTo, TakenFrom}
-use Rattle.mvd_server.specs.OwnSides.{DismissesOwn, TakesBytes, sent_of}
-use Rattle.mvd_server.specs.Paths.{IsPath}
-use Rattle.mvd_server.specs.Talking.{Act, Calls, Comes, ComesByWeb, Deed, Deeds, Does, GoesOwn, IsMadeFor, MayCall, OpensWeb, TalksDeeds, Talking, TurnsBack, Turns, is_own, talking_of, web_in, with_host, with_web}
+use Rattle.mvd_server.specs.Handed.{HandsBatch, TakenFrom}
+use Rattle.mvd_server.specs.HostBytes.{TakesBytes, sent_of}
+use Rattle.mvd_server.specs.OwnSides.{DismissesOwn}
+use Rattle.mvd_server.specs.Responding.{RefusesWeb}
+use Rattle.mvd_server.specs.Talking.{Act, Attends, Begins, Calls, Comes, ComesByWeb, Deed, Deeds, Does, GoesOwn, Hands, IsWriting, KeepsBatch, LacksMemory, MayCall, OpensWeb, TalksDeeds, Talking, TurnsBack, is_own, talking_of, web_in, with_host, with_web}
 use Rattle.mvd_server.specs.Wires.{Carries, GivesOut, TakesIn, Wired, WiredStep}
+use Rattle.mvd_server.specs.declared.batch.Batch.{Batch}
 use Rattle.mvd_server.specs.declared.talks.Talks.{Talks}
 use Rattle.mvd_server.specs.declared.sockets.Sockets.{Ghosts}
+use Rattle.mvd_server.proofs.Keyed.{found_at, set_here}
 use Rattle.mvd_server.proofs.Paths.{path_map, path_none, path_on, path_one, path_same}
 use Rattle.mvd_wire.specs.declared.reply.Reply.{Reply}
+use Rattle.mvd_web.specs.Inside.{web_of}
+use Rattle.mvd_web.specs.Web.{EndsInput, stopped_by}
 use Rattle.mvd_web.specs.declared.web_connection.WebConnection.{WebConnection}
 
 pub deeds_none : (t : Talking) → Deeds t t
@@ -44,35 +50,58 @@ deed_closes n why old host is = deed_call n (Closes why) old host tt is
 pub deed_cuts : (n : ℕ) (old : Talking) (host : HostValue) → host ≡ altered old.host n cut → Deeds old (with_host old host)
 deed_cuts n old host is = deed_call n Cuts old host tt is
 
--- bytes are fed to a connection of which the server makes the frames
-pub deed_feeds : (n : ℕ) (bytes : List ℕ) (old : Talking) (host : HostValue) → IsMadeFor old n → TakesBytes old.host n bytes host → Deeds old (with_host old host)
+-- bytes are fed to a connection of the server's own
+pub deed_feeds : (n : ℕ) (bytes : List ℕ) (old : Talking) (host : HostValue) → is_own old n ≡ true → TakesBytes old.host n bytes host → Deeds old (with_host old host)
 deed_feeds n bytes old host made (inl is) = deed_call n (Feeds bytes) old host made is
 deed_feeds n bytes old host made (inr is) =
     let mid = altered old.host n released in
     deeds_on old (with_host old mid) (with_host old host) (deed_call n Releases old mid tt refl) (deed_call n (Closes (source.Failed Memory)) (with_host old mid) host tt is)
 
-pub deed_sends : (n count : ℕ) (old : Talking) (host : HostValue) → IsMadeFor old n → host ≡ sent_of old.host n count → Deeds old (with_host old host)
+pub deed_sends : (n count : ℕ) (old : Talking) (host : HostValue) → is_own old n ≡ true → host ≡ sent_of old.host n count → Deeds old (with_host old host)
 deed_sends n count old host made is = deed_call n (Sends count) old host made is
 
--- a turn of a connection over HTTP
-pub deed_turns : (n : ℕ) (web web' : WebConnection) (old : Talking) → web_in old n ≡ Some web → Deeds old (with_web old n web')
-deed_turns n web web' old has = deeds_one (Turns n web web') old (with_web old n web') (has, refl)
+-- an errand for a client over HTTP
+pub deed_attends : (n : ℕ) (errand : Errand) (web web' : WebConnection) (old : Talking) (host : HostValue) (batches : List (ℕ × Batch)) (entries : List (ℕ × WebConnection)) → web_in old n ≡ Some web
+    → RunsErrand errand old.guard n (desk old.host (web_of web) old.batches) (desk host (web_of web') batches) → entries ≡ set_value (is_at (nat_cmp n)) old.webs web'
+    → Deeds old (record old { host = host; webs = entries; batches = batches })
+deed_attends n errand web web' old host batches entries has runs is =
+    subst (λ e. Deeds old (record old { host = host; webs = e; batches = batches })) (sym is)
+    (deeds_one (Attends n web web' errand) old (record (with_web old n web') { host = host; batches = batches }) (has, runs, refl))
+
+-- one that leaves the host and the writes as they are
+pub deed_stops : (n : ℕ) (web web' : WebConnection) (old : Talking) (entries : List (ℕ × WebConnection)) → web_in old n ≡ Some web → EndsInput (web_of web) (web_of web') ⊎ ((refusal : Refusal) × (web_of web' ≡ stopped_by (web_of web) refusal))
+    → entries ≡ set_value (is_at (nat_cmp n)) old.webs web' → Deeds old (record old { webs = entries })
+deed_stops n web web' old entries has ends is = deed_attends n Stops web web' old old.host old.batches entries has (ends, refl) is
+
+-- many writes go on
+pub deed_hands : (n : ℕ) (batch batch' : Batch) (old : Talking) (host : HostValue) (entries : List (ℕ × Batch)) → batch_in old.batches n ≡ Some batch → HandsBatch n batch old.host batch' host → entries ≡ set_value (is_at (nat_cmp n)) old.batches batch'
+    → Deeds old (record old { host = host; batches = entries })
+deed_hands n batch batch' old host entries has hands is =
+    subst (λ e. Deeds old (record old { host = host; batches = e })) (sym is)
+    (deeds_one (Hands n batch batch') old (record old { host = host; batches = set_value (is_at (nat_cmp n)) old.batches batch' }) (has, hands, refl))
+
+-- they begin
+pub deed_begins : (n : ℕ) (batch : Batch) (old mid : Talking) → IsWriting (web_in old n) batch → KeepsBatch n batch old mid → Deeds old mid
+deed_begins n batch old mid writes keeps = deeds_one (Begins n batch) old mid (writes, keeps)
+
+pub writing : (n : ℕ) (web web' : WebConnection) (webs entries : List (ℕ × WebConnection)) (batch : Batch) → found_at n webs ≡ Some web → entries ≡ set_value (is_at (nat_cmp n)) webs web' → IsBatchFor (web_of web').asked batch
+    → IsWriting (found_at n entries) batch
+writing n web web' webs entries batch has is mine =
+    subst (λ e. IsWriting (found_at n e) batch) (sym is) (subst (λ o. IsWriting o batch) (sym (set_here n webs web' web has)) mine)
+
+-- or there is no memory for them
+lacking : (n : ℕ) (batch : Batch) (web web' : WebConnection) (old new : Talking) → web_in old n ≡ Some web → IsBatchFor (web_of web).asked batch → RefusesWeb Memory (web_of web) (web_of web') → new ≡ with_web old n web' → Deeds old new
+lacking n batch web web' old new has writes refuses is =
+    subst (λ t. Deeds old t) (sym is) (deed_attends n (Forgoes batch) web web' old old.host old.batches (set_value (is_at (nat_cmp n)) old.webs web') has (writes, refuses, refl) refl)
+
+pub deed_lacks : (n : ℕ) (batch : Batch) (old new : Talking) → IsWriting (web_in old n) batch → LacksMemory n old new → Deeds old new
+deed_lacks n batch old new writes (inl same) = deeds_same old new same
+deed_lacks n batch old new writes (inr (web, web', has, refuses, is)) = lacking n batch web web' old new has (subst (λ o. IsWriting o batch) has writes) refuses is
 
 -- bytes are fed to one of the server's own, or not
 pub deeds_own : (n : ℕ) (bytes : List ℕ) (old : Talking) (host : HostValue) → is_own old n ≡ true → (host ≡ old.host) ⊎ TakesBytes old.host n bytes host → Deeds old (with_host old host)
 deeds_own n bytes old host own (inl same) = deeds_same old (with_host old host) (ap (with_host old) same)
-deeds_own n bytes old host own (inr takes) = deed_feeds n bytes old host (inr own) takes
-
--- none was fed, and one more
-pub fed_none : (n : ℕ) (host : HostValue) → FedTo n host host
-fed_none n host = path_none _ host
-
-pub fed_same : (n : ℕ) (old new : HostValue) → new ≡ old → FedTo n old new
-fed_same n old new same = path_same _ old new same
-
-pub fed_piece : (n : ℕ) (bytes : List ℕ) (old mid new : HostValue) → FedTo n old mid → (new ≡ mid) ⊎ TakesBytes mid n bytes new → FedTo n old new
-fed_piece n bytes old mid new p (inl same) = subst (λ (h : HostValue). FedTo n old h) (sym same) p
-fed_piece n bytes old mid new p (inr takes) = path_on (λ a b. (bytes : List ℕ) × TakesBytes a n bytes b) old mid new p (path_one _ mid new (bytes, takes))
+deeds_own n bytes old host own (inr takes) = deed_feeds n bytes old host own takes
 
 -- none was taken, and one more
 pub taken_none : (n : ℕ) (host : HostValue) → TakenFrom n host host
@@ -102,32 +131,6 @@ taken_next None n told old new next = taken_else n told old new _ next
 pub taken_more : (n : ℕ) (old mid new : HostValue) → TakenFrom n old mid → TakenFrom n mid new → TakenFrom n old new
 taken_more n old mid new p q = path_on (λ a b. (count : ℕ) × (b ≡ sent_of a n count)) old mid new p q
 
--- pieces, one after the other
-fed_on : (n : ℕ) (old : Talking) (mids : List HostValue) (host : HostValue) → IsMadeFor old n → IsPath (λ a b. (bytes : List ℕ) × TakesBytes a n bytes b) old.host mids host → Deeds old (with_host old host)
-fed_on n old [] host made same = deeds_same old (with_host old host) (ap (with_host old) same)
-fed_on n old (mid ∷ mids) host made ((bytes, takes), more) =
-    deeds_on old (with_host old mid) (with_host old host) (deed_feeds n bytes old mid made takes) (fed_on n (with_host old mid) mids host made more)
-
-pub deeds_fed : (n : ℕ) (old : Talking) (host : HostValue) → IsMadeFor old n → FedTo n old.host host → Deeds old (with_host old host)
-deeds_fed n old host made p = fed_on n old p.mids host made p.steps
-
-taken_on : (n : ℕ) (old : Talking) (mids : List HostValue) (host : HostValue) → IsMadeFor old n → IsPath (λ a b. (count : ℕ) × (b ≡ sent_of a n count)) old.host mids host → Deeds old (with_host old host)
-taken_on n old [] host made same = deeds_same old (with_host old host) (ap (with_host old) same)
-taken_on n old (mid ∷ mids) host made ((count, is), more) =
-    deeds_on old (with_host old mid) (with_host old host) (deed_sends n count old mid made is) (taken_on n (with_host old mid) mids host made more)
-
-pub deeds_taken : (n : ℕ) (old : Talking) (host : HostValue) → IsMadeFor old n → TakenFrom n old.host host → Deeds old (with_host old host)
-deeds_taken n old host made p = taken_on n old p.mids host made p.steps
-
--- and then a turn of its connection over HTTP
-pub fed_turns : (n : ℕ) (web web' : WebConnection) (old : Talking) (host : HostValue) → web_in old n ≡ Some web → FedTo n old.host host → Deeds old (with_web (with_host old host) n web')
-fed_turns n web web' old host has p =
-    deeds_on old (with_host old host) (with_web (with_host old host) n web') (deeds_fed n old host (inl (web, has)) p) (deed_turns n web web' (with_host old host) has)
-
-pub taken_turns : (n : ℕ) (web web' : WebConnection) (old : Talking) (host : HostValue) → web_in old n ≡ Some web → TakenFrom n old.host host → Deeds old (with_web (with_host old host) n web')
-taken_turns n web web' old host has p =
-    deeds_on old (with_host old host) (with_web (with_host old host) n web') (deeds_taken n old host (inl (web, has)) p) (deed_turns n web web' (with_host old host) has)
-
 -- a client of frames comes, or nobody
 pub comes_frames : (old : Talking) (o : Option ℕ) (host : HostValue) → Admits old.guard old.host o host → Deeds old (with_host old host)
 comes_frames old None host (same, full) = deeds_same old (with_host old host) (ap (with_host old) same)
@@ -144,18 +147,6 @@ pub turns_back : (n : ℕ) (old : Talking) (mid host : HostValue) (new : Talking
 turns_back n old mid host new one leaves same =
     let at : new.host ≡ host = ap (λ (t : Talking). t.host) same in
     deeds_one (TurnsBack n mid) old new (None, one, subst (λ (h : HostValue). ClientLeaves mid n h) (sym at) leaves, same ∙ ap (with_host old) (sym at))
-
--- a connection over HTTP, as the map has it afterwards
-pub turned : (n : ℕ) (web web' : WebConnection) (old : Talking) (entries : List (ℕ × WebConnection)) → web_in old n ≡ Some web → entries ≡ set_value (is_at (nat_cmp n)) old.webs web' → Deeds old (record old { webs = entries })
-turned n web web' old entries has is = subst (λ e. Deeds old (record old { webs = e })) (sym is) (deed_turns n web web' old has)
-
-pub fed_turned : (n : ℕ) (web web' : WebConnection) (old : Talking) (host : HostValue) (entries : List (ℕ × WebConnection)) → web_in old n ≡ Some web → FedTo n old.host host → entries ≡ set_value (is_at (nat_cmp n)) old.webs web'
-    → Deeds old (record old { host = host; webs = entries })
-fed_turned n web web' old host entries has p is = subst (λ e. Deeds old (record old { host = host; webs = e })) (sym is) (fed_turns n web web' old host has p)
-
-pub taken_turned : (n : ℕ) (web web' : WebConnection) (old : Talking) (host : HostValue) (entries : List (ℕ × WebConnection)) → web_in old n ≡ Some web → TakenFrom n old.host host → entries ≡ set_value (is_at (nat_cmp n)) old.webs web'
-    → Deeds old (record old { host = host; webs = entries })
-taken_turned n web web' old host entries has p is = subst (λ e. Deeds old (record old { host = host; webs = e })) (sym is) (taken_turns n web web' old host has p)
 
 -- no connection over HTTP is there
 pub unturned : (old : Talking) (host : HostValue) (entries : List (ℕ × WebConnection)) → entries ≡ old.webs → Deeds old (with_host old host) → Deeds old (record old { host = host; webs = entries })

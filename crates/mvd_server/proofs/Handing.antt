@@ -5,7 +5,8 @@ use Rattle.mvd_conn.specs.History.{History}
 use Rattle.mvd_host.specs.Hosts.{HostValue}
 use Rattle.mvd_meet.specs.Callers.{asked_of_caller, came_at, leaving_at}
 use Rattle.mvd_meet.specs.declared.caller.Caller.{Caller}
-use Rattle.mvd_server.specs.OwnSides.{HandsOn, TakesBytes, sent_of, waits_in, waits_of}
+use Rattle.mvd_server.specs.HostBytes.{TakesBytes, sent_of, waits_in, waits_of}
+use Rattle.mvd_server.specs.OwnSides.{HandsOn}
 
 pub waits_some : (o : Option History) (bytes : List ℕ) → Some bytes ≡ option_map (λ h. h.waits) o → waits_in o ≡ bytes
 waits_some None bytes is = cc

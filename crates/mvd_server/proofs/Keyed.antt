@@ -42,7 +42,7 @@ module _ {X : Type 0} where
           ap (λ c. cond c (Some w) (found_at q es)) off ∙ sym (ap (λ c. cond c (Some e.1) (found_at q es)) off)
       on rest false is = ap (λ (o : Option X). cond (is_at (nat_cmp q) e.0) (Some e.1) o) rest
 
-  set_here : (n : ℕ) (es : List (ℕ × X)) (w h : X) → found_at n es ≡ Some h → found_at n (set_value (is_at (nat_cmp n)) es w) ≡ Some w
+  pub set_here : (n : ℕ) (es : List (ℕ × X)) (w h : X) → found_at n es ≡ Some h → found_at n (set_value (is_at (nat_cmp n)) es w) ≡ Some w
   set_here n [] w h found = absurd (let no : ◌≡◌ {A = Option X} None (Some h) = found in cc)
   set_here n (e ∷ es) w h found = on (set_here n es w h) (is_at (nat_cmp n) e.0) refl found
     where

@@ -2,6 +2,7 @@ pub mod Answering
 pub mod Clients
 pub mod Closing
 pub mod Deeds
+pub mod Errands
 pub mod Failing
 pub mod Fronting
 pub mod Handing

@@ -13,15 +13,16 @@ use Rattle.mvd_host.specs.Runs.{Calls as Called, Closes, Comes as Came, Feeds, G
 use Rattle.mvd_replica.specs.Replicas.{conn_of, site_of}
 use Rattle.mvd_replica.specs.Turns.{Turn}
 use Rattle.mvd_replica.specs.declared.replica.Replica.{Replica}
+use Rattle.mvd_server.proofs.Errands.{CallsOne, HostCalls, calls_batch, calls_errand}
 use Rattle.mvd_server.proofs.Paths.{path_map, path_none, path_on, path_one}
 use Rattle.mvd_server.proofs.Deeds.{carries_deeds}
 use Rattle.mvd_server.proofs.Showing.{AreGuarded, guarded_deed, guarded_in, guarded_new, guarded_out, guarded_round, kept_deed, kept_in, kept_out}
 use Rattle.mvd_server.specs.Guarded.{IsGuardOf}
 use Rattle.mvd_server.specs.Closing.{EndsServed, IsDeserted}
-use Rattle.mvd_server.specs.OwnSides.{TakesBytes, sent_of, waits_of}
+use Rattle.mvd_server.specs.HostBytes.{TakesBytes, sent_of, waits_of}
 use Rattle.mvd_server.specs.Paths.{IsPath}
 use Rattle.mvd_server.specs.Rounds.{AnswersClients, BeginsServing, GoesOn, HasRound, IsServed, ServeStep, Serving, ServingStep, WasMadeFor, WasThere, World, begun, host_in, moment_of, world_of}
-use Rattle.mvd_server.specs.Talking.{Calls, Comes, ComesByWeb, ComesOwn, Deed, Deeds, Goes, GoesByWeb, GoesOwn, IsMadeFor, TalksDeeds, Talking, Turns, TurnsBack, new_talking, talking_of, web_in, with_host}
+use Rattle.mvd_server.specs.Talking.{Attends, Begins, Calls, Comes, ComesByWeb, ComesOwn, Deed, Deeds, Goes, GoesByWeb, GoesOwn, Hands, IsMadeFor, TalksDeeds, Talking, TurnsBack, new_talking, talking_of, web_in, with_host}
 use Rattle.mvd_server.specs.Wires.{Carries, GivesOut, SendsBy, TakesBy, TakesIn, Wired, WiredStep, wired_of}
 use Rattle.mvd_server.specs.declared.sockets.Sockets.{Ghosts as SocketGhosts}
 use Rattle.mvd_server.specs.declared.talks.Talks.{Talks}
@@ -72,6 +73,15 @@ module _ {C : Type 0} (f : C → State) (site : SiteValue) (conn : C) where
   of_none : (old new : HostValue) → new ≡ old → Calm f (moment old) (moment new)
   of_none old new same = record { all = []; runs = tt; ends = ap moment (sym same); none = refl }
 
+  of_path : (n : ℕ) (old new : HostValue) (mids : List HostValue) → IsPath (CallsOne n) old mids new → Calm f (moment old) (moment new)
+  of_path n old new [] same = of_none old new same
+  of_path n old new (mid ∷ mids) ((call, is), more) =
+      let rest = subst (λ (h : HostValue). Calm f (moment h) (moment new)) is (of_path n mid new mids more) in
+      record { all = Called n call ∷ rest.all; runs = (tt, rest.runs); ends = rest.ends; none = rest.none }
+
+  of_calls : (n : ℕ) (old new : HostValue) → HostCalls n old new → Calm f (moment old) (moment new)
+  of_calls n old new p = of_path n old new p.mids p.steps
+
   of_deed : (old new : Talking) → Deed old new → Calm f (moment old.host) (moment new.host)
   of_deed old new (Comes n, does) = record { all = Came n new.host ∷ []; runs = ((old.guard, does.0), tt); ends = refl; none = refl }
   of_deed old new (ComesByWeb n web, does) = record { all = Came n new.host ∷ []; runs = ((None, does.0), tt); ends = refl; none = refl }
@@ -81,7 +91,9 @@ module _ {C : Type 0} (f : C → State) (site : SiteValue) (conn : C) where
   of_deed old new (GoesByWeb n, does) = record { all = Gone n new.host ∷ []; runs = (does.0, tt); ends = refl; none = refl }
   of_deed old new (GoesOwn n, does) = record { all = Gone n new.host ∷ []; runs = (does.0, tt); ends = refl; none = refl }
   of_deed old new (Calls n call, does) = record { all = Called n call ∷ []; runs = (tt, tt); ends = ap (λ (t : Talking). moment t.host) (sym does.1); none = refl }
-  of_deed old new (Turns n web web', does) = of_none old.host new.host (ap (λ (t : Talking). t.host) does.1)
+  of_deed old new (Attends n web web' errand, does) = of_calls n old.host new.host (calls_errand errand old.guard n _ _ does.1)
+  of_deed old new (Begins n batch, does) = of_none old.host new.host (ap (λ (t : Talking). t.host) does.1)
+  of_deed old new (Hands n batch batch', does) = of_calls n old.host new.host (calls_batch n batch old.host batch' new.host does.1)
 
   of_bytes : (n : ℕ) (bytes : List ℕ) (old new : HostValue) → TakesBytes old n bytes new → Calm f (moment old) (moment new)
   of_bytes n bytes old new (inl is) = record { all = Called n (Feeds bytes) ∷ []; runs = (tt, tt); ends = ap moment (sym is); none = refl }

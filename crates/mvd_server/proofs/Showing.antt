@@ -3,7 +3,7 @@ use Rattle.std.proofs.Common.{◌≡◌, ◌∙◌, ◌⊎◌, ◌==◌, ◌++�
 use Rattle.std.proofs.lemmas.Bool.Decides.{nat_tests}
 use Rattle.std.specs.BTreeMap.{insert_entry, is_at}
 use Rattle.std.specs.List.{list_any}
-use Rattle.std.specs.Map.{remove_entry}
+use Rattle.std.specs.Map.{remove_entry, set_value}
 use Rattle.std.specs.Ordering.{nat_cmp}
 use Rattle.mvd_conn.specs.declared.guard.Guard.{Guard}
 use Rattle.mvd_conn.specs.History.{History, closed, fed, new_history, released, sent}
@@ -15,9 +15,11 @@ use Rattle.mvd_host.specs.Hosts.{AdmitsOne, ClientLeaves, HostValue, altered, al
 use Rattle.mvd_host.specs.Round.{ClientCourse}
 use Rattle.mvd_host.specs.Runs.{Call, Closes, Cuts, Feeds, Releases, Sends, after_call}
 use Rattle.mvd_replica.specs.Turns.{Turn}
+use Rattle.mvd_server.proofs.Errands.{CallsOne, calls_batch, calls_errand}
 use Rattle.mvd_server.proofs.Keyed.{Has, any_last, any_more, any_without, each_set, has_insert, has_new, has_set, remove_other}
-use Rattle.mvd_server.specs.OwnSides.{TakesBytes, waits_of}
-use Rattle.mvd_server.specs.Talking.{Calls, Comes, ComesByWeb, ComesOwn, Deed, Goes, GoesByWeb, GoesOwn, IsMadeFor, Talking, Turns, TurnsBack, new_talking, web_in, with_host, with_web, without}
+use Rattle.mvd_server.specs.HostBytes.{TakesBytes, waits_of}
+use Rattle.mvd_server.specs.Paths.{IsPath}
+use Rattle.mvd_server.specs.Talking.{Attends, Begins, Calls, Comes, ComesByWeb, ComesOwn, Deed, Goes, GoesByWeb, GoesOwn, Hands, IsMadeFor, Talking, TurnsBack, new_talking, web_in, with_host, with_web, without}
 use Rattle.mvd_server.specs.Wires.{GivesOut, SendsBy, TakesBy, TakesIn}
 use Rattle.mvd_web.specs.declared.web_connection.WebConnection.{WebConnection}
 
@@ -68,6 +70,11 @@ altered_by t n f same (Some x) at each = each_set n t.host.clients (f x) x (λ q
 pub guarded_altered : (t : Talking) (n : ℕ) (f : History → History) → ((h : History) → (f h).guard ≡ h.guard) → AreGuarded t → AreGuarded (with_host t (altered t.host n f))
 guarded_altered t n f same each = altered_by t n f same (client_of t.host n) refl each
 
+guarded_calls : (t : Talking) (n : ℕ) (host : HostValue) (mids : List HostValue) → IsPath (CallsOne n) t.host mids host → AreGuarded t → AreGuarded (with_host t host)
+guarded_calls t n host [] same each = subst (λ (x : HostValue). AreGuarded (with_host t x)) (sym same) each
+guarded_calls t n host (mid ∷ mids) ((call, is), more) each =
+    guarded_calls (with_host t mid) n host mids more (subst (λ (x : HostValue). AreGuarded (with_host t x)) (sym is) (guarded_altered t n (after_call call) (call_guard call) each))
+
 -- its connection over HTTP is
 guarded_web : (t : Talking) (n : ℕ) (web : WebConnection) → AreGuarded t → AreGuarded (with_web t n web)
 guarded_web t n web each q h found = on (each q h found)
@@ -114,7 +121,7 @@ guarded_deed old new (TurnsBack n mid, does) each = to (with_host old new.host) 
     on q h apart (inl (at, is)) = absurd (let no : ⊥ = grind (arith, nat_tests, apart, at) in no)
     on q h apart (inr at) = each q h at
 guarded_deed old new (Goes n, does) each = to (with_host old new.host) new does.1 (λ q h found. let at = stayed old.host new.host n q h does.0 found in each q h at.1)
-guarded_deed old new (GoesByWeb n, does) each = to (record old { host = new.host; webs = remove_entry (is_at (nat_cmp n)) old.webs }) new does.1 (λ q h found. let at = stayed old.host new.host n q h does.0 found in on q h at.0 (each q h at.1))
+guarded_deed old new (GoesByWeb n, does) each = to (record old { host = new.host; webs = remove_entry (is_at (nat_cmp n)) old.webs; batches = remove_entry (is_at (nat_cmp n)) old.batches }) new does.1 (λ q h found. let at = stayed old.host new.host n q h does.0 found in on q h at.0 (each q h at.1))
   where
     on : (q : ℕ) (h : History) → (q == n) ≡ false → (h.guard ≡ old.guard) ⊎ IsMadeFor old q → (h.guard ≡ old.guard) ⊎ IsMadeFor (record old { host = new.host; webs = remove_entry (is_at (nat_cmp n)) old.webs }) q
     on q h apart (inl is) = inl is
@@ -127,7 +134,14 @@ guarded_deed old new (GoesOwn n, does) each = to (record old { host = new.host; 
     on q h apart (inr (inl has)) = inr (inl has)
     on q h apart (inr (inr is)) = inr (inr (any_without n q old.own apart is))
 guarded_deed old new (Calls n call, does) each = to (with_host old (altered old.host n (after_call call))) new does.1 (guarded_altered old n (after_call call) (call_guard call) each)
-guarded_deed old new (Turns n web web', does) each = to (with_web old n web') new does.1 (guarded_web old n web' each)
+guarded_deed old new (Attends n web web' errand, does) each =
+    let p = calls_errand errand old.guard n _ _ does.1 in
+    to (record (with_web old n web') { host = new.host; batches = new.batches }) new does.2
+    (guarded_web (record old { host = new.host; batches = new.batches }) n web' (guarded_calls old n new.host p.mids p.steps each))
+guarded_deed old new (Begins n batch, does) each = to (record old { batches = insert_entry nat_cmp old.batches n batch }) new does.1 each
+guarded_deed old new (Hands n batch batch', does) each =
+    let p = calls_batch n batch old.host batch' new.host does.1 in
+    to (record old { host = new.host; batches = set_value (is_at (nat_cmp n)) old.batches batch' }) new does.2 (guarded_calls old n new.host p.mids p.steps each)
 
 -- ---- bytes
 
@@ -178,7 +192,9 @@ kept_deed old new (Goes n, does) = kept old new _ refl does.1
 kept_deed old new (GoesByWeb n, does) = kept old new _ refl does.1
 kept_deed old new (GoesOwn n, does) = kept old new _ refl does.1
 kept_deed old new (Calls n call, does) = kept old new _ refl does.1
-kept_deed old new (Turns n web web', does) = kept old new _ refl does.1
+kept_deed old new (Attends n web web' errand, does) = kept old new _ refl does.2
+kept_deed old new (Begins n batch, does) = kept old new _ refl does.1
+kept_deed old new (Hands n batch batch', does) = kept old new _ refl does.2
 
 kept_by : (web : Option WebConnection) (n : ℕ) (bytes : List ℕ) (old new : Talking) → TakesBy web n bytes old new → new.guard ≡ old.guard
 kept_by None n bytes old new (apart, takes, same) = kept old new _ refl same

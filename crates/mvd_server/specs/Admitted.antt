@@ -1,15 +1,15 @@
 -- Who may ask over HTTP.
-use Rattle.std.specs.Prelude.{◌≡◌, ◌⊎◌, ◌||◌, ⊤, ℕ, Bool, true, false, IsTrue, IsSomeAnd, List, Option, Some, None, Result, Ok}
+use Rattle.std.specs.Prelude.{◌≡◌, ◌⊎◌, ◌&&◌, ◌||◌, ⊤, ℕ, Bool, true, false, IsTrue, IsSomeAnd, List, Option, Some, None, Result, Ok}
 use Rattle.mvd_conn.specs.Guard.{IsTokenOf, admits}
 use Rattle.mvd_conn.specs.declared.guard.Guard.{Guard}
 use Rattle.mvd_dots.specs.declared.refusals.Refusal.{Refusal}
-use Rattle.mvd_host.specs.Hosts.{HostValue}
+use Rattle.mvd_dots.specs.declared.refusals.Refusal.TheVariants.{Memory}
+use Rattle.mvd_http.specs.declared.http_fault.Fault.TheVariants.{ForeignOrigin, HostMissing}
 use Rattle.mvd_http.specs.declared.question.Question.{Question}
 use Rattle.mvd_http.specs.declared.question.Question.TheVariants.{Page}
+use Rattle.mvd_server.specs.Plans.{TellsFault}
 use Rattle.mvd_server.specs.declared.gate.Plan.{Plan}
 use Rattle.mvd_server.specs.declared.gate.Plan.TheVariants as plan
-use Rattle.mvd_server.specs.declared.gate.Rest.{Rest}
-use Rattle.mvd_server.specs.declared.gate.Rest.TheVariants as rest
 use Rattle.mvd_web.specs.declared.taken.Asked.{Asked}
 
 -- where there is a guard, the request shows its token, or asks for the page
@@ -30,6 +30,10 @@ abbrev pub is_let_in : Option Guard → Asked → Bool
 is_let_in None asked = true
 is_let_in (Some guard) asked = has_token guard asked.token || is_page asked.question
 
+-- it may, and comes of no other server's page
+abbrev pub is_welcome : Option Guard → Asked → Bool
+is_welcome guard asked = (asked.names_host && asked.is_own) && is_let_in guard asked
+
 -- the request names one host, and comes of this server's own page or of none
 pub record IsOwnPage (asked : Asked) : Type 0 where
   pub host : IsTrue asked.names_host
@@ -44,13 +48,10 @@ AsksSite plan.Root = ⊤
 AsksSite plan.Metrics = ⊤
 AsksSite _ = ⊥
 
--- nothing is left to do of a request
-abbrev pub IsNothing : Rest → Type 0
-IsNothing rest.Nothing = ⊤
-IsNothing _ = ⊥
-
--- The host was asked nothing, and is to be asked nothing; or the request that waits for its answer is of one who may
--- ask
-abbrev pub AsksForOne : Option Guard → Option Asked → HostValue → HostValue → Rest → Type 0
-AsksForOne guard asked old new left =
-    (IsNothing left × (new ≡ old)) ⊎ IsSomeAnd asked (λ a. IsOwnPage a × MayAsk guard a)
+-- whoever may not ask is told a fault of HTTP's own, or that a token is asked for, or that memory was refused for it
+abbrev pub KeepsOut : Plan → Type 0
+KeepsOut (plan.Told answer body) =
+    TellsFault HostMissing None (plan.Told answer body) ⊎ TellsFault ForeignOrigin None (plan.Told answer body)
+KeepsOut plan.NotAdmitted = ⊤
+KeepsOut (plan.Refused refusal) = refusal ≡ Memory
+KeepsOut _ = ⊥

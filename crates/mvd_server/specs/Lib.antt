@@ -2,9 +2,11 @@ pub mod Admitted
 pub mod Batches
 pub mod Closing
 pub mod Dues
+pub mod Errands
 pub mod Fronts
 pub mod Guarded
 pub mod Handed
+pub mod HostBytes
 pub mod Moves
 pub mod OwnSides
 pub mod Paths

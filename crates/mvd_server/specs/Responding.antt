@@ -1,5 +1,5 @@
 -- What a client over HTTP is told of the reply to its request.
-use Rattle.std.specs.Prelude.{◌≡◌, ◌⊎◌, ◌&&◌, if◌then◌else◌, nat_le, ℕ, Bool, true, false, List, [], ◌∷◌, Option, Some, None, Result, Ok, Err}
+use Rattle.std.specs.Prelude.{◌≡◌, ◌⊎◌, ◌&&◌, if◌then◌else◌, nat_le, codes, ℕ, Bool, true, false, List, [], ◌∷◌, Option, Some, None, Result, Ok, Err}
 use Rattle.mvd_dots.specs.declared.refusals.Refusal.{Refusal}
 use Rattle.mvd_http.specs.Answers.{Responds, IsToldAs, Told, is_stored, live_told, refused_told, reply_told}
 use Rattle.mvd_http.specs.declared.fields.Answer.{Answer}
@@ -64,3 +64,29 @@ abbrev pub AnswersWeb : Option Asked → Result Reply Refusal → WebValue → W
 AnswersWeb None reply old new = new ≡ old
 AnswersWeb (Some asked) reply old new =
     AnswersBy asked reply old new ⊎ ((refusal : Refusal) × (new ≡ stopped_by old refusal))
+
+-- ---- what is told at once
+
+-- a response that tells this refusal
+pub record RefusesBy (refusal : Refusal) (old new : WebValue) : Type 0 where
+  pub status : ℕ
+  pub body : List ℕ
+  pub told : IsToldAs (refused_told refusal) status body
+  pub responds : RespondsTo old.asked old (json_answer status body) body new
+
+-- it is told to the request that waits, or the connection is stopped
+abbrev pub RefusesWeb : Refusal → WebValue → WebValue → Type 0
+RefusesWeb refusal old new = RefusesBy refusal old new ⊎ ((cause : Refusal) × (new ≡ stopped_by old cause))
+
+-- a body of this kind is told, or why there is none
+abbrev pub TellsBody : Content → WebValue → WebValue → Type 0
+TellsBody content old new =
+    ((body : List ℕ) × RespondsTo old.asked old (plain_answer 200 content) body new)
+    ⊎ ((refusal : Refusal) × RefusesWeb refusal old new)
+
+-- a token is asked for
+abbrev pub token_answer : Answer
+token_answer = record { status = 401; content = Json; allow = None; asks_token = true }
+
+abbrev pub not_admitted : List ℕ
+not_admitted = codes "{\"refused\":38,\"name\":\"NotAdmitted\"}"

@@ -5,27 +5,39 @@ use Rattle.std.specs.List.{filter, list_any}
 use Rattle.std.specs.Map.{lookup, remove_entry, set_value}
 use Rattle.std.specs.Ordering.{nat_cmp}
 use Rattle.mvd_conn.specs.declared.guard.Guard.{Guard}
+use Rattle.mvd_dots.specs.declared.refusals.Refusal.TheVariants.{Memory}
 use Rattle.mvd_host.specs.Hosts.{AdmitsOne, ClientLeaves, HostValue, altered, new_host}
 use Rattle.mvd_host.specs.Runs.{Call, Closes, Cuts, Feeds, Releases, Sends, after_call}
+use Rattle.mvd_server.specs.Errands.{AwaitsChange, Errand, IsBatchFor, RunsErrand, batch_in, desk}
+use Rattle.mvd_server.specs.Handed.{HandsBatch}
 use Rattle.mvd_server.specs.Paths.{Path}
+use Rattle.mvd_server.specs.Responding.{RefusesWeb}
+use Rattle.mvd_server.specs.declared.batch.Batch.{Batch}
 use Rattle.mvd_server.specs.declared.talks.Talks.{Talks}
 use Rattle.mvd_web.specs.Inside.{web_of}
 use Rattle.mvd_web.specs.Web.{IsNew}
 use Rattle.mvd_web.specs.declared.web_connection.WebConnection.{WebConnection}
 
--- who may come in; the host, in which each client has a connection of frames; the connections of those over HTTP; and
--- the numbers of the clients that are the server's own, for its sessions
+-- who may come in; the host, in which each client has a connection of frames; the connections of those over HTTP; the
+-- writes of those of whose request some are not answered; and the numbers of the server's own, for its sessions
 pub record Talking : Type 0 where
   pub guard : Option Guard
   pub host : HostValue
   pub webs : List (ℕ × WebConnection)
+  pub batches : List (ℕ × Batch)
   pub own : List ℕ
 
 abbrev pub talking_of : Talks → Talking
-talking_of t = record { guard = t.guard; host = t.host; webs = t.webs.entries; own = t.own.items }
+talking_of t = record {
+  guard = t.guard;
+  host = t.host;
+  webs = t.webs.entries;
+  batches = t.batches.entries;
+  own = t.own.items;
+}
 
 abbrev pub new_talking : Option Guard → Talking
-new_talking guard = record { guard = guard; host = new_host; webs = []; own = [] }
+new_talking guard = record { guard = guard; host = new_host; webs = []; batches = []; own = [] }
 
 -- the connection of a client over HTTP, if this one is
 abbrev pub web_in : Talking → ℕ → Option WebConnection
@@ -33,6 +45,27 @@ web_in t n = lookup (is_at (nat_cmp n)) t.webs
 
 abbrev pub with_web : Talking → ℕ → WebConnection → Talking
 with_web t n web = record t { webs = set_value (is_at (nat_cmp n)) t.webs web }
+
+-- the writes are those of the request of a client over HTTP that waits
+abbrev pub IsWriting : Option WebConnection → Batch → Type 0
+IsWriting None batch = ⊥
+IsWriting (Some web) batch = IsBatchFor (web_of web).asked batch
+
+-- one over HTTP waits for a change
+abbrev pub IsWaiting : Option WebConnection → Type 0
+IsWaiting None = ⊥
+IsWaiting (Some web) = AwaitsChange (web_of web).asked
+
+-- many writes are kept
+abbrev pub KeepsBatch : ℕ → Batch → Talking → Talking → Type 0
+KeepsBatch n batch old new = new ≡ record old { batches = insert_entry nat_cmp old.batches n batch }
+
+-- the request of a client over HTTP that waits is refused for want of memory
+abbrev pub LacksMemory : ℕ → Talking → Talking → Type 0
+LacksMemory n old new =
+    (new ≡ old)
+    ⊎ ((web : WebConnection) × (web' : WebConnection) × (web_in old n ≡ Some web)
+    × RefusesWeb Memory (web_of web) (web_of web') × (new ≡ with_web old n web'))
 
 -- a connection over HTTP is opened
 abbrev pub OpensWeb : ℕ → Talking → Talking → Type 0
@@ -55,16 +88,16 @@ without n own = filter (λ q. not (q == n)) own
 abbrev pub IsMadeFor : Talking → ℕ → Type 0
 IsMadeFor t n = ((web : WebConnection) × (web_in t n ≡ Some web)) ⊎ (is_own t n ≡ true)
 
--- but by its socket, no byte comes of another client, and none leaves
+-- but by its socket, or for a request over HTTP, no byte comes of another client, and none leaves
 abbrev pub MayCall : Talking → ℕ → Call → Type 0
-MayCall t n (Feeds bytes) = IsMadeFor t n
-MayCall t n (Sends count) = IsMadeFor t n
+MayCall t n (Feeds bytes) = is_own t n ≡ true
+MayCall t n (Sends count) = is_own t n ≡ true
 MayCall t n Releases = ⊤
 MayCall t n (Closes source) = ⊤
 MayCall t n Cuts = ⊤
 
 -- A client of frames comes, one over HTTP, or one of the server's own; one comes and goes at once; one goes, of each
--- kind; there is a call on the connection of a client, or a turn of its connection over HTTP
+-- kind; there is a call on the connection of one, or an errand for one over HTTP; its many writes begin, or go on
 pub data Act : Type 0 where
   Comes : ℕ → Act
   ComesByWeb : ℕ → WebConnection → Act
@@ -74,7 +107,9 @@ pub data Act : Type 0 where
   GoesByWeb : ℕ → Act
   GoesOwn : ℕ → Act
   Calls : ℕ → Call → Act
-  Turns : ℕ → WebConnection → WebConnection → Act
+  Attends : ℕ → WebConnection → WebConnection → Errand → Act
+  Begins : ℕ → Batch → Act
+  Hands : ℕ → Batch → Batch → Act
 
 -- a client of frames has to show the token in its first frame; over HTTP each request has to
 abbrev pub Does : Act → Talking → Talking → Type 0
@@ -90,11 +125,23 @@ Does (TurnsBack n mid) old new =
 Does (Goes n) old new = ClientLeaves old.host n new.host × (new ≡ with_host old new.host)
 Does (GoesByWeb n) old new =
     ClientLeaves old.host n new.host
-    × (new ≡ record old { host = new.host; webs = remove_entry (is_at (nat_cmp n)) old.webs })
+    × (new ≡ record old {
+      host = new.host;
+      webs = remove_entry (is_at (nat_cmp n)) old.webs;
+      batches = remove_entry (is_at (nat_cmp n)) old.batches;
+    })
 Does (GoesOwn n) old new =
     ClientLeaves old.host n new.host × (new ≡ record old { host = new.host; own = without n old.own })
 Does (Calls n call) old new = MayCall old n call × (new ≡ with_host old (altered old.host n (after_call call)))
-Does (Turns n web web') old new = (web_in old n ≡ Some web) × (new ≡ with_web old n web')
+Does (Attends n web web' errand) old new =
+    (web_in old n ≡ Some web)
+    × RunsErrand errand old.guard n (desk old.host (web_of web) old.batches) (desk new.host (web_of web') new.batches)
+    × (new ≡ record (with_web old n web') { host = new.host; batches = new.batches })
+Does (Begins n batch) old new =
+    IsWriting (web_in old n) batch × (new ≡ record old { batches = insert_entry nat_cmp old.batches n batch })
+Does (Hands n batch batch') old new =
+    (batch_in old.batches n ≡ Some batch) × HandsBatch n batch old.host batch' new.host
+    × (new ≡ record old { host = new.host; batches = set_value (is_at (nat_cmp n)) old.batches batch' })
 
 abbrev pub Deed : Talking → Talking → Type 0
 Deed old new = (act : Act) × Does act old new

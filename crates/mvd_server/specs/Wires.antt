@@ -3,7 +3,7 @@ use Rattle.std.specs.Prelude.{◌≡◌, ◌⊎◌, ◌++◌, ℕ, false, List, 
 use Rattle.mvd_conn.specs.History.{History, WantsInput}
 use Rattle.mvd_dots.specs.declared.refusals.Refusal.TheVariants.{TooManyRequests}
 use Rattle.mvd_host.specs.Hosts.{IsClient, client_of}
-use Rattle.mvd_server.specs.OwnSides.{TakesBytes, sent_of, waits_of}
+use Rattle.mvd_server.specs.HostBytes.{TakesBytes, sent_of, waits_of}
 use Rattle.mvd_server.specs.Paths.{Path}
 use Rattle.mvd_server.specs.Talking.{Deed, Talking, is_own, talking_of, web_in, with_host, with_web}
 use Rattle.mvd_server.specs.declared.sockets.Sockets.{Ghosts}

@@ -1,11 +1,11 @@
 //! Many writes of one request: their frames, as the host takes them, and a line for each, as its replies come.
-ghost use Rattle.std.specs.Prelude.{◌≡◌, ◌++◌, IfErr, IfOk, OnOk};
+ghost use Rattle.std.specs.Prelude.{◌≡◌, ◌++◌, IfErr, IfOk, OnOk, string_bytes};
 ghost use Rattle.std.specs.List.{slice_get};
 ghost use Rattle.mvd_server.specs.Fronts.{TellsNext, end_refusal};
-ghost use Rattle.mvd_server.specs.Handed.{FedTo, TakenFrom};
+ghost use Rattle.mvd_server.specs.Handed.{HandsBatch, TakenFrom};
 ghost use Rattle.mvd_server.specs.Batches.{BeginsBatch, bytes_if, frame_of_write, refusal_if};
 
-use crate::feeding::feed;
+use crate::feeding::hand_on;
 use crate::replies::next_reply;
 use mvd_dots::Refusal;
 use mvd_frames::encode_request;
@@ -13,9 +13,6 @@ use mvd_host::Host;
 use mvd_http::{LINE_ROOM, push_line};
 use mvd_wire::{Ending, Reply, Request};
 use std::alloc::Global;
-
-/// The most bytes of frames that are handed on at once.
-const PIECE: usize = 65_536;
 
 /// The writes of one request, and what is told of them. All memory that it takes is taken before the first of them is
 /// handed on.
@@ -54,16 +51,9 @@ impl Batch {
 
     /// Hands on as many frames as the host takes.
     pub fn hand_on(&mut self, host: &mut Host, number: u64)
-        ensures { FedTo number host.old host.new }
+        ensures { HandsBatch number self.old host.old self.new host.new }
     {
-        let rest = self.frames.get(self.handed..).unwrap_or(&[]);
-        for piece in rest.chunks(PIECE) {
-            if !host.wants_input(number) {
-                return;
-            }
-            feed(host, number, piece);
-            self.handed = self.handed.saturating_add(piece.len());
-        }
+        self.handed = hand_on(host, number, &self.frames, self.handed);
     }
 
     /// Puts down the lines of the replies that the host has. Whether all lines are there.
@@ -103,7 +93,9 @@ impl Batch {
         }
     }
 
-    pub fn lines(&self) -> &str {
+    pub fn lines(&self) -> &str
+        ensures { result.now ≡ string_bytes self.now.lines }
+    {
         self.lines.as_str()
     }
 }

@@ -1,13 +1,16 @@
 //! From a request of HTTP to the frame that the host answers, and from its reply to the response.
-ghost use Rattle.std.specs.Prelude.{◌≡◌, IsTrue, option_copied};
-ghost use Rattle.mvd_server.specs.Admitted.{AsksForOne, AsksSite, IsOwnPage, MayAsk, is_let_in};
-ghost use Rattle.mvd_server.specs.Handed.{FedTo, TakenFrom};
+ghost use Rattle.std.specs.Prelude.{◌≡◌, IsTrue, false, option_copied, true};
+ghost use Rattle.mvd_http.specs.declared.fields.Content.TheVariants.{Json, Plain};
+ghost use Rattle.mvd_server.specs.Admitted.{AsksSite, IsOwnPage, KeepsOut, MayAsk, is_let_in, is_welcome};
+ghost use Rattle.mvd_server.specs.Errands.{AsksNext, DoesPlan, TellsBatch, TellsOrWaits, TellsReply};
 ghost use Rattle.mvd_server.specs.Plans.{IsPlanFor, IsPlanOf, TellsFault};
+ghost use Rattle.mvd_server.specs.Responding.{TellsBody, not_admitted, token_answer};
 ghost use Rattle.mvd_web.specs.Inside.{web_of};
+ghost use Rattle.mvd_web.specs.Web.{RespondsTo};
 
 use crate::batch::Batch;
 use crate::changes::push_since;
-use crate::feeding::feed;
+use crate::feeding::hand_on;
 use crate::metrics::{Counts, Now};
 use crate::replies::next_reply;
 use crate::responding::{answer_of, refuse, respond, tell_pushed, tell_reply};
@@ -21,9 +24,6 @@ use mvd_replica::Replica;
 use mvd_web::{Asked, WebConnection};
 use sqlite::Alter;
 use std::alloc::Global;
-
-/// The most bytes of a frame that are handed on at once.
-const PIECE: usize = 65_536;
 
 const NOT_ADMITTED: &str = "{\"refused\":38,\"name\":\"NotAdmitted\"}";
 
@@ -61,9 +61,10 @@ fn plan_of(alloc: Global, guard: Option<&Guard>, asked: &Asked) -> Plan
     // Nothing is asked of the site, or told of it, for whoever may not come in, or for another server's page.
     ensures site { AsksSite result → MayAsk (option_copied guard.entry) asked.now }
     ensures own { AsksSite result → IsOwnPage asked.now }
-    // Whoever may is answered.
-    ensures done { IsOwnPage asked.now → IsTrue (is_let_in (option_copied guard.entry) asked.now) →
-        IsPlanOf asked.now.question result }
+    ensures asks { AsksSite result → IsPlanOf asked.now.question result }
+    // Whoever may is answered, and whoever may not is told so.
+    ensures done { is_welcome (option_copied guard.entry) asked.now ≡ true → IsPlanOf asked.now.question result }
+    ensures out { is_welcome (option_copied guard.entry) asked.now ≡ false → KeepsOut result }
 {
     if !asked.names_host {
         return fault(Fault::HostMissing, None);
@@ -82,7 +83,8 @@ fn plan_of(alloc: Global, guard: Option<&Guard>, asked: &Asked) -> Plan
 
 /// What is told to whoever may not come in: that a token is asked for, or that there was no memory for the one it has.
 fn kept_out(asked: &Asked) -> Plan
-    ensures { AsksSite result → ⊥ }
+    ensures none { AsksSite result → ⊥ }
+    ensures told { KeepsOut result }
 {
     match asked.question {
         Err(Refusal::Memory) => Plan::Refused(Refusal::Memory),
@@ -149,8 +151,7 @@ pub(crate) fn ask<S: Alter + Drop>(
     changes: &Feed,
     counts: &mut Counts,
 ) -> Rest
-    ensures asks { AsksForOne (option_copied guard.entry) (web_of web.new).asked host.old host.new result }
-    ensures feeds { FedTo number host.old host.new }
+    ensures { AsksNext (option_copied guard.entry) number (web_of web.old) host.old (web_of web.new) host.new result }
 {
     if !web.next() {
         return Rest::Nothing;
@@ -159,33 +160,80 @@ pub(crate) fn ask<S: Alter + Drop>(
         Some(asked) => plan_of(alloc, guard, asked),
         None => return Rest::Nothing,
     };
+    carry_out(alloc, plan, host, web, number, replica, changes, counts)
+}
+
+/// Does what is to be done about the request that waits.
+fn carry_out<S: Alter + Drop>(
+    alloc: Global,
+    plan: Plan,
+    host: &mut Host,
+    web: &mut WebConnection,
+    number: u64,
+    replica: &Replica<S>,
+    changes: &Feed,
+    counts: &mut Counts,
+) -> Rest
+    ensures { DoesPlan number plan (web_of web.old) host.old (web_of web.new) host.new result }
+{
     match plan {
-        Plan::Frame(frame) => hand_on(host, number, &frame),
-        Plan::Writes(batch) => return Rest::Writes(batch),
-        Plan::Changes(Some(root), wait) if wait > 0 && changes.root() == Some(root) => {
-            return Rest::Waits(root, wait);
+        Plan::Frame(frame) => {
+            hand_on(host, number, &frame, 0);
+            Rest::Nothing
         }
-        Plan::Changes(since, _) => tell_changes(alloc, web, replica, changes, since, counts),
-        Plan::Root => tell_root(alloc, web, replica, counts),
-        Plan::Metrics => tell_metrics(alloc, web, replica, counts),
-        Plan::Told(answer, body) => respond(web, counts, answer, body),
-        Plan::NotAdmitted => ask_token(web, counts),
-        Plan::Refused(refusal) => refuse(alloc, web, counts, refusal),
+        Plan::Writes(batch) => Rest::Writes(batch),
+        Plan::Changes(since, wait) => {
+            wait_or_tell(alloc, web, replica, changes, since, wait, counts)
+        }
+        Plan::Root => {
+            tell_root(alloc, web, replica, counts);
+            Rest::Nothing
+        }
+        Plan::Metrics => {
+            tell_metrics(alloc, web, replica, counts);
+            Rest::Nothing
+        }
+        Plan::Told(answer, body) => {
+            respond(web, counts, answer, body);
+            Rest::Nothing
+        }
+        Plan::NotAdmitted => {
+            ask_token(web, counts);
+            Rest::Nothing
+        }
+        Plan::Refused(refusal) => {
+            refuse(alloc, web, counts, refusal);
+            Rest::Nothing
+        }
     }
+}
+
+/// Tells what changed since a root, or that the request waits where nothing did.
+fn wait_or_tell<S: Alter + Drop>(
+    alloc: Global,
+    web: &mut WebConnection,
+    replica: &Replica<S>,
+    changes: &Feed,
+    since: Option<[u8; 32]>,
+    wait: u32,
+    counts: &mut Counts,
+) -> Rest
+    ensures { TellsOrWaits since wait (web_of web.old) (web_of web.new) result }
+{
+    if let Some(root) = since
+        && wait > 0
+        && changes.root() == since
+    {
+        return Rest::Waits(root, wait);
+    }
+    tell_changes(alloc, web, replica, changes, since, counts);
     Rest::Nothing
 }
 
-/// Hands a frame to the host, piece by piece.
-fn hand_on(host: &mut Host, number: u64, frame: &[u8])
-    ensures { FedTo number host.old host.new }
-{
-    for piece in frame.chunks(PIECE) {
-        feed(host, number, piece);
-    }
-}
-
 /// Tells that a token is asked for.
-fn ask_token(web: &mut WebConnection, counts: &mut Counts) {
+fn ask_token(web: &mut WebConnection, counts: &mut Counts)
+    ensures { RespondsTo (web_of web.old).asked (web_of web.old) token_answer not_admitted (web_of web.new) }
+{
     let answer = Answer {
         asks_token: true,
         ..answer_of(StatusCode::UNAUTHORIZED, Content::Json)
@@ -198,7 +246,9 @@ fn tell_root<S: Alter + Drop>(
     web: &mut WebConnection,
     replica: &Replica<S>,
     counts: &mut Counts,
-) {
+)
+    ensures { TellsBody Json (web_of web.old) (web_of web.new) }
+{
     let mut body = String::new(alloc);
     let pushed = push_root_of(alloc, replica, &mut body);
     tell_pushed(alloc, web, pushed, body.as_str(), counts);
@@ -230,7 +280,9 @@ pub(crate) fn tell_changes<S: Alter + Drop>(
     changes: &Feed,
     since: Option<[u8; 32]>,
     counts: &mut Counts,
-) {
+)
+    ensures { TellsBody Json (web_of web.old) (web_of web.new) }
+{
     let mut body = String::new(alloc);
     let pushed = push_since(alloc, changes, replica, since, &mut body);
     tell_pushed(alloc, web, pushed, body.as_str(), counts);
@@ -241,7 +293,9 @@ fn tell_metrics<S: Alter + Drop>(
     web: &mut WebConnection,
     replica: &Replica<S>,
     counts: &mut Counts,
-) {
+)
+    ensures { TellsBody Plain (web_of web.old) (web_of web.new) }
+{
     let mut body = String::new(alloc);
     let now = Now {
         keys: replica.key_count(),
@@ -268,7 +322,7 @@ pub(crate) fn answer(
     number: u64,
     counts: &mut Counts,
 )
-    ensures { TakenFrom number host.old host.new }
+    ensures { TellsReply number (web_of web.old) host.old (web_of web.new) host.new }
 {
     if let Some(reply) = next_reply(alloc, host, number) {
         tell_reply(alloc, web, reply, counts);
@@ -276,6 +330,7 @@ pub(crate) fn answer(
 }
 
 /// Queues the response to the writes of a client, once the host has answered all that it takes of them.
+#[tactic(auto, using(crate::proofs::Errands::tells_all, crate::proofs::Errands::tells_none, crate::proofs::Errands::tells_stop))]
 pub(crate) fn answer_writes(
     alloc: Global,
     host: &mut Host,
@@ -284,7 +339,7 @@ pub(crate) fn answer_writes(
     number: u64,
     counts: &mut Counts,
 )
-    ensures { TakenFrom number host.old host.new }
+    ensures { TellsBatch number (web_of web.old) batch.old host.old (web_of web.new) batch.new host.new }
 {
     match batch.take(alloc, host, number) {
         Ok(true) => respond(

@@ -1,9 +1,11 @@
 //! The responses to requests of HTTP, as they are queued.
-ghost use Rattle.std.specs.Prelude.{◌≡◌, IfOk, string_bytes};
+ghost use Rattle.std.specs.Prelude.{◌≡◌, IfOk, IsTrue, string_bytes};
 ghost use Rattle.mvd_http.specs.Answers.{Responds, is_stored};
+ghost use Rattle.mvd_http.specs.declared.fields.Content.TheVariants.{Json};
+ghost use Rattle.mvd_server.specs.Errands.{AwaitsChange};
 ghost use Rattle.mvd_server.specs.Plans.{plain_answer};
 ghost use Rattle.mvd_server.specs.Responding.{AnswersReply, AnswersWeb, content_of as content_for, is_web_change};
-ghost use Rattle.mvd_server.specs.Responding.{json_answer, status_or_500, told_with};
+ghost use Rattle.mvd_server.specs.Responding.{RefusesWeb, TellsBody, json_answer, status_or_500, told_with};
 ghost use Rattle.mvd_web.specs.Inside.{web_of};
 ghost use Rattle.mvd_web.specs.Web.{RespondsTo};
 
@@ -60,16 +62,26 @@ fn respond_json(web: &mut WebConnection, counts: &mut Counts, status: u16, body:
     respond(web, counts, answer, body);
 }
 
-pub(crate) fn refuse(
-    alloc: Global,
-    web: &mut WebConnection,
-    counts: &mut Counts,
-    refusal: Refusal,
-) {
+/// Tells the request that waits that it is refused. Where there is no memory for that, the connection ends.
+#[tactic(auto, using(crate::proofs::Answering::refuses))]
+pub(crate) fn refuse(alloc: Global, web: &mut WebConnection, counts: &mut Counts, refusal: Refusal)
+    ensures { RefusesWeb refusal (web_of web.old) (web_of web.new) }
+{
     let mut body = String::new(alloc);
     match refused_response(&mut body, refusal) {
         Ok(status) => respond_json(web, counts, status, body.as_str()),
         Err(_) => web.stop(Refusal::Memory),
+    }
+}
+
+/// Whether the request that waits asks what changed.
+#[tactic(auto, using(crate::proofs::Answering::awaits_if))]
+pub(crate) fn asks_changes(web: &WebConnection) -> bool
+    ensures { IsTrue result → AwaitsChange (web_of web.now).asked }
+{
+    match web.asked() {
+        Some(asked) => matches!(asked.question, Ok(Question::Changes(..))),
+        None => false,
     }
 }
 
@@ -80,7 +92,9 @@ pub(crate) fn tell_pushed(
     pushed: Result<(), Refusal>,
     body: &str,
     counts: &mut Counts,
-) {
+)
+    ensures { TellsBody Json (web_of web.old) (web_of web.new) }
+{
     match pushed {
         Ok(()) => respond(web, counts, answer_of(StatusCode::OK, Content::Json), body),
         Err(refusal) => refuse(alloc, web, counts, refusal),

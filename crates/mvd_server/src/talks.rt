@@ -4,14 +4,15 @@ mod talk_bytes;
 ghost use Rattle.std.specs.Prelude.{◌≡◌, ◌≤◌, IfOk, IsTrue, OnErr, OnOk, is_some, length};
 ghost use Rattle.mvd_host.specs.Hosts.{client_of};
 ghost use Rattle.mvd_server.specs.Rounds.{HasRound};
-ghost use Rattle.mvd_server.specs.Talking.{OpensWeb, TalksDeeds, new_talking, talking_of};
+ghost use Rattle.mvd_server.specs.Talking.{IsWaiting, IsWriting, KeepsBatch, LacksMemory, OpensWeb};
+ghost use Rattle.mvd_server.specs.Talking.{TalksDeeds, new_talking, talking_of, web_in};
 
 use crate::batch::Batch;
 use crate::changes::push_since;
 use crate::gate::{Rest, answer, answer_writes, ask};
 use crate::metrics::Counts;
 use crate::parked::Parked;
-use crate::responding::{refuse, tell_pushed};
+use crate::responding::{asks_changes, refuse, tell_pushed};
 use mvd_conn::Guard;
 use mvd_dots::Refusal;
 use mvd_host::{Feed, Host};
@@ -186,12 +187,12 @@ impl Talks {
         if !self.host.wants_input(number) {
             return;
         }
+        if self.batches.contains_key(&number) {
+            return self.hand_on_writes(number);
+        }
         let Some(web) = self.webs.get_mut(&number) else {
             return;
         };
-        if let Some(batch) = self.batches.get_mut(&number) {
-            return batch.hand_on(&mut self.host, number);
-        }
         let rest = ask(
             self.alloc,
             self.guard.as_ref(),
@@ -212,18 +213,38 @@ impl Talks {
         }
     }
 
-    /// Hands on the first writes of a client. Where memory is refused to keep them, none is.
-    fn begin_writes(&mut self, batch: Batch, number: u64, counts: &mut Counts)
+    /// Hands on more of the writes of a client.
+    fn hand_on_writes(&mut self, number: u64)
         ensures { TalksDeeds self.old self.new }
     {
-        let Some(web) = self.webs.get_mut(&number) else {
-            return;
-        };
-        if self.batches.insert(number, batch).is_err() {
-            return refuse(self.alloc, web, counts, Refusal::Memory);
-        }
         if let Some(batch) = self.batches.get_mut(&number) {
             batch.hand_on(&mut self.host, number);
+        }
+    }
+
+    /// Hands on the first writes of a client, which its request asks for. Where memory is refused to keep them, none is.
+    fn begin_writes(&mut self, batch: Batch, number: u64, counts: &mut Counts)
+        ensures { IsWriting (web_in (talking_of self.old) number) batch → TalksDeeds self.old self.new }
+    {
+        match self.keep_writes(batch, number) {
+            Ok(()) => self.hand_on_writes(number),
+            Err(_) => self.lack_memory(number, counts),
+        }
+    }
+
+    fn keep_writes(&mut self, batch: Batch, number: u64) -> Result<(), AllocError>
+        ensures keeps { OnOk result (KeepsBatch number batch (talking_of self.old) (talking_of self.new)) }
+        ensures same { OnErr result (talking_of self.new ≡ talking_of self.old) }
+    {
+        drop(self.batches.insert(number, batch)?);
+        Ok(())
+    }
+
+    fn lack_memory(&mut self, number: u64, counts: &mut Counts)
+        ensures { LacksMemory number (talking_of self.old) (talking_of self.new) }
+    {
+        if let Some(web) = self.webs.get_mut(&number) {
+            refuse(self.alloc, web, counts, Refusal::Memory);
         }
     }
 
@@ -242,12 +263,36 @@ impl Talks {
     fn tell_none(&mut self, number: u64, root: [u8; 32], counts: &mut Counts)
         ensures { TalksDeeds self.old self.new }
     {
-        let Some(web) = self.webs.get_mut(&number) else {
-            return;
-        };
         let mut body = String::new(self.alloc);
         let pushed = push_changes(self.alloc, &mut body, root, &[], false);
-        tell_pushed(self.alloc, web, pushed, body.as_str(), counts);
+        self.tell_waiting(number, pushed, body.as_str(), counts);
+    }
+
+    /// Tells one whose request asks what changed.
+    fn tell_waiting(
+        &mut self,
+        number: u64,
+        told: Result<(), Refusal>,
+        body: &str,
+        counts: &mut Counts,
+    )
+        ensures { TalksDeeds self.old self.new }
+    {
+        if !self.awaits_change(number) {
+            return;
+        }
+        if let Some(web) = self.webs.get_mut(&number) {
+            tell_pushed(self.alloc, web, told, body, counts);
+        }
+    }
+
+    fn awaits_change(&self, number: u64) -> bool
+        ensures { IsTrue result → IsWaiting (web_in (talking_of self.now) number) }
+    {
+        match self.webs.get(&number) {
+            Some(web) => asks_changes(web),
+            None => false,
+        }
     }
 
     /// Queues what a client over HTTP is told.
@@ -301,9 +346,7 @@ impl Talks {
         ensures { TalksDeeds self.old self.new }
     {
         self.note_woken(number);
-        if let Some(web) = self.webs.get_mut(&number) {
-            tell_pushed(self.alloc, web, told, body, counts);
-        }
+        self.tell_waiting(number, told, body, counts);
     }
 
     /// Tells those that have waited long enough that nothing changed.

@@ -1,17 +1,19 @@
-use Rattle.std.proofs.Common.{sym, subst}
-use Rattle.mvd_server.specs.Handed.{FedTo}
-use Rattle.mvd_server.proofs.Deeds.{fed_same}
-use Rattle.mvd_server.proofs.gate.ask.Goals.{in-Frame, in-Changes+in-Changes, in-Root, in-Metrics, in-Told, in-NotAdmitted, in-Refused}
+use Rattle.std.proofs.Common.{inr, subst, sym}
+use Rattle.mvd_server.proofs.Errands.{asks_none}
 use Rattle.mvd_server.proofs.gate.ask.Goals as goal
+use Rattle.mvd_web.specs.Inside.{web_of}
+use Rattle.mvd_web.specs.Web.{TakesRequest}
 
-pub returns-clause-feeds : goal.returns-clause-feeds
-returns-clause-feeds g c =
-    elim c.match-plan.branch [
-      | in-Frame w ↦ subst (λ h. FedTo c.args.number c.args.host.now h) (sym w.host-is) w.hand_on.ensures
-      | in-Changes+in-Changes w ↦ fed_same c.args.number c.args.host.now c.match-plan.host w.host-is
-      | in-Root w ↦ fed_same c.args.number c.args.host.now c.match-plan.host w.host-is
-      | in-Metrics w ↦ fed_same c.args.number c.args.host.now c.match-plan.host w.host-is
-      | in-Told w ↦ fed_same c.args.number c.args.host.now c.match-plan.host w.host-is
-      | in-NotAdmitted w ↦ fed_same c.args.number c.args.host.now c.match-plan.host w.host-is
-      | in-Refused w ↦ fed_same c.args.number c.args.host.now c.match-plan.host w.host-is
-    ]
+pub returns-then-not-next : goal.returns-then-not-next
+returns-then-not-next g c = asks_none _ c.args.number (web_of c.args.web.now) (web_of c.next.new.self) c.args.host.now c.next.result c.next.ensures c.if-not-next.true
+
+pub returns : goal.returns
+returns g c = inr (record {
+  mid = web_of c.next.new.self;
+  takes = subst (λ b. TakesRequest (web_of c.args.web.now) b (web_of c.next.new.self)) c.if-not-next.false c.next.ensures;
+  asked = c.in-Some.asked.now;
+  kept = sym c.in-Some.ensures;
+  plan = c.plan_of-plan.result;
+  decides = record { site = c.plan_of-plan.ensures.site; own = c.plan_of-plan.ensures.own; asks = c.plan_of-plan.ensures.asks; done = c.plan_of-plan.ensures.done; out = c.plan_of-plan.ensures.out };
+  does = c.carry_out.ensures;
+})

@@ -1,12 +1,16 @@
-use Rattle.std.proofs.Common.{sym}
-use Rattle.mvd_server.specs.Talking.{talking_of}
-use Rattle.mvd_server.proofs.Deeds.{fed_turned, turned}
+use Rattle.std.proofs.Common.{subst}
+use Rattle.mvd_server.specs.Talking.{LacksMemory, talking_of}
+use Rattle.mvd_server.proofs.Deeds.{deed_begins, deed_lacks, deeds_on}
 use Rattle.mvd_server.proofs.talks.Talks.begin_writes.Goals as goal
 
-pub returns-then-is_err : goal.returns-then-is_err
-returns-then-is_err c =
-    turned c.args.number c.in-Some.web.now c.refuse.new.web (talking_of c.args.self.now) (c.get_mut.follows.lender c.refuse.new.web).entries (sym c.in-Some.ensures.value) (c.get_mut.follows.holds c.refuse.new.web).0
+pub returns-in-Ok : goal.returns-in-Ok
+returns-in-Ok c = λ writes.
+    let old = talking_of c.args.self.now in
+    let mid = talking_of c.keep_writes.new.self in
+    deeds_on old mid (talking_of c.hand_on_writes.new.self) (deed_begins c.args.number c.args.batch old mid writes c.in-Ok.ensures.keeps) c.hand_on_writes.ensures
 
-pub returns-in-Some-get_mut : goal.returns-in-Some-get_mut
-returns-in-Some-get_mut c =
-    fed_turned c.args.number c.in-Some.web.now c.in-Some.web.now (talking_of c.args.self.now) c.hand_on.new.host (c.get_mut.follows.lender c.in-Some.web.now).entries (sym c.in-Some.ensures.value) c.hand_on.ensures (c.get_mut.follows.holds c.in-Some.web.now).0
+pub returns-in-Err : goal.returns-in-Err
+returns-in-Err c = λ writes.
+    let old = talking_of c.args.self.now in
+    let new = talking_of c.lack_memory.new.self in
+    deed_lacks c.args.number c.args.batch old new writes (subst (λ t. LacksMemory c.args.number t new) c.in-Err.ensures.same c.lack_memory.ensures)

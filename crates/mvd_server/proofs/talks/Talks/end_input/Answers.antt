@@ -1,7 +1,7 @@
 use Rattle.mvd_conn.specs.declared.source.Source.TheVariants as source
-use Rattle.std.proofs.Common.{ap, sym}
+use Rattle.std.proofs.Common.{ap, inl, sym}
 use Rattle.mvd_server.specs.Talking.{talking_of}
-use Rattle.mvd_server.proofs.Deeds.{deed_closes, turned, unturned}
+use Rattle.mvd_server.proofs.Deeds.{deed_closes, deed_stops, unturned}
 use Rattle.mvd_server.proofs.talks.Talks.end_input.Goals as goal
 
 pub returns-in-None : goal.returns-in-None
@@ -9,4 +9,4 @@ returns-in-None c = unturned (talking_of c.args.self.now) c.end_input-in-None.ne
 
 pub returns-in-Some : goal.returns-in-Some
 returns-in-Some c =
-    turned c.args.number c.in-Some.web.now c.end_input.new.self (talking_of c.args.self.now) (c.get_mut.follows.lender c.end_input.new.self).entries (sym c.in-Some.ensures.value) (c.get_mut.follows.holds c.end_input.new.self).0
+    deed_stops c.args.number c.in-Some.web.now c.end_input.new.self (talking_of c.args.self.now) (c.get_mut.follows.lender c.end_input.new.self).entries (sym c.in-Some.ensures.value) (inl c.end_input.ensures) (c.get_mut.follows.holds c.end_input.new.self).0

@@ -1,8 +1,8 @@
 use Rattle.mvd_conn.specs.declared.source.Source.TheVariants as source
 use Rattle.mvd_dots.specs.declared.refusals.Refusal.TheVariants.{ReadFailed}
-use Rattle.std.proofs.Common.{ap, sym}
+use Rattle.std.proofs.Common.{ap, inr, sym}
 use Rattle.mvd_server.specs.Talking.{talking_of}
-use Rattle.mvd_server.proofs.Deeds.{deed_closes, turned, unturned}
+use Rattle.mvd_server.proofs.Deeds.{deed_closes, deed_stops, unturned}
 use Rattle.mvd_server.proofs.talks.Talks.fail_input.Goals as goal
 
 pub returns-in-None : goal.returns-in-None
@@ -10,4 +10,4 @@ returns-in-None c = unturned (talking_of c.args.self.now) c.fail_input.new.self 
 
 pub returns-in-Some : goal.returns-in-Some
 returns-in-Some c =
-    turned c.args.number c.in-Some.web.now c.stop.new.self (talking_of c.args.self.now) (c.get_mut.follows.lender c.stop.new.self).entries (sym c.in-Some.ensures.value) (c.get_mut.follows.holds c.stop.new.self).0
+    deed_stops c.args.number c.in-Some.web.now c.stop.new.self (talking_of c.args.self.now) (c.get_mut.follows.lender c.stop.new.self).entries (sym c.in-Some.ensures.value) (inr (ReadFailed, c.stop.ensures)) (c.get_mut.follows.holds c.stop.new.self).0

@@ -1,23 +1,40 @@
-use Rattle.std.proofs.Common.{sym}
+use Rattle.std.proofs.Common.{refl, subst, sym}
+use Rattle.mvd_server.specs.Errands.{Asks, AsksNext}
 use Rattle.mvd_server.specs.Talking.{talking_of}
-use Rattle.mvd_server.proofs.Deeds.{deeds_on, fed_turned}
+use Rattle.mvd_server.specs.declared.gate.Rest.TheVariants as rest
+use Rattle.mvd_server.proofs.Deeds.{deed_attends, deeds_on, writing}
+use Rattle.mvd_server.proofs.Errands.{batch_of}
 use Rattle.mvd_server.proofs.talks.Talks.take_in.Goals as goal
-
-pub returns-in-Some-get_mut : goal.returns-in-Some-get_mut
-returns-in-Some-get_mut g c =
-    fed_turned c.args.number c.in-Some.web.now c.in-Some.web.now (talking_of c.args.self.now) c.hand_on.new.host (c.get_mut.follows.lender c.in-Some.web.now).entries (sym c.in-Some.ensures.value) c.hand_on.ensures (c.get_mut.follows.holds c.in-Some.web.now).0
+use Rattle.mvd_web.specs.Inside.{web_of}
 
 pub returns-in-Nothing : goal.returns-in-Nothing
-returns-in-Nothing g c = fed_turned c.args.number c.in-Some.web.now c.ask-rest.new.web (talking_of c.args.self.now) c.ask-rest.new.host (c.get_mut.follows.lender c.ask-rest.new.web).entries (sym c.in-Some.ensures.value) c.ask-rest.ensures.feeds (c.get_mut.follows.holds c.ask-rest.new.web).0
+returns-in-Nothing g c =
+    let old = talking_of c.args.self.now in
+    let web = c.ask-rest.new.web in
+    let asks = subst (λ guard. AsksNext guard c.args.number (web_of c.in-Some.web.now) old.host (web_of web) c.ask-rest.new.host c.ask-rest.result) c.as_ref.ensures.value c.ask-rest.ensures in
+    deed_attends c.args.number (Asks c.ask-rest.result) c.in-Some.web.now web old c.ask-rest.new.host old.batches (c.get_mut.follows.lender web).entries (sym c.in-Some.ensures.value) (asks, refl) (c.get_mut.follows.holds web).0
 
 pub returns-in-Writes : goal.returns-in-Writes
 returns-in-Writes g c =
     let old = talking_of c.args.self.now in
-    let mid = record old { host = c.ask-rest.new.host; webs = (c.get_mut.follows.lender c.ask-rest.new.web).entries } in
-    deeds_on old mid (talking_of c.begin_writes.new.self) (fed_turned c.args.number c.in-Some.web.now c.ask-rest.new.web (talking_of c.args.self.now) c.ask-rest.new.host (c.get_mut.follows.lender c.ask-rest.new.web).entries (sym c.in-Some.ensures.value) c.ask-rest.ensures.feeds (c.get_mut.follows.holds c.ask-rest.new.web).0) c.begin_writes.ensures
+    let web = c.ask-rest.new.web in
+    let n = c.args.number in
+    let entries = (c.get_mut.follows.lender web).entries in
+    let mid = record old { host = c.ask-rest.new.host; webs = entries } in
+    let batch = c.in-Writes.batch in
+    let asks = subst (λ guard. AsksNext guard n (web_of c.in-Some.web.now) old.host (web_of web) c.ask-rest.new.host (rest.Writes batch)) c.as_ref.ensures.value c.in-Writes.ensures in
+    let mine = batch_of old.guard n (web_of c.in-Some.web.now) old.host (web_of web) c.ask-rest.new.host batch asks in
+    deeds_on old mid (talking_of c.begin_writes.new.self)
+    (deed_attends n (Asks (rest.Writes batch)) c.in-Some.web.now web old c.ask-rest.new.host old.batches entries (sym c.in-Some.ensures.value) (asks, refl) (c.get_mut.follows.holds web).0)
+    (c.begin_writes.ensures (writing n c.in-Some.web.now web old.webs entries batch (sym c.in-Some.ensures.value) (c.get_mut.follows.holds web).0 mine))
 
 pub returns-in-Waits : goal.returns-in-Waits
 returns-in-Waits g c =
     let old = talking_of c.args.self.now in
-    let mid = record old { host = c.ask-rest.new.host; webs = (c.get_mut.follows.lender c.ask-rest.new.web).entries } in
-    deeds_on old mid (talking_of c.park.new.self) (fed_turned c.args.number c.in-Some.web.now c.ask-rest.new.web (talking_of c.args.self.now) c.ask-rest.new.host (c.get_mut.follows.lender c.ask-rest.new.web).entries (sym c.in-Some.ensures.value) c.ask-rest.ensures.feeds (c.get_mut.follows.holds c.ask-rest.new.web).0) c.park.ensures
+    let web = c.ask-rest.new.web in
+    let entries = (c.get_mut.follows.lender web).entries in
+    let mid = record old { host = c.ask-rest.new.host; webs = entries } in
+    let asks = subst (λ guard. AsksNext guard c.args.number (web_of c.in-Some.web.now) old.host (web_of web) c.ask-rest.new.host c.ask-rest.result) c.as_ref.ensures.value c.ask-rest.ensures in
+    deeds_on old mid (talking_of c.park.new.self)
+    (deed_attends c.args.number (Asks c.ask-rest.result) c.in-Some.web.now web old c.ask-rest.new.host old.batches entries (sym c.in-Some.ensures.value) (asks, refl) (c.get_mut.follows.holds web).0)
+    c.park.ensures

@@ -1,5 +1,5 @@
 -- What a site answers among many is told as a live side tells.
-use Rattle.std.proofs.Common.{◌≡◌, ◌≢◌, ◌⊎◌, inl, inr, ℕ, List, [], ◌∷◌, ◌++◌, map, refl, sym, ap, subst, ◌∙◌, Some, None, Option, append-nil, append_assoc}
+use Rattle.std.proofs.Common.{◌≡◌, ◌≢◌, ◌⊎◌, inl, inr, ℕ, true, false, cond, List, [], ◌∷◌, ◌++◌, map, refl, sym, ap, subst, ◌∙◌, Some, None, Option, append-nil, append_assoc}
 use Rattle.std.specs.Prelude.{Ok, Err, Result, length, Vec}
 use Rattle.std.specs.declared.alloc.Global.{Global}
 use Rattle.mvd_dots.specs.declared.refusals.Refusal.{Refusal}
@@ -36,10 +36,11 @@ use Rattle.mvd_sync.specs.declared.asked.Window.{Window}
 use Rattle.mvd_sync.specs.declared.asked.Window.TheVariants as wanted
 use Rattle.mvd_sync.specs.declared.telling.Told.{Told}
 use Rattle.mvd_sync.specs.declared.telling.Told.TheVariants as told
-use Rattle.mvd_live.specs.Answers.{AnswersAmong, AreReplyFrames, HaveFrames}
+use Rattle.mvd_live.specs.Answers.{AnswersAll, AnswersAmong, AreReplyFrames, HaveFrames, SiteTurn, own_replies, own_requests}
 use Rattle.mvd_live.specs.Mail.{IsAnswered, IsLiveMail}
 use Rattle.mvd_live.specs.Told.{Tells, TellsEach, TellsNode, TellsPage, TellsPush, TellsState}
 use Rattle.mvd_live.proofs.Moments.{grown_on}
+use Rattle.mvd_live.proofs.Whole.{grows_self}
 
 -- ---- no request is without a frame
 
@@ -72,16 +73,16 @@ module _ {Q A : Type 0} (config : ConfigValue) (kind : ℕ) (as_reply : A → Re
     (refuses : (q : Q) (before held : States) (refusal : Refusal) → TrueReply config before (ask q) (Refused refusal) held → Right held q (Err refusal))
     (spent : (q : Q) (held : States) → Right held q (Err Memory)) where
   one_told : (q : Q) (r : Reply) (before held : States) (frame : FrameValue) (t : Result Reply Refusal) (answer : Result A Refusal) → AreHeld before → Fits q → reply_of frame.kind frame.payload ≡ Ok r → TrueReply config before (ask q) r held → ToldBy kind t frame → IsToldBy as_reply t answer → Right held q answer
-  one_told q r before held frame (Ok reply) (Ok a) form fits spells true came is =
+  one_told q r before held frame (Ok reply) (Ok a) form fits spells so came is =
       let same : r ≡ as_reply a = (let there = came.1 in cc) in
-      right q before held a form fits (subst (λ x. TrueReply config before (ask q) x held) same true)
-  one_told q r before held frame (Ok reply) (Err refusal) form fits spells true came (inl is) =
+      right q before held a form fits (subst (λ x. TrueReply config before (ask q) x held) same so)
+  one_told q r before held frame (Ok reply) (Err refusal) form fits spells so came (inl is) =
       let same : r ≡ Refused refusal = (let there = came.1 in cc) in
-      refuses q before held refusal (subst (λ x. TrueReply config before (ask q) x held) same true)
-  one_told q r before held frame (Ok reply) (Err refusal) form fits spells true came (inr is) = absurd (cc)
-  one_told q r before held frame (Err e) (Ok a) form fits spells true came is = absurd (cc)
-  one_told q r before held frame (Err e) (Err refusal) form fits spells true came (inl is) = absurd (cc)
-  one_told q r before held frame (Err e) (Err refusal) form fits spells true came (inr is) =
+      refuses q before held refusal (subst (λ x. TrueReply config before (ask q) x held) same so)
+  one_told q r before held frame (Ok reply) (Err refusal) form fits spells so came (inr is) = absurd (cc)
+  one_told q r before held frame (Err e) (Ok a) form fits spells so came is = absurd (cc)
+  one_told q r before held frame (Err e) (Err refusal) form fits spells so came (inl is) = absurd (cc)
+  one_told q r before held frame (Err e) (Err refusal) form fits spells so came (inr is) =
       let memory : e ≡ Memory = must_be_memory e r (reply_of frame.kind frame.payload) spells came.0.1 in
       let same : refusal ≡ Memory = (let gone : e ≡ refusal = cc in sym gone ∙ memory) in
       subst (λ x. Right held q (Err x)) (sym same) (spent q held)
@@ -99,13 +100,13 @@ module _ {Q A : Type 0} (config : ConfigValue) (kind : ℕ) (as_reply : A → Re
   all_told (q ∷ qs) (r ∷ rs) old new [] ts answers bytes rest end form fits among frames turns tells = absurd among
   all_told (q ∷ qs) (r ∷ rs) old new (held ∷ later) [] answers bytes rest end form fits among frames turns tells = absurd turns
   all_told (q ∷ qs) (r ∷ rs) old new (held ∷ later) (t ∷ ts) [] bytes rest end form fits among frames turns tells = absurd tells
-  all_told (q ∷ qs) (r ∷ rs) old new (held ∷ later) (t ∷ ts) (a ∷ answers) bytes rest end form fits (before, was, is, true, more) (frame, next, at, spells, behind) (mid, turn, turns) tells =
+  all_told (q ∷ qs) (r ∷ rs) old new (held ∷ later) (t ∷ ts) (a ∷ answers) bytes rest end form fits (before, was, is, so, more) (frame, next, at, spells, behind) (mid, turn, turns) tells =
       let read = turn bytes refl in
       let one = one_frame (frame_at bytes) read.0 frame read.1 next read.2 at in
       let on : mid ≡ Some next = read.3 ∙ ap Some one.1 in (
         is.0,
         grown_on old before held form was.0 is.0 was.1 is.1,
-        one_told q r before held frame t a was.0 fits.0 spells true (subst (ToldBy kind t) one.0 read.4) tells.0,
+        one_told q r before held frame t a was.0 fits.0 spells so (subst (ToldBy kind t) one.0 read.4) tells.0,
         all_told qs rs held new later ts answers next rest end is.0 fits.1 more behind (subst (λ x. TakeTurns kind (all_none (map ask qs)) ts x end) on turns) tells.1,
       )
 
@@ -149,17 +150,17 @@ module _ (config : ConfigValue) where
       → AnswersAmong config (requests_of window) rs old moments new → TellsOf (asked_in_window window) caller after t → IsAnswered (Some t) → Tells config.max_keys (asked (Some window)) (Some t) old moments new
   window_told (wanted.Nodes paths) caller after t rs rest old new moments form has frames valid among h answered =
       let it = collected 0xA7 (λ answers. told.Nodes answers) as_digests (λ path. Node path) paths.items TellsNode rs old new moments
-      (λ ts answers bytes rest end. all_told config 0xA7 as_digests (λ path. Node path) (λ _. Unit {0}) TellsNode node_right (λ q before held refusal true. tt) (λ q held. tt) paths.items rs old new moments ts answers bytes rest end form (each_fits paths.items) among)
+      (λ ts answers bytes rest end. all_told config 0xA7 as_digests (λ path. Node path) (λ _. Unit {0}) TellsNode node_right (λ q before held refusal so. tt) (λ q held. tt) paths.items rs old new moments ts answers bytes rest end form (each_fits paths.items) among)
       (came_at caller) rest frames has (link_at caller) (link_at after) t refl h.tells answered (λ refusal never. never) in
       subst (λ x. Tells config.max_keys (asked (Some (wanted.Nodes paths))) (Some x) old moments new) (sym it.1) it.2
   window_told (wanted.Pages pages) caller after t rs rest old new moments form has frames valid among h answered =
       let it = collected 0xA8 (λ answers. told.Pages answers) as_page (λ q. Bucket q.0 q.1) pages.items TellsPage rs old new moments
-      (λ ts answers bytes rest end. all_told config 0xA8 as_page (λ q. Bucket q.0 q.1) (λ _. Unit {0}) TellsPage page_right (λ q before held refusal true. tt) (λ q held. tt) pages.items rs old new moments ts answers bytes rest end form (each_fits pages.items) among)
+      (λ ts answers bytes rest end. all_told config 0xA8 as_page (λ q. Bucket q.0 q.1) (λ _. Unit {0}) TellsPage page_right (λ q before held refusal so. tt) (λ q held. tt) pages.items rs old new moments ts answers bytes rest end form (each_fits pages.items) among)
       (came_at caller) rest frames has (link_at caller) (link_at after) t refl h.tells answered (λ refusal never. never) in
       subst (λ x. Tells config.max_keys (asked (Some (wanted.Pages pages))) (Some x) old moments new) (sym it.1) it.2
   window_told (wanted.Gets keys) caller after t rs rest old new moments form has frames valid among h answered =
       let it = collected 0xA1 (λ answers. told.States answers) as_state (λ key. Get key) keys.items TellsState rs old new moments
-      (λ ts answers bytes rest end. all_told config 0xA1 as_state (λ key. Get key) (λ _. Unit {0}) TellsState state_right (λ q before held refusal true. tt) (λ q held. tt) keys.items rs old new moments ts answers bytes rest end form (each_fits keys.items) among)
+      (λ ts answers bytes rest end. all_told config 0xA1 as_state (λ key. Get key) (λ _. Unit {0}) TellsState state_right (λ q before held refusal so. tt) (λ q held. tt) keys.items rs old new moments ts answers bytes rest end form (each_fits keys.items) among)
       (came_at caller) rest frames has (link_at caller) (link_at after) t refl h.tells answered (λ refusal never. never) in
       subst (λ x. Tells config.max_keys (asked (Some (wanted.Gets keys))) (Some x) old moments new) (sym it.1) it.2
   window_told (wanted.Pushes pairs) caller after t rs rest old new moments form has frames valid among h answered =
@@ -184,3 +185,27 @@ pub none_mailed : (most : ℕ) (caller : Caller) (old new : States) → caller.a
 none_mailed most caller old new is up after t h answered =
     let none : t ≡ None = (subst (λ x. CallerTells x caller after t) is h).0 in
     subst (λ x. Tells most no_question x old [] new) (sym none) (refl, up)
+
+-- ---- one list of turns
+
+among_since : (config : ConfigValue) (qs : List Request) (rs : List Reply) (old mid new : States) (moments : List States) → AreHeld old → AreHeld mid → AreHeld new → Grows old mid → AnswersAmong config qs rs mid moments new → AnswersAmong config qs rs old moments new
+among_since config [] [] old mid new [] p q r up among = grown_on old mid new p q r up among
+among_since config [] [] old mid new (m ∷ moments) p q r up among = absurd among
+among_since config [] (x ∷ rs) old mid new moments p q r up among = absurd among
+among_since config (x ∷ qs) [] old mid new moments p q r up among = absurd among
+among_since config (x ∷ qs) (y ∷ rs) old mid new [] p q r up among = absurd among
+among_since config (x ∷ qs) (y ∷ rs) old mid new (held ∷ later) p q r up (before, was, is, so, more) = (before, (was.0, grown_on old mid before p q was.0 up was.1), is, so, more)
+
+turns_held : (config : ConfigValue) (turns : List SiteTurn) (old new : States) → AreHeld old → AnswersAll config old turns new → AreHeld new
+turns_held config [] old new p answers = subst AreHeld (sym answers) p
+turns_held config (turn ∷ turns) old new p (mid, form, so, more) = turns_held config turns mid new form.0 more
+
+-- A CLIENT'S OWN TURNS are answered among those of others
+pub turns_among : (config : ConfigValue) (turns : List SiteTurn) (old new : States) → AreHeld old → AnswersAll config old turns new → (moments : List States) × AnswersAmong config (own_requests turns) (own_replies turns) old moments new
+turns_among config [] old new p answers = ([], subst (Grows old) (sym answers) (grows_self old p))
+turns_among config (turn ∷ turns) old new p (mid, form, so, more) =
+    let rest = turns_among config turns mid new form.0 more in
+    elim turn.own as (λ b. (moments : List States) × AnswersAmong config (cond b (turn.asked ∷ own_requests turns) (own_requests turns)) (cond b (turn.reply ∷ own_replies turns) (own_replies turns)) old moments new) [
+      | true ↦ (mid ∷ rest.0, (old, (p, grows_self old p), form, so, rest.1))
+      | false ↦ (rest.0, among_since config (own_requests turns) (own_replies turns) old mid new rest.0 p form.0 (turns_held config turns mid new form.0 more) form.1 rest.1)
+    ]

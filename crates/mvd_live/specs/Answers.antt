@@ -1,5 +1,5 @@
 -- What comes by mail of a site that answers many clients.
-use Rattle.std.specs.Prelude.{◌≡◌, ℕ, List, [], ◌∷◌, Some, Ok}
+use Rattle.std.specs.Prelude.{◌≡◌, ℕ, Bool, cond, List, [], ◌∷◌, Some, Ok}
 use Rattle.mvd_wire.specs.Frames.{FrameValue, frame_at}
 use Rattle.mvd_wire.specs.Replies.{reply_of}
 use Rattle.mvd_wire.specs.Requests.{request_frame}
@@ -29,3 +29,26 @@ AreReplyFrames (r ∷ rs) bytes rest = (frame : FrameValue) × (next : List ℕ)
 abbrev pub HaveFrames : List Request → Type 0
 HaveFrames [] = Unit {0}
 HaveFrames (q ∷ qs) = ((frame : List ℕ) × (request_frame q ≡ Ok frame)) × HaveFrames qs
+
+-- ---- one list of turns
+
+-- a request that the site answered, and whether it is this client's
+pub record SiteTurn : Type 0 where
+  pub own : Bool
+  pub asked : Request
+  pub reply : Reply
+
+-- THE SITE ANSWERS all clients, turn by turn, as a faithful side does, and from turn to turn what it holds only grows
+abbrev pub AnswersAll : ConfigValue → States → List SiteTurn → States → Type 0
+AnswersAll config old [] new = new ≡ old
+AnswersAll config old (turn ∷ turns) new = (mid : States) × (AreHeld mid × Grows old mid)
+    × TrueReply config old turn.asked turn.reply mid × AnswersAll config mid turns new
+
+-- what this client asked, and what it was told
+abbrev pub own_requests : List SiteTurn → List Request
+own_requests [] = []
+own_requests (turn ∷ turns) = cond turn.own (turn.asked ∷ own_requests turns) (own_requests turns)
+
+abbrev pub own_replies : List SiteTurn → List Reply
+own_replies [] = []
+own_replies (turn ∷ turns) = cond turn.own (turn.reply ∷ own_replies turns) (own_replies turns)

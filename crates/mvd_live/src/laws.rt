@@ -24,7 +24,8 @@ ghost use Rattle.mvd_sync.specs.declared.asked.Window.{Window};
 ghost use Rattle.mvd_sync.specs.declared.telling.Told.{Told};
 ghost use Rattle.mvd_sync.specs.declared.telling.Told.TheVariants.{Nodes, Pages, States as Gets};
 ghost use Rattle.mvd_live.specs.Alone.{AreAlone, JoinsAlone};
-ghost use Rattle.mvd_live.specs.Answers.{AnswersAmong, AreReplyFrames, HaveFrames};
+ghost use Rattle.mvd_live.specs.Answers.{AnswersAll, AnswersAmong, AreReplyFrames, HaveFrames, SiteTurn};
+ghost use Rattle.mvd_live.specs.Answers.{own_replies, own_requests};
 ghost use Rattle.mvd_live.specs.Few.{AsksFew, CountsSent, HasAllThatDiffered, MailsFew, asked_local, asked_peer};
 ghost use Rattle.mvd_live.specs.Lives.{IsGiven, Lives};
 ghost use Rattle.mvd_meet.specs.declared.stepping.Meeting.{Meeting};
@@ -75,6 +76,10 @@ pub fn mail_of_a_site_is_live()
         → IsLiveMail config.max_keys (asked (Some window)) caller old moments new }
     ensures unasked { (most : ℕ) (caller : Caller) (old new : States) → caller.asked ≡ None → Grows old new
         → IsLiveMail most no_question caller old [] new }
+    // Of one list of turns, which are all clients', this client's own are answered so.
+    ensures turns { (config : ConfigValue) (turns : List SiteTurn) (old new : States) → AreHeld old
+        → AnswersAll config old turns new → (moments : List States)
+        × AnswersAmong config (own_requests turns) (own_replies turns) old moments new }
 {}
 
 /// A session makes nothing up: each state that it pushes into a side is what the other told of that key, at a moment of

@@ -212,8 +212,8 @@ fn tell_states(alloc: Global, world: &mut World, site: u32, keys: Vec<Key>) -> T
 
 /// The answers to pushes.
 fn tell_pushes(alloc: Global, world: &mut World, site: u32, pairs: &[(Key, KeyState)]) -> Told
-    ensures { LeadsWhere world.old world.new (λ before. Each (WasSent before.messages) pairs.now)
-        (λ setting before after. AllTold (λ answers. Pushes answers) (AsksToTake setting site) before pairs.now result after) }
+    ensures { LeadsWhere world.old world.new (λ before. Each (WasSent before.messages) pairs.now) (λ setting before after.
+        AllTold (λ answers. Pushes answers) (AsksToTake setting site) before pairs.now result after) }
 {
     match ask_to_take_all(alloc, world, site, pairs) {
         Ok(answers) => Told::Pushes(answers),

@@ -131,8 +131,14 @@ fn meet_one<'a, D: Dial, W: Write, E: Write>(
         Ok(report) => report,
         Err(failure) => return Err(failure.stop),
     };
-    let near_root = near.root(alloc)?;
-    let far_root = far.root(alloc)?;
+    let near_root = match near.root(alloc) {
+        Ok(root) => root,
+        Err(stop) => return Err(stop),
+    };
+    let far_root = match far.root(alloc) {
+        Ok(root) => root,
+        Err(stop) => return Err(stop),
+    };
     let told = tell_meeting(alloc, &report, near_root, far_root, writer, errors);
     let near_parted = near.part(alloc);
     let far_parted = far.part(alloc);

@@ -1,5 +1,6 @@
 -- Sessions of two servers, over lines that are fresh, or were.
-use Rattle.std.proofs.Common.{◌≡◌, ⊤, ℕ, List, Option, None, Some, Result, Ok, Err, ap, refl, subst, sym}
+use Rattle.std.proofs.Common.{◌≡◌, ℕ, List, Option, None, Some, Result, Ok, Err, ap, refl, subst, sym}
+use Rattle.std.specs.Prelude.{⊤}
 use Rattle.std.specs.declared.net.socket_addr.SocketAddr.{SocketAddr}
 use Rattle.mvd_client.specs.Between.{EndsBetween, FailsBetween, IsFresh, MeetsBetween, far_within, true_within}
 use Rattle.mvd_client.specs.Between.FailsBetween.{faulted, no_far, no_near}

@@ -5,6 +5,7 @@ pub mod Leading
 pub mod Noting
 pub mod Fars
 pub mod Cutting
+pub mod Once
 pub mod Opened
 pub mod PushTurns
 pub mod Seen

@@ -1,5 +1,5 @@
 //! Sessions between a server and each of a list, one after the other: once, or again and again.
-ghost use Rattle.std.specs.Prelude.{◌≡◌, ◌∷◌, [], ℕ, List, None, OnOk, option_copied};
+ghost use Rattle.std.specs.Prelude.{◌≡◌, ◌≢◌, ◌∷◌, [], ℕ, IfNone, IfSome, List, None, OnOk, length, option_copied};
 ghost use Rattle.std.specs.Io.KnownBytes.{Appends};
 ghost use Rattle.mvd_client.specs.Between.{MeetsOnce, MeetsServer};
 ghost use Rattle.mvd_client.specs.LetIn.{GivesIn};
@@ -98,15 +98,26 @@ pub fn meet_run<'a, D: Dial, C: Clock, W: Write, E: Write>(
         return Err(Stop::from(Refusal::Memory));
     };
     let mut near = End::new(address);
-    match terms.repeat {
-        Some(repeat) => meet_again(
+    if let Some(repeat) = terms.repeat {
+        return meet_again(
             dial, clock, alloc, &mut near, &addresses, repeat, terms, writer, errors,
-        ),
-        None => match addresses.as_slice() {
-            [far] => meet_one(dial, alloc, &mut near, *far, terms, writer, errors),
-            all => meet_each(dial, alloc, &mut near, all, terms, writer, errors),
-        },
+        );
     }
+    match only(&addresses) {
+        Some(far) => meet_one(dial, alloc, &mut near, far, terms, writer, errors),
+        None => meet_each(dial, alloc, &mut near, &addresses, terms, writer, errors),
+    }
+}
+
+/// The only address of a list, if it has one alone.
+fn only(addresses: &[SocketAddr]) -> Option<SocketAddr>
+    ensures one { IfSome result (λ far. addresses.now ≡ far ∷ []) }
+    ensures none { IfNone result (length addresses.now ≢ 1) }
+{
+    if addresses.len() != 1 {
+        return None;
+    }
+    Some(addresses[0])
 }
 
 /// One session with one server.
@@ -131,8 +142,14 @@ fn meet_one<'a, D: Dial, W: Write, E: Write>(
         Ok(report) => report,
         Err(failure) => return Err(failure.stop),
     };
-    let near_root = near.root(alloc)?;
-    let far_root = far.root(alloc)?;
+    let near_root = match near.root(alloc) {
+        Ok(root) => root,
+        Err(stop) => return Err(stop),
+    };
+    let far_root = match far.root(alloc) {
+        Ok(root) => root,
+        Err(stop) => return Err(stop),
+    };
     let told = tell_meeting(alloc, &report, near_root, far_root, writer, errors);
     let near_parted = near.part(alloc);
     let far_parted = far.part(alloc);

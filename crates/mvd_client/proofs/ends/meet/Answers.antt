@@ -36,7 +36,7 @@ returns-in_default-3-clause-far g c = c.session.ensures.far ∙ c.tries.invarian
 pub returns-in_default-3-clause-met : goal.returns-in_default-3-clause-met
 returns-in_default-3-clause-met g c =
     ends_at g.D.Dialed.Line (g.D.Dial.gives c.args.dial.now) (option_copied c.args.terms.token) c.tries.near.address c.args.near.now.address c.tries.far.address c.args.far.now.address c.tries.near.link c.args.near.now.link c.tries.far.link c.args.far.now.link
-    c.tries.invariant.near c.tries.invariant.far c.tries.invariant.near_fresh c.tries.invariant.far_fresh c.session.new.near.link c.session.new.far.link c.in_default.ended c.in_default.ensures.met
+    c.tries.invariant.near c.tries.invariant.far c.tries.invariant.near_fresh c.tries.invariant.far_fresh c.session.new.near.link c.session.new.far.link c.session.result c.session.ensures.met
 
 pub tries-preserved : goal.tries-preserved
 tries-preserved g c = record {

@@ -1,8 +1,8 @@
-use Rattle.std.proofs.Common.{Err, Ok, Some, ap, option_copied, refl, subst, sym}
+use Rattle.std.proofs.Common.{Err, option_copied, refl, subst, sym}
 use Rattle.mvd_client.specs.Between.{IsFresh}
 use Rattle.mvd_client.specs.Between.FailsBetween.{faulted, no_far, no_near}
 use Rattle.mvd_client.specs.LetIn.{GivesIn}
-use Rattle.mvd_client.proofs.Fars.{between, failed_at}
+use Rattle.mvd_client.proofs.Fars.{between, ended_well, failed_at}
 use Rattle.mvd_client.proofs.ends.session.Goals as goal
 
 pub returns-in-Err-clause-near : goal.returns-in-Err-clause-near
@@ -65,10 +65,8 @@ pub returns-clause-far : goal.returns-clause-far
 returns-clause-far g c = c.opened-2.ensures.address
 
 pub returns-clause-met : goal.returns-clause-met
-returns-clause-met g c = (
-  between g.D.Dialed.Line c.over-local.result c.over.result c.meet_over.new.near c.meet_over.new.far.side (GivesIn g.D.Dialed.Line (g.D.Dial.gives c.args.dial.now c.args.near.now.address) (option_copied c.args.terms.token)) (GivesIn g.D.Dialed.Line (g.D.Dial.gives c.args.dial.now c.args.far.now.address) (option_copied c.args.terms.token))
-      (IsFresh g.D.Dialed.Line (GivesIn g.D.Dialed.Line (g.D.Dial.gives c.args.dial.now c.args.near.now.address) (option_copied c.args.terms.token)) c.args.near.now.link) (IsFresh g.D.Dialed.Line (GivesIn g.D.Dialed.Line (g.D.Dial.gives c.args.dial.now c.args.far.now.address) (option_copied c.args.terms.token)) c.args.far.now.link) c.in-Ok.link c.in-Ok-opened.link
-      c.over-local.ensures.line c.over-local.ensures.goes_on c.over.ensures.line c.over.ensures.goes_on c.in-Ok.ensures.opened c.in-Ok-opened.ensures.opened (Ok c.in-Ok-meet_over.report) c.in-Ok-meet_over.ensures.session,
-  ap Some c.into_line-2.ensures,
-  ap Some c.into_line-3.ensures,
-)
+returns-clause-met g c =
+    ended_well g.D.Dialed.Line c.over-local.result c.over.result c.meet_over.new.near c.meet_over.new.far.side (GivesIn g.D.Dialed.Line (g.D.Dial.gives c.args.dial.now c.args.near.now.address) (option_copied c.args.terms.token)) (GivesIn g.D.Dialed.Line (g.D.Dial.gives c.args.dial.now c.args.far.now.address) (option_copied c.args.terms.token))
+    (IsFresh g.D.Dialed.Line (GivesIn g.D.Dialed.Line (g.D.Dial.gives c.args.dial.now c.args.near.now.address) (option_copied c.args.terms.token)) c.args.near.now.link) (IsFresh g.D.Dialed.Line (GivesIn g.D.Dialed.Line (g.D.Dial.gives c.args.dial.now c.args.far.now.address) (option_copied c.args.terms.token)) c.args.far.now.link) c.in-Ok.link c.in-Ok-opened.link c.into_line-2.result c.into_line-3.result
+    c.over-local.ensures.line c.over-local.ensures.goes_on c.over.ensures.line c.over.ensures.goes_on c.in-Ok.ensures.opened c.in-Ok-opened.ensures.opened c.in-Ok-meet_over.report c.into_line-2.ensures c.into_line-3.ensures
+    c.args.near.now.address c.args.far.now.address c.in-Ok-meet_over.ensures.session

@@ -134,9 +134,9 @@ pub(crate) fn meet<'a, D: Dial, E: Write>(
         (GivesIn D.Dialed.Line (D.gives dial.now near.old.address) (option_copied terms.entry.token))
         (GivesIn D.Dialed.Line (D.gives dial.now far.old.address) (option_copied terms.entry.token))
         (IsFresh D.Dialed.Line (GivesIn D.Dialed.Line (D.gives dial.now near.old.address) (option_copied terms.entry.token))
-            near.old.link)
+        near.old.link)
         (IsFresh D.Dialed.Line (GivesIn D.Dialed.Line (D.gives dial.now far.old.address) (option_copied terms.entry.token))
-            far.old.link)
+        far.old.link)
         near.old.address far.old.address near.new.link far.new.link result }
 {
     'tries: for _anew in 0..MOST_ANEW {
@@ -207,9 +207,9 @@ fn session<'a, D: Dial, E: Write>(
         (GivesIn D.Dialed.Line (D.gives dial.now near.old.address) (option_copied terms.entry.token))
         (GivesIn D.Dialed.Line (D.gives dial.now far.old.address) (option_copied terms.entry.token))
         (IsFresh D.Dialed.Line (GivesIn D.Dialed.Line (D.gives dial.now near.old.address) (option_copied terms.entry.token))
-            near.old.link)
+        near.old.link)
         (IsFresh D.Dialed.Line (GivesIn D.Dialed.Line (D.gives dial.now far.old.address) (option_copied terms.entry.token))
-            far.old.link)
+        far.old.link)
         near.old.address far.old.address near.new.link far.new.link result }
 {
     let side = Side::Local;

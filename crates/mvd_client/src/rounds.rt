@@ -251,11 +251,7 @@ fn meet_again<'a, D: Dial, C: Clock, W: Write, E: Write>(
 }
 
 /// Waits until the next of them is due. It is false where each was tried so often: then none is.
-fn pause<C: Clock, L: Line>(
-    clock: &C,
-    partners: &mut [Partner<L>],
-    times: Option<u32>,
-) -> bool {
+fn pause<C: Clock, L: Line>(clock: &C, partners: &mut [Partner<L>], times: Option<u32>) -> bool {
     let mut due = None;
     for partner in partners.iter() {
         if partner.is_wanted(times) {

@@ -39,4 +39,3 @@ returns g c = once_met g.D.Dialed.Line (GivesIn g.D.Dialed.Line (g.D.Dial.gives 
     c.in-Ok-root.root c.in-Ok-root-2.root c.meet.new.near.address c.meet.new.far.address c.meet.ensures.near (c.meet.ensures.far ∙ c.new-far.ensures.address) c.in-Ok-root.ensures.told c.in-Ok-root-2.ensures.told
     (g.W.Write.contents c.tell_meeting-told.new.writer) c.tell_meeting-told.result (Err c.at_server-in-Err-far_parted.result) c.tell_meeting-told.ensures.told
     (no_far_bye g.D.Dialed.Line c.args.near.now.address c.args.far c.tell_meeting-told.result c.part-far_parted.new.self.address c.in-Err-far_parted.refusal c.at_server-in-Err-far_parted.result (c.part-far_parted.ensures ∙ c.root-2.ensures.address ∙ c.meet.ensures.far ∙ c.new-far.ensures.address) (c.at_server-in-Err-far_parted.ensures.fault, c.at_server-in-Err-far_parted.ensures.named) (was_told c.tell_meeting-told.result c.is_err.result c.is_err.ensures.value c.if-is_err.false))
-

@@ -1,5 +1,4 @@
-use Rattle.std.proofs.Common.{◌≡◌, ◌∙◌, None, Option, Some, ap, length, option_copied, refl, subst, sym}
-use Rattle.std.specs.declared.net.ip_addr.IpAddr.{IpAddr}
+use Rattle.std.proofs.Common.{◌∙◌, ap, length, option_copied, refl, subst, sym}
 use Rattle.std.specs.declared.net.socket_addr.SocketAddr.{SocketAddr}
 use Rattle.mvd_client.specs.Between.{MeetsOnce}
 use Rattle.mvd_client.specs.Between.MeetsServer.{no_address, once}
@@ -26,7 +25,7 @@ returns-in-Some-only g c = record {
   once = λ none text is. once c.in-Some-only.far
       (subst (λ ip. IsAddress ip text c.in-Some-only.far) c.ip.ensures (is_far (IsAddress c.ip.result) (items_of c.args.with.now) text c.in-Ok.addresses.items c.in-Some-only.far is c.in-Ok.ensures (sym c.deref-2.ensures.value ∙ c.in-Some-only.ensures.one)))
       (subst (λ (a : SocketAddr). MeetsOnce g.D.Dialed.Line (GivesIn g.D.Dialed.Line (g.D.Dial.gives c.args.dial.now a) (option_copied c.args.terms.token)) (GivesIn g.D.Dialed.Line (g.D.Dial.gives c.args.dial.now c.in-Some-only.far) (option_copied c.args.terms.token)) a c.in-Some-only.far (g.W.Write.contents c.args.writer.now) (g.W.Write.contents c.meet_one.new.writer) c.meet_one.result)
-          c.new-near.ensures.address c.meet_one.ensures);
+      c.new-near.ensures.address c.meet_one.ensures);
 }
 
 pub returns : goal.returns

@@ -28,9 +28,9 @@ def merged(documents):
     values = {}
     for document in documents:
         for name, value in document.items():
-            seen = values.setdefault(name, [])
-            if value not in seen:
-                seen.append(value)
+            # As text, since 1 equals True in Python.
+            values.setdefault(name, {})[json.dumps(value, sort_keys=True)] = value
+    values = {name: list(seen.values()) for name, seen in values.items()}
     return {name: seen[0] if len(seen) == 1 else seen for name, seen in values.items()}
 
 

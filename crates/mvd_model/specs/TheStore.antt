@@ -1,8 +1,7 @@
--- The store: the whole promise on one page. Writes says which state of a key follows from a set of writes, as in a
--- multi-value register (Shapiro et al., INRIA RR-7506), and Answer which reply follows from the states. Here is a state
--- machine over them, as at the top of IronFleet (Hawblitzel et al. 2015): what each site, or replica, knows, and the
--- steps that it may take. No message and no session stands in it: what one site tells is pushed to another, and may be
--- lost, repeated, held back or reordered.
+-- The store, on one page. Writes says which state of a key follows from a set of writes, as in a multi-value register
+-- (Shapiro et al., INRIA RR-7506), and Answer which reply follows from the states. Here is a machine over them, as at
+-- the top of IronFleet (Hawblitzel et al. 2015): what each site, or replica, knows, and the steps that it may take.
+-- It has no message and no session: what one site tells is pushed to another, and may be lost, repeated or reordered.
 use Rattle.std.specs.Prelude.{◌≡◌, ◌≢◌, ◌⊎◌, ⊤, ℕ, Bool, true, false, Contains, List, [], ◌∷◌, ◌++◌, Some}
 use Rattle.std.specs.List.{slice_get}
 use Rattle.std.specs.FinMap.{get}
@@ -35,7 +34,7 @@ pub record Site : Type 0 where
   pub refused : List Request
   pub broken : Bool
 
--- all sites, by their numbers
+-- all sites, by their numbers; and a site as it is set up
 abbrev pub Knows : Type 0
 Knows = ℕ → Site
 
@@ -45,12 +44,10 @@ config i setup = record { site = i; max_keys = setup.max_keys; defs = setup.defs
 pub data Event : Type 0 where
   -- a script, a shell, a frame, HTTP, a session or a call asked this site, and was told
   Told : ℕ → Request → Reply → Event
-  -- this site was closed, killed or without power, and is opened again; these requests, which it refused, its file
-  -- holds all the same
+  -- this site was closed, killed or without power, and is opened again; its file holds these, which it had refused
   Opened : ℕ → Setup → List Request → Event
 
--- A site tells its answer, and then knows what that adds: an accepted put its write with the dot that was told, an
--- accepted delete its write, an accepted push some writes whose state is the pushed one, and all else nothing (`Adds`)
+-- A site tells its answer, and knows what that adds: a put or a delete its write, a push some of its state (`Adds`)
 abbrev pub Answers : ConfigValue → Site → Request → Reply → Site → Type 0
 Answers c s request reply t = (s.broken ≡ false) × (reply ≡ answer c s.known request)
     × (added : List Write) × Adds request reply added × (t ≡ record s { known = s.known ++ added })
@@ -61,24 +58,21 @@ abbrev pub Refuses : ConfigValue → Site → Request → Reply → Site → Typ
 Refuses c s request (Refused Memory) t = t ≡ s
 Refuses c s request (Refused Store) t =
     (s.broken ≡ false) × ChangesKey c s.known request × (t ≡ record s { refused = s.refused ++ request ∷ [] })
-Refuses c s request (Refused Broken) t =
-    ((s.broken ≡ true) ⊎ ChangesKey c s.known request)
+Refuses c s request (Refused Broken) t = ((s.broken ≡ true) ⊎ ChangesKey c s.known request)
     × (t ≡ record s { refused = s.refused ++ request ∷ []; broken = true })
 Refuses c s request reply t = ⊥
 
 -- these are some of those, in their order
 abbrev pub AreAmong : List Request → List Request → Type 0
 AreAmong [] those = ⊤
-AreAmong (request ∷ requests) [] = ⊥
-AreAmong (request ∷ requests) (other ∷ those) =
-    ((request ≡ other) × AreAmong requests those) ⊎ AreAmong (request ∷ requests) those
+AreAmong (one ∷ more) [] = ⊥
+AreAmong (one ∷ more) (first ∷ rest) = ((one ≡ first) × AreAmong more rest) ⊎ AreAmong (one ∷ more) rest
 
 -- what requests add, each answered from the writes known before it
 abbrev pub AddAll : ConfigValue → List Write → List Request → List Write → Type 0
 AddAll c known [] added = added ≡ []
-AddAll c known (request ∷ requests) added =
-    (first rest : List Write) × (added ≡ first ++ rest) × Adds request (answer c known request) first
-    × AddAll c (known ++ first) requests rest
+AddAll c known (request ∷ requests) added = (first rest : List Write) × (added ≡ first ++ rest)
+    × Adds request (answer c known request) first × AddAll c (known ++ first) requests rest
 
 -- it is whole, is set up so, and knows what it knew and what some of the refused requests add
 abbrev pub Reopens : ConfigValue → Site → Setup → List Request → Site → Type 0
@@ -111,8 +105,7 @@ put_told i key seen document dot = Told i (Put key seen document) (Written dot)
 pub record Promise (events : List Event) (end : Knows) : Type 0 where
   -- no two puts of a key are told one dot
   pub dots : (m n i j : ℕ) (key : Key) (seen also_seen : DotSet) (document other : Text) (dot other_dot : DotValue)
-      → m ≢ n
-      → slice_get events m ≡ Some (put_told i key seen document dot)
+      → m ≢ n → slice_get events m ≡ Some (put_told i key seen document dot)
       → slice_get events n ≡ Some (put_told j key also_seen other other_dot) → dot ≢ other_dot
   -- what a reply told as done is known at its site at the end
   pub kept : (n i : ℕ) (request : Request) (reply : Reply) → slice_get events n ≡ Some (Told i request reply)
@@ -121,8 +114,7 @@ pub record Promise (events : List Event) (end : Knows) : Type 0 where
   pub shown : (n i : ℕ) (key : Key) (seen : DotSet) (document : Text) (dot : DotValue)
       → slice_get events n ≡ Some (put_told i key seen document dot) → contains (covered key (end i).known) dot ≡ false
       → get (siblings key (end i).known) dot ≡ Some document
-  -- two sites that know the same writes, none of two documents under one dot, answer a question alike where they define
-  -- its index or view alike
+  -- two sites that know the same writes, which agree, answer a question alike, where its index or view is defined alike
   pub alike : (i j : ℕ) (request : Request) → SameWrites (end i).known (end j).known → Agree (end i).known
       → SpeakAlike (end i).setup.defs (end j).setup.defs request
       → answer (config i (end i).setup) (end i).known request ≡ answer (config j (end j).setup) (end j).known request

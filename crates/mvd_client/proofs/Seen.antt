@@ -5,7 +5,7 @@ use Rattle.mvd_dots.specs.declared.refusals.Refusal.{Refusal}
 use Rattle.mvd_peer.specs.Sides.{HasAnswered, HasRefused, IsSilent, Reaches, SideOf, two}
 use Rattle.mvd_sync.specs.Faults.{Blames, Inquiry, IsFaultOf}
 use Rattle.mvd_sync.specs.Faults.Blames.{of_answer, of_memory, of_questions, of_side}
-use Rattle.mvd_sync.specs.Session.{HaveAnswered, Session}
+use Rattle.mvd_sync.specs.Session.{Session}
 use Rattle.mvd_sync.specs.declared.report.Report.{Report}
 use Rattle.mvd_sync.specs.declared.report.SyncFault.{SyncFault}
 use Rattle.mvd_sync.specs.declared.report.SyncFault.TheVariants.{Local, Peer}

@@ -1,9 +1,8 @@
-use Rattle.std.proofs.Common.{arith, refl, subst}
+use Rattle.std.proofs.Common.{refl, subst}
 use Rattle.std.specs.Prelude.{OnOk}
 use Rattle.mvd_remote.specs.Lines.{IsTrueRemote}
 use Rattle.mvd_client.proofs.Fresh.{fresh_is_true}
 use Rattle.mvd_client.proofs.Syncing.{after_bye, after_bye_ok, bye_keeps, meets_as}
-use Rattle.mvd_client.proofs.Watching.{asks_few}
 use Rattle.mvd_client.proofs.peer_commands.sync_over.Goals as goal
 
 pub returns-in-Err-clause-meets : goal.returns-in-Err-clause-meets

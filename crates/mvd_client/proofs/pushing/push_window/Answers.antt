@@ -1,13 +1,8 @@
 use Rattle.std.proofs.Common.{◌≡◌, ◌∙◌, ◌++◌, map, ap, refl, sym, subst, inl, inr, false}
-use Rattle.sqlite.specs.Held.{state}
-use Rattle.mvd_keys.specs.State.{IsValid, State}
-use Rattle.mvd_keys.specs.Writes.{Key}
-use Rattle.mvd_peer.specs.PushedStates.{Each}
 use Rattle.mvd_peer.specs.Windows.{EachAnswer, EachTold, Pushes}
 use Rattle.mvd_peer.proofs.OneByOne.{at_err}
-use Rattle.mvd_replica.specs.Batch.{AnswersAll}
-use Rattle.mvd_replica.specs.Pushes.{push_of, told_of}
-use Rattle.mvd_replica.specs.Replicas.{site_of, store_of, stored_of}
+use Rattle.mvd_replica.specs.Pushes.{told_of}
+use Rattle.mvd_replica.specs.Replicas.{site_of, store_of}
 use Rattle.mvd_replica.specs.Sides.{ReplicaRefuses}
 use Rattle.mvd_replica.specs.declared.replica.Replica.{Replica}
 use Rattle.mvd_replica.proofs.Commits.{answers_all}

@@ -1,5 +1,4 @@
-use Rattle.std.proofs.Common.{◌≡◌, ◌∙◌, None, Option, Some, ap, length, option_copied, refl, subst, sym}
-use Rattle.std.specs.declared.net.ip_addr.IpAddr.{IpAddr}
+use Rattle.std.proofs.Common.{◌∙◌, ap, length, option_copied, refl, subst, sym}
 use Rattle.std.specs.declared.net.socket_addr.SocketAddr.{SocketAddr}
 use Rattle.mvd_client.specs.Between.{MeetsOnce}
 use Rattle.mvd_client.specs.Between.MeetsServer.{no_address, once}

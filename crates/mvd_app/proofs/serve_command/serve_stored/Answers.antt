@@ -1,0 +1,7 @@
+use Rattle.std.proofs.Common.{option_copied, refl}
+use Rattle.mvd_app.proofs.Unserved.{serves_nothing}
+use Rattle.mvd_app.proofs.serve_command.serve_stored.Goals as goal
+
+pub returns-in_default-addresses_of : goal.returns-in_default-addresses_of
+returns-in_default-addresses_of g c =
+    serves_nothing g.K.Sockets (option_copied c.args.terms.token) c.args.sockets.now c.args.replica.now c.from.result (rw c.from.ensures (λ other. absurd (other refl)))

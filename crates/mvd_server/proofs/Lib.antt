@@ -1,4 +1,5 @@
 pub mod Answering
+pub mod Asking
 pub mod Clients
 pub mod Closing
 pub mod Deeds

@@ -330,18 +330,6 @@ module _ {S : Type 0} {g : Ghosts S} {K : Type 0} (k : SocketGhosts K) where
   pub goes_in : (t mid t' : Talks) (s s' : K) (replica : Replica S g) → mid ≡ t → Carries k (wired_of mid s) (wired_of t' s') → GoesOn k (wired_of t s) replica (wired_of t' s') replica
   goes_in t mid t' s s' replica same p = goes_carries (wired_of t s) (wired_of t' s') replica (subst (λ (x : Talks). Carries k (wired_of x s) (wired_of t' s')) same p)
 
-  pub goes_with : (t a b t' : Talks) (s : K) (old new : Replica S g) → TalksDeeds t a → AnswersClients a old b new → TalksDeeds b t' → GoesOn k (wired_of t s) old (wired_of t' s) new
-  goes_with t a b t' s old new before p after =
-      goes_on (wired_of t s) (wired_of a s) (wired_of t' s) old old new (goes_deeds (talking_of t) (talking_of a) s old before)
-      (goes_on (wired_of a s) (wired_of b s) (wired_of t' s) old new new (goes_answers a b s old new p) (goes_deeds (talking_of b) (talking_of t') s new after))
-
-  -- and what waits is given out
-  pub goes_once : (t mid t' a b t'' last : Talks) (s s' s'' : K) (old new : Replica S g) → mid ≡ t → Carries k (wired_of mid s) (wired_of t' s') → TalksDeeds t' a → AnswersClients a old b new → TalksDeeds b t''
-      → Carries k (wired_of t'' s') (wired_of last s'') → GoesOn k (wired_of t s) old (wired_of last s'') new
-  goes_once t mid t' a b t'' last s s' s'' old new same p before q after r =
-      goes_on (wired_of t s) (wired_of t' s') (wired_of last s'') old old new (goes_in t mid t' s s' old same p)
-      (goes_on (wired_of t' s') (wired_of t'' s') (wired_of last s'') old new new (goes_with t' a b t'' s' old new before q after) (goes_carries (wired_of t'' s') (wired_of last s'') new r))
-
 module _ {S : Type 0} {g : Ghosts S} where
   pub answers_none : (t : Talks) (replica : Replica S g) → AnswersClients t replica t replica
   answers_none t replica = path_none ServingStep _

@@ -53,6 +53,8 @@ pub(crate) struct Client {
     ends: bool,
     /// It stands in the list of those for which there may be something to do.
     pub listed: bool,
+    /// What came last of it is one question.
+    pub asks: bool,
     /// When it ends if no byte moves, and the time that is set for it, which is no later.
     pub deadline: u64,
     pub alarm: u64,
@@ -69,6 +71,7 @@ impl Client {
             writable: true,
             ends: false,
             listed: false,
+            asks: false,
             deadline,
             alarm: deadline,
         }

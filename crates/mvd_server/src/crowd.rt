@@ -24,6 +24,7 @@ use sqlite::Alter;
 use std::alloc::{AllocError, Global};
 use std::collections::BTreeMap;
 use std::hash::RandomState;
+use std::mem;
 
 /// Beside those that are served, as many sockets may be open at once: of clients that are told that there is no place,
 /// and of those that take their last reply. Further ones wait in the listener's queue.
@@ -142,6 +143,19 @@ impl Crowd {
         }
     }
 
+    /// Lists those of some clients of which a question came last.
+    pub fn list_asking(&mut self, ready: &[u64], asking: &mut Vec<u64>)
+        ensures { self.new.talks ≡ self.old.talks }
+    {
+        for number in ready {
+            if let Some(client) = self.clients.get_mut(number)
+                && mem::replace(&mut client.asks, false)
+            {
+                let _ = asking.push(*number);
+            }
+        }
+    }
+
     /// Reads once of each that is listed.
     pub fn read_all<K: Sockets>(&mut self, sockets: &mut K, listed: &[u64])
         ensures { Carries K.Sockets (wired_of self.old.talks sockets.old) (wired_of self.new.talks sockets.new) }
@@ -190,6 +204,15 @@ impl Crowd {
         Ok(())
     }
 
+    /// Writes once to each that is listed.
+    pub fn send_all<K: Sockets>(&mut self, sockets: &mut K, listed: &[u64])
+        ensures { Carries K.Sockets (wired_of self.old.talks sockets.old) (wired_of self.new.talks sockets.new) }
+    {
+        for number in listed {
+            self.send_to(sockets, *number);
+        }
+    }
+
     /// Writes once, where something waits and may be taken. Tells how the connection ended, where nothing is left to
     /// do.
     fn write<K: Sockets>(&mut self, sockets: &mut K, number: u64) -> Result<(), AllocError>
@@ -202,6 +225,7 @@ impl Crowd {
         self.finish(number)
     }
 
+    /// Writes once, where something waits and may be taken.
     fn send_to<K: Sockets>(&mut self, sockets: &mut K, number: u64)
         ensures { Carries K.Sockets (wired_of self.old.talks sockets.old) (wired_of self.new.talks sockets.new) }
     {

@@ -4,6 +4,7 @@ ghost use Rattle.mvd_server.specs.Wires.{Carries, wired_of};
 use crate::client::{Client, Moved, Piece};
 use crate::sockets::Sockets;
 use crate::talks::Talks;
+use mvd_conn::{Front, front_of};
 
 /// Reads once of a client of which more is wanted.
 pub(crate) fn receive<K: Sockets>(
@@ -23,6 +24,7 @@ pub(crate) fn receive<K: Sockets>(
         Moved::Bytes(count) => {
             client.deadline = due;
             talks.feed(number, piece.first(count));
+            client.asks = asks(piece, count);
         }
         Moved::Nothing => {}
         Moved::End => talks.end_input(number),
@@ -64,5 +66,21 @@ pub(crate) fn send<K: Sockets>(talks: &mut Talks, sockets: &mut K, client: &mut 
         Moved::Nothing => {}
         Moved::End => talks.fail_output(number),
         Moved::Failed => talks.fail_output(number),
+    }
+}
+
+/// Whether the first bytes are one question, over HTTP or in a frame. The end of a longer frame may be taken for one:
+/// that only moves when its client is answered.
+fn asks(piece: &Piece, count: usize) -> bool {
+    let bytes = piece.first(count);
+    if bytes.starts_with(b"GET ") {
+        return true;
+    }
+    // A Put, a Delete or a Push asks for a change.
+    match front_of(bytes) {
+        Front::Whole(size) => {
+            size == bytes.len() && !matches!(bytes.get(4), Some(0x22 | 0x23 | 0x29))
+        }
+        Front::Part | Front::TooLong => false,
     }
 }

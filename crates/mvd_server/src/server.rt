@@ -1,4 +1,6 @@
 //! A server of many clients at once, from one thread.
+mod asking;
+
 ghost use Rattle.mvd_server.specs.Peerings.{WakesInTime};
 ghost use Rattle.std.specs.Prelude.{◌≡◌, ◌⊎◌, IfErr, IfOk, IsSome, OnOk, option_copied};
 ghost use Rattle.mvd_dots.specs.declared.refusals.Refusal.TheVariants.{Memory, ReadFailed, WriteFailed};
@@ -270,6 +272,7 @@ impl Server {
         self.wait(rt)?;
         self.take_in(sockets)?;
         self.peers.go_on(rt, self.poll.registry(), &mut self.crowd);
+        self.answer_asking(sockets, replica);
         self.answer(replica);
         self.crowd.wake(&mut self.ready);
         self.give_out(sockets, writer)?;

@@ -165,7 +165,7 @@ abbrev asked_at : Side → List Leg → ℕ
 asked_at side [] = 0
 asked_at side (leg ∷ legs) = questions_at side leg.step + asked_at side legs
 
-step_few : (side : Side) (old asking : Machining) (step : Step) → HasNext old asking (Some step) → questions_at side step ≤ wanted_count side asking.stage
+pub step_few : (side : Side) (old asking : Machining) (step : Step) → HasNext old asking (Some step) → questions_at side step ≤ wanted_count side asking.stage
 step_few AtLocal old asking step next = subst (λ w. questions_in w ≤ wanted_count AtLocal asking.stage) (sym next.asks.0.local) (cut_few AtLocal asking.left.local asking.stage)
 step_few AtPeer old asking step next = subst (λ w. questions_in w ≤ wanted_count AtPeer asking.stage) (sym next.asks.0.peer) (cut_few AtPeer asking.left.peer asking.stage)
 

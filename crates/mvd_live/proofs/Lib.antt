@@ -12,7 +12,6 @@ pub mod Given
 pub mod Causes
 pub mod Whole
 pub mod Quiet
-pub mod Mailed
 pub mod Parts
 pub mod FewNodes
 pub mod FewKeys
@@ -22,3 +21,8 @@ pub mod FewWhole
 pub mod Written
 pub mod Spent
 pub mod Runner
+pub mod Answered
+pub mod Mailed
+pub mod Sent
+pub mod Alone
+pub mod Replied

@@ -1,18 +1,29 @@
 -- A session by mail is a run of its machine.
-use Rattle.std.proofs.Common.{◌≡◌, ℕ, Bool, true, false, List, [], ◌∷◌, ◌++◌, refl, sym, ap, subst, ◌∙◌, Some, None, Option, append-nil, append_assoc}
+use Rattle.std.proofs.Common.{◌≡◌, ℕ, ◌+◌, ◌*◌, ◌/◌, ◌≤◌, Bool, true, false, List, [], ◌∷◌, ◌++◌, length, refl, sym, ap, subst, ◌∙◌, arith, Some, None, Option, append-nil, append_assoc}
 use Rattle.std.specs.Prelude.{Ok, Result}
+use Rattle.std.specs.FinMap.{len}
+use Rattle.mvd_keys.specs.Writes.{Key}
 use Rattle.mvd_site.specs.Held.{AreHeld, States}
 use Rattle.mvd_peer.specs.Sides.{Two}
-use Rattle.mvd_sync.specs.Machines.{HasNext, Machining}
+use Rattle.mvd_sync.specs.Machines.{HasNext, Machining, wanted_count}
+use Rattle.mvd_sync.specs.Steps.{asked}
+use Rattle.mvd_sync.specs.declared.report.Side.TheVariants.{Local as AtLocal, Peer as AtPeer}
 use Rattle.mvd_sync.specs.declared.report.SyncFault.{SyncFault}
 use Rattle.mvd_sync.specs.declared.telling.Told.{Told}
 use Rattle.mvd_meet.specs.Meetings.{HearsBoth, HearsIf, MeetingBegins}
 use Rattle.mvd_meet.specs.declared.caller.Caller.{Caller}
 use Rattle.mvd_meet.specs.declared.stepping.Meeting.{Meeting}
+use Rattle.mvd_live.specs.Few.{HasAllThatDiffered, MailsFew, asked_local, asked_peer, questions_in, sent_local, sent_peer}
 use Rattle.mvd_live.specs.Lives.{IsGiven, Lives}
 use Rattle.mvd_live.specs.Mail.{AreLive, Ends, Mail, Meets, Sits, Waiting, mail_locals, mail_peers, standing, waits_at}
 use Rattle.mvd_live.specs.Runs.{Begins, Goes, IsLater, Leg, Runs, Standing, all_locals, all_peers}
+use Rattle.mvd_live.proofs.Answered.{both_answered}
+use Rattle.mvd_live.proofs.FewWhole.{asks_few, step_few}
 use Rattle.mvd_live.proofs.Whole.{given, grows_self, lives}
+
+-- what is asked of what is wanted is no more
+fewer : (sent asked now wanted most : ℕ) → sent ≡ asked + now → now ≤ wanted → asked + wanted ≤ most → sent ≤ most
+fewer sent asked now wanted most is within few = omega (arith, is, within, few)
 
 -- as a run has it before it asks
 abbrev at_machine : Machining → Waiting → Standing
@@ -33,18 +44,18 @@ module _ (most : Two ℕ ℕ) where
 
   leg_goes : (machine : Machining) (old : Waiting) (mid : Meeting) (mail : Mail) (near far : Caller) (local peer : States) (h : HearsBoth old.meeting mail.near mail.far mid near far (Ok tt)) → HasNext machine old.meeting.machine (Some old.step) → AreLive most old mail local peer
       → Goes most (at_machine machine old) (leg_of old mid mail h.mine h.theirs local peer)
-  leg_goes machine old mid mail near far local peer h next live = record {
+  leg_goes machine old mid mail near far local peer h next live = let came = both_answered old.meeting.machine mid.machine h.mine h.theirs next.asks.1 h.takes in record {
     next = next;
-    local = live.near near h.mine h.local;
-    peer = live.far far h.theirs h.peer;
+    local = live.near near h.mine h.local came.0;
+    peer = live.far far h.theirs h.peer came.1;
     held = live.held;
     takes = h.takes;
   }
 
-  hears_both : (began : Bool) (old mid : Meeting) (near far near' far' : Caller) (result : Result (Unit {0}) SyncFault) → began ≡ true → HearsIf began old near far mid near' far' result → HearsBoth old near far mid near' far' result
+  pub hears_both : (began : Bool) (old mid : Meeting) (near far near' far' : Caller) (result : Result (Unit {0}) SyncFault) → began ≡ true → HearsIf began old near far mid near' far' result → HearsBoth old near far mid near' far' result
   hears_both began old mid near far near' far' result is h = subst (λ b. HearsIf b old near far mid near' far' result) is h
 
-  begins_of : (began : Bool) (old mid : Meeting) (near far near' far' : Caller) (result : Result (Unit {0}) SyncFault) → began ≡ false → HearsIf began old near far mid near' far' result → MeetingBegins old near far mid near' far' result
+  pub begins_of : (began : Bool) (old mid : Meeting) (near far near' far' : Caller) (result : Result (Unit {0}) SyncFault) → began ≡ false → HearsIf began old near far mid near' far' result → MeetingBegins old near far mid near' far' result
   begins_of began old mid near far near' far' result is h = subst (λ b. HearsIf b old near far mid near' far' result) is h
 
   -- the windows of the steps of a session by mail, with which any further ones are a run
@@ -55,6 +66,8 @@ module _ (most : Two ℕ ℕ) where
     pub on : (tail : List Leg) (final : Standing) → Runs most (at_machine end (waits_at old legs)) tail final → Runs most (at_machine machine old) (run ++ tail) final
     pub locals : (tail : List Leg) → all_locals (run ++ tail) ≡ mail_locals legs ++ all_locals tail
     pub peers : (tail : List Leg) → all_peers (run ++ tail) ≡ mail_peers legs ++ all_peers tail
+    pub sent : sent_local old legs ≡ asked_local run + questions_in (asked (waits_at old legs).step.local)
+    pub sent' : sent_peer old legs ≡ asked_peer run + questions_in (asked (waits_at old legs).step.peer)
 
   run_of : (machine : Machining) (old : Waiting) (legs : List (Mail × Waiting)) → HasNext machine old.meeting.machine (Some old.step) → Meets most old legs → IsRun machine old legs
   run_of machine old [] next meets = record {
@@ -64,6 +77,8 @@ module _ (most : Two ℕ ℕ) where
     on = λ tail final run. run;
     locals = λ tail. refl;
     peers = λ tail. refl;
+    sent = omega arith;
+    sent' = omega arith;
   }
   run_of machine old (leg ∷ legs) next meets =
       let g = meets.0 in
@@ -77,6 +92,8 @@ module _ (most : Two ℕ ℕ) where
         on = λ tail final run. (leg_goes machine old s.mid leg.0 s.near_mid s.far_mid leg.1.local leg.1.peer h next g.live, rest.on tail final run);
         locals = λ tail. ap (λ ms. leg.0.locals ++ ms) (rest.locals tail) ∙ sym (append_assoc leg.0.locals (mail_locals legs) (all_locals tail));
         peers = λ tail. ap (λ ms. leg.0.peers ++ ms) (rest.peers tail) ∙ sym (append_assoc leg.0.peers (mail_peers legs) (all_peers tail));
+        sent = let s = rest.sent in omega (arith, s);
+        sent' = let s = rest.sent' in omega (arith, s);
       }
 
   -- its sides stay in form
@@ -93,6 +110,23 @@ module _ (most : Two ℕ ℕ) where
 
     begins : Begins number questions (standing begun now)
     begins = record { starts = sits.starts; local = sits.held.0; peer = sits.held.1 }
+
+    -- FEW WERE ASKED by mail
+    pub mail_few : (differed : List Key) → HasAllThatDiffered (mail_locals legs) (mail_peers legs) differed → MailsFew now legs differed
+    mail_few differed all =
+        let r = run_of begun.machine now legs first_next meets in
+        let at = waits_at now legs in
+        let held = held_at now legs sits.held meets in
+        let later : IsLater (at_machine r.end at) (at_machine r.end at) = record { machine = refl; local = (held.0, grows_self at.local held.0); peer = (held.1, grows_self at.peer held.1) } in
+        let run = append-nil r.run in
+        let among = subst (λ ms. HasAllThatDiffered ms (all_peers (r.run ++ [])) differed) (sym (r.locals [] ∙ append-nil (mail_locals legs))) (subst (λ ms. HasAllThatDiffered (mail_locals legs) ms differed) (sym (r.peers [] ∙ append-nil (mail_peers legs))) all) in
+        let few = asks_few number questions most (standing begun now) (r.run ++ []) (at_machine r.end at) begins (r.on [] (at_machine r.end at) later) differed among at.meeting.machine (Some at.step) r.next in
+        record {
+          local = fewer (sent_local now legs) (asked_local (r.run ++ [])) (questions_in (asked at.step.local)) (wanted_count AtLocal at.meeting.machine.stage) (1 + 5 * length differed + len at.local / 1000) (r.sent ∙ ap (λ ls. asked_local ls + questions_in (asked at.step.local)) (sym run))
+              (step_few AtLocal r.end at.meeting.machine at.step r.next) few.local;
+          peer = fewer (sent_peer now legs) (asked_peer (r.run ++ [])) (questions_in (asked at.step.peer)) (wanted_count AtPeer at.meeting.machine.stage) (1 + 5 * length differed + len at.peer / 1000) (r.sent' ∙ ap (λ ls. asked_peer ls + questions_in (asked at.step.peer)) (sym run))
+              (step_few AtPeer r.end at.meeting.machine at.step r.next) few.peer;
+        }
 
     -- NOTHING IS MADE UP by mail
     pub mail_given : IsGiven (mail_locals legs) (mail_peers legs) (waits_at now legs).step

@@ -30,7 +30,7 @@ not_nothing s key x form some is =
     let nothing : is_empty empty_state.context ≡ true = ap (λ n. n == 0) (Rattle.std.specs.FinSet.len-empty Rattle.mvd_dots.specs.Dot.dot_cmp) in
     true≢false (sym nothing ∙ ap (λ (x : State). is_empty x.context) (sym is) ∙ seen)
 
-same_get : (s t : States) (key : Key) → AreHeld s → AreHeld t → state_at s key ≡ state_at t key → get s key ≡ get t key
+pub same_get : (s t : States) (key : Key) → AreHeld s → AreHeld t → state_at s key ≡ state_at t key → get s key ≡ get t key
 same_get s t key p q same = elim (none_or_some (get s key)) [
   | inl none ↦ elim (none_or_some (get t key)) [
     | inl none' ↦ none ∙ sym none'
@@ -56,7 +56,7 @@ record Between (first last held : States) : Type 0 where
   pub since : Grows first held
   pub until : Grows held last
 
-either : (held first : States) (later : List States) → Contains (first ∷ later) held → (first ≡ held) ⊎ Contains later held
+pub either : (held first : States) (later : List States) → Contains (first ∷ later) held → (first ≡ held) ⊎ Contains later held
 either held first later c = elim (Contains-append_cases (first ∷ []) later held c) [
   | inl one ↦ elim (Contains-push_cases [] first held one) [ inl none ↦ absurd (omega arith) | inr is ↦ inl is ]
   | inr rest ↦ inr rest

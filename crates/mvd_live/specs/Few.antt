@@ -1,12 +1,14 @@
 -- How many questions a session asks beside other writers: few, where few keys differ, as in a session of two sides that
 -- hold still (a walk down hash trees costs what differs: DeCandia et al., Dynamo, 2007, section 4.7).
-use Rattle.std.specs.Prelude.{◌+◌, ℕ, List, [], ◌∷◌, Contains, length}
+use Rattle.std.specs.Prelude.{◌+◌, ◌≤◌, ℕ, List, [], ◌∷◌, Contains, length}
 use Rattle.mvd_keys.specs.Writes.{Key}
 use Rattle.mvd_site.specs.Held.{States}
 use Rattle.mvd_sync.specs.Machines.{Machining, wanted_count}
 use Rattle.mvd_sync.specs.Session.{AreFew, HasAllThatDiffer}
 use Rattle.mvd_sync.specs.Steps.{Wanted, asked}
 use Rattle.mvd_sync.specs.declared.report.Side.TheVariants.{Local as AtLocal, Peer as AtPeer}
+use Rattle.mvd_meet.specs.Callers.{questions_at}
+use Rattle.mvd_live.specs.Mail.{Mail, Waiting, mail_at, waits_at}
 use Rattle.mvd_live.specs.Runs.{Leg, Standing}
 
 -- ---- the keys that count
@@ -35,3 +37,24 @@ asked_peer (leg ∷ legs) = questions_in (asked leg.step.peer) + asked_peer legs
 pub record AsksFew (legs : List Leg) (next : Machining) (now : Standing) (keys : List Key) : Type 0 where
   pub local : AreFew (asked_local legs + wanted_count AtLocal next.stage) now.local keys
   pub peer : AreFew (asked_peer legs + wanted_count AtPeer next.stage) now.peer keys
+
+-- ---- by mail
+
+-- those that the steps of a session asked, the step among them that waits for its answers
+abbrev pub sent_local : Waiting → List (Mail × Waiting) → ℕ
+sent_local now [] = questions_in (asked now.step.local)
+sent_local now (leg ∷ legs) = questions_in (asked now.step.local) + sent_local leg.1 legs
+
+abbrev pub sent_peer : Waiting → List (Mail × Waiting) → ℕ
+sent_peer now [] = questions_in (asked now.step.peer)
+sent_peer now (leg ∷ legs) = questions_in (asked now.step.peer) + sent_peer leg.1 legs
+
+-- FEW WERE ASKED BY MAIL
+pub record MailsFew (now : Waiting) (legs : List (Mail × Waiting)) (keys : List Key) : Type 0 where
+  pub local : AreFew (sent_local now legs) (waits_at now legs).local keys
+  pub peer : AreFew (sent_peer now legs) (waits_at now legs).peer keys
+
+-- what either caller has counted is no more than that, with what it had counted before
+pub record CountsSent (first : Mail) (now : Waiting) (legs : List (Mail × Waiting)) : Type 0 where
+  pub near : questions_at (mail_at first legs).near' ≤ questions_at first.near + sent_local now legs
+  pub far : questions_at (mail_at first legs).far' ≤ questions_at first.far + sent_peer now legs

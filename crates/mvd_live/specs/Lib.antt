@@ -3,3 +3,5 @@ pub mod Runs
 pub mod Lives
 pub mod Few
 pub mod Mail
+pub mod Alone
+pub mod Answers

@@ -1,12 +1,13 @@
 -- A session of two sides that are asked by mail, to which others write.
-use Rattle.std.specs.Prelude.{◌≡◌, ℕ, true, false, List, [], ◌∷◌, ◌++◌, Option}
+use Rattle.std.specs.Prelude.{◌≡◌, ℕ, true, false, List, [], ◌∷◌, ◌++◌, Option, Some, None}
 use Rattle.mvd_site.specs.Held.{AreHeld, States}
 use Rattle.mvd_peer.specs.Sides.{Two}
 use Rattle.mvd_sync.specs.Machines.{Starts}
 use Rattle.mvd_sync.specs.Steps.{Wanted, asked}
 use Rattle.mvd_sync.specs.declared.asked.Step.{Step}
 use Rattle.mvd_sync.specs.declared.telling.Told.{Told}
-use Rattle.mvd_meet.specs.Callers.{CallerTells}
+use Rattle.mvd_sync.specs.declared.telling.Told.TheVariants as told
+use Rattle.mvd_meet.specs.Callers.{CallerTells, questions_at}
 use Rattle.mvd_meet.specs.Meetings.{MeetingSteps}
 use Rattle.mvd_meet.specs.declared.caller.Caller.{Caller}
 use Rattle.mvd_meet.specs.declared.stepping.Course.TheVariants as course
@@ -14,10 +15,17 @@ use Rattle.mvd_meet.specs.declared.stepping.Meeting.{Meeting}
 use Rattle.mvd_live.specs.Runs.{Standing}
 use Rattle.mvd_live.specs.Told.{Tells}
 
--- WHAT CAME BY MAIL IS LIVE: whatever it tells of the window that was asked, a live side tells
+-- an answer to each question, or nothing where nothing was asked; but no refusal in place of them, by which a session
+-- ends
+abbrev pub IsAnswered : Option Told → Type 0
+IsAnswered None = Unit {0}
+IsAnswered (Some (told.Refused refusal)) = ⊥
+IsAnswered (Some other) = Unit {0}
+
+-- WHAT CAME BY MAIL IS LIVE: whatever it answers of the window that was asked, a live side tells
 abbrev pub IsLiveMail : ℕ → Wanted → Caller → States → List States → States → Type 0
 IsLiveMail most w caller old moments new =
-    (after : Caller) (told : Option Told) → CallerTells caller.asked caller after told
+    (after : Caller) (told : Option Told) → CallerTells caller.asked caller after told → IsAnswered told
     → Tells most w told old moments new
 
 -- a session that waits for the answers to what a step asked, and what its two sides hold
@@ -86,3 +94,14 @@ mail_peers (leg ∷ legs) = leg.0.peers ++ mail_peers legs
 -- as a run has it before its first window
 abbrev pub standing : Meeting → Waiting → Standing
 standing begun now = record { machine = begun.machine; local = now.local; peer = now.peer }
+
+-- the mail of the last of these steps
+abbrev pub mail_at : Mail → List (Mail × Waiting) → Mail
+mail_at first [] = first
+mail_at first (leg ∷ legs) = mail_at leg.0 legs
+
+-- what leaves and comes between two steps is no question: each side was asked as many as behind the step before
+abbrev pub KeepsCounts : Mail → List (Mail × Waiting) → Type 0
+KeepsCounts before [] = Unit {0}
+KeepsCounts before (leg ∷ legs) = (questions_at leg.0.near ≡ questions_at before.near')
+    × (questions_at leg.0.far ≡ questions_at before.far') × KeepsCounts leg.0 legs

@@ -6,23 +6,33 @@ ghost use Rattle.mvd_dots.specs.declared.refusals.Refusal.{Refusal};
 ghost use Rattle.mvd_keys.specs.State.{IsValid, State};
 ghost use Rattle.mvd_keys.specs.Writes.{Key};
 ghost use Rattle.mvd_wire.specs.declared.reply.Digests.{Digests};
+ghost use Rattle.mvd_wire.specs.declared.reply.Reply.{Reply};
 ghost use Rattle.mvd_site.specs.Answer.{digests};
+ghost use Rattle.mvd_site.specs.Config.{ConfigValue};
 ghost use Rattle.mvd_site.specs.Held.{AreHeld, States, state_at};
-ghost use Rattle.mvd_peer.specs.Live.{Rises};
+ghost use Rattle.mvd_peer.specs.Live.{Grows, Rises};
+ghost use Rattle.mvd_peer.specs.PushedStates.{Each};
 ghost use Rattle.mvd_peer.specs.Sides.{Two};
 ghost use Rattle.mvd_peer.specs.Windows.{CannotTake, EachAnswer, HasKeys, IsNode, TakesState, TellsMore};
 ghost use Rattle.mvd_sync.specs.Machines.{HasNext, Machining};
 ghost use Rattle.mvd_sync.specs.Session.{HasAllThatDiffer};
-ghost use Rattle.mvd_sync.specs.Steps.{Wanted, only_gets, only_nodes, only_pages};
+ghost use Rattle.mvd_sync.specs.Steps.{Wanted, asked, no_question, only_gets, only_nodes, only_pages};
 ghost use Rattle.mvd_sync.specs.Tellings.{Page};
 ghost use Rattle.mvd_sync.specs.Walking.{PageQuestion};
 ghost use Rattle.mvd_sync.specs.declared.asked.Step.{Step};
+ghost use Rattle.mvd_sync.specs.declared.asked.Window.{Window};
 ghost use Rattle.mvd_sync.specs.declared.telling.Told.{Told};
 ghost use Rattle.mvd_sync.specs.declared.telling.Told.TheVariants.{Nodes, Pages, States as Gets};
-ghost use Rattle.mvd_live.specs.Few.{AsksFew, HasAllThatDiffered, asked_local, asked_peer};
+ghost use Rattle.mvd_live.specs.Alone.{AreAlone, JoinsAlone};
+ghost use Rattle.mvd_live.specs.Answers.{AnswersAll, AnswersAmong, AreReplyFrames, HaveFrames, SiteTurn};
+ghost use Rattle.mvd_live.specs.Answers.{own_replies, own_requests};
+ghost use Rattle.mvd_live.specs.Few.{AsksFew, CountsSent, HasAllThatDiffered, MailsFew, asked_local, asked_peer};
 ghost use Rattle.mvd_live.specs.Lives.{IsGiven, Lives};
 ghost use Rattle.mvd_meet.specs.declared.stepping.Meeting.{Meeting};
-ghost use Rattle.mvd_live.specs.Mail.{Ends, Mail, Meets, Sits, Waiting, mail_locals, mail_peers, standing, waits_at};
+ghost use Rattle.mvd_live.specs.Mail.{Ends, IsLiveMail, KeepsCounts, Mail, Meets, Sits, Waiting};
+ghost use Rattle.mvd_live.specs.Mail.{mail_locals, mail_peers, standing, waits_at};
+ghost use Rattle.mvd_meet.specs.Callers.{asked_in_window, came_at, requests_of};
+ghost use Rattle.mvd_meet.specs.declared.caller.Caller.{Caller};
 ghost use Rattle.mvd_live.specs.Runs.{Begins, Goes, Leg, Runs, Standing, all_locals, all_peers};
 ghost use Rattle.mvd_live.specs.Told.{Tells, TellsEach, TellsPush, TellsQuietly};
 
@@ -34,7 +44,8 @@ pub fn a_session_lives()
         → Lives most (all_locals legs) (all_peers legs) old new done.work }
 {}
 
-/// So it is of the session that a server runs, whose two sides are asked by mail, where what comes is live.
+/// So it is of the session that a server runs, whose two sides are asked by mail, where what comes is live. And few
+/// questions are asked by its steps, which is as many as the two callers counted at the most.
 pub fn a_session_by_mail_lives()
     ensures lives { (number : Option ℕ) (questions : ℕ) (most : Two ℕ ℕ) (begun : Meeting) (first last : Mail)
         (now : Waiting) (new : Standing) (legs : List (Mail × Waiting)) → Sits number questions begun first now
@@ -44,6 +55,31 @@ pub fn a_session_by_mail_lives()
     ensures given { (number : Option ℕ) (questions : ℕ) (most : Two ℕ ℕ) (begun : Meeting) (first : Mail)
         (now : Waiting) (legs : List (Mail × Waiting)) → Sits number questions begun first now → Meets most now legs
         → IsGiven (mail_locals legs) (mail_peers legs) (waits_at now legs).step }
+    ensures few { (number : Option ℕ) (questions : ℕ) (most : Two ℕ ℕ) (begun : Meeting) (first : Mail) (now : Waiting)
+        (legs : List (Mail × Waiting)) (differed : List Key) → Sits number questions begun first now
+        → Meets most now legs → HasAllThatDiffered (mail_locals legs) (mail_peers legs) differed
+        → MailsFew now legs differed }
+    ensures counted { (number : Option ℕ) (questions : ℕ) (most : Two ℕ ℕ) (begun : Meeting) (first : Mail)
+        (now : Waiting) (legs : List (Mail × Waiting)) → Sits number questions begun first now → Meets most now legs
+        → KeepsCounts first legs → CountsSent first now legs }
+{}
+
+/// What comes by mail of a site that answers many is live: the site's replies to a window are those of a faithful side,
+/// each at a moment of its own, and others write from one to the next. So the premise of sessions by mail can be met,
+/// and of a server it says only that the bytes that came are the frames of its replies.
+pub fn mail_of_a_site_is_live()
+    ensures answered { (window : Window) (caller : Caller) (config : ConfigValue) (replies : List Reply) (rest : List ℕ)
+        (old new : States) (moments : List States) → caller.asked ≡ Some (asked_in_window window) → AreHeld old
+        → HaveFrames (requests_of window) → AreReplyFrames replies (came_at caller) rest
+        → Each (λ pair. IsValid pair.1) (asked (Some window)).pushes
+        → AnswersAmong config (requests_of window) replies old moments new
+        → IsLiveMail config.max_keys (asked (Some window)) caller old moments new }
+    ensures unasked { (most : ℕ) (caller : Caller) (old new : States) → caller.asked ≡ None → Grows old new
+        → IsLiveMail most no_question caller old [] new }
+    // Of one list of turns, which are all clients', this client's own are answered so.
+    ensures turns { (config : ConfigValue) (turns : List SiteTurn) (old new : States) → AreHeld old
+        → AnswersAll config old turns new → (moments : List States)
+        × AnswersAmong config (own_requests turns) (own_replies turns) old moments new }
 {}
 
 /// A session makes nothing up: each state that it pushes into a side is what the other told of that key, at a moment of
@@ -71,6 +107,19 @@ pub fn a_session_asks_few()
         (keys : List Key) → Begins number questions old → Runs most old legs new
         → HasAllThatDiffer old.local old.peer keys → HasAllThatDiffer old.local new.local keys
         → HasAllThatDiffer old.peer new.peer keys → HasAllThatDiffered (all_locals legs) (all_peers legs) keys }
+{}
+
+/// Where nobody else writes to its two sides, a session comes to what `sync_within` comes to: of each key that is not
+/// left for a cause both sides hold the join of what they held, of any other each holds what it held or the join, and
+/// few questions are asked for the keys that differed at first.
+pub fn a_session_alone_joins()
+    ensures joins { (number : Option ℕ) (questions : ℕ) (most : Two ℕ ℕ) (old new : Standing) (legs : List Leg)
+        (done : Machining) → Begins number questions old → Runs most old legs new → AreAlone old legs new
+        → HasNext new.machine done None → JoinsAlone most (all_locals legs) (all_peers legs) old new done.work }
+    ensures few { (number : Option ℕ) (questions : ℕ) (most : Two ℕ ℕ) (old new : Standing) (legs : List Leg)
+        (asking : Machining) (step : Option Step) (differing : List Key) → Begins number questions old
+        → Runs most old legs new → AreAlone old legs new → HasNext new.machine asking step
+        → HasAllThatDiffer old.local old.peer differing → AsksFew legs asking new differing }
 {}
 
 /// A runner asks both sides each window that `next` names, and hands `take` what they told, as `sync_within` does by

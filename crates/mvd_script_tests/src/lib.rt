@@ -10,6 +10,8 @@ mod list_scripts;
 #[cfg(test)]
 mod long;
 #[cfg(test)]
+mod open_sessions;
+#[cfg(test)]
 mod order_lines;
 #[cfg(test)]
 mod orders;

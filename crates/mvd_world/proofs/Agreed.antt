@@ -174,7 +174,7 @@ run_quiet setting before (s ∷ steps) [] after quiet runs = absurd runs
 pub state_is : (key : Key) (W : List Write) → state_at (states_of W) key ≡ state key W
 state_is key W = state_at-stands (states_of W) W key (states_of-stands W)
 
-more_includes : (key : Key) (V W : List Write) → IsMore V W → Includes (state key W) (state key V)
+pub more_includes : (key : Key) (V W : List Write) → IsMore V W → Includes (state key W) (state key V)
 more_includes key V W more = subst (λ l. Includes (state key l) (state key V)) (sym more.1) (grows key V more.0)
 
 pub includes_join : (x s t : State) → IsValid x → IsValid s → IsValid t → Includes x s → Includes x t → Includes x (join s t)

@@ -71,7 +71,7 @@ both_joined s t key V W is is' apart =
       includes_on s (join s t) (join t (join s t)) vs vj (IsValid-join t (join s t) vt vj) first last,
     )
 
-at_states : (key : Key) (X Y : List Write) → Includes (state key X) (state key Y) → Includes (state_at (states_of X) key) (state_at (states_of Y) key)
+pub at_states : (key : Key) (X Y : List Write) → Includes (state key X) (state key Y) → Includes (state_at (states_of X) key) (state_at (states_of Y) key)
 at_states key X Y h = subst (λ x. Includes x (state_at (states_of Y) key)) (sym (state_is key X)) (subst (Includes (state key X)) (sym (state_is key Y)) h)
 
 have_at : (key : Key) (A B A' B' : List Write) → Includes (state key A') (state key A) → Includes (state key A') (state key B) → Includes (state key B') (state key B) → Includes (state key B') (state key A) → HaveBoth (states_of A) (states_of B) (states_of A') (states_of B') key

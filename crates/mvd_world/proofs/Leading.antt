@@ -1,5 +1,5 @@
 -- What each step leads to.
-use Rattle.std.proofs.Common.{◌≡◌, ◌≢◌, inl, inr, ℕ, ◌≤◌, ◌+◌, ◌-◌, Bool, true, false, true≢false, zero, suc, List, [], ◌∷◌, ◌++◌, map, length, take, drop, Some, None, IsSomeAnd, is_some, refl, sym, ap, ap₂, ◌∙◌, subst, subst₂, ⊎_elim, arith, Result, Ok, Err}
+use Rattle.std.proofs.Common.{◌≡◌, ◌≢◌, ℕ, ◌≤◌, ◌+◌, ◌-◌, Bool, true, false, zero, suc, List, [], ◌∷◌, ◌++◌, map, length, take, drop, Some, is_some, refl, sym, ap, ap₂, ◌∙◌, subst, subst₂, ⊎_elim, arith, Result, Ok, Err}
 use Rattle.std.specs.Prelude.{slice_index_or, slice_set}
 use Rattle.std.specs.List.{slice_get}
 use Rattle.std.specs.FinMap.{empty}
@@ -9,7 +9,7 @@ use Rattle.std.proofs.lemmas.Option.{slice_get_read}
 use Rattle.std.proofs.lemmas.List.{length-set, length-map, map-append}
 use Rattle.mvd_dots.specs.declared.refusals.Refusal.TheVariants.{Broken, Memory}
 use Rattle.mvd_dots.specs.declared.refusals.Refusal.{Refusal}
-use Rattle.mvd_keys.specs.Writes.{AreOf, Key, Stands, Write, state, writes_of}
+use Rattle.mvd_keys.specs.Writes.{AreOf, Key, Write, state, writes_of}
 use Rattle.mvd_keys.proofs.Standing.{state-own}
 use Rattle.mvd_wire.specs.declared.request.Request.{Request}
 use Rattle.mvd_wire.specs.declared.request.Request.TheVariants.{Push}
@@ -17,10 +17,9 @@ use Rattle.mvd_wire.specs.declared.reply.Reply.{Reply}
 use Rattle.mvd_wire.specs.declared.reply.Reply.TheVariants.{Done, Refused}
 use Rattle.std.proofs.Common.{IfOk}
 use Rattle.mvd_rows.specs.Defs.{Definitions}
-use Rattle.mvd_site.specs.Answer.{answer}
 use Rattle.mvd_site.specs.Config.{ConfigValue}
 use Rattle.mvd_site.specs.FromStates.{AnswersFrom, unless_broken}
-use Rattle.mvd_site.specs.Held.{States, state_at}
+use Rattle.mvd_site.specs.Held.{state_at}
 use Rattle.mvd_site.specs.Known.{Adds, MayReply}
 use Rattle.mvd_site.specs.Sites.{AnswersOne, SiteStands, SiteValue}
 use Rattle.mvd_site.proofs.AnsweredAtOnce.{one_known}

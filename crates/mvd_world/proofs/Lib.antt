@@ -7,5 +7,9 @@ pub mod Taking
 pub mod Chained
 pub mod Known
 pub mod Happening
+pub mod Cutting
+pub mod OfSent
+pub mod Asking
+pub mod Opened
 pub mod Agreed
 pub mod Ended

@@ -10,7 +10,7 @@ use Rattle.mvd_world.specs.declared.worlds.World.{World}
 use Rattle.mvd_world.specs.Machine.{Knowledge, Setting, Takes, is_numbered, is_site, may_be}
 use Rattle.mvd_world.specs.Worlds.{IsWorld, KnownChangesNothing, Leads, StaysTheSame, Steps, message_of}
 
-may_be_same : (setting : Setting) (old : World) (before : Knowledge) (step : Step) → IsWorld setting old before →
+pub may_be_same : (setting : Setting) (old : World) (before : Knowledge) (step : Step) → IsWorld setting old before →
     may_be (is_numbered (length old.sites.items)) (length old.messages.items) step ≡ may_be (is_site setting) (length before.messages) step
 may_be_same setting old before step world = ap₂ (λ a b. may_be a b step) (λ i number. world.all number i) (ap length world.messages ∙ length-map before.messages message_of)
 

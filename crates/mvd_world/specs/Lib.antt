@@ -1,3 +1,4 @@
 pub mod Machine
 pub mod Worlds
 pub mod Agreeing
+pub mod OpenWorlds

@@ -1,9 +1,9 @@
 -- What a world stands for: sets of writes, by which its sites and messages are what the machine says.
 use Rattle.std.specs.Prelude.{◌≡◌, ◌⊎◌, ◌+◌, ◌-◌, ℕ, Bool, true, false, List, ◌++◌, map, length, Some, Result}
-use Rattle.std.specs.Prelude.{Option, None, Vec, if◌then◌else◌, slice_set, IfOk, ⊤}
+use Rattle.std.specs.Prelude.{Option, None, Vec, if◌then◌else◌, slice_set, IfOk, ⊤, option_map}
 use Rattle.std.specs.declared.alloc.Global.{Global}
 use Rattle.std.specs.List.{AllByRecursion, slice_get, Contains}
-use Rattle.mvd_keys.specs.State.{join}
+use Rattle.mvd_keys.specs.State.{State, join}
 use Rattle.mvd_keys.specs.Writes.{Key, SameWrites, Stands, Write, state}
 use Rattle.mvd_wire.specs.declared.request.Request.{Request}
 use Rattle.mvd_wire.specs.declared.reply.Reply.TheVariants.{Done, Refused}
@@ -165,3 +165,15 @@ AlikeWhereSame world end =
     (i j : ℕ) (a b : SiteValue) → slice_get world.sites.items i ≡ Some a → slice_get world.sites.items j ≡ Some b
     → a.broken ≡ false → b.broken ≡ false →
     a.config.defs ≡ b.config.defs → SameWrites (end.known (i + 1)) (end.known (j + 1)) → AreAlike a b
+
+-- ---- a state that was sent
+
+-- the state that is the message of this number, if there is one
+abbrev pub state_of_message : World → ℕ → Option State
+state_of_message world number = if is_numbered (length world.messages.items) number
+    then option_map (λ (message : Message). message.state) (slice_get world.messages.items (number - 1)) else None
+
+-- where it is some message it is received, whichever it is
+abbrev pub TakesSent : World → World → ℕ → Message → Outcome → Type 0
+TakesSent old new site message outcome = (index : ℕ) → slice_get old.messages.items index ≡ Some message
+    → Steps old new (Receive site (index + 1)) outcome

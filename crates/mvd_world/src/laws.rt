@@ -2,6 +2,7 @@
 ghost use Rattle.std.specs.Prelude.{◌≡◌, ℕ, List, Some, true};
 ghost use Rattle.mvd_keys.specs.Writes.{SameWrites};
 ghost use Rattle.mvd_wire.specs.declared.request.Request.{Request};
+ghost use Rattle.mvd_peer.specs.PushedStates.{Each};
 ghost use Rattle.mvd_site.specs.Answer.{answer, is_question, spelled, states_of};
 ghost use Rattle.mvd_site.specs.Config.{ConfigValue};
 ghost use Rattle.mvd_sync.specs.declared.report.Report.{Report};
@@ -13,6 +14,9 @@ ghost use Rattle.mvd_world.specs.declared.steps.Outcome.{Outcome};
 ghost use Rattle.mvd_world.specs.Machine.{WorldEvent, StepsHappen, HaveOwnDots, IsNoClash, IsConsistent, Knowledge, MayHappen};
 ghost use Rattle.mvd_world.specs.Machine.{MayStep, RunsSteps, Setting, Stepped, is_site, world_events, nothing_yet};
 ghost use Rattle.mvd_world.specs.Agreeing.{HasCome, RanToItsEnd, WithoutWrites};
+ghost use Rattle.mvd_world.specs.OpenWorlds.{AreCutInto, IsNoWriting, RunsActs, Scene};
+ghost use Rattle.mvd_world.specs.declared.acts.Act.{Act};
+ghost use Rattle.mvd_world.specs.declared.acts.Came.{Came};
 
 /// Whatever is lost, repeated or reordered, whatever contexts the authors hand in, and whatever keys a session joins.
 pub fn every_schedule()
@@ -50,6 +54,19 @@ pub fn the_same_writes_are_answered_alike()
         → IsConsistent world → setting.configs i ≡ Some a → setting.configs j ≡ Some b → a.defs ≡ b.defs
         → SameWrites (world.known i) (world.known j) → is_question request ≡ true
         → answer a (world.known i) request ≡ answer b (world.known j) request }
+{}
+
+/// Sessions that are cut into windows run into each other and among writers: whatever acts there are, they are steps. A
+/// step is itself, a session that begins is none, and each window is a list of questions, of states that are sent and
+/// of messages that come. So each law of schedules holds of them.
+pub fn sessions_in_windows_are_steps()
+    ensures cut { (setting : Setting) (before end : Scene) (acts : List Act) (cames : List Came)
+        → RunsActs setting before acts cames end → (steps : List Step) × (outcomes : List Outcome)
+        × AreCutInto acts cames steps outcomes × RunsSteps setting before.knowledge steps outcomes end.knowledge }
+    // Where no act writes, no step does.
+    ensures quiet { (setting : Setting) (before end : Scene) (acts : List Act) (cames : List Came)
+        → RunsActs setting before acts cames end → Each IsNoWriting acts
+        → WithoutWrites setting before.knowledge end.knowledge }
 {}
 
 /// Where what each site held after the last write has come to each other, by sessions that ran to their end, all sites

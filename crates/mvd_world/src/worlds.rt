@@ -4,11 +4,12 @@ ghost use Rattle.std.specs.Prelude.{option_copied, [], ◌∷◌, ◌++◌};
 ghost use Rattle.mvd_wire.specs.declared.reply.Reply.TheVariants.{Refused};
 ghost use Rattle.mvd_dots.specs.declared.refusals.Refusal.TheVariants.{Memory};
 ghost use Rattle.mvd_site.specs.Answer.{is_question};
-ghost use Rattle.mvd_world.specs.declared.steps.Step.TheVariants.{Receive, Send as Send_step};
+ghost use Rattle.mvd_world.specs.declared.steps.Step.TheVariants.{Receive, Send as Send_step, Session};
 ghost use Rattle.mvd_world.specs.declared.steps.Outcome.TheVariants.{NoSuch, Replied};
 ghost use Rattle.mvd_world.specs.Machine.{AnswersAtSite, IsOwn, MeetSites, Receives, Takes, is_numbered, is_write, may_be};
 ghost use Rattle.mvd_world.specs.Machine.{nothing_yet, setting_of};
 ghost use Rattle.mvd_world.specs.Worlds.{AreShort, IsWorld, KnownChangesNothing, Leads, StaysTheSame, Steps, site_at};
+ghost use Rattle.mvd_world.specs.Worlds.{TakesSent, state_of_message};
 
 use crate::sessions::sync_at;
 use crate::steps::{Outcome, Step};
@@ -184,6 +185,47 @@ impl World {
         }
     }
 
+    /// Whether there are two such sites.
+    pub(crate) fn may_meet(&self, local: u32, peer: u32) -> bool
+        ensures { result ≡ may_be (is_numbered (length self.now.sites.items)) (length self.now.messages.items)
+            (Session local peer) }
+    {
+        self.has(local) && self.has(peer) && local != peer
+    }
+
+    /// Whether there is a site of this number.
+    fn has(&self, site: u32) -> bool
+        ensures { result ≡ is_numbered (length self.now.sites.items) site }
+    {
+        is_numbered(self.sites.len(), u64::from(site))
+    }
+
+    /// A state that was sent comes to a site.
+    pub(crate) fn take(&mut self, site: u32, key: &Key, state: &KeyState) -> Outcome
+        // Whichever message it is.
+        ensures { TakesSent self.old self.new site (record { key = key.now; state = state.now }) result }
+    {
+        if !self.has(site) {
+            return Outcome::NoSuch;
+        }
+        let taker = &mut self.sites[site as usize - 1];
+        taker.stands();
+        match taker.push(key, state) {
+            Ok(()) => Outcome::Replied(Reply::Done),
+            Err(refusal) => Outcome::Replied(Reply::Refused(refusal)),
+        }
+    }
+
+    /// The state that is a message, if there is one of this number.
+    pub(crate) fn sent(&self, number: u64) -> Option<&KeyState>
+        ensures { option_copied result ≡ state_of_message self.now number }
+    {
+        if !is_numbered(self.messages.len(), number) {
+            return None;
+        }
+        Some(&self.messages[number as usize - 1].state)
+    }
+
     /// A session of two sites.
     fn meet(&mut self, local: u32, peer: u32) -> Result<Report, SyncFault>
         requires some_local { 1 ≤ local }
@@ -203,7 +245,7 @@ impl World {
     }
 }
 
-fn is_numbered(count: usize, number: u64) -> bool
+pub(crate) fn is_numbered(count: usize, number: u64) -> bool
     ensures { result ≡ is_numbered count number }
 {
     0 < number && number <= count as u64

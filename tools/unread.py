@@ -13,6 +13,7 @@ that is not as wanted:
 The files are made in TMPDIR (else /tmp).
 """
 import atexit
+import contextlib
 import fcntl
 import os
 import socket
@@ -169,7 +170,8 @@ def gone(folder):
     server = Server(folder, "gone.db")
     server.client().bye()
     server.process.stdout.close()
-    server.client().bye()
+    with contextlib.suppress(OSError, EOFError):  # it may have ended before it replies
+        server.client().bye()
     server.process.stdout = None
     _, status, errors = server.ends()
     wanted("a server ends once nobody can read", status == 1 and "35 WriteFailed" in errors, (status, errors))

@@ -151,8 +151,8 @@ does_frame n frame old host host' bytes count is hands whole =
 -- ---- many writes are told
 
 module _ (n : ℕ) (old : WebValue) (batch : Batch) (host : HostValue) (new : WebValue) (batch' : Batch) (host' : HostValue) where
-  pub tells_all : TakenFrom n host host' → RespondsTo old.asked old (plain_answer 200 content.Lines) (string_bytes batch'.lines) new → TellsBatch n old batch host new batch' host'
-  tells_all taken responds = (taken, (Ok true, responds))
+  pub tells_all : length batch'.refused.items ≤ batch'.told → TakenFrom n host host' → RespondsTo old.asked old (plain_answer 200 content.Lines) (string_bytes batch'.lines) new → TellsBatch n old batch host new batch' host'
+  tells_all all taken responds = (taken, (Ok true, (all, responds)))
 
   pub tells_none : TakenFrom n host host' → new ≡ old → TellsBatch n old batch host new batch' host'
   tells_none taken same = (taken, (Ok false, same))

@@ -1,5 +1,5 @@
 -- What a server does for a client over HTTP, between two rounds.
-use Rattle.std.specs.Prelude.{◌≡◌, ◌⊎◌, ℕ, Bool, true, false, IsTrue, List, Option, Some, None, Result, Ok, Err, string_bytes}
+use Rattle.std.specs.Prelude.{◌≡◌, ◌≤◌, ◌⊎◌, ℕ, Bool, true, false, IsTrue, List, length, Option, Some, None, Result, Ok, Err, string_bytes}
 use Rattle.std.specs.BTreeMap.{is_at}
 use Rattle.std.specs.Map.{lookup, remove_entry, set_value}
 use Rattle.std.specs.Ordering.{nat_cmp}
@@ -86,8 +86,8 @@ IsBatchFor (Some asked) batch =
 
 -- replies are taken, and once there is a line for each, these are told
 abbrev pub TellsLines : Result Bool Refusal → WebValue → Batch → WebValue → Type 0
-TellsLines (Ok true) old batch new =
-    RespondsTo old.asked old (plain_answer 200 content.Lines) (string_bytes batch.lines) new
+TellsLines (Ok true) old batch new = (length batch.refused.items ≤ batch.told)
+    × RespondsTo old.asked old (plain_answer 200 content.Lines) (string_bytes batch.lines) new
 TellsLines (Ok false) old batch new = new ≡ old
 TellsLines (Err refusal) old batch new = new ≡ stopped_by old refusal
 

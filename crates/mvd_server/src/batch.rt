@@ -1,5 +1,5 @@
 //! Many writes of one request: their frames, as the host takes them, and a line for each, as its replies come.
-ghost use Rattle.std.specs.Prelude.{◌≡◌, ◌++◌, IfErr, IfOk, OnOk, string_bytes};
+ghost use Rattle.std.specs.Prelude.{◌≡◌, ◌≤◌, ◌++◌, IfErr, IfOk, OnOk, length, string_bytes, true};
 ghost use Rattle.std.specs.List.{slice_get};
 ghost use Rattle.mvd_server.specs.Fronts.{TellsNext, end_refusal};
 ghost use Rattle.mvd_server.specs.Handed.{HandsBatch, TakenFrom};
@@ -58,7 +58,9 @@ impl Batch {
 
     /// Puts down the lines of the replies that the host has. Whether all lines are there.
     pub fn take(&mut self, alloc: Global, host: &mut Host, number: u64) -> Result<bool, Refusal>
-        ensures { TakenFrom number host.old host.new }
+        ensures taken { TakenFrom number host.old host.new }
+        // All lines are there only where each write has one.
+        ensures all { IfOk result (λ all. all ≡ true → length self.new.refused.items ≤ self.new.told) }
     {
         for _left in self.told..self.refused.len() {
             let Some(reply) = self.next_told(alloc, host, number) else {
@@ -68,7 +70,7 @@ impl Batch {
             push_line(&mut self.lines, &reply)?;
             self.told = self.told.saturating_add(1);
         }
-        Ok(true)
+        Ok(self.told >= self.refused.len())
     }
 
     /// The reply to the write whose line comes next, if it is there. What the host takes no more was not done, and is

@@ -1,5 +1,5 @@
 //! The replies that the host has for a client over HTTP.
-ghost use Rattle.std.specs.Prelude.{◌≤◌, length};
+ghost use Rattle.std.specs.Prelude.{◌≢◌, ◌≤◌, [], length};
 ghost use Rattle.mvd_server.specs.Fronts.{IsFrontReply, TakesFront};
 
 use mvd_conn::{Front, front_of};
@@ -28,8 +28,9 @@ pub(crate) fn next_reply(
 }
 
 /// The reply that the frame in front of these bytes is, and how many of them it has.
-#[tactic(auto, using(crate::proofs::Fronting::front_whole, crate::proofs::Fronting::front_part, crate::proofs::Fronting::front_too_long))]
+#[tactic(auto, using(crate::proofs::Fronting::front_none))]
 fn reply_in(alloc: Global, bytes: &[u8]) -> (Result<Reply, Refusal>, usize)
+    requires { bytes.now ≢ [] }
     ensures reply { IsFrontReply bytes.now result.0 result.1 }
     ensures within { result.1 ≤ length bytes.now }
 {

@@ -7,8 +7,8 @@ loop-left-init c = taken_none c.args.number c.args.host.now
 pub loop-left-preserved : goal.loop-left-preserved
 loop-left-preserved c = taken_more c.args.number c.args.host.now c.loop-left.host c.next_told.new.host c.loop-left.invariant (taken_next _ c.args.number c.next_told.result c.loop-left.host c.next_told.new.host c.next_told.ensures)
 
-pub returns-in_err-reply : goal.returns-in_err-reply
-returns-in_err-reply c = taken_more c.args.number c.args.host.now c.loop-left.host c.next_told.new.host c.loop-left.invariant (taken_next _ c.args.number c.next_told.result c.loop-left.host c.next_told.new.host c.next_told.ensures)
+pub returns-in_err-reply-clause-taken : goal.returns-in_err-reply-clause-taken
+returns-in_err-reply-clause-taken c = taken_more c.args.number c.args.host.now c.loop-left.host c.next_told.new.host c.loop-left.invariant (taken_next _ c.args.number c.next_told.result c.loop-left.host c.next_told.new.host c.next_told.ensures)
 
-pub returns-in_err-push_line : goal.returns-in_err-push_line
-returns-in_err-push_line c = taken_more c.args.number c.args.host.now c.loop-left.host c.next_told.new.host c.loop-left.invariant (taken_next _ c.args.number c.next_told.result c.loop-left.host c.next_told.new.host c.next_told.ensures)
+pub returns-in_err-push_line-clause-taken : goal.returns-in_err-push_line-clause-taken
+returns-in_err-push_line-clause-taken c = taken_more c.args.number c.args.host.now c.loop-left.host c.next_told.new.host c.loop-left.invariant (taken_next _ c.args.number c.next_told.result c.loop-left.host c.next_told.new.host c.next_told.ensures)

@@ -26,3 +26,4 @@ pub mod Mailed
 pub mod Sent
 pub mod Alone
 pub mod Replied
+pub mod Hosted

@@ -27,3 +27,4 @@ pub mod Sent
 pub mod Alone
 pub mod Replied
 pub mod Hosted
+pub mod HostMail

@@ -1,5 +1,6 @@
 //! What a session comes to beside other writers, each law as the contract of an empty function.
-ghost use Rattle.std.specs.Prelude.{◌≡◌, ◌+◌, ℕ, List, [], ◌∷◌, ◌++◌, Option, None, Some, Result, Ok, Err};
+ghost use Rattle.std.specs.Prelude.{◌≡◌, ◌+◌, ℕ, List, [], ◌∷◌, ◌++◌, flat_map, map, Option, None, Some, Result, Ok, Err};
+ghost use Rattle.std.specs.List.{concat};
 ghost use Rattle.std.specs.declared.alloc.Global.{Global};
 ghost use Rattle.std.specs.declared.vec.Vec.{Vec};
 ghost use Rattle.mvd_dots.specs.declared.refusals.Refusal.{Refusal};
@@ -12,7 +13,10 @@ ghost use Rattle.mvd_site.specs.Config.{ConfigValue};
 ghost use Rattle.mvd_site.specs.Held.{AreHeld, States, state_at};
 ghost use Rattle.mvd_replica.specs.Replicas.{StoredSite};
 ghost use Rattle.mvd_replica.specs.Turns.{Turn};
+ghost use Rattle.mvd_conn.specs.History.{History};
+ghost use Rattle.mvd_host.specs.Course.{own};
 ghost use Rattle.mvd_host.specs.Round.{Serves, turns_of};
+ghost use Rattle.mvd_host.specs.Runs.{TellsOwn};
 ghost use Rattle.mvd_peer.specs.Live.{Grows, Rises};
 ghost use Rattle.mvd_peer.specs.PushedStates.{Each};
 ghost use Rattle.mvd_peer.specs.Sides.{Two};
@@ -30,7 +34,7 @@ ghost use Rattle.mvd_live.specs.Alone.{AreAlone, JoinsAlone};
 ghost use Rattle.mvd_live.specs.Answers.{AnswersAll, AnswersAmong, AreReplyFrames, HaveFrames, SiteTurn};
 ghost use Rattle.mvd_live.specs.Answers.{own_replies, own_requests};
 ghost use Rattle.mvd_live.specs.Few.{AsksFew, CountsSent, HasAllThatDiffered, MailsFew, asked_local, asked_peer};
-ghost use Rattle.mvd_live.specs.Hosts.{site_turns};
+ghost use Rattle.mvd_live.specs.Hosts.{TellsWindows, site_turns};
 ghost use Rattle.mvd_live.specs.Lives.{IsGiven, Lives};
 ghost use Rattle.mvd_meet.specs.declared.stepping.Meeting.{Meeting};
 ghost use Rattle.mvd_live.specs.Mail.{Ends, IsLiveMail, KeepsCounts, Mail, Meets, Sits, Waiting};
@@ -93,6 +97,12 @@ pub fn a_host_answers_many()
     ensures turns { (n : ℕ) (turns : List (ℕ × Turn)) (old new : StoredSite) → AreHeld old.site.states
         → Serves (turns_of turns) old new
         → AnswersAll old.site.config old.site.states (site_turns n turns) new.site.states }
+    // The bytes that were queued for a client whose frames asked windows are the frames of such answers. Want of memory
+    // stands in place of a reply for which there was none.
+    ensures windows { (n : ℕ) (turns : List (ℕ × Turn)) (old new : StoredSite) (h : History) (windows : List Window)
+        → AreHeld old.site.states → Serves (turns_of turns) old new → TellsOwn (own n turns) h
+        → map (λ turn. turn.asked) (own n turns) ≡ map (λ request. Ok request) (flat_map requests_of windows)
+        → TellsWindows old.site.config windows (concat h.answers) old.site.states new.site.states }
 {}
 
 /// A session makes nothing up: each state that it pushes into a side is what the other told of that key, at a moment of

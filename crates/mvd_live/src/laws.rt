@@ -1,5 +1,6 @@
 //! What a session comes to beside other writers, each law as the contract of an empty function.
-ghost use Rattle.std.specs.Prelude.{◌≡◌, ◌+◌, ℕ, List, [], ◌∷◌, ◌++◌, Option, None, Some, Result, Ok, Err};
+ghost use Rattle.std.specs.Prelude.{◌≡◌, ◌+◌, ℕ, List, [], ◌∷◌, ◌++◌, flat_map, map, Option, None, Some, Result, Ok, Err};
+ghost use Rattle.std.specs.List.{concat};
 ghost use Rattle.std.specs.declared.alloc.Global.{Global};
 ghost use Rattle.std.specs.declared.vec.Vec.{Vec};
 ghost use Rattle.mvd_dots.specs.declared.refusals.Refusal.{Refusal};
@@ -10,6 +11,12 @@ ghost use Rattle.mvd_wire.specs.declared.reply.Reply.{Reply};
 ghost use Rattle.mvd_site.specs.Answer.{digests};
 ghost use Rattle.mvd_site.specs.Config.{ConfigValue};
 ghost use Rattle.mvd_site.specs.Held.{AreHeld, States, state_at};
+ghost use Rattle.mvd_replica.specs.Replicas.{StoredSite};
+ghost use Rattle.mvd_replica.specs.Turns.{Turn};
+ghost use Rattle.mvd_conn.specs.History.{History};
+ghost use Rattle.mvd_host.specs.Course.{own};
+ghost use Rattle.mvd_host.specs.Round.{Serves, turns_of};
+ghost use Rattle.mvd_host.specs.Runs.{TellsOwn};
 ghost use Rattle.mvd_peer.specs.Live.{Grows, Rises};
 ghost use Rattle.mvd_peer.specs.PushedStates.{Each};
 ghost use Rattle.mvd_peer.specs.Sides.{Two};
@@ -27,6 +34,7 @@ ghost use Rattle.mvd_live.specs.Alone.{AreAlone, JoinsAlone};
 ghost use Rattle.mvd_live.specs.Answers.{AnswersAll, AnswersAmong, AreReplyFrames, HaveFrames, SiteTurn};
 ghost use Rattle.mvd_live.specs.Answers.{own_replies, own_requests};
 ghost use Rattle.mvd_live.specs.Few.{AsksFew, CountsSent, HasAllThatDiffered, MailsFew, asked_local, asked_peer};
+ghost use Rattle.mvd_live.specs.Hosts.{TellsWindows, site_turns};
 ghost use Rattle.mvd_live.specs.Lives.{IsGiven, Lives};
 ghost use Rattle.mvd_meet.specs.declared.stepping.Meeting.{Meeting};
 ghost use Rattle.mvd_live.specs.Mail.{Ends, IsLiveMail, KeepsCounts, Mail, Meets, Sits, Waiting};
@@ -80,6 +88,21 @@ pub fn mail_of_a_site_is_live()
     ensures turns { (config : ConfigValue) (turns : List SiteTurn) (old new : States) → AreHeld old
         → AnswersAll config old turns new → (moments : List States)
         × AnswersAmong config (own_requests turns) (own_replies turns) old moments new }
+{}
+
+/// A host is a site that answers many: what it did turn by turn, with all its clients, are answers of its site one after
+/// the other, from turn to turn what the site holds only grows, and those of one client are answers among those of
+/// others (`mail_of_a_site_is_live`). So what a client of `serve_run` was told is live mail.
+pub fn a_host_answers_many()
+    ensures turns { (n : ℕ) (turns : List (ℕ × Turn)) (old new : StoredSite) → AreHeld old.site.states
+        → Serves (turns_of turns) old new
+        → AnswersAll old.site.config old.site.states (site_turns n turns) new.site.states }
+    // The bytes that were queued for a client whose frames asked windows are the frames of such answers. Want of memory
+    // stands in place of a reply for which there was none.
+    ensures windows { (n : ℕ) (turns : List (ℕ × Turn)) (old new : StoredSite) (h : History) (windows : List Window)
+        → AreHeld old.site.states → Serves (turns_of turns) old new → TellsOwn (own n turns) h
+        → map (λ turn. turn.asked) (own n turns) ≡ map (λ request. Ok request) (flat_map requests_of windows)
+        → TellsWindows old.site.config windows (concat h.answers) old.site.states new.site.states }
 {}
 
 /// A session makes nothing up: each state that it pushes into a side is what the other told of that key, at a moment of

@@ -1,14 +1,11 @@
 -- A site at hand, behind a true line.
-use Rattle.std.proofs.Common.{◌≡◌, ◌≢◌, ◌⊎◌, inl, inr, ℕ, ◌+◌, ◌<◌, ◌≤◌, ◌==◌, ◌&&◌, Bool, true, false, List, [], ◌∷◌, ◌++◌, length, take, Option, Some, None, refl, sym, ap, subst, ◌∙◌, leb-true, true≢false, arith}
+use Rattle.std.proofs.Common.{◌≡◌, inl, inr, ℕ, ◌+◌, ◌≤◌, true, false, List, [], ◌∷◌, ◌++◌, length, Option, Some, None, refl, sym, ap, subst, ◌∙◌, leb-true}
 use Rattle.std.proofs.Math.Seq.{take-append_seam}
 use Rattle.std.proofs.lemmas.List.{append-nil, append_assoc}
-use Rattle.std.specs.Prelude.{Result, Ok, Err, IfOk, IfSome, is_some, not, option_map, nat_le, if◌then◌else◌}
-use Rattle.mvd_dots.specs.Refusal.{number_of}
+use Rattle.std.specs.Prelude.{Result, Ok, Err, IfOk, IfSome, option_map, nat_le, if◌then◌else◌}
 use Rattle.mvd_dots.specs.declared.refusals.Refusal.{Refusal}
-use Rattle.mvd_dots.specs.declared.refusals.Refusal.TheVariants.{BadPath, Broken, DotClash, FrameTooLong, Full, Memory, StateTooLarge, BadBody}
-use Rattle.mvd_keys.specs.State.{IsValid, State, clashes, join}
-use Rattle.mvd_keys.specs.Writes.{Key, is_empty}
-use Rattle.mvd_tree.specs.Page.{is_more_after_page, bucket_page}
+use Rattle.mvd_dots.specs.declared.refusals.Refusal.TheVariants.{FrameTooLong, StateTooLarge, BadBody}
+use Rattle.mvd_keys.specs.State.{State}
 use Rattle.mvd_wire.specs.declared.request.Request.{Request}
 use Rattle.mvd_wire.specs.declared.request.Request.TheVariants.{Get, Put, Delete, Find, Row, Rows, Node, Bucket, Push, Range, Keys as KeysAsked, Conflicts, Hello, Bye}
 use Rattle.mvd_wire.specs.Codecs.{spell_state, state_limit}
@@ -24,12 +21,8 @@ use Rattle.mvd_frames.proofs.FrameLemmas.{frame_again}
 use Rattle.mvd_frames.proofs.ReplyLaws.{replies_again}
 use Rattle.mvd_wire.specs.declared.reply.Reply.{Reply}
 use Rattle.mvd_wire.specs.declared.reply.Reply.TheVariants.{Done, Keys, Refused}
-use Rattle.std.specs.FinMap.{get, len}
-use Rattle.mvd_site.specs.Answer.{digests, is_full, is_too_large, node_digests}
 use Rattle.mvd_site.specs.Config.{ConfigValue}
-use Rattle.mvd_site.specs.FromStates.{Answered, AnswersFrom, Broke, after_from, answer_from, change_from, with_change}
-use Rattle.mvd_site.specs.Held.{AreHeld, States, state_at}
-use Rattle.mvd_site.specs.Known.{IsValidRequest}
+use Rattle.mvd_site.specs.Held.{States}
 use Rattle.mvd_site.specs.Sites.{SiteValue}
 use Rattle.mvd_line_tests.specs.Serving.{TakesOneRequest, far_at}
 use Rattle.mvd_remote.specs.Lines.{AreRequestFrames, Far, IsNextReply, TakesAll, TakesFirst, TrueReplies, TrueReply}

@@ -6,7 +6,7 @@ use Rattle.mvd_dots.specs.declared.refusals.Refusal.{Refusal}
 use Rattle.mvd_dots.specs.declared.refusals.Refusal.TheVariants.{Memory}
 use Rattle.mvd_keys.specs.Writes.{Key}
 use Rattle.mvd_wire.specs.Frames.{FrameValue, frame_at, frame_limit, spell_frame}
-use Rattle.mvd_wire.specs.Replies.{CanBeSent, IsReply, is_short, reply_bytes, reply_kind, reply_of, reply_payload}
+use Rattle.mvd_wire.specs.Replies.{CanBeSent, IsReply, is_short, reply_bytes, refusal, reply_kind, reply_of, reply_payload}
 use Rattle.mvd_wire.specs.declared.reply.Reply.{Reply}
 use Rattle.mvd_wire.specs.declared.reply.Reply.TheVariants as reply
 use Rattle.mvd_wire.specs.declared.request.Request.{Request}
@@ -82,6 +82,7 @@ memory_instead config before q r held ok so long = absurd ok
 
 -- a short one has a spelling
 short_spelled : (config : ConfigValue) (before : States) (q : Request) (r : Reply) (held : States) → IsOfSession q → TrueReply config before q r held → is_short r ≡ true → IsReply r
+unfolding refusal
 short_spelled config before (Get key) (reply.Refused x) held ok so short = tt
 short_spelled config before (Get key) (reply.State s) held ok so short = absurd (true≢false (sym short))
 short_spelled config before (Get key) r held ok so short = absurd so
@@ -103,6 +104,7 @@ record IsGood (config : ConfigValue) (before : States) (q : Request) (r : Reply)
   pub fits : CanBeSent r
 
 queued_so : (config : ConfigValue) (before : States) (q : Request) (r queued : Reply) (held : States) → IsOfSession q → TrueReply config before q r held → CanBeSent r → IsQueued r queued → IsGood config before q queued held
+unfolding refusal
 queued_so config before q r queued held ok so fits (inl (same, long)) = subst (λ x. IsGood config before q x held) (sym same) (record {
   so = so;
   spelled = elim (is_short r) as (λ b. is_short r ≡ b → IsReply r) [

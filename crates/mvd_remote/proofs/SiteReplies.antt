@@ -14,7 +14,7 @@ use Rattle.mvd_wire.specs.declared.reply.Reply.{Reply}
 use Rattle.mvd_wire.specs.declared.reply.Reply.TheVariants.{Done, Keys, Refused}
 use Rattle.mvd_site.specs.Answer.{digests, is_full, is_too_large, node_digests}
 use Rattle.mvd_site.specs.Config.{ConfigValue}
-use Rattle.mvd_site.specs.FromStates.{Answered, AnswersFrom, Broke, after_from, answer_from, change_from, with_change}
+use Rattle.mvd_site.specs.FromStates.{Answered, AnswersFrom, after_from, answer_from, change_from, with_change}
 use Rattle.mvd_site.specs.Held.{AreHeld, States, state_at}
 use Rattle.mvd_site.specs.Known.{IsValidRequest}
 use Rattle.mvd_site.specs.Sites.{SiteValue}

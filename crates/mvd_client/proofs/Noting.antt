@@ -1,13 +1,13 @@
 -- What is noted of a request that was asked over a line.
 use Rattle.std.proofs.Common.{◌≡◌, ◌≢◌, ◌⊎◌, ◌∙◌, ◌+◌, ◌-◌, ◌^◌, ◌==◌, ◌&&◌, ◌||◌, Bool, Err, Ok, Result, ap, false, inl, inr, min, not, refl, subst, sym, true}
 use Rattle.std.specs.Prelude.{if◌then◌else◌, is_ok, ℕ}
-use Rattle.mvd_client.specs.AskedServer.{RepliesNoted, breaks_at, breaks_link, down_after, has_frame, lost_after, may_be_sent, may_change}
+use Rattle.mvd_client.specs.AskedServer.{RepliesNoted, breaks_at, down_after, has_frame, lost_after, may_be_sent, may_change}
 use Rattle.mvd_client.specs.declared.asked_server.AskedServer.{AskedServer}
 use Rattle.mvd_dots.specs.Refusal.{number_of}
 use Rattle.mvd_dots.specs.declared.refusals.Refusal.{Refusal}
 use Rattle.mvd_dots.specs.declared.refusals.Refusal.TheVariants.{Memory}
 use Rattle.mvd_peer.specs.Windows.{leaves_open}
-use Rattle.mvd_remote.specs.Lines.{AnswersTruly, IsTrueRemote, far_of, shown_reply}
+use Rattle.mvd_remote.specs.Lines.{AnswersTruly, far_of, shown_reply}
 use Rattle.mvd_remote.specs.Links.{Asks}
 use Rattle.mvd_remote.specs.Remotes.{AsksTruly, any_query, link_of}
 use Rattle.mvd_remote.specs.declared.line.Line.{Ghosts}

@@ -55,6 +55,6 @@ pub record RepliesNoted {L : Type 0} (line : Ghosts L) (old new : AskedServer L)
   pub down : new.is_down ≡ down_after old.is_down request replies.told
   pub lost : new.lost ≡ lost_after old.is_down old.lost request replies.told
 
--- as many writes are lost
+-- how many writes are lost
 abbrev pub lost_of : {L : Type 0} → AskedServer L → ℕ
 lost_of server = server.lost

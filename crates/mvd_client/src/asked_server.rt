@@ -19,7 +19,7 @@ pub struct AskedServer<L: Line> {
     pub remote: Remote<L>,
     /// The link has broken: what is asked from now on is not sent.
     pub is_down: bool,
-    /// So many writes may have been done, though no reply came.
+    /// How many writes may have been done, though no reply came.
     pub lost: u64,
 }
 

@@ -8,7 +8,6 @@ use Rattle.mvd_dots.specs.declared.refusals.Refusal.{Refusal}
 use Rattle.mvd_dots.specs.Refusal.{name_of}
 use Rattle.mvd_dots.specs.declared.refusals.Refusal.TheVariants.{BadContext, Memory}
 use Rattle.mvd_dots.specs.declared.refusals.Refusal.TheVariants as refusals
-use Rattle.mvd_print.specs.Text.{refused_text}
 use Rattle.mvd_input.specs.declared.command.Ask.{Ask}
 use Rattle.mvd_input.specs.declared.command.Ask.TheVariants as ask
 use Rattle.mvd_keys.specs.Key.{key_of_text}
@@ -19,7 +18,7 @@ use Rattle.mvd_wire.specs.declared.request.Request.{Request}
 use Rattle.mvd_wire.specs.declared.request.Request.TheVariants.{Get}
 use Rattle.mvd_shell.specs.Asked.{Exchange, IsRequestOf, IsWriteOfLine, Sees, delete_request, next_asked, put_request, question, shown_context}
 use Rattle.mvd_shell.specs.Talk.{is_taken, AnswersExchanges, AsksInTurn, AsksFirst, EndsWith, IsMadeOf, Prints_line, ShowsText, ShowsPage, Speaks, SpeaksPages, TellsPage, TellsAllPages, Turns, shell_text, text_onto}
-use Rattle.mvd_shell.specs.Told.{answer_text, unknown_text}
+use Rattle.mvd_shell.specs.Told.{answer_text}
 
 no_memory : {T : Type 0} (answer : Result T Refusal) → IsAnswer (Err Memory) answer
 no_memory answer = λ not. absurd (not refl)
@@ -67,16 +66,22 @@ name_short refusals.TooManyRequests = lit≤ tt
 name_short refusals.BadDefs = lit≤ tt
 name_short refusals.NotAdmitted = lit≤ tt
 
--- what is printed in place of the text
-shown_so : (is_known : Bool) (told : Result (List ℕ) Refusal) (refusal : Refusal) (text shown : List ℕ) → ShowsText told [] text (Err refusal) → shown ≡ shell_text is_known (Err refusal) → shown ≡ shell_text is_known told
-shown_so is_known (Ok x) refusal text shown never is = absurd never
-shown_so is_known (Err other) refusal text shown (same, more) is = is ∙ ap (λ r. shell_text is_known (Err r)) same
+-- what was told is shown: the text, or in its place what was refused
+pub shown_text : (is_known : Bool) (told : Result (List ℕ) Refusal) (said : Result (Unit {0}) Refusal) (done : Unit {0}) (text : List ℕ) → said ≡ Ok done → ShowsText told [] text said → text ≡ shell_text is_known told
+shown_text is_known told said done text is shows = by is_known told (subst (ShowsText told [] text) is shows)
+  where
+    by : (is_known : Bool) (told : Result (List ℕ) Refusal) → ShowsText told [] text (Ok done) → text ≡ shell_text is_known told
+    by true (Ok more) it = it
+    by false (Ok more) it = it
+    by true (Err refusal) never = absurd never
+    by false (Err refusal) never = absurd never
 
-pub shown_refused : (told : Result (List ℕ) Refusal) (refusal : Refusal) (text shown : List ℕ) → ShowsText told [] text (Err refusal) → shown ≡ refused_text refusal → shown ≡ shell_text true told
-shown_refused told refusal text shown it is = shown_so true told refusal text shown it is
-
-pub shown_unknown : (told : Result (List ℕ) Refusal) (refusal : Refusal) (text shown : List ℕ) → ShowsText told [] text (Err refusal) → shown ≡ unknown_text refusal → shown ≡ shell_text false told
-shown_unknown told refusal text shown it is = shown_so false told refusal text shown it is
+pub shown_refusal : (is_known : Bool) (told : Result (List ℕ) Refusal) (said : Result (Unit {0}) Refusal) (refusal : Refusal) (text shown : List ℕ) → said ≡ Err refusal → ShowsText told [] text said → shown ≡ shell_text is_known (Err refusal) → shown ≡ shell_text is_known told
+shown_refusal is_known told said refusal text shown is shows printed = printed ∙ by told (subst (ShowsText told [] text) is shows)
+  where
+    by : (told : Result (List ℕ) Refusal) → ShowsText told [] text (Err refusal) → shell_text is_known (Err refusal) ≡ shell_text is_known told
+    by (Ok more) never = absurd never
+    by (Err other) it = ap (λ r. shell_text is_known (Err r)) it.0
 
 -- ---- one page
 

@@ -1,5 +1,5 @@
 //! What is asked by one line, and what is printed of it.
-ghost use Rattle.std.specs.Prelude.{◌≡◌, ◌≤◌, ◌+◌, ◌++◌, ℕ, [], IfErr, List, OnErr, OnOk, Result, codes, false, length, string_bytes};
+ghost use Rattle.std.specs.Prelude.{◌≡◌, ◌≤◌, ◌+◌, ◌++◌, ℕ, [], Err, IfErr, List, OnErr, OnOk, Result, codes, false, length, string_bytes};
 ghost use Rattle.std.specs.Prelude.{string_capacity, string_len};
 ghost use Rattle.std.specs.Fmt.{decimal};
 ghost use Rattle.mvd_dots.specs.Refusal.{name_of, number_of};
@@ -52,6 +52,7 @@ pub fn answer<A: Endpoint, L: Losses<A>>(
 
 /// Where something was refused, only that is printed, in the room of another line: as a refusal, if it is known whether
 /// each write was done.
+#[tactic(auto, using(crate::proofs::Talking::shown_text, crate::proofs::Talking::shown_refusal))]
 fn end_line(is_known: bool, said: Result<(), Refusal>, line: &mut String, out: &mut String)
     requires empty { string_bytes line.old ≡ [] }
     requires room { string_len line.old + 64 ≤ string_capacity line.old }
@@ -61,13 +62,21 @@ fn end_line(is_known: bool, said: Result<(), Refusal>, line: &mut String, out: &
     match said {
         Ok(()) => {}
         Err(refusal) => {
-            if is_known {
-                put_refused(refusal, line);
-            } else {
-                put_unknown(refusal, line);
-            }
+            put_refusal(is_known, refusal, line);
             mem::swap(out, line);
         }
+    }
+}
+
+/// Prints what was refused, where there is room for a line.
+fn put_refusal(is_known: bool, refusal: Refusal, out: &mut String)
+    requires { string_len out.old + 64 ≤ string_capacity out.old }
+    ensures { string_bytes out.new ≡ string_bytes out.old ++ shell_text is_known (Err refusal) }
+{
+    if is_known {
+        put_refused(refusal, out);
+    } else {
+        put_unknown(refusal, out);
     }
 }
 

@@ -28,7 +28,7 @@ use Rattle.mvd_keys.specs.declared.places.Place.{Place}
 use Rattle.mvd_runs.specs.Files.{IsValidTurn}
 use Rattle.mvd_shell.proofs.Talking.{answered_both}
 use Rattle.mvd_shell.specs.Asked.{Exchange, IsMadeWrite, IsRequestOf, IsRequestOfLine, Sees, behind, delete_request, find_asked, find_behind, keys_request, next_asked, next_counts, next_places, next_rows, path_in, prefix_text, put_request, question, range_asked, row_request, rows_request, then_read, last_of}
-use Rattle.mvd_shell.specs.Shell.{At, IsUntold, Shells, TellAllLines, TellsLine, TellsLines, TellsTyped, at}
+use Rattle.mvd_shell.specs.Shell.{At, IsUntold, MayTellLine, Shells, TellAllLines, TellsLine, TellsLines, TellsTyped, at}
 use Rattle.mvd_shell.specs.Talk.{AnswersExchanges, TellsAllPages, TellsAsk, TellsRead}
 use Rattle.mvd_site.specs.Known.{IsValidRequest}
 use Rattle.mvd_wire.specs.Prefix.{prefix_of_text}
@@ -268,13 +268,21 @@ module _ {A : Type 0} (Answers : A → A → Request → Reply → Type 0) (lost
       asks_both Answers (TellsNoted number line text) (AllNoted (number + 1) lines texts) (AllNoted number (line ∷ lines) (text ∷ texts)) old between new
       (first_noted number line lines text texts fits) (line_asks number line old between text one) (lines_ask (number + 1) lines between new texts others)
 
+  abbrev MayNoted : ℕ → List ℕ → Noted A → Noted A → Type 0
+  MayNoted number line a b = MayTellLine (Noting Answers) (lost_noted lost) number line a b
+
+  may_ask : (number : ℕ) (line : List ℕ) (old new : A) → MayTellLine Answers lost number line old new → Asks Answers (MayNoted number line) old new
+  may_ask number line old new (inl same) = asks_none Answers (MayNoted number line) old new same (λ log alike. inl alike)
+  may_ask number line old new (inr (text, tells)) = asks_as Answers (TellsNoted number line text) (MayNoted number line) old new (λ a b it. inr (text, it)) (line_asks number line old new text tells)
+
   -- with what was to be read and was written before and after it
   abbrev UntoldNoted : Refusal → ℕ → List ℕ → At A → At A → Noted A → Noted A → Type 0
   UntoldNoted refusal number line old new a b = IsUntold (Noting Answers) (lost_noted lost) refusal number line (at a old.input old.out) (at b new.input new.out)
 
   untold_asks : (refusal : Refusal) (number : ℕ) (line : List ℕ) (old new : At A) → IsUntold Answers lost refusal number line old new →
       Asks Answers (UntoldNoted refusal number line old new) old.asked new.asked
-  untold_asks Memory number line old new (same, out) = asks_none Answers (UntoldNoted Memory number line old new) old.asked new.asked same (λ log alike. (alike, out))
+  untold_asks Memory number line old new (may, same) =
+      asks_as Answers (MayNoted number line) (UntoldNoted Memory number line old new) old.asked new.asked (λ a b it. (it, same)) (may_ask number line old.asked new.asked may)
   untold_asks ReadFailed number line old new (same, out) = asks_none Answers (UntoldNoted ReadFailed number line old new) old.asked new.asked same (λ log alike. (alike, out))
   untold_asks FrameTooLong number line old new (same, out, long) = asks_none Answers (UntoldNoted FrameTooLong number line old new) old.asked new.asked same (λ log alike. (alike, out, long))
   untold_asks WriteFailed number line old new (text, tells) =

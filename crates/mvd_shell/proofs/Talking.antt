@@ -1,13 +1,11 @@
 -- Pages, asked for and printed one after the other.
-use Rattle.std.proofs.Common.{◌≡◌, ◌∙◌, ℕ, List, [], ◌∷◌, ◌++◌, Option, Some, None, Result, Ok, Err, refl, sym, ap, subst, subst₂, append_assoc, inl, inr, codes, Bor, Bool, ◌==◌, ◌≤◌, false, length, lit≤, true, true≢false}
+use Rattle.std.proofs.Common.{◌≡◌, ◌∙◌, ℕ, List, [], ◌∷◌, ◌++◌, Option, Some, None, Result, Ok, Err, refl, sym, ap, subst, subst₂, append_assoc, inl, inr, codes, Bor, Bool, IfErr, OnOk, ◌==◌, false, true≢false}
 use Rattle.std.proofs.lemmas.List.{append-nil}
 use Rattle.mvd_dots.specs.Answer.{IsAnswer, IsReading}
 use Rattle.mvd_dots.specs.Context.{DotSet}
 use Rattle.mvd_dots.specs.Text.{IsTextOf}
 use Rattle.mvd_dots.specs.declared.refusals.Refusal.{Refusal}
-use Rattle.mvd_dots.specs.Refusal.{name_of}
 use Rattle.mvd_dots.specs.declared.refusals.Refusal.TheVariants.{BadContext, Memory}
-use Rattle.mvd_dots.specs.declared.refusals.Refusal.TheVariants as refusals
 use Rattle.mvd_input.specs.declared.command.Ask.{Ask}
 use Rattle.mvd_input.specs.declared.command.Ask.TheVariants as ask
 use Rattle.mvd_keys.specs.Key.{key_of_text}
@@ -17,7 +15,7 @@ use Rattle.mvd_wire.specs.declared.reply.Reply.{Reply}
 use Rattle.mvd_wire.specs.declared.request.Request.{Request}
 use Rattle.mvd_wire.specs.declared.request.Request.TheVariants.{Get}
 use Rattle.mvd_shell.specs.Asked.{Exchange, IsRequestOf, IsWriteOfLine, Sees, delete_request, next_asked, put_request, question, shown_context}
-use Rattle.mvd_shell.specs.Talk.{is_taken, AnswersExchanges, AsksInTurn, AsksFirst, EndsWith, IsMadeOf, Prints_line, ShowsText, ShowsPage, Speaks, SpeaksPages, TellsPage, TellsAllPages, Turns, shell_text, text_onto}
+use Rattle.mvd_shell.specs.Talk.{is_taken, AnswersExchanges, AsksInTurn, AsksFirst, EndsWith, IsMadeOf, MayHaveAsked, Prints_line, ShowsText, ShowsPage, Speaks, SpeaksPages, TellsPage, TellsAllPages, Turns, shell_text, text_onto}
 use Rattle.mvd_shell.specs.Told.{answer_text}
 
 no_memory : {T : Type 0} (answer : Result T Refusal) → IsAnswer (Err Memory) answer
@@ -31,57 +29,6 @@ extends_twice old printed mid new first then = record {
   more = printed ++ then.more;
   is = then.is ∙ ap (λ (t : List ℕ). t ++ then.more) first ∙ append_assoc old printed then.more;
 }
-
--- ---- a refusal
-
--- there is room for each name in the room of a line
-pub name_short : (refusal : Refusal) → length (name_of refusal) ≤ 15
-name_short refusals.BadKey = lit≤ tt
-name_short refusals.BadContext = lit≤ tt
-name_short refusals.BadDocument = lit≤ tt
-name_short refusals.NotObject = lit≤ tt
-name_short refusals.BadNumber = lit≤ tt
-name_short refusals.DocumentTooLong = lit≤ tt
-name_short refusals.NotCanonical = lit≤ tt
-name_short refusals.Exhausted = lit≤ tt
-name_short refusals.StateTooLarge = lit≤ tt
-name_short refusals.Full = lit≤ tt
-name_short refusals.DotClash = lit≤ tt
-name_short refusals.NoIndex = lit≤ tt
-name_short refusals.NoView = lit≤ tt
-name_short refusals.BadPath = lit≤ tt
-name_short refusals.BadTerm = lit≤ tt
-name_short refusals.SiteMismatch = lit≤ tt
-name_short refusals.Damaged = lit≤ tt
-name_short refusals.Memory = lit≤ tt
-name_short refusals.Store = lit≤ tt
-name_short refusals.Broken = lit≤ tt
-name_short refusals.Truncated = lit≤ tt
-name_short refusals.FrameTooLong = lit≤ tt
-name_short refusals.BadKind = lit≤ tt
-name_short refusals.BadBody = lit≤ tt
-name_short refusals.ReadFailed = lit≤ tt
-name_short refusals.WriteFailed = lit≤ tt
-name_short refusals.TooManyRequests = lit≤ tt
-name_short refusals.BadDefs = lit≤ tt
-name_short refusals.NotAdmitted = lit≤ tt
-
--- what was told is shown: the text, or in its place what was refused
-pub shown_text : (is_known : Bool) (told : Result (List ℕ) Refusal) (said : Result (Unit {0}) Refusal) (done : Unit {0}) (text : List ℕ) → said ≡ Ok done → ShowsText told [] text said → text ≡ shell_text is_known told
-shown_text is_known told said done text is shows = by is_known told (subst (ShowsText told [] text) is shows)
-  where
-    by : (is_known : Bool) (told : Result (List ℕ) Refusal) → ShowsText told [] text (Ok done) → text ≡ shell_text is_known told
-    by true (Ok more) it = it
-    by false (Ok more) it = it
-    by true (Err refusal) never = absurd never
-    by false (Err refusal) never = absurd never
-
-pub shown_refusal : (is_known : Bool) (told : Result (List ℕ) Refusal) (said : Result (Unit {0}) Refusal) (refusal : Refusal) (text shown : List ℕ) → said ≡ Err refusal → ShowsText told [] text said → shown ≡ shell_text is_known (Err refusal) → shown ≡ shell_text is_known told
-shown_refusal is_known told said refusal text shown is shows printed = printed ∙ by told (subst (ShowsText told [] text) is shows)
-  where
-    by : (told : Result (List ℕ) Refusal) → ShowsText told [] text (Err refusal) → shell_text is_known (Err refusal) ≡ shell_text is_known told
-    by (Ok more) never = absurd never
-    by (Err other) it = ap (λ r. shell_text is_known (Err r)) it.0
 
 -- ---- one page
 
@@ -276,9 +223,18 @@ module _ {A : Type 0} (Answers : A → A → Request → Reply → Type 0) where
   pub speaks_asks : (old new : A) (ask : Ask) (text text' : List ℕ) (result : Result (Unit {0}) Refusal) → Speaks Answers old new ask text text' result → AsksInTurn Answers old new
   speaks_asks old new ask text text' result speaks = record { exchanges = speaks.talks.exchanges; answered = speaks.talks.answered }
 
-  pub prints_so : (lost : A → ℕ) (old new : A) (ask : Ask) (text text' shown : List ℕ) (said : Result (Unit {0}) Refusal) (is_known : Bool) → text ≡ [] → is_known ≡ (lost old == lost new) → Speaks Answers old new ask text text' said
-      → ((told : Result (List ℕ) Refusal) → ShowsText told [] text' said → shown ≡ shell_text is_known told) → Prints_line Answers lost old new ask shown
-  prints_so lost old new ask text text' shown said is_known none known speaks shows = record {
+  pub none_left : (a : A) (ask : Ask) (result : Result (Unit {0}) Refusal) → IfErr result (λ _. MayHaveAsked Answers a a ask)
+  none_left a ask (Ok done) = tt
+  none_left a ask (Err refusal) = inl refl
+
+  pub speaks_left : (old new : A) (ask : Ask) (text text' : List ℕ) (said result : Result (Unit {0}) Refusal) → Speaks Answers old new ask text text' said → IfErr result (λ _. MayHaveAsked Answers old new ask)
+  speaks_left old new ask text text' said (Ok done) speaks = tt
+  speaks_left old new ask text text' said (Err refusal) speaks = inr (speaks.told, speaks.talks)
+
+  pub prints_so : (lost : A → ℕ) (old new : A) (ask : Ask) (text text' shown : List ℕ) (said result : Result (Unit {0}) Refusal) (is_known : Bool) → text ≡ [] → is_known ≡ (lost old == lost new) → Speaks Answers old new ask text text' said
+      → ((told : Result (List ℕ) Refusal) → ShowsText told [] text' said → OnOk result (shown ≡ shell_text is_known told)) → OnOk result (Prints_line Answers lost old new ask shown)
+  prints_so lost old new ask text text' shown said (Err refusal) is_known none known speaks shows = tt
+  prints_so lost old new ask text text' shown said (Ok done) is_known none known speaks shows = record {
     told = speaks.told;
     talks = speaks.talks;
     is = shows speaks.told (subst (λ (t : List ℕ). ShowsText speaks.told t text' said) none speaks.shows) ∙ ap (λ (b : Bool). shell_text b speaks.told) known;

@@ -1,20 +1,23 @@
 -- Lines that were typed, one after the other, and what was told of them.
-use Rattle.std.proofs.Common.{◌≡◌, ◌∙◌, ◌≤◌, ◌+◌, ◌-◌, ◌^◌, ◌⊎◌, ℕ, true, false, List, [], ◌∷◌, ◌++◌, IfSome, Option, Some, None, Ok, Err, inl, inr, length, refl, sym, ap, subst, arith, append_assoc}
+use Rattle.std.proofs.Common.{◌≡◌, ◌∙◌, ◌==◌, ◌≤◌, ◌+◌, ◌-◌, ◌^◌, ◌⊎◌, ℕ, true, false, List, [], ◌∷◌, ◌++◌, IfErr, IfSome, Option, Some, None, Result, Ok, Err, inl, inr, length, refl, sym, ap, subst, arith, append_assoc}
 use Rattle.std.specs.Io.KnownBytes.{Appends, Consumes}
 use Rattle.std.specs.List.{concat}
+use Rattle.std.specs.Str.{IsUtf8}
 use Rattle.std.proofs.lemmas.List.{append-nil, length-append}
 use Rattle.std.proofs.lemmas.List.Folds.{concat-append}
 use Rattle.mvd_dots.specs.declared.refusals.Refusal.{Refusal}
 use Rattle.mvd_dots.specs.declared.refusals.Refusal.TheVariants.{FrameTooLong}
+use Rattle.mvd_input.specs.declared.command.Ask.{Ask}
 use Rattle.mvd_input.specs.declared.command.Typed.TheVariants.{Ask as Asked, Help}
 use Rattle.mvd_input.specs.declared.fault.Fault.{Fault}
 use Rattle.mvd_input.specs.declared.fault.Fault.TheVariants.{Line, Stopped}
 use Rattle.mvd_input.specs.Hexadecimal.{lines_of}
+use Rattle.mvd_input.specs.Lines.{IsTyped, said}
 use Rattle.mvd_wire.specs.declared.reply.Reply.{Reply}
 use Rattle.mvd_wire.specs.declared.request.Request.{Request}
 use Rattle.mvd_shell.specs.ReadLine.{ReadsOneLine}
-use Rattle.mvd_shell.specs.Shell.{At, IsUntold, Shells, ShellTakesLine, TellAllLines, TellsLine, ToldLines, at}
-use Rattle.mvd_shell.specs.Talk.{AsksInTurn}
+use Rattle.mvd_shell.specs.Shell.{At, IsUntold, MayTellLine, Shells, ShellTakesLine, TellAllLines, TellsLine, ToldLines, at}
+use Rattle.mvd_shell.specs.Talk.{AsksInTurn, MayHaveAsked, shell_text}
 use Rattle.mvd_shell.proofs.Pieces.{appends_none, appends_on, consumes_none, consumes_on, lines_fed, lines_one}
 use Rattle.mvd_shell.proofs.Talking.{answered_both, asks_none as nothing_asked}
 
@@ -29,11 +32,23 @@ module _ {A : Type 0} (Answers : A → A → Request → Reply → Type 0) (lost
 
   pub unread : (number : ℕ) (a : A) (input input' out : Option (List ℕ)) (line : List ℕ) (fault : Fault) → ReadsOneLine input input' line (Err fault) → ShellTakesLine Answers lost number (at a input out) (at a input' out) (Err fault)
   unread number a input input' out line fault (read, came, inl is) =
-      subst (λ (f : Fault). ShellTakesLine Answers lost number (at a input out) (at a input' out) (Err f)) (sym is) (read, came, (refl, refl))
+      subst (λ (f : Fault). ShellTakesLine Answers lost number (at a input out) (at a input' out) (Err f)) (sym is) (read, came, (inl refl, refl))
   unread number a input input' out line fault (read, came, inr (inl is)) =
       subst (λ (f : Fault). ShellTakesLine Answers lost number (at a input out) (at a input' out) (Err f)) (sym is) (read, came, (refl, refl))
   unread number a input input' out line fault (read, came, inr (inr (is, long))) =
       subst (λ (f : Fault). ShellTakesLine Answers lost number (at a input out) (at a input' out) (Err f)) (sym is) (read, came, (refl, refl, inl long))
+
+  -- whatever was answered of a line
+  pub none_told : (number : ℕ) (line : List ℕ) (a : A) (result : Result (Unit {0}) Fault) → IfErr result (λ _. MayTellLine Answers lost number line a a)
+  none_told number line a (Ok done) = tt
+  none_told number line a (Err fault) = inl refl
+
+  pub asked_told : (number : ℕ) (line said_of : List ℕ) (ask : Ask) (old new : A) (result : Result (Unit {0}) Fault) → IsUtf8 line → said_of ≡ said line → IsTyped (Asked ask) said_of → MayHaveAsked Answers old new ask
+      → IfErr result (λ _. MayTellLine Answers lost number line old new)
+  asked_told number line said_of ask old new (Ok done) utf8 same is may = tt
+  asked_told number line said_of ask old new (Err fault) utf8 same is (inl none) = inl none
+  asked_told number line said_of ask old new (Err fault) utf8 same is (inr (told, talks)) =
+      inr (shell_text (lost old == lost new) told, inl (utf8, inr (Asked ask, subst (IsTyped (Asked ask)) same is, record { told = told; talks = talks; is = refl })))
 
   -- ---- lines
 

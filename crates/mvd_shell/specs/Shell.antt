@@ -75,11 +75,17 @@ pub record ToldLines {A : Type 0} (Answers : A → A → Request → Reply → T
 
 -- ---- the end
 
--- Why the line of a number was not told. Memory was refused, the reader failed, the line is too long, or there are more
--- lines than can be counted, and nothing was asked of it; or the writer failed, once it was answered.
+-- nothing was done of a line, or it was answered
+abbrev pub MayTellLine : {A : Type 0} → (A → A → Request → Reply → Type 0) → (A → ℕ) → ℕ → List ℕ → A → A → Type 0
+MayTellLine Answers lost number line old new =
+    (new ≡ old) ⊎ ((text : List ℕ) × TellsLine Answers lost number line old new text)
+
+-- Why the line of a number was not told. Memory was refused, before it was answered or then; the reader failed; the
+-- line is too long, or there are more lines than can be counted; or the writer failed, once it was answered.
 abbrev pub IsUntold : {A : Type 0} → (A → A → Request → Reply → Type 0) → (A → ℕ) → Refusal → ℕ → List ℕ → At A → At A
     → Type 0
-IsUntold Answers lost Memory number line old new = (new.asked ≡ old.asked) × (new.out ≡ old.out)
+IsUntold Answers lost Memory number line old new =
+    MayTellLine Answers lost number line old.asked new.asked × (new.out ≡ old.out)
 IsUntold Answers lost ReadFailed number line old new = (new.asked ≡ old.asked) × (new.out ≡ old.out)
 IsUntold Answers lost FrameTooLong number line old new =
     (new.asked ≡ old.asked) × (new.out ≡ old.out) × ((16777216 < length line) ⊎ (number ≡ 2 ^ 64 - 1))

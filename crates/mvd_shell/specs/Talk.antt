@@ -129,6 +129,11 @@ pub record TalksPages {A : Type 0} (Answers : A → A → Request → Reply → 
   pub answered : AnswersExchanges Answers exchanges asked asked'
   pub tells : TellsAllPages ask request exchanges told
 
+-- nothing was asked; or all that a line asks, until something was refused
+abbrev pub MayHaveAsked : {A : Type 0} → (A → A → Request → Reply → Type 0) → A → A → Ask → Type 0
+MayHaveAsked Answers asked asked' ask =
+    (asked' ≡ asked) ⊎ ((told : Result (List ℕ) Refusal) × Talks Answers asked asked' ask told)
+
 -- what was told, and shown of it
 pub record Speaks {A : Type 0} (Answers : A → A → Request → Reply → Type 0) (asked asked' : A) (ask : Ask)
     (old new : List ℕ) (result : Result (Unit {0}) Refusal) : Type 0 where

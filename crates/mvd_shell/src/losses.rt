@@ -3,7 +3,7 @@ ghost use Rattle.std.specs.Prelude.{◌≡◌, ℕ};
 
 /// How many of the writes that were asked of something are lost: they may have been done, but no reply to them came.
 pub trait Losses<A> {
-    /// How many are.
+    /// So many are.
     ghost lost: { A → ℕ };
 
     fn lost(asked: &A) -> u64

@@ -1,10 +1,10 @@
 //! Lines that are typed, each answered at once.
-ghost use Rattle.std.specs.Prelude.{◌≡◌, ◌++◌, IfErr, OnErr, OnOk, string_bytes};
+ghost use Rattle.std.specs.Prelude.{◌≡◌, ◌++◌, IfErr, OnOk, string_bytes};
 ghost use Rattle.std.specs.Io.KnownBytes.{Appends};
 ghost use Rattle.mvd_dots.specs.declared.refusals.Refusal.TheVariants.{Memory, WriteFailed};
 ghost use Rattle.mvd_input.specs.declared.fault.Fault.TheVariants.{Stopped};
 ghost use Rattle.mvd_input.specs.Ends.{EndsEarly};
-ghost use Rattle.mvd_shell.specs.Shell.{Shells, ShellTakesLine, TellsLine, at, no_command_text};
+ghost use Rattle.mvd_shell.specs.Shell.{MayTellLine, Shells, ShellTakesLine, TellsLine, at, no_command_text};
 ghost use Rattle.mvd_shell.specs.Talk.{AsksInTurn};
 
 use crate::line_reader::read_line;
@@ -37,9 +37,9 @@ CTX is - where nothing was read, @ for all that `get K` shows now, or a context.
 /// Answers each line of the reader at once, in the words of a script, until the input ends. Empty lines, and those
 /// that begin with `#`, are skipped and counted; a line that is no command is told with its number, counted from 1,
 /// and the next one is read. A write of which it is not known whether it was done is told as `unknown`, and not as
-/// `refused`. It ends as `Stopped` where a line has over 16,777,216 bytes, the reader or the writer fails, or memory is
-/// refused for what is read or printed, and then nothing was asked of the line in hand; and where there are more lines
-/// than can be counted. What was told before stays.
+/// `refused`. / It ends as `Stopped` where a line has over 16,777,216 bytes, the reader or the writer fails, or memory
+/// is refused for what is read or printed; and where there are more lines than can be counted. What was told before
+/// stays.
 pub fn shell_run<A: Endpoint, L: Losses<A>, R: BufRead, W: Write>(
     alloc: Global,
     asked: &mut A,
@@ -92,7 +92,7 @@ fn take_line<A: Endpoint, L: Losses<A>, R: BufRead, W: Write>(
 }
 
 /// Answers the line of this number, and puts what is printed of it in place of what `out` held.
-#[tactic(auto, using(crate::proofs::Typing::asks_none))]
+#[tactic(auto, using(crate::proofs::Typing::asks_none, crate::proofs::Typing::none_told))]
 fn take<A: Endpoint, L: Losses<A>>(
     alloc: Global,
     asked: &mut A,
@@ -102,7 +102,7 @@ fn take<A: Endpoint, L: Losses<A>>(
 ) -> Result<(), Fault>
     ensures told { OnOk result (TellsLine A.answers L.lost number line.now asked.old asked.new (string_bytes out.new)) }
     ensures memory { IfErr result (λ fault. fault ≡ Stopped Memory) }
-    ensures unasked { OnErr result (asked.new ≡ asked.old) }
+    ensures left { IfErr result (λ _. MayTellLine A.answers L.lost number line.now asked.old asked.new) }
     ensures asked { AsksInTurn A.answers asked.old asked.new }
 {
     out.clear();

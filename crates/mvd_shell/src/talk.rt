@@ -1,10 +1,8 @@
 //! What is asked by one line, and what is printed of it.
-ghost use Rattle.std.specs.Prelude.{◌≡◌, ◌≤◌, ◌+◌, ◌++◌, ℕ, [], Err, IfErr, List, OnErr, OnOk, Result, codes, false, length, string_bytes};
+ghost use Rattle.std.specs.Prelude.{◌≡◌, ◌≤◌, ◌+◌, ◌++◌, ℕ, [], IfErr, List, OnOk, Result, false, length, string_bytes};
 ghost use Rattle.std.specs.Prelude.{string_capacity, string_len};
-ghost use Rattle.std.specs.Fmt.{decimal};
-ghost use Rattle.mvd_dots.specs.Refusal.{name_of, number_of};
-ghost use Rattle.mvd_print.specs.Text.{refused_text, written_text};
-ghost use Rattle.mvd_shell.specs.Talk.{AsksInTurn, Prints_line, ShowsText, Speaks, SpeaksPages, TellsPage};
+ghost use Rattle.mvd_print.specs.Text.{written_text};
+ghost use Rattle.mvd_shell.specs.Talk.{AsksInTurn, MayHaveAsked, Prints_line, ShowsText, Speaks, SpeaksPages, TellsPage};
 ghost use Rattle.mvd_shell.specs.Talk.{Turns, is_taken, shell_text, told_text};
 ghost use Rattle.mvd_shell.specs.Told.{tells_terms, unknown_text};
 
@@ -18,15 +16,14 @@ use mvd_peer::Endpoint;
 use mvd_print::{print_refusal, print_reply};
 use mvd_wire::{Reply, Request};
 use std::alloc::Global;
-use std::mem;
+use std::fmt::Write as Print;
 
 /// As long as the longest line that tells of a write, a message, a session or a refusal.
 pub const LINE: usize = 64;
 
 /// Asks, and puts what is printed of it in place of what `out` held: what is answered, of a list page after page, or
-/// only how it is refused. A write that is lost is told as unknown, with what its reply was lost to. There is room to
-/// tell a refusal before anything is asked.
-#[tactic(auto, using(crate::proofs::Talking::prints_so, crate::proofs::Talking::asks_none, crate::proofs::Talking::speaks_asks))]
+/// only how it is refused. A write that is lost is told as unknown, with what its reply was lost to.
+#[tactic(auto, using(crate::proofs::Talking::prints_so, crate::proofs::Talking::asks_none, crate::proofs::Talking::speaks_asks, crate::proofs::Talking::none_left, crate::proofs::Talking::speaks_left))]
 pub fn answer<A: Endpoint, L: Losses<A>>(
     alloc: Global,
     asked: &mut A,
@@ -35,87 +32,50 @@ pub fn answer<A: Endpoint, L: Losses<A>>(
 ) -> Result<(), Refusal>
     ensures told { OnOk result (Prints_line A.answers L.lost asked.old asked.new ask.entry (string_bytes out.new)) }
     ensures memory { IfErr result (λ refusal. refusal ≡ Refusal.Memory) }
-    // Where it cannot be told, nothing was asked.
-    ensures unasked { OnErr result (asked.new ≡ asked.old) }
-    // What was asked was answered.
+    // Whatever was refused, what was asked was answered.
     ensures asked { AsksInTurn A.answers asked.old asked.new }
+    ensures left { IfErr result (λ _. MayHaveAsked A.answers asked.old asked.new ask.entry) }
 {
     begin_line(out)?;
-    let mut line = String::new(alloc);
-    begin_line(&mut line)?;
     let before = L::lost(asked);
     let said = say(alloc, asked, ask, out);
     let is_known = before == L::lost(asked);
-    end_line(is_known, said, &mut line, out);
-    Ok(())
+    end_line(is_known, said, out)
 }
 
-/// Where something was refused, only that is printed, in the room of another line: as a refusal, if it is known whether
-/// each write was done.
-#[tactic(auto, using(crate::proofs::Talking::shown_text, crate::proofs::Talking::shown_refusal))]
-fn end_line(is_known: bool, said: Result<(), Refusal>, line: &mut String, out: &mut String)
-    requires empty { string_bytes line.old ≡ [] }
-    requires room { string_len line.old + 64 ≤ string_capacity line.old }
+/// Where something was refused, only that is printed: as a refusal, if it is known whether each write was done.
+fn end_line(is_known: bool, said: Result<(), Refusal>, out: &mut String) -> Result<(), Refusal>
     ensures told { (told : Result (List ℕ) Refusal) → ShowsText told [] (string_bytes out.old) said →
-        string_bytes out.new ≡ shell_text is_known told }
+        OnOk result (string_bytes out.new ≡ shell_text is_known told) }
+    ensures memory { IfErr result (λ refusal. refusal ≡ Refusal.Memory) }
 {
+    if is_known {
+        return settle(said, out);
+    }
     match said {
-        Ok(()) => {}
+        Ok(()) => Ok(()),
         Err(refusal) => {
-            put_refusal(is_known, refusal, line);
-            mem::swap(out, line);
+            out.clear();
+            print_unknown(refusal, out)?;
+            Ok(())
         }
     }
 }
 
-/// Prints what was refused, where there is room for a line.
-fn put_refusal(is_known: bool, refusal: Refusal, out: &mut String)
-    requires { string_len out.old + 64 ≤ string_capacity out.old }
-    ensures { string_bytes out.new ≡ string_bytes out.old ++ shell_text is_known (Err refusal) }
+/// Prints that it is unknown whether a write was done, and what its reply was lost to.
+fn print_unknown(refusal: Refusal, out: &mut String) -> Result<(), Refusal>
+    ensures text { OnOk result (string_bytes out.new ≡ string_bytes out.old ++ unknown_text refusal) }
+    ensures memory { IfErr result (λ refusal. refusal ≡ Refusal.Memory) }
 {
-    if is_known {
-        put_refused(refusal, out);
-    } else {
-        put_unknown(refusal, out);
-    }
-}
-
-/// Prints a refusal, where there is room for a line.
-fn put_refused(refusal: Refusal, out: &mut String)
-    requires { string_len out.old + 64 ≤ string_capacity out.old }
-    ensures { string_bytes out.new ≡ string_bytes out.old ++ refused_text refusal }
-{
-    put_word("refused ", out);
-    put_why(refusal, out);
-}
-
-/// Prints that it is unknown whether a write was done, and what its reply was lost to, where there is room for a line.
-fn put_unknown(refusal: Refusal, out: &mut String)
-    requires { string_len out.old + 64 ≤ string_capacity out.old }
-    ensures { string_bytes out.new ≡ string_bytes out.old ++ unknown_text refusal }
-{
-    put_word("unknown ", out);
-    put_why(refusal, out);
-}
-
-/// Prints the number and the name of a refusal, where there is room for them.
-#[tactic(auto, using(crate::proofs::Talking::name_short))]
-fn put_why(refusal: Refusal, out: &mut String)
-    requires { string_len out.old + 56 ≤ string_capacity out.old }
-    ensures { string_bytes out.new ≡ string_bytes out.old ++ (decimal (number_of refusal) ++ (codes " " ++
-        (name_of refusal ++ codes "\n"))) }
-{
-    let mut number = Buffer::new();
-    put_word(number.format(refusal.number()), out);
-    put_word(" ", out);
-    put_word(refusal.name(), out);
-    put_word("\n", out);
+    let number = refusal.number();
+    let name = refusal.name();
+    writeln!(out, "unknown {number} {name}")?;
+    Ok(())
 }
 
 /// Takes away what was printed, and makes room: nothing is done for which there is no room to tell it.
 pub fn begin_line(out: &mut String) -> Result<(), Refusal>
     ensures empty { string_bytes out.new ≡ [] }
-    ensures room { OnOk result (string_len out.new + 64 ≤ string_capacity out.new) }
     ensures memory { IfErr result (λ refusal. refusal ≡ Refusal.Memory) }
 {
     out.clear();

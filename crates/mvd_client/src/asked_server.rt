@@ -84,10 +84,13 @@ impl<L: Line> Endpoint for AskedServer<L> {
 
     fn ask(&mut self, request: Request) -> Reply {
         let is_write = may_change(&request);
-        if let Err(refusal) = self.framed(&request) {
-            drop(request);
-            self.note(is_write, false, refusal);
-            return Reply::Refused(refusal);
+        match self.framed(&request) {
+            Ok(()) => {}
+            Err(refusal) => {
+                drop(request);
+                self.note(is_write, false, refusal);
+                return Reply::Refused(refusal);
+            }
         }
         let told = self.remote.ask(&request);
         drop(request);

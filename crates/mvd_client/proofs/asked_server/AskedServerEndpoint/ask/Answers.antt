@@ -11,5 +11,5 @@ returns-in-Ok-told g c = replied g.L.Line c.args.self.now (record { remote = c.a
     c.in-Ok-told.is c.ask-told.ensures.asked c.ask-told.ensures.truth refl refl
 
 pub returns-in-Err-told : goal.returns-in-Err-told
-returns-in-Err-told g c = refused g.L.Line c.args.self.now c.note.new.self c.args.request c.ask-told.result c.ask-told.new.self c.in-Err-told.refusal c.may_change-is_write.result c.note.ensures.remote
-    c.in-Err-told.is c.may_change-is_write.ensures c.in-Ok.ensures.ok c.ask-told.ensures.asked c.ask-told.ensures.truth c.note.ensures.down c.note.ensures.lost
+returns-in-Err-told g c = refused g.L.Line c.args.self.now c.note-in-Err-told.new.self c.args.request c.ask-told.result c.ask-told.new.self c.in-Err-told.refusal c.may_change-is_write.result c.note-in-Err-told.ensures.remote
+    c.in-Err-told.is c.may_change-is_write.ensures c.in-Ok.ensures.ok c.ask-told.ensures.asked c.ask-told.ensures.truth c.note-in-Err-told.ensures.down c.note-in-Err-told.ensures.lost

@@ -37,7 +37,7 @@ and_false false = refl
 none_breaks : (request : Request) (refusal : Refusal) → HasNone request refusal → breaks_at false refusal ≡ breaks_at (has_frame request) refusal
 none_breaks request refusal none =
     elim (is_memory refusal) [
-      inl is ↦ subst (λ r. breaks_at false r ≡ breaks_at (has_frame request) r) (sym is) (sym (and_false (has_frame request)))
+      | inl is ↦ subst (λ r. breaks_at false r ≡ breaks_at (has_frame request) r) (sym is) (sym (and_false (has_frame request)))
       | inr other ↦ sym (ap (λ h. breaks_at (is_ok h) refusal) (none other))
     ]
 
@@ -63,7 +63,7 @@ LostIf one lost = if one then min (lost + 1) (2 ^ 64 - 1) else lost
 kept_truly : (config : ConfigValue) (states : States) (request : Request) (refusal : Refusal) → HasNone request refusal → AnswersTruly (λ (reply : Reply). reply) config states request (Err refusal) states
 kept_truly config states request refusal none =
     elim (is_memory refusal) [
-      inl is ↦ inr (inr (subst (λ r. leaves_open r ≡ true) (sym is) refl, inl refl))
+      | inl is ↦ inr (inr (subst (λ r. leaves_open r ≡ true) (sym is) refl, inl refl))
       | inr other ↦ inr (inl (none other, refl))
     ]
 

@@ -206,6 +206,10 @@ def lost_replies(files):
     wants("a put whose question has no reply", through(files, [b""], ["put k @ {}", put]), [over, over])
     wants("a question without a reply", through(files, [b""], ["get k", put]), [over, over])
     wants("a put that is refused", through(files, [refusal, refusal, done], [put, put]), ["refused 20 Memory"] * 2)
+    for what, answer, told in (("no frame", b"HTTP/1.1 400 Bad Request\r\n\r\n", "31 FrameTooLong"), ("another kind", bytes((0, 0, 0, 1, 0x77)), "32 BadKind")):
+        wants(f"a put that is answered by {what}", through(files, [answer], [put, put, "get k"]), [f"unknown {told}"] + [f"refused {told}"] * 2)
+    seen = ",".join(f"{site}:1" for site in range(1, 110_000))
+    wants("a put that is too long to send, and one behind it", through(files, [refusal], [f"put k {seen} {{}}", put]), ["refused 31 FrameTooLong", "refused 20 Memory"])
     files.remove(1)
     server, port = files.serve(1)
     shell = files.start(["shell", "--port", str(port), "--idle", "1"], stdin=subprocess.PIPE, stdout=subprocess.PIPE, stderr=subprocess.PIPE)

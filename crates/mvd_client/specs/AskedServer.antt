@@ -1,5 +1,5 @@
 -- A server as a shell asks it: which of its writes are lost.
-use Rattle.std.specs.Prelude.{◌≡◌, ◌+◌, ◌-◌, ◌^◌, ◌==◌, ◌&&◌, ◌||◌, ℕ, Bool, true, false, if◌then◌else◌, min, nat_le, not, Result, Ok, Err}
+use Rattle.std.specs.Prelude.{◌≡◌, ◌+◌, ◌-◌, ◌^◌, ◌==◌, ◌&&◌, ◌||◌, ℕ, Bool, true, false, if◌then◌else◌, min, nat_le, not, is_ok, Result, Ok, Err}
 use Rattle.mvd_client.specs.declared.asked_server.AskedServer.{AskedServer}
 use Rattle.mvd_dots.specs.Refusal.{number_of}
 use Rattle.mvd_dots.specs.declared.refusals.Refusal.{Refusal}
@@ -8,6 +8,7 @@ use Rattle.mvd_remote.specs.declared.line.Line.{Ghosts}
 use Rattle.mvd_wire.specs.declared.reply.Reply.{Reply}
 use Rattle.mvd_wire.specs.declared.request.Request.{Request}
 use Rattle.mvd_wire.specs.declared.request.Request.TheVariants.{Delete, Push, Put}
+use Rattle.mvd_wire.specs.Requests.{request_frame}
 
 -- a request that may change what a site holds
 abbrev pub may_change : Request → Bool
@@ -16,34 +17,44 @@ may_change (Delete k c) = true
 may_change (Push k s) = true
 may_change _ = false
 
--- a link that refuses so, with 30 or 32 to 36, has broken: no request that has no frame is refused so
-abbrev pub breaks_link : Refusal → Bool
-breaks_link refusal = number_of refusal == 30 || (nat_le 32 (number_of refusal) && nat_le (number_of refusal) 36)
+-- the request has a frame: one that is too long has none, and is not handed to the link
+abbrev pub has_frame : Request → Bool
+has_frame request = is_ok (request_frame request)
 
--- where a link that was not known to be broken refuses a request so, or with 20, the request may have gone out
-abbrev pub may_be_sent : Refusal → Bool
-may_be_sent refusal = number_of refusal == 20 || breaks_link refusal
+-- a link that refuses so, with 30 to 36, a request that it was handed, has broken
+abbrev pub breaks_link : Refusal → Bool
+breaks_link refusal = nat_le 30 (number_of refusal) && nat_le (number_of refusal) 36
+
+-- one more is broken where it was handed a request that it refuses so
+abbrev pub breaks_at : Bool → Refusal → Bool
+breaks_at is_handed refusal = is_handed && breaks_link refusal
+
+-- then, or with 20, the request may have gone out, if the link was not known to be broken
+abbrev pub may_be_sent : Bool → Refusal → Bool
+may_be_sent is_handed refusal = number_of refusal == 20 || breaks_at is_handed refusal
 
 -- where no reply came, the link may have broken
-abbrev pub down_after : Bool → Result Reply Refusal → Bool
-down_after is_down (Ok reply) = is_down
-down_after is_down (Err refusal) = is_down || breaks_link refusal
+abbrev pub down_after : Bool → Request → Result Reply Refusal → Bool
+down_after is_down request (Ok reply) = is_down
+down_after is_down request (Err refusal) = is_down || breaks_at (has_frame request) refusal
 
 -- where no reply came to a write that may have gone out, one more is lost
 abbrev pub lost_after : Bool → ℕ → Request → Result Reply Refusal → ℕ
 lost_after is_down lost request (Ok reply) = lost
 lost_after is_down lost request (Err refusal) =
-    if may_change request && (not is_down && may_be_sent refusal) then min (lost + 1) (2 ^ 64 - 1) else lost
+    if may_change request && (not is_down && may_be_sent (has_frame request) refusal) then min (lost + 1) (2 ^ 64 - 1)
+    else lost
 
 -- A REQUEST IS ASKED OVER A LINE, and replied to, or refused in place of a reply. One more write is lost just where no
--- reply came to one that may have gone out: the refusal is the link's own, with 20, 30 or 32 to 36, and the link was
--- not known to be broken before. What the server itself refuses is not lost.
+-- reply came to one that may have gone out: the link was not known to be broken, and refuses with 20, or with 30 to 36
+-- a request that has a frame. So 31 is of a write that was answered by no frame, and not of one that is too long to be
+-- sent. What the server itself refuses is not lost.
 pub record RepliesNoted {L : Type 0} (line : Ghosts L) (old new : AskedServer L) (request : Request)
     (reply : Reply) : Type 0 where
   pub replies : RepliesFar line old.remote new.remote request reply
-  pub down : new.is_down ≡ down_after old.is_down replies.told
+  pub down : new.is_down ≡ down_after old.is_down request replies.told
   pub lost : new.lost ≡ lost_after old.is_down old.lost request replies.told
 
--- as many writes are lost
+-- how many writes are lost
 abbrev pub lost_of : {L : Type 0} → AskedServer L → ℕ
 lost_of server = server.lost

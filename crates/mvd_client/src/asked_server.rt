@@ -1,10 +1,13 @@
 //! A server as a shell asks it.
-ghost use Rattle.std.specs.Prelude.{◌≡◌, ◌+◌, ◌-◌, ◌^◌, ◌||◌, ◌&&◌, false, if◌then◌else◌, min, not, None};
-ghost use Rattle.mvd_client.specs.AskedServer.{RepliesNoted, breaks_link, lost_of, may_be_sent, may_change};
+ghost use Rattle.std.specs.Prelude.{◌≡◌, ◌≢◌, ◌+◌, ◌-◌, ◌^◌, ◌||◌, ◌&&◌, Err, IfErr, OnOk, true, false, if◌then◌else◌, min, not, None};
+ghost use Rattle.mvd_client.specs.AskedServer.{RepliesNoted, breaks_at, breaks_link, has_frame, lost_of, may_be_sent, may_change};
+ghost use Rattle.mvd_dots.specs.declared.refusals.Refusal.TheVariants.{Memory};
 ghost use Rattle.mvd_remote.specs.Lines.{line_of, refused_of};
+ghost use Rattle.mvd_wire.specs.Requests.{request_frame};
 
 use mvd_dots::Refusal;
-use mvd_peer::Endpoint;
+use mvd_frames::encode_request;
+use mvd_peer::{Endpoint, Peer};
 use mvd_remote::{Line, Remote};
 use mvd_shell::Losses;
 use mvd_wire::{Reply, Request};
@@ -16,7 +19,7 @@ pub struct AskedServer<L: Line> {
     pub remote: Remote<L>,
     /// The link has broken: what is asked from now on is not sent.
     pub is_down: bool,
-    /// So many writes may have been done, though no reply came.
+    /// How many writes may have been done, though no reply came.
     pub lost: u64,
 }
 
@@ -46,17 +49,33 @@ impl<L: Line> AskedServer<L> {
         }
     }
 
-    /// Notes that no reply came to a request, and how the link refused it.
-    fn note(&mut self, is_write: bool, refusal: Refusal)
+    /// Why a request is not handed to the link: it has no frame, or memory is refused for that. A link that has broken
+    /// is asked whatever it is, and says how it broke.
+    fn framed(&self, request: &Request) -> Result<(), Refusal>
+        ensures ok { OnOk result (self.now.is_down ≡ false → has_frame request.now ≡ true) }
+        ensures none { IfErr result (λ refusal. refusal ≢ Memory → request_frame request.now ≡ Err refusal) }
+    {
+        if self.is_down {
+            return Ok(());
+        }
+        match encode_request(self.remote.alloc(), request) {
+            Ok(_frame) => Ok(()),
+            Err(refusal) => Err(refusal),
+        }
+    }
+
+    /// Notes that no reply came to a request, whether the link was handed that, and how it was refused.
+    fn note(&mut self, is_write: bool, is_handed: bool, refusal: Refusal)
         ensures remote { self.new.remote ≡ self.old.remote }
-        ensures down { self.new.is_down ≡ (self.old.is_down || breaks_link refusal) }
-        ensures lost { self.new.lost ≡ (if is_write && (not self.old.is_down && may_be_sent refusal)
+        ensures down { self.new.is_down ≡ (self.old.is_down || breaks_at is_handed refusal) }
+        ensures lost { self.new.lost ≡ (if is_write && (not self.old.is_down && may_be_sent is_handed refusal)
             then min (self.old.lost + 1) (2 ^ 64 - 1) else self.old.lost) }
     {
-        if is_write && !self.is_down && may_be_sent(refusal) {
+        let is_broken = is_handed && breaks_link(refusal);
+        if is_write && !self.is_down && (refusal.number() == 20 || is_broken) {
             self.lost = self.lost.saturating_add(1);
         }
-        self.is_down = self.is_down || breaks_link(refusal);
+        self.is_down = self.is_down || is_broken;
     }
 }
 
@@ -65,12 +84,20 @@ impl<L: Line> Endpoint for AskedServer<L> {
 
     fn ask(&mut self, request: Request) -> Reply {
         let is_write = may_change(&request);
+        match self.framed(&request) {
+            Ok(()) => {}
+            Err(refusal) => {
+                drop(request);
+                self.note(is_write, false, refusal);
+                return Reply::Refused(refusal);
+            }
+        }
         let told = self.remote.ask(&request);
         drop(request);
         match told {
             Ok(reply) => reply,
             Err(refusal) => {
-                self.note(is_write, refusal);
+                self.note(is_write, true, refusal);
                 Reply::Refused(refusal)
             }
         }
@@ -87,17 +114,10 @@ fn may_change(request: &Request) -> bool
     )
 }
 
-/// Whether a link that refuses so has broken.
+/// Whether a link that refuses so a request that it was handed has broken.
 fn breaks_link(refusal: Refusal) -> bool
     ensures { result ≡ breaks_link refusal }
 {
     let number = refusal.number();
-    number == 30 || (32 <= number && number <= 36)
-}
-
-/// Whether a request that a link refuses so may have gone out, if the link was not known to be broken.
-fn may_be_sent(refusal: Refusal) -> bool
-    ensures { result ≡ may_be_sent refusal }
-{
-    refusal.number() == 20 || breaks_link(refusal)
+    30 <= number && number <= 36
 }

@@ -21,10 +21,10 @@ use std::fmt::Write as Print;
 use std::io::Write;
 use std::net::SocketAddr;
 
-/// A connection over which as many frames came is made anew: a server takes 1,000,000.
+/// The most frames that come over a connection before it is made anew: a server takes 1,000,000.
 const MOST_FRAMES: u32 = 500_000;
 
-/// So often a session goes on over new connections, where a server takes no more frames of the old ones.
+/// The most times that a session goes on over new connections, where a server takes no more frames of the old ones.
 const MOST_ANEW: u32 = 8;
 
 /// How servers meet: how often again, how many seconds a server may be silent, the token that is shown to each of them,

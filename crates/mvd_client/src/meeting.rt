@@ -34,7 +34,7 @@ pub struct Root {
 }
 
 /// Runs a session of two servers, each at the other end of a line. Where both lines are true, both servers' states are
-/// joined, and where no fault is told all that differed, but for the keys that the report names.
+/// joined, and where no fault is told all that differed, but for the keys that the session leaves.
 pub fn meet_over<L: Line, M: Line, E: Write>(
     alloc: Global,
     near: &mut Remote<L>,

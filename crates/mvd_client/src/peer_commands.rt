@@ -132,7 +132,7 @@ fn sync_line<L: Line, S: Alter + Drop, E: Write>(
 }
 
 /// Runs a session over a line, and says Bye. Where the line is true, what is at its other end is a true side: both
-/// sides' states are joined, and where no fault is told all that differed, but for the keys that the report names.
+/// sides' states are joined, and where no fault is told all that differed, but for the keys that the session leaves.
 pub fn sync_over<L: Line, S: Alter + Drop, E: Write>(
     alloc: Global,
     replica: &mut Replica<S>,

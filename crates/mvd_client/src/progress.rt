@@ -11,7 +11,7 @@ use std::alloc::Global;
 use std::fmt::Write as Print;
 use std::io::Write;
 
-/// So many states come or go between two lines.
+/// How many states come or go between two lines.
 const STEP: u64 = 1_000;
 
 /// A side of a session, of which a writer is told after each thousand states how many it gave or took. A line that
@@ -25,7 +25,7 @@ pub struct Watched<'a, P: Peer + Drop, E: Write> {
 }
 
 impl<P: Peer + Drop, E: Write> Watched<'_, P, E> {
-    /// So many more states came or went.
+    /// Counts states that came or went, and tells of each further thousand.
     fn count(&mut self, more: u64)
         ensures side { self.new.side ≡ self.old.side }
         ensures asked { self.new.asked.items ≡ self.old.asked.items }
@@ -55,8 +55,7 @@ fn taken<A>(told: &Result<Vec<Result<A, Refusal>>, Refusal>) -> u64 {
     count
 }
 
-/// It is asked what the side within is asked, in the same windows, and is as true. So many questions are so many more
-/// in its log.
+/// It is asked what the side within is asked, in the same windows, and is as true. Its log has each question.
 impl<P: Peer + Drop, E: Write> Peer for Watched<'_, P, E> {
     ghost states = { λ watched. P.states watched.side };
 

@@ -24,7 +24,7 @@ use std::net::SocketAddr;
 use std::thread;
 use std::time::{Clock, Duration};
 
-/// Where rounds are as many seconds apart, no connection is kept from one to the next.
+/// The least seconds between two rounds at which no connection is kept from one to the next.
 const APART: u32 = 60;
 
 /// A server of the list: how often it was tried, how the last session with it ended, how many seconds it is still

@@ -15,7 +15,7 @@ pub struct Socket<T: Read + Write + Drop> {
     stream: T,
     poll: Poll,
     events: Events,
-    /// For as many seconds it may be silent.
+    /// The most seconds that it may be silent.
     idle: u32,
 }
 

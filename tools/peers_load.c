@@ -1,4 +1,5 @@
-// One thread that has many connections ask a server at once: mvd's frames, redis, PostgreSQL or etcd (gRPC).
+// One thread that has many connections ask a server at once: mvd's frames, redis, PostgreSQL, etcd (gRPC), or mvd over
+// HTTP (web).
 // peers_load KIND PORT CLIENTS IN_FLIGHT put|get|load KEYS BYTES SECONDS COUNTERS PID
 // COUNTERS is a file with a number for each key, how often mvd was written there: a put carries it as its context.
 // It prints requests a second, the median and the slowest hundredth in ms, and the microseconds of PID's processor a
@@ -21,7 +22,7 @@
 typedef uint8_t u8;
 typedef uint32_t u32;
 typedef uint64_t u64;
-enum { MVD, REDIS, PG, ETCD };
+enum { MVD, REDIS, PG, ETCD, WEB };
 enum { PUT, GET, LOAD };
 enum { MOST = 4096 };  // requests in flight of one connection, a power of two
 
@@ -132,6 +133,12 @@ static void ask_put(Conn *c, const char *key, int key_len, long number) {
     counters[number]++;
   } else if (kind == REDIS) {
     add(c, "*3\r\n$3\r\nSET\r\n", 13), redis_item(c, key, key_len), redis_item(c, document, n);
+  } else if (kind == WEB) {
+    char head[256], seen[48] = "";
+    if (counters[number]) sprintf(seen, "Mvd-Context: 1:%u\r\n", counters[number]);
+    counters[number]++;
+    add(c, head, sprintf(head, "PUT /keys/%s HTTP/1.1\r\nHost: localhost\r\n%sContent-Length: %d\r\n\r\n", key, seen, n));
+    add(c, document, n);
   } else if (kind == PG) {
     pg_run(c, "p", 2, (const char *[]){key, document}, (int[]){key_len, n});
   } else {
@@ -148,6 +155,9 @@ static void ask_get(Conn *c, const char *key, int key_len) {
     big(c, 2 + key_len, 4), big(c, 0x21, 1), big(c, key_len, 1), add(c, key, key_len);
   } else if (kind == REDIS) {
     add(c, "*2\r\n$3\r\nGET\r\n", 13), redis_item(c, key, key_len);
+  } else if (kind == WEB) {
+    char head[128];
+    add(c, head, sprintf(head, "GET /keys/%s HTTP/1.1\r\nHost: localhost\r\n\r\n", key));
   } else if (kind == PG) {
     pg_run(c, "g", 1, &key, &key_len);
   } else {
@@ -178,10 +188,21 @@ static long redis_value(const char *p, long n) {
   return n >= head + count + 2 ? head + count + 2 : 0;
 }
 
+// How long a response over HTTP is, whose fields are in small letters, or 0 where it is not whole.
+static long response(const char *p, long n) {
+  char *end = n > 12 ? memmem(p, n, "\r\n\r\n", 4) : NULL;
+  if (!end) return 0;
+  if (p[9] != '2') die("mvd refused a request over HTTP");
+  char *field = memmem(p, end - p, "\r\ncontent-length: ", 18);
+  long all = end + 4 - p + (field ? atol(field + 18) : 0);
+  return n < all ? 0 : all;
+}
+
 // How long the next part of the input is, or 0 where it is not whole. `done` is set where it ends a reply.
 static long part(Conn *c, const char *p, long n, int *done) {
   *done = 0;
   if (kind == REDIS) return n && (n = redis_value(p, n)) ? *done = 1, n : 0;
+  if (kind == WEB) return (n = response(p, n)) ? *done = 1, n : 0;
   if (n < (kind == ETCD ? 9 : 5)) return 0;
   long all = kind == MVD ? 4 + big_at(p) : kind == PG ? 1 + big_at(p + 1) : 9 + (big_at(p) >> 8);
   if (n < all) return 0;
@@ -315,8 +336,8 @@ static int by_value(const void *a, const void *b) {
 
 int main(int count, char **words) {
   if (count < 11) die("usage: KIND PORT CLIENTS IN_FLIGHT put|get|load KEYS BYTES SECONDS COUNTERS PID");
-  const char *kinds[] = {"mvd", "redis", "pg", "etcd"}, *ops[] = {"put", "get", "load"};
-  for (kind = 0; kind < 3 && strcmp(words[1], kinds[kind]); kind++) {}
+  const char *kinds[] = {"mvd", "redis", "pg", "etcd", "web"}, *ops[] = {"put", "get", "load"};
+  for (kind = 0; kind < 4 && strcmp(words[1], kinds[kind]); kind++) {}
   for (op = 0; op < 2 && strcmp(words[5], ops[op]); op++) {}
   int port = atoi(words[2]), clients = atoi(words[3]), pid = atoi(words[10]);
   long keys = atol(words[6]), left;

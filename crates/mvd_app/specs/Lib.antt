@@ -1,4 +1,5 @@
 pub mod Done
+pub mod Found
 pub mod Named
 pub mod Noted
 pub mod Refused

@@ -100,7 +100,11 @@ pub record TellsLost (file : Bor (List ℕ)) (stop : Stop) : Type 0 where
   pub hint : stop.hint ≡ Some (Hint.Lost file)
 
 module _ {D : Type 0} {g : disk.Ghosts D} (f : Ghosts (FileStore D g)) where
-  -- The site was not opened: its file is lost; or the files refuse it, for a cause, which is told
+  -- the files refuse the site, for a cause, which is told
+  abbrev pub RefusesFile : Image → ConfigValue → Bor (List ℕ) → Stop → Type 0
+  RefusesFile image config db stop =
+      (fault : FileFault D g) × FailsFile image config fault × TellsFault f db fault stop
+
+  -- The site was not opened: its file is lost; or the files refuse it
   abbrev pub CannotOpen : Image → ConfigValue → Bor (List ℕ) → Stop → Type 0
-  CannotOpen image config db stop = TellsLost db stop
-      ⊎ ((fault : FileFault D g) × FailsFile image config fault × TellsFault f db fault stop)
+  CannotOpen image config db stop = TellsLost db stop ⊎ RefusesFile image config db stop

@@ -4,6 +4,8 @@ ghost use Rattle.mvd_app.specs.Done.{DoesFile, DoesOrder};
 ghost use Rattle.mvd_app.specs.Named.{StopsAtDefs, StopsAtToken};
 ghost use Rattle.mvd_app.specs.Stored.{GivesBack, IsConfigFor, IsWithoutFile, file_in, filed};
 ghost use Rattle.mvd_app.specs.Tasks.{DoesTask, IsMet, IsSimulated, IsTypedAt, MayWork, outside, task_of};
+ghost use Rattle.mvd_client.specs.LetIn.{GivesIn};
+ghost use Rattle.mvd_client.specs.SyncsAt.{TellsSession};
 ghost use Rattle.mvd_input.specs.Addresses.{IsAddressList};
 ghost use Rattle.mvd_input.specs.Orders.{IsInRange, IsSetUp};
 ghost use Rattle.mvd_replica.specs.Turns.{Turn};
@@ -40,9 +42,9 @@ enum Work<'a> {
 }
 
 /// Runs an order, from `reader` where it reads lines, and to `writer`. A file that it works on is made where it is
-/// missing, and comes back with its log, closed, also where the command was stopped. What stands in it at first is what
-/// `start` names, which no code reads. `dial` leads to the server of a session or a shell, and `sockets` move the bytes
-/// of the clients that are served.
+/// missing. It comes back with its log, closed, also where the command was stopped, unless its site is broken or it
+/// cannot be closed. What stands in it at first is what `start` names, which no code reads. `dial` leads to the server
+/// of a session or a shell, and `sockets` move the bytes of the clients that are served.
 pub fn run<'a, S: Start, D: Dial, K: Sockets, R: BufRead, W: Write>(
     rt: &'a HostRuntime,
     order: Order<'a>,
@@ -287,21 +289,39 @@ fn work_on<'a, S: Alter + Drop, D: Dial, K: Sockets, R: BufRead, W: Write>(
             serve_stored(rt, sockets, replica, address, terms, peers, writer)
         }
         Work::Shell => typed(rt.alloc(), replica, reader, writer),
-        Work::Sync(address, idle, verbose) => {
-            let mut errors = rt.stderr();
-            sync_told(
-                dial,
-                rt.alloc(),
-                replica,
-                address,
-                idle,
-                token,
-                verbose,
-                writer,
-                &mut errors,
-            )
-        }
+        Work::Sync(address, idle, verbose) => synced(
+            rt, replica, address, idle, token, verbose, dial, writer,
+        ),
     }
+}
+
+/// A session of a stored site with what an address leads to, told on standard error, too.
+fn synced<'a, S: Alter + Drop, D: Dial, W: Write>(
+    rt: &HostRuntime,
+    replica: &mut Replica<S>,
+    address: SocketAddr,
+    idle: u32,
+    token: Option<&Token>,
+    verbose: bool,
+    dial: &D,
+    writer: &mut W,
+) -> Result<(), Stop<'a>>
+    ensures { TellsSession D.Dialed.Line
+        (GivesIn D.Dialed.Line (D.gives dial.now address) (option_copied token.entry)) address
+        replica.old replica.new (W.contents writer.old) (W.contents writer.new) result }
+{
+    let mut errors = rt.stderr();
+    sync_told(
+        dial,
+        rt.alloc(),
+        replica,
+        address,
+        idle,
+        token,
+        verbose,
+        writer,
+        &mut errors,
+    )
 }
 
 fn run_remote_shell<'a, D: Dial, R: BufRead, W: Write>(

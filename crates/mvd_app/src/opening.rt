@@ -1,7 +1,8 @@
 //! A site opened from its file, which is made where it is missing; or why it was not.
-ghost use Rattle.std.specs.Prelude.{IfErr, IfOk, IsTrue, Ok};
+ghost use Rattle.std.specs.Prelude.{◌≡◌, ◌++◌, IfErr, IfOk, IsErrAnd, IsTrue, Ok, codes, false, string_bytes, true};
+ghost use Rattle.mvd_app.specs.Found.{is_lost, is_missing};
 ghost use Rattle.mvd_app.specs.Refused.{TellsEither, TellsFault, TellsForeign, TellsOurs};
-ghost use Rattle.mvd_app.specs.Stored.{CannotOpen};
+ghost use Rattle.mvd_app.specs.Stored.{CannotOpen, RefusesFile, TellsLost};
 ghost use Rattle.mvd_records.specs.Foreign.{HoldsForeign};
 ghost use Rattle.mvd_records.specs.Records.{OnlyReads};
 ghost use Rattle.mvd_replica.specs.FileCalls.{OpensAsSite};
@@ -22,6 +23,43 @@ use std::{fs, io};
 /// Fewer bytes than a log with a page takes: 32 for its head, 24 for that of the page, and 512 for the page.
 const LEAST_LOG: u64 = 568;
 
+/// What the system tells of a file, and of the log beside it. It is `None` where it tells nothing.
+#[derive(Clone, Copy)]
+struct Told {
+    is_there: Option<bool>,
+    /// The bytes of the log: none where there is no log.
+    log: Option<u64>,
+}
+
+impl Told {
+    fn of(rt: &HostRuntime, file: &str) -> Self {
+        Told {
+            is_there: fs::exists(rt, file).ok(),
+            log: log_length(rt, file).ok(),
+        }
+    }
+
+    /// Whether the file is missing.
+    fn is_missing(self) -> bool
+        ensures { result ≡ is_missing self.is_there }
+    {
+        match self.is_there {
+            Some(is_there) => !is_there,
+            None => false,
+        }
+    }
+
+    /// Whether the file was lost: it is missing, and its log has pages.
+    fn is_lost(self) -> bool
+        ensures { result ≡ is_lost self }
+    {
+        match self.log {
+            Some(bytes) => self.is_missing() && bytes >= LEAST_LOG,
+            None => false,
+        }
+    }
+}
+
 /// Opens the site that a file holds. A missing file is made, which is told on standard error; but not where its log
 /// has pages: then the file was lost, and the log, which stays as it is, is all that there is of what was stored.
 pub fn opened<'a, S: Start>(
@@ -33,8 +71,27 @@ pub fn opened<'a, S: Start>(
     ensures opened { IfOk result (λ replica. OpensAsSite (image_at S.Start) config (Ok replica)) }
     ensures refused { IfErr result (CannotOpen ⟦<FileStore<FileFrom<S>> as Store>⟧ (image_at S.Start) config db.entry) }
 {
-    let is_new = matches!(fs::exists(rt, db), Ok(false));
-    if is_new && matches!(has_pages(rt, db), Ok(true)) {
+    let told = Told::of(rt, db);
+    opened_as(rt, db, told, config, start)
+}
+
+/// Opens it by what the system tells.
+fn opened_as<'a, S: Start>(
+    rt: &HostRuntime,
+    db: &'a str,
+    told: Told,
+    config: Config,
+    start: S,
+) -> Result<Replica<FileStore<FileFrom<S>>>, Stop<'a>>
+    ensures opened { IfOk result (λ replica. OpensAsSite (image_at S.Start) config (Ok replica)) }
+    // A file that was lost is not made, and is told as lost.
+    ensures lost { is_lost told ≡ true → IsErrAnd result (TellsLost db.entry) }
+    // No other file is told so: it is opened, or refused for a cause.
+    ensures found { is_lost told ≡ false → IfErr result (RefusesFile ⟦<FileStore<FileFrom<S>> as Store>⟧
+        (image_at S.Start) config db.entry) }
+    ensures refused { IfErr result (CannotOpen ⟦<FileStore<FileFrom<S>> as Store>⟧ (image_at S.Start) config db.entry) }
+{
+    if told.is_lost() {
         drop(config);
         drop(start);
         return Err(Stop::in_lost(db));
@@ -42,7 +99,7 @@ pub fn opened<'a, S: Start>(
     let site = config.site();
     match open_file(rt, db, start, config) {
         Ok(replica) => {
-            if is_new {
+            if told.is_missing() {
                 let _ = eprintln!(rt; "mvd: {db} is new: the file of site {site}");
             }
             Ok(replica)
@@ -51,10 +108,13 @@ pub fn opened<'a, S: Start>(
     }
 }
 
-/// Whether there is a log beside a file, with a page in it.
-fn has_pages(rt: &HostRuntime, file: &str) -> io::Result<bool> {
+/// How many bytes the log beside a file has: none where there is no log.
+fn log_length(rt: &HostRuntime, file: &str) -> io::Result<u64> {
     let log = log_beside(rt, file)?;
-    Ok(fs::exists(rt, log.as_str())? && fs::metadata(rt, log.as_str())?.len() >= LEAST_LOG)
+    if !fs::exists(rt, log.as_str())? {
+        return Ok(0);
+    }
+    Ok(fs::metadata(rt, log.as_str())?.len())
 }
 
 /// Why a file was not opened as a site. The open makes a log where there is none. It is removed while the file's lock
@@ -81,14 +141,16 @@ fn unopened<'a, D: Disk + Drop>(rt: &HostRuntime, file: &'a str, fault: FileFaul
 
 /// Removes the log beside a file, where it holds no page.
 fn remove_log(rt: &HostRuntime, file: &str) -> io::Result<()> {
-    if !has_pages(rt, file)? {
+    if log_length(rt, file)? < LEAST_LOG {
         fs::remove_file(rt, log_beside(rt, file)?.as_str())?;
     }
     Ok(())
 }
 
 /// The name of the log beside a file.
-fn log_beside(rt: &HostRuntime, file: &str) -> Result<String, AllocError> {
+fn log_beside(rt: &HostRuntime, file: &str) -> Result<String, AllocError>
+    ensures { IfOk result (λ log. string_bytes log ≡ file.now ++ codes "-wal") }
+{
     let mut log = String::new(rt.alloc());
     log.push_str(file)?;
     log.push_str("-wal")?;

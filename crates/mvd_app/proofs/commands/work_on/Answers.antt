@@ -11,7 +11,7 @@ pub returns-in-Shell : goal.returns-in-Shell
 returns-in-Shell g c = rw c.in-Shell.is (turns_asked c.typed.ensures.exchanges, (c.typed.ensures, refl))
 
 pub returns-in-Sync : goal.returns-in-Sync
-returns-in-Sync g c = rw c.in-Sync.is (c.sync_told.ensures.tells.takes.turns, (c.sync_told.ensures.tells, refl))
+returns-in-Sync g c = rw c.in-Sync.is (c.synced.ensures.takes.turns, (c.synced.ensures, refl))
 
 pub serve_stored-requires : goal.serve_stored-requires
 serve_stored-requires g c = subst MayWork c.in-Serve.is c.requires

@@ -43,3 +43,4 @@ pub mod Reported
 pub mod Sessions
 pub mod Machined
 pub mod Stepping
+pub mod Ran

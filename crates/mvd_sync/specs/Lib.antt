@@ -16,3 +16,5 @@ pub mod Nodes
 pub mod Steps
 pub mod Tellings
 pub mod Machines
+pub mod Ran
+pub mod RanParts

@@ -6,6 +6,7 @@ ghost use Rattle.mvd_site.specs.Held.{state_at};
 ghost use Rattle.mvd_sync.specs.Made.{ReadsAll};
 ghost use Rattle.mvd_sync.specs.Questions.{AllAnswered, AnswersEach, ComesToEnd, IsInner, IsOfKey, IsWindow};
 ghost use Rattle.mvd_sync.specs.Questions.{Keeps, TakesBudget, TellsPages, with_left, push_bytes};
+ghost use Rattle.mvd_sync.specs.RanParts.{HearsNodes, HearsPages, HearsStates};
 ghost use Rattle.mvd_peer.specs.PushedStates.{Each};
 ghost use Rattle.mvd_peer.specs.PeerSides.{side_of};
 ghost use Rattle.mvd_peer.specs.Sides.{HasAnswered, is_of_key};
@@ -109,6 +110,9 @@ pub fn ask_nodes<P: Peer>(
     ensures ended { let s = side_of P.Peer in
         IfErr result
         (ComesToEnd s (Keeps s side.old side.new) (length paths.now) (with_left side.old left.old) side.new) }
+    ensures heard { let s = side_of P.Peer in
+        IfOk result (λ nodes. HearsNodes s paths.now nodes.items
+        (with_left side.old left.old) (with_left side.new left.new)) }
 {
     let taken = take(left, paths.len());
     let told = side.nodes(&paths[..taken]);
@@ -128,6 +132,9 @@ pub fn ask_pages<P: Peer>(
     ensures ended { let s = side_of P.Peer in
         IfErr result
         (ComesToEnd s (Keeps s side.old side.new) (length asked.now) (with_left side.old left.old) side.new) }
+    ensures heard { let s = side_of P.Peer in
+        IfOk result (λ pages. HearsPages s asked.now pages.items
+        (with_left side.old left.old) (with_left side.new left.new)) }
 {
     let taken = take(left, asked.len());
     let told = side.pages(&asked[..taken]);
@@ -149,6 +156,9 @@ pub fn ask_gets<P: Peer>(
     ensures ended { let s = side_of P.Peer in
         IfErr result
         (ComesToEnd s (Keeps s side.old side.new) (length keys.now) (with_left side.old left.old) side.new) }
+    ensures heard { let s = side_of P.Peer in
+        IfOk result (λ states. HearsStates s keys.now states.items
+        (with_left side.old left.old) (with_left side.new left.new)) }
 {
     let taken = take(left, keys.len());
     let told = side.get_all(&keys[..taken]);

@@ -1,9 +1,10 @@
 //! The keys that differ in the buckets.
-ghost use Rattle.std.specs.Prelude.{◌≡◌, ◌≢◌, ◌<◌, ◌+◌, ◌^◌, ◌∷◌, ◌++◌, [], length, IfOk, IfErr};
+ghost use Rattle.std.specs.Prelude.{◌≡◌, ◌≢◌, ◌<◌, ◌+◌, ◌^◌, ◌∷◌, ◌++◌, [], length, IfOk, IfErr, OnOk, Some};
 ghost use Rattle.mvd_sync.specs.Buckets.{GoesOver, SettlesKey};
 ghost use Rattle.mvd_sync.specs.Exchanges.{IsHeldByEither, moment};
 ghost use Rattle.mvd_sync.specs.Session.{asking};
-ghost use Rattle.mvd_sync.specs.Walking.{PagesEnd, TellsBoth, pages_next, pages_of};
+ghost use Rattle.mvd_sync.specs.RanParts.{HearsBoth, RunsSettled, RunsWalk};
+ghost use Rattle.mvd_sync.specs.Walking.{PagesEnd, TellsBoth, Walking, pages_next, pages_of};
 ghost use Rattle.mvd_peer.specs.PushedStates.{Each};
 ghost use Rattle.mvd_peer.specs.PeerSides.{sides_of};
 ghost use Rattle.mvd_peer.specs.Sides.{two};
@@ -28,9 +29,12 @@ fn settle<L: Peer, P: Peer>(
     requires held { IsHeldByEither entry }
     requires waiting { length exchange.old.waiting < 1000 }
     requires room { exchange.old.keys + exchange.old.refused + left.old.local + left.old.peer + 1000 < 2 ^ 64 }
-    ensures { let s = sides_of L.Peer P.Peer in
+    ensures settles { let s = sides_of L.Peer P.Peer in
         SettlesKey s entry (moment local.old peer.old left.old exchange.old)
         (moment local.new peer.new left.new exchange.new) result }
+    ensures ran { let s = sides_of L.Peer P.Peer in
+        OnOk result ((walk : Walking) → RunsSettled s (Some entry) (moment local.old peer.old left.old exchange.old)
+        (moment local.new peer.new left.new exchange.new) walk) }
 {
     if entry.differs {
         exchange.add(local, peer, left, entry)
@@ -54,6 +58,9 @@ fn tell<L: Peer, P: Peer>(
         (asking local.old peer.old left.old) (asking local.new peer.new left.new)) }
     ensures ended { let s = sides_of L.Peer P.Peer in
         IfErr result (PagesEnd s walk.old (asking local.old peer.old left.old) (two local.new peer.new)) }
+    ensures heard { let s = sides_of L.Peer P.Peer in
+        IfOk result (λ found. HearsBoth s walk.old found walk.new
+        (asking local.old peer.old left.old) (asking local.new peer.new left.new)) }
 {
     let mine = match ask_pages(local, &mut left.local, walk.pages(Side::Local)) {
         Ok(pages) => pages,
@@ -79,9 +86,12 @@ pub fn exchange_buckets<L: Peer, P: Peer>(
     requires deep { Each (λ path. length path ≡ 3) paths.items }
     requires waiting { length exchange.old.waiting < 1000 }
     requires room { exchange.old.keys + exchange.old.refused + left.old.local + left.old.peer + 1000 < 2 ^ 64 }
-    ensures { let s = sides_of L.Peer P.Peer in
+    ensures goes { let s = sides_of L.Peer P.Peer in
         GoesOver s (record { paths = paths.items; firsts = length paths.items })
         (moment local.old peer.old left.old exchange.old) (moment local.new peer.new left.new exchange.new) result }
+    ensures ran { let s = sides_of L.Peer P.Peer in
+        OnOk result (RunsWalk s paths.items (moment local.old peer.old left.old exchange.old)
+        (moment local.new peer.new left.new exchange.new)) }
 {
     let mut walk = match BucketWalk::new(alloc, paths) {
         Ok(walk) => walk,

@@ -1,7 +1,7 @@
 //! The exchange of keys, one window after another.
 ghost use Rattle.std.specs.Prelude.{◌≡◌, ◌<◌, ◌+◌, ◌^◌, ◌++◌, ◌∷◌, [], length, map, filter_map, IfOk, IfErr, OnOk};
-ghost use Rattle.std.specs.Prelude.{cond, ◌≤◌, ◌↔◌, IsTrue};
-ghost use Rattle.mvd_sync.specs.Exchanges.{CountsDone, Exchanges, IsHeldByEither, moment};
+ghost use Rattle.std.specs.Prelude.{cond, ◌≤◌, ◌↔◌, IsTrue, Some, true};
+ghost use Rattle.mvd_sync.specs.Exchanges.{CountsDone, Exchanges, Exchanging, IsHeldByEither, moment};
 ghost use Rattle.mvd_sync.specs.Meetings.{done_of, held_keys, pushed_pair};
 ghost use Rattle.mvd_sync.specs.Questions.{ComesToEnd, Keeps, TakesInFirst, with_left};
 ghost use Rattle.mvd_peer.specs.PushedStates.{Each};
@@ -10,6 +10,8 @@ ghost use Rattle.mvd_peer.specs.PeerSides.{side_of, sides_of};
 ghost use Rattle.mvd_peer.specs.Sides.{two};
 ghost use Rattle.mvd_sync.specs.Walk.{ReadsEnd};
 ghost use Rattle.mvd_sync.specs.Carries.{Carried, ExchangesAll, GivesStates, Planned};
+ghost use Rattle.mvd_sync.specs.RanParts.{HearsPlans, HearsStates, RunsExchange, RunsSettled, RunsWindow, WholeTurn};
+ghost use Rattle.mvd_sync.specs.Walking.{Walking};
 
 use crate::asking::{Questions, are_all, ask_gets, take, window};
 use crate::cursor::Entry;
@@ -77,6 +79,9 @@ fn gives<S: Peer>(
         IfErr result
         (ComesToEnd s (Keeps s side.old side.new) (length (held_keys name entries.now))
         (with_left side.old left.old) side.new) }
+    ensures heard { let s = side_of S.Peer in
+        IfOk result (λ states. HearsStates s (held_keys name entries.now) states.items
+        (with_left side.old left.old) (with_left side.new left.new)) }
 {
     let asked = match keys_held(alloc, entries, name) {
         Ok(keys) => keys,
@@ -100,6 +105,9 @@ fn plans<L: Peer, P: Peer>(
     ensures ended { let s = sides_of L.Peer P.Peer in
         IfErr result (ReadsEnd s (λ asked. asked ≤ length entries.items) (asking local.old peer.old left.old)
         (two local.new peer.new)) }
+    ensures heard { let s = sides_of L.Peer P.Peer in
+        IfOk result (λ meetings. HearsPlans s number entries.items (asking local.old peer.old left.old)
+        (asking local.new peer.new left.new) meetings.items) }
 {
     let mine = match gives(alloc, local, &mut left.local, &entries, Side::Local) {
         Ok(states) => states,
@@ -132,6 +140,9 @@ fn carry<S: Peer>(
         (λ refusal. ComesToEnd s (TakesInFirst s pairs side.old side.new refusal) (length pairs)
         (with_left side.old left.old) side.new refusal) }
     ensures unasked { IfErr result (λ _. filter_map (pushed_pair name) meetings.items ≡ [] → side.new ≡ side.old) }
+    ensures turn { let s = side_of S.Peer in
+        IfOk result (λ after. WholeTurn s name meetings.items after.items
+        (with_left side.old left.old) (with_left side.new left.new)) }
 {
     let mut turn = match Turn::new(alloc, meetings, name) {
         Ok(turn) => turn,
@@ -158,9 +169,12 @@ fn exchange_all<L: Peer, P: Peer>(
     entries: Vec<Entry>,
 ) -> Result<Vec<Meeting>, SyncFault>
     requires { Each IsHeldByEither entries.items }
-    ensures { let s = sides_of L.Peer P.Peer in
+    ensures exchanges { let s = sides_of L.Peer P.Peer in
         ExchangesAll s number entries.items (asking local.old peer.old left.old) (asking local.new peer.new left.new)
         result }
+    ensures ran { let s = sides_of L.Peer P.Peer in
+        IfOk result (λ meetings. (walk : Walking) (work : Exchanging) → RunsWindow s number entries
+        (asking local.old peer.old left.old) (asking local.new peer.new left.new) meetings.items walk work) }
 {
     let meetings = match plans(alloc, number, local, peer, left, entries) {
         Ok(meetings) => meetings,
@@ -225,9 +239,12 @@ impl Exchange {
         requires held { IsHeldByEither entry }
         requires room { self.old.keys + self.old.refused + length self.old.waiting + left.old.local +
             left.old.peer + 1 < 2 ^ 64 }
-        ensures { let s = sides_of L.Peer P.Peer in
+        ensures exchanges { let s = sides_of L.Peer P.Peer in
             Exchanges s (self.old.waiting ++ entry ∷ []) (moment local.old peer.old left.old self.old)
             (moment local.new peer.new left.new self.new) result }
+        ensures ran { let s = sides_of L.Peer P.Peer in
+            OnOk result ((walk : Walking) → entry.differs ≡ true → RunsSettled s (Some entry)
+            (moment local.old peer.old left.old self.old) (moment local.new peer.new left.new self.new) walk) }
     {
         match self.wait(entry) {
             Ok(()) => {}
@@ -273,7 +290,7 @@ impl Exchange {
         self.waiting.len() >= WINDOW
     }
 
-    /// Exchanges the keys that wait.
+    /// Exchanges the keys that wait. Where none waits, nothing is asked.
     pub fn exchange<L: Peer, P: Peer>(
         &mut self,
         local: &mut L,
@@ -286,7 +303,13 @@ impl Exchange {
             Exchanges s self.old.waiting (moment local.old peer.old left.old self.old)
             (moment local.new peer.new left.new self.new) result }
         ensures none { OnOk result (self.new.waiting ≡ []) }
+        ensures ran { let s = sides_of L.Peer P.Peer in
+            OnOk result ((walk : Walking) → RunsExchange s (moment local.old peer.old left.old self.old)
+            (moment local.new peer.new left.new self.new) walk) }
     {
+        if self.waiting.is_empty() {
+            return Ok(());
+        }
         let entries = std::mem::replace(&mut self.waiting, Vec::new(self.alloc));
         let meetings = match exchange_all(self.alloc, self.number, local, peer, left, entries) {
             Ok(meetings) => meetings,

@@ -7,6 +7,8 @@ ghost use Rattle.mvd_peer.specs.PeerSides.{sides_of};
 ghost use Rattle.mvd_peer.specs.Sides.{two};
 ghost use Rattle.mvd_sync.specs.Level.{GoesDown, IsDown, next_nodes};
 ghost use Rattle.mvd_sync.specs.Walk.{AreFewFor, FindsBuckets, ReadsEnd, told, told_all};
+ghost use Rattle.mvd_sync.specs.Exchanges.{Exchanging};
+ghost use Rattle.mvd_sync.specs.RanParts.{RunsDescent};
 
 use crate::asking::{Node, Questions, ask_nodes};
 use crate::report::SyncFault;
@@ -202,6 +204,9 @@ pub fn differing_buckets<L: Peer, P: Peer>(
         let old = two local.old peer.old in
         IfErr result (ReadsEnd s (λ asked. AreFewFor s old (λ most. asked ≤ 1 + 2 * most))
         (asking local.old peer.old left.old) (two local.new peer.new)) }
+    ensures ran { let s = sides_of L.Peer P.Peer in
+        IfOk result (λ buckets. (work : Exchanging) → RunsDescent s work (asking local.old peer.old left.old)
+        (asking local.new peer.new left.new) buckets.items) }
 {
     let mut descent = match Descent::new(alloc) {
         Ok(descent) => descent,

@@ -1,5 +1,6 @@
 //! Sessions of two sides.
-ghost use Rattle.std.specs.Prelude.{◌≤◌};
+ghost use Rattle.std.specs.Prelude.{◌≤◌, IfOk};
+ghost use Rattle.mvd_sync.specs.Ran.{IsRun};
 ghost use Rattle.mvd_sync.specs.Session.{Session};
 ghost use Rattle.mvd_peer.specs.PeerSides.{sides_of};
 ghost use Rattle.mvd_peer.specs.Sides.{two};
@@ -28,6 +29,8 @@ pub fn sync_within<L: Peer, P: Peer>(
     requires limit { questions ≤ MOST_QUESTIONS }
     ensures session { Session (sides_of L.Peer P.Peer) questions
         (two local.old peer.old) (two local.new peer.new) result }
+    ensures ran { IfOk result (IsRun (sides_of L.Peer P.Peer) questions
+        (two local.old peer.old) (two local.new peer.new)) }
 {
     let number = local.number();
     let mut left = Questions {
@@ -57,6 +60,8 @@ pub fn sync<L: Peer, P: Peer>(
 ) -> Result<Report, SyncFault>
     ensures session { Session (sides_of L.Peer P.Peer) 10000000
         (two local.old peer.old) (two local.new peer.new) result }
+    ensures ran { IfOk result (IsRun (sides_of L.Peer P.Peer) 10000000
+        (two local.old peer.old) (two local.new peer.new)) }
 {
     sync_within(alloc, local, peer, MOST_QUESTIONS)
 }

@@ -1,12 +1,16 @@
-use Rattle.std.proofs.Common.{◌≡◌, ◌<◌, None, length}
+use Rattle.std.proofs.Common.{◌≡◌, ◌<◌, None, length, refl}
 use Rattle.mvd_wire.specs.declared.reply.Digests.{Digests}
 use Rattle.mvd_site.specs.Answer.{digests}
 use Rattle.mvd_peer.specs.PeerSides.{side_of}
 use Rattle.mvd_peer.specs.Sides.{HasAnswered}
-use Rattle.mvd_peer.specs.Windows.{for_nodes}
+use Rattle.mvd_peer.specs.Windows.{for_nodes, nodes_of}
 use Rattle.mvd_sync.specs.Questions.{IsInner}
-use Rattle.mvd_sync.proofs.Answering.{IsNodeOf, ReadOrEnded, read_told}
+use Rattle.mvd_sync.specs.Steps.{only_nodes}
+use Rattle.mvd_sync.specs.Tellings.{IsNodeOf, IsNoNode, nodes_told}
+use Rattle.mvd_sync.specs.declared.telling.Told.TheVariants.{Nodes}
+use Rattle.mvd_sync.proofs.Answering.{ReadOrEnded, read_told}
 use Rattle.mvd_sync.proofs.Inner.{inner_right, never_without}
+use Rattle.mvd_sync.proofs.Ran.{heard_all}
 use Rattle.mvd_sync.proofs.asking.ask_nodes.Given.{Over}
 use Rattle.mvd_sync.proofs.asking.ask_nodes.Goals as goal
 
@@ -28,3 +32,9 @@ returns-clause-told g c = (both g c).0
 
 pub returns-clause-ended : goal.returns-clause-ended
 returns-clause-ended g c = (both g c).1
+
+pub returns-clause-heard : goal.returns-clause-heard
+returns-clause-heard g c =
+    let s = side_of g.P.Peer in
+    heard_all s IsNodeOf IsNoNode nodes_told (λ v. Nodes v) (λ _. refl) (nodes_of s.is_faithful s.states) (only_nodes c.args.paths.now) c.args.paths.now c.args.left.now c.take-taken.new.left c.take-taken.result c.args.side.now c.nodes-told.new.self c.take-taken.ensures
+    (λ v asked. (asked, c.nodes-told.ensures.kept)) c.nodes-told.result c.nodes-told.ensures.told c.read_all.result c.read_all.ensures

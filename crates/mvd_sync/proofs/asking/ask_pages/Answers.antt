@@ -1,11 +1,15 @@
-use Rattle.std.proofs.Common.{◌≡◌, ◌<◌, ◌^◌, None, length}
+use Rattle.std.proofs.Common.{◌≡◌, ◌<◌, ◌^◌, None, length, refl}
 use Rattle.mvd_site.specs.Answer.{digests}
 use Rattle.mvd_peer.specs.PeerSides.{side_of}
 use Rattle.mvd_peer.specs.Sides.{HasAnswered}
-use Rattle.mvd_peer.specs.Windows.{for_pages}
+use Rattle.mvd_peer.specs.Windows.{for_pages, pages_kind}
 use Rattle.mvd_sync.specs.Answers.{IsPage, IsBucketPage}
-use Rattle.mvd_sync.proofs.Answering.{IsListingOf, ReadOrEnded, page_apart, read_told}
+use Rattle.mvd_sync.specs.Steps.{only_pages}
+use Rattle.mvd_sync.specs.Tellings.{IsListingOf, IsNoPage, pages_told}
+use Rattle.mvd_sync.specs.declared.telling.Told.TheVariants.{Pages}
+use Rattle.mvd_sync.proofs.Answering.{ReadOrEnded, page_apart, read_told}
 use Rattle.mvd_sync.proofs.ToldPages.{Told, listing_right, not_bad}
+use Rattle.mvd_sync.proofs.Ran.{heard_all}
 use Rattle.mvd_sync.proofs.asking.ask_pages.Given.{Over}
 use Rattle.mvd_sync.proofs.asking.ask_pages.Goals as goal
 
@@ -27,3 +31,9 @@ returns-clause-told g c = (both g c).0
 
 pub returns-clause-ended : goal.returns-clause-ended
 returns-clause-ended g c = (both g c).1
+
+pub returns-clause-heard : goal.returns-clause-heard
+returns-clause-heard g c =
+    let s = side_of g.P.Peer in
+    heard_all s IsListingOf IsNoPage pages_told (λ v. Pages v) (λ _. refl) (pages_kind s.is_faithful s.states) (only_pages c.args.asked.now) c.args.asked.now c.args.left.now c.take-taken.new.left c.take-taken.result c.args.side.now c.pages-told.new.self c.take-taken.ensures
+    (λ v asked. (asked, c.pages-told.ensures.kept)) c.pages-told.result c.pages-told.ensures.told c.read_all.result c.read_all.ensures

@@ -1,17 +1,22 @@
-use Rattle.std.proofs.Common.{◌≡◌, ◌≤◌, ◌∙◌, ◌+◌, [], List, ap, drop, filter_map, length, refl, sym, subst, arith, length-append}
-use Rattle.std.specs.Prelude.{All, Result}
+use Rattle.std.proofs.Common.{◌≡◌, ◌≤◌, ◌∙◌, ◌+◌, [], List, ap, drop, filter_map, length, refl, sym, subst, take, arith, length-append}
+use Rattle.std.specs.Prelude.{All, Ok, Result}
 use Rattle.std.proofs.lemmas.List.{length-drop, length-take-le}
 use Rattle.std.proofs.lemmas.List.Elements.{All-append, All-nil}
 use Rattle.mvd_dots.specs.declared.refusals.Refusal.{Refusal}
 use Rattle.mvd_keys.specs.State.{State}
 use Rattle.mvd_keys.specs.Writes.{Key}
 use Rattle.mvd_sync.specs.Meetings.{pushed_pair}
-use Rattle.mvd_sync.specs.Questions.{IsOfKey}
+use Rattle.mvd_peer.specs.Windows.{Asked, PushedAll, for_pushes, holding}
+use Rattle.mvd_sync.specs.OneTurn.{untold}
+use Rattle.mvd_sync.specs.Questions.{IsOfKey, IsWindow, with_left}
+use Rattle.mvd_sync.specs.Ran.{manner_of}
+use Rattle.mvd_sync.specs.RanParts.{pushes, turns}
 use Rattle.mvd_peer.specs.PeerSides.{side_of}
 use Rattle.mvd_peer.proofs.ManyPushes.{open_not_of_key}
 use Rattle.mvd_peer.proofs.OneByOne.{at_err_same}
 use Rattle.mvd_sync.proofs.Carrying.{all_taken, carried_all, nothing_taken}
 use Rattle.mvd_sync.proofs.Pushing.{FrontPushed, all_pushed, as_many, ended_call, ended_for_want, ended_told, front_begins, front_on, front_turned, if_err_never, none_untold, some_pairs}
+use Rattle.mvd_sync.proofs.Ran.{cut_same, turn_over}
 use Rattle.mvd_sync.proofs.exchange.carry.Goals as goal
 
 -- no memory for the pairs
@@ -32,6 +37,7 @@ loop-turn-init g c =
       meetings = begins.keys;
       pairs = begins.takes;
       fits = omega (arith, none);
+      ran = λ count window. turns c.in-Ok.turn count _ begins window refl;
       alone = λ _. refl;
     }
 
@@ -112,6 +118,28 @@ loop-turn-preserved g c =
       meetings = ap (λ v. v.items) same.keys ∙ c.loop-turn.invariant.meetings;
       pairs = pairs ∙ c.loop-turn.invariant.pairs;
       fits = omega (arith, low, many, left, cut, long, wide, fits);
+      ran = λ count window.
+          let n = c.window-count.result in
+          let takes = c.take-taken.ensures in
+          let most = takes.most in
+          let spent = takes.spent in
+          let all = c.in_ok-are_all.ensures.all in
+          let is : rest ≡ untold c.loop-turn.turn = c.rest-rest.ensures in
+          let within = c.window-count.ensures.within in
+          let cut : take c.take-taken.result rest ≡ take c.loop-turn.left (take n (untold c.loop-turn.turn)) = cut_same rest (untold c.loop-turn.turn) n c.take-taken.result c.loop-turn.left is (omega (arith, most, all)) (omega (arith, spent, all)) in
+          pushes c.loop-turn.turn c.hear.new.self n count _ _ (c.loop-turn.invariant.ran n (subst (λ (xs : List (Key × State)). IsWindow xs n) is c.window-count.ensures)) (c.has_more.ensures.0 c.loop-turn-test.true)
+          (record {
+            answers = c.in_ok-answers.answers;
+            asked = c.take-taken.result;
+            tells = subst (λ (xs : List (Key × State)). Asked (manner_of s) for_pushes xs answers c.loop-turn.side c.push_all.new.self × PushedAll (holding s.is_faithful s.states s.most_keys) xs c.loop-turn.side c.push_all.new.self (Ok c.in_ok-answers.answers)) cut (c.in_ok-answers.ensures.told, c.in_ok-answers.ensures.pushes);
+            takes = takes;
+            counted = many;
+            whole = all;
+            of_key = c.in_ok-hear.ensures.of_key;
+            more = more;
+            same = same;
+          })
+          window;
       alone = λ none. absurd (some_pairs c.has_more.result whole c.loop-turn.turn.pairs.items told c.has_more.ensures c.loop-turn-test.true c.loop-turn.invariant.pairs none);
     }
 
@@ -155,3 +183,11 @@ returns-clause-ended g c =
 
 pub returns-clause-unasked : goal.returns-clause-unasked
 returns-clause-unasked g c = if_err_never _ _ c.loop-turn.invariant.alone
+
+pub returns-clause-turn : goal.returns-clause-turn
+returns-clause-turn g c =
+    let s = side_of g.S.Peer in
+    let turn = c.loop-turn.turn in
+    let none = none_untold c.has_more.result turn.pairs.items turn.told.items c.has_more.ensures c.loop-turn-test.false in
+    let start = with_left c.args.side.now c.args.left.now in
+    turn_over s c.args.name c.args.meetings.items start turn (with_left c.loop-turn.side c.loop-turn.left) c.loop-turn.invariant.ran none c.loop-turn.invariant.side c.end.result c.end.ensures.noted

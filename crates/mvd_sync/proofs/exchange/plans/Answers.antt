@@ -4,6 +4,7 @@ use Rattle.mvd_sync.specs.Questions.{ComesToEnd, Keeps, with_left}
 use Rattle.mvd_sync.specs.declared.report.Side.TheVariants.{Local as AtLocal, Peer as AtPeer}
 use Rattle.mvd_peer.specs.PeerSides.{side_of}
 use Rattle.mvd_sync.specs.Carries.{GivesStates}
+use Rattle.mvd_sync.specs.RanParts.{HearsStates}
 use Rattle.mvd_sync.specs.declared.report.SyncFault.TheVariants.{Local}
 use Rattle.mvd_sync.proofs.Planning.{ends_at_local, ends_at_peer, ends_for_memory}
 use Rattle.mvd_sync.proofs.Positions.{ReadsEndBy}
@@ -31,3 +32,15 @@ returns-in-Err-plan_all-clause-ended g c =
     let given = subst (λ es. GivesStates l AtLocal es c.in-Ok.states.items (with_left c.args.local.now c.args.left.now.local) (with_left c.gives.new.side c.gives.new.left)) c.deref.ensures.value c.in-Ok.ensures.told in
     let given' = subst (λ es. GivesStates p AtPeer es c.in-Ok-gives.states.items (with_left c.args.peer.now c.args.left.now.peer) (with_left c.gives-2.new.side c.gives-2.new.left)) c.deref-2.ensures.value c.in-Ok-gives.ensures.told in
     ends_for_memory l p c.args.entries.items c.args.left.now c.args.local.now c.gives.new.side c.args.peer.now c.gives-2.new.side c.in-Err-plan_all.refusal c.in-Ok.states.items c.in-Ok-gives.states.items c.gives.new.left c.gives-2.new.left given given' c.in-Err-plan_all.ensures.memory
+
+pub returns-in-Ok-plan_all-clause-heard : goal.returns-in-Ok-plan_all-clause-heard
+returns-in-Ok-plan_all-clause-heard g c =
+    let l = side_of g.L.Peer in
+    let p = side_of g.P.Peer in
+    record {
+      mine = c.in-Ok.states;
+      theirs = c.in-Ok-gives.states;
+      local_side = subst (λ es. HearsStates l (held_keys AtLocal es) c.in-Ok.states.items (with_left c.args.local.now c.args.left.now.local) (with_left c.gives.new.side c.gives.new.left)) c.deref.ensures.value c.in-Ok.ensures.heard;
+      peer_side = subst (λ es. HearsStates p (held_keys AtPeer es) c.in-Ok-gives.states.items (with_left c.args.peer.now c.args.left.now.peer) (with_left c.gives-2.new.side c.gives-2.new.left)) c.deref-2.ensures.value c.in-Ok-gives.ensures.heard;
+      plans = c.in-Ok-plan_all.ensures.plans;
+    }

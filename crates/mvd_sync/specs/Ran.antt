@@ -1,0 +1,77 @@
+-- What a session asked its two sides and took of them, as a run of the machine.
+use Rattle.std.specs.Prelude.{◌≡◌, ℕ, Option, Some, None, Ok}
+use Rattle.mvd_peer.specs.Sides.{SideOf, Sides, StaysFaithful, Two, two}
+use Rattle.mvd_peer.specs.Windows.{Asked, Manner, PushedAll, for_pushes, gets_of, holding, manner, nodes_of, pages_kind}
+use Rattle.mvd_sync.specs.Exchanges.{Exchanging}
+use Rattle.mvd_sync.specs.Machines.{GoesAlone, IsQuiet, Machining, StageAsks, Starts, TakesTold, wanted_at}
+use Rattle.mvd_sync.specs.Steps.{Wanted, cut_wanted}
+use Rattle.mvd_sync.specs.declared.asking.Questions.{Questions}
+use Rattle.mvd_sync.specs.declared.report.Report.{Report}
+use Rattle.mvd_sync.specs.declared.report.Side.TheVariants.{Local as AtLocal, Peer as AtPeer}
+use Rattle.mvd_sync.specs.declared.stage.Stage.{Stage}
+use Rattle.mvd_sync.specs.declared.stage.Stage.TheVariants.{Done}
+use Rattle.mvd_sync.specs.declared.telling.Told.{Told}
+use Rattle.mvd_sync.specs.declared.telling.Told.TheVariants.{Nodes, Pages, Pushes, Refused, States}
+
+-- ---- one window
+
+abbrev pub manner_of : {S : Type 0} → SideOf S → Manner S
+manner_of s = manner s.follows s.can_refuse s.can_answer
+
+-- WHAT A SIDE TELLS of questions that it answers, all of one kind, as `Peer` says of such a call; a side that is asked
+-- nothing stays as it is
+abbrev pub SideTells : {S : Type 0} → SideOf S → Wanted → Option Told → S → S → Type 0
+SideTells s w None old new = new ≡ old
+SideTells s w (Some (Nodes told)) old new =
+    Asked (manner_of s) (nodes_of s.is_faithful s.states old) w.nodes told.items old new
+    × StaysFaithful s.is_faithful s.states old new
+SideTells s w (Some (Pages told)) old new =
+    Asked (manner_of s) (pages_kind s.is_faithful s.states old) w.pages told.items old new
+    × StaysFaithful s.is_faithful s.states old new
+SideTells s w (Some (States told)) old new =
+    Asked (manner_of s) (gets_of s.can_give s.is_faithful s.states old) w.gets told.items old new
+    × StaysFaithful s.is_faithful s.states old new
+SideTells s w (Some (Pushes told)) old new = Asked (manner_of s) for_pushes w.pushes told.items old new
+    × PushedAll (holding s.is_faithful s.states s.most_keys) w.pushes old new (Ok told)
+SideTells s w (Some (Refused refusal)) old new = ⊥
+
+-- ---- a run
+
+-- how far a session is, and what its two sides are
+pub record Running (L P : Type 0) : Type 0 where
+  pub machine : Machining
+  pub at : Two L P
+
+abbrev pub running : {L P : Type 0} → Questions → Exchanging → Stage → L → P → Running L P
+running left work stage local peer =
+    record { machine = record { left = left; work = work; stage = stage }; at = two local peer }
+
+-- both sides are asked what is next, as far as the questions reach, and tell this of it
+pub record BothTell {L P : Type 0} (s : Sides L P) (now : Machining) (mine theirs : Option Told)
+    (old new : Two L P) : Type 0 where
+  pub asks : StageAsks now.stage
+  pub local : SideTells s.local (cut_wanted now.left.local (wanted_at AtLocal now.stage)) mine old.local new.local
+  pub peer : SideTells s.peer (cut_wanted now.left.peer (wanted_at AtPeer now.stage)) theirs old.peer new.peer
+
+-- A RUN OF THE MACHINE: it goes on without a question; or both sides are asked what is next, and it takes what they
+-- tell
+pub data RunsTo {L P : Type 0} (s : Sides L P) (old : Running L P) : Running L P → Type 0 where
+  begins : (new : Running L P) → new ≡ old → RunsTo s old new
+  alone : (mid new : Running L P) → RunsTo s old mid → IsQuiet mid.machine.stage
+      → GoesAlone mid.machine.work mid.machine.stage new.machine.work new.machine.stage
+      → new.machine.left ≡ mid.machine.left → new.at ≡ mid.at → RunsTo s old new
+  told : (mid new : Running L P) (mine theirs : Option Told) → RunsTo s old mid
+      → BothTell s mid.machine mine theirs mid.at new.at → TakesTold mid.machine mine theirs new.machine (Ok tt)
+      → RunsTo s old new
+
+-- A SESSION WITH NO FAULT IS A RUN OF THE MACHINE, from one of which nothing was asked to one that is done: it asked
+-- the two sides what the machine asks, one window after the other, took what they told as the machine does, and reports
+-- what the machine reports
+pub record IsRun {L P : Type 0} (s : Sides L P) (questions : ℕ) (old new : Two L P) (report : Report) : Type 0 where
+  pub begun : Machining
+  pub done : Machining
+  pub starts : Starts (s.local.number old.local) questions begun
+  pub runs : RunsTo s (record { machine = begun; at = old }) (record { machine = done; at = new })
+  pub is_done : done.stage ≡ Done
+  pub counts : (report.keys ≡ done.work.keys) × (report.refused ≡ done.work.refused)
+      × (report.old ≡ done.work.older) × (report.first_refused ≡ done.work.first_refused)

@@ -237,17 +237,17 @@ own_more : (n client : ℕ) (asked : Result Request Refusal) (r : Reply) (mine :
     AsksAndTells (and_turn n client asked r site) (if client == n then record { asked = asked; reply = r } ∷ mine else mine) requests
 own_more n client (Ok q) r mine site requests rest = elim (client == n) as (λ b. asked_by_turns (if b then record { asked = Ok q; reply = r } ∷ mine else mine) ≡ all_ok requests →
     AsksAndTells (record { own = b; asked = q; reply = r } ∷ site) (if b then record { asked = Ok q; reply = r } ∷ mine else mine) requests) [
-  | true ↦ λ e.
-      let it = first_ok q (asked_by_turns mine) requests e in
-      let later = rest it.0 it.2 in
-      (ap (λ (qs : List Request). q ∷ qs) later.0 ∙ sym it.1, ap (λ (rs : List Reply). r ∷ rs) later.1)
-  | false ↦ λ e. rest requests e
-]
+      | true ↦ λ e.
+          let it = first_ok q (asked_by_turns mine) requests e in
+          let later = rest it.0 it.2 in
+          (ap (λ (qs : List Request). q ∷ qs) later.0 ∙ sym it.1, ap (λ (rs : List Reply). r ∷ rs) later.1)
+      | false ↦ λ e. rest requests e
+    ]
 own_more n client (Err fault) r mine site requests rest = elim (client == n) as (λ b. asked_by_turns (if b then record { asked = Err fault; reply = r } ∷ mine else mine) ≡ all_ok requests →
     AsksAndTells site (if b then record { asked = Err fault; reply = r } ∷ mine else mine) requests) [
-  | true ↦ λ e. absurd (no_fault fault (asked_by_turns mine) requests e)
-  | false ↦ λ e. rest requests e
-]
+      | true ↦ λ e. absurd (no_fault fault (asked_by_turns mine) requests e)
+      | false ↦ λ e. rest requests e
+    ]
 
 own_all : (n : ℕ) (turns : List (ℕ × Turn)) (requests : List Request) → asked_by_turns (own n turns) ≡ all_ok requests → AsksAndTells (site_turns n turns) (own n turns) requests
 own_all n [] [] e = (refl, refl)

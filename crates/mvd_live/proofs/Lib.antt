@@ -28,3 +28,8 @@ pub mod Alone
 pub mod Replied
 pub mod Hosted
 pub mod HostMail
+pub mod Between
+pub mod Right
+pub mod InWindows
+pub mod Going
+pub mod RanInWindows

@@ -6,3 +6,4 @@ pub mod Mail
 pub mod Alone
 pub mod Answers
 pub mod Hosts
+pub mod InWindows

@@ -26,3 +26,8 @@ pub mod Mailed
 pub mod Sent
 pub mod Alone
 pub mod Replied
+pub mod Between
+pub mod Right
+pub mod InWindows
+pub mod Going
+pub mod RanInWindows

@@ -27,6 +27,7 @@ ghost use Rattle.mvd_live.specs.Alone.{AreAlone, JoinsAlone};
 ghost use Rattle.mvd_live.specs.Answers.{AnswersAll, AnswersAmong, AreReplyFrames, HaveFrames, SiteTurn};
 ghost use Rattle.mvd_live.specs.Answers.{own_replies, own_requests};
 ghost use Rattle.mvd_live.specs.Few.{AsksFew, CountsSent, HasAllThatDiffered, MailsFew, asked_local, asked_peer};
+ghost use Rattle.mvd_live.specs.InWindows.{EndsOver, RanInWindows};
 ghost use Rattle.mvd_live.specs.Lives.{IsGiven, Lives};
 ghost use Rattle.mvd_meet.specs.declared.stepping.Meeting.{Meeting};
 ghost use Rattle.mvd_live.specs.Mail.{Ends, IsLiveMail, KeepsCounts, Mail, Meets, Sits, Waiting};
@@ -35,6 +36,9 @@ ghost use Rattle.mvd_meet.specs.Callers.{asked_in_window, came_at, requests_of};
 ghost use Rattle.mvd_meet.specs.declared.caller.Caller.{Caller};
 ghost use Rattle.mvd_live.specs.Runs.{Begins, Goes, Leg, Runs, Standing, all_locals, all_peers};
 ghost use Rattle.mvd_live.specs.Told.{Tells, TellsEach, TellsPush, TellsQuietly};
+ghost use Rattle.mvd_sync.specs.declared.report.Report.{Report};
+ghost use Rattle.mvd_world.specs.Machine.{Setting};
+ghost use Rattle.mvd_world.specs.OpenWorlds.{Scene};
 
 /// A session that says that it is done: of each key that its report does not leave, both sides have what either had as
 /// it began, whatever others wrote meanwhile.
@@ -164,4 +168,13 @@ pub fn moments_follow()
         → TellsEach (TellsPush most) (first ++ second) (told ++ more) old (moments ++ later) new }
     ensures rise { (most : ℕ) (w : Wanted) (told : Option Told) (old new : States) (moments : List States)
         → Tells most w told old moments new → Rises old moments new }
+{}
+
+/// A session of a world that went on by windows, among writers and other sessions, told no fault and left no key: it
+/// ran to its end, so it may stand among the sessions by which all sites agree (`mvd_world::laws::enough_sessions_agree`).
+/// That SHA-256 tells texts apart, and that the states are in form, is wanted of finitely many moments of it.
+pub fn a_session_in_windows_ran_to_its_end()
+    ensures { (setting : Setting) (before after : Scene) (local peer : ℕ) (report : Report)
+        → RanInWindows setting before after local peer report → report.refused ≡ 0
+        → EndsOver setting before.knowledge after.knowledge local peer }
 {}

@@ -51,11 +51,11 @@ takes_none old site index none = step_none old (Receive site (index + 1)) (ap (�
 
 -- ---- the state that was sent last
 
-get_last : {X : Type 0} (xs : List X) (x : X) → slice_get (xs ++ x ∷ []) (length xs) ≡ Some x
+pub get_last : {X : Type 0} (xs : List X) (x : X) → slice_get (xs ++ x ∷ []) (length xs) ≡ Some x
 get_last [] x = refl
 get_last (y ∷ xs) x = get_last xs x
 
-some_is : {X : Type 0} (x y : X) → ◌≡◌ {A = Option X} (Some x) (Some y) → x ≡ y
+pub some_is : {X : Type 0} (x y : X) → ◌≡◌ {A = Option X} (Some x) (Some y) → x ≡ y
 some_is x y e = cc
 
 state_last : (world : World) (ms : List Message) (m : Message) (number : ℕ) → world.messages.items ≡ ms ++ m ∷ [] → number ≡ length ms + 1 → state_of_message world number ≡ Some m.state

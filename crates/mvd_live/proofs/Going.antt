@@ -6,7 +6,7 @@ use Rattle.std.specs.List.{slice_get}
 use Rattle.std.proofs.lemmas.List.{append-nil}
 use Rattle.mvd_peer.specs.PushedStates.{Each}
 use Rattle.mvd_sync.proofs.Descents.{Each-left, Each-right}
-use Rattle.mvd_sync.proofs.Nodes.{Each-append}
+use Rattle.mvd_peer.proofs.Pushes.{Each-append}
 use Rattle.mvd_sync.specs.Machines.{Machining}
 use Rattle.mvd_live.specs.Runs.{Leg, Runs, all_locals, all_peers}
 use Rattle.mvd_world.specs.declared.acts.Act.{Act}

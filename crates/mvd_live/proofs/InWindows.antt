@@ -10,7 +10,7 @@ use Rattle.mvd_peer.specs.Live.{Grows}
 use Rattle.mvd_peer.specs.PushedStates.{Each}
 use Rattle.mvd_peer.specs.Sides.{Two}
 use Rattle.mvd_sync.proofs.Descents.{Each-left, Each-right}
-use Rattle.mvd_sync.proofs.Nodes.{Each-append}
+use Rattle.mvd_peer.proofs.Pushes.{Each-append}
 use Rattle.mvd_sync.specs.Machines.{HasNext, Machining}
 use Rattle.mvd_sync.specs.Steps.{asked as asked_in}
 use Rattle.mvd_sync.specs.declared.asked.Step.{Step as Asking}

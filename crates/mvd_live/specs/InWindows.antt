@@ -44,7 +44,7 @@ AreInForm local peer k = AreHeld (states_of (k.known local)) × AreHeld (states_
 abbrev pub TellApartAt : ℕ → ℕ → List Knowledge → Type 0
 TellApartAt local peer moments =
     Each (λ (a : Knowledge). Each (λ (b : Knowledge).
-      HashesTellApart spelled (states_of (a.known local)) (states_of (b.known peer))) moments) moments
+    HashesTellApart spelled (states_of (a.known local)) (states_of (b.known peer))) moments) moments
 
 -- IT RAN TO ITS END, where so at some moments of it: those at which the sites answered, and the first and the last
 pub record EndsOver (setting : Setting) (first last : Knowledge) (local peer : ℕ) : Type 0 where

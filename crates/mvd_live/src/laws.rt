@@ -171,8 +171,9 @@ pub fn moments_follow()
 {}
 
 /// A session of a world that went on by windows, among writers and other sessions, told no fault and left no key: it
-/// ran to its end, so it may stand among the sessions by which all sites agree (`mvd_world::laws::enough_sessions_agree`).
-/// That SHA-256 tells texts apart, and that the states are in form, is wanted of finitely many moments of it.
+/// ran to its end. So it may stand among the sessions by which all sites agree
+/// (`mvd_world::laws::enough_sessions_agree`). That SHA-256 tells texts apart, and that what the sites hold is in form,
+/// is wanted of finitely many moments of it.
 pub fn a_session_in_windows_ran_to_its_end()
     ensures { (setting : Setting) (before after : Scene) (local peer : ℕ) (report : Report)
         → RanInWindows setting before after local peer report → report.refused ≡ 0

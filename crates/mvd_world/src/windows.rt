@@ -12,9 +12,9 @@ ghost use Rattle.mvd_sync.specs.declared.telling.Told.TheVariants.{Nodes, Pages,
 ghost use Rattle.mvd_wire.specs.declared.request.Request.TheVariants.{Bucket, Node};
 ghost use Rattle.mvd_world.specs.declared.steps.Step.TheVariants.{Ask, Receive, Send};
 ghost use Rattle.mvd_world.specs.Machine.{Knowledge, Setting};
-ghost use Rattle.mvd_world.specs.OpenWorlds.{AllTold, AsksForNode, AsksForPage, AsksForState, AsksSite, AsksToTake, AsksWindow};
-ghost use Rattle.mvd_world.specs.OpenWorlds.{IsOneStep, LeadsWhere, PushSent, WasSent, node_in, page_in, page_of_told, push_in};
-ghost use Rattle.mvd_world.specs.OpenWorlds.{refusal_in};
+ghost use Rattle.mvd_world.specs.OpenWorlds.{AllTold, AsksForNode, AsksForPage, AsksForState, AsksSite, AsksToTake};
+ghost use Rattle.mvd_world.specs.OpenWorlds.{AsksWindow, IsOneStep, LeadsWhere, PushSent, WasSent, node_in, page_in};
+ghost use Rattle.mvd_world.specs.OpenWorlds.{page_of_told, push_in, refusal_in};
 ghost use Rattle.mvd_world.specs.Worlds.{state_of_message};
 
 use crate::steps::{Outcome, Step};
@@ -113,7 +113,7 @@ impl Question for Path {
 
     ghost as_told = { λ answers. Nodes answers };
 
-    ghost is_step = { λ _ site _ path _ _ asked. (Ask site (Node path), asked.0, asked.1, tt) };
+    ghost is_step = { λ _ site _ path _ _ so. (Ask site (Node path), so.0, so.1, tt) };
 
     fn ask(self, _alloc: Global, world: &mut World, site: u32) -> Result<Digests, Refusal> {
         let request = Request::Node(self);
@@ -135,7 +135,7 @@ impl Question for (Path, Option<Key>) {
 
     ghost as_told = { λ answers. Pages answers };
 
-    ghost is_step = { λ _ site _ page _ _ asked. (Ask site (Bucket page.0 page.1), asked.0, asked.1, tt) };
+    ghost is_step = { λ _ site _ page _ _ so. (Ask site (Bucket page.0 page.1), so.0, so.1, tt) };
 
     fn ask(self, _alloc: Global, world: &mut World, site: u32) -> Result<Page, Refusal> {
         let (path, after) = self;
@@ -158,7 +158,7 @@ impl Question for Key {
 
     ghost as_told = { λ answers. States answers };
 
-    ghost is_step = { λ _ site _ key _ _ asked. (Send site key, asked.0, asked.1, tt) };
+    ghost is_step = { λ _ site _ key _ _ so. (Send site key, so.0, so.1, tt) };
 
     fn ask(self, alloc: Global, world: &mut World, site: u32) -> Result<KeyState, Refusal> {
         let outcome = world.step(&Step::Send { site, key: self });
@@ -183,7 +183,7 @@ impl Question for (Key, KeyState) {
 
     ghost as_told = { λ answers. Pushes answers };
 
-    ghost is_step = { λ _ site _ _ _ _ asked. (Receive site (asked.0 + 1), asked.1, asked.3, tt) };
+    ghost is_step = { λ _ site _ _ _ _ so. (Receive site (so.0 + 1), so.1, so.3, tt) };
 
     fn ask(self, _alloc: Global, world: &mut World, site: u32) -> Result<(), Refusal> {
         push_in(world.take(site, &self.0, &self.1))

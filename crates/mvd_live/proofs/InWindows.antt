@@ -1,8 +1,6 @@
 -- A window of a session is told as live sides tell.
 use Rattle.std.proofs.Common.{◌≡◌, ℕ, inr, List, [], ◌∷◌, ◌++◌, Option, Some, None, refl, sym, ap, subst}
-use Rattle.std.specs.Prelude.{Result, Ok, Err, Vec}
-use Rattle.std.specs.declared.alloc.Global.{Global}
-use Rattle.mvd_dots.specs.declared.refusals.Refusal.{Refusal}
+use Rattle.std.specs.Prelude.{Ok}
 use Rattle.mvd_dots.specs.declared.refusals.Refusal.TheVariants.{Memory}
 use Rattle.mvd_site.specs.Answer.{states_of}
 use Rattle.mvd_site.specs.Held.{States}
@@ -21,7 +19,7 @@ use Rattle.mvd_sync.specs.declared.telling.Told.TheVariants as telling
 use Rattle.mvd_live.specs.Runs.{Goes, Leg, Standing}
 use Rattle.mvd_live.specs.Told.{Tells, TellsEach, TellsNode, TellsPage, TellsPush, TellsState}
 use Rattle.mvd_world.specs.Machine.{Knowledge, Setting}
-use Rattle.mvd_world.specs.OpenWorlds.{AllTold, AsksForNode, AsksForPage, AsksForState, AsksSite, AsksToTake, AsksWindow, OneByOne, OneWindow, all_asked_of, no_room}
+use Rattle.mvd_world.specs.OpenWorlds.{AsksForNode, AsksForPage, AsksForState, AsksSite, AsksToTake, AsksWindow, OneByOne, OneWindow, all_asked_of, no_room}
 use Rattle.mvd_world.proofs.Cutting.{site_steps}
 use Rattle.mvd_live.specs.InWindows.{AreInForm, IsBetween, LedTo}
 use Rattle.mvd_live.proofs.Between.{IsInForm, WasHeldAt, among_left, among_right, from_earlier, held_among, held_at, led_cut, led_grows, led_none, led_on, local_form, peer_form}

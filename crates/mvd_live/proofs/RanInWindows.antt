@@ -1,5 +1,5 @@
 -- A session in windows that left no key ran to its end.
-use Rattle.std.proofs.Common.{◌≡◌, ◌⊎◌, inl, inr, ℕ, ◌+◌, Bool, true, false, MatchBool, List, [], ◌∷◌, ◌++◌, length, map, Option, Some, None, refl, sym, ap, ◌∙◌, subst, subst₂, true≢false, arith, length-append}
+use Rattle.std.proofs.Common.{◌≡◌, inl, inr, ℕ, ◌+◌, Bool, true, false, MatchBool, List, [], ◌∷◌, length, map, Some, None, refl, sym, ap, ◌∙◌, subst, subst₂, true≢false, arith, length-append}
 use Rattle.std.specs.List.{slice_get}
 use Rattle.std.proofs.lemmas.List.{nil_from_length}
 use Rattle.mvd_tree.specs.Hashed.{HashesTellApart}
@@ -21,7 +21,7 @@ use Rattle.mvd_world.specs.declared.steps.Step.TheVariants.{Session}
 use Rattle.mvd_world.proofs.Asking.{get_last}
 use Rattle.mvd_world.specs.Machine.{Knowledge, Setting, is_site, may_be}
 use Rattle.mvd_world.specs.OpenWorlds.{BeginsOpen, MayAct, MayBegin, MayGo, Scene, TellsWork, goes_at, had_ended, has_failed, has_gone, has_stopped, is_done}
-use Rattle.mvd_live.specs.InWindows.{AreInForm, EndsOver, LedTo, RanInWindows, TellApartAt}
+use Rattle.mvd_live.specs.InWindows.{EndsOver, LedTo, RanInWindows, TellApartAt}
 use Rattle.mvd_live.proofs.Between.{WasHeldAt, at_among, each_holds, led_none}
 use Rattle.mvd_live.proofs.Going.{IsAt, RanBy, acts_gone, is_none, led_acts, machine_is, session_is}
 use Rattle.mvd_live.proofs.InWindows.{most_at, standing_at}

@@ -15,7 +15,7 @@ use Rattle.mvd_keys.proofs.Standing.{state-own}
 use Rattle.mvd_keys.proofs.StatesOfWrites.{join-state}
 use Rattle.mvd_wire.specs.declared.reply.Digests.{Digests}
 use Rattle.mvd_wire.specs.declared.reply.Reply.{Reply}
-use Rattle.mvd_wire.specs.declared.reply.Reply.TheVariants.{Digests as Node_told, Done, Keys, Refused}
+use Rattle.mvd_wire.specs.declared.reply.Reply.TheVariants.{Done, Keys, Refused}
 use Rattle.mvd_wire.specs.declared.request.Request.{Request}
 use Rattle.mvd_wire.specs.declared.request.Request.TheVariants.{Bucket, Node, Push}
 use Rattle.mvd_site.specs.Answer.{after_from, answer, bucket_answer, digests, is_full, is_too_large, node_digests, states_of}
@@ -33,7 +33,7 @@ use Rattle.mvd_world.specs.declared.steps.Step.{Step}
 use Rattle.mvd_world.specs.declared.steps.Step.TheVariants.{Ask, Receive, Send}
 use Rattle.mvd_world.specs.declared.steps.Outcome.{Outcome}
 use Rattle.mvd_world.specs.declared.steps.Outcome.TheVariants.{Failed, Met, NoSuch, Replied, Sent}
-use Rattle.mvd_world.specs.Machine.{AnswersAtSite, Knowledge, MayStep, Receives, Sends, SentMessage, Setting, Takes, is_site, learns, may_be, received}
+use Rattle.mvd_world.specs.Machine.{Knowledge, MayStep, Receives, Sends, SentMessage, Setting, Takes, is_site, learns, may_be, received}
 use Rattle.mvd_world.specs.OpenWorlds.{AsksForNode, AsksForPage, AsksForState, AsksToTake, IsMessageAt, TellsSent, node_in, page_in, page_of_told, push_in}
 use Rattle.mvd_world.proofs.Agreed.{state_is}
 use Rattle.mvd_world.proofs.Asking.{get_last, some_is}

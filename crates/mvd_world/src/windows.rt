@@ -120,7 +120,9 @@ impl Question for Path {
         node_in(world.step(&Step::Ask { site, request }))
     }
 
-    fn told(answers: Vec<Result<Digests, Refusal>>) -> Told {
+    fn told(answers: Vec<Result<Digests, Refusal>>) -> Told
+        ensures { result ≡ Nodes answers }
+    {
         Told::Nodes(answers)
     }
 }
@@ -143,7 +145,9 @@ impl Question for (Path, Option<Key>) {
         page_in(world.step(&Step::Ask { site, request }))
     }
 
-    fn told(answers: Vec<Result<Page, Refusal>>) -> Told {
+    fn told(answers: Vec<Result<Page, Refusal>>) -> Told
+        ensures { result ≡ Pages answers }
+    {
         Told::Pages(answers)
     }
 }
@@ -168,7 +172,9 @@ impl Question for Key {
         }
     }
 
-    fn told(answers: Vec<Result<KeyState, Refusal>>) -> Told {
+    fn told(answers: Vec<Result<KeyState, Refusal>>) -> Told
+        ensures { result ≡ States answers }
+    {
         Told::States(answers)
     }
 }
@@ -189,7 +195,9 @@ impl Question for (Key, KeyState) {
         push_in(world.take(site, &self.0, &self.1))
     }
 
-    fn told(answers: Vec<Result<(), Refusal>>) -> Told {
+    fn told(answers: Vec<Result<(), Refusal>>) -> Told
+        ensures { result ≡ Pushes answers }
+    {
         Told::Pushes(answers)
     }
 }

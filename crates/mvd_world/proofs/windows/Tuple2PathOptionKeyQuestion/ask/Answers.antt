@@ -1,4 +1,4 @@
-use Rattle.mvd_world.proofs.windows.PathOptionKeyQuestion.ask.Goals as goal
+use Rattle.mvd_world.proofs.windows.Tuple2PathOptionKeyQuestion.ask.Goals as goal
 
 pub returns : goal.returns
 returns c setting before world sent =

@@ -1,5 +1,5 @@
 use Rattle.mvd_world.proofs.Asking.{sent_in_world}
-use Rattle.mvd_world.proofs.windows.KeyKeyStateQuestion.ask.Goals as goal
+use Rattle.mvd_world.proofs.windows.Tuple2KeyKeyStateQuestion.ask.Goals as goal
 
 pub returns : goal.returns
 returns c setting before world sent =

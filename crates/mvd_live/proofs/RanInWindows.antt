@@ -18,13 +18,13 @@ use Rattle.mvd_world.specs.declared.acts.Act.TheVariants.{Begin, Go}
 use Rattle.mvd_world.specs.declared.acts.Came.TheVariants as coming
 use Rattle.mvd_world.specs.declared.open_world.OpenSession.{OpenSession}
 use Rattle.mvd_world.specs.declared.steps.Step.TheVariants.{Session}
+use Rattle.mvd_world.proofs.Asking.{get_last}
 use Rattle.mvd_world.specs.Machine.{Knowledge, Setting, is_site, may_be}
 use Rattle.mvd_world.specs.OpenWorlds.{BeginsOpen, MayAct, MayBegin, MayGo, Scene, TellsWork, goes_at, had_ended, has_failed, has_gone, has_stopped, is_done}
 use Rattle.mvd_live.specs.InWindows.{EndsOver, LedTo, RanInWindows, TellApartAt}
 use Rattle.mvd_live.proofs.Between.{WasHeldAt, at_among, each_holds, led_none}
 use Rattle.mvd_live.proofs.Going.{IsAt, RanBy, acts_gone, is_none, led_acts, machine_is, session_is}
 use Rattle.mvd_live.proofs.InWindows.{most_at, standing_at}
-use Rattle.mvd_live.proofs.Right.{get_last}
 
 no_went : (report : Report) → coming.Met report ≡ coming.Went → ⊥
 no_went report e = cc

@@ -36,6 +36,7 @@ use Rattle.mvd_world.specs.declared.steps.Outcome.TheVariants.{Failed, Met, NoSu
 use Rattle.mvd_world.specs.Machine.{Knowledge, MayStep, Receives, Sends, SentMessage, Setting, Takes, is_site, learns, may_be, received}
 use Rattle.mvd_world.specs.OpenWorlds.{AsksForNode, AsksForPage, AsksForState, AsksToTake, IsMessageAt, TellsSent, node_in, page_in, page_of_told, push_in}
 use Rattle.mvd_world.proofs.Agreed.{state_is}
+use Rattle.mvd_world.proofs.Asking.{get_last, some_is}
 use Rattle.mvd_world.proofs.Changed.{learns_here}
 use Rattle.mvd_live.specs.InWindows.{LedTo}
 use Rattle.mvd_live.proofs.Between.{led_none, led_step}
@@ -120,13 +121,6 @@ page_right setting site before q t after asks =
     (page_pair held q t (subst (TellsPair held q) (sym asks.2) (asked_so setting before site (Bucket q.0 q.1) after (λ o. TellsPair held q (page_in o)) tt (λ refusal. tt) (λ config. page_so held q) asks.0 asks.1)))
 
 -- ---- states
-
-pub get_last : {X : Type 0} (xs : List X) (x : X) → slice_get (xs ++ x ∷ []) (length xs) ≡ Some x
-get_last [] x = refl
-get_last (y ∷ xs) x = get_last xs x
-
-some_is : (x y : SentMessage) → ◌≡◌ {A = Option SentMessage} (Some x) (Some y) → x ≡ y
-some_is x y e = cc
 
 sent_is : (before : Knowledge) (site : ℕ) (key : Key) (number index : ℕ) (after : Knowledge) (s : State) → Sends before site key number after → number ≡ index + 1 → IsMessageAt after.messages index (key, s) → s ≡ state_at (states_of (before.known site)) key
 sent_is before site key number index after s told at m =

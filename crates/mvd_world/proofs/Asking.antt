@@ -1,5 +1,5 @@
 -- How the code tells of a window.
-use Rattle.std.proofs.Common.{◌≡◌, ℕ, ◌+◌, ◌-◌, ◌<◌, zero, suc, true, false, ◌&&◌, MatchBool, List, [], ◌∷◌, ◌++◌, map, length, take, Option, Some, None, refl, sym, ap, ap₂, ◌∙◌, subst, arith, length-append}
+use Rattle.std.proofs.Common.{◌≡◌, ℕ, ◌+◌, ◌-◌, ◌<◌, zero, suc, true, false, ◌&&◌, MatchBool, List, [], ◌∷◌, ◌++◌, map, length, Option, Some, None, refl, sym, ap, ap₂, ◌∙◌, subst, arith, length-append}
 use Rattle.std.specs.Prelude.{Result, Ok, Err, IfOk, IfErr, option_map}
 use Rattle.std.specs.List.{slice_get}
 use Rattle.std.proofs.lemmas.List.{length-map, map-append}
@@ -16,16 +16,17 @@ use Rattle.mvd_wire.specs.declared.reply.Reply.TheVariants.{Refused}
 use Rattle.mvd_sync.specs.Steps.{asked as asked_in}
 use Rattle.mvd_sync.specs.declared.asked.Window.{Window}
 use Rattle.mvd_sync.specs.declared.telling.Told.{Told}
-use Rattle.mvd_sync.proofs.Descents.{Each-right, Each-take}
+use Rattle.mvd_sync.proofs.Descents.{Each-left, Each-right}
+use Rattle.mvd_sync.proofs.Keys.{Each-weaker}
 use Rattle.mvd_world.specs.declared.worlds.Message.{Message}
 use Rattle.mvd_world.specs.declared.worlds.World.{World}
 use Rattle.mvd_world.specs.declared.steps.Step.TheVariants.{Receive, Send}
 use Rattle.mvd_world.specs.declared.steps.Outcome.{Outcome}
 use Rattle.mvd_world.specs.declared.steps.Outcome.TheVariants.{Failed, Met, NoSuch, Replied, Sent}
 use Rattle.mvd_world.specs.Machine.{Knowledge, MayStep, SentMessage, Sends, Setting, Takes, is_numbered, is_site, may_be}
-use Rattle.mvd_world.specs.Worlds.{IsWorld, Leads, Steps, message_of, state_of_message}
-use Rattle.mvd_world.specs.OpenWorlds.{AsksSite, AsksToTake, AsksWindow, IsMessageAt, LeadsWhere, OneByOne, TellsSent, WasSent, refusal_in}
-use Rattle.mvd_world.proofs.Cutting.{one_by_one_longer, one_more_asked, sent_still, take_step}
+use Rattle.mvd_world.specs.Worlds.{IsWorld, Steps, message_of, state_of_message}
+use Rattle.mvd_world.specs.OpenWorlds.{AsksSite, AsksWindow, IsMessageAt, IsOneStep, LeadsWhere, OneByOne, PushSent, TellsSent, WasSent, refusal_in}
+use Rattle.mvd_world.proofs.Cutting.{one_by_one_longer, one_more_asked, sent_still}
 use Rattle.mvd_world.proofs.Leading.{SiteChanges, number_in, receives_lead}
 use Rattle.mvd_world.proofs.Taking.{step_none, step_takes}
 
@@ -50,11 +51,11 @@ takes_none old site index none = step_none old (Receive site (index + 1)) (ap (�
 
 -- ---- the state that was sent last
 
-get_last : {X : Type 0} (xs : List X) (x : X) → slice_get (xs ++ x ∷ []) (length xs) ≡ Some x
+pub get_last : {X : Type 0} (xs : List X) (x : X) → slice_get (xs ++ x ∷ []) (length xs) ≡ Some x
 get_last [] x = refl
 get_last (y ∷ xs) x = get_last xs x
 
-some_is : {X : Type 0} (x y : X) → ◌≡◌ {A = Option X} (Some x) (Some y) → x ≡ y
+pub some_is : {X : Type 0} (x y : X) → ◌≡◌ {A = Option X} (Some x) (Some y) → x ≡ y
 some_is x y e = cc
 
 state_last : (world : World) (ms : List Message) (m : Message) (number : ℕ) → world.messages.items ≡ ms ++ m ∷ [] → number ≡ length ms + 1 → state_of_message world number ≡ Some m.state
@@ -107,31 +108,31 @@ not_sent messages key NoSuch other = refl
 
 -- ---- one question after the other
 
-pub leads_none : {Q A : Type 0} (Asks : Setting → Knowledge → Q → A → Knowledge → Type 0) (world : World) → Leads world world (λ setting before after. OneByOne (Asks setting) before [] [] after)
-leads_none Asks world setting before stands = (before, (refl, stands))
+-- questions were asked, each of which pushes what was sent
+abbrev pub AsksAll : {Q A : Type 0} → (Q → List (Key × State)) → (Setting → Knowledge → Q → A → Knowledge → Type 0) → World → World → List Q → List A → Type 0
+AsksAll pushes Asks old new qs answers = LeadsWhere old new (PushSent pushes qs) (λ setting before after. OneByOne (Asks setting) before qs answers after)
 
-pub leads_more : {Q A : Type 0} (Asks : Setting → Knowledge → Q → A → Knowledge → Type 0) (qs : List Q) (answers : List A) (q : Q) (a : A) (old mid new : World) → Leads old mid (λ setting before after. OneByOne (Asks setting) before qs answers after) → Leads mid new (λ setting before after. Asks setting before q a after)
-    → Leads old new (λ setting before after. OneByOne (Asks setting) before (qs ++ q ∷ []) (answers ++ a ∷ []) after)
-leads_more Asks qs answers q a old mid new so_far now setting before stands =
-    let first = so_far setting before stands in
-    let next = now setting first.0 first.1.1 in
-    (next.0, (one_more_asked (Asks setting) qs answers q a before first.0 next.0 first.1.0 next.1.0, next.1.1))
+pub asks_none : {Q A : Type 0} (pushes : Q → List (Key × State)) (Asks : Setting → Knowledge → Q → A → Knowledge → Type 0) (world : World) → AsksAll pushes Asks world world [] []
+asks_none pushes Asks world setting before stands sent = (before, (refl, stands))
 
--- so of pushes, each of which was sent
-abbrev pub TakesFirst : World → World → ℕ → List (Key × State) → List (Key × State) → List (Result (Unit {0}) Refusal) → Type 0
-TakesFirst old new site all pairs answers = LeadsWhere old new (λ before. Each (WasSent before.messages) all) (λ setting before after. OneByOne (AsksToTake setting site) before pairs answers after)
-
-last_of : (P : Key × State → Type 0) (pairs first : List (Key × State)) (pair : Key × State) (n : ℕ) → take n pairs ≡ first ++ pair ∷ [] → Each P pairs → P pair
-last_of P pairs first pair n is each = (Each-right P first (pair ∷ []) (subst (Each P) is (Each-take P n pairs each))).0
-
-pub takes_more : (old mid new : World) (site n : ℕ) (all first : List (Key × State)) (answers : List (Result (Unit {0}) Refusal)) (pair : Key × State) (a : Result (Unit {0}) Refusal) → take n all ≡ first ++ pair ∷ [] → TakesFirst old mid site all first answers
-    → LeadsWhere mid new (λ before. WasSent before.messages pair) (λ setting before after. AsksToTake setting site before pair a after) → TakesFirst old new site all (first ++ pair ∷ []) (answers ++ a ∷ [])
-takes_more old mid new site n all first answers pair a is so_far now setting before stands sent =
-    let done = so_far setting before stands sent in
-    let longer = one_by_one_longer setting (AsksToTake setting site) (take_step setting site) before first answers done.0 done.1.0 in
-    let was : WasSent done.0.messages pair = sent_still before.messages done.0.messages pair longer (last_of (WasSent before.messages) all first pair n is sent) in
+pub asks_more : {Q A : Type 0} (pushes : Q → List (Key × State)) (Asks : Setting → Knowledge → Q → A → Knowledge → Type 0) → ((setting : Setting) → IsOneStep setting (Asks setting)) → (qs : List Q) (answers : List A) (q : Q) (a : A) (old mid new : World) → AsksAll pushes Asks old mid qs answers
+    → LeadsWhere mid new (λ before. Each (WasSent before.messages) (pushes q)) (λ setting before after. Asks setting before q a after) → AsksAll pushes Asks old new (qs ++ q ∷ []) (answers ++ a ∷ [])
+asks_more pushes Asks is qs answers q a old mid new so_far now setting before stands sent =
+    let done = so_far setting before stands (Each-left (λ x. Each (WasSent before.messages) (pushes x)) qs (q ∷ []) sent) in
+    let longer = one_by_one_longer setting (Asks setting) (is setting) before qs answers done.0 done.1.0 in
+    let was = Each-weaker (WasSent before.messages) (WasSent done.0.messages) (λ pair w. sent_still before.messages done.0.messages pair longer w) (pushes q) (Each-right (λ x. Each (WasSent before.messages) (pushes x)) qs (q ∷ []) sent).0 in
     let next = now setting done.0 done.1.1 was in
-    (next.0, (one_more_asked (AsksToTake setting site) first answers pair a before done.0 next.0 done.1.0 next.1.0, next.1.1))
+    (next.0, (one_more_asked (Asks setting) qs answers q a before done.0 next.0 done.1.0 next.1.0, next.1.1))
+
+-- questions none of which pushes
+pub none_pushed : {Q : Type 0} (qs : List Q) (before : Knowledge) → PushSent (λ _. []) qs before
+none_pushed [] before = tt
+none_pushed (q ∷ qs) before = (tt, none_pushed qs before)
+
+-- pushes, each of which was sent
+pub each_pushed : (pairs : List (Key × State)) (before : Knowledge) → Each (WasSent before.messages) pairs → PushSent (λ pair. pair ∷ []) pairs before
+each_pushed [] before sent = tt
+each_pushed (pair ∷ pairs) before sent = ((sent.0, tt), each_pushed pairs before sent.1)
 
 -- ---- how the code tells of a push
 

@@ -25,7 +25,7 @@ use Rattle.mvd_world.specs.declared.steps.Outcome.{Outcome}
 use Rattle.mvd_world.specs.declared.steps.Outcome.TheVariants.{Replied, Sent as Sent_as, Met, Failed, NoSuch}
 use Rattle.mvd_world.specs.Agreeing.{IsNoWrite, WithoutWrites}
 use Rattle.mvd_world.specs.Machine.{Knowledge, MayStep, RunsSteps, SentMessage, Setting, Takes, is_site, may_be}
-use Rattle.mvd_world.specs.OpenWorlds.{AllTold, AreCutInto, AsksForNode, AsksForPage, AsksForState, AsksSite, AsksToTake, AsksWindow, GoesOn, IsCutInto, IsNoWriting, IsOfWindow, MayAct, MayBegin, MayGo, OneByOne, RunsActs, Scene, WasSent, all_asked_of, goes_at, had_ended, has_failed, has_gone, has_stopped, is_done, no_room}
+use Rattle.mvd_world.specs.OpenWorlds.{AllTold, AreCutInto, AsksForNode, AsksForPage, AsksForState, AsksSite, AsksToTake, AsksWindow, GoesOn, IsCutInto, IsNoWriting, IsOfWindow, IsOneStep, MayAct, MayBegin, MayGo, OneByOne, RunsActs, Scene, WasSent, all_asked_of, goes_at, had_ended, has_failed, has_gone, has_stopped, is_done, no_room}
 
 -- ---- messages are only added
 
@@ -81,11 +81,6 @@ one_more_asked Asks [] [] q a before mid after so_far now = (after, subst (λ k.
 one_more_asked Asks (p ∷ qs) (t ∷ answers) q a before mid after so_far now = (so_far.0, so_far.1, one_more_asked Asks qs answers q a so_far.0 mid after so_far.2 now)
 one_more_asked Asks [] (t ∷ answers) q a before mid after so_far now = absurd so_far
 one_more_asked Asks (p ∷ qs) [] q a before mid after so_far now = absurd so_far
-
--- each question is a step or none
-abbrev pub IsOneStep : {Q A : Type 0} → Setting → (Knowledge → Q → A → Knowledge → Type 0) → Type 0
-IsOneStep {Q} {A} setting Asks = (before : Knowledge) (q : Q) (a : A) (after : Knowledge) → Asks before q a after
-    → (step : Step) × (outcome : Outcome) × MayStep setting before step outcome after × IsOfWindow step
 
 pub one_by_one_longer : {Q A : Type 0} (setting : Setting) (Asks : Knowledge → Q → A → Knowledge → Type 0) → IsOneStep setting Asks → (before : Knowledge) (qs : List Q) (answers : List A) (after : Knowledge) → OneByOne Asks before qs answers after → IsLonger before.messages after.messages
 one_by_one_longer setting Asks is before [] [] after h = same_length before.messages after.messages (ap (λ (w : Knowledge). w.messages) h)

@@ -107,6 +107,18 @@ AsksToTake setting site before pair told after =
     (index : ℕ) × (outcome : Outcome) × IsMessageAt before.messages index pair
     × MayStep setting before (Receive site (index + 1)) outcome after × (told ≡ push_in outcome)
 
+-- a question, a state that is sent, or a message that comes
+abbrev pub IsOfWindow : Step → Type 0
+IsOfWindow (Ask site request) = Unit {0}
+IsOfWindow (Send site key) = Unit {0}
+IsOfWindow (Receive site message) = Unit {0}
+IsOfWindow step = ⊥
+
+-- each question is such a step
+abbrev pub IsOneStep : {Q A : Type 0} → Setting → (Knowledge → Q → A → Knowledge → Type 0) → Type 0
+IsOneStep {Q} {A} setting Asks = (before : Knowledge) (q : Q) (a : A) (after : Knowledge) → Asks before q a after
+    → (step : Step) × (outcome : Outcome) × MayStep setting before step outcome after × IsOfWindow step
+
 -- ---- a window is a list of steps
 
 -- one question after the other
@@ -124,6 +136,10 @@ pub data AllTold {Q A : Type 0} (as_told : Vec (Result A Refusal) Global → Tol
   all_asked_of : (answers : Vec (Result A Refusal) Global) → told ≡ as_told answers
       → OneByOne Asks before questions answers.items after → AllTold as_told Asks before questions told after
   no_room : told ≡ telling.Refused Memory → after ≡ before → AllTold as_told Asks before questions told after
+
+-- whatever these questions push was sent
+abbrev pub PushSent : {Q : Type 0} → (Q → List (Key × State)) → List Q → Knowledge → Type 0
+PushSent pushes questions before = Each (λ q. Each (WasSent before.messages) (pushes q)) questions
 
 abbrev pub AsksWindow : Setting → ℕ → Knowledge → Window → Told → Knowledge → Type 0
 AsksWindow setting site before (wanted.Nodes paths) =
@@ -236,13 +252,6 @@ RunsActs setting before (act ∷ acts) (came ∷ cames) after =
 RunsActs setting before acts cames after = ⊥
 
 -- ---- acts are steps
-
--- a question, a state that is sent, or a message that comes
-abbrev pub IsOfWindow : Step → Type 0
-IsOfWindow (Ask site request) = Unit {0}
-IsOfWindow (Send site key) = Unit {0}
-IsOfWindow (Receive site message) = Unit {0}
-IsOfWindow step = ⊥
 
 -- a step is itself, a session that begins is none, and one that goes on is such steps
 abbrev pub IsCutInto : Act → Came → List Step → List Outcome → Type 0

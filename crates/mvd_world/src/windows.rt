@@ -1,12 +1,21 @@
 //! The questions of a window, each of which is a step of a world.
-ghost use Rattle.std.specs.Prelude.{◌≡◌, IfErr, IfOk, Some};
+ghost use Rattle.std.specs.Prelude.{◌≡◌, ◌∷◌, ◌+◌, [], ℕ, IfErr, IfOk, List, Result, Some, Vec};
+ghost use Rattle.std.specs.declared.alloc.Global.{Global};
+ghost use Rattle.mvd_dots.specs.declared.refusals.Refusal.{Refusal};
 ghost use Rattle.mvd_dots.specs.declared.refusals.Refusal.TheVariants.{Memory};
+ghost use Rattle.mvd_keys.specs.State.{State};
+ghost use Rattle.mvd_keys.specs.Writes.{Key};
 ghost use Rattle.mvd_peer.specs.PushedStates.{Each};
 ghost use Rattle.mvd_sync.specs.Steps.{asked};
-ghost use Rattle.mvd_world.specs.OpenWorlds.{AllTold, AsksForNode, AsksForPage, AsksForState, AsksSite, AsksToTake, AsksWindow, LeadsWhere};
+ghost use Rattle.mvd_sync.specs.declared.telling.Told.{Told};
 ghost use Rattle.mvd_sync.specs.declared.telling.Told.TheVariants.{Nodes, Pages, Pushes, States};
-ghost use Rattle.mvd_world.specs.OpenWorlds.{OneByOne, WasSent, node_in, page_in, page_of_told, push_in, refusal_in};
-ghost use Rattle.mvd_world.specs.Worlds.{Leads, state_of_message};
+ghost use Rattle.mvd_wire.specs.declared.request.Request.TheVariants.{Bucket, Node};
+ghost use Rattle.mvd_world.specs.declared.steps.Step.TheVariants.{Ask, Receive, Send};
+ghost use Rattle.mvd_world.specs.Machine.{Knowledge, Setting};
+ghost use Rattle.mvd_world.specs.OpenWorlds.{AllTold, AsksForNode, AsksForPage, AsksForState, AsksSite, AsksToTake};
+ghost use Rattle.mvd_world.specs.OpenWorlds.{AsksWindow, IsOneStep, LeadsWhere, PushSent, WasSent, node_in, page_in};
+ghost use Rattle.mvd_world.specs.OpenWorlds.{page_of_told, push_in, refusal_in};
+ghost use Rattle.mvd_world.specs.Worlds.{state_of_message};
 
 use crate::steps::{Outcome, Step};
 use crate::worlds::World;
@@ -57,23 +66,6 @@ fn push_in(outcome: Outcome) -> Result<(), Refusal>
     }
 }
 
-/// A node is asked for.
-fn ask_node(world: &mut World, site: u32, path: Path) -> Result<Digests, Refusal>
-    ensures { Leads world.old world.new (λ setting before after. AsksForNode setting site before path result after) }
-{
-    let request = Request::Node(path);
-    node_in(world.step(&Step::Ask { site, request }))
-}
-
-/// A page is asked for.
-fn ask_page(world: &mut World, site: u32, page: (Path, Option<Key>)) -> Result<Page, Refusal>
-    ensures { Leads world.old world.new (λ setting before after. AsksForPage setting site before page result after) }
-{
-    let (path, after) = page;
-    let request = Request::Bucket(path, after);
-    page_in(world.step(&Step::Ask { site, request }))
-}
-
 /// A copy of the state that is a message.
 fn copy_sent(alloc: Global, world: &World, number: u64) -> Result<KeyState, Refusal>
     ensures copied { IfOk result (λ state. state_of_message world.now number ≡ Some state) }
@@ -85,140 +77,144 @@ fn copy_sent(alloc: Global, world: &World, number: u64) -> Result<KeyState, Refu
     }
 }
 
+/// A question that a session asks of a site of a world.
+trait Question: Sized + Drop {
+    type Answer: Drop;
+
+    /// The states that it pushes.
+    ghost pushes: { Self → List (Key × State) };
+
+    /// What it comes to where a site is asked it.
+    ghost asks: { Setting → ℕ → Knowledge → Self → Result Self.Answer Refusal → Knowledge → Type 0 };
+
+    /// All that is told of such questions.
+    ghost as_told: { Vec (Result Self.Answer Refusal) Global → Told };
+
+    /// Asks a site. What it pushes was sent.
+    fn ask(self, alloc: Global, world: &mut World, site: u32) -> Result<Self::Answer, Refusal>
+        ensures { LeadsWhere world.old world.new (λ before. Each (WasSent before.messages) (pushes self))
+            (λ setting before after. asks setting site before self result after) };
+
+    /// All that is told of such questions.
+    fn told(answers: Vec<Result<Self::Answer, Refusal>>) -> Told
+        ensures { result ≡ as_told answers };
+
+    /// It is one step of the world.
+    ghost is_step: { (setting : Setting) (site : ℕ) → IsOneStep setting (asks setting site) };
+}
+
+/// A node is asked for.
+impl Question for Path {
+    type Answer = Digests;
+
+    ghost pushes = { λ _. [] };
+
+    ghost asks = { AsksForNode };
+
+    ghost as_told = { λ answers. Nodes answers };
+
+    ghost is_step = { λ _ site _ path _ _ so. (Ask site (Node path), so.0, so.1, tt) };
+
+    fn ask(self, _alloc: Global, world: &mut World, site: u32) -> Result<Digests, Refusal> {
+        let request = Request::Node(self);
+        node_in(world.step(&Step::Ask { site, request }))
+    }
+
+    fn told(answers: Vec<Result<Digests, Refusal>>) -> Told
+        ensures { result ≡ Nodes answers }
+    {
+        Told::Nodes(answers)
+    }
+}
+
+/// A page is asked for.
+impl Question for (Path, Option<Key>) {
+    type Answer = Page;
+
+    ghost pushes = { λ _. [] };
+
+    ghost asks = { AsksForPage };
+
+    ghost as_told = { λ answers. Pages answers };
+
+    ghost is_step = { λ _ site _ page _ _ so. (Ask site (Bucket page.0 page.1), so.0, so.1, tt) };
+
+    fn ask(self, _alloc: Global, world: &mut World, site: u32) -> Result<Page, Refusal> {
+        let (path, after) = self;
+        let request = Request::Bucket(path, after);
+        page_in(world.step(&Step::Ask { site, request }))
+    }
+
+    fn told(answers: Vec<Result<Page, Refusal>>) -> Told
+        ensures { result ≡ Pages answers }
+    {
+        Told::Pages(answers)
+    }
+}
+
 /// The state of a key is sent, and told.
-fn ask_state(alloc: Global, world: &mut World, site: u32, key: Key) -> Result<KeyState, Refusal>
-    ensures { Leads world.old world.new (λ setting before after. AsksForState setting site before key result after) }
-{
-    let outcome = world.step(&Step::Send { site, key });
-    match outcome {
-        Outcome::Sent(number) => copy_sent(alloc, world, number),
-        other => Err(refusal_in(other)),
+impl Question for Key {
+    type Answer = KeyState;
+
+    ghost pushes = { λ _. [] };
+
+    ghost asks = { AsksForState };
+
+    ghost as_told = { λ answers. States answers };
+
+    ghost is_step = { λ _ site _ key _ _ so. (Send site key, so.0, so.1, tt) };
+
+    fn ask(self, alloc: Global, world: &mut World, site: u32) -> Result<KeyState, Refusal> {
+        let outcome = world.step(&Step::Send { site, key: self });
+        match outcome {
+            Outcome::Sent(number) => copy_sent(alloc, world, number),
+            other => Err(refusal_in(other)),
+        }
+    }
+
+    fn told(answers: Vec<Result<KeyState, Refusal>>) -> Told
+        ensures { result ≡ States answers }
+    {
+        Told::States(answers)
     }
 }
 
 /// A state that was sent is received.
-fn ask_to_take(world: &mut World, site: u32, key: &Key, state: &KeyState) -> Result<(), Refusal>
-    ensures { LeadsWhere world.old world.new (λ before. WasSent before.messages (key.now, state.now))
-        (λ setting before after. AsksToTake setting site before (key.now, state.now) result after) }
-{
-    push_in(world.take(site, key, state))
-}
+impl Question for (Key, KeyState) {
+    type Answer = ();
 
-/// What is told of nodes, each of which is asked for. If memory is refused, none was.
-fn ask_nodes(
-    alloc: Global,
-    world: &mut World,
-    site: u32,
-    paths: Vec<Path>,
-) -> Result<Vec<Result<Digests, Refusal>>, Refusal>
-    ensures told { IfOk result (λ told. Leads world.old world.new
-        (λ setting before after. OneByOne (AsksForNode setting site) before paths.items told.items after)) }
-    ensures memory { IfErr result (λ refusal. (refusal ≡ Memory) × (world.new ≡ world.old)) }
-{
-    let mut told = room_for(alloc, paths.len())?;
-    for path in paths {
-        told.push_reserved(ask_node(world, site, path));
+    ghost pushes = { λ pair. pair ∷ [] };
+
+    ghost asks = { AsksToTake };
+
+    ghost as_told = { λ answers. Pushes answers };
+
+    ghost is_step = { λ _ site _ _ _ _ so. (Receive site (so.0 + 1), so.1, so.3, tt) };
+
+    fn ask(self, _alloc: Global, world: &mut World, site: u32) -> Result<(), Refusal> {
+        push_in(world.take(site, &self.0, &self.1))
     }
-    Ok(told)
-}
 
-/// What is told of pages.
-fn ask_pages(
-    alloc: Global,
-    world: &mut World,
-    site: u32,
-    pages: Vec<(Path, Option<Key>)>,
-) -> Result<Vec<Result<Page, Refusal>>, Refusal>
-    ensures told { IfOk result (λ told. Leads world.old world.new
-        (λ setting before after. OneByOne (AsksForPage setting site) before pages.items told.items after)) }
-    ensures memory { IfErr result (λ refusal. (refusal ≡ Memory) × (world.new ≡ world.old)) }
-{
-    let mut told = room_for(alloc, pages.len())?;
-    for page in pages {
-        told.push_reserved(ask_page(world, site, page));
-    }
-    Ok(told)
-}
-
-/// What is told of the states of keys.
-fn ask_states(
-    alloc: Global,
-    world: &mut World,
-    site: u32,
-    keys: Vec<Key>,
-) -> Result<Vec<Result<KeyState, Refusal>>, Refusal>
-    ensures told { IfOk result (λ told. Leads world.old world.new
-        (λ setting before after. OneByOne (AsksForState setting site) before keys.items told.items after)) }
-    ensures memory { IfErr result (λ refusal. (refusal ≡ Memory) × (world.new ≡ world.old)) }
-{
-    let mut told = room_for(alloc, keys.len())?;
-    for key in keys {
-        told.push_reserved(ask_state(alloc, world, site, key));
-    }
-    Ok(told)
-}
-
-/// What is told of pushes.
-fn ask_to_take_all(
-    alloc: Global,
-    world: &mut World,
-    site: u32,
-    pairs: &[(Key, KeyState)],
-) -> Result<Vec<Result<(), Refusal>>, Refusal>
-    ensures told { IfOk result (λ told. LeadsWhere world.old world.new
-        (λ before. Each (WasSent before.messages) pairs.now)
-        (λ setting before after. OneByOne (AsksToTake setting site) before pairs.now told.items after)) }
-    ensures memory { IfErr result (λ refusal. (refusal ≡ Memory) × (world.new ≡ world.old)) }
-{
-    let mut told = room_for(alloc, pairs.len())?;
-    for (key, state) in pairs {
-        told.push_reserved(ask_to_take(world, site, key, state));
-    }
-    Ok(told)
-}
-
-/// The answers about nodes, or why there are none.
-fn tell_nodes(alloc: Global, world: &mut World, site: u32, paths: Vec<Path>) -> Told
-    ensures { Leads world.old world.new (λ setting before after.
-        AllTold (λ answers. Nodes answers) (AsksForNode setting site) before paths.items result after) }
-{
-    match ask_nodes(alloc, world, site, paths) {
-        Ok(answers) => Told::Nodes(answers),
-        Err(refusal) => Told::Refused(refusal),
+    fn told(answers: Vec<Result<(), Refusal>>) -> Told
+        ensures { result ≡ Pushes answers }
+    {
+        Told::Pushes(answers)
     }
 }
 
-/// The answers about pages.
-fn tell_pages(alloc: Global, world: &mut World, site: u32, pages: Vec<(Path, Option<Key>)>) -> Told
-    ensures { Leads world.old world.new (λ setting before after.
-        AllTold (λ answers. Pages answers) (AsksForPage setting site) before pages.items result after) }
+/// What a site tells of questions, each of which it is asked. If memory is refused, it is asked none.
+fn tell<Q: Question>(alloc: Global, world: &mut World, site: u32, questions: Vec<Q>) -> Told
+    ensures { LeadsWhere world.old world.new (PushSent Q.pushes questions.items) (λ setting before after.
+        AllTold Q.as_told (Q.asks setting site) before questions.items result after) }
 {
-    match ask_pages(alloc, world, site, pages) {
-        Ok(answers) => Told::Pages(answers),
-        Err(refusal) => Told::Refused(refusal),
+    let mut answers = match room_for(alloc, questions.len()) {
+        Ok(room) => room,
+        Err(refusal) => return Told::Refused(refusal),
+    };
+    for question in questions {
+        answers.push_reserved(question.ask(alloc, world, site));
     }
-}
-
-/// The states of keys.
-fn tell_states(alloc: Global, world: &mut World, site: u32, keys: Vec<Key>) -> Told
-    ensures { Leads world.old world.new (λ setting before after.
-        AllTold (λ answers. States answers) (AsksForState setting site) before keys.items result after) }
-{
-    match ask_states(alloc, world, site, keys) {
-        Ok(answers) => Told::States(answers),
-        Err(refusal) => Told::Refused(refusal),
-    }
-}
-
-/// The answers to pushes.
-fn tell_pushes(alloc: Global, world: &mut World, site: u32, pairs: &[(Key, KeyState)]) -> Told
-    ensures { LeadsWhere world.old world.new (λ before. Each (WasSent before.messages) pairs.now) (λ setting before after.
-        AllTold (λ answers. Pushes answers) (AsksToTake setting site) before pairs.now result after) }
-{
-    match ask_to_take_all(alloc, world, site, pairs) {
-        Ok(answers) => Told::Pushes(answers),
-        Err(refusal) => Told::Refused(refusal),
-    }
+    Q::told(answers)
 }
 
 /// What a site tells of a window.
@@ -227,10 +223,10 @@ fn ask_window(alloc: Global, world: &mut World, site: u32, window: Window) -> To
         (λ setting before after. AsksWindow setting site before window result after) }
 {
     match window {
-        Window::Nodes(paths) => tell_nodes(alloc, world, site, paths),
-        Window::Pages(pages) => tell_pages(alloc, world, site, pages),
-        Window::Gets(keys) => tell_states(alloc, world, site, keys),
-        Window::Pushes(pairs) => tell_pushes(alloc, world, site, &pairs),
+        Window::Nodes(paths) => tell(alloc, world, site, paths),
+        Window::Pages(pages) => tell(alloc, world, site, pages),
+        Window::Gets(keys) => tell(alloc, world, site, keys),
+        Window::Pushes(pairs) => tell(alloc, world, site, pairs),
     }
 }
 

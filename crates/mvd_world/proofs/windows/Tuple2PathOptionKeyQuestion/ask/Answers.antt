@@ -1,6 +1,6 @@
-use Rattle.mvd_world.proofs.windows.ask_page.Goals as goal
+use Rattle.mvd_world.proofs.windows.Tuple2PathOptionKeyQuestion.ask.Goals as goal
 
 pub returns : goal.returns
-returns c setting before world =
+returns c setting before world sent =
     let m = c.step.ensures.machine setting before world in
     (m.0, ((c.step.result, m.1.0, c.page_in.ensures), m.1.1))

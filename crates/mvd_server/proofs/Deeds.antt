@@ -145,7 +145,7 @@ comes_frames old None host (same, full) = deeds_same old (with_host old host) (a
 comes_frames old (Some n) host one = deeds_one (Comes n) old (with_host old host) (one, refl)
 
 -- one over HTTP
-pub pub does_web : (n : ℕ) (old : Talking) (host : HostValue) (new : Talking) → AdmitsOne None old.host host n → OpensWeb n (with_host old host) new → ComesBy Http n old new
+pub does_web : (n : ℕ) (old : Talking) (host : HostValue) (new : Talking) → AdmitsOne None old.host host n → OpensWeb n (with_host old host) new → ComesBy Http n old new
 does_web n old host new one (web, fresh, same) =
     let at : new.host ≡ host = ap (λ (t : Talking). t.host) same in
     (web, (subst (λ (h : HostValue). AdmitsOne None old.host h n) (sym at) one, fresh, same ∙ ap (λ (h : HostValue). record old { host = h; webs = insert_entry nat_cmp old.webs n web }) (sym at)))

@@ -25,7 +25,7 @@ went_on false r e x is = absurd cc
 framed_fits : (kind : ℕ) (payload bytes : List ℕ) → framed kind payload ≡ Ok bytes → length payload + 1 ≤ frame_limit
 framed_fits kind payload bytes is = leb-true _ _ (passed_ok (leb (length payload + 1) frame_limit) FrameTooLong (spell_frame (record { kind = kind; payload = payload })) bytes is).0
 
-payload_fits : (r : Reply) → CanBeSent r → length (reply_payload r) + 1 ≤ frame_limit
+pub payload_fits : (r : Reply) → CanBeSent r → length (reply_payload r) + 1 ≤ frame_limit
 payload_fits (reply.State s) is = framed_fits 0xA1 _ _ (went_on _ _ _ _ is)
 payload_fits (reply.Written d) is = framed_fits 0xA2 _ _ is
 payload_fits reply.Done is = framed_fits 0xA3 [] _ is

@@ -5,7 +5,7 @@ use Rattle.mvd_dots.specs.declared.refusals.Refusal.TheVariants.{Memory}
 use Rattle.mvd_wire.specs.declared.reply.Reply.{Reply}
 use Rattle.mvd_wire.specs.declared.reply.Reply.TheVariants.{Refused}
 use Rattle.mvd_wire.specs.Frames.{FrameValue, frame_at, frame_limit, spell_frame}
-use Rattle.mvd_wire.specs.Replies.{is_short}
+use Rattle.mvd_wire.specs.Replies.{IsReply, is_short}
 use Rattle.mvd_conn.specs.Guard.{IsShown}
 use Rattle.mvd_wire.specs.declared.ending.Ending.{Ending}
 use Rattle.mvd_wire.specs.declared.ending.Ending.TheVariants as ending
@@ -76,6 +76,9 @@ pub record IsBounded (h : History) : Type 0 where
   pub few_due : due h ≤ due_most
   pub few_waiting : length h.waits + owed h ≤ queue_most
 
--- the reply that is queued: want of memory may stand in place of one that has no short frame
+-- the reply that is queued: want of memory may stand in place of one that has no short frame, and else that is one that
+-- is decoded again
 abbrev pub IsQueued : Reply → Reply → Type 0
-IsQueued reply queued = (queued ≡ reply) ⊎ ((is_short reply ≡ false) × (queued ≡ Refused Memory))
+IsQueued reply queued =
+    ((queued ≡ reply) × (is_short reply ≡ false → IsReply reply))
+    ⊎ ((is_short reply ≡ false) × (queued ≡ Refused Memory))

@@ -1,5 +1,5 @@
 //! Short replies, whose frames take no memory.
-ghost use Rattle.std.specs.Prelude.{◌≡◌, ◌≤◌, List, ℕ, take, false, MatchOption};
+ghost use Rattle.std.specs.Prelude.{◌≡◌, ◌≤◌, List, ℕ, take, false, true, MatchOption};
 ghost use Rattle.mvd_dots.specs.Dot.{IsDot};
 ghost use Rattle.mvd_wire.specs.Replies.{is_short, reply_bytes};
 ghost use Rattle.mvd_wire.specs.declared.reply.Reply.TheVariants as reply_of;
@@ -70,7 +70,8 @@ impl Short {
 
 /// The frame of a reply that has a short one: a Written, a Done or a Refused.
 pub fn short_reply(reply: &Reply) -> Option<Short>
-    ensures { MatchOption result (is_short reply.now ≡ false) (λ s. s ≡ reply_bytes reply.now) }
+    ensures { MatchOption result (is_short reply.now ≡ false)
+        (λ s. (is_short reply.now ≡ true) × (s ≡ reply_bytes reply.now)) }
 {
     match reply {
         Reply::State(_)

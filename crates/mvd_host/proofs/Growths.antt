@@ -11,7 +11,7 @@ use Rattle.mvd_replica.specs.Turns.{Turn, known_after_turns}
 use Rattle.mvd_host.specs.Grown.{Grows}
 use Rattle.mvd_host.specs.Round.{Serves}
 
-grows_by : (old new : States) (W V : List Write) → Stands old W → Stands new (W ++ V) → Grows old new
+pub grows_by : (old new : States) (W V : List Write) → Stands old W → Stands new (W ++ V) → Grows old new
 grows_by old new W V p q key =
     ap₂ join (state_at-stands old W key p) (state_at-stands new (W ++ V) key q)
     ∙ grows key W V

@@ -1,5 +1,5 @@
 -- The order in which the requests of a round are answered.
-use Rattle.std.proofs.Common.{◌≡◌, ◌∙◌, ◌≤◌, ◌<◌, ◌+◌, ◌==◌, slice_index, ℕ, Bool, true, false, true≢false, cond, List, [], ◌∷◌, ◌++◌, Result, Ok, Err, map, length, zip, take, get_or, refl, sym, ap, ap₂, subst, append_assoc, append-nil, length-append, inl, inr, arith}
+use Rattle.std.proofs.Common.{◌≡◌, ◌∙◌, ◌<◌, ◌+◌, ◌==◌, slice_index, ℕ, Bool, true, false, true≢false, cond, List, [], ◌∷◌, ◌++◌, Result, Ok, Err, map, length, zip, take, get_or, refl, sym, ap, ap₂, subst, append_assoc, append-nil, length-append, inl, inr, arith}
 use Rattle.std.specs.Prelude.{IsOk, is_ok}
 use Rattle.std.proofs.lemmas.Bool.Decides.{nat_tests}
 use Rattle.std.proofs.lemmas.List.{length-map, length-take-le, map-append, take_more}
@@ -11,7 +11,7 @@ use Rattle.mvd_conn.specs.History.{History}
 use Rattle.mvd_host.specs.Hosts.{client_in}
 use Rattle.mvd_host.specs.Course.{BothClients, own}
 use Rattle.mvd_host.specs.Taking.{AreFaults, HasTakenFrame, HoldsTaken, IsFair, IsNothingTaken, TakesFairly, TakesOn, TakesOnly}
-use Rattle.mvd_host.specs.Arranging.{Arranged, Arranges, HasPlaces, Lays}
+use Rattle.mvd_host.specs.Arranging.{Arranged, Arranges, Lays}
 use Rattle.mvd_host.specs.declared.arranging.Lanes.{Lanes}
 use Rattle.mvd_host.specs.declared.taking.Taken.{Taken}
 use Rattle.mvd_host.proofs.Hosts.{at_is}

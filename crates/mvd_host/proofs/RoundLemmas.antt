@@ -232,7 +232,7 @@ answered_ok rs requests ns replies mid between old new before after same numbers
       ts = zip (map (λ (r : ℕ × Request). r.0) rs) a.turns;
       asked = zip_asks rs a.turns asked;
       queued = subst (λ l. QueuesReplies l mid between) (ok_tells rs ns a.turns replies numbers a.told) queued;
-      serves = subst (λ l. Serves l old new before after) (sym (zip_turns rs a.turns asked)) (serves_turns a.turns old new before after a.takes);
+      serves = subst (λ l. Serves l old new before after) (sym (zip_turns rs a.turns asked)) (serves_turns a.turns old new before after a.states a.takes);
     }
 
 pub answered_err : (rs : List (ℕ × Request)) (ns : List ℕ) (refusal : Refusal) (mid between : List (ℕ × History)) (site : SiteValue) (s : State)

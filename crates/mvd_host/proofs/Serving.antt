@@ -14,18 +14,28 @@ use Rattle.mvd_site.proofs.Pushes.{refusal_is}
 use Rattle.mvd_site.proofs.Steps.{Stands-nothing}
 use Rattle.mvd_replica.specs.Whole.{leaves_self}
 use Rattle.mvd_replica.specs.Turns.{TurnEvent, IsToldElse, MayTell, RepliesOne, Turn}
+use Rattle.mvd_replica.specs.Batch.{TakesAllFrom, TakesFrom}
 use Rattle.mvd_replica.proofs.Positions.{TakesTurns, TurnsFollow}
 use Rattle.mvd_replica.proofs.Batched.{TakesTurns-none, TurnsFollow-append}
 use Rattle.mvd_replica.proofs.Breaking.{else_both}
 use Rattle.mvd_replica.proofs.Replying.{AddsAt-Refused, AddsAt-Refused-none, HasChoice-append, HasChoice-none, MayTell-memory, Replies-append, Replies-none, Replies-one, StandsOn-append, StandsOn-none, StandsOn-one}
+use Rattle.mvd_host.specs.Round.{ServesAllFrom, ServesFrom}
 use Rattle.mvd_host.proofs.Positions.{Serves}
 use Rattle.sqlite.specs.State.{State}
 
-pub serves_turns : (turns : List Turn) (old new : SiteValue) (before after : State) → TakesTurns turns old new before after → Serves turns old new before after
-serves_turns turns old new before after t = record { replies = t.replies; stands = t.stands; config = t.config; choice = t.choice; told = t.told; follows = t.follows }
+served_from : (turns : List Turn) (old new : SiteValue) → TakesAllFrom old new turns → ServesAllFrom old new turns
+served_from [] old new all = all
+served_from (turn ∷ turns) old new all = (all.0, inl all.1, served_from turns all.0 new all.2)
+
+served_on : (first second : List Turn) (old mid new : SiteValue) → ServesAllFrom old mid first → ServesAllFrom mid new second → ServesAllFrom old new (first ++ second)
+served_on [] second old mid new one other = subst (λ s. ServesAllFrom s new second) one other
+served_on (turn ∷ first) second old mid new one other = (one.0, one.1, served_on first second one.0 mid new one.2 other)
+
+pub serves_turns : (turns : List Turn) (old new : SiteValue) (before after : State) → TakesAllFrom old new turns → TakesTurns turns old new before after → Serves turns old new before after
+serves_turns turns old new before after from t = record { replies = t.replies; stands = t.stands; config = t.config; choice = t.choice; told = t.told; follows = t.follows; states = served_from turns old new from }
 
 pub serves_none : (site : SiteValue) (s : State) → Serves [] site site s s
-serves_none site s = record { replies = Replies-none site; stands = StandsOn-none site; config = refl; choice = HasChoice-none; told = λ _. tt; follows = (TakesTurns-none site s).follows }
+serves_none site s = record { replies = Replies-none site; stands = StandsOn-none site; config = refl; choice = HasChoice-none; told = λ _. tt; follows = (TakesTurns-none site s).follows; states = refl }
 
 module _ (first second : List Turn) (old mid new : SiteValue) (before between after : State) (p : Serves first old mid before between) (q : Serves second mid new between after) where
   told_on : (is : Bool) → mid.broken ≡ is → new.broken ≡ false → AllByRecursion IsToldElse (first ++ second)
@@ -40,6 +50,7 @@ module _ (first second : List Turn) (old mid new : SiteValue) (before between af
     choice = HasChoice-append first second p.choice q.choice;
     told = told_on mid.broken refl;
     follows = TurnsFollow-append first second old mid new before between after p.follows q.follows p.told;
+    states = served_on first second old mid new p.states q.states;
   }
 
 -- ---- a turn that leaves all as it is
@@ -71,6 +82,12 @@ still_one site asked refusal exact = record {
   keeps = λ known added stands adds. Stands-nothing site.states known added stands (AddsAt-Refused asked refusal added adds);
 }
 
+still_from : (site : SiteValue) (asked : Result Request Refusal) (refusal : Refusal) → (refusal ≢ Memory → asked ≡ Err refusal) → ServesFrom site site (record { asked = asked; reply = Refused refusal })
+still_from site asked refusal exact = elim (memory_or_not refusal) [
+  | inl memory ↦ inr (ap Refused memory, refl)
+  | inr other ↦ inl (subst (λ a. TakesFrom site site a (Refused refusal)) (sym (exact other)) (inl refl, refl))
+]
+
 still_follows : (turn : Turn) (site : SiteValue) (s : State) → TurnsFollow (turn ∷ []) site site s s
 still_follows turn site s =
     let none : TurnsFollow [] site site s s = (TakesTurns-none site s).follows in
@@ -87,6 +104,7 @@ still_turn site s asked refusal exact =
       choice = (event ∷ [], record { told = refl; fits = (AddsAt-Refused-none asked refusal, tt) });
       told = λ _. (still_else asked refusal exact, tt);
       follows = still_follows turn site s;
+      states = (site, still_from site asked refusal exact, refl);
     }
 
 pub serves_still : (turns : List Turn) (site : SiteValue) (s : State) → AllByRecursion IsStill turns → Serves turns site site s s

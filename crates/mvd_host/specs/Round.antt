@@ -1,13 +1,15 @@
 -- One round: frames of many clients, as turns of one list.
-use Rattle.std.specs.Prelude.{◌≡◌, ◌≢◌, ◌⊎◌, ◌<◌, Bool, ℕ, List, [], ◌++◌, map, length, slice_index, None, Result, IfOk, OnOk, true, false}
+use Rattle.std.specs.Prelude.{◌≡◌, ◌≢◌, ◌⊎◌, ◌<◌, Bool, ℕ, List, [], ◌∷◌, ◌++◌, map, length, slice_index, None, Result, IfOk, OnOk, true, false}
 use Rattle.std.specs.List.{AllByRecursion}
 use Rattle.mvd_dots.specs.declared.refusals.Refusal.{Refusal}
+use Rattle.mvd_dots.specs.declared.refusals.Refusal.TheVariants.{Memory}
+use Rattle.mvd_wire.specs.declared.reply.Reply.TheVariants.{Refused}
 use Rattle.mvd_wire.specs.Frames.{FrameValue}
 use Rattle.mvd_conn.specs.Guard.{IsShown}
 use Rattle.mvd_conn.specs.History.{History}
 use Rattle.mvd_site.specs.Sites.{SiteValue}
 use Rattle.mvd_replica.specs.Turns.{TurnEvent, IsToldElse, Replies, StandsOn, TellsTurns, Turn}
-use Rattle.mvd_replica.specs.Batch.{TurnsFollow}
+use Rattle.mvd_replica.specs.Batch.{TakesFrom, TurnsFollow}
 use Rattle.mvd_replica.specs.Replicas.{StoredSite, site_of, store_of}
 use Rattle.mvd_replica.specs.declared.replica.Replica.{Replica}
 use Rattle.mvd_host.specs.Hosts.{HostValue, IfClient, client_of}
@@ -33,9 +35,18 @@ stored_in side = record { site = side.site; store = side.store }
 abbrev pub turns_of : List (ℕ × Turn) → List Turn
 turns_of = map (λ t. t.1)
 
+-- a turn does to the site what its frame asks, and is told that; or it is told want of memory, and the site is as it was
+abbrev pub ServesFrom : SiteValue → SiteValue → Turn → Type 0
+ServesFrom old new turn = TakesFrom old new turn.asked turn.reply ⊎ ((turn.reply ≡ Refused Memory) × (new ≡ old))
+
+-- each turn finds the site as the one before it left it
+abbrev pub ServesAllFrom : SiteValue → SiteValue → List Turn → Type 0
+ServesAllFrom old new [] = new ≡ old
+ServesAllFrom old new (turn ∷ turns) = (mid : SiteValue) × ServesFrom old mid turn × ServesAllFrom mid new turns
+
 -- What turns do to a replica: each reply is one that may be given from the writes known before it, the states stand for
 -- the writes known and those that the turns added, of which there is a choice, and the records follow. 22 is told only
--- where the site is broken afterwards
+-- where the site is broken afterwards. And each turn is of the states that the one before it left
 pub record Serves (turns : List Turn) (old new : StoredSite) : Type 0 where
   pub replies : Replies old.site new.site turns
   pub stands : StandsOn old.site new.site turns
@@ -43,6 +54,7 @@ pub record Serves (turns : List Turn) (old new : StoredSite) : Type 0 where
   pub choice : (events : List TurnEvent) × TellsTurns events turns
   pub told : new.site.broken ≡ false → AllByRecursion IsToldElse turns
   pub follows : TurnsFollow turns old new
+  pub states : ServesAllFrom old.site new.site turns
 
 -- The frames that were taken of a connection are those of these turns, in order, and the replies that were queued on it
 -- are theirs, in order. Where there is a guard, the first frame of all shows the token

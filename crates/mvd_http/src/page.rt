@@ -5,7 +5,7 @@ pub const PAGE: &str = r##"<!DOCTYPE html>
 <!--
 The page of mvd: keys and their siblings, lists, and writes, over the HTTP interface of one site.
 It is built into the program and loads nothing from elsewhere. The server must send it with this policy:
-Content-Security-Policy: default-src 'none'; script-src 'sha256-nXMd8IG79t3hAaA/3wWO4vVZBf2YiCHzeCXr6YILBKg='; style-src 'sha256-GfXVPu/24CyMDZkrHnm/405USX81HQtD5DIfoaMqPsA='; connect-src 'self'; img-src data:; base-uri 'none'; form-action 'none'; frame-ancestors 'none'; require-trusted-types-for 'script'; trusted-types 'none'
+Content-Security-Policy: default-src 'none'; script-src 'sha256-ZX7paCH1By00xLfFtV5a3JR4B9ntpuaai9IHEvihQsA='; style-src 'sha256-GfXVPu/24CyMDZkrHnm/405USX81HQtD5DIfoaMqPsA='; connect-src 'self'; img-src data:; base-uri 'none'; form-action 'none'; frame-ancestors 'none'; require-trusted-types-for 'script'; trusted-types 'none'
 tools/page.py stamp   writes the policy of this file's style and script into this comment.
 tools/page.py test    drives the page in a browser, under this policy.
 -->
@@ -438,7 +438,7 @@ const REFUSALS = {
   14: 'A path has at most 3 digits, 0 to 9 and a to f.',
   15: 'A term is null, true, false, a whole number, or a text in double quotes of at most 512 bytes.',
   20: 'The site has no memory for it now. Try again.',
-  21: 'The site could not store it. Nothing was changed.',
+  21: 'The site could not store it. Its file may keep it all the same: look the key up when it runs again.',
   22: 'The site is broken until it is opened again. The write may have been kept.',
   33: 'The request has not the right form.',
   36: 'As many clients are served as may be. Try again.',

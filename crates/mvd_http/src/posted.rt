@@ -23,7 +23,7 @@ use mvd_wire::{Items, Request};
 use serde_json::Value;
 use std::alloc::Global;
 
-/// A list of writes has at most as many lines.
+/// The most lines of a list of writes.
 const MOST_LINES: usize = 1_000;
 
 /// What a line asks, or why it is refused.

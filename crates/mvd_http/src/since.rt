@@ -10,7 +10,7 @@ use crate::target_parts::decoded;
 use mvd_dots::Refusal;
 use std::alloc::Global;
 
-/// A response may wait for so many seconds.
+/// The most seconds that a response may wait.
 const MOST_SECONDS: u64 = 60;
 
 /// The 32 bytes of 64 hexadecimal digits.

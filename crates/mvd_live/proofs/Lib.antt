@@ -26,3 +26,5 @@ pub mod Mailed
 pub mod Sent
 pub mod Alone
 pub mod Replied
+pub mod Hosted
+pub mod HostMail

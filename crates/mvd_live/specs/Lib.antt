@@ -5,3 +5,4 @@ pub mod Few
 pub mod Mail
 pub mod Alone
 pub mod Answers
+pub mod Hosts

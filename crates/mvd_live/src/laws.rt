@@ -1,5 +1,6 @@
 //! What a session comes to beside other writers, each law as the contract of an empty function.
-ghost use Rattle.std.specs.Prelude.{◌≡◌, ◌+◌, ℕ, List, [], ◌∷◌, ◌++◌, Option, None, Some, Result, Ok, Err};
+ghost use Rattle.std.specs.Prelude.{◌≡◌, ◌+◌, ℕ, List, [], ◌∷◌, ◌++◌, flat_map, map, Option, None, Some, Result, Ok, Err};
+ghost use Rattle.std.specs.List.{concat};
 ghost use Rattle.std.specs.declared.alloc.Global.{Global};
 ghost use Rattle.std.specs.declared.vec.Vec.{Vec};
 ghost use Rattle.mvd_dots.specs.declared.refusals.Refusal.{Refusal};
@@ -10,6 +11,10 @@ ghost use Rattle.mvd_wire.specs.declared.reply.Reply.{Reply};
 ghost use Rattle.mvd_site.specs.Answer.{digests};
 ghost use Rattle.mvd_site.specs.Config.{ConfigValue};
 ghost use Rattle.mvd_site.specs.Held.{AreHeld, States, state_at};
+ghost use Rattle.mvd_replica.specs.Turns.{Turn};
+ghost use Rattle.mvd_conn.specs.History.{History};
+ghost use Rattle.mvd_host.specs.Course.{own};
+ghost use Rattle.mvd_host.specs.Runs.{HostMoment, OneList, TellsOwn, side_at};
 ghost use Rattle.mvd_peer.specs.Live.{Grows, Rises};
 ghost use Rattle.mvd_peer.specs.PushedStates.{Each};
 ghost use Rattle.mvd_peer.specs.Sides.{Two};
@@ -27,6 +32,7 @@ ghost use Rattle.mvd_live.specs.Alone.{AreAlone, JoinsAlone};
 ghost use Rattle.mvd_live.specs.Answers.{AnswersAll, AnswersAmong, AreReplyFrames, HaveFrames, SiteTurn};
 ghost use Rattle.mvd_live.specs.Answers.{own_replies, own_requests};
 ghost use Rattle.mvd_live.specs.Few.{AsksFew, CountsSent, HasAllThatDiffered, MailsFew, asked_local, asked_peer};
+ghost use Rattle.mvd_live.specs.Hosts.{TellsWindows, site_turns};
 ghost use Rattle.mvd_live.specs.Lives.{IsGiven, Lives};
 ghost use Rattle.mvd_meet.specs.declared.stepping.Meeting.{Meeting};
 ghost use Rattle.mvd_live.specs.Mail.{Ends, IsLiveMail, KeepsCounts, Mail, Meets, Sits, Waiting};
@@ -35,6 +41,9 @@ ghost use Rattle.mvd_meet.specs.Callers.{asked_in_window, came_at, requests_of};
 ghost use Rattle.mvd_meet.specs.declared.caller.Caller.{Caller};
 ghost use Rattle.mvd_live.specs.Runs.{Begins, Goes, Leg, Runs, Standing, all_locals, all_peers};
 ghost use Rattle.mvd_live.specs.Told.{Tells, TellsEach, TellsPush, TellsQuietly};
+ghost use Rattle.sqlite.specs.Held.{Held, state};
+
+use sqlite::Alter;
 
 /// A session that says that it is done: of each key that its report does not leave, both sides have what either had as
 /// it began, whatever others wrote meanwhile.
@@ -80,6 +89,22 @@ pub fn mail_of_a_site_is_live()
     ensures turns { (config : ConfigValue) (turns : List SiteTurn) (old new : States) → AreHeld old
         → AnswersAll config old turns new → (moments : List States)
         × AnswersAmong config (own_requests turns) (own_replies turns) old moments new }
+{}
+
+/// A host is a site that answers many: its list of turns, with those of all its clients, are answers of its site one
+/// after the other, from turn to turn what the site holds only grows, and those of one client are answers among those of
+/// others (`mail_of_a_site_is_live`).
+pub fn a_host_answers_many<S: Alter>()
+    ensures turns { (n : ℕ) (turns : List (ℕ × Turn)) (old new : HostMoment (Held S)) → AreHeld old.site.states
+        → OneList turns (side_at (state S.Store) old) (side_at (state S.Store) new)
+        → AnswersAll old.site.config old.site.states (site_turns n turns) new.site.states }
+    // The bytes that were queued for a client whose frames asked windows are the frames of such answers. Want of memory
+    // stands in place of a reply for which there was none.
+    ensures windows { (n : ℕ) (turns : List (ℕ × Turn)) (old new : HostMoment (Held S)) (h : History)
+        (windows : List Window) → AreHeld old.site.states
+        → OneList turns (side_at (state S.Store) old) (side_at (state S.Store) new) → TellsOwn (own n turns) h
+        → map (λ turn. turn.asked) (own n turns) ≡ map (λ request. Ok request) (flat_map requests_of windows)
+        → TellsWindows old.site.config windows (concat h.answers) old.site.states new.site.states }
 {}
 
 /// A session makes nothing up: each state that it pushes into a side is what the other told of that key, at a moment of

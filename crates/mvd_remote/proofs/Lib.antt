@@ -3,3 +3,4 @@ pub mod RemoteSides
 pub mod Lined
 pub mod FarSides
 pub mod Mailed
+pub mod SiteReplies

@@ -5,6 +5,8 @@ use Rattle.std.specs.Prelude.{IfSome, IsTrue, OnOk}
 use Rattle.std.specs.List.{AllByRecursion}
 use Rattle.mvd_dots.specs.declared.refusals.Refusal.{Refusal}
 use Rattle.mvd_dots.specs.declared.refusals.Refusal.TheVariants.{Broken, Memory}
+use Rattle.mvd_keys.specs.Key.{is_key}
+use Rattle.mvd_keys.specs.State.{IsValid}
 use Rattle.mvd_wire.specs.Codecs.{spell_state}
 use Rattle.mvd_wire.specs.declared.request.Request.{Request}
 use Rattle.mvd_wire.specs.declared.request.Request.TheVariants.{Put, Delete, Push}
@@ -79,10 +81,10 @@ pub comes_answer : (site : SiteValue) (request : Request) (reply : Reply) → Pr
 comes_answer site request reply from ready valid =
     ((inl from, λ _ bad. true≢false (sym (ap is_refusal bad) ∙ ready.accepts)), plain_reply request reply ready valid)
 
-pub comes_change : (site : SiteValue) (request : Request) (change : ChangeValue) → PreparesFrom site.config site.states request (Ok (Change change)) → IsReady site (Change change) → IsValidRequest request → IsSpelled change.state →
-    ComesTo site.config site.states request (Change change) × IsSendable request (Change change)
-comes_change site request change from ready valid spelled =
-    ((from, ready.0), (plain_reply request (change_reply change.dot) (change_plain change.dot) valid, ready.1, spelled))
+pub comes_change : (site : SiteValue) (request : Request) (change : ChangeValue) → PreparesFrom site.config site.states request (Ok (Change change)) → IsReady site (Change change) → IsValidRequest request → IsSpelled change.state → IsValid change.state →
+    is_key change.key ≡ true → ComesTo site.config site.states request (Change change) × IsSendable request (Change change)
+comes_change site request change from ready valid spelled sound key =
+    ((from, ready.0), (plain_reply request (change_reply change.dot) (change_plain change.dot) valid, ready.1, spelled, sound, key))
 
 -- ---- lists, one more
 

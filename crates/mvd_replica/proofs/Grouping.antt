@@ -1,7 +1,7 @@
 -- Requests of one commit: what each comes to after the others.
 use Rattle.std.proofs.lemmas.Bool.Decides.{nat_tests}
 use Rattle.std.proofs.Common.{◌≡◌, ◌≢◌, ◌∙◌, ℕ, ◌+◌, ◌<◌, ◌≤◌, ◌==◌, arith, zero, suc, Bool, true, false, not, ◌&&◌, cond, if◌then◌else◌, List, [], ◌∷◌, ◌++◌, Option, Some, None, Ok, is_some, unwrap_or, refl, sym, ap, ap₂, subst, inl, inr, length, take, drop, get_or, ◌⊎◌}
-use Rattle.std.proofs.lemmas.List.{drop_all, drop_more, take_more}
+use Rattle.std.proofs.lemmas.List.{drop_more, take_more}
 use Rattle.std.specs.Prelude.{IfSome}
 use Rattle.std.specs.List.{AllByRecursion}
 use Rattle.std.specs.FinMap.{get, get-insert, insert, len as map_len, len-insert}
@@ -30,7 +30,6 @@ use Rattle.mvd_site.specs.Sites.{SiteValue, has_no_room}
 use Rattle.mvd_site.proofs.Answered.{with_state-same, with_state-seen}
 use Rattle.mvd_site.specs.Installs.{MayAllBeIn, MayBeIn, changes_in, is_change, with_group, with_one, with_prepared}
 use Rattle.mvd_replica.specs.Adding.{KeepsRoom}
-use Rattle.mvd_replica.specs.Batch.{asks_change, changes_asked}
 use Rattle.mvd_replica.specs.Groups.{AllComeTo, AreSendable, ComeInOrder, ComesTo, FirstWaits, IsApart, IsElsewhere, IsSendable, MustWait, SeesAny, StandTogether, pairs_in}
 
 -- ---- a request at one key is untouched by a change of another

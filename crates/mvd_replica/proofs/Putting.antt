@@ -13,12 +13,13 @@ use Rattle.mvd_wire.specs.Replies.{CanBeSent}
 use Rattle.mvd_site.specs.Change.{ChangeValue, change_reply}
 use Rattle.mvd_site.specs.Config.{ConfigValue}
 use Rattle.mvd_site.specs.FromStates.{AnswersFrom, answer_from, change_from}
-use Rattle.mvd_site.specs.Held.{States, state_at}
+use Rattle.mvd_site.specs.Held.{AreHeld, States, state_at}
 use Rattle.mvd_site.specs.Known.{Adds}
 use Rattle.mvd_site.specs.Prepared.{IsFrugal, PreparesChangeFrom, is_refusal}
 use Rattle.mvd_kept.specs.declared.prepared.Prepared.{Prepared}
 use Rattle.mvd_kept.specs.declared.prepared.Prepared.TheVariants.{Answer, Change}
 use Rattle.mvd_site.specs.Sites.{SiteValue}
+use Rattle.mvd_kept.proofs.HeldMaps.{kept_inserted}
 use Rattle.mvd_site.proofs.Answered.{insert_differs}
 use Rattle.mvd_site.proofs.Installed.{broken_stays, states_with, was_whole, whole_after}
 use Rattle.mvd_site.proofs.Outcomes.{change_plain, join_ok, refused_fits}
@@ -94,18 +95,20 @@ module _ (old new : SiteValue) (request : Request) where
     frugal = λ _ bad. (let other : Refused Broken ≡ Refused Memory = sym told ∙ bad in cc);
     fits = subst CanBeSent (sym told) (refused_fits Broken);
     choice = subst (λ x. (added : List Write) × Adds request x added) (sym told) (nothing_added request Broken);
+    form = λ held. subst (λ (s : SiteValue). AreHeld s.states) (sym same) held;
   }
 
   -- one that was not, and whose reply does not say so
   one_whole : (reply given : Reply) → old.broken ≡ false → given ≡ reply → IsGivenReply request reply → AnswersFromStored old new request given →
-      (IsFrugal old.states request → given ≢ Refused Memory) → AnswersOneFrom old new request given
-  one_whole reply given was told is whole frugal = record {
+      (IsFrugal old.states request → given ≢ Refused Memory) → (AreHeld old.states → AreHeld new.states) → AnswersOneFrom old new request given
+  one_whole reply given was told is whole frugal form = record {
     whole = whole;
     broken = λ broken. absurd (true≢false (sym broken ∙ was));
     told = λ bad. absurd (is.other (sym told ∙ bad));
     frugal = frugal;
     fits = subst CanBeSent (sym told) is.fits;
     choice = subst (λ x. (added : List Write) × Adds request x added) (sym told) is.choice;
+    form = form;
   }
 
   -- one that breaks
@@ -117,15 +120,17 @@ module _ (old new : SiteValue) (request : Request) where
     frugal = λ _ bad. (let other : Refused Broken ≡ Refused Memory = sym told ∙ bad in cc);
     fits = subst CanBeSent (sym told) (refused_fits Broken);
     choice = subst (λ x. (added : List Write) × Adds request x added) (sym told) (nothing_added request Broken);
+    form = λ held. subst (λ (s : SiteValue). AreHeld s.states) (sym breaks) held;
   }
 
   one_puts : (prepared : Prepared) (reply : Reply) → old.broken ≡ false → ComesTo old.config old.states request prepared → IsSendable request prepared → PutsOne old new prepared reply → AnswersOneFrom old new request reply
   one_puts (Answer told) reply was comes sendable puts =
       one_whole told reply was puts.0 sendable (subst (λ s. AnswersFromStored old s request reply) (sym puts.1) (subst (λ x. AnswersFromStored old old request x) (sym puts.0) (inl (answers_same old request told comes))))
-      (λ frugal bad. comes.1 frugal (sym puts.0 ∙ bad))
+      (λ frugal bad. comes.1 frugal (sym puts.0 ∙ bad)) (λ held. subst (λ (s : SiteValue). AreHeld s.states) (sym puts.1) held)
   one_puts (Change change) reply was comes sendable (inl puts) =
       one_whole (change_reply change.dot) reply was puts.0 sendable.0 (inl (answers_from_change old new request change reply puts.1 puts.0 (λ _. comes.0)))
       (λ _ bad. true≢false (sym (ap is_refusal (sym puts.0 ∙ bad)) ∙ (change_plain change.dot).accepts))
+      (λ held. subst (λ (s : SiteValue). AreHeld s.states) (sym puts.1) (kept_inserted old.states change.key change.state held sendable.1 sendable.3 sendable.4 sendable.2))
   one_puts (Change change) reply was comes sendable (inr puts) = one_breaks change reply was puts.0 puts.1 comes.0
 
   pub one_answers : (prepared : Prepared) (reply : Reply) (was : Bool) → old.broken ≡ was → (old.broken ≡ false → ComesTo old.config old.states request prepared) → IsSendable request prepared → PutsIfWhole old new prepared reply →
@@ -148,7 +153,7 @@ pub one_prepared : (old : SiteValue) (request : Request) (reply : Reply) → (ol
     (old.broken ≡ false → ComesTo old.config old.states request (Answer reply) × IsSendable request (Answer reply)) → AnswersOneFrom old old request reply
 one_prepared old request reply broken comes = elim old.broken as (λ b. old.broken ≡ b → AnswersOneFrom old old request reply) [
   | true ↦ λ was. one_broken old old request reply was (same_answer reply (Refused Broken) (broken was)) refl
-  | false ↦ λ whole. (let it = comes whole in one_whole old old request reply reply whole refl it.1 (inl (answers_same old request reply it.0)) it.0.1)
+  | false ↦ λ whole. (let it = comes whole in one_whole old old request reply reply whole refl it.1 (inl (answers_same old request reply it.0)) it.0.1 (λ held. held))
 ] refl
 
 pushed_change : (m : States) (key : Key) (pushed : Keyed) (reply : Reply) (own : Key) (s : Keyed) → change_from m (Push key pushed) reply ≡ Some (own, s) → (own ≡ key) × (s ≡ join (state_at m key) pushed)
@@ -171,7 +176,7 @@ pub one_forgone : (old : SiteValue) (request : Request) (change : ChangeValue) (
 one_forgone old request change refusal whole memory alone =
     one_whole old old request (Refused Memory) (Refused refusal) whole (ap Refused memory)
     (record { other = λ bad. cc; fits = refused_fits Memory; choice = nothing_added request Memory })
-    (inl (λ _. inr (inl (ap Refused memory, refl)))) (λ frugal _. absurd (no_change old.config old.states request change frugal alone.0.0))
+    (inl (λ _. inr (inl (ap Refused memory, refl)))) (λ frugal _. absurd (no_change old.config old.states request change frugal alone.0.0)) (λ held. held)
 
 pub together_alone : (site : SiteValue) (request : Request) (change : ChangeValue) → IsAlone site request change → StandTogether site (request ∷ []) (Change change ∷ [])
 together_alone site request change alone = record { each = (alone.0, tt); ordered = (alone.0, tt); sendable = (alone.1, tt) }
@@ -198,12 +203,12 @@ takes_put (r ∷ requests) (p ∷ group) (x ∷ replies) old new ordered sendabl
 )
 
 one_unstored_from : (old : SiteValue) (request : Request) (prepared : Prepared) → old.broken ≡ false → ComesTo old.config old.states request prepared → IsSendable request prepared → AnswersOneFrom old old request (reply_unstored prepared)
-one_unstored_from old request (Answer reply) was comes sendable = one_whole old old request reply reply was refl sendable (inl (answers_same old request reply comes)) comes.1
+one_unstored_from old request (Answer reply) was comes sendable = one_whole old old request reply reply was refl sendable (inl (answers_same old request reply comes)) comes.1 (λ held. held)
 one_unstored_from old request (Change change) was comes sendable =
     one_whole old old request (Refused Store) (Refused Store) was refl
     (record { other = λ bad. cc; fits = refused_fits Store; choice = nothing_added request Store })
     (inr (record { told = refl; changes = λ same. insert_differs old.states change.key change.state comes.0.differs (sym comes.0.after ∙ same); whole = was; site = refl }))
-    (λ _ bad. cc)
+    (λ _ bad. cc) (λ held. held)
 
 pub takes_unstored : (requests : List Request) (group : List Prepared) (old : SiteValue) → old.broken ≡ false → AllComeTo old.config old.states requests group → AreSendable requests group →
     TakesAllFrom old old (turns_of requests (map reply_unstored group))

@@ -63,6 +63,7 @@ module _ {S : Type 0} {g : Ghosts S} where
         unchanged = facts.unchanged;
         unstored = push_unstored old new reply result told (answer_unstored old new (Push key pushed) reply asked);
         still = answer_still old new (Push key pushed) reply asked;
+        form = one.form;
         taken = asked.taken;
         clean = clean _ old new asked;
         told = facts.told;
@@ -84,6 +85,7 @@ module _ {S : Type 0} {g : Ghosts S} where
     unchanged = λ _. refl;
     unstored = λ _ _. refl;
     still = λ _. refl;
+    form = λ held. held;
     taken = λ _. inr refl;
     clean = λ clean. clean;
     told = λ _. broken_is (site_of old) broken;
@@ -105,6 +107,7 @@ module _ {S : Type 0} {g : Ghosts S} where
     unchanged = λ _. refl;
     unstored = λ _ _. refl;
     still = λ _. refl;
+    form = λ held. held;
     taken = λ _. inr refl;
     clean = λ clean. clean;
     told = λ is. absurd (let bad : Broken ≡ Memory = sym is ∙ memory in cc);

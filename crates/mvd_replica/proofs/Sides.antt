@@ -9,14 +9,13 @@ use Rattle.mvd_wire.specs.declared.request.Request.{Request}
 use Rattle.mvd_wire.specs.declared.request.Request.TheVariants.{Push}
 use Rattle.mvd_wire.specs.declared.reply.Reply.{Reply}
 use Rattle.mvd_wire.specs.declared.reply.Reply.TheVariants.{Done, Refused}
-use Rattle.mvd_site.specs.Change.{ChangeValue}
 use Rattle.mvd_site.specs.Config.{ConfigValue}
-use Rattle.mvd_site.specs.FromStates.{Broke, after_from, answer_from, push_reply, with_state, within}
+use Rattle.mvd_site.specs.FromStates.{Broke, answer_from, push_reply, with_state, within}
 use Rattle.mvd_site.specs.Held.{AreHeld, States, state_at}
-use Rattle.mvd_site.specs.Prepared.{PreparesChangeFrom, is_refusal}
+use Rattle.mvd_site.specs.Prepared.{is_refusal}
 use Rattle.mvd_site.specs.Sites.{SiteValue}
 use Rattle.mvd_site.specs.Answer.{is_too_large}
-use Rattle.mvd_site.proofs.Answered.{insert_differs, limited_cases}
+use Rattle.mvd_site.proofs.Answered.{limited_cases}
 use Rattle.mvd_site.proofs.Pushes.{PushFacts, push_facts, refusal_is}
 use Rattle.mvd_peer.specs.Sides.{SiteRefuses}
 use Rattle.mvd_peer.specs.PushedStates.{ComesByPushes}

@@ -11,6 +11,7 @@ use Rattle.mvd_wire.specs.declared.reply.Reply.TheVariants.{Refused}
 use Rattle.mvd_wire.specs.Replies.{CanBeSent}
 use Rattle.mvd_records.specs.Records.{IsSound}
 use Rattle.mvd_site.specs.FromStates.{after_from}
+use Rattle.mvd_site.specs.Held.{AreHeld}
 use Rattle.mvd_site.specs.Known.{Adds}
 use Rattle.mvd_site.specs.Prepared.{IsFrugal}
 use Rattle.mvd_site.specs.Sites.{SiteValue}
@@ -37,7 +38,8 @@ changes_asked (request ∷ requests) = asks_change request + changes_asked reque
 -- ---- the site, turn by turn
 
 -- What one request does to a site, from its states alone: a broken site refuses it and stays as it is. A request that
--- takes no memory is not told want of it. The reply can be sent, and there are writes that the request adds
+-- takes no memory is not told want of it. The reply can be sent, there are writes that the request adds, and states in
+-- form stay so
 pub record AnswersOneFrom (old new : SiteValue) (request : Request) (reply : Reply) : Type 0 where
   pub whole : AnswersFromStored old new request reply
   pub broken : old.broken ≡ true → (reply ≡ Refused Broken) × (new ≡ old)
@@ -45,6 +47,7 @@ pub record AnswersOneFrom (old new : SiteValue) (request : Request) (reply : Rep
   pub frugal : IsFrugal old.states request → reply ≢ Refused Memory
   pub fits : CanBeSent reply
   pub choice : (added : List Write) × Adds request reply added
+  pub form : AreHeld old.states → AreHeld new.states
 
 -- and a frame, which is told its fault, or want of memory in its place, where it is no request
 abbrev pub TakesFrom : SiteValue → SiteValue → Result Request Refusal → Reply → Type 0

@@ -1,7 +1,7 @@
 -- What requests that share a commit do to a replica: the one relation of `Replica::answer`, where the commit is of one
 -- request, and of `Replica::answer_all`, which makes one commit after the other. What follows from it are lemmas
 -- (proofs/Commits.antt).
-use Rattle.std.specs.Prelude.{◌≡◌, ◌⊎◌, ⊤, true, false, ℕ, ◌<◌, ◌≤◌, List, [], ◌∷◌, ◌++◌, flat_map, length, map, take, Ok, Err}
+use Rattle.std.specs.Prelude.{◌≡◌, ◌⊎◌, true, false, ℕ, ◌<◌, ◌≤◌, List, [], ◌∷◌, ◌++◌, flat_map, length, map, take, Ok}
 use Rattle.std.specs.List.{AllByRecursion}
 use Rattle.mvd_wire.specs.declared.request.Request.{Request}
 use Rattle.mvd_wire.specs.declared.reply.Reply.{Reply}

@@ -1,9 +1,10 @@
 -- What the requests of one commit come to, prepared side by side, before anything is changed.
-use Rattle.std.specs.Prelude.{◌≡◌, ◌≢◌, ◌⊎◌, ⊤, ℕ, ◌≤◌, false, List, [], ◌∷◌, length}
+use Rattle.std.specs.Prelude.{◌≡◌, ◌≢◌, ◌⊎◌, ⊤, ℕ, ◌≤◌, false, true, List, [], ◌∷◌, length}
 use Rattle.std.specs.List.{AllByRecursion}
 use Rattle.std.specs.FinMap.{insert}
 use Rattle.mvd_dots.specs.declared.refusals.Refusal.TheVariants.{Broken, Memory, Store}
-use Rattle.mvd_keys.specs.State.{State}
+use Rattle.mvd_keys.specs.Key.{is_key}
+use Rattle.mvd_keys.specs.State.{IsValid, State}
 use Rattle.mvd_keys.specs.Writes.{Key, Write}
 use Rattle.mvd_wire.specs.Codecs.{spell_state}
 use Rattle.mvd_wire.specs.declared.request.Request.{Request}
@@ -66,6 +67,7 @@ abbrev pub IsSendable : Request → Prepared → Type 0
 IsSendable request (Answer reply) = IsGivenReply request reply
 IsSendable request (Change change) =
     IsGivenReply request (change_reply change.dot) × IsHeldState change.state × IsSpelled change.state
+    × IsValid change.state × (is_key change.key ≡ true)
 
 -- ---- many
 

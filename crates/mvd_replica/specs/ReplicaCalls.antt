@@ -20,7 +20,7 @@ use Rattle.mvd_records.specs.Records.{IsSound}
 use Rattle.mvd_site.specs.Answer.{digests, node_digests}
 use Rattle.mvd_site.specs.Config.{ConfigValue}
 use Rattle.mvd_site.specs.FromStates.{after_from, bucket_refusal, push_reply, unless_broken, with_state}
-use Rattle.mvd_site.specs.Held.{state_at}
+use Rattle.mvd_site.specs.Held.{AreHeld, state_at}
 use Rattle.mvd_site.specs.Installs.{broken_site}
 use Rattle.mvd_site.specs.Known.{Adds}
 use Rattle.mvd_site.specs.Sites.{SiteValue}
@@ -148,6 +148,8 @@ module _ {S : Type 0} {g : Ghosts S} where
     pub unstored : IfErr result (λ refusal. refusal ≢ Broken → KeepsCommit old new)
     -- what would change nothing leaves all as it was
     pub still : ChangesNothing (site_of old) (Push key pushed) → new ≡ old
+    -- states in form stay so
+    pub form : AreHeld (site_of old).states → AreHeld (site_of new).states
     -- a change is taken only with the store open
     pub taken : TakesIfOpen old new
     -- the disk that is clean now was clean before

@@ -22,7 +22,7 @@ use Rattle.mvd_replica.specs.Turns.{Turn}
 use Rattle.mvd_replica.specs.Whole.{IsAtRest}
 use Rattle.mvd_records.specs.Records.{IsOurs}
 use Rattle.sqlite.specs.Effect.{Database}
-use Rattle.mvd_runs.specs.Files.{Begins, Closes, Passes, Stops, WorksBy, setup_of}
+use Rattle.mvd_runs.specs.Files.{Begins, Passes, WorksBy, setup_of}
 use Rattle.mvd_runs.proofs.Filing.{run_closed, run_stopped}
 
 module _ {D : Type 0} {g : Ghosts D} {f : store.Ghosts (FileStore D g)} (i : ℕ) (image : Image) (config : ConfigValue) (turns : List Turn) (old new : Replica (FileStore D g) f)

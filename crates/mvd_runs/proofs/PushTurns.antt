@@ -24,7 +24,7 @@ pub state_pushed : {S : Type 0} {g : Ghosts S} (old new : Replica S g) (key : Ke
     TakesTurns (push_turn key pushed (push_reply result) ∷ []) (stored_of old) (stored_of new)
 state_pushed old new key pushed result it =
     push_takes (site_of old) (site_of new) (store_of old) (store_of new) key pushed result it.answer (λ was. ((it.stays was).0, ap (λ r. r.site) (it.stays was).1))
-    (told_broken (site_of old) (site_of new) result it.told) it.unchanged it.valid it.follows it.leaves
+    (told_broken (site_of old) (site_of new) result it.told) it.unchanged it.valid it.follows it.leaves it.form
 
 pub side_push : {S : Type 0} {g : Ghosts S} (old new : Replica S g) (key : Key) (pushed : State) (result : Result (Unit {0}) Refusal) → IsValid pushed → PushesState old key pushed result new → SideTakes (stored_of old) (stored_of new)
 side_push old new key pushed result valid it = record {

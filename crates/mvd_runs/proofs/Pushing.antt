@@ -12,6 +12,7 @@ use Rattle.mvd_wire.specs.declared.request.Request.TheVariants.{Push}
 use Rattle.mvd_wire.specs.declared.reply.Reply.{Reply}
 use Rattle.mvd_wire.specs.declared.reply.Reply.TheVariants.{Done, Refused}
 use Rattle.mvd_site.specs.FromStates.{push_reply}
+use Rattle.mvd_site.specs.Held.{AreHeld}
 use Rattle.mvd_site.specs.Known.{IsValidRequest}
 use Rattle.mvd_site.specs.Sites.{SiteValue}
 use Rattle.mvd_site.proofs.Outcomes.{memory_or_not, refused_fits}
@@ -91,8 +92,8 @@ module _ (old new : SiteValue) (before after : State) (key : Key) (s : Keyed) wh
       }
 
   pub done_turn : AnswersFromStored old new (Push key s) Done → (old.broken ≡ true → Done ≡ Refused Broken) → IsValid s → ReplicaFollows (λ asked. asked ≡ Push key s) old new before after →
-      LeavesTurns (push_turn key s Done ∷ []) (stored_site old before) (stored_site new after) → TakesTurns (push_turn key s Done ∷ []) old new before after
-  done_turn answers stays valid follows leaves =
+      LeavesTurns (push_turn key s Done ∷ []) (stored_site old before) (stored_site new after) → (AreHeld old.states → AreHeld new.states) → TakesTurns (push_turn key s Done ∷ []) old new before after
+  done_turn answers stays valid follows leaves form =
       let one : AnswersOneFrom old new (Push key s) Done = record {
         whole = answers;
         broken = λ was. absurd (let bad : Done ≡ Refused Broken = stays was in cc);
@@ -100,12 +101,13 @@ module _ (old new : SiteValue) (before after : State) (key : Key) (s : Keyed) wh
         frugal = λ _ e. absurd (cc);
         fits = refl;
         choice = (writes_for key s, (AreOf-writes_for key s, state-writes_for key s valid));
+        form = form;
       } in
       takes _ old new before after (new, one, refl) (turn_follows Done (breaks_told old.broken refl Done answers stays) follows leaves)
 
   pub refused_turn : (refusal : Refusal) → AnswersFromStored old new (Push key s) (Refused refusal) → (old.broken ≡ true → (Refused refusal ≡ Refused Broken) × (new ≡ old)) → (refusal ≡ Broken → new.broken ≡ true) → (refusal ≢ Broken → new ≡ old) →
-      ReplicaFollows (λ asked. asked ≡ Push key s) old new before after → LeavesTurns (push_turn key s (Refused refusal) ∷ []) (stored_site old before) (stored_site new after) → TakesTurns (push_turn key s (Refused refusal) ∷ []) old new before after
-  refused_turn refusal answers stays told unchanged follows leaves = elim (memory_or_not refusal) [
+      ReplicaFollows (λ asked. asked ≡ Push key s) old new before after → LeavesTurns (push_turn key s (Refused refusal) ∷ []) (stored_site old before) (stored_site new after) → (AreHeld old.states → AreHeld new.states) → TakesTurns (push_turn key s (Refused refusal) ∷ []) old new before after
+  refused_turn refusal answers stays told unchanged follows leaves form = elim (memory_or_not refusal) [
     | inl memory ↦
         subst (λ r. TakesTurns (push_turn key s (Refused r) ∷ []) old new before after) (sym memory)
         (memory_turn (unchanged (λ broken. let bad : Memory ≡ Broken = sym memory ∙ broken in absurd cc)) follows
@@ -120,6 +122,7 @@ module _ (old new : SiteValue) (before after : State) (key : Key) (s : Keyed) wh
           frugal = λ _. not_memory refusal other;
           fits = refused_fits refusal;
           choice = ([], refl);
+          form = form;
         } in
         takes _ old new before after (new, one, refl) (turn_follows (Refused refusal) (breaks_told old.broken refl (Refused refusal) answers (λ was. (stays was).0)) follows leaves)
   ]
@@ -178,8 +181,8 @@ side_window pairs replies old new before after valid it =
 pub push_takes : (old new : SiteValue) (before after : State) (key : Key) (s : Keyed) (result : Result (Unit {0}) Refusal) → AnswersFromStored old new (Push key s) (push_reply result) →
     (old.broken ≡ true → (result ≡ Err Broken) × (new ≡ old)) → IfErr result (λ refusal. refusal ≡ Broken → new.broken ≡ true) → IfErr result (λ refusal. refusal ≢ Broken → new ≡ old) → OnOk result (IsValid s) →
     ReplicaFollows (λ asked. asked ≡ Push key s) old new before after → LeavesTurns (push_turn key s (push_reply result) ∷ []) (stored_site old before) (stored_site new after) →
-    TakesTurns (push_turn key s (push_reply result) ∷ []) old new before after
-push_takes old new before after key s (Ok done) answers stays told unchanged valid follows leaves =
-    done_turn old new before after key s answers (λ was. absurd (let bad : ◌≡◌ {A = Result (Unit {0}) Refusal} (Ok done) (Err Broken) = (stays was).0 in cc)) valid follows leaves
-push_takes old new before after key s (Err refusal) answers stays told unchanged valid follows leaves =
-    refused_turn old new before after key s refusal answers (λ was. (ap push_reply (stays was).0, (stays was).1)) told unchanged follows leaves
+    (AreHeld old.states → AreHeld new.states) → TakesTurns (push_turn key s (push_reply result) ∷ []) old new before after
+push_takes old new before after key s (Ok done) answers stays told unchanged valid follows leaves form =
+    done_turn old new before after key s answers (λ was. absurd (let bad : ◌≡◌ {A = Result (Unit {0}) Refusal} (Ok done) (Err Broken) = (stays was).0 in cc)) valid follows leaves form
+push_takes old new before after key s (Err refusal) answers stays told unchanged valid follows leaves form =
+    refused_turn old new before after key s refusal answers (λ was. (ap push_reply (stays was).0, (stays was).1)) told unchanged follows leaves form

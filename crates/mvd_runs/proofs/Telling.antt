@@ -6,7 +6,7 @@ use Rattle.mvd_dots.specs.declared.refusals.Refusal.{Refusal}
 use Rattle.mvd_dots.specs.declared.refusals.Refusal.TheVariants.{Broken, Memory, Store}
 use Rattle.mvd_keys.specs.Writes.{Key, Stands, Write}
 use Rattle.mvd_wire.specs.declared.request.Request.{Request}
-use Rattle.mvd_wire.specs.declared.request.Request.TheVariants.{Get, Put, Delete, Find, Row, Rows, Node, Bucket, Push, Range, Keys, Conflicts, Hello, Bye}
+use Rattle.mvd_wire.specs.declared.request.Request.TheVariants.{Get, Put, Delete, Push}
 use Rattle.mvd_wire.specs.declared.reply.Reply.{Reply}
 use Rattle.mvd_wire.specs.declared.reply.Reply.TheVariants.{Refused, State as Shown}
 use Rattle.mvd_kept.specs.Answer.{answer, answer_from, is_question}
@@ -15,12 +15,11 @@ use Rattle.mvd_kept.specs.Known.{Adds, ChangesKey, MayReply}
 use Rattle.mvd_kept.proofs.Answered.{answered}
 use Rattle.mvd_site.specs.FromStates.{unless_broken}
 use Rattle.mvd_site.specs.Held.{state_at}
-use Rattle.mvd_site.proofs.Steps.{state_at-stands}
 use Rattle.mvd_site.specs.Sites.{SiteValue}
 use Rattle.mvd_model.specs.TheStore.{Answers, AreAmong, Happen, Knows, Next, Refuses, Site, Told, config}
 use Rattle.mvd_model.proofs.Placing.{does_next, placed, placed_at, placed_else}
 use Rattle.mvd_model.proofs.Refusals.{IsUndone, answer_none}
-use Rattle.mvd_replica.specs.Asks.{TellsAnswer, question_told}
+use Rattle.mvd_replica.specs.Asks.{TellsAnswer}
 use Rattle.mvd_replica.specs.Turns.{AddsAt, AllTold, AreUndoneIn, TurnEvent as Added, IsMemory, IsToldUndone, MayReplyStored, MayTell, Turn, known_after_turns}
 use Rattle.mvd_runs.specs.Events.{AreEvents, AreTurns, IsSiteKnown, events_of}
 

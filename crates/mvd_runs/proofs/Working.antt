@@ -24,7 +24,6 @@ use Rattle.mvd_replica.proofs.Batched.{TakesTurns-none, TurnsFollow-append}
 use Rattle.mvd_replica.proofs.Batching.{HasChoice-turn}
 use Rattle.mvd_replica.proofs.Positions.{TakesTurns, TurnsFollow, stored_site}
 use Rattle.mvd_replica.proofs.Replying.{HasChoice-append, Replies-append, Replies-one, StandsOn-append, StandsOn-one}
-use Rattle.mvd_runs.specs.Events.{AreTurns}
 use Rattle.mvd_runs.specs.Files.{IsValidTurn, WorksBy}
 use Rattle.mvd_runs.proofs.Pushing.{both, lost_one}
 

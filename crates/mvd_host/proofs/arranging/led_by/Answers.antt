@@ -1,4 +1,4 @@
-use Rattle.std.proofs.Common.{◌≡◌, ◌∙◌, ap, sym, subst, length, zip}
+use Rattle.std.proofs.Common.{◌∙◌, ap, sym, subst, length, zip}
 use Rattle.mvd_host.specs.Arranging.{Arranged, HasPlaces}
 use Rattle.mvd_host.proofs.Orders.{arranged_same, zip_length}
 use Rattle.mvd_host.proofs.arranging.led_by.Goals as goal

@@ -1,6 +1,8 @@
-use Rattle.std.proofs.Common.{◌≡◌, Err, Ok, Result, ap, sym, subst}
+use Rattle.std.proofs.Common.{◌≡◌, true, Err, Ok, Result, ap, sym, subst}
 use Rattle.mvd_dots.specs.declared.refusals.Refusal.{Refusal}
 use Rattle.mvd_dots.specs.declared.refusals.Refusal.TheVariants.{Broken}
+use Rattle.mvd_keys.specs.Key.{is_key}
+use Rattle.mvd_keys.specs.State.{IsValid}
 use Rattle.mvd_kept.specs.declared.prepared.Prepared.{Prepared}
 use Rattle.mvd_kept.specs.declared.prepared.Prepared.TheVariants.{Answer}
 use Rattle.mvd_site.proofs.Outcomes.{err_is}
@@ -26,7 +28,8 @@ returns-in-Change c = record {
       let site = c.args.site.now in
       subst (λ p. ComesTo site.config site.states c.args.request.now p × IsSendable c.args.request.now p) (sym c.in-Change.is)
       (comes_change site c.args.request.now c.in-Change.change (subst (λ p. PreparesFrom site.config site.states c.args.request.now (Ok p)) c.in-Change.is (c.in-Ok.ensures.states whole))
-      (subst (IsReady site) c.in-Change.is c.in-Ok.ensures.ready) c.in-Ok.ensures.valid c.state-state.ensures.spelled);
+      (subst (IsReady site) c.in-Change.is c.in-Ok.ensures.ready) c.in-Ok.ensures.valid c.state-state.ensures.spelled
+      (subst IsValid c.state-state.ensures.state c.context-seen.ensures.valid) (subst (λ k. is_key k ≡ true) c.key-key.ensures c.text-text.ensures.key));
 }
 
 pub returns-in_default : goal.returns-in_default

@@ -1,5 +1,4 @@
 use Rattle.std.proofs.Common.{◌≡◌, [], ◌∷◌, sym, ap, subst, ◌∙◌}
-use Rattle.sqlite.specs.Held.{state}
 use Rattle.mvd_wire.specs.Requests.{request_of}
 use Rattle.mvd_replica.proofs.Answering.{asked_as, refused_frame, replied}
 use Rattle.mvd_replica.proofs.Commits.{answer_broken, answer_config, answer_follows, answers_one, answers_stored}

@@ -1,4 +1,4 @@
-use Rattle.std.proofs.Common.{◌≡◌, ◌≤◌, length, List, ℕ, sym, refl, subst, ap, ◌∙◌, inr}
+use Rattle.std.proofs.Common.{◌≡◌, ◌≤◌, length, List, ℕ, sym, refl, subst, ap, ◌∙◌, inl, inr, true≢false}
 use Rattle.mvd_dots.specs.declared.refusals.Refusal.TheVariants.{Memory}
 use Rattle.mvd_wire.specs.declared.reply.Reply.TheVariants.{Refused}
 use Rattle.mvd_wire.specs.Replies.{reply_bytes}
@@ -15,6 +15,11 @@ queue-requires-clause-few c =
     let reply = c.args.reply.now in
     let bytes : c.deref.result.now ≡ reply_bytes reply = c.deref.ensures.value ∙ ok_is c.in-Ok.bytes.items (reply_bytes reply) (sym c.in-Ok.ensures.exact ∙ c.requires.fits) in
     subst (λ (t : List ℕ). length t ≤ frame_most) (sym bytes) (sent_fits reply c.requires.fits)
+
+pub returns-in-Some : goal.returns-in-Some
+returns-in-Some c =
+    let after = c.queue_short.ensures ∙ ap (λ (t : List ℕ). replied c.args.self.now t) (c.bytes.ensures ∙ c.in-Some.ensures.1) in
+    (c.args.reply.now, inl (refl, λ long. absurd (true≢false (sym c.in-Some.ensures.0 ∙ long))), after)
 
 pub returns-2 : goal.returns-2
 returns-2 c =

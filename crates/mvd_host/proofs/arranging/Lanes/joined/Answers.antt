@@ -1,4 +1,4 @@
-use Rattle.std.proofs.Common.{◌∙◌, ◌++◌, ap, arith}
+use Rattle.std.proofs.Common.{◌∙◌, arith}
 use Rattle.mvd_host.proofs.Orders.{lays_joined, lengths_are, ok_is}
 use Rattle.mvd_host.proofs.arranging.Lanes.joined.Goals as goal
 

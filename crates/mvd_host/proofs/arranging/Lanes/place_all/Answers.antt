@@ -1,8 +1,8 @@
-use Rattle.std.proofs.Common.{◌≡◌, ◌∙◌, ◌+◌, ◌++◌, ◌∷◌, [], ap, refl, sym, subst, slice_index, take, zip, length, arith, rules, length-append}
-use Rattle.std.proofs.lemmas.List.{length-take-le, map-id, take_all, take_more}
+use Rattle.std.proofs.Common.{◌≡◌, ◌∙◌, refl, sym, subst, take, zip, length, arith, rules, length-append}
+use Rattle.std.proofs.lemmas.List.{length-take-le, map-id, take_all}
 use Rattle.std.proofs.lemmas.Iterator.Adapters.{YieldsList-from_vec}
 use Rattle.std.proofs.lemmas.Iterator.Consumers.{YieldsList-end, YieldsList-turn}
-use Rattle.mvd_host.specs.Arranging.{HasPlaces, Lays}
+use Rattle.mvd_host.specs.Arranging.{Lays}
 use Rattle.mvd_host.proofs.Orders.{zip_length, zip_next}
 use Rattle.mvd_host.proofs.arranging.Lanes.place_all.Goals as goal
 

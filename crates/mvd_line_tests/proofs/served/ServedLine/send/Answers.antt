@@ -1,4 +1,4 @@
-use Rattle.std.proofs.Common.{◌≡◌, ◌∙◌, ap, refl, subst, sym}
+use Rattle.std.proofs.Common.{◌≡◌, ◌∙◌, refl, subst, sym}
 use Rattle.mvd_line_tests.specs.Serving.{far_at}
 use Rattle.mvd_line_tests.proofs.Serving.{Went, went_all, went_cut, went_none, went_on, went_some}
 use Rattle.mvd_line_tests.proofs.served.ServedLine.send.Goals as goal

@@ -1,4 +1,4 @@
-use Rattle.std.proofs.Common.{◌≡◌, ◌∙◌, ◌∷◌, ◌++◌, [], Some, ap, sym, subst, arith, length, option_to_list}
+use Rattle.std.proofs.Common.{◌∙◌, ◌∷◌, ◌++◌, [], ap, sym, subst, arith, option_to_list}
 use Rattle.mvd_kept.specs.declared.prepared.Prepared.TheVariants.{Change}
 use Rattle.mvd_replica.specs.Groups.{StandTogether}
 use Rattle.mvd_replica.proofs.Fronts.{shares_alone, shares_one}

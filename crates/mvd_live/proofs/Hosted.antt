@@ -1,0 +1,96 @@
+-- What a host does turn by turn is what a site does that answers many.
+use Rattle.std.proofs.Common.{◌≡◌, ◌≢◌, ◌⊎◌, inl, inr, ℕ, ◌==◌, Bool, true, false, List, [], ◌∷◌, ◌++◌, refl, sym, ap, subst, ◌∙◌, true≢false, arith}
+use Rattle.std.specs.Prelude.{Ok, Err, Result}
+use Rattle.mvd_dots.specs.declared.refusals.Refusal.{Refusal}
+use Rattle.mvd_dots.specs.declared.refusals.Refusal.TheVariants.{Broken, Memory, Store}
+use Rattle.mvd_keys.specs.State.{IsValid, State}
+use Rattle.mvd_keys.specs.Writes.{Key, Write}
+use Rattle.mvd_keys.proofs.Sets.{IsValid-state}
+use Rattle.mvd_keys.proofs.Standing.{Stands-for}
+use Rattle.mvd_wire.specs.declared.reply.Reply.{Reply}
+use Rattle.mvd_wire.specs.declared.reply.Reply.TheVariants.{Done, Refused}
+use Rattle.mvd_wire.specs.declared.request.Request.{Request}
+use Rattle.mvd_wire.specs.declared.request.Request.TheVariants.{Push}
+use Rattle.mvd_site.specs.Config.{ConfigValue}
+use Rattle.mvd_site.specs.Held.{AreHeld, States, state_at}
+use Rattle.mvd_site.specs.Known.{Adds, IsValidRequest}
+use Rattle.mvd_site.specs.Sites.{SiteValue}
+use Rattle.mvd_peer.specs.Live.{Grows}
+use Rattle.mvd_remote.specs.Lines.{TrueReply}
+use Rattle.mvd_remote.proofs.SiteReplies.{refused_so, replies_truly}
+use Rattle.mvd_replica.specs.Batch.{AnswersOneFrom, TakesFrom}
+use Rattle.mvd_replica.specs.Turns.{Turn}
+use Rattle.mvd_replica.proofs.Batching.{config_all, replies_one}
+use Rattle.mvd_host.specs.Round.{ServesAllFrom, ServesFrom, turns_of}
+use Rattle.mvd_host.proofs.Growths.{grows_by}
+use Rattle.mvd_live.specs.Answers.{AnswersAll, SiteTurn}
+use Rattle.mvd_live.specs.Hosts.{and_turn, site_turns}
+use Rattle.mvd_live.proofs.Whole.{grows_self}
+
+-- what was pushed and is done is valid
+valid_where : (q : Request) (reply : Reply) (added : List Write) → Adds q reply added → reply ≡ Done → IsValidRequest q
+valid_where (Push key s) reply added adds done =
+    let here : Adds (Push key s) Done added = subst (λ r. Adds (Push key s) r added) done adds in
+    subst IsValid here.1 (IsValid-state key added)
+valid_where q reply added adds done = tt
+
+-- a refusal for the site's own sake, which is as it was
+own_refusal : (old mid : SiteValue) (q : Request) (reply : Reply) → mid ≡ old → (reply ≡ Refused Memory) ⊎ (reply ≡ Refused Store) → TrueReply old.config old.states q reply mid.states
+own_refusal old mid q reply same (inl is) =
+    subst (λ r. TrueReply old.config old.states q r mid.states) (sym is) (refused_so old.config old.states mid.states q Memory (ap (λ (s : SiteValue). s.states) same) (omega arith) refl (λ key s. tt))
+own_refusal old mid q reply same (inr is) =
+    subst (λ r. TrueReply old.config old.states q r mid.states) (sym is) (refused_so old.config old.states mid.states q Store (ap (λ (s : SiteValue). s.states) same) (omega arith) refl (λ key s. tt))
+
+-- what one turn leaves
+record Leaves (old mid : SiteValue) (q : Request) (reply : Reply) : Type 0 where
+  pub config : mid.config ≡ old.config
+  pub form : AreHeld mid.states
+  pub grows : Grows old.states mid.states
+  pub so : TrueReply old.config old.states q reply mid.states
+
+leaves_same : (old mid : SiteValue) (q : Request) (reply : Reply) → AreHeld old.states → (reply ≡ Refused Memory) × (mid ≡ old) → Leaves old mid q reply
+leaves_same old mid q reply held memory = record {
+  config = ap (λ (s : SiteValue). s.config) memory.1;
+  form = subst (λ (s : SiteValue). AreHeld s.states) (sym memory.1) held;
+  grows = subst (λ (s : SiteValue). Grows old.states s.states) (sym memory.1) (grows_self old.states held);
+  so = own_refusal old mid q reply memory.1 (inl memory.0);
+}
+
+leaves_one : (old mid : SiteValue) (q : Request) (reply : Reply) → AreHeld old.states → AnswersOneFrom old mid q reply → Leaves old mid q reply
+leaves_one old mid q reply held one =
+    let turn : Turn = record { asked = Ok q; reply = reply } in
+    let known = Stands-for old.states (λ key s found. (held.valid key s found, (held.held key s found).seen)) in
+    let each = replies_one old mid q reply one in
+    record {
+      config = config_all (turn ∷ []) old mid (mid, one, refl);
+      form = one.form held;
+      grows = grows_by old.states mid.states known.0 one.choice.0 known.1 (each.keeps known.0 one.choice.0 known.1 one.choice.1);
+      so = elim one.whole [
+        | inl from ↦ replies_truly old mid q reply held (valid_where q reply one.choice.0 one.choice.1) from one.broken
+        | inr store ↦ own_refusal old mid q reply store.site (inr store.told)
+      ];
+    }
+
+leaves : (old mid : SiteValue) (q : Request) (reply : Reply) → AreHeld old.states → ServesFrom old mid (record { asked = Ok q; reply = reply }) → Leaves old mid q reply
+leaves old mid q reply held (inl one) = leaves_one old mid q reply held one
+leaves old mid q reply held (inr memory) = leaves_same old mid q reply held memory
+
+-- a frame that is no request leaves the site as it was
+still : (old mid : SiteValue) (fault : Refusal) (reply : Reply) → ServesFrom old mid (record { asked = Err fault; reply = reply }) → mid ≡ old
+still old mid fault reply (inl one) = one.1
+still old mid fault reply (inr memory) = memory.1
+
+more : (n client : ℕ) (asked : Result Request Refusal) (reply : Reply) (later : List SiteTurn) (old mid : SiteValue) (new : States) → AreHeld old.states → ServesFrom old mid (record { asked = asked; reply = reply }) →
+    (AreHeld mid.states → AnswersAll mid.config mid.states later new) → AnswersAll old.config old.states (and_turn n client asked reply later) new
+more n client (Ok q) reply later old mid new held one rest =
+    let it : Leaves old mid q reply = leaves old mid q reply held one in
+    (mid.states, (it.form, it.grows), it.so, subst (λ config. AnswersAll config mid.states later new) it.config (rest it.form))
+more n client (Err fault) reply later old mid new held one rest =
+    let same : mid ≡ old = still old mid fault reply one in
+    subst (λ (s : SiteValue). AnswersAll s.config s.states later new) same (rest (subst (λ (s : SiteValue). AreHeld s.states) (sym same) held))
+
+-- A HOST'S TURNS are answers of its site, one after the other
+pub host_answers : (n : ℕ) (turns : List (ℕ × Turn)) (old new : SiteValue) → AreHeld old.states → ServesAllFrom old new (turns_of turns) → AnswersAll old.config old.states (site_turns n turns) new.states
+host_answers n [] old new held all = ap (λ (s : SiteValue). s.states) all
+host_answers n (t ∷ ts) old new held all =
+    more n t.0 t.1.asked t.1.reply (site_turns n ts) old all.0 new.states held all.1 (λ form. host_answers n ts all.0 new form all.2)

@@ -1,11 +1,13 @@
 -- Why a server ends.
-use Rattle.std.proofs.Common.{◌≡◌, ◌≢◌, ◌⊎◌, ◌∙◌, Bool, true, false, List, ℕ, Result, Ok, Err, ap, inl, inr, refl, sym, true≢false}
+use Rattle.std.proofs.Common.{◌≡◌, ◌≢◌, ◌⊎◌, ◌∙◌, Bool, true, false, List, ℕ, Option, Result, Ok, Err, ap, inl, inr, refl, sym, true≢false}
 use Rattle.mvd_dots.specs.declared.refusals.Refusal.{Refusal}
 use Rattle.mvd_dots.specs.declared.refusals.Refusal.TheVariants.{Broken, Memory, ReadFailed, WriteFailed}
 use Rattle.mvd_input.specs.declared.fault.Fault.{Fault}
 use Rattle.mvd_input.specs.declared.fault.Fault.TheVariants.{Stopped}
 use Rattle.mvd_replica.specs.ReplicaCalls.{TellsRoot, root_answer}
-use Rattle.mvd_server.specs.Closing.{EndsAtFault}
+use Rattle.mvd_print.specs.Text.{root_text}
+use Rattle.mvd_server.specs.Closing.{EndsAtFault, PrintsRoot}
+use Rattle.std.specs.Io.KnownBytes.{Appends}
 use Rattle.mvd_site.specs.Sites.{SiteValue}
 use Rattle.std.proofs.Common.{subst}
 
@@ -27,3 +29,7 @@ module _ (site : SiteValue) where
       on : (b : Bool) → site.broken ≡ b → root_answer (record site { broken = b }) ≡ Err e → (e ≡ ReadFailed) ⊎ ((e ≡ WriteFailed) ⊎ ((e ≡ Broken) × (site.broken ≡ true)))
       on true is told = inr (inr (sym (let same : Broken ≡ e = cc in same), is))
       on false is told = absurd (let no : ⊥ = cc in no)
+
+  -- the line of its root is printed
+  pub prints_root : (root text : List ℕ) (old new : Option (List ℕ)) → TellsRoot site (Ok root) → text ≡ root_text root → Appends old new text → PrintsRoot site old new
+  prints_root root text old new (answer, broken) is appends = (root, answer, subst (λ (t : List ℕ). Appends old new t) is appends)

@@ -1,5 +1,6 @@
 -- Deeds, one after the other, and bytes carried between them.
-use Rattle.std.proofs.Common.{◌≡◌, ◌∙◌, ◌⊎◌, ◌∷◌, [], ℕ, true, List, Option, None, Some, Result, inl, inr, refl, sym, subst, ap}
+use Rattle.std.proofs.Common.{◌≡◌, ◌∙◌, ◌⊎◌, ◌∷◌, [], ℕ, Bool, true, false, true≢false, List, Option, None, Some, Result, is_some, inl, inr, refl, sym, subst, ap}
+use Rattle.std.specs.Option.{IfSome}
 use Rattle.std.specs.BTreeMap.{insert_entry, is_at}
 use Rattle.std.specs.Map.{set_value}
 use Rattle.std.specs.Ordering.{nat_cmp}
@@ -14,11 +15,12 @@ use Rattle.mvd_server.specs.Errands.{Errand, Forgoes, IsBatchFor, RunsErrand, St
 use Rattle.mvd_server.specs.Fronts.{IsFrontReply, TakesFront, TellsNext}
 use Rattle.mvd_server.specs.Handed.{HandsBatch, TakenFrom}
 use Rattle.mvd_server.specs.HostBytes.{TakesBytes, sent_of}
-use Rattle.mvd_server.specs.OwnSides.{DismissesOwn}
+use Rattle.mvd_server.specs.OwnSides.{DismissesIf, DismissesOwn}
 use Rattle.mvd_server.specs.Responding.{RefusesWeb}
-use Rattle.mvd_server.specs.Talking.{Act, Attends, Begins, Calls, Comes, ComesByWeb, Deed, Deeds, Does, GoesOwn, Hands, IsWriting, KeepsBatch, LacksMemory, MayCall, OpensWeb, TalksDeeds, Talking, TurnsBack, is_own, talking_of, web_in, with_host, with_web}
+use Rattle.mvd_server.specs.Talking.{Act, Attends, Begins, Calls, Comes, ComesBy, ComesByWeb, Deed, Deeds, Does, GoesOwn, Hands, IsWriting, KeepsBatch, LacksMemory, MayBegin, MayCall, OpensWeb, TalksDeeds, Talking, TurnsBack, is_own, talking_of, web_in, with_host, with_web}
 use Rattle.mvd_server.specs.Wires.{Carries, GivesOut, TakesIn, Wired, WiredStep}
 use Rattle.mvd_server.specs.declared.batch.Batch.{Batch}
+use Rattle.mvd_server.specs.declared.talks.Kind.TheVariants.{Http}
 use Rattle.mvd_server.specs.declared.talks.Talks.{Talks}
 use Rattle.mvd_server.specs.declared.sockets.Sockets.{Ghosts}
 use Rattle.mvd_server.proofs.Keyed.{found_at, set_here}
@@ -81,8 +83,8 @@ deed_hands n batch batch' old host entries has hands is =
     (deeds_one (Hands n batch batch') old (record old { host = host; batches = set_value (is_at (nat_cmp n)) old.batches batch' }) (has, hands, refl))
 
 -- they begin
-pub deed_begins : (n : ℕ) (batch : Batch) (old mid : Talking) → IsWriting (web_in old n) batch → KeepsBatch n batch old mid → Deeds old mid
-deed_begins n batch old mid writes keeps = deeds_one (Begins n batch) old mid (writes, keeps)
+pub deed_begins : (n : ℕ) (batch : Batch) (old mid : Talking) → MayBegin n batch old → KeepsBatch n batch old mid → Deeds old mid
+deed_begins n batch old mid may keeps = deeds_one (Begins n batch) old mid (may, keeps)
 
 pub writing : (n : ℕ) (web web' : WebConnection) (webs entries : List (ℕ × WebConnection)) (batch : Batch) → found_at n webs ≡ Some web → entries ≡ set_value (is_at (nat_cmp n)) webs web' → IsBatchFor (web_of web').asked batch
     → IsWriting (found_at n entries) batch
@@ -90,13 +92,19 @@ writing n web web' webs entries batch has is mine =
     subst (λ e. IsWriting (found_at n e) batch) (sym is) (subst (λ o. IsWriting o batch) (sym (set_here n webs web' web has)) mine)
 
 -- or there is no memory for them
-lacking : (n : ℕ) (batch : Batch) (web web' : WebConnection) (old new : Talking) → web_in old n ≡ Some web → IsBatchFor (web_of web).asked batch → RefusesWeb Memory (web_of web) (web_of web') → new ≡ with_web old n web' → Deeds old new
-lacking n batch web web' old new has writes refuses is =
-    subst (λ t. Deeds old t) (sym is) (deed_attends n (Forgoes batch) web web' old old.host old.batches (set_value (is_at (nat_cmp n)) old.webs web') has (writes, refuses, refl) refl)
+lacking : (n : ℕ) (batch : Batch) (web web' : WebConnection) (old new : Talking) → web_in old n ≡ Some web → IsBatchFor (web_of web).asked batch → batch_in old.batches n ≡ None → RefusesWeb Memory (web_of web) (web_of web') → new ≡ with_web old n web'
+    → Deeds old new
+lacking n batch web web' old new has writes none refuses is =
+    subst (λ t. Deeds old t) (sym is) (deed_attends n (Forgoes batch) web web' old old.host old.batches (set_value (is_at (nat_cmp n)) old.webs web') has ((writes, none), refuses, refl) refl)
 
-pub deed_lacks : (n : ℕ) (batch : Batch) (old new : Talking) → IsWriting (web_in old n) batch → LacksMemory n old new → Deeds old new
-deed_lacks n batch old new writes (inl same) = deeds_same old new same
-deed_lacks n batch old new writes (inr (web, web', has, refuses, is)) = lacking n batch web web' old new has (subst (λ o. IsWriting o batch) has writes) refuses is
+pub deed_lacks : (n : ℕ) (batch : Batch) (old new : Talking) → MayBegin n batch old → LacksMemory n old new → Deeds old new
+deed_lacks n batch old new may (inl same) = deeds_same old new same
+deed_lacks n batch old new may (inr (web, web', has, refuses, is)) = lacking n batch web web' old new has (subst (λ o. IsWriting o batch) has may.0) may.1 refuses is
+
+-- a client has no writes
+pub no_batch : (o : Option Batch) (has : Bool) → has ≡ is_some o → has ≡ false → o ≡ None
+no_batch None has is no = refl
+no_batch (Some batch) has is no = absurd (true≢false (sym is ∙ no))
 
 -- bytes are fed to one of the server's own, or not
 pub deeds_own : (n : ℕ) (bytes : List ℕ) (old : Talking) (host : HostValue) → is_own old n ≡ true → (host ≡ old.host) ⊎ TakesBytes old.host n bytes host → Deeds old (with_host old host)
@@ -137,10 +145,15 @@ comes_frames old None host (same, full) = deeds_same old (with_host old host) (a
 comes_frames old (Some n) host one = deeds_one (Comes n) old (with_host old host) (one, refl)
 
 -- one over HTTP
-pub comes_web : (n : ℕ) (old : Talking) (host : HostValue) (new : Talking) → AdmitsOne None old.host host n → OpensWeb n (with_host old host) new → Deeds old new
-comes_web n old host new one (web, fresh, same) =
+pub does_web : (n : ℕ) (old : Talking) (host : HostValue) (new : Talking) → AdmitsOne None old.host host n → OpensWeb n (with_host old host) new → ComesBy Http n old new
+does_web n old host new one (web, fresh, same) =
     let at : new.host ≡ host = ap (λ (t : Talking). t.host) same in
-    deeds_one (ComesByWeb n web) old new (subst (λ (h : HostValue). AdmitsOne None old.host h n) (sym at) one, fresh, same ∙ ap (λ (h : HostValue). record old { host = h; webs = insert_entry nat_cmp old.webs n web }) (sym at))
+    (web, (subst (λ (h : HostValue). AdmitsOne None old.host h n) (sym at) one, fresh, same ∙ ap (λ (h : HostValue). record old { host = h; webs = insert_entry nat_cmp old.webs n web }) (sym at)))
+
+pub comes_web : (n : ℕ) (old : Talking) (host : HostValue) (new : Talking) → AdmitsOne None old.host host n → OpensWeb n (with_host old host) new → Deeds old new
+comes_web n old host new one opens =
+    let comes = does_web n old host new one opens in
+    deeds_one (ComesByWeb n comes.0) old new comes.1
 
 -- one for whose connection there is no memory
 pub turns_back : (n : ℕ) (old : Talking) (mid host : HostValue) (new : Talking) → AdmitsOne None old.host mid n → ClientLeaves mid n host → new ≡ with_host old host → Deeds old new
@@ -152,9 +165,18 @@ turns_back n old mid host new one leaves same =
 pub unturned : (old : Talking) (host : HostValue) (entries : List (ℕ × WebConnection)) → entries ≡ old.webs → Deeds old (with_host old host) → Deeds old (record old { host = host; webs = entries })
 unturned old host entries is p = subst (λ e. Deeds old (record old { host = host; webs = e })) (sym is) p
 
--- one of the server's own goes
+-- one of frames, as it is told
+pub comes_told : (old : Talking) (o : Option ℕ) (host : HostValue) → Admits old.guard old.host o host → IfSome o (λ n. Does (Comes n) old (with_host old host))
+comes_told old None host none = tt
+comes_told old (Some n) host one = (one, refl)
+
+-- one of the server's own goes, or none does
+goes_if : (b : Bool) (n : ℕ) (old mid : Talks) → DismissesIf b old n mid → TalksDeeds old mid
+goes_if true n old mid goes = deeds_one (GoesOwn n) (talking_of old) (talking_of mid) goes
+goes_if false n old mid same = deeds_same (talking_of old) (talking_of mid) (ap talking_of same)
+
 pub own_goes : (n : ℕ) (old mid new : Talks) → DismissesOwn old n mid → new ≡ mid → TalksDeeds old new
-own_goes n old mid new goes same = subst (λ (t : Talks). TalksDeeds old t) (sym same) (deeds_one (GoesOwn n) (talking_of old) (talking_of mid) goes)
+own_goes n old mid new goes same = subst (λ (t : Talks). TalksDeeds old t) (sym same) (goes_if (is_own (talking_of old) n) n old mid goes)
 
 module _ {K : Type 0} (k : Ghosts K) where
   -- deeds while no socket moves

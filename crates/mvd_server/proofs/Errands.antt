@@ -19,6 +19,7 @@ use Rattle.mvd_server.specs.Errands.{Asks, AsksNext, AsksOne, Desk, DoesPlan, Er
 use Rattle.mvd_server.specs.Fronts.{IsFrontReply, TakesFront}
 use Rattle.mvd_server.specs.Handed.{HandsBatch, HandsFrom, HandsPiece, HandsWhole, Handing, IsUnwanted, TakenFrom, handing}
 use Rattle.mvd_server.specs.HostBytes.{TakesBytes, sent_of}
+use Rattle.mvd_server.specs.Lines.{IsOnlyTold, TellsEach}
 use Rattle.mvd_server.specs.Paths.{IsPath, Path}
 use Rattle.mvd_server.specs.Plans.{IsPlanOf, plain_answer}
 use Rattle.mvd_server.specs.declared.batch.Batch.{Batch}
@@ -37,8 +38,8 @@ pub hands_none : (n : ℕ) (frames : List ℕ) (host : HostValue) (from : ℕ) �
 hands_none n frames host from = path_none (HandsPiece n frames) (handing host from)
 
 pub hands_more : (n : ℕ) (frames : List ℕ) (first : HostValue) (from : ℕ) (old : HostValue) (handed : ℕ) (new : HostValue) (end : ℕ) → HandsFrom n frames (handing first from) (handing old handed)
-    → TakesBytes old n (take (end - handed) (drop handed frames)) new → HandsFrom n frames (handing first from) (handing new end)
-hands_more n frames first from old handed new end p takes = path_on (HandsPiece n frames) (handing first from) (handing old handed) (handing new end) p (path_one (HandsPiece n frames) (handing old handed) (handing new end) takes)
+    → handed ≤ end → end ≤ length frames → TakesBytes old n (take (end - handed) (drop handed frames)) new → HandsFrom n frames (handing first from) (handing new end)
+hands_more n frames first from old handed new end p more within takes = path_on (HandsPiece n frames) (handing first from) (handing old handed) (handing new end) p (path_one (HandsPiece n frames) (handing old handed) (handing new end) (more, within, takes))
 
 -- a call on the connection of a client
 abbrev pub CallsOne : ℕ → HostValue → HostValue → Type 0
@@ -58,7 +59,7 @@ calls_bytes n bytes old new (inr is) =
 
 calls_pieces : (n : ℕ) (frames : List ℕ) (old new : Handing) (mids : List Handing) → IsPath (HandsPiece n frames) old mids new → HostCalls n old.host new.host
 calls_pieces n frames old new [] same = path_same (CallsOne n) old.host new.host (ap (λ (h : Handing). h.host) same)
-calls_pieces n frames old new (mid ∷ mids) (takes, more) = path_on (CallsOne n) old.host mid.host new.host (calls_bytes n _ old.host mid.host takes) (calls_pieces n frames mid new mids more)
+calls_pieces n frames old new (mid ∷ mids) ((low, high, takes), more) = path_on (CallsOne n) old.host mid.host new.host (calls_bytes n _ old.host mid.host takes) (calls_pieces n frames mid new mids more)
 
 calls_hands : (n : ℕ) (frames : List ℕ) (old new : Handing) → HandsFrom n frames old new → HostCalls n old.host new.host
 calls_hands n frames old new p = calls_pieces n frames old new p.mids p.steps
@@ -99,7 +100,7 @@ calls_errand (Asks left) guard n old new (inr one, same) = calls_plan n one.plan
 calls_errand (Forgoes batch) guard n old new (writes, refuses, is) = calls_none n old.host new.host (ap (λ (d : Desk). d.host) is)
 calls_errand Tells guard n old new (inl (is, none), same) = calls_none n old.host new.host is
 calls_errand Tells guard n old new (inr (reply, takes, answers), same) = calls_front n (client_of old.host n) reply old.host new.host takes
-calls_errand (TellsMany batch batch') guard n old new (has, (taken, told), same) = calls_taken n old.host new.host taken
+calls_errand (TellsMany batch batch') guard n old new (has, (only, taken, told), same) = calls_taken n old.host new.host taken
 calls_errand TellsChange guard n old new (awaits, told, is) = calls_none n old.host new.host (ap (λ (d : Desk). d.host) is)
 calls_errand Stops guard n old new (ends, is) = calls_none n old.host new.host (ap (λ (d : Desk). d.host) is)
 
@@ -151,11 +152,12 @@ does_frame n frame old host host' bytes count is hands whole =
 -- ---- many writes are told
 
 module _ (n : ℕ) (old : WebValue) (batch : Batch) (host : HostValue) (new : WebValue) (batch' : Batch) (host' : HostValue) where
-  pub tells_all : length batch'.refused.items ≤ batch'.told → TakenFrom n host host' → RespondsTo old.asked old (plain_answer 200 content.Lines) (string_bytes batch'.lines) new → TellsBatch n old batch host new batch' host'
-  tells_all all taken responds = (taken, (Ok true, (all, responds)))
+  pub tells_all : IsOnlyTold batch batch' → TellsEach n batch host batch' host' → length batch'.refused.items ≤ batch'.told → TakenFrom n host host' → RespondsTo old.asked old (plain_answer 200 content.Lines) (string_bytes batch'.lines) new
+      → TellsBatch n old batch host new batch' host'
+  tells_all only each all taken responds = (only, taken, (Ok true, each, (all, responds)))
 
-  pub tells_none : TakenFrom n host host' → new ≡ old → TellsBatch n old batch host new batch' host'
-  tells_none taken same = (taken, (Ok false, same))
+  pub tells_none : IsOnlyTold batch batch' → TellsEach n batch host batch' host' → TakenFrom n host host' → new ≡ old → TellsBatch n old batch host new batch' host'
+  tells_none only each taken same = (only, taken, (Ok false, each, same))
 
-  pub tells_stop : (refusal : Refusal) → TakenFrom n host host' → new ≡ stopped_by old refusal → TellsBatch n old batch host new batch' host'
-  tells_stop refusal taken is = (taken, (Err refusal, is))
+  pub tells_stop : (refusal : Refusal) → IsOnlyTold batch batch' → TakenFrom n host host' → new ≡ stopped_by old refusal → TellsBatch n old batch host new batch' host'
+  tells_stop refusal only taken is = (only, taken, (Err refusal, tt, is))

@@ -79,17 +79,20 @@ module _ {X : Type 0} where
       on rest Greater true is c first at = (e.1, ap (λ c. cond c (Some e.1) (found_at q (insert_entry nat_cmp es n w))) is)
       on rest Greater false is c first at = let r = rest (v, at) in (r.0, ap (λ c. cond c (Some e.1) (found_at q (insert_entry nat_cmp es n w))) is ∙ r.1)
 
-  pub has_new : (n : ℕ) (w : X) (es : List (ℕ × X)) → Has n (insert_entry nat_cmp es n w)
-  has_new n w [] = (w, ap (λ c. cond c (Some w) None) (here n))
+  pub found_new : (n : ℕ) (w : X) (es : List (ℕ × X)) → found_at n (insert_entry nat_cmp es n w) ≡ Some w
+  found_new n w [] = ap (λ c. cond c (Some w) None) (here n)
     where
       here : (n : ℕ) → is_at (nat_cmp n) n ≡ true
       here n = at_is n n ∙ grind (arith, nat_tests)
-  has_new n w (e ∷ es) = on (has_new n w es) (nat_cmp n e.0) refl
+  found_new n w (e ∷ es) = on (found_new n w es) (nat_cmp n e.0) refl
     where
-      on : Has n (insert_entry nat_cmp es n w) → (o : Ordering) → nat_cmp n e.0 ≡ o → Has n (match_ordering o ((n, w) ∷ e ∷ es) ((e.0, w) ∷ es) (e ∷ insert_entry nat_cmp es n w))
-      on rest Less is = let here : is_at (nat_cmp n) n ≡ true = at_is n n ∙ grind (arith, nat_tests) in (w, ap (λ c. cond c (Some w) (found_at n (e ∷ es))) here)
-      on rest Equal is = (w, ap (λ (o : Ordering). cond (is_eq o) (Some w) (found_at n es)) is)
-      on rest Greater is = (rest.0, ap (λ (o : Ordering). cond (is_eq o) (Some e.1) (found_at n (insert_entry nat_cmp es n w))) is ∙ rest.1)
+      on : found_at n (insert_entry nat_cmp es n w) ≡ Some w → (o : Ordering) → nat_cmp n e.0 ≡ o → found_at n (match_ordering o ((n, w) ∷ e ∷ es) ((e.0, w) ∷ es) (e ∷ insert_entry nat_cmp es n w)) ≡ Some w
+      on rest Less is = let here : is_at (nat_cmp n) n ≡ true = at_is n n ∙ grind (arith, nat_tests) in ap (λ c. cond c (Some w) (found_at n (e ∷ es))) here
+      on rest Equal is = ap (λ (o : Ordering). cond (is_eq o) (Some w) (found_at n es)) is
+      on rest Greater is = ap (λ (o : Ordering). cond (is_eq o) (Some e.1) (found_at n (insert_entry nat_cmp es n w))) is ∙ rest
+
+  pub has_new : (n : ℕ) (w : X) (es : List (ℕ × X)) → Has n (insert_entry nat_cmp es n w)
+  has_new n w es = (w, found_new n w es)
 
   -- one goes
   pub remove_other : (n q : ℕ) → (q == n) ≡ false → (es : List (ℕ × X)) → found_at q (remove_entry (is_at (nat_cmp n)) es) ≡ found_at q es

@@ -9,7 +9,10 @@ pub mod Fronting
 pub mod Handing
 pub mod Hearing
 pub mod Keyed
+pub mod Leaving
+pub mod Lining
 pub mod Moving
+pub mod Parting
 pub mod Paths
 pub mod Placing
 pub mod Rounds

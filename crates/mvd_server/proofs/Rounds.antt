@@ -1,8 +1,8 @@
 -- One host, from its first client on.
-use Rattle.std.proofs.Common.{◌≡◌, ◌∙◌, ◌⊎◌, ℕ, List, [], ◌∷◌, ◌++◌, Option, None, Some, length, min, inl, inr, ap, refl, sym, subst, append-nil, append_assoc, true≢false}
+use Rattle.std.proofs.Common.{◌≡◌, ◌∙◌, ◌⊎◌, ◌<◌, true, ℕ, List, [], ◌∷◌, ◌++◌, Option, None, Some, length, min, inl, inr, ap, refl, sym, subst, append-nil, append_assoc, true≢false}
 use Rattle.mvd_conn.specs.declared.source.Source.TheVariants as source
 use Rattle.mvd_conn.specs.declared.guard.Guard.{Guard}
-use Rattle.mvd_conn.specs.History.{History}
+use Rattle.mvd_conn.specs.History.{History, is_done}
 use Rattle.mvd_dots.specs.declared.refusals.Refusal.TheVariants.{Memory}
 use Rattle.mvd_host.proofs.Own.{own-append}
 use Rattle.mvd_host.proofs.Runs.{SoFar, begins, goes_on as runs_on, has_shown, one_list}
@@ -14,6 +14,7 @@ use Rattle.mvd_replica.specs.Replicas.{conn_of, site_of}
 use Rattle.mvd_replica.specs.Turns.{Turn}
 use Rattle.mvd_replica.specs.declared.replica.Replica.{Replica}
 use Rattle.mvd_server.proofs.Errands.{CallsOne, HostCalls, calls_batch, calls_errand}
+use Rattle.mvd_server.proofs.Parting.{parts_deed, parts_in, parts_out}
 use Rattle.mvd_server.proofs.Paths.{path_map, path_none, path_on, path_one}
 use Rattle.mvd_server.proofs.Deeds.{carries_deeds}
 use Rattle.mvd_server.proofs.Showing.{AreGuarded, guarded_deed, guarded_in, guarded_new, guarded_out, guarded_round, kept_deed, kept_in, kept_out}
@@ -22,7 +23,7 @@ use Rattle.mvd_server.specs.Closing.{EndsServed, IsDeserted}
 use Rattle.mvd_server.specs.HostBytes.{TakesBytes, sent_of, waits_of}
 use Rattle.mvd_server.specs.Paths.{IsPath}
 use Rattle.mvd_server.specs.Rounds.{AnswersClients, BeginsServing, GoesOn, HasRound, IsServed, ServeStep, Serving, ServingStep, WasMadeFor, WasThere, World, begun, host_in, moment_of, world_of}
-use Rattle.mvd_server.specs.Talking.{Attends, Begins, Calls, Comes, ComesByWeb, ComesOwn, Deed, Deeds, Goes, GoesByWeb, GoesOwn, Hands, IsMadeFor, TalksDeeds, Talking, TurnsBack, new_talking, talking_of, web_in, with_host}
+use Rattle.mvd_server.specs.Talking.{Attends, Begins, Calls, Comes, ComesByWeb, ComesOwn, Deed, Deeds, Goes, GoesOwn, Hands, IsMadeFor, TalksDeeds, Talking, TurnsBack, new_talking, talking_of, web_in, with_host}
 use Rattle.mvd_server.specs.Wires.{Carries, GivesOut, SendsBy, TakesBy, TakesIn, Wired, WiredStep, wired_of}
 use Rattle.mvd_server.specs.declared.sockets.Sockets.{Ghosts as SocketGhosts}
 use Rattle.mvd_server.specs.declared.talks.Talks.{Talks}
@@ -87,9 +88,8 @@ module _ {C : Type 0} (f : C → State) (site : SiteValue) (conn : C) where
   of_deed old new (ComesByWeb n web, does) = record { all = Came n new.host ∷ []; runs = ((None, does.0), tt); ends = refl; none = refl }
   of_deed old new (ComesOwn n, does) = record { all = Came n new.host ∷ []; runs = ((None, does.0), tt); ends = refl; none = refl }
   of_deed old new (TurnsBack n mid, does) = record { all = Came n mid ∷ Gone n new.host ∷ []; runs = ((does.0, does.1), (does.2, tt)); ends = refl; none = refl }
-  of_deed old new (Goes n, does) = record { all = Gone n new.host ∷ []; runs = (does.0, tt); ends = refl; none = refl }
-  of_deed old new (GoesByWeb n, does) = record { all = Gone n new.host ∷ []; runs = (does.0, tt); ends = refl; none = refl }
-  of_deed old new (GoesOwn n, does) = record { all = Gone n new.host ∷ []; runs = (does.0, tt); ends = refl; none = refl }
+  of_deed old new (Goes n, does) = record { all = Gone n new.host ∷ []; runs = (does.1, tt); ends = refl; none = refl }
+  of_deed old new (GoesOwn n, does) = record { all = Gone n new.host ∷ []; runs = (does.1, tt); ends = refl; none = refl }
   of_deed old new (Calls n call, does) = record { all = Called n call ∷ []; runs = (tt, tt); ends = ap (λ (t : Talking). moment t.host) (sym does.1); none = refl }
   of_deed old new (Attends n web web' errand, does) = of_calls n old.host new.host (calls_errand errand old.guard n _ _ does.1)
   of_deed old new (Begins n batch, does) = of_none old.host new.host (ap (λ (t : Talking). t.host) does.1)
@@ -174,16 +174,30 @@ module _ {K C : Type 0} (f : C → State) (k : SocketGhosts K) where
   none_gone old new (inr r) n gone =
       ap (own n) (append-nil r.turns) ∙ r.round.spares.none n (none_before (client_of (host_in old) n) (client_of (host_in new) n) (ClientCourse (own n r.turns)) (r.round.clients n) gone)
 
+  -- and for whoever goes in one, nothing was left to do, or the server made its frames
+  parts_wired : (old new : Wired K) (n : ℕ) (h : History) → client_of old.talking.host n ≡ Some h → client_of new.talking.host n ≡ None → n < old.talking.host.admitted → WiredStep k old new → (is_done h ≡ true) ⊎ IsMadeFor old.talking n
+  parts_wired old new n h found gone given (inl (deed, same)) = parts_deed old.talking new.talking n h found gone given deed
+  parts_wired old new n h found gone given (inr (inl (m, bytes, gives, takes))) = parts_in old.talking new.talking n h found gone m bytes takes
+  parts_wired old new n h found gone given (inr (inr (m, bytes, takes, gives))) = parts_out old.talking new.talking n h found gone m bytes gives
+
+  parts_step : (old new : World K C) (n : ℕ) (h : History) → client_of (host_in old) n ≡ Some h → client_of (host_in new) n ≡ None → n < (host_in old).admitted → ServeStep f k old new → (is_done h ≡ true) ⊎ IsMadeFor old.wired.talking n
+  parts_step old new n h found gone given (inl b) = parts_wired old.wired new.wired n h found gone given b.wired
+  parts_step old new n h found gone given (inr r) =
+      let none = none_before (client_of (host_in old) n) (client_of (host_in new) n) (ClientCourse (own n r.turns)) (r.round.clients n) gone in
+      absurd (let no : ◌≡◌ {A = Option History} (Some h) None = sym found ∙ none in cc)
+
   -- so each of them, also one that has gone
-  record Shows (guard : Option Guard) (start : HostMoment C) (Made : ℕ → Type 0) (Told : ℕ → List Turn → Type 0) (turns : List (ℕ × Turn)) (w : World K C) : Type 0 where
+  record Shows (guard : Option Guard) (start : HostMoment C) (Made : ℕ → Type 0) (Told : ℕ → List Turn → Type 0) (Done : ℕ → Type 0) (turns : List (ℕ × Turn)) (w : World K C) : Type 0 where
     guards : Guards guard w
+    done : (n : ℕ) → IsClient (client_of (host_in w) n) (λ h. is_done h ≡ true) → Done n
+    parted : (n : ℕ) → client_of (host_in w) n ≡ None → (own n turns ≡ []) ⊎ (Done n ⊎ Made n)
     far : SoFar f start turns (moment_of w)
     made : (n : ℕ) → IsMadeFor w.wired.talking n → Made n
     there : (n : ℕ) (own : List Turn) → IsClient (client_of (host_in w) n) (TellsOwn own) → Told n own
     gone : (n : ℕ) → client_of (host_in w) n ≡ None → Each guard Made Told n (own n turns)
 
-  module _ (guard : Option Guard) (start : HostMoment C) (Made : ℕ → Type 0) (Told : ℕ → List Turn → Type 0) where
-    shows_here : (turns : List (ℕ × Turn)) (w : World K C) → Shows guard start Made Told turns w → (n : ℕ) (h : History) → client_of (host_in w) n ≡ Some h → Each guard Made Told n (own n turns)
+  module _ (guard : Option Guard) (start : HostMoment C) (Made : ℕ → Type 0) (Told : ℕ → List Turn → Type 0) (Done : ℕ → Type 0) where
+    shows_here : (turns : List (ℕ × Turn)) (w : World K C) → Shows guard start Made Told Done turns w → (n : ℕ) (h : History) → client_of (host_in w) n ≡ Some h → Each guard Made Told n (own n turns)
     shows_here turns w s n h found =
         let tells = s.far.tells n h found in
         record { shown = on tells (s.guards.each n h found); told = inr (s.there n (own n turns) (subst (λ o. IsClient o (TellsOwn (own n turns))) (sym found) tells)) }
@@ -192,20 +206,37 @@ module _ {K C : Type 0} (f : C → State) (k : SocketGhosts K) where
         on tells (inl same) = inl (subst (λ g. HasShown g (own n turns)) (same ∙ s.guards.kept) (has_shown (own n turns) h tells))
         on tells (inr made) = inr (s.made n made)
 
-    shows_each : (turns : List (ℕ × Turn)) (w : World K C) → Shows guard start Made Told turns w → (n : ℕ) → Each guard Made Told n (own n turns)
+    shows_each : (turns : List (ℕ × Turn)) (w : World K C) → Shows guard start Made Told Done turns w → (n : ℕ) → Each guard Made Told n (own n turns)
     shows_each turns w s n = on (client_of (host_in w) n) refl
       where
         on : (o : Option History) → client_of (host_in w) n ≡ o → Each guard Made Told n (own n turns)
         on None gone = s.gone n gone
         on (Some h) found = shows_here turns w s n h found
 
+    parts_on : (turns : List (ℕ × Turn)) (old new : World K C) (step : ServeStep f k old new) → Shows guard start Made Told Done turns old → (n : ℕ) → client_of (host_in new) n ≡ None
+        → (own n (turns ++ turns_in (of_step old new step).all) ≡ []) ⊎ (Done n ⊎ Made n)
+    parts_on turns old new step s n gone = on (client_of (host_in old) n) refl
+      where
+        same : own n (turns ++ turns_in (of_step old new step).all) ≡ own n turns
+        same = own-append n turns (turns_in (of_step old new step).all) ∙ ap (λ l. own n turns ++ l) (none_gone old new step n gone) ∙ append-nil (own n turns)
+
+        whose : (h : History) → client_of (host_in old) n ≡ Some h → (is_done h ≡ true) ⊎ IsMadeFor old.wired.talking n → Done n ⊎ Made n
+        whose h found (inl is) = inl (s.done n (subst (λ o. IsClient o (λ c. is_done c ≡ true)) (sym found) is))
+        whose h found (inr made) = inr (s.made n made)
+
+        on : (o : Option History) → client_of (host_in old) n ≡ o → (own n (turns ++ turns_in (of_step old new step).all) ≡ []) ⊎ (Done n ⊎ Made n)
+        on None was = subst (λ l. (l ≡ []) ⊎ (Done n ⊎ Made n)) (sym same) (s.parted n was)
+        on (Some h) found = inr (whose h found (parts_step old new n h found gone (s.far.given n h found) step))
+
     shows_step : (turns : List (ℕ × Turn)) (old new : World K C) (step : ServeStep f k old new) → ((n : ℕ) → IsMadeFor new.wired.talking n → Made n)
-        → ((n : ℕ) (own : List Turn) → IsClient (client_of (host_in new) n) (TellsOwn own) → Told n own) → Shows guard start Made Told turns old
-        → Shows guard start Made Told (turns ++ turns_in (of_step old new step).all) new
-    shows_step turns old new step made there s =
+        → ((n : ℕ) (own : List Turn) → IsClient (client_of (host_in new) n) (TellsOwn own) → Told n own) → ((n : ℕ) → IsClient (client_of (host_in new) n) (λ h. is_done h ≡ true) → Done n) → Shows guard start Made Told Done turns old
+        → Shows guard start Made Told Done (turns ++ turns_in (of_step old new step).all) new
+    shows_step turns old new step made there done s =
         let h = of_step old new step in
         record {
           guards = guards_step guard old new step s.guards;
+          done = done;
+          parted = parts_on turns old new step s;
           far = subst (λ m. SoFar f start (turns ++ turns_in h.all) m) h.ends (runs_on f start turns (moment_of old) h.all h.runs s.far);
           made = made;
           there = there;
@@ -215,17 +246,17 @@ module _ {K C : Type 0} (f : C → State) (k : SocketGhosts K) where
         }
 
     shows_steps : (turns : List (ℕ × Turn)) (old new : World K C) (mids : List (World K C)) (steps : IsPath (ServeStep f k) old mids new) → ((n : ℕ) → WasMadeFor n mids → Made n)
-        → ((n : ℕ) (own : List Turn) → WasThere n (TellsOwn own) mids → Told n own) → Shows guard start Made Told turns old
-        → Shows guard start Made Told (turns ++ turns_in (of_steps old new mids steps).all) new
+        → ((n : ℕ) (own : List Turn) → WasThere n (TellsOwn own) mids → Told n own) → ((n : ℕ) → WasThere n (λ h. is_done h ≡ true) mids → Done n) → Shows guard start Made Told Done turns old
+        → Shows guard start Made Told Done (turns ++ turns_in (of_steps old new mids steps).all) new
     unfolding of_steps happened_on of_step
-    shows_steps turns old new [] same made told s =
-        subst (λ w. Shows guard start Made Told (turns ++ []) w) (sym same) (subst (λ l. Shows guard start Made Told l old) (sym (append-nil turns)) s)
-    shows_steps turns old new (mid ∷ mids) (one, more) made told s =
+    shows_steps turns old new [] same made told done s =
+        subst (λ w. Shows guard start Made Told Done (turns ++ []) w) (sym same) (subst (λ l. Shows guard start Made Told Done l old) (sym (append-nil turns)) s)
+    shows_steps turns old new (mid ∷ mids) (one, more) made told done s =
         let first = (of_step old mid one).all in
         let rest = (of_steps mid new mids more).all in
-        subst (λ l. Shows guard start Made Told l new) (append_assoc turns (turns_in first) (turns_in rest) ∙ sym (ap (λ l. turns ++ l) (turns_append first rest)))
-        (shows_steps (turns ++ turns_in first) mid new mids more (λ n was. made n (inr was)) (λ n own was. told n own (inr was))
-        (shows_step turns old mid one (λ n is. made n (inl is)) (λ n own is. told n own (inl is)) s))
+        subst (λ l. Shows guard start Made Told Done l new) (append_assoc turns (turns_in first) (turns_in rest) ∙ sym (ap (λ l. turns ++ l) (turns_append first rest)))
+        (shows_steps (turns ++ turns_in first) mid new mids more (λ n was. made n (inr was)) (λ n own was. told n own (inr was)) (λ n was. done n (inr was))
+        (shows_step turns old mid one (λ n is. made n (inl is)) (λ n own is. told n own (inl is)) (λ n is. done n (inl is)) s))
 
 -- ---- what a server does
 
@@ -245,16 +276,19 @@ module _ {S : Type 0} {g : Ghosts S} {K : Type 0} (k : SocketGhosts K) where
       let h = of_steps (state g) k (world_of (begun guard sockets) old) (world_of (record { talking = last; sockets = sockets' }) new) p.mids p.steps in
       let Made : ℕ → Type 0 = λ n. WasMadeFor n p.mids in
       let Told : ℕ → List Turn → Type 0 = λ n own. WasThere n (TellsOwn own) p.mids in
-      let first : Shows (state g) k guard start Made Told [] (world_of (begun guard sockets) old) = record {
+      let Done : ℕ → Type 0 = λ n. WasThere n (λ h. is_done h ≡ true) p.mids in
+      let first : Shows (state g) k guard start Made Told Done [] (world_of (begun guard sockets) old) = record {
         guards = record { kept = refl; each = guarded_new guard };
+        done = λ n is. absurd is;
+        parted = λ n gone. inl refl;
         far = begins (state g) start refl;
         made = λ n made. absurd (none_made guard n made);
         there = λ n own is. absurd is;
         gone = λ n gone. record { shown = inl (none_shown guard); told = inl refl };
       } in
       let end = world_of (record { talking = last; sockets = sockets' }) new in
-      let shows = shows_steps (state g) k guard start Made Told [] (world_of (begun guard sockets) old) end p.mids p.steps (λ n was. was) (λ n own was. was) first in
-      let each = shows_each (state g) k guard start Made Told (turns_in h.all) end shows in
+      let shows = shows_steps (state g) k guard start Made Told Done [] (world_of (begun guard sockets) old) end p.mids p.steps (λ n was. was) (λ n own was. was) (λ n was. was) first in
+      let each = shows_each (state g) k guard start Made Told Done (turns_in h.all) end shows in
       let one = subst (λ m. OneList (turns_in h.all) (side_at (state g) start) (side_at (state g) m)) h.ends (one_list (state g) start h.all refl h.runs) in
       record {
         guard = guard;
@@ -267,6 +301,7 @@ module _ {S : Type 0} {g : Ghosts S} {K : Type 0} (k : SocketGhosts K) where
         list = one;
         told = λ n. (each n).told;
         shown = λ n. (each n).shown;
+        parted = shows.parted;
       }
 
   pub goes_none : (wired : Wired K) (replica : Replica S g) → GoesOn k wired replica wired replica
@@ -318,7 +353,7 @@ module _ {S : Type 0} {g : Ghosts S} {K : Type 0} (k : SocketGhosts K) where
   served_from token first last sockets old sockets' new (guard, guarded, is) p =
       served token guard (talking_of last) sockets old sockets' new guarded (subst (λ (t : Talking). GoesOn k (record { talking = t; sockets = sockets }) old (wired_of last sockets') new) is p)
 
-  -- and at the end nobody is left
+  -- and at the end nobody is left but its own
   pub left_from : (token : Option (List ℕ)) (first last : Talks) (sockets : K) (old : Replica S g) (sockets' : K) (new : Replica S g) → BeginsServing token first
       → GoesOn k (wired_of first sockets) old (wired_of last sockets') new → IsDeserted (talking_of last) → EndsServed k token sockets old sockets' new
   unfolding served_from served

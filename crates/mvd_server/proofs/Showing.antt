@@ -19,7 +19,7 @@ use Rattle.mvd_server.proofs.Errands.{CallsOne, calls_batch, calls_errand}
 use Rattle.mvd_server.proofs.Keyed.{Has, any_last, any_more, any_without, each_set, has_insert, has_new, has_set, remove_other}
 use Rattle.mvd_server.specs.HostBytes.{TakesBytes, waits_of}
 use Rattle.mvd_server.specs.Paths.{IsPath}
-use Rattle.mvd_server.specs.Talking.{Attends, Begins, Calls, Comes, ComesByWeb, ComesOwn, Deed, Goes, GoesByWeb, GoesOwn, Hands, IsMadeFor, Talking, TurnsBack, new_talking, web_in, with_host, with_web, without}
+use Rattle.mvd_server.specs.Talking.{Attends, Begins, Calls, Comes, ComesByWeb, ComesOwn, Deed, Goes, GoesOwn, Hands, IsMadeFor, Talking, TurnsBack, new_talking, web_in, with_host, with_web, without}
 use Rattle.mvd_server.specs.Wires.{GivesOut, SendsBy, TakesBy, TakesIn}
 use Rattle.mvd_web.specs.declared.web_connection.WebConnection.{WebConnection}
 
@@ -120,14 +120,13 @@ guarded_deed old new (TurnsBack n mid, does) each = to (with_host old new.host) 
     on : (q : ℕ) (h : History) → (q == n) ≡ false → ((q ≡ n) × (h.guard ≡ does.0)) ⊎ (client_of old.host q ≡ Some h) → (h.guard ≡ old.guard) ⊎ IsMadeFor old q
     on q h apart (inl (at, is)) = absurd (let no : ⊥ = grind (arith, nat_tests, apart, at) in no)
     on q h apart (inr at) = each q h at
-guarded_deed old new (Goes n, does) each = to (with_host old new.host) new does.1 (λ q h found. let at = stayed old.host new.host n q h does.0 found in each q h at.1)
-guarded_deed old new (GoesByWeb n, does) each = to (record old { host = new.host; webs = remove_entry (is_at (nat_cmp n)) old.webs; batches = remove_entry (is_at (nat_cmp n)) old.batches }) new does.1 (λ q h found. let at = stayed old.host new.host n q h does.0 found in on q h at.0 (each q h at.1))
+guarded_deed old new (Goes n, does) each = to (record old { host = new.host; webs = remove_entry (is_at (nat_cmp n)) old.webs; batches = remove_entry (is_at (nat_cmp n)) old.batches }) new does.2 (λ q h found. let at = stayed old.host new.host n q h does.1 found in on q h at.0 (each q h at.1))
   where
     on : (q : ℕ) (h : History) → (q == n) ≡ false → (h.guard ≡ old.guard) ⊎ IsMadeFor old q → (h.guard ≡ old.guard) ⊎ IsMadeFor (record old { host = new.host; webs = remove_entry (is_at (nat_cmp n)) old.webs }) q
     on q h apart (inl is) = inl is
     on q h apart (inr (inl (web, has))) = inr (inl (web, remove_other n q apart old.webs ∙ has))
     on q h apart (inr (inr is)) = inr (inr is)
-guarded_deed old new (GoesOwn n, does) each = to (record old { host = new.host; own = without n old.own }) new does.1 (λ q h found. let at = stayed old.host new.host n q h does.0 found in on q h at.0 (each q h at.1))
+guarded_deed old new (GoesOwn n, does) each = to (record old { host = new.host; own = without n old.own }) new does.2 (λ q h found. let at = stayed old.host new.host n q h does.1 found in on q h at.0 (each q h at.1))
   where
     on : (q : ℕ) (h : History) → (q == n) ≡ false → (h.guard ≡ old.guard) ⊎ IsMadeFor old q → (h.guard ≡ old.guard) ⊎ IsMadeFor (record old { host = new.host; own = without n old.own }) q
     on q h apart (inl is) = inl is
@@ -188,9 +187,8 @@ kept_deed old new (Comes n, does) = kept old new (with_host old new.host) refl d
 kept_deed old new (ComesByWeb n web, does) = kept old new _ refl does.2
 kept_deed old new (ComesOwn n, does) = kept old new _ refl does.1
 kept_deed old new (TurnsBack n mid, does) = kept old new _ refl does.3
-kept_deed old new (Goes n, does) = kept old new _ refl does.1
-kept_deed old new (GoesByWeb n, does) = kept old new _ refl does.1
-kept_deed old new (GoesOwn n, does) = kept old new _ refl does.1
+kept_deed old new (Goes n, does) = kept old new _ refl does.2
+kept_deed old new (GoesOwn n, does) = kept old new _ refl does.2
 kept_deed old new (Calls n call, does) = kept old new _ refl does.1
 kept_deed old new (Attends n web web' errand, does) = kept old new _ refl does.2
 kept_deed old new (Begins n batch, does) = kept old new _ refl does.1

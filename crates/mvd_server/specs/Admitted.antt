@@ -1,5 +1,5 @@
 -- Who may ask over HTTP.
-use Rattle.std.specs.Prelude.{◌≡◌, ◌⊎◌, ◌&&◌, ◌||◌, ⊤, ℕ, Bool, true, false, IsTrue, IsSomeAnd, List, Option, Some, None, Result, Ok}
+use Rattle.std.specs.Prelude.{◌≡◌, ◌≢◌, ◌⊎◌, ◌&&◌, ◌||◌, ⊤, ℕ, Bool, true, false, IsTrue, IsSomeAnd, List, Option, Some, None, Result, Ok, Err}
 use Rattle.mvd_conn.specs.Guard.{IsTokenOf, admits}
 use Rattle.mvd_conn.specs.declared.guard.Guard.{Guard}
 use Rattle.mvd_dots.specs.declared.refusals.Refusal.{Refusal}
@@ -48,10 +48,18 @@ AsksSite plan.Root = ⊤
 AsksSite plan.Metrics = ⊤
 AsksSite _ = ⊥
 
--- whoever may not ask is told a fault of HTTP's own, or that a token is asked for, or that memory was refused for it
-abbrev pub KeepsOut : Plan → Type 0
-KeepsOut (plan.Told answer body) =
-    TellsFault HostMissing None (plan.Told answer body) ⊎ TellsFault ForeignOrigin None (plan.Told answer body)
-KeepsOut plan.NotAdmitted = ⊤
-KeepsOut (plan.Refused refusal) = refusal ≡ Memory
-KeepsOut _ = ⊥
+-- a token is asked for, but where memory was refused for the one that the request has
+abbrev pub AsksToken : Result Question Refusal → Plan → Type 0
+AsksToken question (plan.Refused refusal) = (refusal ≡ Memory) × (question ≡ Err Memory)
+AsksToken question plan.NotAdmitted = question ≢ Err Memory
+AsksToken question _ = ⊥
+
+-- Whoever may not ask is told why: the request names no host, or more than one; or it comes of another server's page;
+-- or it shows no token
+abbrev pub KeepsOutBy : Bool → Bool → Result Question Refusal → Plan → Type 0
+KeepsOutBy false is_own question p = TellsFault HostMissing None p
+KeepsOutBy true false question p = TellsFault ForeignOrigin None p
+KeepsOutBy true true question p = AsksToken question p
+
+abbrev pub KeepsOut : Asked → Plan → Type 0
+KeepsOut asked p = KeepsOutBy asked.names_host asked.is_own asked.question p

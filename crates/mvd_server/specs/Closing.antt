@@ -1,8 +1,11 @@
 -- How a server ends.
-use Rattle.std.specs.Prelude.{◌≡◌, ◌≢◌, ◌⊎◌, ℕ, ◌-◌, true, List, length, Option}
+use Rattle.std.specs.Io.KnownBytes.{Appends}
+use Rattle.std.specs.Prelude.{◌≡◌, ◌≢◌, ◌⊎◌, ℕ, ◌-◌, true, List, length, Option, Ok}
 use Rattle.mvd_dots.specs.declared.refusals.Refusal.TheVariants.{Broken, Memory, ReadFailed, WriteFailed}
 use Rattle.mvd_input.specs.declared.fault.Fault.{Fault}
 use Rattle.mvd_input.specs.declared.fault.Fault.TheVariants.{Stopped, Line}
+use Rattle.mvd_print.specs.Text.{root_text}
+use Rattle.mvd_replica.specs.ReplicaCalls.{root_answer}
 use Rattle.mvd_replica.specs.Replicas.{site_of}
 use Rattle.mvd_replica.specs.declared.replica.Replica.{Replica}
 use Rattle.mvd_server.specs.Rounds.{IsServed}
@@ -21,7 +24,15 @@ EndsAtFault site (Stopped refusal) =
     refusal ≢ Memory → (refusal ≡ ReadFailed) ⊎ ((refusal ≡ WriteFailed) ⊎ ((refusal ≡ Broken) × (site.broken ≡ true)))
 EndsAtFault site (Line number) = ⊥
 
+-- the line of the site's root is printed
+abbrev pub PrintsRoot : SiteValue → Option (List ℕ) → Option (List ℕ) → Type 0
+PrintsRoot site old new = (root : List ℕ) × (root_answer site ≡ Ok root) × Appends old new (root_text root)
+
+-- the last that was printed is that line
+abbrev pub EndsWithRoot : SiteValue → Option (List ℕ) → Type 0
+EndsWithRoot site new = (old : Option (List ℕ)) × PrintsRoot site old new
+
 module _ {S : Type 0} {g : Ghosts S} where
-  -- it has served, and at the end nobody is left
+  -- it has served, and at the end nobody is left but its own
   abbrev pub EndsServed : {K : Type 0} → SocketGhosts K → Option (List ℕ) → K → Replica S g → K → Replica S g → Type 0
   EndsServed k token sockets old sockets' new = (it : IsServed k token sockets old sockets' new) × IsDeserted it.last

@@ -1,5 +1,5 @@
 -- What a server does for a client over HTTP, between two rounds.
-use Rattle.std.specs.Prelude.{◌≡◌, ◌≤◌, ◌⊎◌, ℕ, Bool, true, false, IsTrue, List, length, Option, Some, None, Result, Ok, Err, string_bytes}
+use Rattle.std.specs.Prelude.{◌≡◌, ◌≤◌, ◌⊎◌, ℕ, Bool, true, false, IsTrue, List, length, Option, Some, None, Result, Ok, OnOk, Err, string_bytes}
 use Rattle.std.specs.BTreeMap.{is_at}
 use Rattle.std.specs.Map.{lookup, remove_entry, set_value}
 use Rattle.std.specs.Ordering.{nat_cmp}
@@ -13,6 +13,7 @@ use Rattle.mvd_server.specs.Admitted.{AsksSite, IsOwnPage, KeepsOut, MayAsk, is_
 use Rattle.mvd_server.specs.Batches.{BeginsBatch}
 use Rattle.mvd_server.specs.Fronts.{TakesFront}
 use Rattle.mvd_server.specs.Handed.{HandsWhole, TakenFrom}
+use Rattle.mvd_server.specs.Lines.{IsOnlyTold, TellsEach}
 use Rattle.mvd_server.specs.Plans.{IsPlanOf, plain_answer}
 use Rattle.mvd_server.specs.Responding.{AnswersWeb, RefusesWeb, TellsBody, token_answer, not_admitted}
 use Rattle.mvd_server.specs.declared.batch.Batch.{Batch}
@@ -33,7 +34,7 @@ pub record Decides (guard : Option Guard) (asked : Asked) (p : Plan) : Type 0 wh
   pub own : AsksSite p → IsOwnPage asked
   pub asks : AsksSite p → IsPlanOf asked.question p
   pub done : is_welcome guard asked ≡ true → IsPlanOf asked.question p
-  pub out : is_welcome guard asked ≡ false → KeepsOut p
+  pub out : is_welcome guard asked ≡ false → KeepsOut asked p
 
 -- the host is asked nothing, and nothing is left to do
 abbrev pub IsTold : HostValue → HostValue → Rest → Type 0
@@ -91,9 +92,11 @@ TellsLines (Ok true) old batch new = (length batch.refused.items ≤ batch.told)
 TellsLines (Ok false) old batch new = new ≡ old
 TellsLines (Err refusal) old batch new = new ≡ stopped_by old refusal
 
+-- the line of each is of the reply to it, and nothing else of the writes changes
 abbrev pub TellsBatch : ℕ → WebValue → Batch → HostValue → WebValue → Batch → HostValue → Type 0
 TellsBatch n old batch host new batch' host' =
-    TakenFrom n host host' × ((told : Result Bool Refusal) × TellsLines told old batch' new)
+    IsOnlyTold batch batch' × TakenFrom n host host'
+    × ((told : Result Bool Refusal) × OnOk told (TellsEach n batch host batch' host') × TellsLines told old batch' new)
 
 -- ---- responses
 
@@ -136,7 +139,8 @@ abbrev pub RunsErrand : Errand → Option Guard → ℕ → Desk → Desk → Ty
 RunsErrand (Asks left) guard n old new =
     AsksNext guard n old.web old.host new.web new.host left × (new.batches ≡ old.batches)
 RunsErrand (Forgoes batch) guard n old new =
-    IsBatchFor old.web.asked batch × RefusesWeb Memory old.web new.web × (new ≡ record old { web = new.web })
+    (IsBatchFor old.web.asked batch × (batch_in old.batches n ≡ None))
+    × RefusesWeb Memory old.web new.web × (new ≡ record old { web = new.web })
 RunsErrand Tells guard n old new = TellsReply n old.web old.host new.web new.host × (new.batches ≡ old.batches)
 RunsErrand (TellsMany batch batch') guard n old new =
     (batch_in old.batches n ≡ Some batch) × TellsBatch n old.web batch old.host new.web batch' new.host

@@ -14,10 +14,11 @@ pub record Handing : Type 0 where
 abbrev pub handing : HostValue → ℕ → Handing
 handing host handed = record { host = host; handed = handed }
 
--- the piece that comes next is fed to the client's connection
+-- the piece that comes next is fed to the client's connection, and so many bytes more were handed on
 abbrev pub HandsPiece : ℕ → List ℕ → Handing → Handing → Type 0
 HandsPiece n frames old new =
-    TakesBytes old.host n (take (new.handed - old.handed) (drop old.handed frames)) new.host
+    (old.handed ≤ new.handed) × (new.handed ≤ length frames)
+    × TakesBytes old.host n (take (new.handed - old.handed) (drop old.handed frames)) new.host
 
 -- all of them are, one after the other, from here to there
 abbrev pub HandsFrom : ℕ → List ℕ → Handing → Handing → Type 0
@@ -33,9 +34,10 @@ pub record HandsWhole (n : ℕ) (frame : List ℕ) (old new : HostValue) : Type 
   pub hands : HandsFrom n frame (handing old 0) (handing new count)
   pub whole : (length frame ≤ count) ⊎ IsUnwanted new n
 
--- the frames of many writes are, from where that stands
+-- the frames of many writes are, from where that stands, all of them unless the host wants no more
 pub record HandsBatch (n : ℕ) (old : Batch) (host : HostValue) (new : Batch) (host' : HostValue) : Type 0 where
   pub hands : HandsFrom n old.frames.items (handing host old.handed) (handing host' new.handed)
+  pub whole : (length old.frames.items ≤ new.handed) ⊎ IsUnwanted host' n
   pub same : new ≡ record old { handed = new.handed }
 
 -- some of what waits for it is taken

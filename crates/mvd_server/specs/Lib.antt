@@ -7,6 +7,7 @@ pub mod Fronts
 pub mod Guarded
 pub mod Handed
 pub mod HostBytes
+pub mod Lines
 pub mod Moves
 pub mod OwnSides
 pub mod Paths

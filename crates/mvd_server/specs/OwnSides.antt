@@ -1,11 +1,11 @@
 -- The side of a session that is this server's own site: a client of the host.
-use Rattle.std.specs.Prelude.{◌≡◌, ◌⊎◌, ◌++◌, ℕ, false, List, [], length, Option, None, Some}
+use Rattle.std.specs.Prelude.{◌≡◌, ◌⊎◌, ◌++◌, ℕ, Bool, true, false, List, [], length, Option, None, Some}
 use Rattle.mvd_host.specs.Hosts.{HostValue}
 use Rattle.mvd_meet.specs.Callers.{asked_of_caller, came_at, has_ended, leaving_at}
 use Rattle.mvd_meet.specs.Meetings.{Opens}
 use Rattle.mvd_meet.specs.declared.caller.Caller.{Caller}
 use Rattle.mvd_server.specs.HostBytes.{TakesBytes, sent_of, waits_of}
-use Rattle.mvd_server.specs.Talking.{ComesOwn, Does, GoesOwn, talking_of}
+use Rattle.mvd_server.specs.Talking.{ComesOwn, Does, GoesOwn, is_own, talking_of}
 use Rattle.mvd_server.specs.declared.own_session.OwnSession.{OwnSession}
 use Rattle.mvd_server.specs.declared.talks.Talks.{Talks}
 
@@ -16,9 +16,13 @@ abbrev pub AdmitsOwn : Talks → Option ℕ → Talks → Type 0
 AdmitsOwn old None new = new ≡ old
 AdmitsOwn old (Some n) new = Does (ComesOwn n) (talking_of old) (talking_of new)
 
--- it goes, and counts no more
+-- it goes, and counts no more; none goes that is not its own
+abbrev pub DismissesIf : Bool → Talks → ℕ → Talks → Type 0
+DismissesIf true old n new = Does (GoesOwn n) (talking_of old) (talking_of new)
+DismissesIf false old n new = new ≡ old
+
 abbrev pub DismissesOwn : Talks → ℕ → Talks → Type 0
-DismissesOwn old n new = Does (GoesOwn n) (talking_of old) (talking_of new)
+DismissesOwn old n new = DismissesIf (is_own (talking_of old) n) old n new
 
 -- ---- a session
 

@@ -1,7 +1,7 @@
 -- What a server does to a stored site.
-use Rattle.std.specs.Prelude.{◌≡◌, ◌⊎◌, ℕ, List, [], ◌∷◌, Option}
+use Rattle.std.specs.Prelude.{◌≡◌, ◌⊎◌, ℕ, true, List, [], ◌∷◌, Option, None}
 use Rattle.mvd_conn.specs.declared.guard.Guard.{Guard}
-use Rattle.mvd_conn.specs.History.{History}
+use Rattle.mvd_conn.specs.History.{History, is_done}
 use Rattle.mvd_host.specs.Course.{own}
 use Rattle.mvd_host.specs.Hosts.{HostValue, IsClient, client_of, new_host}
 use Rattle.mvd_host.specs.Round.{Round, Side, host_side}
@@ -122,3 +122,6 @@ module _ {S : Type 0} {g : Ghosts S} where
     pub told : (n : ℕ) → (own n (turns_in all) ≡ []) ⊎ WasThere n (TellsOwn (own n (turns_in all))) goes.mids
     -- one of frames has no turn before it has shown the token
     pub shown : (n : ℕ) → HasShown guard (own n (turns_in all)) ⊎ WasMadeFor n goes.mids
+    -- one of frames that was told anything has gone only after all of it had left, or its connection broke
+    pub parted : (n : ℕ) → client_of last.host n ≡ None
+        → (own n (turns_in all) ≡ []) ⊎ (WasThere n (λ h. is_done h ≡ true) goes.mids ⊎ WasMadeFor n goes.mids)

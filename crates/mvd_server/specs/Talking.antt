@@ -1,21 +1,25 @@
 -- The clients of a server, and what it does with them between two rounds.
-use Rattle.std.specs.Prelude.{◌≡◌, ◌⊎◌, ◌==◌, ℕ, Bool, true, not, List, [], ◌∷◌, ◌++◌, Option, None, Some, ⊤}
+use Rattle.std.specs.Prelude.{◌≡◌, ◌⊎◌, ◌==◌, ℕ, Bool, true, not, List, [], ◌∷◌, ◌++◌, IsSome, Option, None, Some, ⊤}
 use Rattle.std.specs.BTreeMap.{insert_entry, is_at}
 use Rattle.std.specs.List.{filter, list_any}
 use Rattle.std.specs.Map.{lookup, remove_entry, set_value}
+use Rattle.std.specs.Option.{option_and_then}
 use Rattle.std.specs.Ordering.{nat_cmp}
+use Rattle.mvd_conn.specs.History.{History, ending_of, is_done}
 use Rattle.mvd_conn.specs.declared.guard.Guard.{Guard}
 use Rattle.mvd_dots.specs.declared.refusals.Refusal.TheVariants.{Memory}
-use Rattle.mvd_host.specs.Hosts.{AdmitsOne, ClientLeaves, HostValue, altered, new_host}
+use Rattle.mvd_host.specs.Hosts.{AdmitsOne, ClientLeaves, HostValue, IsClient, altered, client_of, new_host}
 use Rattle.mvd_host.specs.Runs.{Call, Closes, Cuts, Feeds, Releases, Sends, after_call}
 use Rattle.mvd_server.specs.Errands.{AwaitsChange, Errand, IsBatchFor, RunsErrand, batch_in, desk}
 use Rattle.mvd_server.specs.Handed.{HandsBatch}
 use Rattle.mvd_server.specs.Paths.{Path}
 use Rattle.mvd_server.specs.Responding.{RefusesWeb}
 use Rattle.mvd_server.specs.declared.batch.Batch.{Batch}
+use Rattle.mvd_server.specs.declared.talks.Kind.{Kind}
+use Rattle.mvd_server.specs.declared.talks.Kind.TheVariants.{Frames, Http}
 use Rattle.mvd_server.specs.declared.talks.Talks.{Talks}
 use Rattle.mvd_web.specs.Inside.{web_of}
-use Rattle.mvd_web.specs.Web.{IsNew}
+use Rattle.mvd_web.specs.Web.{IsNew, IsOver}
 use Rattle.mvd_web.specs.declared.web_connection.WebConnection.{WebConnection}
 
 -- who may come in; the host, in which each client has a connection of frames; the connections of those over HTTP; the
@@ -50,6 +54,10 @@ with_web t n web = record t { webs = set_value (is_at (nat_cmp n)) t.webs web }
 abbrev pub IsWriting : Option WebConnection → Batch → Type 0
 IsWriting None batch = ⊥
 IsWriting (Some web) batch = IsBatchFor (web_of web).asked batch
+
+-- they are, and it has no others
+abbrev pub MayBegin : ℕ → Batch → Talking → Type 0
+MayBegin n batch t = IsWriting (web_in t n) batch × (batch_in t.batches n ≡ None)
 
 -- one over HTTP waits for a change
 abbrev pub IsWaiting : Option WebConnection → Type 0
@@ -88,6 +96,21 @@ without n own = filter (λ q. not (q == n)) own
 abbrev pub IsMadeFor : Talking → ℕ → Type 0
 IsMadeFor t n = ((web : WebConnection) × (web_in t n ≡ Some web)) ⊎ (is_own t n ≡ true)
 
+-- The host takes no more of a client, and no request of it waits; or nothing came of it
+abbrev pub TakesNoMore : Option History → WebConnection → Type 0
+TakesNoMore client web = IsSome (option_and_then ending_of client) ⊎ IsNew (web_of web)
+
+-- NOTHING IS LEFT TO DO for a client. One of frames has ended, and all that it was told has left; or its connection
+-- broke. One over HTTP has no request that waits, and all that it was told has left; or it was stopped
+abbrev pub IsSpent : Option WebConnection → Option History → Type 0
+IsSpent None client = IsClient client (λ h. is_done h ≡ true)
+IsSpent (Some web) client =
+    IsOver (web_of web)
+    ⊎ (TakesNoMore client web × ((web_of web).asked ≡ None) × ((web_of web).waits ≡ []))
+
+abbrev pub MayGo : ℕ → Talking → Type 0
+MayGo n t = IsSpent (web_in t n) (client_of t.host n)
+
 -- but by its socket, or for a request over HTTP, no byte comes of another client, and none leaves
 abbrev pub MayCall : Talking → ℕ → Call → Type 0
 MayCall t n (Feeds bytes) = is_own t n ≡ true
@@ -96,15 +119,15 @@ MayCall t n Releases = ⊤
 MayCall t n (Closes source) = ⊤
 MayCall t n Cuts = ⊤
 
--- A client of frames comes, one over HTTP, or one of the server's own; one comes and goes at once; one goes, of each
--- kind; there is a call on the connection of one, or an errand for one over HTTP; its many writes begin, or go on
+-- A client of frames comes, one over HTTP, or one of the server's own; one comes and goes at once; one goes, or one of
+-- the server's own; there is a call on the connection of one, or an errand for one over HTTP; its many writes begin, or
+-- go on
 pub data Act : Type 0 where
   Comes : ℕ → Act
   ComesByWeb : ℕ → WebConnection → Act
   ComesOwn : ℕ → Act
   TurnsBack : ℕ → HostValue → Act
   Goes : ℕ → Act
-  GoesByWeb : ℕ → Act
   GoesOwn : ℕ → Act
   Calls : ℕ → Call → Act
   Attends : ℕ → WebConnection → WebConnection → Errand → Act
@@ -122,23 +145,23 @@ Does (ComesOwn n) old new =
 Does (TurnsBack n mid) old new =
     (guard : Option Guard) × AdmitsOne guard old.host mid n × ClientLeaves mid n new.host
     × (new ≡ with_host old new.host)
-Does (Goes n) old new = ClientLeaves old.host n new.host × (new ≡ with_host old new.host)
-Does (GoesByWeb n) old new =
-    ClientLeaves old.host n new.host
+Does (Goes n) old new =
+    MayGo n old × ClientLeaves old.host n new.host
     × (new ≡ record old {
       host = new.host;
       webs = remove_entry (is_at (nat_cmp n)) old.webs;
       batches = remove_entry (is_at (nat_cmp n)) old.batches;
     })
 Does (GoesOwn n) old new =
-    ClientLeaves old.host n new.host × (new ≡ record old { host = new.host; own = without n old.own })
+    (is_own old n ≡ true) × ClientLeaves old.host n new.host
+    × (new ≡ record old { host = new.host; own = without n old.own })
 Does (Calls n call) old new = MayCall old n call × (new ≡ with_host old (altered old.host n (after_call call)))
 Does (Attends n web web' errand) old new =
     (web_in old n ≡ Some web)
     × RunsErrand errand old.guard n (desk old.host (web_of web) old.batches) (desk new.host (web_of web') new.batches)
     × (new ≡ record (with_web old n web') { host = new.host; batches = new.batches })
 Does (Begins n batch) old new =
-    IsWriting (web_in old n) batch × (new ≡ record old { batches = insert_entry nat_cmp old.batches n batch })
+    MayBegin n batch old × (new ≡ record old { batches = insert_entry nat_cmp old.batches n batch })
 Does (Hands n batch batch') old new =
     (batch_in old.batches n ≡ Some batch) × HandsBatch n batch old.host batch' new.host
     × (new ≡ record old { host = new.host; batches = set_value (is_at (nat_cmp n)) old.batches batch' })
@@ -148,6 +171,14 @@ Deed old new = (act : Act) × Does act old new
 
 abbrev pub Deeds : Talking → Talking → Type 0
 Deeds old new = Path Deed old new
+
+-- a client of this kind comes; it goes, and nothing is known but that it has just come
+abbrev pub ComesBy : Kind → ℕ → Talking → Talking → Type 0
+ComesBy Frames n old new = Does (Comes n) old new
+ComesBy Http n old new = (web : WebConnection) × Does (ComesByWeb n web) old new
+
+abbrev pub GoesAtOnce : Kind → ℕ → Talking → Talking → Type 0
+GoesAtOnce kind n old new = (before : Talking) → ComesBy kind n before old → Deeds before new
 
 abbrev pub TalksDeeds : Talks → Talks → Type 0
 TalksDeeds old new = Deeds (talking_of old) (talking_of new)

@@ -1,7 +1,7 @@
 //! From a request of HTTP to the frame that the host answers, and from its reply to the response.
 ghost use Rattle.std.specs.Prelude.{◌≡◌, IsTrue, false, option_copied, true};
 ghost use Rattle.mvd_http.specs.declared.fields.Content.TheVariants.{Json, Plain};
-ghost use Rattle.mvd_server.specs.Admitted.{AsksSite, IsOwnPage, KeepsOut, MayAsk, is_let_in, is_welcome};
+ghost use Rattle.mvd_server.specs.Admitted.{AsksSite, AsksToken, IsOwnPage, KeepsOut, MayAsk, is_let_in, is_welcome};
 ghost use Rattle.mvd_server.specs.Errands.{AsksNext, DoesPlan, TellsBatch, TellsOrWaits, TellsReply};
 ghost use Rattle.mvd_server.specs.Plans.{IsPlanFor, IsPlanOf, TellsFault};
 ghost use Rattle.mvd_server.specs.Responding.{TellsBody, not_admitted, token_answer};
@@ -64,7 +64,7 @@ fn plan_of(alloc: Global, guard: Option<&Guard>, asked: &Asked) -> Plan
     ensures asks { AsksSite result → IsPlanOf asked.now.question result }
     // Whoever may is answered, and whoever may not is told so.
     ensures done { is_welcome (option_copied guard.entry) asked.now ≡ true → IsPlanOf asked.now.question result }
-    ensures out { is_welcome (option_copied guard.entry) asked.now ≡ false → KeepsOut result }
+    ensures out { is_welcome (option_copied guard.entry) asked.now ≡ false → KeepsOut asked.now result }
 {
     if !asked.names_host {
         return fault(Fault::HostMissing, None);
@@ -84,7 +84,7 @@ fn plan_of(alloc: Global, guard: Option<&Guard>, asked: &Asked) -> Plan
 /// What is told to whoever may not come in: that a token is asked for, or that there was no memory for the one it has.
 fn kept_out(asked: &Asked) -> Plan
     ensures none { AsksSite result → ⊥ }
-    ensures told { KeepsOut result }
+    ensures told { AsksToken asked.now.question result }
 {
     match asked.question {
         Err(Refusal::Memory) => Plan::Refused(Refusal::Memory),

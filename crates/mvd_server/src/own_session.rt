@@ -34,10 +34,14 @@ impl Talks {
         Some(number)
     }
 
-    /// Lets such a client go.
+    /// Lets such a client go, and no other.
+    #[tactic(auto, using(crate::proofs::Leaving::own_stays, crate::proofs::Leaving::own_leaves))]
     pub fn dismiss_own(&mut self, number: u64)
         ensures { DismissesOwn self.old number self.new }
     {
+        if !self.is_own(number) {
+            return;
+        }
         self.host.dismiss(number);
         forget(&mut self.own, number);
     }

@@ -6,8 +6,8 @@ ghost use Rattle.std.specs.Prelude.{◌≡◌, ◌⊎◌, IfErr, IfOk, IsSome, O
 ghost use Rattle.mvd_dots.specs.declared.refusals.Refusal.TheVariants.{Memory, ReadFailed, WriteFailed};
 ghost use Rattle.mvd_input.specs.declared.fault.Fault.TheVariants.{Stopped};
 ghost use Rattle.mvd_replica.specs.Replicas.{site_of};
-ghost use Rattle.mvd_server.specs.Closing.{EndsAtFault, EndsServed, IsDeserted};
-ghost use Rattle.mvd_server.specs.Rounds.{AnswersClients, BeginsServing, GoesOn, IsServed};
+ghost use Rattle.mvd_server.specs.Closing.{EndsAtFault, EndsServed, EndsWithRoot, IsDeserted};
+ghost use Rattle.mvd_server.specs.Rounds.{BeginsServing, GoesOn, IsServed};
 ghost use Rattle.mvd_server.specs.Talking.{talking_of};
 ghost use Rattle.mvd_server.specs.Wires.{Carries, wired_of};
 
@@ -34,9 +34,6 @@ use std::mem;
 use std::net::{Net, SocketAddr};
 use std::random::RandomSource;
 use std::time::{Clock, Duration, Instant};
-
-/// The most rounds that follow each other before replies leave.
-const ROUNDS_MAX: usize = 64;
 
 /// What a server is asked for: the port for HTTP, if it serves that too, how many connections it serves in all, for how
 /// many seconds no byte need move on one, and how many clients it serves at once. Where there is a token, who comes in
@@ -112,9 +109,11 @@ pub fn serve_run<
 ) -> Result<(), Stop<'a>>
     // However it ends, the site changed by turns of one host alone, fed by its sockets, and its records follow.
     ensures served { IsServed K.Sockets (option_copied terms.entry.token) sockets.old replica.old sockets.new replica.new }
-    // Where it ends well, nobody is left.
+    // Where it ends well, nobody is left but the server's own.
     ensures left { OnOk result (EndsServed K.Sockets (option_copied terms.entry.token) sockets.old replica.old
         sockets.new replica.new) }
+    // Then the last line that it printed is the root of its site.
+    ensures root { OnOk result (EndsWithRoot (site_of replica.new) (W.contents writer.new)) }
     // Else there is a cause; where it could not listen, nothing was served.
     ensures cause { IfErr result (λ stop. EndsAtFault (site_of replica.new) stop.fault) }
     ensures unheard { IfErr result (λ stop. IsSome stop.hint →
@@ -225,6 +224,7 @@ impl Server {
         ensures goes { GoesOn K.Sockets (wired_of self.old.crowd.talks sockets.old) replica.old
             (wired_of self.new.crowd.talks sockets.new) replica.new }
         ensures left { OnOk result (IsDeserted (talking_of self.new.crowd.talks)) }
+        ensures root { OnOk result (EndsWithRoot (site_of replica.new) (W.contents writer.new)) }
         ensures cause { IfErr result (EndsAtFault (site_of replica.new)) }
     {
         tell_listening(alloc, address, terms, writer)?;
@@ -278,28 +278,6 @@ impl Server {
         self.give_out(sockets, writer)?;
         self.peers.tell_errors(errors);
         Ok(())
-    }
-
-    /// Answers what came of the clients that are listed, and what the sessions with peers ask.
-    fn answer<S: Alter + Drop>(&mut self, replica: &mut Replica<S>)
-        ensures { AnswersClients self.old.crowd.talks replica.old self.new.crowd.talks replica.new }
-    {
-        let clients = self.ready.len();
-        self.peers.list(&mut self.crowd, &mut self.ready);
-        self.answer_all(replica);
-        self.ready.truncate(clients);
-        self.peers.take_replies(&mut self.crowd, replica.commits());
-    }
-
-    /// Answers what came of those that are listed: together what may be, and then what came behind it.
-    fn answer_all<S: Alter + Drop>(&mut self, replica: &mut Replica<S>)
-        ensures { AnswersClients self.old.crowd.talks replica.old self.new.crowd.talks replica.new }
-    {
-        for _round in 0..ROUNDS_MAX {
-            if !self.crowd.round(replica, &self.ready) {
-                return;
-            }
-        }
     }
 
     /// Waits until there may be something to do, and lists the clients of which the system tells so.

@@ -1,10 +1,10 @@
 //! What the clients say, in frames or over HTTP.
+mod comings;
 mod talk_bytes;
 
-ghost use Rattle.std.specs.Prelude.{◌≡◌, ◌≤◌, IfOk, IsTrue, OnErr, OnOk, is_some, length};
-ghost use Rattle.mvd_host.specs.Hosts.{client_of};
+ghost use Rattle.std.specs.Prelude.{◌≡◌, IfOk, IsTrue, OnErr, OnOk};
 ghost use Rattle.mvd_server.specs.Rounds.{HasRound};
-ghost use Rattle.mvd_server.specs.Talking.{IsWaiting, IsWriting, KeepsBatch, LacksMemory, OpensWeb};
+ghost use Rattle.mvd_server.specs.Talking.{IsWaiting, KeepsBatch, LacksMemory, MayBegin};
 ghost use Rattle.mvd_server.specs.Talking.{TalksDeeds, new_talking, talking_of, web_in};
 
 use crate::batch::Batch;
@@ -52,10 +52,6 @@ pub(crate) struct Talks {
 }
 
 impl Talks {
-    ghost use Rattle.std.specs.Prelude.{◌≡◌, IfSome, Some};
-    ghost use Rattle.mvd_conn.specs.History.{new_history};
-    ghost use Rattle.mvd_server.specs.Guarded.{guard_for};
-
     /// Nobody's. There is room for as many clients of its own.
     pub fn new(
         alloc: Global,
@@ -77,68 +73,6 @@ impl Talks {
             alloc,
             keys,
         })
-    }
-
-    /// Takes a client in, and gives its number. It is `None` where there is no place, or memory was refused. One that
-    /// speaks frames has to show the token in its first frame; over HTTP each request has to.
-    pub fn admit(&mut self, kind: Kind) -> Option<u64>
-        ensures guarded { IfSome result (λ number.
-            client_of self.new.host number ≡ Some (new_history (guard_for kind self.old.guard))) }
-        ensures own { self.new.own ≡ self.old.own }
-        ensures deeds { TalksDeeds self.old self.new }
-    {
-        match kind {
-            Kind::Frames => self.admit_frames(),
-            Kind::Http => self.admit_web(),
-        }
-    }
-
-    fn admit_frames(&mut self) -> Option<u64>
-        ensures guarded { IfSome result (λ number.
-            client_of self.new.host number ≡ Some (new_history self.old.guard)) }
-        ensures own { self.new.own ≡ self.old.own }
-        ensures deeds { TalksDeeds self.old self.new }
-    {
-        match self.host.admit(self.guard) {
-            Ok(number) => number,
-            Err(_) => None,
-        }
-    }
-
-    fn admit_web(&mut self) -> Option<u64>
-        ensures guarded { IfSome result (λ number.
-            client_of self.new.host number ≡ Some (new_history None)) }
-        ensures own { self.new.own ≡ self.old.own }
-        ensures deeds { TalksDeeds self.old self.new }
-    {
-        let Ok(Some(number)) = self.host.admit(None) else {
-            return None;
-        };
-        if self.open_web(number).is_err() {
-            self.host.dismiss(number);
-            return None;
-        }
-        Some(number)
-    }
-
-    fn open_web(&mut self, number: u64) -> Result<(), AllocError>
-        ensures opens { OnOk result (OpensWeb number (talking_of self.old) (talking_of self.new)) }
-        ensures same { OnErr result (talking_of self.new ≡ talking_of self.old) }
-        ensures own { self.new.own ≡ self.old.own }
-    {
-        let web = WebConnection::new(self.alloc, self.keys);
-        drop(self.webs.insert(number, web)?);
-        Ok(())
-    }
-
-    pub fn dismiss(&mut self, number: u64)
-        ensures own { self.new.own ≡ self.old.own }
-        ensures deeds { TalksDeeds self.old self.new }
-    {
-        drop(self.webs.remove(&number));
-        drop(self.batches.remove(&number));
-        self.parked.remove(number);
-        self.host.dismiss(number);
     }
 
     /// Takes requests of some clients, answers them together, and queues what each is told, and what those are told
@@ -224,7 +158,7 @@ impl Talks {
 
     /// Hands on the first writes of a client, which its request asks for. Where memory is refused to keep them, none is.
     fn begin_writes(&mut self, batch: Batch, number: u64, counts: &mut Counts)
-        ensures { IsWriting (web_in (talking_of self.old) number) batch → TalksDeeds self.old self.new }
+        ensures { MayBegin number batch (talking_of self.old) → TalksDeeds self.old self.new }
     {
         match self.keep_writes(batch, number) {
             Ok(()) => self.hand_on_writes(number),

@@ -1,9 +1,9 @@
 //! Where a server listens, and the root that it tells at its end.
-ghost use Rattle.std.specs.Prelude.{◌≡◌, ◌⊎◌, IfErr};
+ghost use Rattle.std.specs.Prelude.{◌≡◌, ◌⊎◌, IfErr, OnOk};
 ghost use Rattle.mvd_dots.specs.declared.refusals.Refusal.TheVariants.{Memory, WriteFailed};
 ghost use Rattle.mvd_input.specs.declared.fault.Fault.TheVariants.{Stopped};
 ghost use Rattle.mvd_replica.specs.Replicas.{site_of};
-ghost use Rattle.mvd_server.specs.Closing.{EndsAtFault};
+ghost use Rattle.mvd_server.specs.Closing.{EndsAtFault, PrintsRoot};
 
 use crate::server::Terms;
 use mvd_input::{Fault, tell};
@@ -33,12 +33,14 @@ pub(crate) fn tell_listening<W: Write>(
 }
 
 /// Tells the root digest.
+#[tactic(auto, using(crate::proofs::Closing::prints_root))]
 pub(crate) fn tell_root<S: Alter + Drop, W: Write>(
     alloc: Global,
     replica: &Replica<S>,
     writer: &mut W,
 ) -> Result<(), Fault>
-    ensures { IfErr result (EndsAtFault (site_of replica.now)) }
+    ensures root { OnOk result (PrintsRoot (site_of replica.now) (W.contents writer.old) (W.contents writer.new)) }
+    ensures cause { IfErr result (EndsAtFault (site_of replica.now)) }
 {
     let root = replica.root()?;
     let mut line = String::new(alloc);

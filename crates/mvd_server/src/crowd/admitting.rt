@@ -17,7 +17,9 @@ use std::alloc::AllocError;
 
 /// What is told to a client for which there is no place, over HTTP and in a frame: 36, and nothing of it was read.
 const NO_PLACE_WEB: &[u8] =
-    b"HTTP/1.1 503 Service Unavailable\r\nretry-after: 1\r\ncontent-type: application/json\r\ncache-control: no-store\r\nconnection: close\r\ncontent-length: 39\r\n\r\n{\"refused\":36,\"name\":\"TooManyRequests\"}";
+    b"HTTP/1.1 503 Service Unavailable\r\nretry-after: 1\r\ncontent-type: application/json\r\n\
+      cache-control: no-store\r\nconnection: close\r\ncontent-length: 39\r\n\r\n\
+      {\"refused\":36,\"name\":\"TooManyRequests\"}";
 
 impl Crowd {
     /// Takes a client in. Where the system or memory refuses that, it ends at once; where all places are taken, it is
@@ -64,7 +66,7 @@ impl Crowd {
                 Ok(())
             }
             Err(refusal) => {
-                self.talks.dismiss(number);
+                self.talks.turn_back(kind, number);
                 tell_end(&mut self.told, ordinal, Ending::Stopped(refusal))
             }
         }

@@ -1,11 +1,14 @@
 //! The order of a pass: who asks is answered before the changes of others are committed.
-ghost use Rattle.mvd_server.specs.Rounds.{GoesOn};
+ghost use Rattle.mvd_server.specs.Rounds.{AnswersClients, GoesOn};
 ghost use Rattle.mvd_server.specs.Wires.{wired_of};
 
 use crate::server::Server;
 use crate::sockets::Sockets;
 use mvd_replica::Replica;
 use sqlite::Alter;
+
+/// The most rounds that follow each other before replies leave.
+const ROUNDS_MAX: usize = 64;
 
 impl Server {
     /// Answers the clients of which a question came, and writes to them, before the changes of others are committed.
@@ -25,5 +28,27 @@ impl Server {
         }
         self.crowd.round(replica, &self.next);
         self.crowd.send_all(sockets, &self.next);
+    }
+
+    /// Answers what came of the clients that are listed, and what the sessions with peers ask.
+    pub fn answer<S: Alter + Drop>(&mut self, replica: &mut Replica<S>)
+        ensures { AnswersClients self.old.crowd.talks replica.old self.new.crowd.talks replica.new }
+    {
+        let clients = self.ready.len();
+        self.peers.list(&mut self.crowd, &mut self.ready);
+        self.answer_all(replica);
+        self.ready.truncate(clients);
+        self.peers.take_replies(&mut self.crowd, replica.commits());
+    }
+
+    /// Answers what came of those that are listed: together what may be, and then what came behind it.
+    fn answer_all<S: Alter + Drop>(&mut self, replica: &mut Replica<S>)
+        ensures { AnswersClients self.old.crowd.talks replica.old self.new.crowd.talks replica.new }
+    {
+        for _round in 0..ROUNDS_MAX {
+            if !self.crowd.round(replica, &self.ready) {
+                return;
+            }
+        }
     }
 }

@@ -1,8 +1,11 @@
 //! The bytes of a client, and how far its connection is.
-ghost use Rattle.std.specs.Prelude.{◌≡◌, ◌≤◌, IsTrue, is_some, length};
+ghost use Rattle.std.specs.Prelude.{◌≡◌, ◌≤◌, IsSome, IsTrue, None, is_some, length};
+ghost use Rattle.std.specs.Option.{option_and_then};
+ghost use Rattle.mvd_conn.specs.History.{ending_of};
 ghost use Rattle.mvd_host.specs.Hosts.{client_of};
-ghost use Rattle.mvd_server.specs.Talking.{TalksDeeds, talking_of};
+ghost use Rattle.mvd_server.specs.Talking.{MayGo, TalksDeeds, talking_of};
 ghost use Rattle.mvd_server.specs.Wires.{FeedsTo, IsFedBySocket, MayFeed, SendsOf, waits_for};
+ghost use Rattle.mvd_web.specs.Inside.{web_of};
 
 use crate::feeding::{feed, sent};
 use crate::talks::Talks;
@@ -107,7 +110,11 @@ impl Talks {
         }
     }
 
-    pub fn is_done(&self, number: u64) -> bool {
+    /// Whether nothing is left to do for a client.
+    #[tactic(auto, using(crate::proofs::Leaving::spent_frames, crate::proofs::Leaving::spent_over, crate::proofs::Leaving::spent_web))]
+    pub fn is_done(&self, number: u64) -> bool
+        ensures { IsTrue result → MayGo number (talking_of self.now) }
+    {
         match self.webs.get(&number) {
             Some(web) => web.is_done() || (self.is_over(number, web) && web.waiting().is_empty()),
             None => self.host.is_done(number),
@@ -125,7 +132,10 @@ impl Talks {
 
     /// Whether no further request of a client over HTTP is taken, since the host ended its connection. The responses
     /// that wait leave.
-    fn is_over(&self, number: u64, web: &WebConnection) -> bool {
+    fn is_over(&self, number: u64, web: &WebConnection) -> bool
+        ensures ended { IsTrue result → IsSome (option_and_then ending_of (client_of self.now.host number)) }
+        ensures answered { IsTrue result → (web_of web.now).asked ≡ None }
+    {
         web.asked().is_none() && self.host.ending(number).is_some()
     }
 }

@@ -7,4 +7,4 @@ use Rattle.mvd_server.proofs.crowd.Crowd.write.Goals as goal
 pub returns : goal.returns
 returns g c =
     carries_on g.K.Sockets (wired_of c.args.self.now.talks c.args.sockets.now) (wired_of c.send_to.new.self.talks c.send_to.new.sockets) (wired_of c.finish.new.self.talks c.send_to.new.sockets) c.send_to.ensures
-    (carries_deeds g.K.Sockets (talking_of c.send_to.new.self.talks) (talking_of c.finish.new.self.talks) c.send_to.new.sockets c.send_to.new.sockets refl c.finish.ensures)
+    (carries_deeds g.K.Sockets (talking_of c.send_to.new.self.talks) (talking_of c.finish.new.self.talks) c.send_to.new.sockets c.send_to.new.sockets refl (c.finish.ensures (c.is_done.ensures c.if-not-is_done.false)))

@@ -1,6 +1,6 @@
 use Rattle.std.proofs.Common.{ap}
 use Rattle.mvd_server.specs.Talking.{talking_of, with_host}
-use Rattle.mvd_server.proofs.Deeds.{comes_frames, deeds_same}
+use Rattle.mvd_server.proofs.Deeds.{comes_frames, comes_told, deeds_same}
 use Rattle.mvd_server.proofs.talks.Talks.admit_frames.Goals as goal
 
 pub returns-in-Ok-clause-deeds : goal.returns-in-Ok-clause-deeds
@@ -8,3 +8,6 @@ returns-in-Ok-clause-deeds c = comes_frames (talking_of c.args.self.now) c.in-Ok
 
 pub returns-in-Err-clause-deeds : goal.returns-in-Err-clause-deeds
 returns-in-Err-clause-deeds c = deeds_same (talking_of c.args.self.now) (with_host (talking_of c.args.self.now) c.admit.new.self) (ap (with_host (talking_of c.args.self.now)) c.in-Err.ensures.err.1)
+
+pub returns-in-Ok-clause-comes : goal.returns-in-Ok-clause-comes
+returns-in-Ok-clause-comes c = comes_told (talking_of c.args.self.now) c.in-Ok.number c.admit.new.self c.in-Ok.ensures.ok

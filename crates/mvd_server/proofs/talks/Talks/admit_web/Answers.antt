@@ -2,7 +2,7 @@ use Rattle.std.proofs.Common.{◌≡◌, ◌∙◌, ap, true, false, subst, sym,
 use Rattle.std.specs.Result.{OnErr, OnOk, is_err}
 use Rattle.mvd_host.specs.Hosts.{Admits, ClientLeaves}
 use Rattle.mvd_server.specs.Talking.{Talking, talking_of, with_host}
-use Rattle.mvd_server.proofs.Deeds.{comes_web, turns_back}
+use Rattle.mvd_server.proofs.Deeds.{comes_web, does_web, turns_back}
 use Rattle.mvd_server.proofs.talks.Talks.admit_web.Goals as goal
 
 at_err : {T E P : Type 0} (r : Result T E) → is_err r ≡ true → OnErr r P → P
@@ -29,3 +29,9 @@ returns-clause-deeds c =
     let old = talking_of c.args.self.now in
     let one = subst (λ o. Admits None old.host o c.admit.new.self) c.in-Ok-Some.field-0-is c.in-Ok-Some.ensures.ok in
     comes_web c.in-Ok-Some.number old c.admit.new.self (talking_of c.open_web.new.self) one (at_ok c.open_web.result (sym c.is_err.ensures.value ∙ c.if-is_err.false) c.open_web.ensures.opens)
+
+pub returns-clause-comes : goal.returns-clause-comes
+returns-clause-comes c =
+    let old = talking_of c.args.self.now in
+    let one = subst (λ o. Admits None old.host o c.admit.new.self) c.in-Ok-Some.field-0-is c.in-Ok-Some.ensures.ok in
+    does_web c.in-Ok-Some.number old c.admit.new.self (talking_of c.open_web.new.self) one (at_ok c.open_web.result (sym c.is_err.ensures.value ∙ c.if-is_err.false) c.open_web.ensures.opens)

@@ -2,11 +2,11 @@ use Rattle.std.proofs.Common.{ap, ◌∙◌}
 use Rattle.std.specs.BTreeMap.{is_at}
 use Rattle.std.specs.Map.{remove_entry}
 use Rattle.std.specs.Ordering.{nat_cmp}
-use Rattle.mvd_server.specs.Talking.{GoesByWeb, talking_of}
+use Rattle.mvd_server.specs.Talking.{Goes, talking_of}
 use Rattle.mvd_server.proofs.Deeds.{deeds_one}
 use Rattle.mvd_server.proofs.talks.Talks.dismiss.Goals as goal
 
 pub returns-clause-deeds : goal.returns-clause-deeds
-returns-clause-deeds c =
+returns-clause-deeds c = λ may.
     let old = talking_of c.args.self.now in
-    deeds_one (GoesByWeb c.args.number) old _ (c.dismiss.ensures.leaves, ap (λ e. record old { host = c.dismiss.new.self; webs = e; batches = c.remove-2.new.self.entries }) c.remove.ensures.entries ∙ ap (λ e. record old { host = c.dismiss.new.self; webs = remove_entry (is_at (nat_cmp c.args.number)) old.webs; batches = e }) c.remove-2.ensures.entries)
+    deeds_one (Goes c.args.number) old _ (may, c.dismiss.ensures.leaves, ap (λ e. record old { host = c.dismiss.new.self; webs = e; batches = c.remove-2.new.self.entries }) c.remove.ensures.entries ∙ ap (λ e. record old { host = c.dismiss.new.self; webs = remove_entry (is_at (nat_cmp c.args.number)) old.webs; batches = e }) c.remove-2.ensures.entries)

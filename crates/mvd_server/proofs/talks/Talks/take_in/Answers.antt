@@ -2,7 +2,7 @@ use Rattle.std.proofs.Common.{refl, subst, sym}
 use Rattle.mvd_server.specs.Errands.{Asks, AsksNext}
 use Rattle.mvd_server.specs.Talking.{talking_of}
 use Rattle.mvd_server.specs.declared.gate.Rest.TheVariants as rest
-use Rattle.mvd_server.proofs.Deeds.{deed_attends, deeds_on, writing}
+use Rattle.mvd_server.proofs.Deeds.{deed_attends, deeds_on, no_batch, writing}
 use Rattle.mvd_server.proofs.Errands.{batch_of}
 use Rattle.mvd_server.proofs.talks.Talks.take_in.Goals as goal
 use Rattle.mvd_web.specs.Inside.{web_of}
@@ -26,7 +26,7 @@ returns-in-Writes g c =
     let mine = batch_of old.guard n (web_of c.in-Some.web.now) old.host (web_of web) c.ask-rest.new.host batch asks in
     deeds_on old mid (talking_of c.begin_writes.new.self)
     (deed_attends n (Asks (rest.Writes batch)) c.in-Some.web.now web old c.ask-rest.new.host old.batches entries (sym c.in-Some.ensures.value) (asks, refl) (c.get_mut.follows.holds web).0)
-    (c.begin_writes.ensures (writing n c.in-Some.web.now web old.webs entries batch (sym c.in-Some.ensures.value) (c.get_mut.follows.holds web).0 mine))
+    (c.begin_writes.ensures (writing n c.in-Some.web.now web old.webs entries batch (sym c.in-Some.ensures.value) (c.get_mut.follows.holds web).0 mine, no_batch _ _ c.contains_key.ensures c.if-contains_key.false))
 
 pub returns-in-Waits : goal.returns-in-Waits
 returns-in-Waits g c =

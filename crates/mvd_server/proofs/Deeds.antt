@@ -103,8 +103,8 @@ deed_lacks n batch old new may (inr (web, web', has, refuses, is)) = lacking n b
 
 -- a client has no writes
 pub no_batch : (o : Option Batch) (has : Bool) → has ≡ is_some o → has ≡ false → o ≡ None
-no_batch None has is no = refl
-no_batch (Some batch) has is no = absurd (true≢false (sym is ∙ no))
+no_batch None has is none = refl
+no_batch (Some batch) has is none = absurd (true≢false (sym is ∙ none))
 
 -- bytes are fed to one of the server's own, or not
 pub deeds_own : (n : ℕ) (bytes : List ℕ) (old : Talking) (host : HostValue) → is_own old n ≡ true → (host ≡ old.host) ⊎ TakesBytes old.host n bytes host → Deeds old (with_host old host)

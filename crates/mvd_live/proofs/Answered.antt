@@ -5,7 +5,7 @@ use Rattle.mvd_dots.specs.declared.refusals.Refusal.{Refusal}
 use Rattle.mvd_keys.specs.State.{State}
 use Rattle.mvd_wire.specs.declared.reply.Digests.{Digests}
 use Rattle.mvd_sync.specs.Exchanges.{Exchanging}
-use Rattle.mvd_sync.specs.Machines.{CarriedOn, HearsAt, Machining, StageAsks, TakesTold, both, goes, of_local, of_other, of_peer, of_side, other_of, share_of, stage_after, told_by_side}
+use Rattle.mvd_sync.specs.Machines.{HearsAt, Machining, StageAsks, TakesTold, both, goes, of_local, of_other, of_peer, of_side, other_of, stage_after, told_by_side}
 use Rattle.mvd_sync.specs.Tellings.{Page, nodes_told, pages_told, pushes_told, states_told, unasked_told}
 use Rattle.mvd_sync.specs.declared.report.Side.{Side}
 use Rattle.mvd_sync.specs.declared.report.Side.TheVariants.{Local as AtLocal, Peer as AtPeer}

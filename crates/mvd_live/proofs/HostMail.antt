@@ -1,12 +1,11 @@
 -- The bytes that a host queued for a client are live mail.
-use Rattle.std.proofs.Common.{◌≡◌, ◌≢◌, ◌⊎◌, inl, inr, ℕ, ◌+◌, ◌≤◌, ◌==◌, Bool, true, false, cond, List, [], ◌∷◌, ◌++◌, length, map, Option, Some, None, refl, sym, ap, subst, ◌∙◌, true≢false, arith}
+use Rattle.std.proofs.Common.{◌≡◌, inl, inr, ℕ, ◌==◌, true, false, List, [], ◌∷◌, ◌++◌, map, Some, refl, sym, ap, subst, ◌∙◌, true≢false}
 use Rattle.std.specs.Prelude.{Ok, Err, Result, flat_map, if◌then◌else◌}
 use Rattle.std.specs.List.{AllByRecursion, concat}
 use Rattle.mvd_dots.specs.declared.refusals.Refusal.{Refusal}
 use Rattle.mvd_dots.specs.declared.refusals.Refusal.TheVariants.{Memory}
-use Rattle.mvd_keys.specs.Writes.{Key}
-use Rattle.mvd_wire.specs.Frames.{FrameValue, frame_at, frame_limit, spell_frame}
-use Rattle.mvd_wire.specs.Replies.{CanBeSent, IsReply, is_short, reply_bytes, refusal, reply_kind, reply_of, reply_payload}
+use Rattle.mvd_wire.specs.Frames.{FrameValue, frame_at}
+use Rattle.mvd_wire.specs.Replies.{CanBeSent, IsReply, is_short, reply_bytes, refusal, reply_kind, reply_payload}
 use Rattle.mvd_wire.specs.declared.reply.Reply.{Reply}
 use Rattle.mvd_wire.specs.declared.reply.Reply.TheVariants as reply
 use Rattle.mvd_wire.specs.declared.request.Request.{Request}
@@ -21,7 +20,6 @@ use Rattle.mvd_site.specs.Held.{AreHeld, States}
 use Rattle.mvd_site.specs.Sites.{SiteValue}
 use Rattle.mvd_site.proofs.Outcomes.{refused_fits}
 use Rattle.mvd_remote.specs.Lines.{TrueReply}
-use Rattle.mvd_replica.specs.Batch.{TakesFrom}
 use Rattle.mvd_replica.specs.Turns.{Turn}
 use Rattle.mvd_host.specs.Course.{AreQueued, own}
 use Rattle.mvd_host.specs.Round.{ServesAllFrom, ServesFrom, turns_of}

@@ -1,24 +1,23 @@
 -- What a host does turn by turn is what a site does that answers many.
-use Rattle.std.proofs.Common.{◌≡◌, ◌≢◌, ◌⊎◌, inl, inr, ℕ, ◌==◌, Bool, true, false, List, [], ◌∷◌, ◌++◌, refl, sym, ap, subst, ◌∙◌, true≢false, arith}
+use Rattle.std.proofs.Common.{◌≡◌, ◌⊎◌, inl, inr, ℕ, List, [], ◌∷◌, refl, sym, ap, subst, arith}
 use Rattle.std.specs.Prelude.{Ok, Err, Result}
 use Rattle.mvd_dots.specs.declared.refusals.Refusal.{Refusal}
-use Rattle.mvd_dots.specs.declared.refusals.Refusal.TheVariants.{Broken, Memory, Store}
-use Rattle.mvd_keys.specs.State.{IsValid, State}
-use Rattle.mvd_keys.specs.Writes.{Key, Write}
+use Rattle.mvd_dots.specs.declared.refusals.Refusal.TheVariants.{Memory, Store}
+use Rattle.mvd_keys.specs.State.{IsValid}
+use Rattle.mvd_keys.specs.Writes.{Write}
 use Rattle.mvd_keys.proofs.Sets.{IsValid-state}
 use Rattle.mvd_keys.proofs.Standing.{Stands-for}
 use Rattle.mvd_wire.specs.declared.reply.Reply.{Reply}
 use Rattle.mvd_wire.specs.declared.reply.Reply.TheVariants.{Done, Refused}
 use Rattle.mvd_wire.specs.declared.request.Request.{Request}
 use Rattle.mvd_wire.specs.declared.request.Request.TheVariants.{Push}
-use Rattle.mvd_site.specs.Config.{ConfigValue}
-use Rattle.mvd_site.specs.Held.{AreHeld, States, state_at}
+use Rattle.mvd_site.specs.Held.{AreHeld, States}
 use Rattle.mvd_site.specs.Known.{Adds, IsValidRequest}
 use Rattle.mvd_site.specs.Sites.{SiteValue}
 use Rattle.mvd_peer.specs.Live.{Grows}
 use Rattle.mvd_remote.specs.Lines.{TrueReply}
 use Rattle.mvd_remote.proofs.SiteReplies.{refused_so, replies_truly}
-use Rattle.mvd_replica.specs.Batch.{AnswersOneFrom, TakesFrom}
+use Rattle.mvd_replica.specs.Batch.{AnswersOneFrom}
 use Rattle.mvd_replica.specs.Turns.{Turn}
 use Rattle.mvd_replica.proofs.Batching.{config_all, replies_one}
 use Rattle.mvd_host.specs.Round.{ServesAllFrom, ServesFrom, turns_of}

@@ -1,5 +1,5 @@
 -- A session in windows that left no key ran to its end.
-use Rattle.std.proofs.Common.{◌≡◌, inl, inr, ℕ, ◌+◌, Bool, true, false, MatchBool, List, [], ◌∷◌, length, map, Some, None, refl, sym, ap, ◌∙◌, subst, subst₂, true≢false, arith, length-append}
+use Rattle.std.proofs.Common.{◌≡◌, inl, inr, ℕ, ◌+◌, true, false, MatchBool, List, [], ◌∷◌, length, map, Some, None, refl, sym, ap, ◌∙◌, subst, subst₂, true≢false, arith, length-append}
 use Rattle.std.specs.List.{slice_get}
 use Rattle.std.proofs.lemmas.List.{nil_from_length}
 use Rattle.mvd_tree.specs.Hashed.{HashesTellApart}
@@ -14,7 +14,7 @@ use Rattle.mvd_sync.specs.declared.report.SyncFault.{SyncFault}
 use Rattle.mvd_live.specs.Lives.{TellApart as MomentsTellApart}
 use Rattle.mvd_live.specs.Runs.{Begins, all_locals, all_peers}
 use Rattle.mvd_live.proofs.Whole.{lives}
-use Rattle.mvd_world.specs.declared.acts.Act.TheVariants.{Begin, Go}
+use Rattle.mvd_world.specs.declared.acts.Act.TheVariants.{Begin}
 use Rattle.mvd_world.specs.declared.acts.Came.TheVariants as coming
 use Rattle.mvd_world.specs.declared.open_world.OpenSession.{OpenSession}
 use Rattle.mvd_world.specs.declared.steps.Step.TheVariants.{Session}

@@ -1,11 +1,11 @@
 -- What a site answers among many is told as a live side tells.
-use Rattle.std.proofs.Common.{◌≡◌, ◌≢◌, ◌⊎◌, inl, inr, ℕ, true, false, cond, List, [], ◌∷◌, ◌++◌, map, refl, sym, ap, subst, ◌∙◌, Some, None, Option, append-nil, append_assoc}
-use Rattle.std.specs.Prelude.{Ok, Err, Result, length, Vec}
+use Rattle.std.proofs.Common.{◌≡◌, inl, inr, ℕ, true, false, cond, List, [], ◌∷◌, ◌++◌, map, refl, sym, ap, subst, ◌∙◌, Some, None, Option, append-nil, append_assoc}
+use Rattle.std.specs.Prelude.{Ok, Err, Result, Vec}
 use Rattle.std.specs.declared.alloc.Global.{Global}
 use Rattle.mvd_dots.specs.declared.refusals.Refusal.{Refusal}
 use Rattle.mvd_dots.specs.declared.refusals.Refusal.TheVariants.{Memory}
 use Rattle.mvd_keys.specs.Order.{Includes}
-use Rattle.mvd_keys.specs.State.{IsValid, State, clashes, join}
+use Rattle.mvd_keys.specs.State.{IsValid, State}
 use Rattle.mvd_keys.specs.Writes.{Key}
 use Rattle.mvd_keys.proofs.Joins.{join_back}
 use Rattle.mvd_wire.specs.Frames.{FrameValue, frame_at}
@@ -20,17 +20,16 @@ use Rattle.mvd_kept.proofs.Outcomes.{must_be_memory}
 use Rattle.mvd_site.specs.Config.{ConfigValue}
 use Rattle.mvd_site.specs.Held.{AreHeld, States, state_at}
 use Rattle.mvd_peer.specs.Live.{Grows}
-use Rattle.mvd_peer.specs.PushedStates.{Each, pushed}
-use Rattle.mvd_peer.specs.Windows.{CannotTake, ForEach, PageValue, TakesState}
+use Rattle.mvd_peer.specs.PushedStates.{Each}
+use Rattle.mvd_peer.specs.Windows.{CannotTake, ForEach, PageValue}
 use Rattle.mvd_peer.proofs.JoinLaws.{valid_at}
 use Rattle.mvd_peer.proofs.Pushes.{state-pushed}
-use Rattle.mvd_remote.specs.Lines.{RefusesPush, TrueReply, as_digests, as_done, as_page, as_state}
-use Rattle.mvd_remote.specs.LinkWindows.{Collects, Frames, IsToldBy, TakeTurns, ToldBy, and_frame, frames_after, frames_of}
-use Rattle.mvd_remote.specs.Links.{Link, TellsNone, TellsReply}
-use Rattle.mvd_meet.specs.Callers.{AnswersOf, CallerTells, CallerTellsAs, TellsOf, asked_in_window, came_at, link_at, requests_of, told_as}
-use Rattle.mvd_meet.specs.declared.caller.Asked.{Asked}
+use Rattle.mvd_remote.specs.Lines.{TrueReply, as_digests, as_done, as_page, as_state}
+use Rattle.mvd_remote.specs.LinkWindows.{Frames, IsToldBy, TakeTurns, ToldBy, and_frame, frames_after, frames_of}
+use Rattle.mvd_remote.specs.Links.{Link}
+use Rattle.mvd_meet.specs.Callers.{CallerTells, CallerTellsAs, TellsOf, asked_in_window, came_at, link_at, requests_of}
 use Rattle.mvd_meet.specs.declared.caller.Caller.{Caller}
-use Rattle.mvd_sync.specs.Steps.{Wanted, asked, no_question}
+use Rattle.mvd_sync.specs.Steps.{asked, no_question}
 use Rattle.mvd_sync.specs.Walking.{PageQuestion}
 use Rattle.mvd_sync.specs.declared.asked.Window.{Window}
 use Rattle.mvd_sync.specs.declared.asked.Window.TheVariants as wanted

@@ -33,7 +33,7 @@ use Rattle.mvd_world.specs.declared.steps.Step.{Step}
 use Rattle.mvd_world.specs.declared.steps.Step.TheVariants.{Ask, Receive, Send}
 use Rattle.mvd_world.specs.declared.steps.Outcome.{Outcome}
 use Rattle.mvd_world.specs.declared.steps.Outcome.TheVariants.{Failed, Met, NoSuch, Replied, Sent}
-use Rattle.mvd_world.specs.Machine.{Knowledge, MayStep, Receives, Sends, SentMessage, Setting, Takes, is_site, learns, may_be, received}
+use Rattle.mvd_world.specs.Machine.{Knowledge, MayStep, Receives, Sends, SentMessage, Setting, Takes, is_site, may_be, received}
 use Rattle.mvd_world.specs.OpenWorlds.{AsksForNode, AsksForPage, AsksForState, AsksToTake, IsMessageAt, TellsSent, node_in, page_in, page_of_told, push_in}
 use Rattle.mvd_world.proofs.Agreed.{state_is}
 use Rattle.mvd_world.proofs.Asking.{get_last, some_is}

@@ -1,14 +1,14 @@
 -- What a caller counted is what the steps of its session asked.
-use Rattle.std.proofs.Common.{◌≡◌, ℕ, ◌+◌, ◌-◌, ◌^◌, ◌≤◌, List, [], ◌∷◌, length, refl, sym, ap, ◌∙◌, arith, length-append, Some, None, Option}
+use Rattle.std.proofs.Common.{◌≡◌, ℕ, ◌+◌, ◌-◌, ◌^◌, ◌≤◌, List, [], ◌∷◌, length, ap, arith, length-append, Some, None, Option}
 use Rattle.std.proofs.lemmas.List.{length-map}
 use Rattle.std.specs.Prelude.{Ok, Err, Result, min}
 use Rattle.mvd_dots.specs.declared.refusals.Refusal.{Refusal}
 use Rattle.mvd_wire.specs.declared.request.Request.{Request}
 use Rattle.mvd_wire.specs.declared.request.Request.TheVariants.{Bucket, Get, Node, Push}
 use Rattle.mvd_wire.specs.Requests.{request_frame}
-use Rattle.mvd_remote.specs.LinkWindows.{Frames, and_frame, frames_after, frames_of}
+use Rattle.mvd_remote.specs.LinkWindows.{Frames, and_frame, frames_after}
 use Rattle.mvd_meet.specs.Callers.{CallerTells, asked_in_window, questions_at, requests_of}
-use Rattle.mvd_meet.specs.Meetings.{AsksIf, HearsBoth}
+use Rattle.mvd_meet.specs.Meetings.{AsksIf}
 use Rattle.mvd_meet.specs.declared.caller.Asked.{Asked}
 use Rattle.mvd_meet.specs.declared.caller.Caller.{Caller}
 use Rattle.mvd_sync.specs.Steps.{asked}

@@ -89,8 +89,8 @@ module _ {S : Type 0} {g : Ghosts S} where
     pub valid : AllByRecursion IsValidTurn (turns_asked exchanges)
 
 module _ {S : Type 0} {g : Ghosts S} {K : Type 0} (k : SocketGhosts K) where
-  -- A server ran, and this is how it ended: well, and then nobody but its own is left; or with its fault, and where it could not
-  -- listen it did nothing
+  -- A server ran, and this is how it ended: well, and then nobody but its own is left; or with its fault, and where it
+  -- could not listen it did nothing
   pub record ServesTo (token : Option (List ℕ)) (sockets : K) (old : Replica S g) (sockets' : K) (new : Replica S g)
       (result : Result (Unit {0}) Stop) : Type 0 where
     pub served : IsServed k token sockets old sockets' new

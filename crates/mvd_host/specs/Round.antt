@@ -35,7 +35,7 @@ stored_in side = record { site = side.site; store = side.store }
 abbrev pub turns_of : List (ℕ × Turn) → List Turn
 turns_of = map (λ t. t.1)
 
--- a turn does to the site what its frame asks, and is told that; or it is told want of memory, and the site is as it was
+-- a turn does to the site what its frame asks, and is told that; or it is told want of memory, and changes nothing
 abbrev pub ServesFrom : SiteValue → SiteValue → Turn → Type 0
 ServesFrom old new turn = TakesFrom old new turn.asked turn.reply ⊎ ((turn.reply ≡ Refused Memory) × (new ≡ old))
 

@@ -95,9 +95,9 @@ pub fn mail_of_a_site_is_live()
         × AnswersAmong config (own_requests turns) (own_replies turns) old moments new }
 {}
 
-/// A host is a site that answers many: its list of turns, with those of all its clients, are answers of its site one
-/// after the other, from turn to turn what the site holds only grows, and those of one client are answers among those of
-/// others (`mail_of_a_site_is_live`).
+/// A host is a site that answers many: the turns of all its clients are answers of its site, one after the other, and
+/// from turn to turn what the site holds only grows. So those of one client are answers among those of others
+/// (`mail_of_a_site_is_live`).
 pub fn a_host_answers_many<S: Alter>()
     ensures turns { (n : ℕ) (turns : List (ℕ × Turn)) (old new : HostMoment (Held S)) → AreHeld old.site.states
         → OneList turns (side_at (state S.Store) old) (side_at (state S.Store) new)

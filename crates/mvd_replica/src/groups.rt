@@ -115,7 +115,8 @@ pub fn prepare_one(site: &Site, request: &Request) -> Prepared
         Err(refusal) => return Prepared::Answer(Reply::Refused(refusal)),
     };
     if let Prepared::Change(change) = &prepared {
-        // Here it is known that what comes in has a spelling, that its siblings' dots were seen, and that its key is one.
+        // Here it is known that what comes in has a spelling, that its siblings' dots were seen, and that its key is
+        // one.
         let state = change.state();
         let _seen = state.context();
         let key = change.key();

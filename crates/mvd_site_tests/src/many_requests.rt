@@ -85,9 +85,13 @@ pub const REFUSED_LINES: &[Row] = &[
         "POST",
         "/keys",
         None,
-        b"{\"key\":\"a b\",\"document\":{}}\n{\"key\":\"c\",\"context\":\"1:0\"}\n{\"key\":\"c\",\"document\":[]}\n{\"key\":\"c\",\"document\":{\"n\":1.5}}\n{\"key\":\"c\",\"document\":{}}\n",
+        b"{\"key\":\"a b\",\"document\":{}}\n{\"key\":\"c\",\"context\":\"1:0\"}\n\
+          {\"key\":\"c\",\"document\":[]}\n{\"key\":\"c\",\"document\":{\"n\":1.5}}\n\
+          {\"key\":\"c\",\"document\":{}}\n",
         200,
-        "{\"refused\":1,\"name\":\"BadKey\"}\n{\"refused\":2,\"name\":\"BadContext\"}\n{\"refused\":4,\"name\":\"NotObject\"}\n{\"refused\":5,\"name\":\"BadNumber\"}\n{\"dot\":\"1:1\"}\n",
+        "{\"refused\":1,\"name\":\"BadKey\"}\n{\"refused\":2,\"name\":\"BadContext\"}\n\
+          {\"refused\":4,\"name\":\"NotObject\"}\n{\"refused\":5,\"name\":\"BadNumber\"}\n\
+          {\"dot\":\"1:1\"}\n",
     ),
     (
         "POST",

@@ -1,6 +1,6 @@
 -- What a command that told its turns leaves in its file is a run of the store.
 use Rattle.std.proofs.Common.{◌≡◌, ℕ, List, Option, Some, None, Ok, inl, inr, subst, sym}
-use Rattle.mvd_app.specs.Done.{IsLeft, IsRunOf}
+use Rattle.mvd_app.specs.Done.{IsFileLeft, IsRunOf}
 use Rattle.mvd_app.specs.Stored.{ClosesOrNot}
 use Rattle.mvd_records.specs.Records.{IsOurs}
 use Rattle.mvd_replica.specs.File.{IsFoundIn}
@@ -28,7 +28,7 @@ module _ {D : Type 0} {g : disk.Ghosts D} {f : Ghosts (FileStore D g)} where
 
 module _ {D : Type 0} {g : disk.Ghosts D} {f : Ghosts (FileStore D g)} (image : Image) (i : ℕ) (config : ConfigValue) (number : config.site ≡ i) (old new : Replica (FileStore D g) f)
     (opened : OpensAsSite image config (Ok old)) (rests : HasCleanDisk (file_of old) → (was : Database) × IsFoundIn image was × (IsOurs was → IsAtRest (in_file old))) where
-  passes : (turns : List Turn) → WorksBy turns (in_file old) (in_file new) → (files : Option (Files D)) → ClosesOrNot new files → (after : Image) → IsLeft new files after →
+  passes : (turns : List Turn) → WorksBy turns (in_file old) (in_file new) → (files : Option (Files D)) → ClosesOrNot new files → (after : Image) → IsFileLeft new files after →
       Passes i (setup_of config) turns image after
   passes turns works (Some files) closed after (clean, inl is) =
       subst (λ (m : Image). Passes i (setup_of config) turns image m) (sym is) (closed_run i image config turns old new number opened works files (closed.1 clean))

@@ -29,17 +29,17 @@ use Rattle.sqlite_trees.specs.declared.store.Store.{Ghosts}
 module _ {D : Type 0} {g : disk.Ghosts D} {f : Ghosts (FileStore D g)} where
   -- What stands in the file then, if nobody else has written it, and the disk has returned what was written: what was
   -- closed, as it reads now or after a stop; or what a stop leaves of a site that was not closed
-  abbrev pub IsLeft : Replica (FileStore D g) f → Option (Files D) → Image → Type 0
-  IsLeft replica (Some files) image =
+  abbrev pub IsFileLeft : Replica (FileStore D g) f → Option (Files D) → Image → Type 0
+  IsFileLeft replica (Some files) image =
       AreClean g files.log files.db × ((image ≡ image_of g files) ⊎ outcomes g files.log files.db image)
-  IsLeft replica None image =
+  IsFileLeft replica None image =
       HasCleanDisk (file_of replica) × (trees : Trees) × (file_of replica).may_leave trees
       × ∥ HoldsDatabase image trees ∥₁
 
   -- The turns are a run of the store on the file: from what the file held, to what it holds then
   abbrev pub IsRunOf : Image → ℕ → ConfigValue → List Turn → Replica (FileStore D g) f → Option (Files D) → Type 0
   IsRunOf image site config turns new files =
-      (after : Image) → IsLeft new files after → Passes site (setup_of config) turns image after
+      (after : Image) → IsFileLeft new files after → Passes site (setup_of config) turns image after
 
 module _ {D : Type 0} {g : disk.Ghosts D} (f : Ghosts (FileStore D g)) {K : Type 0} where
   -- The site was not opened, and nothing came or left: a file of definitions or with a token stopped the command, which

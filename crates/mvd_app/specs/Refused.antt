@@ -58,7 +58,7 @@ module _ {D : Type 0} {g : disk.Ghosts D} (f : Ghosts (FileStore D g)) where
     pub ours : IsTrue (state f old).is_open → ¬ HoldsForeign (state f old)
         → TellsOurs file refusal (state f old) (state f new) stop
 
-  abbrev pub TellsFault : Bor (List ℕ) → FileFault D g → Stop → Type 0
-  TellsFault file (faults.File error left) stop = stop.fault ≡ Stopped Store
-  TellsFault file (faults.Records refusal conn) stop =
+  abbrev pub TellsFileFault : Bor (List ℕ) → FileFault D g → Stop → Type 0
+  TellsFileFault file (faults.File error left) stop = stop.fault ≡ Stopped Store
+  TellsFileFault file (faults.Records refusal conn) stop =
       (after : Held (FileStore D g)) × TellsRecords file refusal conn after stop

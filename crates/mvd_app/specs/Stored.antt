@@ -3,7 +3,7 @@ use Rattle.std.specs.Prelude.{◌≡◌, ◌⊎◌, ⊤, true, false, if◌then�
 use Rattle.std.specs.Borrow.{Bor}
 use Rattle.std.specs.FinMap.{empty as no_states}
 use Rattle.mvd_app.specs.Named.{StopsAtDefs, StopsAtToken}
-use Rattle.mvd_app.specs.Refused.{TellsFault}
+use Rattle.mvd_app.specs.Refused.{TellsFileFault}
 use Rattle.mvd_app.specs.Tasks.{Serving, Syncing, Task, Typing}
 use Rattle.mvd_app.specs.declared.closing.Ran.{Ran}
 use Rattle.mvd_dots.specs.declared.refusals.Refusal.TheVariants.{Broken, Store}
@@ -103,7 +103,7 @@ module _ {D : Type 0} {g : disk.Ghosts D} (f : Ghosts (FileStore D g)) where
   -- the files refuse the site, for a cause, which is told
   abbrev pub RefusesFile : Image → ConfigValue → Bor (List ℕ) → Stop → Type 0
   RefusesFile image config db stop =
-      (fault : FileFault D g) × FailsFile image config fault × TellsFault f db fault stop
+      (fault : FileFault D g) × FailsFile image config fault × TellsFileFault f db fault stop
 
   -- The site was not opened: its file is lost; or the files refuse it
   abbrev pub CannotOpen : Image → ConfigValue → Bor (List ℕ) → Stop → Type 0

@@ -80,7 +80,7 @@ turns_asked = map (λ exchange. record { asked = Ok exchange.request; reply = ex
 module _ {S : Type 0} {g : Ghosts S} where
   -- Lines are read and answered, and what they print is written. All that was asked are these requests, one after the
   -- other as the lines ask them, with their replies: none pushes a state that is not that of some writes
-  pub record IsTyped (old new : At (Replica S g)) (result : Result (Unit {0}) Stop) : Type 0 where
+  pub record TypesLines (old new : At (Replica S g)) (result : Result (Unit {0}) Stop) : Type 0 where
     pub told : Result (Unit {0}) Fault
     pub exchanges : List Exchange
     pub shells : Shells (Noting ReplicaAnswers) (λ _. 0) (at_noted old []) (at_noted new exchanges) told
@@ -108,7 +108,7 @@ module _ {S : Type 0} {g : Ghosts S} {K L : Type 0} (k : SocketGhosts K) (line :
   DoesTask Serving token was old now new turns result =
       (it : ServesTo k token was.sockets old now.sockets new result) × (turns ≡ turns_of (turns_in it.served.all))
   DoesTask Typing token was old now new turns result =
-      (it : IsTyped (at old was.input was.out) (at new now.input now.out) result)
+      (it : TypesLines (at old was.input was.out) (at new now.input now.out) result)
       × (turns ≡ turns_asked it.exchanges)
   DoesTask (Syncing address) token was old now new turns result =
       (it : TellsSession line (GivesIn line (gives address) token) address old new was.out now.out result)

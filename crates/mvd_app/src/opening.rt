@@ -1,7 +1,7 @@
 //! A site opened from its file, which is made where it is missing; or why it was not.
 ghost use Rattle.std.specs.Prelude.{◌≡◌, ◌++◌, IfErr, IfOk, IsErrAnd, IsTrue, Ok, codes, false, string_bytes, true};
 ghost use Rattle.mvd_app.specs.Found.{is_lost, is_missing};
-ghost use Rattle.mvd_app.specs.Refused.{TellsEither, TellsFault, TellsForeign, TellsOurs};
+ghost use Rattle.mvd_app.specs.Refused.{TellsEither, TellsFileFault, TellsForeign, TellsOurs};
 ghost use Rattle.mvd_app.specs.Stored.{CannotOpen, RefusesFile, TellsLost};
 ghost use Rattle.mvd_records.specs.Foreign.{HoldsForeign};
 ghost use Rattle.mvd_records.specs.Records.{OnlyReads};
@@ -120,7 +120,7 @@ fn log_length(rt: &HostRuntime, file: &str) -> io::Result<u64> {
 /// Why a file was not opened as a site. The open makes a log where there is none. It is removed while the file's lock
 /// is still held, so that nobody else has it open.
 fn unopened<'a, D: Disk + Drop>(rt: &HostRuntime, file: &'a str, fault: FileFault<D>) -> Stop<'a>
-    ensures { TellsFault ⟦<FileStore<D> as Store>⟧ file.entry fault result }
+    ensures { TellsFileFault ⟦<FileStore<D> as Store>⟧ file.entry fault result }
 {
     match fault {
         FileFault::File(error, left) => {

@@ -1,5 +1,5 @@
 //! Lines of standard input, each answered at once.
-ghost use Rattle.mvd_app.specs.Tasks.{IsTyped};
+ghost use Rattle.mvd_app.specs.Tasks.{TypesLines};
 ghost use Rattle.mvd_shell.specs.Shell.{at};
 
 use mvd_hint::{Hint, Stop};
@@ -17,7 +17,7 @@ pub fn typed<'a, S: Alter + Drop, R: BufRead, W: Write>(
     writer: &mut W,
 ) -> Result<(), Stop<'a>>
     // However it ends, only requests of the lines were asked, and what was printed is what they were told.
-    ensures { IsTyped (at replica.old (R.remaining reader.old) (W.contents writer.old))
+    ensures { TypesLines (at replica.old (R.remaining reader.old) (W.contents writer.old))
         (at replica.new (R.remaining reader.new) (W.contents writer.new)) result }
 {
     match shell_run::<Replica<S>, NoLosses, R, W>(alloc, replica, reader, writer) {

@@ -2,7 +2,7 @@
 use Rattle.std.proofs.Common.{◌≡◌, ℕ, List, Option, None, Some, Result, Ok, Err, ap, refl, subst, sym}
 use Rattle.std.specs.Prelude.{⊤}
 use Rattle.std.specs.declared.net.socket_addr.SocketAddr.{SocketAddr}
-use Rattle.mvd_client.specs.Between.{EndsBetween, FailsBetween, IsFresh, MeetsBetween, far_within, true_within}
+use Rattle.mvd_client.specs.Between.{EndsBetween, FailsBetween, IsFreshLine, MeetsBetween, far_within, true_within}
 use Rattle.mvd_client.specs.Between.FailsBetween.{faulted, no_far, no_near}
 use Rattle.mvd_client.specs.LetIn.{GivesIn}
 use Rattle.mvd_client.specs.Met.{IsFailureOf}
@@ -44,7 +44,7 @@ module _ {L : Type 0} (line : LineGhosts L) (near_gives far_gives : L → Type 0
 
 module _ {L : Type 0} (line : LineGhosts L) (gives : SocketAddr → L → Type 0) (token : Option (List ℕ)) where
   abbrev Fresh : SocketAddr → Option (Counted L) → Type 0
-  Fresh address link = IsFresh line (GivesIn line (gives address) token) link
+  Fresh address link = IsFreshLine line (GivesIn line (gives address) token) link
 
   -- what came of a session is so of the servers as they were at first, whose lines are still as fresh
   pub ends_at : (near first_near far first_far : SocketAddr) (near_link first_near_link far_link first_far_link : Option (Counted L)) → near ≡ first_near → far ≡ first_far → (Fresh first_near first_near_link → Fresh first_near near_link)

@@ -3,7 +3,7 @@ use Rattle.std.proofs.Common.{◌≡◌, ℕ, List, [], ◌∷◌, Option, None,
 use Rattle.std.specs.Prelude.{⊤, is_err}
 use Rattle.std.specs.List.{AllZip}
 use Rattle.std.specs.declared.net.socket_addr.SocketAddr.{SocketAddr}
-use Rattle.mvd_client.specs.Between.{EndsBetween, EndsTold, MeetsOnce, TellsRoot}
+use Rattle.mvd_client.specs.Between.{EndsBetween, EndsTold, MeetsOnce, SaysRoot}
 use Rattle.mvd_client.specs.Between.MeetsOnce.{failed, met, no_root}
 use Rattle.mvd_client.specs.Met.{IsStopAt, IsStoppedAt}
 use Rattle.mvd_client.specs.Reported.{ReportsAs, meeting_text}
@@ -27,11 +27,11 @@ module _ {L : Type 0} (line : LineGhosts L) (near_gives far_gives : L → Type 0
     pub once_no_far : (far_at : SocketAddr) (stop : Stop) → far_at ≡ far → IsStoppedAt far_at stop → MeetsOnce line near_gives far_gives near far out out (Err stop)
     once_no_far far_at stop same at = no_root report it.0 stop (inr (subst (λ a. IsStoppedAt a stop) same at)) refl refl
 
-    pub once_met : (near_root far_root : Root) (near_at far_at : SocketAddr) → near_at ≡ near → far_at ≡ far → ((at : Counted L) → near_kept ≡ Some at → TellsRoot line near_at at near_root) → ((at : Counted L) → far_kept ≡ Some at → TellsRoot line far_at at far_root)
+    pub once_met : (near_root far_root : Root) (near_at far_at : SocketAddr) → near_at ≡ near → far_at ≡ far → ((at : Counted L) → near_kept ≡ Some at → SaysRoot line near_at at near_root) → ((at : Counted L) → far_kept ≡ Some at → SaysRoot line far_at at far_root)
         → (out' : Option (List ℕ)) (told result : Result (Unit {0}) Stop) → ReportsAs (meeting_text report near_root far_root) false report out out' told → EndsTold line near far told result → MeetsOnce line near_gives far_gives near far out out' result
     once_met near_root far_root near_at far_at near_same far_same near_told far_told out' told result reports ends = met report it.0 near_root far_root
-        (subst (λ a. TellsRoot line a (line_of it.0.near') near_root) near_same (near_told (line_of it.0.near') it.1))
-        (subst (λ a. TellsRoot line a (line_of it.0.far') far_root) far_same (far_told (line_of it.0.far') it.2)) told reports ends
+        (subst (λ a. SaysRoot line a (line_of it.0.near') near_root) near_same (near_told (line_of it.0.near') it.1))
+        (subst (λ a. SaysRoot line a (line_of it.0.far') far_root) far_same (far_told (line_of it.0.far') it.2)) told reports ends
 
 -- ---- how it ends
 

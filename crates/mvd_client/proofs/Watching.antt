@@ -3,7 +3,7 @@ use Rattle.std.proofs.Common.{◌≡◌, ℕ, ◌+◌, List, [], ◌∷◌, ◌+
 use Rattle.std.proofs.Math.Nat.{add-zero}
 use Rattle.std.specs.Result.{IfErr, IfOk}
 use Rattle.mvd_dots.specs.declared.refusals.Refusal.{Refusal}
-use Rattle.mvd_client.specs.Questioned.{AsksMore, AsksFew, questions}
+use Rattle.mvd_client.specs.Questioned.{AsksMore, CountsFew, questions}
 use Rattle.mvd_keys.specs.Writes.{Key}
 use Rattle.mvd_site.specs.Held.{States}
 use Rattle.mvd_sync.specs.Session.{AreFew, HasAllThatDiffer}
@@ -67,5 +67,5 @@ module _ {S T : Type 0} (inner : T → S) (asked : T → ℕ) (around : T → S 
 
 -- ---- a session
 
-pub asks_few : (before after asked wanted : ℕ) (mine theirs : States) → after ≡ before + asked → ((differing : List Key) → HasAllThatDiffer mine theirs differing → AreFew (asked + wanted) theirs differing) → AsksFew before after mine theirs
+pub asks_few : (before after asked wanted : ℕ) (mine theirs : States) → after ≡ before + asked → ((differing : List Key) → HasAllThatDiffer mine theirs differing → AreFew (asked + wanted) theirs differing) → CountsFew before after mine theirs
 asks_few before after asked wanted mine theirs count few = record { asked = asked; counted = count; few = λ differing all. let bound = few differing all in omega (arith, bound) }

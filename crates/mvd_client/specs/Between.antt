@@ -32,9 +32,9 @@ module _ {L : Type 0} (line : LineGhosts L) where
   far_within counted = line.far counted.line
 
   -- a line that is kept for a server is one that its address gives, and nothing was asked over it
-  abbrev pub IsFresh : (L → Type 0) → Option (Counted L) → Type 0
-  IsFresh gives None = ⊤
-  IsFresh gives (Some counted) = gives counted.line
+  abbrev pub IsFreshLine : (L → Type 0) → Option (Counted L) → Type 0
+  IsFreshLine gives None = ⊤
+  IsFreshLine gives (Some counted) = gives counted.line
 
   -- A SESSION OF TWO SERVERS, over lines that their addresses give, unless a line was kept of a session before
   pub record MeetsBetween (near_gives far_gives : L → Type 0) (near_fresh far_fresh : Type 0)
@@ -70,7 +70,7 @@ module _ {L : Type 0} (line : LineGhosts L) where
       FailsBetween near_gives far_gives near_fresh far_fresh near far failure
 
   -- the root of a server, as it was told over a line: of a true side, where no reply was due, that of all that it holds
-  pub record TellsRoot (server : SocketAddr) (at : Counted L) (root : Root) : Type 0 where
+  pub record SaysRoot (server : SocketAddr) (at : Counted L) (root : Root) : Type 0 where
     pub address : root.address ≡ server
     pub digest : true_within at → (far_within at).due ≡ [] → root.digest ≡ root_of (far_within at).states
 
@@ -95,7 +95,7 @@ module _ {L : Type 0} (line : LineGhosts L) where
         → IsStoppedAt near stop ⊎ IsStoppedAt far stop → result ≡ Err stop → out' ≡ out
         → MeetsOnce near_gives far_gives near far out out' result
     met : (report : Report) → (it : MeetsBetween near_gives far_gives ⊤ ⊤ (Ok report)) → (near_root far_root : Root)
-        → TellsRoot near (line_of it.near') near_root → TellsRoot far (line_of it.far') far_root
+        → SaysRoot near (line_of it.near') near_root → SaysRoot far (line_of it.far') far_root
         → (told : Result (Unit {0}) Stop)
         → ReportsAs (meeting_text report near_root far_root) false report out out' told
         → EndsTold near far told result → MeetsOnce near_gives far_gives near far out out' result

@@ -30,7 +30,7 @@ asks_on follows m n old mid new on p q = (
 
 -- A SESSION ASKS A SIDE FEW QUESTIONS: one, five for each key that differs, and one for each thousand keys that it
 -- holds
-pub record AsksFew (old new : ℕ) (mine theirs : States) : Type 0 where
+pub record CountsFew (old new : ℕ) (mine theirs : States) : Type 0 where
   pub asked : ℕ
   pub counted : new ≡ old + asked
   pub few : (differing : List Key) → HasAllThatDiffer mine theirs differing → AreFew asked theirs differing

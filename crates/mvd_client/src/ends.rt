@@ -1,6 +1,6 @@
 //! The servers that meet, the connections with them, and one session of two of them.
 ghost use Rattle.std.specs.Prelude.{◌≡◌, IfErr, IfOk, None, OnErr, Some, option_copied};
-ghost use Rattle.mvd_client.specs.Between.{EndsBetween, IsFresh, TellsRoot};
+ghost use Rattle.mvd_client.specs.Between.{EndsBetween, IsFreshLine, SaysRoot};
 ghost use Rattle.mvd_client.specs.LetIn.{GivesIn};
 ghost use Rattle.mvd_client.specs.Met.{IsFailureOf, IsStoppedAt};
 ghost use Rattle.mvd_client.specs.Stopped.{IsUndialed};
@@ -81,7 +81,7 @@ impl<L: Line> End<L> {
     pub(crate) fn root<'a>(&mut self, alloc: Global) -> Result<Root, Stop<'a>>
         ensures address { self.new.address ≡ self.old.address }
         ensures told { IfOk result (λ root. (at : Counted L) → self.old.link ≡ Some at →
-            TellsRoot L.Line self.old.address at root) }
+            SaysRoot L.Line self.old.address at root) }
         ensures stopped { IfErr result (IsStoppedAt self.old.address) }
     {
         let address = self.address;
@@ -133,9 +133,9 @@ pub(crate) fn meet<'a, D: Dial, E: Write>(
     ensures met { EndsBetween D.Dialed.Line
         (GivesIn D.Dialed.Line (D.gives dial.now near.old.address) (option_copied terms.entry.token))
         (GivesIn D.Dialed.Line (D.gives dial.now far.old.address) (option_copied terms.entry.token))
-        (IsFresh D.Dialed.Line (GivesIn D.Dialed.Line (D.gives dial.now near.old.address) (option_copied terms.entry.token))
+        (IsFreshLine D.Dialed.Line (GivesIn D.Dialed.Line (D.gives dial.now near.old.address) (option_copied terms.entry.token))
         near.old.link)
-        (IsFresh D.Dialed.Line (GivesIn D.Dialed.Line (D.gives dial.now far.old.address) (option_copied terms.entry.token))
+        (IsFreshLine D.Dialed.Line (GivesIn D.Dialed.Line (D.gives dial.now far.old.address) (option_copied terms.entry.token))
         far.old.link)
         near.old.address far.old.address near.new.link far.new.link result }
 {
@@ -195,20 +195,20 @@ fn session<'a, D: Dial, E: Write>(
     ensures near { near.new.address ≡ near.old.address }
     ensures far { far.new.address ≡ far.old.address }
     // After a failure a line is kept only that nothing was asked over.
-    ensures near_kept { OnErr result (IsFresh D.Dialed.Line
+    ensures near_kept { OnErr result (IsFreshLine D.Dialed.Line
         (GivesIn D.Dialed.Line (D.gives dial.now near.old.address) (option_copied terms.entry.token)) near.old.link →
-        IsFresh D.Dialed.Line
+        IsFreshLine D.Dialed.Line
         (GivesIn D.Dialed.Line (D.gives dial.now near.old.address) (option_copied terms.entry.token)) near.new.link) }
-    ensures far_kept { OnErr result (IsFresh D.Dialed.Line
+    ensures far_kept { OnErr result (IsFreshLine D.Dialed.Line
         (GivesIn D.Dialed.Line (D.gives dial.now far.old.address) (option_copied terms.entry.token)) far.old.link →
-        IsFresh D.Dialed.Line
+        IsFreshLine D.Dialed.Line
         (GivesIn D.Dialed.Line (D.gives dial.now far.old.address) (option_copied terms.entry.token)) far.new.link) }
     ensures met { EndsBetween D.Dialed.Line
         (GivesIn D.Dialed.Line (D.gives dial.now near.old.address) (option_copied terms.entry.token))
         (GivesIn D.Dialed.Line (D.gives dial.now far.old.address) (option_copied terms.entry.token))
-        (IsFresh D.Dialed.Line (GivesIn D.Dialed.Line (D.gives dial.now near.old.address) (option_copied terms.entry.token))
+        (IsFreshLine D.Dialed.Line (GivesIn D.Dialed.Line (D.gives dial.now near.old.address) (option_copied terms.entry.token))
         near.old.link)
-        (IsFresh D.Dialed.Line (GivesIn D.Dialed.Line (D.gives dial.now far.old.address) (option_copied terms.entry.token))
+        (IsFreshLine D.Dialed.Line (GivesIn D.Dialed.Line (D.gives dial.now far.old.address) (option_copied terms.entry.token))
         far.old.link)
         near.old.address far.old.address near.new.link far.new.link result }
 {
@@ -255,7 +255,7 @@ fn opened<'a, D: Dial>(
 ) -> Result<Counted<D::Dialed>, Stop<'a>>
     ensures address { end.new.address ≡ end.old.address }
     ensures none { end.new.link ≡ None }
-    ensures opened { IfOk result (λ counted. IsFresh D.Dialed.Line
+    ensures opened { IfOk result (λ counted. IsFreshLine D.Dialed.Line
         (GivesIn D.Dialed.Line (D.gives dial.now end.old.address) (option_copied terms.entry.token)) end.old.link →
         GivesIn D.Dialed.Line (D.gives dial.now end.old.address) (option_copied terms.entry.token) counted.line) }
     ensures undialed { IfErr result (IsUndialed end.old.address) }

@@ -2,7 +2,7 @@
 ghost use Rattle.std.specs.Prelude.{◌≡◌, ◌≢◌, ◌≤◌, ◌+◌, ◌++◌, [], IfErr, IfOk, IsErr, OnOk, false, string_bytes};
 ghost use Rattle.std.specs.Io.KnownBytes.{Appends};
 ghost use Rattle.mvd_client.specs.Met.{MeetsFars};
-ghost use Rattle.mvd_client.specs.Questioned.{AsksFew, questions};
+ghost use Rattle.mvd_client.specs.Questioned.{CountsFew, questions};
 ghost use Rattle.mvd_client.specs.Reported.{CutReport, ReportsAs, meeting_text, root_at_text, root_of};
 ghost use Rattle.mvd_client.specs.SyncSides.{sides_between};
 ghost use Rattle.mvd_dots.specs.declared.refusals.Refusal.TheVariants.{Memory};
@@ -44,7 +44,7 @@ pub fn meet_over<L: Line, M: Line, E: Write>(
         MeetsFars L.Line M.Line near.old near.new far.old.side far.new.side result }
     // The second server is asked few questions.
     ensures few { IsTrueRemote L.is_true L.far near.old → IsTrueRemote M.is_true M.far far.old.side →
-        AsksFew (questions far.old.asked.items) (questions far.new.asked.items)
+        CountsFew (questions far.old.asked.items) (questions far.new.asked.items)
         (far_of L.far near.old).states (far_of M.far far.old.side).states }
     ensures most { questions far.new.asked.items ≤ questions far.old.asked.items + 10000000 }
     // Whatever is at the other ends.

@@ -3,7 +3,7 @@ ghost use Rattle.std.specs.Prelude.{◌≡◌, ◌≢◌, ◌≤◌, ◌+◌, �
 ghost use Rattle.std.specs.Io.KnownBytes.{Appends};
 ghost use Rattle.mvd_client.specs.AskedServer.{RepliesNoted, lost_of};
 ghost use Rattle.mvd_client.specs.LetIn.{GivesIn};
-ghost use Rattle.mvd_client.specs.Questioned.{AsksFew, questions};
+ghost use Rattle.mvd_client.specs.Questioned.{CountsFew, questions};
 ghost use Rattle.mvd_client.specs.Reported.{CutReport, HasNoLines, Reports, StopsLeft, refused_keys_text, root_of, session_text};
 ghost use Rattle.mvd_client.specs.Stopped.{StopsFaulted};
 ghost use Rattle.mvd_client.specs.Synced.{FollowsPushed, MeetsFar, TakesPushes};
@@ -142,7 +142,7 @@ pub fn sync_over<L: Line, S: Alter + Drop, E: Write>(
         MeetsFar L.is_true L.far replica.old replica.new watched.old.side watched.new.side result }
     // The server is asked few questions, and then comes the Bye.
     ensures few { IsTrueSite (site_of replica.old) → IsTrueRemote L.is_true L.far watched.old.side →
-        AsksFew (questions watched.old.asked.items) (questions watched.new.asked.items)
+        CountsFew (questions watched.old.asked.items) (questions watched.new.asked.items)
         (site_of replica.old).states (far_of L.far watched.old.side).states }
     // Whatever is at the other end.
     ensures syncs { SyncsOver L.Line replica.old replica.new watched.old.side watched.new.side result }
@@ -172,7 +172,7 @@ fn session_of<L: Line, S: Alter + Drop, E: Write>(
     ensures takes { TakesPushes replica.old replica.new }
     ensures pushed { FollowsPushed replica.old replica.new }
     ensures few { IsTrueSite (site_of replica.old) → IsTrueRemote L.is_true L.far watched.old.side →
-        AsksFew (questions watched.old.asked.items) (questions watched.new.asked.items)
+        CountsFew (questions watched.old.asked.items) (questions watched.new.asked.items)
         (site_of replica.old).states (far_of L.far watched.old.side).states }
     ensures most { questions watched.new.asked.items ≤ questions watched.old.asked.items + 10000000 }
 {
@@ -192,7 +192,7 @@ fn session_with<L: Line, S: Alter + Drop, E: Write>(
     ensures takes { TakesPushes side.old.replica.now side.new.replica.now }
     ensures pushed { FollowsPushed side.old.replica.now side.new.replica.now }
     ensures few { IsTrueSite (site_of side.old.replica.now) → IsTrueRemote L.is_true L.far watched.old.side →
-        AsksFew (questions watched.old.asked.items) (questions watched.new.asked.items)
+        CountsFew (questions watched.old.asked.items) (questions watched.new.asked.items)
         (site_of side.old.replica.now).states (far_of L.far watched.old.side).states }
     ensures most { questions watched.new.asked.items ≤ questions watched.old.asked.items + 10000000 }
 {

@@ -11,7 +11,7 @@ use std::alloc::Global;
 use std::fmt::Write as Print;
 use std::io::Write;
 
-/// How many states come or go between two lines.
+/// The states that come or go between two lines.
 const STEP: u64 = 1_000;
 
 /// A side of a session, of which a writer is told after each thousand states how many it gave or took. A line that

@@ -36,23 +36,23 @@ pub record History : Type 0 where
 
 -- ---- limits
 
--- as many frames of a connection are taken
+-- the most frames of a connection that are taken
 abbrev pub frames_most : ℕ
 frames_most = 1000000
 
--- where as many bytes wait or are owed, nothing more is taken, and where as many wait, nothing more is wanted
+-- the bytes that wait or are owed from which on nothing more is taken, and that wait from which on nothing is wanted
 abbrev pub waits_most : ℕ
 waits_most = 262144
 
--- as many bytes may come at once
+-- the most bytes that may come at once
 abbrev pub piece_most : ℕ
 piece_most = 65536
 
--- a frame with its length has at most as many bytes
+-- the most bytes of a frame with its length
 abbrev pub frame_most : ℕ
 frame_most = 1200004
 
--- and a short reply as many
+-- and of a short reply
 abbrev pub short_most : ℕ
 short_most = 17
 

@@ -62,7 +62,7 @@ held_most = 1265539
 abbrev pub queue_most : ℕ
 queue_most = 1462147
 
--- as many short replies have 262,144 bytes or more
+-- the least number of short replies that have 262,144 bytes or more
 abbrev pub due_most : ℕ
 due_most = 15421
 

@@ -38,7 +38,7 @@ root_now feed = option_map (λ root. root_after root feed.rounds) feed.start
 
 -- ---- what is remembered
 
--- as many rounds are remembered, as many keys of them, and as many keys are told at once
+-- the most rounds that are remembered, the most keys of them, and the most keys that are told at once
 abbrev pub rounds_most : ℕ
 rounds_most = 4096
 

@@ -11,7 +11,7 @@ pub record HostValue : Type 0 where
   pub clients : List (ℕ × History)
   pub admitted : ℕ
 
--- as many clients there may be at once
+-- the most clients at once
 abbrev pub clients_most : ℕ
 clients_most = 10000
 

@@ -201,7 +201,7 @@ sets_up rows =
 abbrev pub has_file : List Row → Bool
 has_file rows = is_given_option rows (codes "db") || sets_up rows
 
--- the words ask for more than one round
+-- the words say how often servers meet again
 abbrev pub is_repeated : List Row → Bool
 is_repeated rows = is_given_option rows (codes "every") || is_given_option rows (codes "times")
 

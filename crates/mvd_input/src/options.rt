@@ -25,7 +25,7 @@ const MOST_IDLE: u64 = 86_400;
 /// The most clients that a server may be asked to serve at once.
 const MOST_CLIENTS: u64 = 10_000;
 
-/// The most seconds between two sessions, and the most rounds of them.
+/// The most seconds between two sessions, and the most tries of each server.
 const MOST_EVERY: u64 = 3_600;
 
 const MOST_TIMES: u64 = 1_000_000;
@@ -39,8 +39,8 @@ const NO_PEERS: &str =
 
 const ONLY_PEERS: &str = "'--every <S>' goes with '--peer <LIST>'";
 
-/// How often servers meet again: `every` seconds, 1 to 3,600, after each round, until it is stopped or `times` rounds,
-/// 1 to 1,000,000, are done.
+/// How often servers meet again: each `every` seconds, 1 to 3,600, after a session with it, until it is stopped or each
+/// was tried `times` times, 1 to 1,000,000.
 #[derive(Clone, Copy, PartialEq, Eq)]
 pub struct Repeat {
     pub every: u32,
@@ -222,7 +222,7 @@ pub(crate) fn repeat_in(matches: &ArgMatches<'_>) -> Result<Option<Repeat>, Unre
     }
 }
 
-/// How many rounds there are, where they are counted.
+/// How often each server is tried, where that is counted.
 fn times_in(matches: &ArgMatches<'_>) -> Result<Option<u32>, Unread>
     ensures range { IfOk result (λ found. IfSome found (λ n. (1 ≤ n) × (n ≤ 1000000))) }
     ensures count { IfOk result (IsTimes (options_of matches.now)) }

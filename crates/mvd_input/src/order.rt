@@ -24,7 +24,7 @@ pub const MOST_KEYS: u32 = 1_000_000;
 /// What a shell cannot have together.
 const BOTH: &str = "a shell has '--db <FILE>' with its options, or '--port <P>' with its own";
 
-/// What a session cannot have together, and what goes with more than one round alone.
+/// What a session cannot have together, and what goes with servers alone.
 const FILE_AND_SERVERS: &str =
     "a session has '--db <FILE>' with its options, or '--with <LIST>' between servers";
 
@@ -274,7 +274,7 @@ fn has_file(matches: &ArgMatches<'_>) -> bool
     is_given(matches, "db") || sets_up(matches)
 }
 
-/// Whether the words ask for more than one round.
+/// Whether the words say how often servers meet again.
 fn is_repeated(matches: &ArgMatches<'_>) -> bool
     ensures { result ≡ is_repeated (options_of matches.now) }
 {

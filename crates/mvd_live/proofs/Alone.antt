@@ -25,10 +25,10 @@ use Rattle.mvd_sync.specs.Steps.{Wanted, asked}
 use Rattle.mvd_sync.specs.declared.asked.Step.{Step}
 use Rattle.mvd_sync.specs.declared.telling.Told.{Told}
 use Rattle.mvd_sync.specs.declared.telling.Told.TheVariants as told
-use Rattle.mvd_live.specs.Alone.{AllPushAlone, AreAlone, HoldsStill, IsAlone, JoinsAlone, PushesAlone}
+use Rattle.mvd_live.specs.Alone.{AllPushAlone, AreAlone, HoldsStill, SideAlone, JoinsAlone, PushesAlone}
 use Rattle.mvd_live.specs.Few.{AsksFew}
 use Rattle.mvd_live.specs.Lives.{WasHeld}
-use Rattle.mvd_live.specs.Runs.{Begins, Goes, Leg, Runs, Standing, all_locals, all_peers}
+use Rattle.mvd_live.specs.Runs.{StartsRun, TakesLeg, Leg, RunsLegs, Standing, all_locals, all_peers}
 use Rattle.mvd_live.proofs.FewWhole.{asks_few}
 use Rattle.mvd_live.proofs.Runner.{run_more, run_none}
 use Rattle.mvd_live.proofs.Whole.{given, grown, lives}
@@ -133,7 +133,7 @@ module _ (key : Key) (P Q : State → Type 0) (joins : (x s : State) → P x →
   still : (old new : States) (moments : List States) → HoldsStill old moments new → P (state_at old key) → AllSo P key moments × P (state_at new key)
   still old new moments holds p = (λ held c. subst (λ m. P (state_at m key)) (sym (holds.0 held c)) p, subst (λ m. P (state_at m key)) (sym holds.1) p)
 
-  alone_keeps : (w : Wanted) (t : Option Told) (old new : States) (moments : List States) → Each (WasHeld others) w.pushes → IsAlone w t old moments new → P (state_at old key) → AllSo P key moments × P (state_at new key)
+  alone_keeps : (w : Wanted) (t : Option Told) (old new : States) (moments : List States) → Each (WasHeld others) w.pushes → SideAlone w t old moments new → P (state_at old key) → AllSo P key moments × P (state_at new key)
   alone_keeps w None old new moments each alone p = still old new moments alone p
   alone_keeps w (Some (told.Nodes given)) old new moments each alone p = still old new moments alone p
   alone_keeps w (Some (told.Pages given)) old new moments each alone p = still old new moments alone p
@@ -154,7 +154,7 @@ peers_more (d ∷ done) leg = ap (λ ms. d.peers ++ ms) (peers_more done leg) �
 both_so : (P : State → Type 0) (key : Key) (before these all : List States) → all ≡ before ++ these → AllSo P key before → AllSo P key these → AllSo P key all
 both_so P key before these all is p q held c = elim (Contains-append_cases before these held (subst (λ ms. Contains ms held) is c)) [ inl old ↦ p held old | inr new ↦ q held new ]
 
-module _ (number : Option ℕ) (questions : ℕ) (most : Two ℕ ℕ) (old : Standing) (begins : Begins number questions old) (key : Key) where
+module _ (number : Option ℕ) (questions : ℕ) (most : Two ℕ ℕ) (old : Standing) (begins : StartsRun number questions old) (key : Key) where
   abbrev Mine : State → Type 0
   Mine = IsMine (state_at old.local key) (state_at old.peer key) (valid_at old.local begins.local key) (valid_at old.peer begins.peer key)
 
@@ -168,7 +168,7 @@ module _ (number : Option ℕ) (questions : ℕ) (most : Two ℕ ℕ) (old : Sta
     pub local : Mine (state_at now.local key)
     pub peer : Theirs (state_at now.peer key)
 
-  one_window : (done : List Leg) (mid : Standing) (leg : Leg) → Runs most old done mid → Goes most mid leg → IsAlone (asked leg.step.local) leg.mine mid.local leg.locals leg.after.local → IsAlone (asked leg.step.peer) leg.theirs mid.peer leg.peers leg.after.peer → IsSo done mid
+  one_window : (done : List Leg) (mid : Standing) (leg : Leg) → RunsLegs most old done mid → TakesLeg most mid leg → SideAlone (asked leg.step.local) leg.mine mid.local leg.locals leg.after.local → SideAlone (asked leg.step.peer) leg.theirs mid.peer leg.peers leg.after.peer → IsSo done mid
       → IsSo (done ++ leg ∷ []) leg.after
   one_window done mid leg run goes here there is =
       let a = state_at old.local key in
@@ -185,15 +185,15 @@ module _ (number : Option ℕ) (questions : ℕ) (most : Two ℕ ℕ) (old : Sta
         peer = q.1;
       }
 
-  to_end : (legs done : List Leg) (mid new : Standing) → Runs most old done mid → Runs most mid legs new → AreAlone mid legs new → IsSo done mid → Mine (state_at new.local key) × Theirs (state_at new.peer key)
+  to_end : (legs done : List Leg) (mid new : Standing) → RunsLegs most old done mid → RunsLegs most mid legs new → AreAlone mid legs new → IsSo done mid → Mine (state_at new.local key) × Theirs (state_at new.peer key)
   to_end [] done mid new run rest alone is = (subst (λ m. Mine (state_at m key)) (sym alone.0) is.local, subst (λ m. Theirs (state_at m key)) (sym alone.1) is.peer)
   to_end (leg ∷ legs) done mid new run rest alone is =
       to_end legs (done ++ leg ∷ []) leg.after new (run_more most done old mid leg begins.local begins.peer run rest.0) rest.1 alone.2 (one_window done mid leg run rest.0 alone.0 alone.1 is)
 
-  at_end : (legs : List Leg) (new : Standing) → Runs most old legs new → AreAlone old legs new → Mine (state_at new.local key) × Theirs (state_at new.peer key)
+  at_end : (legs : List Leg) (new : Standing) → RunsLegs most old legs new → AreAlone old legs new → Mine (state_at new.local key) × Theirs (state_at new.peer key)
   at_end legs new run alone = to_end legs [] old new (run_none most old begins.local begins.peer) run alone (record { mine = none_so Mine key; theirs = none_so Theirs key; local = inl refl; peer = inl refl })
 
-module _ (number : Option ℕ) (questions : ℕ) (most : Two ℕ ℕ) (old : Standing) (legs : List Leg) (new : Standing) (begins : Begins number questions old) (run : Runs most old legs new) (alone : AreAlone old legs new) where
+module _ (number : Option ℕ) (questions : ℕ) (most : Two ℕ ℕ) (old : Standing) (legs : List Leg) (new : Standing) (begins : StartsRun number questions old) (run : RunsLegs most old legs new) (alone : AreAlone old legs new) where
   -- BOTH HOLD THE JOIN
   pub joins_alone : (done : Machining) → HasNext new.machine done None → JoinsAlone most (all_locals legs) (all_peers legs) old new done.work
   joins_alone done next =

@@ -20,7 +20,7 @@ use Rattle.mvd_sync.specs.declared.cursor.Entry.{Entry}
 use Rattle.mvd_sync.specs.declared.report.Side.TheVariants.{Local as AtLocal, Peer as AtPeer}
 use Rattle.mvd_sync.specs.declared.walking.Bucket.{Bucket}
 use Rattle.mvd_sync.proofs.Paging.{mine_asked, theirs_asked}
-use Rattle.mvd_live.specs.Told.{TellsPage}
+use Rattle.mvd_live.specs.Told.{PageTold}
 use Rattle.mvd_live.specs.Lives.{TellApart}
 use Rattle.mvd_live.proofs.Moments.{AtMoment, Frame, Had, digests_had, nothing_had, same_or_not}
 use Rattle.mvd_live.proofs.Pages.{IsEntryOf, Lists, WasHeldAt, none_listed, not_listed, page_lists, page_unspent, rest_after, rest_lists}
@@ -232,7 +232,7 @@ module _ (f : Frame) (apart : TellApart f.locals f.peers) (key : Key) where
 
 -- a page as a side told it at a moment
 abbrev pub PageAt : List States → States → States → PageQuestion → ListingValue → Type 0
-PageAt moments first last q listing = (page : Page) × AtMoment moments first last (λ held. TellsPage held q (Ok page)) × IsListingOf page listing
+PageAt moments first last q listing = (page : Page) × AtMoment moments first last (λ held. PageTold held q (Ok page)) × IsListingOf page listing
 
 module _ (moments : List States) (first last : States) (key : Key) (form : AreHeld first) where
   told_lists : (path : List ℕ) (after : Option Key) (listing : ListingValue) → PageAt moments first last (path, after) listing → IsTrue (is_under path key) → (WasHeldAt first key → is_after after key ≡ true)

@@ -28,7 +28,7 @@ use Rattle.mvd_sync.specs.declared.telling.Told.{Told}
 use Rattle.mvd_sync.specs.declared.turn.Turn.{Turn}
 use Rattle.mvd_sync.proofs.Stages.{plan_keys, same_length}
 use Rattle.mvd_live.specs.Few.{AsksFew, HasAllThatDiffered, asked_local, asked_peer, questions_in}
-use Rattle.mvd_live.specs.Runs.{Begins, Leg, Runs, Standing, all_locals, all_peers}
+use Rattle.mvd_live.specs.Runs.{StartsRun, Leg, RunsLegs, Standing, all_locals, all_peers}
 use Rattle.mvd_live.proofs.FewNodes.{first_few, level_few}
 use Rattle.mvd_live.proofs.FewStages.{FewAt, WalkStands, held_short, local_begins, settle_few, stands_less, told_few, turn_owes, wants_few, went_few}
 use Rattle.mvd_live.proofs.Moments.{Frame}
@@ -172,7 +172,7 @@ step_few AtPeer old asking step next = subst (λ w. questions_in w ≤ wanted_co
 -- ---- all windows
 
 module _ (f : Frame) (differed : List Key) (all : HasAllThatDiffered f.locals f.peers differed) (most : Two ℕ ℕ) (side : Side) (new : Standing) (ends : Grows new.local f.a') (ends' : Grows new.peer f.b') where
-  run_few : (legs : List Leg) (old : Standing) → Amid f old → Runs most old legs new → ((held : States) → Contains (all_locals legs) held → Contains f.locals held) → ((held : States) → Contains (all_peers legs) held → Contains f.peers held)
+  run_few : (legs : List Leg) (old : Standing) → Amid f old → RunsLegs most old legs new → ((held : States) → Contains (all_locals legs) held → Contains f.locals held) → ((held : States) → Contains (all_peers legs) held → Contains f.peers held)
       → (asked : ℕ) → FewAt f differed side asked old.machine.work old.machine.stage → FewAt f differed side (asked + asked_at side legs) new.machine.work new.machine.stage
   run_few [] old at run among among' asked few = subst (λ n. FewAt f differed side n new.machine.work new.machine.stage) (omega arith) (subst (λ (m : Machining). FewAt f differed side asked m.work m.stage) (sym run.machine) few)
   run_few (leg ∷ legs) old at run among among' asked few =
@@ -202,7 +202,7 @@ peer_same : (legs : List Leg) → asked_at AtPeer legs ≡ asked_peer legs
 peer_same [] = refl
 peer_same (leg ∷ legs) = ap (λ n. questions_in (asked leg.step.peer) + n) (peer_same legs)
 
-module _ (number : Option ℕ) (questions : ℕ) (most : Two ℕ ℕ) (old : Standing) (legs : List Leg) (new : Standing) (begins : Begins number questions old) (run : Runs most old legs new) (differed : List Key) (all : HasAllThatDiffered (all_locals legs) (all_peers legs) differed) where
+module _ (number : Option ℕ) (questions : ℕ) (most : Two ℕ ℕ) (old : Standing) (legs : List Leg) (new : Standing) (begins : StartsRun number questions old) (run : RunsLegs most old legs new) (differed : List Key) (all : HasAllThatDiffered (all_locals legs) (all_peers legs) differed) where
   first_at : (side : Side) → FewAt (frame number questions most old legs new begins run) differed side 0 old.machine.work old.machine.stage
   first_at side = subst (FewAt (frame number questions most old legs new begins run) differed side 0 old.machine.work) (sym begins.starts.stage) (first_few differed, λ i. (begins.starts.work i).waiting)
 

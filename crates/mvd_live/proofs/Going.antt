@@ -8,7 +8,7 @@ use Rattle.mvd_peer.specs.PushedStates.{Each}
 use Rattle.mvd_sync.proofs.Descents.{Each-left, Each-right}
 use Rattle.mvd_peer.proofs.Pushes.{Each-append}
 use Rattle.mvd_sync.specs.Machines.{Machining}
-use Rattle.mvd_live.specs.Runs.{Leg, Runs, all_locals, all_peers}
+use Rattle.mvd_live.specs.Runs.{Leg, RunsLegs, all_locals, all_peers}
 use Rattle.mvd_world.specs.declared.acts.Act.{Act}
 use Rattle.mvd_world.specs.declared.acts.Act.TheVariants.{Take, Begin, Go}
 use Rattle.mvd_world.specs.declared.acts.Came.{Came}
@@ -16,7 +16,7 @@ use Rattle.mvd_world.specs.declared.acts.Came.TheVariants as coming
 use Rattle.mvd_world.specs.declared.open_world.OpenSession.{OpenSession}
 use Rattle.mvd_world.specs.declared.steps.Step.TheVariants.{Session}
 use Rattle.mvd_world.specs.Machine.{Knowledge, Setting, is_site, may_be}
-use Rattle.mvd_world.specs.OpenWorlds.{GoesOn, MayAct, MayBegin, MayGo, RunsActs, Scene, goes_at, had_ended, has_failed, has_gone, has_stopped, is_done}
+use Rattle.mvd_world.specs.OpenWorlds.{WindowsOn, MayAct, MayBegin, MayGo, RunsActs, Scene, goes_at, had_ended, has_failed, has_gone, has_stopped, is_done}
 use Rattle.mvd_world.proofs.Cutting.{act_cut, acts_cut, get_more}
 use Rattle.mvd_live.specs.InWindows.{AreInForm, IsBetween, LedTo}
 use Rattle.mvd_live.proofs.Between.{WasHeldAt, among_left, among_right, from_earlier, held_wider, led_grows, led_none, led_on, to_later}
@@ -99,7 +99,7 @@ module _ (setting : Setting) (local peer index : ℕ) where
   abbrev Becomes : Knowledge → Machining → Scene → Type 0
   Becomes start machine after = IsAt local peer index after (Some machine) ⊎ (IsAt local peer index after None ⊎ MayLeave start machine after)
 
-  went : (start : Knowledge) (before after : Scene) (machine : Machining) (came : Came) (left : Option Machining) → LedTo setting start before.knowledge → IsAt local peer index after left → GoesOn setting local peer machine before.knowledge came left after.knowledge → Becomes start machine after
+  went : (start : Knowledge) (before after : Scene) (machine : Machining) (came : Came) (left : Option Machining) → LedTo setting start before.knowledge → IsAt local peer index after left → WindowsOn setting local peer machine before.knowledge came left after.knowledge → Becomes start machine after
   went start before after machine came left since here (has_gone asking next step has window is stays) =
       inr (inr (next, subst (IsAt local peer index after) stays here, window_gone setting local peer start before.knowledge after.knowledge machine asking next step since has window))
   went start before after machine came left since here (has_failed asking next step fault has window is stays) = inr (inl (subst (IsAt local peer index after) stays here))
@@ -116,8 +116,8 @@ module _ (setting : Setting) (local peer index : ℕ) where
       ap (λ l. slice_get l index) (others ∙ ap (λ n. slice_set before.sessions n (record session { machine = left })) same_index)
       ∙ set_here before.sessions index (record { local = local; peer = peer; machine = Some machine }) (record session { machine = left }) here
       ∙ ap (λ (s : OpenSession). Some (record s { machine = left })) is in
-      let gone : GoesOn setting local peer machine before.knowledge came left after.knowledge =
-      subst (λ m. GoesOn setting local peer m before.knowledge came left after.knowledge) same_machine (subst (λ (s : OpenSession). GoesOn setting s.local s.peer machine' before.knowledge came left after.knowledge) is going) in
+      let gone : WindowsOn setting local peer machine before.knowledge came left after.knowledge =
+      subst (λ m. WindowsOn setting local peer m before.knowledge came left after.knowledge) same_machine (subst (λ (s : OpenSession). WindowsOn setting s.local s.peer machine' before.knowledge came left after.knowledge) is going) in
       went start before after machine came left since now gone
 
   act_one : (start : Knowledge) (before : Scene) (act : Act) (came : Came) (after : Scene) (machine : Machining) → LedTo setting start before.knowledge → IsAt local peer index before (Some machine) → MayAct setting before act came after → Becomes start machine after
@@ -174,7 +174,7 @@ module _ (setting : Setting) (local peer index : ℕ) where
     pub legs : List Leg
     pub moments : List Knowledge
     pub between : Each (IsBetween setting start last) moments
-    pub runs : Each (AreInForm local peer) moments → Runs (most_at setting local peer) (standing_at local peer start machine) legs (standing_at local peer last next)
+    pub runs : Each (AreInForm local peer) moments → RunsLegs (most_at setting local peer) (standing_at local peer start machine) legs (standing_at local peer last next)
     pub locals : Each (WasHeldAt local moments) (all_locals legs)
     pub peers : Each (WasHeldAt peer moments) (all_peers legs)
 
@@ -197,7 +197,7 @@ module _ (setting : Setting) (local peer index : ℕ) where
         between = Each-append (IsBetween setting start last) gone.moments rest.moments (to_later setting start mid last gone.moments until gone.between) (from_earlier setting start mid last rest.moments since rest.between);
         runs = λ form. (
           gone.goes (Each-left (AreInForm local peer) gone.moments rest.moments form),
-          subst (λ s. Runs (most_at setting local peer) s rest.legs (standing_at local peer last final)) (sym gone.is) (rest.runs (Each-right (AreInForm local peer) gone.moments rest.moments form)),
+          subst (λ s. RunsLegs (most_at setting local peer) s rest.legs (standing_at local peer last final)) (sym gone.is) (rest.runs (Each-right (AreInForm local peer) gone.moments rest.moments form)),
         );
         locals = Each-append (WasHeldAt local all) gone.leg.locals (all_locals rest.legs) (held_wider local gone.moments all gone.leg.locals (λ k m. among_left gone.moments rest.moments k m) gone.locals)
             (held_wider local rest.moments all (all_locals rest.legs) (λ k m. among_right gone.moments rest.moments k m) rest.locals);

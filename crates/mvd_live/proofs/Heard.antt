@@ -18,7 +18,7 @@ use Rattle.mvd_sync.specs.Walking.{PageQuestion}
 use Rattle.mvd_sync.specs.declared.telling.Share.{Share}
 use Rattle.mvd_sync.specs.declared.telling.Told.{Told}
 use Rattle.mvd_sync.specs.declared.telling.Told.TheVariants as told
-use Rattle.mvd_live.specs.Told.{Tells, TellsEach, TellsNode, TellsNothing, TellsPage, TellsPush, TellsState}
+use Rattle.mvd_live.specs.Told.{LiveTells, TellsEach, TellsNode, TellsNothing, PageTold, TellsPush, StateTold}
 use Rattle.mvd_live.proofs.Moments.{AtMoment, grown_on}
 
 no_more : {X : Type 0} (xs : List X) → length xs ≤ 0 → xs ≡ []
@@ -36,7 +36,7 @@ nothing_told Right qs answers old new moments none is few =
     (subst (λ ms. TellsEach Right [] [] old ms new) (sym none.0) none.1))
 
 module _ (most : ℕ) (w : Wanted) (old new : States) (moments : List States) where
-  pub heard_nodes : (t : Option Told) (answers : List (Result Digests Refusal)) → Tells most w t old moments new → nodes_told t ≡ Ok answers → length w.nodes ≤ length answers → TellsEach TellsNode w.nodes answers old moments new
+  pub heard_nodes : (t : Option Told) (answers : List (Result Digests Refusal)) → LiveTells most w t old moments new → nodes_told t ≡ Ok answers → length w.nodes ≤ length answers → TellsEach TellsNode w.nodes answers old moments new
   heard_nodes None answers tells is few = nothing_told TellsNode w.nodes answers old new moments tells (cc) few
   heard_nodes (Some (told.Nodes given)) answers tells is few = let same : given.items ≡ answers = cc in subst (λ xs. TellsEach TellsNode w.nodes xs old moments new) same tells
   heard_nodes (Some (told.Pages given)) answers tells is few = absurd (cc)
@@ -44,23 +44,23 @@ module _ (most : ℕ) (w : Wanted) (old new : States) (moments : List States) wh
   heard_nodes (Some (told.Pushes given)) answers tells is few = absurd (cc)
   heard_nodes (Some (told.Refused refusal)) answers tells is few = absurd (cc)
 
-  pub heard_pages : (t : Option Told) (answers : List (Result Page Refusal)) → Tells most w t old moments new → pages_told t ≡ Ok answers → length w.pages ≤ length answers → TellsEach TellsPage w.pages answers old moments new
-  heard_pages None answers tells is few = nothing_told TellsPage w.pages answers old new moments tells (cc) few
-  heard_pages (Some (told.Pages given)) answers tells is few = let same : given.items ≡ answers = cc in subst (λ xs. TellsEach TellsPage w.pages xs old moments new) same tells
+  pub heard_pages : (t : Option Told) (answers : List (Result Page Refusal)) → LiveTells most w t old moments new → pages_told t ≡ Ok answers → length w.pages ≤ length answers → TellsEach PageTold w.pages answers old moments new
+  heard_pages None answers tells is few = nothing_told PageTold w.pages answers old new moments tells (cc) few
+  heard_pages (Some (told.Pages given)) answers tells is few = let same : given.items ≡ answers = cc in subst (λ xs. TellsEach PageTold w.pages xs old moments new) same tells
   heard_pages (Some (told.Nodes given)) answers tells is few = absurd (cc)
   heard_pages (Some (told.States given)) answers tells is few = absurd (cc)
   heard_pages (Some (told.Pushes given)) answers tells is few = absurd (cc)
   heard_pages (Some (told.Refused refusal)) answers tells is few = absurd (cc)
 
-  pub heard_states : (t : Option Told) (answers : List (Result State Refusal)) → Tells most w t old moments new → states_told t ≡ Ok answers → length w.gets ≤ length answers → TellsEach TellsState w.gets answers old moments new
-  heard_states None answers tells is few = nothing_told TellsState w.gets answers old new moments tells (cc) few
-  heard_states (Some (told.States given)) answers tells is few = let same : given.items ≡ answers = cc in subst (λ xs. TellsEach TellsState w.gets xs old moments new) same tells
+  pub heard_states : (t : Option Told) (answers : List (Result State Refusal)) → LiveTells most w t old moments new → states_told t ≡ Ok answers → length w.gets ≤ length answers → TellsEach StateTold w.gets answers old moments new
+  heard_states None answers tells is few = nothing_told StateTold w.gets answers old new moments tells (cc) few
+  heard_states (Some (told.States given)) answers tells is few = let same : given.items ≡ answers = cc in subst (λ xs. TellsEach StateTold w.gets xs old moments new) same tells
   heard_states (Some (told.Nodes given)) answers tells is few = absurd (cc)
   heard_states (Some (told.Pages given)) answers tells is few = absurd (cc)
   heard_states (Some (told.Pushes given)) answers tells is few = absurd (cc)
   heard_states (Some (told.Refused refusal)) answers tells is few = absurd (cc)
 
-  pub heard_pushes : (t : Option Told) (answers : List (Result (Unit {0}) Refusal)) → Tells most w t old moments new → pushes_told t ≡ Ok answers → length w.pushes ≤ length answers → TellsEach (TellsPush most) w.pushes answers old moments new
+  pub heard_pushes : (t : Option Told) (answers : List (Result (Unit {0}) Refusal)) → LiveTells most w t old moments new → pushes_told t ≡ Ok answers → length w.pushes ≤ length answers → TellsEach (TellsPush most) w.pushes answers old moments new
   heard_pushes None answers tells is few = nothing_told (TellsPush most) w.pushes answers old new moments tells (cc) few
   heard_pushes (Some (told.Pushes given)) answers tells is few = let same : given.items ≡ answers = cc in subst (λ xs. TellsEach (TellsPush most) w.pushes xs old moments new) same tells
   heard_pushes (Some (told.Nodes given)) answers tells is few = absurd (cc)
@@ -79,11 +79,11 @@ each_grows Right (x ∷ qs) (a ∷ answers) old new [] p q tells = absurd tells
 each_grows Right (x ∷ qs) (a ∷ answers) old new (held ∷ later) p q tells =
     grown_on old held new p tells.0 q tells.1 (each_grows Right qs answers held new later tells.0 q tells.3)
 
-pub tells_grow : (most : ℕ) (w : Wanted) (t : Option Told) (old new : States) (moments : List States) → AreHeld old → AreHeld new → Tells most w t old moments new → Grows old new
+pub tells_grow : (most : ℕ) (w : Wanted) (t : Option Told) (old new : States) (moments : List States) → AreHeld old → AreHeld new → LiveTells most w t old moments new → Grows old new
 tells_grow most w None old new moments p q tells = tells.1
 tells_grow most w (Some (told.Nodes given)) old new moments p q tells = each_grows TellsNode w.nodes given.items old new moments p q tells
-tells_grow most w (Some (told.Pages given)) old new moments p q tells = each_grows TellsPage w.pages given.items old new moments p q tells
-tells_grow most w (Some (told.States given)) old new moments p q tells = each_grows TellsState w.gets given.items old new moments p q tells
+tells_grow most w (Some (told.Pages given)) old new moments p q tells = each_grows PageTold w.pages given.items old new moments p q tells
+tells_grow most w (Some (told.States given)) old new moments p q tells = each_grows StateTold w.gets given.items old new moments p q tells
 tells_grow most w (Some (told.Pushes given)) old new moments p q tells = each_grows (TellsPush most) w.pushes given.items old new moments p q tells
 tells_grow most w (Some (told.Refused refusal)) old new moments p q tells = tells.1
 
@@ -142,7 +142,7 @@ pub record Heard (most : ℕ) (moments : List States) (first last : States) (w :
   pub new : States
   pub these : List States
   pub within : Within moments first last old new these
-  pub tells : Tells most w t old these new
+  pub tells : LiveTells most w t old these new
 
 -- all that was wanted was asked
 pub record AllAsked {X : Type 0} (qs : List X) (asked : List X) (left left' wanted : ℕ) (share : Share) : Type 0 where
@@ -175,15 +175,15 @@ module _ (most : ℕ) (moments : List States) (first last : States) (w : Wanted)
       (heard_nodes most w h.old h.new h.these t r.answers h.tells r.is (few_asked qs w.nodes r.answers left left' wanted share all r.whole r.counted)) r.each
 
   pub read_pages : {B : Type 0} (IsOf : Page → B → Type 0) (qs : List PageQuestion) (read : List B) → AllAsked qs w.pages left left' wanted share → AllRead IsOf (pages_told t) share read
-      → ForEach (λ q b. (a : Page) × AtMoment moments first last (λ held. TellsPage held q (Ok a)) × IsOf a b) qs read
+      → ForEach (λ q b. (a : Page) × AtMoment moments first last (λ held. PageTold held q (Ok a)) × IsOf a b) qs read
   read_pages IsOf qs read all r =
-      seen_at TellsPage IsOf qs w.pages r.answers read (none_cut qs w.pages left left' wanted share all r.whole)
+      seen_at PageTold IsOf qs w.pages r.answers read (none_cut qs w.pages left left' wanted share all r.whole)
       (heard_pages most w h.old h.new h.these t r.answers h.tells r.is (few_asked qs w.pages r.answers left left' wanted share all r.whole r.counted)) r.each
 
   pub read_states : {B : Type 0} (IsOf : State → B → Type 0) (qs : List Key) (read : List B) → AllAsked qs w.gets left left' wanted share → AllRead IsOf (states_told t) share read
-      → ForEach (λ q b. (a : State) × AtMoment moments first last (λ held. TellsState held q (Ok a)) × IsOf a b) qs read
+      → ForEach (λ q b. (a : State) × AtMoment moments first last (λ held. StateTold held q (Ok a)) × IsOf a b) qs read
   read_states IsOf qs read all r =
-      seen_at TellsState IsOf qs w.gets r.answers read (none_cut qs w.gets left left' wanted share all r.whole)
+      seen_at StateTold IsOf qs w.gets r.answers read (none_cut qs w.gets left left' wanted share all r.whole)
       (heard_states most w h.old h.new h.these t r.answers h.tells r.is (few_asked qs w.gets r.answers left left' wanted share all r.whole r.counted)) r.each
 
   pub seen_pushes : (qs : List (Key × State)) (answers : List (Result (Unit {0}) Refusal)) → AllAsked qs w.pushes left left' wanted share → pushes_told t ≡ Ok answers → share.wanted ≤ share.asked → length answers ≡ share.asked

@@ -22,7 +22,7 @@ use Rattle.mvd_replica.specs.Turns.{Turn}
 use Rattle.mvd_replica.proofs.Batching.{config_all, replies_one}
 use Rattle.mvd_host.specs.Round.{ServesAllFrom, ServesFrom, turns_of}
 use Rattle.mvd_host.proofs.Growths.{grows_by}
-use Rattle.mvd_live.specs.Answers.{AnswersAll, SiteTurn}
+use Rattle.mvd_live.specs.Answers.{SiteAnswers, SiteTurn}
 use Rattle.mvd_live.specs.Hosts.{and_turn, site_turns}
 use Rattle.mvd_live.proofs.Whole.{grows_self}
 
@@ -80,16 +80,16 @@ still old mid fault reply (inl one) = one.1
 still old mid fault reply (inr memory) = memory.1
 
 more : (n client : ℕ) (asked : Result Request Refusal) (reply : Reply) (later : List SiteTurn) (old mid : SiteValue) (new : States) → AreHeld old.states → ServesFrom old mid (record { asked = asked; reply = reply }) →
-    (AreHeld mid.states → AnswersAll mid.config mid.states later new) → AnswersAll old.config old.states (and_turn n client asked reply later) new
+    (AreHeld mid.states → SiteAnswers mid.config mid.states later new) → SiteAnswers old.config old.states (and_turn n client asked reply later) new
 more n client (Ok q) reply later old mid new held one rest =
     let it : Leaves old mid q reply = leaves old mid q reply held one in
-    (mid.states, (it.form, it.grows), it.so, subst (λ config. AnswersAll config mid.states later new) it.config (rest it.form))
+    (mid.states, (it.form, it.grows), it.so, subst (λ config. SiteAnswers config mid.states later new) it.config (rest it.form))
 more n client (Err fault) reply later old mid new held one rest =
     let same : mid ≡ old = still old mid fault reply one in
-    subst (λ (s : SiteValue). AnswersAll s.config s.states later new) same (rest (subst (λ (s : SiteValue). AreHeld s.states) (sym same) held))
+    subst (λ (s : SiteValue). SiteAnswers s.config s.states later new) same (rest (subst (λ (s : SiteValue). AreHeld s.states) (sym same) held))
 
 -- A HOST'S TURNS are answers of its site, one after the other
-pub host_answers : (n : ℕ) (turns : List (ℕ × Turn)) (old new : SiteValue) → AreHeld old.states → ServesAllFrom old new (turns_of turns) → AnswersAll old.config old.states (site_turns n turns) new.states
+pub host_answers : (n : ℕ) (turns : List (ℕ × Turn)) (old new : SiteValue) → AreHeld old.states → ServesAllFrom old new (turns_of turns) → SiteAnswers old.config old.states (site_turns n turns) new.states
 host_answers n [] old new held all = ap (λ (s : SiteValue). s.states) all
 host_answers n (t ∷ ts) old new held all =
     more n t.0 t.1.asked t.1.reply (site_turns n ts) old all.0 new.states held all.1 (λ form. host_answers n ts all.0 new form all.2)

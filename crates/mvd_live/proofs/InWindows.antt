@@ -16,10 +16,10 @@ use Rattle.mvd_sync.specs.declared.asked.Window.{Window}
 use Rattle.mvd_sync.specs.declared.asked.Window.TheVariants as wanted
 use Rattle.mvd_sync.specs.declared.telling.Told.{Told}
 use Rattle.mvd_sync.specs.declared.telling.Told.TheVariants as telling
-use Rattle.mvd_live.specs.Runs.{Goes, Leg, Standing}
-use Rattle.mvd_live.specs.Told.{Tells, TellsEach, TellsNode, TellsPage, TellsPush, TellsState}
+use Rattle.mvd_live.specs.Runs.{TakesLeg, Leg, Standing}
+use Rattle.mvd_live.specs.Told.{LiveTells, TellsEach, TellsNode, PageTold, TellsPush, StateTold}
 use Rattle.mvd_world.specs.Machine.{Knowledge, Setting}
-use Rattle.mvd_world.specs.OpenWorlds.{AsksForNode, AsksForPage, AsksForState, AsksSite, AsksToTake, AsksWindow, OneByOne, OneWindow, all_asked_of, no_room}
+use Rattle.mvd_world.specs.OpenWorlds.{AsksForNode, AsksForPage, AsksForState, AsksOneSite, AsksToTake, AsksWindow, OneByOne, OneWindow, all_asked_of, no_room}
 use Rattle.mvd_world.proofs.Cutting.{site_steps}
 use Rattle.mvd_live.specs.InWindows.{AreInForm, IsBetween, LedTo}
 use Rattle.mvd_live.proofs.Between.{IsInForm, WasHeldAt, among_left, among_right, from_earlier, held_among, held_at, led_cut, led_grows, led_none, led_on, local_form, peer_form}
@@ -66,9 +66,9 @@ each_told setting site Asks Right right start before after last (q ∷ qs) [] si
 pub record ToldSite (setting : Setting) (site : ℕ) (start last : Knowledge) (window : Option Window) (t : Option Told) : Type 0 where
   pub moments : List Knowledge
   pub between : Each (IsBetween setting start last) moments
-  pub tells : Each (IsInForm site) moments → Tells (most_of (setting.configs site)) (asked_in window) t (states_of (start.known site)) (held_at site moments) (states_of (last.known site))
+  pub tells : Each (IsInForm site) moments → LiveTells (most_of (setting.configs site)) (asked_in window) t (states_of (start.known site)) (held_at site moments) (states_of (last.known site))
 
-nothing_told : (setting : Setting) (site : ℕ) (start last : Knowledge) (window : Option Window) (t : Option Told) → (Grows (states_of (start.known site)) (states_of (last.known site)) → Tells (most_of (setting.configs site)) (asked_in window) t (states_of (start.known site)) [] (states_of (last.known site))) → LedTo setting start last → ToldSite setting site start last window t
+nothing_told : (setting : Setting) (site : ℕ) (start last : Knowledge) (window : Option Window) (t : Option Told) → (Grows (states_of (start.known site)) (states_of (last.known site)) → LiveTells (most_of (setting.configs site)) (asked_in window) t (states_of (start.known site)) [] (states_of (last.known site))) → LedTo setting start last → ToldSite setting site start last window t
 nothing_told setting site start last window t tells led = record { moments = []; between = tt; tells = λ form. tells (led_grows setting start last site led) }
 
 as_site : (setting : Setting) (site : ℕ) (start last : Knowledge) (window : Option Window) (t t' : Option Told) → t ≡ t' → ToldSite setting site start last window t' → ToldSite setting site start last window t
@@ -84,10 +84,10 @@ module _ (setting : Setting) (site : ℕ) (start before after last : Knowledge) 
       let told = each_told setting site (AsksForNode setting site) TellsNode (node_right setting site) start before after last paths.items answers.items since one until in
       as_site setting site start last (Some (wanted.Nodes paths)) (Some t) (Some (telling.Nodes answers)) (ap Some e) (record { moments = told.moments; between = told.between; tells = told.tells })
   window_told (wanted.Pages pages) t (all_asked_of answers e one) =
-      let told = each_told setting site (AsksForPage setting site) TellsPage (page_right setting site) start before after last pages.items answers.items since one until in
+      let told = each_told setting site (AsksForPage setting site) PageTold (page_right setting site) start before after last pages.items answers.items since one until in
       as_site setting site start last (Some (wanted.Pages pages)) (Some t) (Some (telling.Pages answers)) (ap Some e) (record { moments = told.moments; between = told.between; tells = told.tells })
   window_told (wanted.Gets keys) t (all_asked_of answers e one) =
-      let told = each_told setting site (AsksForState setting site) TellsState (state_right setting site) start before after last keys.items answers.items since one until in
+      let told = each_told setting site (AsksForState setting site) StateTold (state_right setting site) start before after last keys.items answers.items since one until in
       as_site setting site start last (Some (wanted.Gets keys)) (Some t) (Some (telling.States answers)) (ap Some e) (record { moments = told.moments; between = told.between; tells = told.tells })
   window_told (wanted.Pushes pairs) t (all_asked_of answers e one) =
       let told = each_told setting site (AsksToTake setting site) (TellsPush (most_of (setting.configs site))) (push_right setting site) start before after last pairs.items answers.items since one until in
@@ -97,7 +97,7 @@ module _ (setting : Setting) (site : ℕ) (start before after last : Knowledge) 
   window_told (wanted.Gets keys) t (no_room e same) = none_told (wanted.Gets keys) t e same
   window_told (wanted.Pushes pairs) t (no_room e same) = none_told (wanted.Pushes pairs) t e same
 
-  pub site_told : (window : Option Window) (t : Option Told) → AsksSite setting site before window t after → ToldSite setting site start last window t
+  pub site_told : (window : Option Window) (t : Option Told) → AsksOneSite setting site before window t after → ToldSite setting site start last window t
   site_told None t h = as_site setting site start last None t None h.0 (nothing_told setting site start last None None (λ grows. (refl, grows)) (led_on setting start before last since (led_on setting before after last (led_none setting before after h.1) until)))
   site_told (Some window) (Some t) h = window_told window t h
   site_told (Some window) None h = absurd h
@@ -117,7 +117,7 @@ pub record GoneBy (setting : Setting) (local peer : ℕ) (start after : Knowledg
   pub is : leg.after ≡ standing_at local peer after next
   pub moments : List Knowledge
   pub between : Each (IsBetween setting start after) moments
-  pub goes : Each (AreInForm local peer) moments → Goes (most_at setting local peer) (standing_at local peer start machine) leg
+  pub goes : Each (AreInForm local peer) moments → TakesLeg (most_at setting local peer) (standing_at local peer start machine) leg
   pub locals : Each (WasHeldAt local moments) leg.locals
   pub peers : Each (WasHeldAt peer moments) leg.peers
 

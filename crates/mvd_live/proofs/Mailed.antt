@@ -15,8 +15,8 @@ use Rattle.mvd_meet.specs.declared.caller.Caller.{Caller}
 use Rattle.mvd_meet.specs.declared.stepping.Meeting.{Meeting}
 use Rattle.mvd_live.specs.Few.{HasAllThatDiffered, MailsFew, asked_local, asked_peer, questions_in, sent_local, sent_peer}
 use Rattle.mvd_live.specs.Lives.{IsGiven, Lives}
-use Rattle.mvd_live.specs.Mail.{AreLive, Ends, Mail, Meets, Sits, Waiting, mail_locals, mail_peers, standing, waits_at}
-use Rattle.mvd_live.specs.Runs.{Begins, Goes, IsLater, Leg, Runs, Standing, all_locals, all_peers}
+use Rattle.mvd_live.specs.Mail.{AreLive, MailEnds, Mail, MailSteps, Sits, Waiting, mail_locals, mail_peers, standing, waits_at}
+use Rattle.mvd_live.specs.Runs.{StartsRun, TakesLeg, IsLater, Leg, RunsLegs, Standing, all_locals, all_peers}
 use Rattle.mvd_live.proofs.Answered.{both_answered}
 use Rattle.mvd_live.proofs.FewWhole.{asks_few, step_few}
 use Rattle.mvd_live.proofs.Whole.{given, grows_self, lives}
@@ -43,7 +43,7 @@ module _ (most : Two ℕ ℕ) where
   }
 
   leg_goes : (machine : Machining) (old : Waiting) (mid : Meeting) (mail : Mail) (near far : Caller) (local peer : States) (h : HearsBoth old.meeting mail.near mail.far mid near far (Ok tt)) → HasNext machine old.meeting.machine (Some old.step) → AreLive most old mail local peer
-      → Goes most (at_machine machine old) (leg_of old mid mail h.mine h.theirs local peer)
+      → TakesLeg most (at_machine machine old) (leg_of old mid mail h.mine h.theirs local peer)
   leg_goes machine old mid mail near far local peer h next live = let came = both_answered old.meeting.machine mid.machine h.mine h.theirs next.asks.1 h.takes in record {
     next = next;
     local = live.near near h.mine h.local came.0;
@@ -63,13 +63,13 @@ module _ (most : Two ℕ ℕ) where
     pub run : List Leg
     pub end : Machining
     pub next : HasNext end (waits_at old legs).meeting.machine (Some (waits_at old legs).step)
-    pub on : (tail : List Leg) (final : Standing) → Runs most (at_machine end (waits_at old legs)) tail final → Runs most (at_machine machine old) (run ++ tail) final
+    pub on : (tail : List Leg) (final : Standing) → RunsLegs most (at_machine end (waits_at old legs)) tail final → RunsLegs most (at_machine machine old) (run ++ tail) final
     pub locals : (tail : List Leg) → all_locals (run ++ tail) ≡ mail_locals legs ++ all_locals tail
     pub peers : (tail : List Leg) → all_peers (run ++ tail) ≡ mail_peers legs ++ all_peers tail
     pub sent : sent_local old legs ≡ asked_local run + questions_in (asked (waits_at old legs).step.local)
     pub sent' : sent_peer old legs ≡ asked_peer run + questions_in (asked (waits_at old legs).step.peer)
 
-  run_of : (machine : Machining) (old : Waiting) (legs : List (Mail × Waiting)) → HasNext machine old.meeting.machine (Some old.step) → Meets most old legs → IsRun machine old legs
+  run_of : (machine : Machining) (old : Waiting) (legs : List (Mail × Waiting)) → HasNext machine old.meeting.machine (Some old.step) → MailSteps most old legs → IsRun machine old legs
   run_of machine old [] next meets = record {
     run = [];
     end = machine;
@@ -97,18 +97,18 @@ module _ (most : Two ℕ ℕ) where
       }
 
   -- its sides stay in form
-  held_at : (old : Waiting) (legs : List (Mail × Waiting)) → AreHeld old.local × AreHeld old.peer → Meets most old legs → AreHeld (waits_at old legs).local × AreHeld (waits_at old legs).peer
+  held_at : (old : Waiting) (legs : List (Mail × Waiting)) → AreHeld old.local × AreHeld old.peer → MailSteps most old legs → AreHeld (waits_at old legs).local × AreHeld (waits_at old legs).peer
   held_at old [] held meets = held
   held_at old (leg ∷ legs) held meets = held_at leg.1 legs meets.0.live.held meets.1
 
-  module _ (number : Option ℕ) (questions : ℕ) (begun : Meeting) (first : Mail) (now : Waiting) (legs : List (Mail × Waiting)) (sits : Sits number questions begun first now) (meets : Meets most now legs) where
+  module _ (number : Option ℕ) (questions : ℕ) (begun : Meeting) (first : Mail) (now : Waiting) (legs : List (Mail × Waiting)) (sits : Sits number questions begun first now) (meets : MailSteps most now legs) where
     first_next : HasNext begun.machine now.meeting.machine (Some now.step)
     first_next =
         let s = sits.steps in
         let b = begins_of begun.began begun s.mid first.near first.far s.near_mid s.far_mid (Ok tt) sits.fresh s.hears.0 in
         subst (λ m. HasNext m now.meeting.machine (Some now.step)) b.machine (subst (λ step. HasNext s.mid.machine now.meeting.machine (Some step)) sits.asks s.asks.next)
 
-    begins : Begins number questions (standing begun now)
+    begins : StartsRun number questions (standing begun now)
     begins = record { starts = sits.starts; local = sits.held.0; peer = sits.held.1 }
 
     -- FEW WERE ASKED by mail
@@ -139,7 +139,7 @@ module _ (most : Two ℕ ℕ) where
         subst (λ ms. IsGiven ms (mail_peers legs) at.step) (r.locals [] ∙ append-nil (mail_locals legs)) (subst (λ ms. IsGiven (all_locals (r.run ++ [])) ms at.step) (r.peers [] ∙ append-nil (mail_peers legs)) it)
 
     -- A SESSION BY MAIL LIVES
-    pub mail_lives : (last : Mail) (new : Standing) → Ends most (waits_at now legs) last new → Lives most (mail_locals legs ++ last.locals) (mail_peers legs ++ last.peers) (standing begun now) new new.machine.work
+    pub mail_lives : (last : Mail) (new : Standing) → MailEnds most (waits_at now legs) last new → Lives most (mail_locals legs ++ last.locals) (mail_peers legs ++ last.peers) (standing begun now) new new.machine.work
     mail_lives last new ends =
         let r = run_of begun.machine now legs first_next meets in
         let at = waits_at now legs in

@@ -14,7 +14,7 @@ use Rattle.mvd_peer.proofs.JoinLaws.{valid_at}
 use Rattle.mvd_sync.specs.Steps.{Wanted}
 use Rattle.mvd_sync.specs.declared.telling.Told.{Told}
 use Rattle.mvd_sync.specs.declared.telling.Told.TheVariants as told
-use Rattle.mvd_live.specs.Told.{Tells, TellsEach, TellsNode, TellsNothing, TellsPage, TellsPush, TellsState}
+use Rattle.mvd_live.specs.Told.{LiveTells, TellsEach, TellsNode, TellsNothing, PageTold, TellsPush, StateTold}
 use Rattle.mvd_live.proofs.Moments.{grown_on}
 use Rattle.mvd_live.proofs.Whole.{grows_self}
 
@@ -87,10 +87,10 @@ each_rises Right (x ∷ qs) (a ∷ answers) old new (m ∷ moments) tells = (val
 nothing_rises : (old new : States) (moments : List States) → TellsNothing old moments new → Rises old moments new
 nothing_rises old new moments tells = subst (λ ms. Rises old ms new) (sym tells.0) tells.1
 
-pub tells_rise : (most : ℕ) (w : Wanted) (t : Option Told) (old new : States) (moments : List States) → Tells most w t old moments new → Rises old moments new
+pub tells_rise : (most : ℕ) (w : Wanted) (t : Option Told) (old new : States) (moments : List States) → LiveTells most w t old moments new → Rises old moments new
 tells_rise most w None old new moments tells = nothing_rises old new moments tells
 tells_rise most w (Some (told.Nodes given)) old new moments tells = each_rises TellsNode w.nodes given.items old new moments tells
-tells_rise most w (Some (told.Pages given)) old new moments tells = each_rises TellsPage w.pages given.items old new moments tells
-tells_rise most w (Some (told.States given)) old new moments tells = each_rises TellsState w.gets given.items old new moments tells
+tells_rise most w (Some (told.Pages given)) old new moments tells = each_rises PageTold w.pages given.items old new moments tells
+tells_rise most w (Some (told.States given)) old new moments tells = each_rises StateTold w.gets given.items old new moments tells
 tells_rise most w (Some (told.Pushes given)) old new moments tells = each_rises (TellsPush most) w.pushes given.items old new moments tells
 tells_rise most w (Some (told.Refused refusal)) old new moments tells = nothing_rises old new moments tells

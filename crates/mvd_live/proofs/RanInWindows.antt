@@ -12,7 +12,7 @@ use Rattle.mvd_sync.specs.declared.report.Left.{Left}
 use Rattle.mvd_sync.specs.declared.report.Report.{Report}
 use Rattle.mvd_sync.specs.declared.report.SyncFault.{SyncFault}
 use Rattle.mvd_live.specs.Lives.{TellApart as MomentsTellApart}
-use Rattle.mvd_live.specs.Runs.{Begins, all_locals, all_peers}
+use Rattle.mvd_live.specs.Runs.{StartsRun, all_locals, all_peers}
 use Rattle.mvd_live.proofs.Whole.{lives}
 use Rattle.mvd_world.specs.declared.acts.Act.TheVariants.{Begin}
 use Rattle.mvd_world.specs.declared.acts.Came.TheVariants as coming
@@ -137,7 +137,7 @@ module _ (setting : Setting) (before after : Scene) (local peer : ℕ) (report :
         moments = first_at ∷ run.moments;
         between = ((now, led), run.between);
         ran = λ form apart key.
-            let begins : Begins (Some local) 10000000 (standing_at local peer first_at first.machine) = record { starts = first.starts; local = form.0.0; peer = form.0.1 } in
+            let begins : StartsRun (Some local) 10000000 (standing_at local peer first_at first.machine) = record { starts = first.starts; local = form.0.0; peer = form.0.1 } in
             let l = lives (Some local) 10000000 (most_at setting local peer) (standing_at local peer first_at first.machine) run.legs (standing_at local peer last_at final) begins (run.runs form.1) last.asking next in
             let none : l.left ≡ [] = nil_from_length l.left (sym l.counted.0 ∙ sym last.tells.refused ∙ whole) in
             elim (l.both (moments_apart final run (rest_apart local peer first_at run.moments apart)) key) [

@@ -35,9 +35,9 @@ use Rattle.mvd_sync.specs.declared.asked.Window.{Window}
 use Rattle.mvd_sync.specs.declared.asked.Window.TheVariants as wanted
 use Rattle.mvd_sync.specs.declared.telling.Told.{Told}
 use Rattle.mvd_sync.specs.declared.telling.Told.TheVariants as told
-use Rattle.mvd_live.specs.Answers.{AnswersAll, AnswersAmong, AreReplyFrames, HaveFrames, SiteTurn, own_replies, own_requests}
+use Rattle.mvd_live.specs.Answers.{SiteAnswers, AnswersAmong, AreReplyFrames, HaveFrames, SiteTurn, own_replies, own_requests}
 use Rattle.mvd_live.specs.Mail.{IsAnswered, IsLiveMail}
-use Rattle.mvd_live.specs.Told.{Tells, TellsEach, TellsNode, TellsPage, TellsPush, TellsState}
+use Rattle.mvd_live.specs.Told.{LiveTells, TellsEach, TellsNode, PageTold, TellsPush, StateTold}
 use Rattle.mvd_live.proofs.Moments.{grown_on}
 use Rattle.mvd_live.proofs.Whole.{grows_self}
 
@@ -115,11 +115,11 @@ module _ (config : ConfigValue) where
   node_right : (q : List ℕ) (before held : States) (a : Digests) → AreHeld before → Unit {0} → TrueReply config before (Node q) (as_digests a) held → TellsNode held q (Ok a)
   node_right q before held a form fits (is, same) = subst (λ m. TellsNode m q (Ok a)) (sym same) is
 
-  page_right : (q : PageQuestion) (before held : States) (a : PageValue) → AreHeld before → Unit {0} → TrueReply config before (Bucket q.0 q.1) (as_page a) held → TellsPage held q (Ok a)
-  page_right q before held a form fits (keys, more, same) = subst (λ m. TellsPage m q (Ok a)) (sym same) (keys, more)
+  page_right : (q : PageQuestion) (before held : States) (a : PageValue) → AreHeld before → Unit {0} → TrueReply config before (Bucket q.0 q.1) (as_page a) held → PageTold held q (Ok a)
+  page_right q before held a form fits (keys, more, same) = subst (λ m. PageTold m q (Ok a)) (sym same) (keys, more)
 
-  state_right : (q : Key) (before held : States) (a : State) → AreHeld before → Unit {0} → TrueReply config before (Get q) (as_state a) held → TellsState held q (Ok a)
-  state_right q before held a form fits (is, same) = subst (λ m. TellsState m q (Ok a)) (sym same) is
+  state_right : (q : Key) (before held : States) (a : State) → AreHeld before → Unit {0} → TrueReply config before (Get q) (as_state a) held → StateTold held q (Ok a)
+  state_right q before held a form fits (is, same) = subst (λ m. StateTold m q (Ok a)) (sym same) is
 
   push_right : (q : Key × State) (before held : States) (a : Unit {0}) → AreHeld before → IsValid q.1 → TrueReply config before (Push q.0 q.1) (as_done a) held → TellsPush config.max_keys held q (Ok a)
   push_right q before held a form valid (apart, is) =
@@ -146,30 +146,30 @@ module _ (config : ConfigValue) where
 
   -- WHAT IS TOLD OF THE WINDOW
   window_told : (window : Window) (caller after : Caller) (t : Told) (rs : List Reply) (rest : List ℕ) (old new : States) (moments : List States) → AreHeld old → HaveFrames (requests_of window) → AreReplyFrames rs (came_at caller) rest → Each (λ p. IsValid p.1) (asked (Some window)).pushes
-      → AnswersAmong config (requests_of window) rs old moments new → TellsOf (asked_in_window window) caller after t → IsAnswered (Some t) → Tells config.max_keys (asked (Some window)) (Some t) old moments new
+      → AnswersAmong config (requests_of window) rs old moments new → TellsOf (asked_in_window window) caller after t → IsAnswered (Some t) → LiveTells config.max_keys (asked (Some window)) (Some t) old moments new
   window_told (wanted.Nodes paths) caller after t rs rest old new moments form has frames valid among h answered =
       let it = collected 0xA7 (λ answers. told.Nodes answers) as_digests (λ path. Node path) paths.items TellsNode rs old new moments
       (λ ts answers bytes rest end. all_told config 0xA7 as_digests (λ path. Node path) (λ _. Unit {0}) TellsNode node_right (λ q before held refusal so. tt) (λ q held. tt) paths.items rs old new moments ts answers bytes rest end form (each_fits paths.items) among)
       (came_at caller) rest frames has (link_at caller) (link_at after) t refl h.tells answered (λ refusal never. never) in
-      subst (λ x. Tells config.max_keys (asked (Some (wanted.Nodes paths))) (Some x) old moments new) (sym it.1) it.2
+      subst (λ x. LiveTells config.max_keys (asked (Some (wanted.Nodes paths))) (Some x) old moments new) (sym it.1) it.2
   window_told (wanted.Pages pages) caller after t rs rest old new moments form has frames valid among h answered =
-      let it = collected 0xA8 (λ answers. told.Pages answers) as_page (λ q. Bucket q.0 q.1) pages.items TellsPage rs old new moments
-      (λ ts answers bytes rest end. all_told config 0xA8 as_page (λ q. Bucket q.0 q.1) (λ _. Unit {0}) TellsPage page_right (λ q before held refusal so. tt) (λ q held. tt) pages.items rs old new moments ts answers bytes rest end form (each_fits pages.items) among)
+      let it = collected 0xA8 (λ answers. told.Pages answers) as_page (λ q. Bucket q.0 q.1) pages.items PageTold rs old new moments
+      (λ ts answers bytes rest end. all_told config 0xA8 as_page (λ q. Bucket q.0 q.1) (λ _. Unit {0}) PageTold page_right (λ q before held refusal so. tt) (λ q held. tt) pages.items rs old new moments ts answers bytes rest end form (each_fits pages.items) among)
       (came_at caller) rest frames has (link_at caller) (link_at after) t refl h.tells answered (λ refusal never. never) in
-      subst (λ x. Tells config.max_keys (asked (Some (wanted.Pages pages))) (Some x) old moments new) (sym it.1) it.2
+      subst (λ x. LiveTells config.max_keys (asked (Some (wanted.Pages pages))) (Some x) old moments new) (sym it.1) it.2
   window_told (wanted.Gets keys) caller after t rs rest old new moments form has frames valid among h answered =
-      let it = collected 0xA1 (λ answers. told.States answers) as_state (λ key. Get key) keys.items TellsState rs old new moments
-      (λ ts answers bytes rest end. all_told config 0xA1 as_state (λ key. Get key) (λ _. Unit {0}) TellsState state_right (λ q before held refusal so. tt) (λ q held. tt) keys.items rs old new moments ts answers bytes rest end form (each_fits keys.items) among)
+      let it = collected 0xA1 (λ answers. told.States answers) as_state (λ key. Get key) keys.items StateTold rs old new moments
+      (λ ts answers bytes rest end. all_told config 0xA1 as_state (λ key. Get key) (λ _. Unit {0}) StateTold state_right (λ q before held refusal so. tt) (λ q held. tt) keys.items rs old new moments ts answers bytes rest end form (each_fits keys.items) among)
       (came_at caller) rest frames has (link_at caller) (link_at after) t refl h.tells answered (λ refusal never. never) in
-      subst (λ x. Tells config.max_keys (asked (Some (wanted.Gets keys))) (Some x) old moments new) (sym it.1) it.2
+      subst (λ x. LiveTells config.max_keys (asked (Some (wanted.Gets keys))) (Some x) old moments new) (sym it.1) it.2
   window_told (wanted.Pushes pairs) caller after t rs rest old new moments form has frames valid among h answered =
       let it = collected 0xA3 (λ answers. told.Pushes answers) as_done (λ pair. Push pair.0 pair.1) pairs.items (TellsPush config.max_keys) rs old new moments
       (λ ts answers bytes rest end. all_told config 0xA3 as_done (λ pair. Push pair.0 pair.1) (λ pair. IsValid pair.1) (TellsPush config.max_keys) push_right push_refuses (λ q held. tt) pairs.items rs old new moments ts answers bytes rest end form valid among)
       (came_at caller) rest frames has (link_at caller) (link_at after) t refl h.tells answered (λ refusal never. never) in
-      subst (λ x. Tells config.max_keys (asked (Some (wanted.Pushes pairs))) (Some x) old moments new) (sym it.1) it.2
+      subst (λ x. LiveTells config.max_keys (asked (Some (wanted.Pushes pairs))) (Some x) old moments new) (sym it.1) it.2
 
   tells_if : (window : Window) (caller after : Caller) (t : Option Told) (rs : List Reply) (rest : List ℕ) (old new : States) (moments : List States) → AreHeld old → HaveFrames (requests_of window) → AreReplyFrames rs (came_at caller) rest → Each (λ p. IsValid p.1) (asked (Some window)).pushes
-      → AnswersAmong config (requests_of window) rs old moments new → CallerTells (Some (asked_in_window window)) caller after t → IsAnswered t → Tells config.max_keys (asked (Some window)) t old moments new
+      → AnswersAmong config (requests_of window) rs old moments new → CallerTells (Some (asked_in_window window)) caller after t → IsAnswered t → LiveTells config.max_keys (asked (Some window)) t old moments new
   tells_if window caller after None rs rest old new moments form has frames valid among h answered = absurd h
   tells_if window caller after (Some t) rs rest old new moments form has frames valid among h answered = window_told window caller after t rs rest old new moments form has frames valid among h answered
 
@@ -183,7 +183,7 @@ module _ (config : ConfigValue) where
 pub none_mailed : (most : ℕ) (caller : Caller) (old new : States) → caller.asked ≡ None → Grows old new → IsLiveMail most no_question caller old [] new
 none_mailed most caller old new is up after t h answered =
     let none : t ≡ None = (subst (λ x. CallerTells x caller after t) is h).0 in
-    subst (λ x. Tells most no_question x old [] new) (sym none) (refl, up)
+    subst (λ x. LiveTells most no_question x old [] new) (sym none) (refl, up)
 
 -- ---- one list of turns
 
@@ -195,12 +195,12 @@ among_since config (x ∷ qs) [] old mid new moments p q r up among = absurd amo
 among_since config (x ∷ qs) (y ∷ rs) old mid new [] p q r up among = absurd among
 among_since config (x ∷ qs) (y ∷ rs) old mid new (held ∷ later) p q r up (before, was, is, so, more) = (before, (was.0, grown_on old mid before p q was.0 up was.1), is, so, more)
 
-turns_held : (config : ConfigValue) (turns : List SiteTurn) (old new : States) → AreHeld old → AnswersAll config old turns new → AreHeld new
+turns_held : (config : ConfigValue) (turns : List SiteTurn) (old new : States) → AreHeld old → SiteAnswers config old turns new → AreHeld new
 turns_held config [] old new p answers = subst AreHeld (sym answers) p
 turns_held config (turn ∷ turns) old new p (mid, form, so, more) = turns_held config turns mid new form.0 more
 
 -- A CLIENT'S OWN TURNS are answered among those of others
-pub turns_among : (config : ConfigValue) (turns : List SiteTurn) (old new : States) → AreHeld old → AnswersAll config old turns new → (moments : List States) × AnswersAmong config (own_requests turns) (own_replies turns) old moments new
+pub turns_among : (config : ConfigValue) (turns : List SiteTurn) (old new : States) → AreHeld old → SiteAnswers config old turns new → (moments : List States) × AnswersAmong config (own_requests turns) (own_replies turns) old moments new
 turns_among config [] old new p answers = ([], subst (Grows old) (sym answers) (grows_self old p))
 turns_among config (turn ∷ turns) old new p (mid, form, so, more) =
     let rest = turns_among config turns mid new form.0 more in

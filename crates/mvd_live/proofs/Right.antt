@@ -28,7 +28,7 @@ use Rattle.mvd_peer.specs.Windows.{CannotTake, IsNode}
 use Rattle.mvd_peer.proofs.SiteSides.{node_bucket, node_inner, node_own, push_cause}
 use Rattle.mvd_sync.specs.Tellings.{Page}
 use Rattle.mvd_sync.specs.Walking.{PageQuestion}
-use Rattle.mvd_live.specs.Told.{TellsNode, TellsPage, TellsPush, TellsState}
+use Rattle.mvd_live.specs.Told.{TellsNode, PageTold, TellsPush, StateTold}
 use Rattle.mvd_world.specs.declared.steps.Step.{Step}
 use Rattle.mvd_world.specs.declared.steps.Step.TheVariants.{Ask, Receive, Send}
 use Rattle.mvd_world.specs.declared.steps.Outcome.{Outcome}
@@ -104,7 +104,7 @@ abbrev TellsPair : States → PageQuestion → Result (List (Key × List ℕ) ×
 TellsPair held q (Ok page) = (page.0 ≡ bucket_page (digests held) q.0 q.1) × (page.1 ≡ is_more_after_page (digests held) q.0 q.1)
 TellsPair held q (Err refusal) = Unit {0}
 
-page_pair : (held : States) (q : PageQuestion) (t : Result Page Refusal) → TellsPair held q (page_of_told t) → TellsPage held q t
+page_pair : (held : States) (q : PageQuestion) (t : Result Page Refusal) → TellsPair held q (page_of_told t) → PageTold held q t
 page_pair held q (Ok page) h = h
 page_pair held q (Err refusal) h = tt
 
@@ -114,10 +114,10 @@ page_so held q = elim (length q.0 == 3) as (λ b. TellsPair held q (page_in (Rep
   | false ↦ tt
 ]
 
-pub page_right : (setting : Setting) (site : ℕ) (before : Knowledge) (q : PageQuestion) (t : Result Page Refusal) (after : Knowledge) → AsksForPage setting site before q t after → RightAt setting site TellsPage before q t after
+pub page_right : (setting : Setting) (site : ℕ) (before : Knowledge) (q : PageQuestion) (t : Result Page Refusal) (after : Knowledge) → AsksForPage setting site before q t after → RightAt setting site PageTold before q t after
 page_right setting site before q t after asks =
     let held = states_of (before.known site) in
-    as_before setting site TellsPage before q t after (Ask site (Bucket q.0 q.1)) asks.0 asks.1
+    as_before setting site PageTold before q t after (Ask site (Bucket q.0 q.1)) asks.0 asks.1
     (page_pair held q t (subst (TellsPair held q) (sym asks.2) (asked_so setting before site (Bucket q.0 q.1) after (λ o. TellsPair held q (page_in o)) tt (λ refusal. tt) (λ config. page_so held q) asks.0 asks.1)))
 
 -- ---- states
@@ -131,7 +131,7 @@ sent_is before site key number index after s told at m =
     let is : m.sending ≡ sending = some_is m.sending sending (sym m.at ∙ ap₂ slice_get grown same ∙ get_last before.messages sending) in
     m.of_state ∙ ap (λ (x : SentMessage). state x.key x.writes) is ∙ sym (state-own key (before.known site)) ∙ sym (state_is key (before.known site))
 
-state_so : (setting : Setting) (before : Knowledge) (site : ℕ) (key : Key) (outcome : Outcome) (after : Knowledge) (t : Result State Refusal) → Takes setting before (Send site key) outcome after → TellsSent after.messages outcome key t → TellsState (states_of (before.known site)) key t
+state_so : (setting : Setting) (before : Knowledge) (site : ℕ) (key : Key) (outcome : Outcome) (after : Knowledge) (t : Result State Refusal) → Takes setting before (Send site key) outcome after → TellsSent after.messages outcome key t → StateTold (states_of (before.known site)) key t
 state_so setting before site key outcome after (Err refusal) takes tells = tt
 state_so setting before site key (Sent number) after (Ok s) takes tells = sent_is before site key number tells.0 after s takes tells.1 tells.2
 state_so setting before site key (Replied reply) after (Ok s) takes tells = absurd (ok_no_err s _ tells)
@@ -139,15 +139,15 @@ state_so setting before site key (Met report) after (Ok s) takes tells = absurd 
 state_so setting before site key (Failed fault) after (Ok s) takes tells = absurd takes
 state_so setting before site key NoSuch after (Ok s) takes tells = absurd takes
 
-none_told : (messages : List SentMessage) (outcome : Outcome) (held : States) (key : Key) (t : Result State Refusal) → outcome ≡ NoSuch → TellsSent messages outcome key t → TellsState held key t
+none_told : (messages : List SentMessage) (outcome : Outcome) (held : States) (key : Key) (t : Result State Refusal) → outcome ≡ NoSuch → TellsSent messages outcome key t → StateTold held key t
 none_told messages outcome held key (Err refusal) none tells = tt
 none_told messages outcome held key (Ok s) none tells = absurd (ok_no_err s _ (subst (λ o. TellsSent messages o key (Ok s)) none tells))
 
-pub state_right : (setting : Setting) (site : ℕ) (before : Knowledge) (key : Key) (t : Result State Refusal) (after : Knowledge) → AsksForState setting site before key t after → RightAt setting site TellsState before key t after
+pub state_right : (setting : Setting) (site : ℕ) (before : Knowledge) (key : Key) (t : Result State Refusal) (after : Knowledge) → AsksForState setting site before key t after → RightAt setting site StateTold before key t after
 state_right setting site before key t after asks =
     let held = states_of (before.known site) in
-    as_before setting site TellsState before key t after (Send site key) asks.0 asks.1
-    (elim (may_be (is_site setting) (length before.messages) (Send site key)) as (λ b. MatchBool b (Takes setting before (Send site key) asks.0 after) ((asks.0 ≡ NoSuch) × (after ≡ before)) → TellsState held key t) [
+    as_before setting site StateTold before key t after (Send site key) asks.0 asks.1
+    (elim (may_be (is_site setting) (length before.messages) (Send site key)) as (λ b. MatchBool b (Takes setting before (Send site key) asks.0 after) ((asks.0 ≡ NoSuch) × (after ≡ before)) → StateTold held key t) [
       | true ↦ λ takes. state_so setting before site key asks.0 after t takes asks.2
       | false ↦ λ h. none_told after.messages asks.0 held key t h.0 asks.2
     ] asks.1)

@@ -18,7 +18,7 @@ use Rattle.mvd_sync.specs.declared.asked.Window.TheVariants as wanted
 use Rattle.mvd_sync.specs.declared.telling.Told.{Told}
 use Rattle.mvd_peer.specs.Sides.{Two}
 use Rattle.mvd_live.specs.Few.{CountsSent, questions_in, sent_local, sent_peer}
-use Rattle.mvd_live.specs.Mail.{KeepsCounts, Mail, Meets, Sits, Waiting, mail_at}
+use Rattle.mvd_live.specs.Mail.{KeepsCounts, Mail, MailSteps, Sits, Waiting, mail_at}
 use Rattle.mvd_live.proofs.Mailed.{begins_of, hears_both}
 use Rattle.mvd_meet.specs.declared.stepping.Meeting.{Meeting}
 
@@ -58,7 +58,7 @@ tells_counted (Some asked) old new (Some t) h = h.questions
 -- ---- step after step
 
 module _ (most : Two ℕ ℕ) where
-  step_counted : (old new : Waiting) (mail : Mail) → Rattle.mvd_live.specs.Mail.Steps most old mail new
+  step_counted : (old new : Waiting) (mail : Mail) → Rattle.mvd_live.specs.Mail.MailStep most old mail new
       → (questions_at mail.near' ≤ questions_at mail.near + questions_in (asked new.step.local)) × (questions_at mail.far' ≤ questions_at mail.far + questions_in (asked new.step.peer))
   step_counted old new mail g =
       let s = g.steps in
@@ -71,7 +71,7 @@ module _ (most : Two ℕ ℕ) where
       let q : questions_in (asked s.asks.step.peer) ≡ questions_in (asked new.step.peer) = ap (λ (x : Step). questions_in (asked x.peer)) g.asks in
       (omega (arith, n, a, p), omega (arith, f, b, q))
 
-  all_counted : (before : Mail) (old : Waiting) (near far : ℕ) (legs : List (Mail × Waiting)) → questions_at before.near' ≤ near + questions_in (asked old.step.local) → questions_at before.far' ≤ far + questions_in (asked old.step.peer) → Meets most old legs → KeepsCounts before legs
+  all_counted : (before : Mail) (old : Waiting) (near far : ℕ) (legs : List (Mail × Waiting)) → questions_at before.near' ≤ near + questions_in (asked old.step.local) → questions_at before.far' ≤ far + questions_in (asked old.step.peer) → MailSteps most old legs → KeepsCounts before legs
       → (questions_at (mail_at before legs).near' ≤ near + sent_local old legs) × (questions_at (mail_at before legs).far' ≤ far + sent_peer old legs)
   all_counted before old near far [] n f meets keeps = (n, f)
   all_counted before old near far (leg ∷ legs) n f meets keeps =
@@ -86,7 +86,7 @@ module _ (most : Two ℕ ℕ) where
       (omega (arith, p), omega (arith, q))
 
   -- WHAT BOTH CALLERS COUNTED
-  pub counts_sent : (number : Option ℕ) (questions : ℕ) (begun : Meeting) (first : Mail) (now : Waiting) (legs : List (Mail × Waiting)) → Sits number questions begun first now → Meets most now legs → KeepsCounts first legs → CountsSent first now legs
+  pub counts_sent : (number : Option ℕ) (questions : ℕ) (begun : Meeting) (first : Mail) (now : Waiting) (legs : List (Mail × Waiting)) → Sits number questions begun first now → MailSteps most now legs → KeepsCounts first legs → CountsSent first now legs
   counts_sent number questions begun first now legs sits meets keeps =
       let s = sits.steps in
       let b = begins_of most begun.began begun s.mid first.near first.far s.near_mid s.far_mid (Ok tt) sits.fresh s.hears.0 in

@@ -27,7 +27,7 @@ use Rattle.mvd_sync.specs.declared.telling.Shares.{Shares}
 use Rattle.mvd_sync.specs.declared.telling.Told.{Told}
 use Rattle.mvd_sync.specs.declared.turn.Turn.{Turn}
 use Rattle.mvd_live.specs.Few.{asked_local, asked_peer, questions_in}
-use Rattle.mvd_live.specs.Runs.{Begins, Leg, Runs, Standing}
+use Rattle.mvd_live.specs.Runs.{StartsRun, Leg, RunsLegs, Standing}
 use Rattle.mvd_live.proofs.Whole.{hears_ok}
 
 -- ---- a window has no more pushes than are left of the turn
@@ -140,7 +140,7 @@ spent_one left left' wanted taken made b is = elim (cases_lt taken wanted) [
 
 -- ---- all windows
 
-spent_run : (most : Two ℕ ℕ) (legs : List Leg) (old new : Standing) → IsCut old.machine.stage → Runs most old legs new → (asked_local legs + new.machine.left.local ≡ old.machine.left.local) × (asked_peer legs + new.machine.left.peer ≡ old.machine.left.peer)
+spent_run : (most : Two ℕ ℕ) (legs : List Leg) (old new : Standing) → IsCut old.machine.stage → RunsLegs most old legs new → (asked_local legs + new.machine.left.local ≡ old.machine.left.local) × (asked_peer legs + new.machine.left.peer ≡ old.machine.left.peer)
 spent_run most [] old new cut run =
     let a : new.machine.left.local ≡ old.machine.left.local = λ i. (run.machine i).left.local in
     let b : new.machine.left.peer ≡ old.machine.left.peer = λ i. (run.machine i).left.peer in
@@ -161,7 +161,7 @@ spent_run most (leg ∷ legs) old new cut run =
     (omega (arith, x, k, rest.0), omega (arith, y, j, rest.1))
 
 -- WHAT IS LEFT
-pub spent_all : (number : Option ℕ) (questions : ℕ) (most : Two ℕ ℕ) (old new : Standing) (legs : List Leg) (asking : Machining) (step : Option Step) → Begins number questions old → Runs most old legs new → HasNext new.machine asking step
+pub spent_all : (number : Option ℕ) (questions : ℕ) (most : Two ℕ ℕ) (old new : Standing) (legs : List Leg) (asking : Machining) (step : Option Step) → StartsRun number questions old → RunsLegs most old legs new → HasNext new.machine asking step
     → (asked_local legs + asking.left.local ≡ questions) × (asked_peer legs + asking.left.peer ≡ questions)
 spent_all number questions most old new legs asking step begins run next =
     let all = spent_run most legs old new (subst IsCut (sym begins.starts.stage) tt) run in

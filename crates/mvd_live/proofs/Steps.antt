@@ -32,7 +32,7 @@ use Rattle.mvd_sync.specs.declared.telling.Told.{Told}
 use Rattle.mvd_sync.specs.declared.turn.Turn.{Turn}
 use Rattle.mvd_sync.proofs.Stages.{each_may}
 use Rattle.mvd_live.specs.Lives.{TellApart}
-use Rattle.mvd_live.specs.Told.{TellsState}
+use Rattle.mvd_live.specs.Told.{StateTold}
 use Rattle.mvd_live.proofs.Buckets.{PageAt, walk_told}
 use Rattle.mvd_live.proofs.Causes.{AnsweredAt, CausedAt, CausedIn, caused_found, caused_met, caused_more}
 use Rattle.mvd_live.proofs.Fates.{AtStage, Fate, Holds, IsGood, same_counts, settles, settles_counts}
@@ -50,9 +50,9 @@ short_take (suc n) [] = omega arith
 short_take (suc n) (x ∷ xs) = let rest = short_take n xs in omega (arith, rest)
 
 -- a state as it was read
-state_of_told : (moments : List States) (first last : States) (keys : List Key) (states : List State) → ForEach (λ q b. (a : State) × AtMoment moments first last (λ held. TellsState held q (Ok a)) × IsStateOf a b) keys states → ForEach (StateAt moments first last) keys states
+state_of_told : (moments : List States) (first last : States) (keys : List Key) (states : List State) → ForEach (λ q b. (a : State) × AtMoment moments first last (λ held. StateTold held q (Ok a)) × IsStateOf a b) keys states → ForEach (StateAt moments first last) keys states
 state_of_told moments first last keys states each =
-    each_may (λ (q : Key) (b : State). (a : State) × AtMoment moments first last (λ held. TellsState held q (Ok a)) × IsStateOf a b) (StateAt moments first last) (λ q b at. (at.1.0, at.1.1, at.2 ∙ at.1.2)) keys states each
+    each_may (λ (q : Key) (b : State). (a : State) × AtMoment moments first last (λ held. StateTold held q (Ok a)) × IsStateOf a b) (StateAt moments first last) (λ q b at. (at.1.0, at.1.1, at.2 ∙ at.1.2)) keys states each
 
 held_last : (f : Frame) (side : Side) → AreHeld (last_of f side)
 held_last f AtLocal = f.fa'

@@ -27,7 +27,7 @@ use Rattle.mvd_sync.specs.declared.turn.Turn.{Turn}
 use Rattle.mvd_sync.proofs.Descents.{Each-right, Each-take}
 use Rattle.mvd_sync.proofs.Keys.{Each-weaker}
 use Rattle.mvd_live.specs.Lives.{IsGiven, Lives, WasHeld}
-use Rattle.mvd_live.specs.Runs.{Begins, Goes, Leg, Runs, Standing, all_locals, all_peers}
+use Rattle.mvd_live.specs.Runs.{StartsRun, TakesLeg, Leg, RunsLegs, Standing, all_locals, all_peers}
 use Rattle.mvd_live.proofs.Fates.{AtStage, Holds, IsGood, went_good, went_holds}
 use Rattle.mvd_live.proofs.Given.{Given, GivenAt, GivenTo}
 use Rattle.mvd_live.proofs.Heard.{tells_grow}
@@ -36,7 +36,7 @@ use Rattle.mvd_live.proofs.Steps.{HeardBoth, hears_good, hears_holds}
 
 -- ---- what is held only grows
 
-pub runs_grow : (most : Two ℕ ℕ) (legs : List Leg) (old new : Standing) → AreHeld old.local → AreHeld old.peer → Runs most old legs new → (AreHeld new.local × Grows old.local new.local) × (AreHeld new.peer × Grows old.peer new.peer)
+pub runs_grow : (most : Two ℕ ℕ) (legs : List Leg) (old new : Standing) → AreHeld old.local → AreHeld old.peer → RunsLegs most old legs new → (AreHeld new.local × Grows old.local new.local) × (AreHeld new.peer × Grows old.peer new.peer)
 runs_grow most [] old new p q run = (run.local, run.peer)
 runs_grow most (leg ∷ legs) old new p q run =
     let g = run.0 in
@@ -66,7 +66,7 @@ pub record Amid (f : Frame) (now : Standing) : Type 0 where
   pub peer : AreHeld now.peer × Grows f.b now.peer × Grows now.peer f.b'
 
 module _ (f : Frame) (most : Two ℕ ℕ) (old : Standing) (leg : Leg) (at : Amid f old) (after : Amid f leg.after) (among : (held : States) → Contains leg.locals held → Contains f.locals held) (among' : (held : States) → Contains leg.peers held → Contains f.peers held)
-    (g : Goes most old leg) where
+    (g : TakesLeg most old leg) where
   answers_of : Answers
   answers_of = record { mine = leg.mine; theirs = leg.theirs }
 
@@ -111,7 +111,7 @@ module _ (f : Frame) (most : Two ℕ ℕ) (old : Standing) (leg : Leg) (at : Ami
 -- ---- all windows
 
 module _ (f : Frame) (most : Two ℕ ℕ) (new : Standing) (ends : Grows new.local f.a') (ends' : Grows new.peer f.b') where
-  amid_next : (legs : List Leg) (now : Standing) → AreHeld now.local → AreHeld now.peer → Grows f.a now.local → Grows f.b now.peer → Runs most now legs new → Amid f now
+  amid_next : (legs : List Leg) (now : Standing) → AreHeld now.local → AreHeld now.peer → Grows f.a now.local → Grows f.b now.peer → RunsLegs most now legs new → Amid f now
   amid_next legs now p q up up' run =
       let g = runs_grow most legs now new p q run in
       record {
@@ -119,19 +119,19 @@ module _ (f : Frame) (most : Two ℕ ℕ) (new : Standing) (ends : Grows new.loc
         peer = (q, up', grown_on now.peer new.peer f.b' q g.1.0 f.fb' g.1.1 ends');
       }
 
-  pub amid_leg : (old : Standing) (leg : Leg) (legs : List Leg) → Amid f old → Goes most old leg → Runs most leg.after legs new → Amid f leg.after
+  pub amid_leg : (old : Standing) (leg : Leg) (legs : List Leg) → Amid f old → TakesLeg most old leg → RunsLegs most leg.after legs new → Amid f leg.after
   amid_leg old leg legs at g run = amid_next legs leg.after g.held.0 g.held.1
       (grown_on f.a old.local leg.after.local f.fa at.local.0 g.held.0 at.local.1 (tells_grow most.local (asked leg.step.local) leg.mine old.local leg.after.local leg.locals at.local.0 g.held.0 g.local))
       (grown_on f.b old.peer leg.after.peer f.fb at.peer.0 g.held.1 at.peer.1 (tells_grow most.peer (asked leg.step.peer) leg.theirs old.peer leg.after.peer leg.peers at.peer.0 g.held.1 g.peer)) run
 
-  pub run_good : (legs : List Leg) (old : Standing) → Amid f old → Runs most old legs new → ((held : States) → Contains (all_locals legs) held → Contains f.locals held) → ((held : States) → Contains (all_peers legs) held → Contains f.peers held) → IsGood f most old.machine.stage → IsGood f most new.machine.stage
+  pub run_good : (legs : List Leg) (old : Standing) → Amid f old → RunsLegs most old legs new → ((held : States) → Contains (all_locals legs) held → Contains f.locals held) → ((held : States) → Contains (all_peers legs) held → Contains f.peers held) → IsGood f most old.machine.stage → IsGood f most new.machine.stage
   run_good [] old at run among among' good = subst (λ (m : Machining). IsGood f most m.stage) (sym run.machine) good
   run_good (leg ∷ legs) old at run among among' good =
       let after = amid_leg old leg legs at run.0 run.1 in
       run_good legs leg.after after run.1 (λ held c. among held (Contains-append_right leg.locals (all_locals legs) held c)) (λ held c. among' held (Contains-append_right leg.peers (all_peers legs) held c))
       (leg_good f most old leg at after (λ held c. among held (Contains-append_left leg.locals (all_locals legs) held c)) (λ held c. among' held (Contains-append_left leg.peers (all_peers legs) held c)) run.0 good)
 
-  pub run_holds : (legs : List Leg) (old : Standing) → Amid f old → Runs most old legs new → ((held : States) → Contains (all_locals legs) held → Contains f.locals held) → ((held : States) → Contains (all_peers legs) held → Contains f.peers held) → IsGood f most old.machine.stage
+  pub run_holds : (legs : List Leg) (old : Standing) → Amid f old → RunsLegs most old legs new → ((held : States) → Contains (all_locals legs) held → Contains f.locals held) → ((held : States) → Contains (all_peers legs) held → Contains f.peers held) → IsGood f most old.machine.stage
       → (done : List DoneKey) → Holds f most done old.machine.work old.machine.stage → (now : List DoneKey) × Holds f most now new.machine.work new.machine.stage
   run_holds [] old at run among among' good done holds = (done, subst (λ (m : Machining). Holds f most done m.work m.stage) (sym run.machine) holds)
   run_holds (leg ∷ legs) old at run among among' good done holds =
@@ -175,7 +175,7 @@ module _ (locals peers : List States) where
 
 -- ---- from the beginning
 
-module _ (number : Option ℕ) (questions : ℕ) (most : Two ℕ ℕ) (old : Standing) (legs : List Leg) (new : Standing) (begins : Begins number questions old) (run : Runs most old legs new) where
+module _ (number : Option ℕ) (questions : ℕ) (most : Two ℕ ℕ) (old : Standing) (legs : List Leg) (new : Standing) (begins : StartsRun number questions old) (run : RunsLegs most old legs new) where
   pub grown : (AreHeld new.local × Grows old.local new.local) × (AreHeld new.peer × Grows old.peer new.peer)
   grown = runs_grow most legs old new begins.local begins.peer run
 

@@ -16,8 +16,8 @@ use Rattle.mvd_sync.specs.Steps.{Wanted, asked}
 use Rattle.mvd_sync.specs.declared.telling.Told.{Told}
 use Rattle.mvd_sync.specs.declared.telling.Told.TheVariants as told
 use Rattle.mvd_live.specs.Few.{HasAllThatDiffered}
-use Rattle.mvd_live.specs.Runs.{Leg, Runs, Standing, all_locals, all_peers}
-use Rattle.mvd_live.specs.Told.{Tells, TellsEach, TellsNode, TellsNothing, TellsPage, TellsPush, TellsState}
+use Rattle.mvd_live.specs.Runs.{Leg, RunsLegs, Standing, all_locals, all_peers}
+use Rattle.mvd_live.specs.Told.{LiveTells, TellsEach, TellsNode, TellsNothing, PageTold, TellsPush, StateTold}
 use Rattle.mvd_live.proofs.Heard.{each_grows, tells_grow}
 use Rattle.mvd_live.proofs.Moments.{grown_on, none_or_some}
 use Rattle.mvd_live.proofs.Whole.{runs_grow}
@@ -81,15 +81,15 @@ nothing_between old new moments tells held c = absurd (none held (subst (λ ms. 
     none : (m : States) → Contains [] m → ⊥
     none m c = omega arith
 
-tells_between : (most : ℕ) (w : Wanted) (t : Option Told) (old new : States) (moments : List States) → AreHeld old → AreHeld new → Tells most w t old moments new → (held : States) → Contains moments held → Between old new held
+tells_between : (most : ℕ) (w : Wanted) (t : Option Told) (old new : States) (moments : List States) → AreHeld old → AreHeld new → LiveTells most w t old moments new → (held : States) → Contains moments held → Between old new held
 tells_between most w None old new moments p q tells = nothing_between old new moments tells
 tells_between most w (Some (told.Nodes given)) old new moments p q tells = each_between TellsNode w.nodes given.items old new moments p q tells
-tells_between most w (Some (told.Pages given)) old new moments p q tells = each_between TellsPage w.pages given.items old new moments p q tells
-tells_between most w (Some (told.States given)) old new moments p q tells = each_between TellsState w.gets given.items old new moments p q tells
+tells_between most w (Some (told.Pages given)) old new moments p q tells = each_between PageTold w.pages given.items old new moments p q tells
+tells_between most w (Some (told.States given)) old new moments p q tells = each_between StateTold w.gets given.items old new moments p q tells
 tells_between most w (Some (told.Pushes given)) old new moments p q tells = each_between (TellsPush most) w.pushes given.items old new moments p q tells
 tells_between most w (Some (told.Refused refusal)) old new moments p q tells = nothing_between old new moments tells
 
-locals_between : (most : Two ℕ ℕ) (legs : List Leg) (old new : Standing) → AreHeld old.local → AreHeld old.peer → Runs most old legs new → (held : States) → Contains (all_locals legs) held → Between old.local new.local held
+locals_between : (most : Two ℕ ℕ) (legs : List Leg) (old new : Standing) → AreHeld old.local → AreHeld old.peer → RunsLegs most old legs new → (held : States) → Contains (all_locals legs) held → Between old.local new.local held
 locals_between most [] old new p q run held c = absurd (omega arith)
 locals_between most (leg ∷ legs) old new p q run held c =
     let g = run.0 in
@@ -104,7 +104,7 @@ locals_between most (leg ∷ legs) old new p q run held c =
           record { form = at.form; since = grown_on old.local leg.after.local held p g.held.0 at.form up at.since; until = at.until }
     ]
 
-peers_between : (most : Two ℕ ℕ) (legs : List Leg) (old new : Standing) → AreHeld old.local → AreHeld old.peer → Runs most old legs new → (held : States) → Contains (all_peers legs) held → Between old.peer new.peer held
+peers_between : (most : Two ℕ ℕ) (legs : List Leg) (old new : Standing) → AreHeld old.local → AreHeld old.peer → RunsLegs most old legs new → (held : States) → Contains (all_peers legs) held → Between old.peer new.peer held
 peers_between most [] old new p q run held c = absurd (omega arith)
 peers_between most (leg ∷ legs) old new p q run held c =
     let g = run.0 in
@@ -120,7 +120,7 @@ peers_between most (leg ∷ legs) old new p q run held c =
     ]
 
 -- ALL KEYS THAT DIFFERED AT TWO MOMENTS differed at first, or were written to
-pub written_differ : (most : Two ℕ ℕ) (legs : List Leg) (old new : Standing) → AreHeld old.local → AreHeld old.peer → Runs most old legs new → (keys : List Key) → HasAllThatDiffer old.local old.peer keys → HasAllThatDiffer old.local new.local keys → HasAllThatDiffer old.peer new.peer keys
+pub written_differ : (most : Two ℕ ℕ) (legs : List Leg) (old new : Standing) → AreHeld old.local → AreHeld old.peer → RunsLegs most old legs new → (keys : List Key) → HasAllThatDiffer old.local old.peer keys → HasAllThatDiffer old.local new.local keys → HasAllThatDiffer old.peer new.peer keys
     → HasAllThatDiffered (all_locals legs) (all_peers legs) keys
 written_differ most legs old new p q run keys differ written written' a b here there key apart =
     let all = runs_grow most legs old new p q run in

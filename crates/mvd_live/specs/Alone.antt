@@ -35,16 +35,16 @@ abbrev pub HoldsStill : States → List States → States → Type 0
 HoldsStill old moments new = ((held : States) → Contains moments held → held ≡ old) × (new ≡ old)
 
 -- NOBODY ELSE WRITES TO A SIDE while it tells of a window
-abbrev pub IsAlone : Wanted → Option Told → States → List States → States → Type 0
-IsAlone w None = HoldsStill
-IsAlone w (Some (told.Pushes answers)) = AllPushAlone w.pushes answers.items
-IsAlone w (Some other) = HoldsStill
+abbrev pub SideAlone : Wanted → Option Told → States → List States → States → Type 0
+SideAlone w None = HoldsStill
+SideAlone w (Some (told.Pushes answers)) = AllPushAlone w.pushes answers.items
+SideAlone w (Some other) = HoldsStill
 
 -- nor to either side of a session
 abbrev pub AreAlone : Standing → List Leg → Standing → Type 0
 AreAlone old [] new = (new.local ≡ old.local) × (new.peer ≡ old.peer)
-AreAlone old (leg ∷ legs) new = IsAlone (asked leg.step.local) leg.mine old.local leg.locals leg.after.local
-    × IsAlone (asked leg.step.peer) leg.theirs old.peer leg.peers leg.after.peer × AreAlone leg.after legs new
+AreAlone old (leg ∷ legs) new = SideAlone (asked leg.step.local) leg.mine old.local leg.locals leg.after.local
+    × SideAlone (asked leg.step.peer) leg.theirs old.peer leg.peers leg.after.peer × AreAlone leg.after legs new
 
 -- ---- what comes of it
 

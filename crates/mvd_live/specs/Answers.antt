@@ -39,10 +39,10 @@ pub record SiteTurn : Type 0 where
   pub reply : Reply
 
 -- THE SITE ANSWERS all clients, turn by turn, as a faithful side does, and from turn to turn what it holds only grows
-abbrev pub AnswersAll : ConfigValue → States → List SiteTurn → States → Type 0
-AnswersAll config old [] new = new ≡ old
-AnswersAll config old (turn ∷ turns) new = (mid : States) × (AreHeld mid × Grows old mid)
-    × TrueReply config old turn.asked turn.reply mid × AnswersAll config mid turns new
+abbrev pub SiteAnswers : ConfigValue → States → List SiteTurn → States → Type 0
+SiteAnswers config old [] new = new ≡ old
+SiteAnswers config old (turn ∷ turns) new = (mid : States) × (AreHeld mid × Grows old mid)
+    × TrueReply config old turn.asked turn.reply mid × SiteAnswers config mid turns new
 
 -- what this client asked, and what it was told
 abbrev pub own_requests : List SiteTurn → List Request

@@ -13,7 +13,7 @@ use Rattle.mvd_meet.specs.declared.caller.Caller.{Caller}
 use Rattle.mvd_meet.specs.declared.stepping.Course.TheVariants as course
 use Rattle.mvd_meet.specs.declared.stepping.Meeting.{Meeting}
 use Rattle.mvd_live.specs.Runs.{Standing}
-use Rattle.mvd_live.specs.Told.{Tells}
+use Rattle.mvd_live.specs.Told.{LiveTells}
 
 -- an answer to each question, or nothing where nothing was asked; but no refusal in place of them, by which a session
 -- ends
@@ -26,7 +26,7 @@ IsAnswered (Some other) = Unit {0}
 abbrev pub IsLiveMail : ℕ → Wanted → Caller → States → List States → States → Type 0
 IsLiveMail most w caller old moments new =
     (after : Caller) (told : Option Told) → CallerTells caller.asked caller after told → IsAnswered told
-    → Tells most w told old moments new
+    → LiveTells most w told old moments new
 
 -- a session that waits for the answers to what a step asked, and what its two sides hold
 pub record Waiting : Type 0 where
@@ -59,14 +59,14 @@ pub record Sits (number : Option ℕ) (questions : ℕ) (begun : Meeting) (mail 
   pub held : AreHeld now.local × AreHeld now.peer
 
 -- a step takes what came, and asks what is next
-pub record Steps (most : Two ℕ ℕ) (old : Waiting) (mail : Mail) (new : Waiting) : Type 0 where
+pub record MailStep (most : Two ℕ ℕ) (old : Waiting) (mail : Mail) (new : Waiting) : Type 0 where
   pub began : old.meeting.began ≡ true
   pub steps : MeetingSteps old.meeting mail.near mail.far new.meeting mail.near' mail.far' course.Asks
   pub asks : steps.asks.step ≡ new.step
   pub live : AreLive most old mail new.local new.peer
 
 -- the last step takes what came, and nothing is left to ask
-pub record Ends (most : Two ℕ ℕ) (old : Waiting) (mail : Mail) (new : Standing) : Type 0 where
+pub record MailEnds (most : Two ℕ ℕ) (old : Waiting) (mail : Mail) (new : Standing) : Type 0 where
   pub meeting : Meeting
   pub began : old.meeting.began ≡ true
   pub steps : MeetingSteps old.meeting mail.near mail.far meeting mail.near' mail.far' course.Done
@@ -74,9 +74,9 @@ pub record Ends (most : Two ℕ ℕ) (old : Waiting) (mail : Mail) (new : Standi
   pub machine : new.machine ≡ meeting.machine
 
 -- A SESSION BY MAIL, step after step
-abbrev pub Meets : Two ℕ ℕ → Waiting → List (Mail × Waiting) → Type 0
-Meets most old [] = Unit {0}
-Meets most old (leg ∷ legs) = Steps most old leg.0 leg.1 × Meets most leg.1 legs
+abbrev pub MailSteps : Two ℕ ℕ → Waiting → List (Mail × Waiting) → Type 0
+MailSteps most old [] = Unit {0}
+MailSteps most old (leg ∷ legs) = MailStep most old leg.0 leg.1 × MailSteps most leg.1 legs
 
 -- how it waits after these steps
 abbrev pub waits_at : Waiting → List (Mail × Waiting) → Waiting

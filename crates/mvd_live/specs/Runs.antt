@@ -7,7 +7,7 @@ use Rattle.mvd_sync.specs.Machines.{HasNext, Machining, Starts, TakesTold}
 use Rattle.mvd_sync.specs.Steps.{asked}
 use Rattle.mvd_sync.specs.declared.asked.Step.{Step}
 use Rattle.mvd_sync.specs.declared.telling.Told.{Told}
-use Rattle.mvd_live.specs.Told.{Tells}
+use Rattle.mvd_live.specs.Told.{LiveTells}
 
 -- how far a session is, and what its two sides hold
 pub record Standing : Type 0 where
@@ -16,7 +16,7 @@ pub record Standing : Type 0 where
   pub peer : States
 
 -- a session begins, of two sides in form
-pub record Begins (number : Option ℕ) (questions : ℕ) (now : Standing) : Type 0 where
+pub record StartsRun (number : Option ℕ) (questions : ℕ) (now : Standing) : Type 0 where
   pub starts : Starts number questions now.machine
   pub local : AreHeld now.local
   pub peer : AreHeld now.peer
@@ -33,10 +33,10 @@ pub record Leg : Type 0 where
   pub after : Standing
 
 -- the machine asked that, took what was told, and goes on; both sides told as live sides do
-pub record Goes (most : Two ℕ ℕ) (old : Standing) (leg : Leg) : Type 0 where
+pub record TakesLeg (most : Two ℕ ℕ) (old : Standing) (leg : Leg) : Type 0 where
   pub next : HasNext old.machine leg.asking (Some leg.step)
-  pub local : Tells most.local (asked leg.step.local) leg.mine old.local leg.locals leg.after.local
-  pub peer : Tells most.peer (asked leg.step.peer) leg.theirs old.peer leg.peers leg.after.peer
+  pub local : LiveTells most.local (asked leg.step.local) leg.mine old.local leg.locals leg.after.local
+  pub peer : LiveTells most.peer (asked leg.step.peer) leg.theirs old.peer leg.peers leg.after.peer
   pub held : AreHeld leg.after.local × AreHeld leg.after.peer
   pub takes : TakesTold leg.asking leg.mine leg.theirs leg.after.machine (Ok tt)
 
@@ -47,9 +47,9 @@ pub record IsLater (old new : Standing) : Type 0 where
   pub peer : AreHeld new.peer × Grows old.peer new.peer
 
 -- A RUN OF A SESSION beside other writers
-abbrev pub Runs : Two ℕ ℕ → Standing → List Leg → Standing → Type 0
-Runs most old [] new = IsLater old new
-Runs most old (leg ∷ legs) new = Goes most old leg × Runs most leg.after legs new
+abbrev pub RunsLegs : Two ℕ ℕ → Standing → List Leg → Standing → Type 0
+RunsLegs most old [] new = IsLater old new
+RunsLegs most old (leg ∷ legs) new = TakesLeg most old leg × RunsLegs most leg.after legs new
 
 -- what the local side held at the moments of its answers, and what the peer did
 abbrev pub all_locals : List Leg → List States

@@ -21,13 +21,13 @@ abbrev pub TellsNode : States → List ℕ → Result Digests Refusal → Type 0
 TellsNode held path (Ok node) = IsNode (digests held) path node
 TellsNode held path (Err refusal) = Unit {0}
 
-abbrev pub TellsPage : States → PageQuestion → Result Page Refusal → Type 0
-TellsPage held q (Ok page) = HasKeys held q.0 q.1 page × TellsMore held q.0 q.1 page
-TellsPage held q (Err refusal) = Unit {0}
+abbrev pub PageTold : States → PageQuestion → Result Page Refusal → Type 0
+PageTold held q (Ok page) = HasKeys held q.0 q.1 page × TellsMore held q.0 q.1 page
+PageTold held q (Err refusal) = Unit {0}
 
-abbrev pub TellsState : States → Key → Result State Refusal → Type 0
-TellsState held key (Ok state) = state ≡ state_at held key
-TellsState held key (Err refusal) = Unit {0}
+abbrev pub StateTold : States → Key → Result State Refusal → Type 0
+StateTold held key (Ok state) = state ≡ state_at held key
+StateTold held key (Err refusal) = Unit {0}
 
 -- a state that was taken is in the state of its key from that moment on; a refusal has its cause then, at a side that
 -- takes so many keys
@@ -51,15 +51,16 @@ abbrev pub TellsNothing : States → List States → States → Type 0
 TellsNothing old moments new = (moments ≡ []) × Grows old new
 
 -- WHAT A LIVE SIDE TELLS of questions: an answer to each, or a refusal in place of them; nothing where none was asked
-abbrev pub Tells : ℕ → Wanted → Option Told → States → List States → States → Type 0
-Tells most w None = TellsNothing
-Tells most w (Some (told.Nodes answers)) = TellsEach TellsNode w.nodes answers.items
-Tells most w (Some (told.Pages answers)) = TellsEach TellsPage w.pages answers.items
-Tells most w (Some (told.States answers)) = TellsEach TellsState w.gets answers.items
-Tells most w (Some (told.Pushes answers)) = TellsEach (TellsPush most) w.pushes answers.items
-Tells most w (Some (told.Refused refusal)) = TellsNothing
+abbrev pub LiveTells : ℕ → Wanted → Option Told → States → List States → States → Type 0
+LiveTells most w None = TellsNothing
+LiveTells most w (Some (told.Nodes answers)) = TellsEach TellsNode w.nodes answers.items
+LiveTells most w (Some (told.Pages answers)) = TellsEach PageTold w.pages answers.items
+LiveTells most w (Some (told.States answers)) = TellsEach StateTold w.gets answers.items
+LiveTells most w (Some (told.Pushes answers)) = TellsEach (TellsPush most) w.pushes answers.items
+LiveTells most w (Some (told.Refused refusal)) = TellsNothing
 
 -- so a side tells that holds just this all the while
 abbrev pub TellsQuietly : ℕ → Wanted → Told → States → Type 0
 TellsQuietly most w t held =
-    (moments : List States) × Tells most w (Some t) held moments held × ((m : States) → Contains moments m → m ≡ held)
+    (moments : List States) × LiveTells most w (Some t) held moments held
+    × ((m : States) → Contains moments m → m ≡ held)

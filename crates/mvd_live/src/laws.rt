@@ -29,19 +29,19 @@ ghost use Rattle.mvd_sync.specs.declared.asked.Window.{Window};
 ghost use Rattle.mvd_sync.specs.declared.telling.Told.{Told};
 ghost use Rattle.mvd_sync.specs.declared.telling.Told.TheVariants.{Nodes, Pages, States as Gets};
 ghost use Rattle.mvd_live.specs.Alone.{AreAlone, JoinsAlone};
-ghost use Rattle.mvd_live.specs.Answers.{AnswersAll, AnswersAmong, AreReplyFrames, HaveFrames, SiteTurn};
+ghost use Rattle.mvd_live.specs.Answers.{SiteAnswers, AnswersAmong, AreReplyFrames, HaveFrames, SiteTurn};
 ghost use Rattle.mvd_live.specs.Answers.{own_replies, own_requests};
 ghost use Rattle.mvd_live.specs.Few.{AsksFew, CountsSent, HasAllThatDiffered, MailsFew, asked_local, asked_peer};
 ghost use Rattle.mvd_live.specs.Hosts.{TellsWindows, site_turns};
 ghost use Rattle.mvd_live.specs.InWindows.{EndsOver, RanInWindows};
 ghost use Rattle.mvd_live.specs.Lives.{IsGiven, Lives};
 ghost use Rattle.mvd_meet.specs.declared.stepping.Meeting.{Meeting};
-ghost use Rattle.mvd_live.specs.Mail.{Ends, IsLiveMail, KeepsCounts, Mail, Meets, Sits, Waiting};
+ghost use Rattle.mvd_live.specs.Mail.{MailEnds, IsLiveMail, KeepsCounts, Mail, MailSteps, Sits, Waiting};
 ghost use Rattle.mvd_live.specs.Mail.{mail_locals, mail_peers, standing, waits_at};
 ghost use Rattle.mvd_meet.specs.Callers.{asked_in_window, came_at, requests_of};
 ghost use Rattle.mvd_meet.specs.declared.caller.Caller.{Caller};
-ghost use Rattle.mvd_live.specs.Runs.{Begins, Goes, Leg, Runs, Standing, all_locals, all_peers};
-ghost use Rattle.mvd_live.specs.Told.{Tells, TellsEach, TellsPush, TellsQuietly};
+ghost use Rattle.mvd_live.specs.Runs.{StartsRun, TakesLeg, Leg, RunsLegs, Standing, all_locals, all_peers};
+ghost use Rattle.mvd_live.specs.Told.{LiveTells, TellsEach, TellsPush, TellsQuietly};
 ghost use Rattle.mvd_sync.specs.declared.report.Report.{Report};
 ghost use Rattle.mvd_world.specs.Machine.{Setting};
 ghost use Rattle.mvd_world.specs.OpenWorlds.{Scene};
@@ -53,7 +53,7 @@ use sqlite::Alter;
 /// it began, whatever others wrote meanwhile.
 pub fn a_session_lives()
     ensures { (number : Option ℕ) (questions : ℕ) (most : Two ℕ ℕ) (old new : Standing) (legs : List Leg)
-        (done : Machining) → Begins number questions old → Runs most old legs new → HasNext new.machine done None
+        (done : Machining) → StartsRun number questions old → RunsLegs most old legs new → HasNext new.machine done None
         → Lives most (all_locals legs) (all_peers legs) old new done.work }
 {}
 
@@ -62,18 +62,18 @@ pub fn a_session_lives()
 pub fn a_session_by_mail_lives()
     ensures lives { (number : Option ℕ) (questions : ℕ) (most : Two ℕ ℕ) (begun : Meeting) (first last : Mail)
         (now : Waiting) (new : Standing) (legs : List (Mail × Waiting)) → Sits number questions begun first now
-        → Meets most now legs → Ends most (waits_at now legs) last new
+        → MailSteps most now legs → MailEnds most (waits_at now legs) last new
         → Lives most (mail_locals legs ++ last.locals) (mail_peers legs ++ last.peers) (standing begun now) new
         new.machine.work }
     ensures given { (number : Option ℕ) (questions : ℕ) (most : Two ℕ ℕ) (begun : Meeting) (first : Mail)
-        (now : Waiting) (legs : List (Mail × Waiting)) → Sits number questions begun first now → Meets most now legs
+        (now : Waiting) (legs : List (Mail × Waiting)) → Sits number questions begun first now → MailSteps most now legs
         → IsGiven (mail_locals legs) (mail_peers legs) (waits_at now legs).step }
     ensures few { (number : Option ℕ) (questions : ℕ) (most : Two ℕ ℕ) (begun : Meeting) (first : Mail) (now : Waiting)
         (legs : List (Mail × Waiting)) (differed : List Key) → Sits number questions begun first now
-        → Meets most now legs → HasAllThatDiffered (mail_locals legs) (mail_peers legs) differed
+        → MailSteps most now legs → HasAllThatDiffered (mail_locals legs) (mail_peers legs) differed
         → MailsFew now legs differed }
     ensures counted { (number : Option ℕ) (questions : ℕ) (most : Two ℕ ℕ) (begun : Meeting) (first : Mail)
-        (now : Waiting) (legs : List (Mail × Waiting)) → Sits number questions begun first now → Meets most now legs
+        (now : Waiting) (legs : List (Mail × Waiting)) → Sits number questions begun first now → MailSteps most now legs
         → KeepsCounts first legs → CountsSent first now legs }
 {}
 
@@ -91,7 +91,7 @@ pub fn mail_of_a_site_is_live()
         → IsLiveMail most no_question caller old [] new }
     // Of one list of turns, which are all clients', this client's own are answered so.
     ensures turns { (config : ConfigValue) (turns : List SiteTurn) (old new : States) → AreHeld old
-        → AnswersAll config old turns new → (moments : List States)
+        → SiteAnswers config old turns new → (moments : List States)
         × AnswersAmong config (own_requests turns) (own_replies turns) old moments new }
 {}
 
@@ -101,7 +101,7 @@ pub fn mail_of_a_site_is_live()
 pub fn a_host_answers_many<S: Alter>()
     ensures turns { (n : ℕ) (turns : List (ℕ × Turn)) (old new : HostMoment (Held S)) → AreHeld old.site.states
         → OneList turns (side_at (state S.Store) old) (side_at (state S.Store) new)
-        → AnswersAll old.site.config old.site.states (site_turns n turns) new.site.states }
+        → SiteAnswers old.site.config old.site.states (site_turns n turns) new.site.states }
     // The bytes that were queued for a client whose frames asked windows are the frames of such answers. Want of memory
     // stands in place of a reply for which there was none.
     ensures windows { (n : ℕ) (turns : List (ℕ × Turn)) (old new : HostMoment (Held S)) (h : History)
@@ -115,7 +115,7 @@ pub fn a_host_answers_many<S: Alter>()
 /// this session.
 pub fn nothing_is_made_up()
     ensures { (number : Option ℕ) (questions : ℕ) (most : Two ℕ ℕ) (old new : Standing) (legs : List Leg)
-        (asking : Machining) (step : Step) → Begins number questions old → Runs most old legs new
+        (asking : Machining) (step : Step) → StartsRun number questions old → RunsLegs most old legs new
         → HasNext new.machine asking (Some step) → IsGiven (all_locals legs) (all_peers legs) step }
 {}
 
@@ -124,16 +124,16 @@ pub fn nothing_is_made_up()
 /// is left are all that may be asked: so a session with a budget of this bound does not end with 36 of its own.
 pub fn a_session_asks_few()
     ensures few { (number : Option ℕ) (questions : ℕ) (most : Two ℕ ℕ) (old new : Standing) (legs : List Leg)
-        (asking : Machining) (step : Option Step) (differed : List Key) → Begins number questions old
-        → Runs most old legs new → HasNext new.machine asking step
+        (asking : Machining) (step : Option Step) (differed : List Key) → StartsRun number questions old
+        → RunsLegs most old legs new → HasNext new.machine asking step
         → HasAllThatDiffered (all_locals legs) (all_peers legs) differed → AsksFew legs asking new differed }
     ensures spent { (number : Option ℕ) (questions : ℕ) (most : Two ℕ ℕ) (old new : Standing) (legs : List Leg)
-        (asking : Machining) (step : Option Step) → Begins number questions old → Runs most old legs new
+        (asking : Machining) (step : Option Step) → StartsRun number questions old → RunsLegs most old legs new
         → HasNext new.machine asking step
         → (asked_local legs + asking.left.local ≡ questions) × (asked_peer legs + asking.left.peer ≡ questions) }
     // Such a key differed as the session began, or somebody wrote to it before the end.
     ensures written { (number : Option ℕ) (questions : ℕ) (most : Two ℕ ℕ) (old new : Standing) (legs : List Leg)
-        (keys : List Key) → Begins number questions old → Runs most old legs new
+        (keys : List Key) → StartsRun number questions old → RunsLegs most old legs new
         → HasAllThatDiffer old.local old.peer keys → HasAllThatDiffer old.local new.local keys
         → HasAllThatDiffer old.peer new.peer keys → HasAllThatDiffered (all_locals legs) (all_peers legs) keys }
 {}
@@ -143,11 +143,11 @@ pub fn a_session_asks_few()
 /// few questions are asked for the keys that differed at first.
 pub fn a_session_alone_joins()
     ensures joins { (number : Option ℕ) (questions : ℕ) (most : Two ℕ ℕ) (old new : Standing) (legs : List Leg)
-        (done : Machining) → Begins number questions old → Runs most old legs new → AreAlone old legs new
+        (done : Machining) → StartsRun number questions old → RunsLegs most old legs new → AreAlone old legs new
         → HasNext new.machine done None → JoinsAlone most (all_locals legs) (all_peers legs) old new done.work }
     ensures few { (number : Option ℕ) (questions : ℕ) (most : Two ℕ ℕ) (old new : Standing) (legs : List Leg)
-        (asking : Machining) (step : Option Step) (differing : List Key) → Begins number questions old
-        → Runs most old legs new → AreAlone old legs new → HasNext new.machine asking step
+        (asking : Machining) (step : Option Step) (differing : List Key) → StartsRun number questions old
+        → RunsLegs most old legs new → AreAlone old legs new → HasNext new.machine asking step
         → HasAllThatDiffer old.local old.peer differing → AsksFew legs asking new differing }
 {}
 
@@ -157,10 +157,10 @@ pub fn a_session_alone_joins()
 /// were asked and nothing was made up.
 pub fn a_runner_runs()
     ensures begins { (number : Option ℕ) (questions : ℕ) (most : Two ℕ ℕ) (old : Standing)
-        → Begins number questions old → Runs most old [] old }
+        → StartsRun number questions old → RunsLegs most old [] old }
     ensures goes_on { (number : Option ℕ) (questions : ℕ) (most : Two ℕ ℕ) (old mid : Standing) (legs : List Leg)
-        (leg : Leg) → Begins number questions old → Runs most old legs mid → Goes most mid leg
-        → Runs most old (legs ++ leg ∷ []) leg.after }
+        (leg : Leg) → StartsRun number questions old → RunsLegs most old legs mid → TakesLeg most mid leg
+        → RunsLegs most old (legs ++ leg ∷ []) leg.after }
 {}
 
 /// A side to which nobody else writes is live, where it answers as `Peer` says of a faithful one. So the premise of
@@ -192,7 +192,7 @@ pub fn moments_follow()
         → TellsEach (TellsPush most) first told old moments mid → TellsEach (TellsPush most) second more mid later new
         → TellsEach (TellsPush most) (first ++ second) (told ++ more) old (moments ++ later) new }
     ensures rise { (most : ℕ) (w : Wanted) (told : Option Told) (old new : States) (moments : List States)
-        → Tells most w told old moments new → Rises old moments new }
+        → LiveTells most w told old moments new → Rises old moments new }
 {}
 
 /// A session of a world that went on by windows, among writers and other sessions, told no fault and left no key: it

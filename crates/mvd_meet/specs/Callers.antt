@@ -159,11 +159,11 @@ abbrev pub only_of : List (Result (Unit {0}) Refusal) → Result (Unit {0}) Refu
 only_of (answer ∷ []) = answer
 only_of answers = Err BadBody
 
-abbrev pub said_of : Option Told → Result (Unit {0}) Refusal
-said_of (Some (told.Pushes answers)) = only_of answers.items
-said_of (Some (told.Refused refusal)) = Err refusal
-said_of other = Err BadBody
+abbrev pub outcome_told : Option Told → Result (Unit {0}) Refusal
+outcome_told (Some (told.Pushes answers)) = only_of answers.items
+outcome_told (Some (told.Refused refusal)) = Err refusal
+outcome_told other = Err BadBody
 
 -- WHAT CAME OF IT is this
 abbrev pub CallerHears : Caller → Caller → Result (Unit {0}) Refusal → Type 0
-CallerHears old new result = (told : Option Told) × CallerTells old.asked old new told × (result ≡ said_of told)
+CallerHears old new result = (told : Option Told) × CallerTells old.asked old new told × (result ≡ outcome_told told)

@@ -14,19 +14,19 @@ use Rattle.mvd_sync.specs.declared.report.SyncFault.{SyncFault}
 use Rattle.mvd_sync.specs.declared.telling.Told.{Told}
 
 -- a session of a site of this number, in which nothing was asked
-pub record Opens (number questions : ℕ) (meeting : Meeting) : Type 0 where
+pub record OpensMeeting (number questions : ℕ) (meeting : Meeting) : Type 0 where
   pub machine : Starts (Some number) questions meeting.machine
   pub fresh : meeting.began ≡ false
 
 -- what was done is told
-pub record Reports (work : Exchanging) (report : Report) : Type 0 where
+pub record IsReportOf (work : Exchanging) (report : Report) : Type 0 where
   pub keys : report.keys ≡ work.keys
   pub refused : report.refused ≡ work.refused
   pub old : report.old ≡ work.older
   pub first : report.first_refused ≡ work.first_refused
 
 abbrev pub ReportsOn : Meeting → Report → Type 0
-ReportsOn meeting report = Reports meeting.machine.work report
+ReportsOn meeting report = IsReportOf meeting.machine.work report
 
 -- a side is asked a window, if there is one
 abbrev pub AsksIf : Option Window → Caller → Caller → Type 0

@@ -1,7 +1,7 @@
 //! A session of two sides that are asked by mail, step by step.
 ghost use Rattle.std.specs.Prelude.{◌≡◌, false, IfOk, Ok};
 ghost use Rattle.mvd_meet.specs.Callers.{has_all};
-ghost use Rattle.mvd_meet.specs.Meetings.{AsksBoth, AsksNext, MeetingHears, MeetingSteps, Opens, ReportsOn};
+ghost use Rattle.mvd_meet.specs.Meetings.{AsksBoth, AsksNext, MeetingHears, MeetingSteps, OpensMeeting, ReportsOn};
 
 use crate::caller::Caller;
 use mvd_sync::{MOST_QUESTIONS, Machine, Report, Step, SyncFault};
@@ -28,7 +28,7 @@ pub struct Meeting {
 impl Meeting {
     /// A session in which nothing was asked. The site that is near has this number.
     pub fn new(alloc: Global, number: u32) -> Result<Meeting, SyncFault>
-        ensures { IfOk result (Opens number MOST_QUESTIONS) }
+        ensures { IfOk result (OpensMeeting number MOST_QUESTIONS) }
     {
         let machine = Machine::new(alloc, Some(number), MOST_QUESTIONS)?;
         Ok(Meeting {

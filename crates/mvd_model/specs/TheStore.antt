@@ -110,7 +110,7 @@ pub record Promise (events : List Event) (end : Knows) : Type 0 where
   -- what a reply told as done is known at its site at the end
   pub kept : (n i : ℕ) (request : Request) (reply : Reply) → slice_get events n ≡ Some (Told i request reply)
       → (added : List Write) × Adds request reply added × ((w : Write) → Contains added w → Contains (end i).known w)
-  -- no edit is lost: a put is a sibling of its key there until the author of a known write has seen it
+  -- no edit is lost: a put is a sibling of its key there until a known write has its dot among those it saw
   pub shown : (n i : ℕ) (key : Key) (seen : DotSet) (document : Text) (dot : DotValue)
       → slice_get events n ≡ Some (put_told i key seen document dot) → contains (covered key (end i).known) dot ≡ false
       → get (siblings key (end i).known) dot ≡ Some document

@@ -61,7 +61,7 @@ StopsServing rest left (AtRefusal refusal) =
     ⊎ (((refusal ≡ TooManyRequests) × (left ≡ Some rest)) ⊎ (frame_at rest ≡ Err refusal)))
 StopsServing rest left AtWriter = left ≡ Some rest
 
--- as many frames of a connection are answered
+-- the most frames of a connection that are answered
 abbrev pub frames_most : ℕ
 frames_most = 1000000
 

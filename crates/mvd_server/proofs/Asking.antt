@@ -2,7 +2,7 @@
 use Rattle.std.proofs.Common.{◌≡◌, subst, sym}
 use Rattle.mvd_replica.specs.declared.replica.Replica.{Replica}
 use Rattle.mvd_server.proofs.Rounds.{goes_answers, goes_carries, goes_deeds, goes_in, goes_none, goes_on, goes_round}
-use Rattle.mvd_server.specs.Rounds.{AnswersClients, GoesOn, HasRound}
+use Rattle.mvd_server.specs.Rounds.{AnswersClients, GoesOnServing, HasRound}
 use Rattle.mvd_server.specs.Talking.{TalksDeeds, talking_of}
 use Rattle.mvd_server.specs.Wires.{Carries, Wired, wired_of}
 use Rattle.mvd_server.specs.declared.sockets.Sockets.{Ghosts as SocketGhosts}
@@ -11,26 +11,26 @@ use Rattle.sqlite_trees.specs.declared.store.Store.{Ghosts}
 
 module _ {S : Type 0} {g : Ghosts S} {K : Type 0} (k : SocketGhosts K) where
   -- nobody is
-  pub asked_none : (t listed : Talks) (s : K) (replica : Replica S g) → listed ≡ t → GoesOn k (wired_of t s) replica (wired_of listed s) replica
-  asked_none t listed s replica same = subst (λ (x : Talks). GoesOn k (wired_of t s) replica (wired_of x s) replica) (sym same) (goes_none k (wired_of t s) replica)
+  pub asked_none : (t listed : Talks) (s : K) (replica : Replica S g) → listed ≡ t → GoesOnServing k (wired_of t s) replica (wired_of listed s) replica
+  asked_none t listed s replica same = subst (λ (x : Talks). GoesOnServing k (wired_of t s) replica (wired_of x s) replica) (sym same) (goes_none k (wired_of t s) replica)
 
   -- those who ask are listed, answered, and told
   pub asked_first : (t listed asked told : Talks) (s s' : K) (old new : Replica S g) → listed ≡ t → HasRound (talking_of listed) (talking_of asked) old new → Carries k (wired_of asked s) (wired_of told s')
-      → GoesOn k (wired_of t s) old (wired_of told s') new
+      → GoesOnServing k (wired_of t s) old (wired_of told s') new
   asked_first t listed asked told s s' old new same round sends =
-      subst (λ (x : Talks). GoesOn k (wired_of x s) old (wired_of told s') new) same
+      subst (λ (x : Talks). GoesOnServing k (wired_of x s) old (wired_of told s') new) same
       (goes_on k (wired_of listed s) (wired_of asked s) (wired_of told s') old new new (goes_round k (talking_of listed) (talking_of asked) s old new round) (goes_carries k (wired_of asked s) (wired_of told s') new sends))
 
   -- a pass up to its commit: what came is taken in, and who asks is answered
-  pub passes_in : (t mid t' a asked : Talks) (s s' s'' : K) (old now : Replica S g) → mid ≡ t → Carries k (wired_of mid s) (wired_of t' s') → TalksDeeds t' a → GoesOn k (wired_of a s') old (wired_of asked s'') now
-      → GoesOn k (wired_of t s) old (wired_of asked s'') now
+  pub passes_in : (t mid t' a asked : Talks) (s s' s'' : K) (old now : Replica S g) → mid ≡ t → Carries k (wired_of mid s) (wired_of t' s') → TalksDeeds t' a → GoesOnServing k (wired_of a s') old (wired_of asked s'') now
+      → GoesOnServing k (wired_of t s) old (wired_of asked s'') now
   passes_in t mid t' a asked s s' s'' old now same takes does asks =
       goes_on k (wired_of t s) (wired_of t' s') (wired_of asked s'') old old now (goes_in k t mid t' s s' old same takes)
       (goes_on k (wired_of t' s') (wired_of a s') (wired_of asked s'') old old now (goes_deeds k (talking_of t') (talking_of a) s' old does) asks)
 
   -- then all are answered, and what waits is given out
-  pub passes_out : (w : Wired K) (asked answered woken last : Talks) (s s' : K) (old now new : Replica S g) → GoesOn k w old (wired_of asked s) now → AnswersClients asked now answered new → TalksDeeds answered woken
-      → Carries k (wired_of woken s) (wired_of last s') → GoesOn k w old (wired_of last s') new
+  pub passes_out : (w : Wired K) (asked answered woken last : Talks) (s s' : K) (old now new : Replica S g) → GoesOnServing k w old (wired_of asked s) now → AnswersClients asked now answered new → TalksDeeds answered woken
+      → Carries k (wired_of woken s) (wired_of last s') → GoesOnServing k w old (wired_of last s') new
   passes_out w asked answered woken last s s' old now new before answers wakes gives =
       goes_on k w (wired_of asked s) (wired_of last s') old now new before
       (goes_on k (wired_of asked s) (wired_of answered s) (wired_of last s') now new new (goes_answers k asked answered s now new answers)

@@ -17,8 +17,8 @@ use Rattle.mvd_server.specs.Handed.{HandsBatch, TakenFrom}
 use Rattle.mvd_server.specs.HostBytes.{TakesBytes, sent_of}
 use Rattle.mvd_server.specs.OwnSides.{DismissesIf, DismissesOwn}
 use Rattle.mvd_server.specs.Responding.{RefusesWeb}
-use Rattle.mvd_server.specs.Talking.{Act, Attends, Begins, Calls, Comes, ComesBy, ComesByWeb, Deed, Deeds, Does, GoesOwn, Hands, IsWriting, KeepsBatch, LacksMemory, MayBegin, MayCall, OpensWeb, TalksDeeds, Talking, TurnsBack, is_own, talking_of, web_in, with_host, with_web}
-use Rattle.mvd_server.specs.Wires.{Carries, GivesOut, TakesIn, Wired, WiredStep}
+use Rattle.mvd_server.specs.Talking.{Act, Attends, Begins, Calls, Comes, ComesBy, ComesByWeb, Deed, Deeds, DoesAct, GoesOwn, Hands, IsWriting, KeepsBatch, LacksMemory, MayBegin, MayCall, OpensWeb, TalksDeeds, Talking, TurnsBack, is_own_client, talking_of, web_in, with_host, with_web}
+use Rattle.mvd_server.specs.Wires.{Carries, GivesOut, TakesInput, Wired, WiredStep}
 use Rattle.mvd_server.specs.declared.batch.Batch.{Batch}
 use Rattle.mvd_server.specs.declared.talks.Kind.TheVariants.{Http}
 use Rattle.mvd_server.specs.declared.talks.Talks.{Talks}
@@ -39,7 +39,7 @@ deeds_same old new same = path_same Deed old new same
 pub deeds_on : (old mid new : Talking) → Deeds old mid → Deeds mid new → Deeds old new
 deeds_on old mid new p q = path_on Deed old mid new p q
 
-pub deeds_one : (act : Act) (old new : Talking) → Does act old new → Deeds old new
+pub deeds_one : (act : Act) (old new : Talking) → DoesAct act old new → Deeds old new
 deeds_one act old new does = path_one Deed old new (act, does)
 
 -- a call on one connection of the host
@@ -53,13 +53,13 @@ pub deed_cuts : (n : ℕ) (old : Talking) (host : HostValue) → host ≡ altere
 deed_cuts n old host is = deed_call n Cuts old host tt is
 
 -- bytes are fed to a connection of the server's own
-pub deed_feeds : (n : ℕ) (bytes : List ℕ) (old : Talking) (host : HostValue) → is_own old n ≡ true → TakesBytes old.host n bytes host → Deeds old (with_host old host)
+pub deed_feeds : (n : ℕ) (bytes : List ℕ) (old : Talking) (host : HostValue) → is_own_client old n ≡ true → TakesBytes old.host n bytes host → Deeds old (with_host old host)
 deed_feeds n bytes old host made (inl is) = deed_call n (Feeds bytes) old host made is
 deed_feeds n bytes old host made (inr is) =
     let mid = altered old.host n released in
     deeds_on old (with_host old mid) (with_host old host) (deed_call n Releases old mid tt refl) (deed_call n (Closes (source.Failed Memory)) (with_host old mid) host tt is)
 
-pub deed_sends : (n count : ℕ) (old : Talking) (host : HostValue) → is_own old n ≡ true → host ≡ sent_of old.host n count → Deeds old (with_host old host)
+pub deed_sends : (n count : ℕ) (old : Talking) (host : HostValue) → is_own_client old n ≡ true → host ≡ sent_of old.host n count → Deeds old (with_host old host)
 deed_sends n count old host made is = deed_call n (Sends count) old host made is
 
 -- an errand for a client over HTTP
@@ -107,7 +107,7 @@ no_batch None has is none = refl
 no_batch (Some batch) has is none = absurd (true≢false (sym is ∙ none))
 
 -- bytes are fed to one of the server's own, or not
-pub deeds_own : (n : ℕ) (bytes : List ℕ) (old : Talking) (host : HostValue) → is_own old n ≡ true → (host ≡ old.host) ⊎ TakesBytes old.host n bytes host → Deeds old (with_host old host)
+pub deeds_own : (n : ℕ) (bytes : List ℕ) (old : Talking) (host : HostValue) → is_own_client old n ≡ true → (host ≡ old.host) ⊎ TakesBytes old.host n bytes host → Deeds old (with_host old host)
 deeds_own n bytes old host own (inl same) = deeds_same old (with_host old host) (ap (with_host old) same)
 deeds_own n bytes old host own (inr takes) = deed_feeds n bytes old host own takes
 
@@ -166,7 +166,7 @@ pub unturned : (old : Talking) (host : HostValue) (entries : List (ℕ × WebCon
 unturned old host entries is p = subst (λ e. Deeds old (record old { host = host; webs = e })) (sym is) p
 
 -- one of frames, as it is told
-pub comes_told : (old : Talking) (o : Option ℕ) (host : HostValue) → Admits old.guard old.host o host → IfSome o (λ n. Does (Comes n) old (with_host old host))
+pub comes_told : (old : Talking) (o : Option ℕ) (host : HostValue) → Admits old.guard old.host o host → IfSome o (λ n. DoesAct (Comes n) old (with_host old host))
 comes_told old None host none = tt
 comes_told old (Some n) host one = (one, refl)
 
@@ -176,7 +176,7 @@ goes_if true n old mid goes = deeds_one (GoesOwn n) (talking_of old) (talking_of
 goes_if false n old mid same = deeds_same (talking_of old) (talking_of mid) (ap talking_of same)
 
 pub own_goes : (n : ℕ) (old mid new : Talks) → DismissesOwn old n mid → new ≡ mid → TalksDeeds old new
-own_goes n old mid new goes same = subst (λ (t : Talks). TalksDeeds old t) (sym same) (goes_if (is_own (talking_of old) n) n old mid goes)
+own_goes n old mid new goes same = subst (λ (t : Talks). TalksDeeds old t) (sym same) (goes_if (is_own_client (talking_of old) n) n old mid goes)
 
 module _ {K : Type 0} (k : Ghosts K) where
   -- deeds while no socket moves
@@ -193,7 +193,7 @@ module _ {K : Type 0} (k : Ghosts K) where
   carries_on old mid new p q = path_on (WiredStep k) old mid new p q
 
   -- bytes came
-  pub carries_in : (n : ℕ) (bytes : List ℕ) (old new : Talking) (sockets sockets' : K) → k.gave sockets n bytes sockets' → TakesIn n bytes old new → Carries k (record { talking = old; sockets = sockets }) (record { talking = new; sockets = sockets' })
+  pub carries_in : (n : ℕ) (bytes : List ℕ) (old new : Talking) (sockets sockets' : K) → k.gave sockets n bytes sockets' → TakesInput n bytes old new → Carries k (record { talking = old; sockets = sockets }) (record { talking = new; sockets = sockets' })
   carries_in n bytes old new sockets sockets' gives takes = path_one (WiredStep k) _ _ (inr (inl (n, bytes, gives, takes)))
 
   -- bytes left

@@ -15,12 +15,12 @@ use Rattle.mvd_http.specs.declared.question.Question.{Question}
 use Rattle.mvd_http.specs.declared.question.Question.TheVariants.{Page, Root, Metrics, Ask, Live, Changes, Many, TooManyLines, Nowhere, NotAllowed}
 use Rattle.mvd_server.specs.Admitted.{AsksSite}
 use Rattle.mvd_server.specs.Batches.{BeginsBatch}
-use Rattle.mvd_server.specs.Errands.{Asks, AsksNext, AsksOne, Desk, DoesPlan, Errand, Forgoes, IsBatchFor, RunsErrand, Stops, Tells, TellsBatch, TellsChange, TellsMany}
+use Rattle.mvd_server.specs.Errands.{Asks, AsksNextOf, AsksOne, Desk, DoesPlan, Errand, Forgoes, IsBatchFor, RunsErrand, Stops, Tells, TellsBatch, TellsChange, TellsMany}
 use Rattle.mvd_server.specs.Fronts.{IsFrontReply, TakesFront}
 use Rattle.mvd_server.specs.Handed.{HandsBatch, HandsFrom, HandsPiece, HandsWhole, Handing, IsUnwanted, TakenFrom, handing}
 use Rattle.mvd_server.specs.HostBytes.{TakesBytes, sent_of}
 use Rattle.mvd_server.specs.Lines.{IsOnlyTold, TellsEach}
-use Rattle.mvd_server.specs.Paths.{IsPath, Path}
+use Rattle.mvd_server.specs.Paths.{IsWay, Path}
 use Rattle.mvd_server.specs.Plans.{IsPlanOf, plain_answer}
 use Rattle.mvd_server.specs.declared.batch.Batch.{Batch}
 use Rattle.mvd_server.specs.declared.gate.Plan.{Plan}
@@ -57,7 +57,7 @@ calls_bytes n bytes old new (inr is) =
     let mid = altered old n released in
     path_on (CallsOne n) old mid new (calls_one n Releases old mid refl) (calls_one n (Closes (Failed Memory)) mid new is)
 
-calls_pieces : (n : ℕ) (frames : List ℕ) (old new : Handing) (mids : List Handing) → IsPath (HandsPiece n frames) old mids new → HostCalls n old.host new.host
+calls_pieces : (n : ℕ) (frames : List ℕ) (old new : Handing) (mids : List Handing) → IsWay (HandsPiece n frames) old mids new → HostCalls n old.host new.host
 calls_pieces n frames old new [] same = path_same (CallsOne n) old.host new.host (ap (λ (h : Handing). h.host) same)
 calls_pieces n frames old new (mid ∷ mids) ((low, high, takes), more) = path_on (CallsOne n) old.host mid.host new.host (calls_bytes n _ old.host mid.host takes) (calls_pieces n frames mid new mids more)
 
@@ -73,7 +73,7 @@ calls_sends n old new (count, is) = calls_one n (Sends count) old new is
 calls_taken : (n : ℕ) (old new : HostValue) → TakenFrom n old new → HostCalls n old new
 calls_taken n old new p = record { mids = p.mids; steps = on old new p.mids p.steps }
   where
-    on : (old new : HostValue) (mids : List HostValue) → IsPath (λ a b. (count : ℕ) × (b ≡ sent_of a n count)) old mids new → IsPath (CallsOne n) old mids new
+    on : (old new : HostValue) (mids : List HostValue) → IsWay (λ a b. (count : ℕ) × (b ≡ sent_of a n count)) old mids new → IsWay (CallsOne n) old mids new
     on old new [] same = same
     on old new (mid ∷ mids) ((count, is), more) = ((Sends count, is), on mid new mids more)
 
@@ -133,13 +133,13 @@ batch_left guard n (plan.Told answer body) asked old host new host' batch kept p
 batch_left guard n plan.NotAdmitted asked old host new host' batch kept plans (told, responds) = let left = told.1 in absurd (let no : ⊥ = cc in no)
 batch_left guard n (plan.Refused refusal) asked old host new host' batch kept plans (told, refuses) = let left = told.1 in absurd (let no : ⊥ = cc in no)
 
-pub batch_of : (guard : Option Guard) (n : ℕ) (old : WebValue) (host : HostValue) (new : WebValue) (host' : HostValue) (batch : Batch) → AsksNext guard n old host new host' (rest.Writes batch) → IsBatchFor new.asked batch
+pub batch_of : (guard : Option Guard) (n : ℕ) (old : WebValue) (host : HostValue) (new : WebValue) (host' : HostValue) (batch : Batch) → AsksNextOf guard n old host new host' (rest.Writes batch) → IsBatchFor new.asked batch
 batch_of guard n old host new host' batch (inl (told, none)) = let left = told.1 in absurd (let no : ⊥ = cc in no)
 batch_of guard n old host new host' batch (inr one) = batch_left guard n one.plan one.asked one.mid host new host' batch one.kept one.decides.asks one.does
 
 -- ---- a request is taken, or none is
 
-pub asks_none : (guard : Option Guard) (n : ℕ) (old new : WebValue) (host : HostValue) (took : Bool) → TakesRequest old took new → took ≡ false → AsksNext guard n old host new host rest.Nothing
+pub asks_none : (guard : Option Guard) (n : ℕ) (old new : WebValue) (host : HostValue) (took : Bool) → TakesRequest old took new → took ≡ false → AsksNextOf guard n old host new host rest.Nothing
 asks_none guard n old new host took takes is = inl ((refl, refl), subst (λ b. TakesRequest old b new) is takes)
 
 -- its frame is handed on

@@ -10,7 +10,7 @@ use Rattle.std.specs.Ordering.{is_eq, match_ordering, nat_cmp}
 use Rattle.std.specs.declared.cmp.Ordering.{Ordering}
 use Rattle.std.specs.declared.cmp.Ordering.TheVariants.{Less, Equal, Greater}
 use Rattle.mvd_host.proofs.Hosts.{at_is}
-use Rattle.mvd_server.specs.Talking.{without}
+use Rattle.mvd_server.specs.Talking.{left_without}
 
 module _ {X : Type 0} where
   abbrev pub found_at : ℕ → List (ℕ × X) → Option X
@@ -120,6 +120,6 @@ any_last n own =
 pub any_more : (q : ℕ) (own more : List ℕ) → list_any (λ x. x == q) own ≡ true → list_any (λ x. x == q) (own ++ more) ≡ true
 any_more q own more is = list_any-append (λ x. x == q) own more ∙ ap (λ b. b || list_any (λ x. x == q) more) is
 
-pub any_without : (n q : ℕ) (own : List ℕ) → (q == n) ≡ false → list_any (λ x. x == q) own ≡ true → list_any (λ x. x == q) (without n own) ≡ true
+pub any_without : (n q : ℕ) (own : List ℕ) → (q == n) ≡ false → list_any (λ x. x == q) own ≡ true → list_any (λ x. x == q) (left_without n own) ≡ true
 any_without n q own apart is =
     any-filter_same (λ x. x == q) (λ x. not (x == n)) true (λ k at. grind (arith, nat_tests, at, apart)) own ∙ is

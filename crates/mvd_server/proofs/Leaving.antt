@@ -6,7 +6,7 @@ use Rattle.mvd_host.specs.Hosts.{ClientLeaves, HostValue, IsClient, client_of}
 use Rattle.mvd_server.proofs.Deeds.{deeds_on, deeds_one}
 use Rattle.mvd_server.proofs.Keyed.{found_new}
 use Rattle.mvd_server.specs.OwnSides.{DismissesIf}
-use Rattle.mvd_server.specs.Talking.{ComesByWeb, Deeds, Does, GoesAtOnce, GoesOwn, IsSpent, MayGo, Talking, TurnsBack, talking_of, web_in, with_host}
+use Rattle.mvd_server.specs.Talking.{ComesByWeb, Deeds, DoesAct, GoesAtOnce, GoesOwn, IsSpent, MayGo, Talking, TurnsBack, talking_of, web_in, with_host}
 use Rattle.mvd_server.specs.declared.talks.Kind.TheVariants.{Frames, Http}
 use Rattle.mvd_server.specs.declared.talks.Talks.{Talks}
 use Rattle.mvd_web.specs.Inside.{web_of}
@@ -19,7 +19,7 @@ pub own_stays : (own : Bool) (n : ℕ) (old new : Talks) → own ≡ false → n
 own_stays true n old new is same = absurd (true≢false is)
 own_stays false n old new is same = same
 
-pub own_leaves : (own : Bool) (n : ℕ) (old new : Talks) → own ≡ true → Does (GoesOwn n) (talking_of old) (talking_of new) → DismissesIf own old n new
+pub own_leaves : (own : Bool) (n : ℕ) (old new : Talks) → own ≡ true → DoesAct (GoesOwn n) (talking_of old) (talking_of new) → DismissesIf own old n new
 own_leaves true n old new is goes = goes
 own_leaves false n old new is goes = absurd (true≢false (sym is))
 
@@ -40,7 +40,7 @@ pub back_frames : (n : ℕ) (old : Talking) (host : HostValue) → ClientLeaves 
 back_frames n old host leaves before (one, same) =
     deeds_one (TurnsBack n old.host) before (with_host old host) (before.guard, one, leaves, ap (λ (t : Talking). with_host t host) same)
 
-fresh_goes : (n : ℕ) (web : WebConnection) (before old : Talking) → Does (ComesByWeb n web) before old → MayGo n old
+fresh_goes : (n : ℕ) (web : WebConnection) (before old : Talking) → DoesAct (ComesByWeb n web) before old → MayGo n old
 fresh_goes n web before old (one, fresh, same) =
     let has : web_in old n ≡ Some web = ap (λ (t : Talking). web_in t n) same ∙ found_new n web before.webs in
     subst (λ o. IsSpent o (client_of old.host n)) (sym has)

@@ -10,9 +10,9 @@ use Rattle.mvd_conn.specs.declared.guard.Guard.{Guard}
 use Rattle.mvd_server.proofs.Errands.{CallsOne, calls_batch, calls_errand}
 use Rattle.mvd_server.proofs.Keyed.{has_set}
 use Rattle.mvd_server.specs.HostBytes.{TakesBytes, waits_of}
-use Rattle.mvd_server.specs.Paths.{IsPath}
-use Rattle.mvd_server.specs.Talking.{Attends, Begins, Calls, Comes, ComesByWeb, ComesOwn, Deed, Goes, GoesOwn, Hands, IsMadeFor, IsSpent, Talking, TurnsBack, is_own, web_in}
-use Rattle.mvd_server.specs.Wires.{GivesOut, SendsBy, TakesBy, TakesIn}
+use Rattle.mvd_server.specs.Paths.{IsWay}
+use Rattle.mvd_server.specs.Talking.{Attends, Begins, Calls, Comes, ComesByWeb, ComesOwn, Deed, Goes, GoesOwn, Hands, IsMadeFor, IsSpent, Talking, TurnsBack, is_own_client, web_in}
+use Rattle.mvd_server.specs.Wires.{GivesOut, SendsBy, TakesBy, TakesInput}
 use Rattle.mvd_web.specs.declared.web_connection.WebConnection.{WebConnection}
 
 -- ---- who stays
@@ -33,7 +33,7 @@ here_altered host m n f here = on (client_of host m)
     on None = here
     on (Some x) = has_set m n (f x) host.clients here
 
-here_calls : (m n : ℕ) (old new : HostValue) (mids : List HostValue) → IsPath (CallsOne m) old mids new → Here old n → Here new n
+here_calls : (m n : ℕ) (old new : HostValue) (mids : List HostValue) → IsWay (CallsOne m) old mids new → Here old n → Here new n
 here_calls m n old new [] same here = here_same old new n same here
 here_calls m n old new (mid ∷ mids) ((call, is), more) here = here_calls m n mid new mids more (here_same (altered old m (after_call call)) mid n is (here_altered old m n (after_call call) here))
 
@@ -87,7 +87,7 @@ module _ (old new : Talking) (n : ℕ) (h : History) (found : client_of old.host
       parts_spent old n h found (web_in old n) refl (subst (λ i. IsSpent (web_in old i) (client_of old.host i)) (sym is) does.0)
   parts_deed given (GoesOwn m, does) =
       let is : n ≡ m = gone_is old.host new.host m n does.1 here gone in
-      inr (inr (subst (λ i. is_own old i ≡ true) (sym is) does.0))
+      inr (inr (subst (λ i. is_own_client old i ≡ true) (sym is) does.0))
   parts_deed given (Calls m call, does) = never (here_same (altered old.host m (after_call call)) new.host n (ap (λ (t : Talking). t.host) does.1) (here_altered old.host m n (after_call call) here))
   parts_deed given (Attends m web web' errand, does) =
       let p = calls_errand errand old.guard m _ _ does.1 in
@@ -101,7 +101,7 @@ module _ (old new : Talking) (n : ℕ) (h : History) (found : client_of old.host
   parts_by None m bytes (apart, takes, same) = never (here_bytes m n bytes old.host new.host takes here)
   parts_by (Some web) m bytes (web', feeds, same) = never (here_same old.host new.host n (ap (λ (t : Talking). t.host) same) here)
 
-  pub parts_in : (m : ℕ) (bytes : List ℕ) → TakesIn m bytes old new → Parts old n h
+  pub parts_in : (m : ℕ) (bytes : List ℕ) → TakesInput m bytes old new → Parts old n h
   parts_in m bytes (inl takes) = parts_by (web_in old m) m bytes takes
   parts_in m bytes (inr (same, none)) = never (here_same old.host new.host n (ap (λ (t : Talking). t.host) same) here)
 

@@ -1,6 +1,6 @@
 -- Steps one after the other, and what they come to.
 use Rattle.std.proofs.Common.{◌≡◌, List, [], ◌∷◌, ◌++◌, map, ap, refl, sym, subst}
-use Rattle.mvd_server.specs.Paths.{IsPath, Path}
+use Rattle.mvd_server.specs.Paths.{IsWay, Path}
 
 module _ {W : Type 0} (step : W → W → Type 0) where
   pub path_none : (w : W) → Path step w w
@@ -12,8 +12,8 @@ module _ {W : Type 0} (step : W → W → Type 0) where
   pub path_one : (old new : W) → step old new → Path step old new
   path_one old new one = record { mids = new ∷ []; steps = (one, refl) }
 
-  is_path_on : (old mid new : W) (xs ys : List W) → IsPath step old xs mid → IsPath step mid ys new → IsPath step old (xs ++ ys) new
-  is_path_on old mid new [] ys same more = subst (λ w. IsPath step w ys new) same more
+  is_path_on : (old mid new : W) (xs ys : List W) → IsWay step old xs mid → IsWay step mid ys new → IsWay step old (xs ++ ys) new
+  is_path_on old mid new [] ys same more = subst (λ w. IsWay step w ys new) same more
   is_path_on old mid new (x ∷ xs) ys (one, first) more = (one, is_path_on x mid new xs ys first more)
 
   pub path_on : (old mid new : W) → Path step old mid → Path step mid new → Path step old new
@@ -26,7 +26,7 @@ module _ {W : Type 0} (step : W → W → Type 0) where
   path_from old mid new same p = subst (λ w. Path step w new) same p
 
 module _ {V W : Type 0} (step : V → V → Type 0) (step' : W → W → Type 0) (f : V → W) (each : (a b : V) → step a b → step' (f a) (f b)) where
-  is_path_map : (old new : V) (xs : List V) → IsPath step old xs new → IsPath step' (f old) (map f xs) (f new)
+  is_path_map : (old new : V) (xs : List V) → IsWay step old xs new → IsWay step' (f old) (map f xs) (f new)
   is_path_map old new [] same = ap f same
   is_path_map old new (x ∷ xs) (one, more) = (each old x one, is_path_map x new xs more)
 

@@ -2,7 +2,7 @@
 use Rattle.std.proofs.Common.{◌≡◌, ◌≤◌, ◌<◌, ◌+◌, ◌∷◌, [], ◌++◌, ◌∙◌, ℕ, List, Option, Some, arith, ap, get_or, length, set, sym}
 use Rattle.std.proofs.lemmas.List.Sums.{sum_by-set, sum_by_push}
 use Rattle.mvd_server.specs.Peerings.{SwapsPlaces, TakesNoPlace, count_if, has_place, places_of, running}
-use Rattle.mvd_server.specs.OwnSides.{IsFresh}
+use Rattle.mvd_server.specs.OwnSides.{IsFreshSession}
 use Rattle.mvd_server.specs.declared.own_session.OwnSession.{OwnSession}
 use Rattle.mvd_server.specs.declared.peering.Peering.{Peering}
 
@@ -37,7 +37,7 @@ pub place_swaps : (old : Option OwnSession) (a b : OwnSession) (free free' : ℕ
 place_swaps old a b free free' is swaps = let same : count_if (has_place old) ≡ count_if a.runs = ap (λ (o : Option OwnSession). count_if (has_place o)) is in omega (arith, same, swaps)
 
 -- a session that begins has none
-pub fresh_place : (number : ℕ) (old new : Peering) (s : OwnSession) → IsFresh number s → new.session ≡ Some s → TakesNoPlace old new
+pub fresh_place : (number : ℕ) (old new : Peering) (s : OwnSession) → IsFreshSession number s → new.session ≡ Some s → TakesNoPlace old new
 fresh_place number old new s fresh is =
     let none : places_of new ≡ 0 = ap (λ (o : Option OwnSession). count_if (has_place o)) is ∙ ap count_if fresh.waits in
     omega (arith, none)

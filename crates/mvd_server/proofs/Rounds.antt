@@ -21,10 +21,10 @@ use Rattle.mvd_server.proofs.Showing.{AreGuarded, guarded_deed, guarded_in, guar
 use Rattle.mvd_server.specs.Guarded.{IsGuardOf}
 use Rattle.mvd_server.specs.Closing.{EndsServed, IsDeserted}
 use Rattle.mvd_server.specs.HostBytes.{TakesBytes, sent_of, waits_of}
-use Rattle.mvd_server.specs.Paths.{IsPath}
-use Rattle.mvd_server.specs.Rounds.{AnswersClients, BeginsServing, GoesOn, HasRound, IsServed, ServeStep, Serving, ServingStep, WasMadeFor, WasThere, World, begun, host_in, moment_of, world_of}
+use Rattle.mvd_server.specs.Paths.{IsWay}
+use Rattle.mvd_server.specs.Rounds.{AnswersClients, BeginsServing, GoesOnServing, HasRound, IsServed, ServeStep, Serving, ServingStep, WasMadeFor, WasThere, World, begun, host_in, moment_of, world_of}
 use Rattle.mvd_server.specs.Talking.{Attends, Begins, Calls, Comes, ComesByWeb, ComesOwn, Deed, Deeds, Goes, GoesOwn, Hands, IsMadeFor, TalksDeeds, Talking, TurnsBack, new_talking, talking_of, web_in, with_host}
-use Rattle.mvd_server.specs.Wires.{Carries, GivesOut, SendsBy, TakesBy, TakesIn, Wired, WiredStep, wired_of}
+use Rattle.mvd_server.specs.Wires.{Carries, GivesOut, SendsBy, TakesBy, TakesInput, Wired, WiredStep, wired_of}
 use Rattle.mvd_server.specs.declared.sockets.Sockets.{Ghosts as SocketGhosts}
 use Rattle.mvd_server.specs.declared.talks.Talks.{Talks}
 use Rattle.mvd_site.specs.Sites.{SiteValue}
@@ -74,7 +74,7 @@ module _ {C : Type 0} (f : C → State) (site : SiteValue) (conn : C) where
   of_none : (old new : HostValue) → new ≡ old → Calm f (moment old) (moment new)
   of_none old new same = record { all = []; runs = tt; ends = ap moment (sym same); none = refl }
 
-  of_path : (n : ℕ) (old new : HostValue) (mids : List HostValue) → IsPath (CallsOne n) old mids new → Calm f (moment old) (moment new)
+  of_path : (n : ℕ) (old new : HostValue) (mids : List HostValue) → IsWay (CallsOne n) old mids new → Calm f (moment old) (moment new)
   of_path n old new [] same = of_none old new same
   of_path n old new (mid ∷ mids) ((call, is), more) =
       let rest = subst (λ (h : HostValue). Calm f (moment h) (moment new)) is (of_path n mid new mids more) in
@@ -103,7 +103,7 @@ module _ {C : Type 0} (f : C → State) (site : SiteValue) (conn : C) where
   of_by None n bytes old new (apart, takes, same) = of_bytes n bytes old.host new.host takes
   of_by (Some web) n bytes old new (web', feeds, same) = of_none old.host new.host (ap (λ (t : Talking). t.host) same)
 
-  of_in : (n : ℕ) (bytes : List ℕ) (old new : Talking) → TakesIn n bytes old new → Calm f (moment old.host) (moment new.host)
+  of_in : (n : ℕ) (bytes : List ℕ) (old new : Talking) → TakesInput n bytes old new → Calm f (moment old.host) (moment new.host)
   of_in n bytes old new (inl takes) = of_by (web_in old n) n bytes old new takes
   of_in n bytes old new (inr (same, none)) = of_none old.host new.host (ap (λ (t : Talking). t.host) same)
 
@@ -139,7 +139,7 @@ module _ {K C : Type 0} (f : C → State) (k : SocketGhosts K) where
       }
   of_step old new (inr r) = record { all = Rounds r.ready r.turns (moment_of new) ∷ []; runs = (r.round, tt); ends = refl }
 
-  of_steps : (old new : World K C) (mids : List (World K C)) → IsPath (ServeStep f k) old mids new → Happened f (moment_of old) (moment_of new)
+  of_steps : (old new : World K C) (mids : List (World K C)) → IsWay (ServeStep f k) old mids new → Happened f (moment_of old) (moment_of new)
   of_steps old new [] same = record { all = []; runs = tt; ends = ap moment_of (sym same) }
   of_steps old new (mid ∷ mids) (one, more) = happened_on f (moment_of old) (moment_of mid) (moment_of new) (of_step old mid one) (of_steps mid new mids more)
 
@@ -245,7 +245,7 @@ module _ {K C : Type 0} (f : C → State) (k : SocketGhosts K) where
               (shows_each turns old s n);
         }
 
-    shows_steps : (turns : List (ℕ × Turn)) (old new : World K C) (mids : List (World K C)) (steps : IsPath (ServeStep f k) old mids new) → ((n : ℕ) → WasMadeFor n mids → Made n)
+    shows_steps : (turns : List (ℕ × Turn)) (old new : World K C) (mids : List (World K C)) (steps : IsWay (ServeStep f k) old mids new) → ((n : ℕ) → WasMadeFor n mids → Made n)
         → ((n : ℕ) (own : List Turn) → WasThere n (TellsOwn own) mids → Told n own) → ((n : ℕ) → WasThere n (λ h. is_done h ≡ true) mids → Done n) → Shows guard start Made Told Done turns old
         → Shows guard start Made Told Done (turns ++ turns_in (of_steps old new mids steps).all) new
     unfolding of_steps happened_on of_step
@@ -270,7 +270,7 @@ none_shown (Some guard) = tt
 
 module _ {S : Type 0} {g : Ghosts S} {K : Type 0} (k : SocketGhosts K) where
   pub served : (token : Option (List ℕ)) (guard : Option Guard) (last : Talking) (sockets : K) (old : Replica S g) (sockets' : K) (new : Replica S g) → IsGuardOf token guard
-      → GoesOn k (begun guard sockets) old (record { talking = last; sockets = sockets' }) new → IsServed k token sockets old sockets' new
+      → GoesOnServing k (begun guard sockets) old (record { talking = last; sockets = sockets' }) new → IsServed k token sockets old sockets' new
   served token guard last sockets old sockets' new guarded p =
       let start = moment_of (world_of (begun guard sockets) old) in
       let h = of_steps (state g) k (world_of (begun guard sockets) old) (world_of (record { talking = last; sockets = sockets' }) new) p.mids p.steps in
@@ -304,21 +304,21 @@ module _ {S : Type 0} {g : Ghosts S} {K : Type 0} (k : SocketGhosts K) where
         parted = shows.parted;
       }
 
-  pub goes_none : (wired : Wired K) (replica : Replica S g) → GoesOn k wired replica wired replica
+  pub goes_none : (wired : Wired K) (replica : Replica S g) → GoesOnServing k wired replica wired replica
   goes_none wired replica = path_none _ _
 
-  pub goes_on : (wired mid wired' : Wired K) (old now new : Replica S g) → GoesOn k wired old mid now → GoesOn k mid now wired' new → GoesOn k wired old wired' new
+  pub goes_on : (wired mid wired' : Wired K) (old now new : Replica S g) → GoesOnServing k wired old mid now → GoesOnServing k mid now wired' new → GoesOnServing k wired old wired' new
   goes_on wired mid wired' old now new p q = path_on _ _ (world_of mid now) _ p q
 
-  pub goes_carries : (wired wired' : Wired K) (replica : Replica S g) → Carries k wired wired' → GoesOn k wired replica wired' replica
+  pub goes_carries : (wired wired' : Wired K) (replica : Replica S g) → Carries k wired wired' → GoesOnServing k wired replica wired' replica
   goes_carries wired wired' replica p =
       path_map (WiredStep k) (ServeStep (state g) k) (λ w. record { wired = w; site = site_of replica; conn = conn_of replica })
       (λ a b one. inl (record { wired = one; site = refl; conn = refl })) wired wired' p
 
-  pub goes_deeds : (old new : Talking) (sockets : K) (replica : Replica S g) → Deeds old new → GoesOn k (record { talking = old; sockets = sockets }) replica (record { talking = new; sockets = sockets }) replica
+  pub goes_deeds : (old new : Talking) (sockets : K) (replica : Replica S g) → Deeds old new → GoesOnServing k (record { talking = old; sockets = sockets }) replica (record { talking = new; sockets = sockets }) replica
   goes_deeds old new sockets replica p = goes_carries (record { talking = old; sockets = sockets }) (record { talking = new; sockets = sockets }) replica (carries_deeds k old new sockets sockets refl p)
 
-  pub goes_round : (old new : Talking) (sockets : K) (replica replica' : Replica S g) → HasRound old new replica replica' → GoesOn k (record { talking = old; sockets = sockets }) replica (record { talking = new; sockets = sockets }) replica'
+  pub goes_round : (old new : Talking) (sockets : K) (replica replica' : Replica S g) → HasRound old new replica replica' → GoesOnServing k (record { talking = old; sockets = sockets }) replica (record { talking = new; sockets = sockets }) replica'
   goes_round old new sockets replica replica' r =
       let at : Talking → Wired K = λ t. record { talking = t; sockets = sockets } in
       let after = with_host r.before r.host in
@@ -326,19 +326,19 @@ module _ {S : Type 0} {g : Ghosts S} {K : Type 0} (k : SocketGhosts K) where
       (path_on _ _ (world_of (at after) replica') _ (path_one _ _ _ (inr (record { ready = r.ready; turns = r.turns; round = r.round; wired = refl }))) (goes_deeds after new sockets replica' r.last))
 
   -- rounds, and deeds between them
-  answers_one : (old new : Serving (Replica S g)) (sockets : K) → ServingStep old new → GoesOn k (record { talking = old.talking; sockets = sockets }) old.replica (record { talking = new.talking; sockets = sockets }) new.replica
+  answers_one : (old new : Serving (Replica S g)) (sockets : K) → ServingStep old new → GoesOnServing k (record { talking = old.talking; sockets = sockets }) old.replica (record { talking = new.talking; sockets = sockets }) new.replica
   answers_one old new sockets (inl round) = goes_round old.talking new.talking sockets old.replica new.replica round
   answers_one old new sockets (inr (deeds, same)) =
-      subst (λ (r : Replica S g). GoesOn k (record { talking = old.talking; sockets = sockets }) old.replica (record { talking = new.talking; sockets = sockets }) r) (sym same)
+      subst (λ (r : Replica S g). GoesOnServing k (record { talking = old.talking; sockets = sockets }) old.replica (record { talking = new.talking; sockets = sockets }) r) (sym same)
       (goes_deeds old.talking new.talking sockets old.replica deeds)
 
-  answers_on : (old new : Serving (Replica S g)) (sockets : K) (mids : List (Serving (Replica S g))) → IsPath ServingStep old mids new → GoesOn k (record { talking = old.talking; sockets = sockets }) old.replica (record { talking = new.talking; sockets = sockets }) new.replica
-  answers_on old new sockets [] same = subst (λ (s : Serving (Replica S g)). GoesOn k (record { talking = old.talking; sockets = sockets }) old.replica (record { talking = s.talking; sockets = sockets }) s.replica) (sym same) (goes_none (record { talking = old.talking; sockets = sockets }) old.replica)
+  answers_on : (old new : Serving (Replica S g)) (sockets : K) (mids : List (Serving (Replica S g))) → IsWay ServingStep old mids new → GoesOnServing k (record { talking = old.talking; sockets = sockets }) old.replica (record { talking = new.talking; sockets = sockets }) new.replica
+  answers_on old new sockets [] same = subst (λ (s : Serving (Replica S g)). GoesOnServing k (record { talking = old.talking; sockets = sockets }) old.replica (record { talking = s.talking; sockets = sockets }) s.replica) (sym same) (goes_none (record { talking = old.talking; sockets = sockets }) old.replica)
   answers_on old new sockets (mid ∷ mids) (one, more) =
       goes_on (record { talking = old.talking; sockets = sockets }) (record { talking = mid.talking; sockets = sockets }) (record { talking = new.talking; sockets = sockets }) old.replica mid.replica new.replica
       (answers_one old mid sockets one) (answers_on mid new sockets mids more)
 
-  pub goes_answers : (old new : Talks) (sockets : K) (replica replica' : Replica S g) → AnswersClients old replica new replica' → GoesOn k (wired_of old sockets) replica (wired_of new sockets) replica'
+  pub goes_answers : (old new : Talks) (sockets : K) (replica replica' : Replica S g) → AnswersClients old replica new replica' → GoesOnServing k (wired_of old sockets) replica (wired_of new sockets) replica'
   goes_answers old new sockets replica replica' p = answers_on (record { talking = talking_of old; replica = replica }) (record { talking = talking_of new; replica = replica' }) sockets p.mids p.steps
 
   -- a guard of a token, of which there is one
@@ -349,20 +349,20 @@ module _ {S : Type 0} {g : Ghosts S} {K : Type 0} (k : SocketGhosts K) where
       served (Some token) (Some guard) (new_talking (Some guard)) sockets replica sockets replica refl (goes_none (begun (Some guard) sockets) replica)
 
   pub served_from : (token : Option (List ℕ)) (first last : Talks) (sockets : K) (old : Replica S g) (sockets' : K) (new : Replica S g) → BeginsServing token first
-      → GoesOn k (wired_of first sockets) old (wired_of last sockets') new → IsServed k token sockets old sockets' new
+      → GoesOnServing k (wired_of first sockets) old (wired_of last sockets') new → IsServed k token sockets old sockets' new
   served_from token first last sockets old sockets' new (guard, guarded, is) p =
-      served token guard (talking_of last) sockets old sockets' new guarded (subst (λ (t : Talking). GoesOn k (record { talking = t; sockets = sockets }) old (wired_of last sockets') new) is p)
+      served token guard (talking_of last) sockets old sockets' new guarded (subst (λ (t : Talking). GoesOnServing k (record { talking = t; sockets = sockets }) old (wired_of last sockets') new) is p)
 
   -- and at the end nobody is left but its own
   pub left_from : (token : Option (List ℕ)) (first last : Talks) (sockets : K) (old : Replica S g) (sockets' : K) (new : Replica S g) → BeginsServing token first
-      → GoesOn k (wired_of first sockets) old (wired_of last sockets') new → IsDeserted (talking_of last) → EndsServed k token sockets old sockets' new
+      → GoesOnServing k (wired_of first sockets) old (wired_of last sockets') new → IsDeserted (talking_of last) → EndsServed k token sockets old sockets' new
   unfolding served_from served
   left_from token first last sockets old sockets' new (guard, guarded, is) p left = (served_from token first last sockets old sockets' new (guard, guarded, is) p, left)
 
   -- ---- one after the other
 
   -- what comes is taken in; then deeds, rounds and deeds
-  pub goes_in : (t mid t' : Talks) (s s' : K) (replica : Replica S g) → mid ≡ t → Carries k (wired_of mid s) (wired_of t' s') → GoesOn k (wired_of t s) replica (wired_of t' s') replica
+  pub goes_in : (t mid t' : Talks) (s s' : K) (replica : Replica S g) → mid ≡ t → Carries k (wired_of mid s) (wired_of t' s') → GoesOnServing k (wired_of t s) replica (wired_of t' s') replica
   goes_in t mid t' s s' replica same p = goes_carries (wired_of t s) (wired_of t' s') replica (subst (λ (x : Talks). Carries k (wired_of x s) (wired_of t' s')) same p)
 
 module _ {S : Type 0} {g : Ghosts S} where

@@ -18,9 +18,9 @@ use Rattle.mvd_replica.specs.Turns.{Turn}
 use Rattle.mvd_server.proofs.Errands.{CallsOne, calls_batch, calls_errand}
 use Rattle.mvd_server.proofs.Keyed.{Has, any_last, any_more, any_without, each_set, has_insert, has_new, has_set, remove_other}
 use Rattle.mvd_server.specs.HostBytes.{TakesBytes, waits_of}
-use Rattle.mvd_server.specs.Paths.{IsPath}
-use Rattle.mvd_server.specs.Talking.{Attends, Begins, Calls, Comes, ComesByWeb, ComesOwn, Deed, Goes, GoesOwn, Hands, IsMadeFor, Talking, TurnsBack, new_talking, web_in, with_host, with_web, without}
-use Rattle.mvd_server.specs.Wires.{GivesOut, SendsBy, TakesBy, TakesIn}
+use Rattle.mvd_server.specs.Paths.{IsWay}
+use Rattle.mvd_server.specs.Talking.{Attends, Begins, Calls, Comes, ComesByWeb, ComesOwn, Deed, Goes, GoesOwn, Hands, IsMadeFor, Talking, TurnsBack, new_talking, web_in, with_host, with_web, left_without}
+use Rattle.mvd_server.specs.Wires.{GivesOut, SendsBy, TakesBy, TakesInput}
 use Rattle.mvd_web.specs.declared.web_connection.WebConnection.{WebConnection}
 
 -- each client has the guard, or its frames are made by the server
@@ -70,7 +70,7 @@ altered_by t n f same (Some x) at each = each_set n t.host.clients (f x) x (λ q
 pub guarded_altered : (t : Talking) (n : ℕ) (f : History → History) → ((h : History) → (f h).guard ≡ h.guard) → AreGuarded t → AreGuarded (with_host t (altered t.host n f))
 guarded_altered t n f same each = altered_by t n f same (client_of t.host n) refl each
 
-guarded_calls : (t : Talking) (n : ℕ) (host : HostValue) (mids : List HostValue) → IsPath (CallsOne n) t.host mids host → AreGuarded t → AreGuarded (with_host t host)
+guarded_calls : (t : Talking) (n : ℕ) (host : HostValue) (mids : List HostValue) → IsWay (CallsOne n) t.host mids host → AreGuarded t → AreGuarded (with_host t host)
 guarded_calls t n host [] same each = subst (λ (x : HostValue). AreGuarded (with_host t x)) (sym same) each
 guarded_calls t n host (mid ∷ mids) ((call, is), more) each =
     guarded_calls (with_host t mid) n host mids more (subst (λ (x : HostValue). AreGuarded (with_host t x)) (sym is) (guarded_altered t n (after_call call) (call_guard call) each))
@@ -126,9 +126,9 @@ guarded_deed old new (Goes n, does) each = to (record old { host = new.host; web
     on q h apart (inl is) = inl is
     on q h apart (inr (inl (web, has))) = inr (inl (web, remove_other n q apart old.webs ∙ has))
     on q h apart (inr (inr is)) = inr (inr is)
-guarded_deed old new (GoesOwn n, does) each = to (record old { host = new.host; own = without n old.own }) new does.2 (λ q h found. let at = stayed old.host new.host n q h does.1 found in on q h at.0 (each q h at.1))
+guarded_deed old new (GoesOwn n, does) each = to (record old { host = new.host; own = left_without n old.own }) new does.2 (λ q h found. let at = stayed old.host new.host n q h does.1 found in on q h at.0 (each q h at.1))
   where
-    on : (q : ℕ) (h : History) → (q == n) ≡ false → (h.guard ≡ old.guard) ⊎ IsMadeFor old q → (h.guard ≡ old.guard) ⊎ IsMadeFor (record old { host = new.host; own = without n old.own }) q
+    on : (q : ℕ) (h : History) → (q == n) ≡ false → (h.guard ≡ old.guard) ⊎ IsMadeFor old q → (h.guard ≡ old.guard) ⊎ IsMadeFor (record old { host = new.host; own = left_without n old.own }) q
     on q h apart (inl is) = inl is
     on q h apart (inr (inl has)) = inr (inl has)
     on q h apart (inr (inr is)) = inr (inr (any_without n q old.own apart is))
@@ -154,7 +154,7 @@ guarded_by : (web : Option WebConnection) (n : ℕ) (bytes : List ℕ) (old new 
 guarded_by None n bytes old new (apart, takes, same) each = to (with_host old new.host) new same (guarded_bytes n bytes old new.host takes each)
 guarded_by (Some web) n bytes old new (web', feeds, same) each = to (with_web old n web') new same (guarded_web old n web' each)
 
-pub guarded_in : (n : ℕ) (bytes : List ℕ) (old new : Talking) → TakesIn n bytes old new → AreGuarded old → AreGuarded new
+pub guarded_in : (n : ℕ) (bytes : List ℕ) (old new : Talking) → TakesInput n bytes old new → AreGuarded old → AreGuarded new
 guarded_in n bytes old new (inl takes) each = guarded_by (web_in old n) n bytes old new takes each
 guarded_in n bytes old new (inr (same, none)) each = to old new same each
 
@@ -198,7 +198,7 @@ kept_by : (web : Option WebConnection) (n : ℕ) (bytes : List ℕ) (old new : T
 kept_by None n bytes old new (apart, takes, same) = kept old new _ refl same
 kept_by (Some web) n bytes old new (web', feeds, same) = kept old new _ refl same
 
-pub kept_in : (n : ℕ) (bytes : List ℕ) (old new : Talking) → TakesIn n bytes old new → new.guard ≡ old.guard
+pub kept_in : (n : ℕ) (bytes : List ℕ) (old new : Talking) → TakesInput n bytes old new → new.guard ≡ old.guard
 kept_in n bytes old new (inl takes) = kept_by (web_in old n) n bytes old new takes
 kept_in n bytes old new (inr (same, none)) = kept old new old refl same
 

@@ -2,7 +2,7 @@
 use Rattle.std.proofs.Common.{◌≡◌, ◌≤◌, ◌⊎◌, ◌∙◌, ℕ, false, is_some, true≢false, List, [], Option, None, Some, inl, inr, length, take, refl, sym, subst, ap}
 use Rattle.std.proofs.lemmas.List.{length-take-le}
 use Rattle.mvd_host.specs.Hosts.{client_of}
-use Rattle.mvd_server.specs.Moves.{ReadsOnce, TakesOne}
+use Rattle.mvd_server.specs.Moves.{ReadsOnce, MovesOne}
 use Rattle.mvd_server.specs.declared.client.Moved.{Moved}
 use Rattle.mvd_server.specs.declared.client.Moved.TheVariants.{Bytes, Nothing, End, Failed}
 use Rattle.mvd_wire.specs.Replies.{reply_bytes}
@@ -10,7 +10,7 @@ use Rattle.mvd_wire.specs.declared.reply.Reply.TheVariants.{Refused}
 use Rattle.mvd_dots.specs.declared.refusals.Refusal.TheVariants.{TooManyRequests}
 use Rattle.mvd_conn.specs.History.{History}
 use Rattle.mvd_server.specs.Talking.{Talking, web_in}
-use Rattle.mvd_server.specs.Wires.{Carries, FeedsBy, FeedsTo, GivesOut, IsNoClient, IsNoPlace, MayFeed, MayFeedBy, SendsOf, TakesBy, TakesIn, TellsNoPlace, Wired, no_place_web, waits_for}
+use Rattle.mvd_server.specs.Wires.{Carries, FeedsBy, FeedsTo, GivesOut, IsNoClient, IsNoPlace, MayFeed, MayFeedBy, SendsOf, TakesBy, TakesInput, TellsNoPlace, Wired, no_place_web, waits_for}
 use Rattle.mvd_server.specs.declared.sockets.Sockets.{Ghosts}
 use Rattle.mvd_server.proofs.Deeds.{carries_deeds, carries_in, carries_out, deeds_none}
 use Rattle.mvd_web.specs.declared.web_connection.WebConnection.{WebConnection}
@@ -20,7 +20,7 @@ takes_by None n bytes old new (apart, wants) (feeds, same) = (apart, feeds wants
 takes_by (Some web) n bytes old new may feeds = feeds
 
 -- what came of a client of which more is wanted is fed to it
-pub takes_in : (n : ℕ) (bytes : List ℕ) (old new : Talking) → MayFeed n old → FeedsTo n bytes old new → TakesIn n bytes old new
+pub takes_in : (n : ℕ) (bytes : List ℕ) (old new : Talking) → MayFeed n old → FeedsTo n bytes old new → TakesInput n bytes old new
 takes_in n bytes old new may feeds = inl (takes_by (web_in old n) n bytes old new may feeds)
 
 -- so many bytes left
@@ -73,12 +73,12 @@ module _ {K : Type 0} (k : Ghosts K) where
   is_told count bytes within (inl is) = inl (front count bytes within ∙ ap (λ (b : List ℕ). take (length (take count bytes)) b) is)
   is_told count bytes within (inr is) = inr (front count bytes within ∙ ap (λ (b : List ℕ). take (length (take count bytes)) b) is)
 
-  tells : (n : ℕ) (moved : Moved) (bytes : List ℕ) (sockets sockets' : K) → IsText bytes → TakesOne k.took n moved bytes sockets sockets' → TellsNoPlace k.took n sockets sockets'
+  tells : (n : ℕ) (moved : Moved) (bytes : List ℕ) (sockets sockets' : K) → IsText bytes → MovesOne k.took n moved bytes sockets sockets' → TellsNoPlace k.took n sockets sockets'
   tells n (Bytes count) bytes sockets sockets' text (within, takes) = inr (take count bytes, takes, is_told count bytes within text)
   tells n Nothing bytes sockets sockets' text same = inl same
   tells n End bytes sockets sockets' text takes = inr ([], takes, inl refl)
   tells n Failed bytes sockets sockets' text same = inl same
 
-  pub away_unless : (n : ℕ) (moved : Moved) (bytes : List ℕ) (t : Talking) (sockets sockets' : K) → is_some (client_of t.host n) ≡ false → IsText bytes → TakesOne k.took n moved bytes sockets sockets'
+  pub away_unless : (n : ℕ) (moved : Moved) (bytes : List ℕ) (t : Talking) (sockets sockets' : K) → is_some (client_of t.host n) ≡ false → IsText bytes → MovesOne k.took n moved bytes sockets sockets'
       → Carries k (at t sockets) (at t sockets')
   away_unless n moved bytes t sockets sockets' gone text takes = carries_away n t sockets sockets' (no_client t n gone) (tells n moved bytes sockets sockets' text takes)

@@ -37,8 +37,8 @@ pub record Decides (guard : Option Guard) (asked : Asked) (p : Plan) : Type 0 wh
   pub out : is_welcome guard asked ≡ false → KeepsOut asked p
 
 -- the host is asked nothing, and nothing is left to do
-abbrev pub IsTold : HostValue → HostValue → Rest → Type 0
-IsTold old new left = (new ≡ old) × (left ≡ rest.Nothing)
+abbrev pub IsToldRest : HostValue → HostValue → Rest → Type 0
+IsToldRest old new left = (new ≡ old) × (left ≡ rest.Nothing)
 
 -- what changed is told, or the request waits for that
 abbrev pub TellsOrWaits : Option (List ℕ) → ℕ → WebValue → WebValue → Rest → Type 0
@@ -52,13 +52,13 @@ DoesPlan n (plan.Frame frame) old host new host' left =
     HandsWhole n frame.items host host' × (new ≡ old) × (left ≡ rest.Nothing)
 DoesPlan n (plan.Writes batch) old host new host' left = (host' ≡ host) × (new ≡ old) × (left ≡ rest.Writes batch)
 DoesPlan n (plan.Changes since wait) old host new host' left = (host' ≡ host) × TellsOrWaits since wait old new left
-DoesPlan n plan.Root old host new host' left = IsTold host host' left × TellsBody content.Json old new
-DoesPlan n plan.Metrics old host new host' left = IsTold host host' left × TellsBody content.Plain old new
+DoesPlan n plan.Root old host new host' left = IsToldRest host host' left × TellsBody content.Json old new
+DoesPlan n plan.Metrics old host new host' left = IsToldRest host host' left × TellsBody content.Plain old new
 DoesPlan n (plan.Told answer body) old host new host' left =
-    IsTold host host' left × RespondsTo old.asked old answer body.now new
+    IsToldRest host host' left × RespondsTo old.asked old answer body.now new
 DoesPlan n plan.NotAdmitted old host new host' left =
-    IsTold host host' left × RespondsTo old.asked old token_answer not_admitted new
-DoesPlan n (plan.Refused refusal) old host new host' left = IsTold host host' left × RefusesWeb refusal old new
+    IsToldRest host host' left × RespondsTo old.asked old token_answer not_admitted new
+DoesPlan n (plan.Refused refusal) old host new host' left = IsToldRest host host' left × RefusesWeb refusal old new
 
 -- ONE REQUEST is taken of what came, and that is done about it which may be
 pub record AsksOne (guard : Option Guard) (n : ℕ) (old : WebValue) (host : HostValue) (new : WebValue)
@@ -73,9 +73,9 @@ pub record AsksOne (guard : Option Guard) (n : ℕ) (old : WebValue) (host : Hos
   pub does : DoesPlan n plan mid host new host' left
 
 -- or there is none
-abbrev pub AsksNext : Option Guard → ℕ → WebValue → HostValue → WebValue → HostValue → Rest → Type 0
-AsksNext guard n old host new host' left =
-    (IsTold host host' left × TakesRequest old false new) ⊎ AsksOne guard n old host new host' left
+abbrev pub AsksNextOf : Option Guard → ℕ → WebValue → HostValue → WebValue → HostValue → Rest → Type 0
+AsksNextOf guard n old host new host' left =
+    (IsToldRest host host' left × TakesRequest old false new) ⊎ AsksOne guard n old host new host' left
 
 -- ---- many writes
 
@@ -86,23 +86,24 @@ IsBatchFor (Some asked) batch =
     (writes : List (Result Request Refusal)) × (asked.question ≡ Ok (Many writes)) × BeginsBatch writes batch
 
 -- replies are taken, and once there is a line for each, these are told
-abbrev pub TellsLines : Result Bool Refusal → WebValue → Batch → WebValue → Type 0
-TellsLines (Ok true) old batch new = (length batch.refused.items ≤ batch.told)
+abbrev pub TellsAllLines : Result Bool Refusal → WebValue → Batch → WebValue → Type 0
+TellsAllLines (Ok true) old batch new = (length batch.refused.items ≤ batch.told)
     × RespondsTo old.asked old (plain_answer 200 content.Lines) (string_bytes batch.lines) new
-TellsLines (Ok false) old batch new = new ≡ old
-TellsLines (Err refusal) old batch new = new ≡ stopped_by old refusal
+TellsAllLines (Ok false) old batch new = new ≡ old
+TellsAllLines (Err refusal) old batch new = new ≡ stopped_by old refusal
 
 -- the line of each is of the reply to it, and nothing else of the writes changes
 abbrev pub TellsBatch : ℕ → WebValue → Batch → HostValue → WebValue → Batch → HostValue → Type 0
 TellsBatch n old batch host new batch' host' =
     IsOnlyTold batch batch' × TakenFrom n host host'
-    × ((told : Result Bool Refusal) × OnOk told (TellsEach n batch host batch' host') × TellsLines told old batch' new)
+    × ((told : Result Bool Refusal)
+        × OnOk told (TellsEach n batch host batch' host') × TellsAllLines told old batch' new)
 
 -- ---- responses
 
 -- the next reply of the host is told, if there is one
-abbrev pub TellsReply : ℕ → WebValue → HostValue → WebValue → HostValue → Type 0
-TellsReply n old host new host' =
+abbrev pub TellsClient : ℕ → WebValue → HostValue → WebValue → HostValue → Type 0
+TellsClient n old host new host' =
     ((host' ≡ host) × (new ≡ old))
     ⊎ ((reply : Result Reply Refusal) × TakesFront n host (Some reply) host' × AnswersWeb old.asked reply old new)
 
@@ -137,11 +138,11 @@ pub data Errand : Type 0 where
 
 abbrev pub RunsErrand : Errand → Option Guard → ℕ → Desk → Desk → Type 0
 RunsErrand (Asks left) guard n old new =
-    AsksNext guard n old.web old.host new.web new.host left × (new.batches ≡ old.batches)
+    AsksNextOf guard n old.web old.host new.web new.host left × (new.batches ≡ old.batches)
 RunsErrand (Forgoes batch) guard n old new =
     (IsBatchFor old.web.asked batch × (batch_in old.batches n ≡ None))
     × RefusesWeb Memory old.web new.web × (new ≡ record old { web = new.web })
-RunsErrand Tells guard n old new = TellsReply n old.web old.host new.web new.host × (new.batches ≡ old.batches)
+RunsErrand Tells guard n old new = TellsClient n old.web old.host new.web new.host × (new.batches ≡ old.batches)
 RunsErrand (TellsMany batch batch') guard n old new =
     (batch_in old.batches n ≡ Some batch) × TellsBatch n old.web batch old.host new.web batch' new.host
     × ((new.batches ≡ set_value (is_at (nat_cmp n)) old.batches batch')

@@ -23,11 +23,11 @@ module _ {K : Type 0} (moves : K → ℕ → List ℕ → K → Type 0) (n : ℕ
   GivesOne Failed buffer old new = new ≡ old
 
   -- the first of these bytes left, or none
-  abbrev pub TakesOne : Moved → List ℕ → K → K → Type 0
-  TakesOne (Bytes count) bytes old new = (count ≤ length bytes) × moves old n (take count bytes) new
-  TakesOne Nothing bytes old new = new ≡ old
-  TakesOne End bytes old new = moves old n [] new
-  TakesOne Failed bytes old new = new ≡ old
+  abbrev pub MovesOne : Moved → List ℕ → K → K → Type 0
+  MovesOne (Bytes count) bytes old new = (count ≤ length bytes) × moves old n (take count bytes) new
+  MovesOne Nothing bytes old new = new ≡ old
+  MovesOne End bytes old new = moves old n [] new
+  MovesOne Failed bytes old new = new ≡ old
 
   -- at most one read was made
   abbrev pub ReadsOnce : K → K → Type 0

@@ -21,14 +21,14 @@ pub record MovesBytes (old new : Caller) : Type 0 where
   pub asked : asked_of_caller new ≡ asked_of_caller old
 
 -- THE TOKEN IS SHOWN, if there is one, and nothing else is said before
-abbrev pub ShowsToken : Option (List ℕ) → PeerLink → PeerLink → Type 0
-ShowsToken None old new = (new.far ≡ old.far) × (new.stage ≡ stage.Rests)
-ShowsToken (Some token) old new = CallerSays (Hello token) old.far new.far × (new.stage ≡ stage.Greets)
+abbrev pub SendsToken : Option (List ℕ) → PeerLink → PeerLink → Type 0
+SendsToken None old new = (new.far ≡ old.far) × (new.stage ≡ stage.Rests)
+SendsToken (Some token) old new = CallerSays (Hello token) old.far new.far × (new.stage ≡ stage.Greets)
 
 -- so once it is connected
 abbrev pub ShowsIf : Bool → Option (List ℕ) → PeerLink → PeerLink → Type 0
 ShowsIf false token old new = new ≡ old
-ShowsIf true token old new = ShowsToken token old new
+ShowsIf true token old new = SendsToken token old new
 
 -- it goes on once the token was answered by Done
 abbrev pub LetsIn : Bool → PeerLink → PeerLink → Type 0

@@ -8,7 +8,7 @@ use Rattle.mvd_meet.specs.Times.{due_of, news_at, pause_after}
 use Rattle.mvd_meet.specs.declared.pace.Met.{Met}
 use Rattle.mvd_meet.specs.declared.pace.Met.TheVariants.{Failed}
 use Rattle.mvd_meet.specs.declared.schedule.Schedule.{Schedule}
-use Rattle.mvd_server.specs.OwnSides.{IsFresh}
+use Rattle.mvd_server.specs.OwnSides.{IsFreshSession}
 use Rattle.mvd_server.specs.PeerLinks.{is_rest}
 use Rattle.mvd_server.specs.declared.own_session.OwnSession.{OwnSession}
 use Rattle.mvd_server.specs.declared.peer_link.PeerLink.{PeerLink}
@@ -73,7 +73,7 @@ pub record EndsMeeting (ended : Met) (now : ℕ) (old new : Schedule) : Type 0 w
 
 -- a session begins, and takes what changed before
 pub record BeginsMeeting (number : ℕ) (old new : Peering) : Type 0 where
-  pub session : IsSomeAnd new.session (IsFresh number)
+  pub session : IsSomeAnd new.session (IsFreshSession number)
   pub schedule : new.schedule ≡ record old.schedule { news = None }
 
 -- a connection was kept since the session before, and nothing came over it since

@@ -101,8 +101,8 @@ module _ {S : Type 0} {g : Ghosts S} where
 
   -- ONE HOST served all the while: by reads and writes of the sockets, by rounds, and by deeds that feed it no frames
   -- of their own
-  abbrev pub GoesOn : {K : Type 0} → SocketGhosts K → Wired K → Replica S g → Wired K → Replica S g → Type 0
-  GoesOn k wired old wired' new = Path (ServeStep (state g) k) (world_of wired old) (world_of wired' new)
+  abbrev pub GoesOnServing : {K : Type 0} → SocketGhosts K → Wired K → Replica S g → Wired K → Replica S g → Type 0
+  GoesOnServing k wired old wired' new = Path (ServeStep (state g) k) (world_of wired old) (world_of wired' new)
 
   -- From a new host on: what happened to the host, as one list. Its turns are all that was done to the replica, and
   -- those of each client are what that asked and was told
@@ -112,7 +112,7 @@ module _ {S : Type 0} {g : Ghosts S} where
     pub guard : Option Guard
     pub guarded : IsGuardOf token guard
     pub last : Talking
-    pub goes : GoesOn k (begun guard sockets) old (record { talking = last; sockets = sockets' }) new
+    pub goes : GoesOnServing k (begun guard sockets) old (record { talking = last; sockets = sockets' }) new
     pub all : List (Happening (Held S))
     pub runs : Runs (state g) (moment_of (world_of (begun guard sockets) old)) all
     pub ends : after_run (moment_of (world_of (begun guard sockets) old)) all

@@ -84,17 +84,17 @@ abbrev pub with_host : Talking → HostValue → Talking
 with_host t host = record t { host = host }
 
 -- whether a client is the server's own
-abbrev pub is_own : Talking → ℕ → Bool
-is_own t n = list_any (λ q. q == n) t.own
+abbrev pub is_own_client : Talking → ℕ → Bool
+is_own_client t n = list_any (λ q. q == n) t.own
 
-abbrev pub without : ℕ → List ℕ → List ℕ
-without n own = filter (λ q. not (q == n)) own
+abbrev pub left_without : ℕ → List ℕ → List ℕ
+left_without n own = filter (λ q. not (q == n)) own
 
 -- ---- deeds
 
 -- the frames of a client are made by the server: it speaks HTTP, or is the server's own
 abbrev pub IsMadeFor : Talking → ℕ → Type 0
-IsMadeFor t n = ((web : WebConnection) × (web_in t n ≡ Some web)) ⊎ (is_own t n ≡ true)
+IsMadeFor t n = ((web : WebConnection) × (web_in t n ≡ Some web)) ⊎ (is_own_client t n ≡ true)
 
 -- The host takes no more of a client, and no request of it waits; or nothing came of it
 abbrev pub TakesNoMore : Option History → WebConnection → Type 0
@@ -113,8 +113,8 @@ MayGo n t = IsSpent (web_in t n) (client_of t.host n)
 
 -- but by its socket, or for a request over HTTP, no byte comes of another client, and none leaves
 abbrev pub MayCall : Talking → ℕ → Call → Type 0
-MayCall t n (Feeds bytes) = is_own t n ≡ true
-MayCall t n (Sends count) = is_own t n ≡ true
+MayCall t n (Feeds bytes) = is_own_client t n ≡ true
+MayCall t n (Sends count) = is_own_client t n ≡ true
 MayCall t n Releases = ⊤
 MayCall t n (Closes source) = ⊤
 MayCall t n Cuts = ⊤
@@ -135,47 +135,47 @@ pub data Act : Type 0 where
   Hands : ℕ → Batch → Batch → Act
 
 -- a client of frames has to show the token in its first frame; over HTTP each request has to
-abbrev pub Does : Act → Talking → Talking → Type 0
-Does (Comes n) old new = AdmitsOne old.guard old.host new.host n × (new ≡ with_host old new.host)
-Does (ComesByWeb n web) old new =
+abbrev pub DoesAct : Act → Talking → Talking → Type 0
+DoesAct (Comes n) old new = AdmitsOne old.guard old.host new.host n × (new ≡ with_host old new.host)
+DoesAct (ComesByWeb n web) old new =
     AdmitsOne None old.host new.host n × IsNew (web_of web)
     × (new ≡ record old { host = new.host; webs = insert_entry nat_cmp old.webs n web })
-Does (ComesOwn n) old new =
+DoesAct (ComesOwn n) old new =
     AdmitsOne None old.host new.host n × (new ≡ record old { host = new.host; own = old.own ++ n ∷ [] })
-Does (TurnsBack n mid) old new =
+DoesAct (TurnsBack n mid) old new =
     (guard : Option Guard) × AdmitsOne guard old.host mid n × ClientLeaves mid n new.host
     × (new ≡ with_host old new.host)
-Does (Goes n) old new =
+DoesAct (Goes n) old new =
     MayGo n old × ClientLeaves old.host n new.host
     × (new ≡ record old {
       host = new.host;
       webs = remove_entry (is_at (nat_cmp n)) old.webs;
       batches = remove_entry (is_at (nat_cmp n)) old.batches;
     })
-Does (GoesOwn n) old new =
-    (is_own old n ≡ true) × ClientLeaves old.host n new.host
-    × (new ≡ record old { host = new.host; own = without n old.own })
-Does (Calls n call) old new = MayCall old n call × (new ≡ with_host old (altered old.host n (after_call call)))
-Does (Attends n web web' errand) old new =
+DoesAct (GoesOwn n) old new =
+    (is_own_client old n ≡ true) × ClientLeaves old.host n new.host
+    × (new ≡ record old { host = new.host; own = left_without n old.own })
+DoesAct (Calls n call) old new = MayCall old n call × (new ≡ with_host old (altered old.host n (after_call call)))
+DoesAct (Attends n web web' errand) old new =
     (web_in old n ≡ Some web)
     × RunsErrand errand old.guard n (desk old.host (web_of web) old.batches) (desk new.host (web_of web') new.batches)
     × (new ≡ record (with_web old n web') { host = new.host; batches = new.batches })
-Does (Begins n batch) old new =
+DoesAct (Begins n batch) old new =
     MayBegin n batch old × (new ≡ record old { batches = insert_entry nat_cmp old.batches n batch })
-Does (Hands n batch batch') old new =
+DoesAct (Hands n batch batch') old new =
     (batch_in old.batches n ≡ Some batch) × HandsBatch n batch old.host batch' new.host
     × (new ≡ record old { host = new.host; batches = set_value (is_at (nat_cmp n)) old.batches batch' })
 
 abbrev pub Deed : Talking → Talking → Type 0
-Deed old new = (act : Act) × Does act old new
+Deed old new = (act : Act) × DoesAct act old new
 
 abbrev pub Deeds : Talking → Talking → Type 0
 Deeds old new = Path Deed old new
 
 -- a client of this kind comes; it goes, and nothing is known but that it has just come
 abbrev pub ComesBy : Kind → ℕ → Talking → Talking → Type 0
-ComesBy Frames n old new = Does (Comes n) old new
-ComesBy Http n old new = (web : WebConnection) × Does (ComesByWeb n web) old new
+ComesBy Frames n old new = DoesAct (Comes n) old new
+ComesBy Http n old new = (web : WebConnection) × DoesAct (ComesByWeb n web) old new
 
 abbrev pub GoesAtOnce : Kind → ℕ → Talking → Talking → Type 0
 GoesAtOnce kind n old new = (before : Talking) → ComesBy kind n before old → Deeds before new

@@ -5,7 +5,7 @@ use Rattle.mvd_dots.specs.declared.refusals.Refusal.TheVariants.{TooManyRequests
 use Rattle.mvd_host.specs.Hosts.{IsClient, client_of}
 use Rattle.mvd_server.specs.HostBytes.{TakesBytes, sent_of, waits_of}
 use Rattle.mvd_server.specs.Paths.{Path}
-use Rattle.mvd_server.specs.Talking.{Deed, Talking, is_own, talking_of, web_in, with_host, with_web}
+use Rattle.mvd_server.specs.Talking.{Deed, Talking, is_own_client, talking_of, web_in, with_host, with_web}
 use Rattle.mvd_server.specs.declared.sockets.Sockets.{Ghosts}
 use Rattle.mvd_server.specs.declared.talks.Talks.{Talks}
 use Rattle.mvd_web.specs.Inside.{web_of}
@@ -20,7 +20,7 @@ use Rattle.mvd_wire.specs.declared.reply.Reply.TheVariants.{Refused}
 -- it. Who sends frames by a socket is none of the server's own, which show no token
 abbrev pub TakesBy : Option WebConnection → ℕ → List ℕ → Talking → Talking → Type 0
 TakesBy None n bytes old new =
-    (is_own old n ≡ false) × TakesBytes old.host n bytes new.host × (new ≡ with_host old new.host)
+    (is_own_client old n ≡ false) × TakesBytes old.host n bytes new.host × (new ≡ with_host old new.host)
 TakesBy (Some web) n bytes old new =
     (web' : WebConnection) × Feeds (web_of web) bytes (web_of web') × (new ≡ with_web old n web')
 
@@ -29,13 +29,13 @@ abbrev pub IsNoClient : Talking → ℕ → Type 0
 IsNoClient t n = client_of t.host n ≡ None
 
 -- ALL BYTES THAT CAME of a client are fed to its connection. Those of one that is no client any more are dropped
-abbrev pub TakesIn : ℕ → List ℕ → Talking → Talking → Type 0
-TakesIn n bytes old new =
+abbrev pub TakesInput : ℕ → List ℕ → Talking → Talking → Type 0
+TakesInput n bytes old new =
     TakesBy (web_in old n) n bytes old new ⊎ ((new ≡ old) × (IsNoClient old n ⊎ (bytes ≡ [])))
 
 -- a client of frames is fed where the host wants more of it
 abbrev pub IsFedBySocket : ℕ → Talking → Type 0
-IsFedBySocket n t = (is_own t n ≡ false) × IsClient (client_of t.host n) WantsInput
+IsFedBySocket n t = (is_own_client t n ≡ false) × IsClient (client_of t.host n) WantsInput
 
 abbrev pub MayFeedBy : Option WebConnection → ℕ → Talking → Type 0
 MayFeedBy None n t = IsFedBySocket n t
@@ -109,7 +109,8 @@ module _ {K : Type 0} (k : Ghosts K) where
   abbrev pub WiredStep : Wired K → Wired K → Type 0
   WiredStep old new =
       (Deed old.talking new.talking × (new.sockets ≡ old.sockets))
-      ⊎ ((n : ℕ) × (bytes : List ℕ) × k.gave old.sockets n bytes new.sockets × TakesIn n bytes old.talking new.talking)
+      ⊎ ((n : ℕ) × (bytes : List ℕ) × k.gave old.sockets n bytes new.sockets
+          × TakesInput n bytes old.talking new.talking)
       ⊎ ((n : ℕ) × (bytes : List ℕ) × k.took old.sockets n bytes new.sockets × GivesOut n bytes old.talking new.talking)
 
   abbrev pub Carries : Wired K → Wired K → Type 0

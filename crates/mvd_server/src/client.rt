@@ -1,6 +1,6 @@
 //! One client's socket.
 ghost use Rattle.std.specs.Prelude.{◌≡◌, ◌≤◌, IfOk, OnErr, length, take};
-ghost use Rattle.mvd_server.specs.Moves.{GivesOne, IsMoved, ReadsOnce, TakesOne};
+ghost use Rattle.mvd_server.specs.Moves.{GivesOne, IsMoved, ReadsOnce, MovesOne};
 
 use crate::sockets::Sockets;
 use mio::event::Event;
@@ -12,7 +12,7 @@ use std::net::Shutdown;
 /// The most bytes that are read at once.
 pub(crate) const PIECE: usize = 65_536;
 
-/// After the last reply as many bytes of a client are read and dropped.
+/// The most bytes of a client that are read and dropped after the last reply.
 const DROPPED_MAX: usize = 1_048_576;
 
 /// How a read or a write went.
@@ -112,7 +112,7 @@ impl Client {
 
     /// Writes once.
     pub fn write<K: Sockets>(&mut self, sockets: &mut K, bytes: &[u8]) -> Moved
-        ensures takes { TakesOne K.took self.old.number result bytes.now sockets.old sockets.new }
+        ensures takes { MovesOne K.took self.old.number result bytes.now sockets.old sockets.new }
         ensures number { self.new.number ≡ self.old.number }
     {
         let moved = moved_by(sockets.write(self.number, &self.stream, bytes));

@@ -26,7 +26,7 @@ use std::collections::BTreeMap;
 use std::hash::RandomState;
 use std::mem;
 
-/// Beside those that are served, as many sockets may be open at once: of clients that are told that there is no place,
+/// The most sockets that may be open at once beside those that are served: of clients that are told that there is no place,
 /// and of those that take their last reply. Further ones wait in the listener's queue.
 pub(crate) const SPARE: usize = 64;
 

@@ -2,7 +2,7 @@
 ghost use Rattle.std.specs.Prelude.{◌≡◌, IsTrue, false, option_copied, true};
 ghost use Rattle.mvd_http.specs.declared.fields.Content.TheVariants.{Json, Plain};
 ghost use Rattle.mvd_server.specs.Admitted.{AsksSite, AsksToken, IsOwnPage, KeepsOut, MayAsk, is_let_in, is_welcome};
-ghost use Rattle.mvd_server.specs.Errands.{AsksNext, DoesPlan, TellsBatch, TellsOrWaits, TellsReply};
+ghost use Rattle.mvd_server.specs.Errands.{AsksNextOf, DoesPlan, TellsBatch, TellsOrWaits, TellsClient};
 ghost use Rattle.mvd_server.specs.Plans.{IsPlanFor, IsPlanOf, TellsFault};
 ghost use Rattle.mvd_server.specs.Responding.{TellsBody, not_admitted, token_answer};
 ghost use Rattle.mvd_web.specs.Inside.{web_of};
@@ -151,7 +151,7 @@ pub(crate) fn ask<S: Alter + Drop>(
     changes: &Feed,
     counts: &mut Counts,
 ) -> Rest
-    ensures { AsksNext (option_copied guard.entry) number (web_of web.old) host.old (web_of web.new) host.new result }
+    ensures { AsksNextOf (option_copied guard.entry) number (web_of web.old) host.old (web_of web.new) host.new result }
 {
     if !web.next() {
         return Rest::Nothing;
@@ -322,7 +322,7 @@ pub(crate) fn answer(
     number: u64,
     counts: &mut Counts,
 )
-    ensures { TellsReply number (web_of web.old) host.old (web_of web.new) host.new }
+    ensures { TellsClient number (web_of web.old) host.old (web_of web.new) host.new }
 {
     if let Some(reply) = next_reply(alloc, host, number) {
         tell_reply(alloc, web, reply, counts);

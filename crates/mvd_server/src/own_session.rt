@@ -2,10 +2,10 @@
 ghost use Rattle.std.specs.Prelude.{◌≡◌, ◌-◌, ◌&&◌, IfOk, OnOk, false, length, not, true, IfSome};
 ghost use Rattle.mvd_meet.specs.Callers.{has_all, has_ended, questions_at};
 ghost use Rattle.mvd_meet.specs.Meetings.{MeetingSteps, ReportsOn};
-ghost use Rattle.mvd_server.specs.OwnSides.{AdmitsOwn, BeginsOwn, DismissesOwn, HandsOn};
+ghost use Rattle.mvd_server.specs.OwnSides.{AdmitsOwn, BeginsOwn, DismissesOwn, HandsToOwn};
 ghost use Rattle.mvd_server.specs.OwnSides.{HearsWaiting, TakesReplies};
 ghost use Rattle.mvd_server.specs.Peerings.{SwapsPlaces};
-ghost use Rattle.mvd_server.specs.Talking.{TalksDeeds, is_own, talking_of, without};
+ghost use Rattle.mvd_server.specs.Talking.{TalksDeeds, is_own_client, talking_of, left_without};
 
 use crate::feeding::{feed, sent};
 use crate::talks::Talks;
@@ -47,8 +47,8 @@ impl Talks {
     }
 
     /// Whether a client is its own.
-    pub fn is_own(&self, number: u64) -> bool
-        ensures { result ≡ is_own (talking_of self.now) number }
+    pub fn is_own_client(&self, number: u64) -> bool
+        ensures { result ≡ is_own_client (talking_of self.now) number }
     {
         self.own.contains(&number)
     }
@@ -62,7 +62,7 @@ impl Talks {
 }
 
 fn forget(own: &mut Vec<u64>, number: u64)
-    ensures { own.new.items ≡ without number own.old.items }
+    ensures { own.new.items ≡ left_without number own.old.items }
 {
     own.retain(|client| *client != number);
 }
@@ -183,7 +183,7 @@ impl OwnSession {
     /// Hands on frames, as many as the host takes.
     #[tactic(auto, using(crate::proofs::Handing::hands_none, crate::proofs::Handing::hands_front))]
     pub fn hand_on(&mut self, talks: &mut Talks)
-        ensures hands { HandsOn self.old.near self.new.near talks.old.host self.old.client talks.new.host }
+        ensures hands { HandsToOwn self.old.near self.new.near talks.old.host self.old.client talks.new.host }
         ensures goes_on { has_ended self.new.near ≡ has_ended self.old.near }
         ensures session { self.new ≡ record self.old { near = self.new.near } }
         ensures talks { talks.new ≡ record talks.old { host = talks.new.host } }
@@ -223,7 +223,7 @@ impl OwnSession {
     #[tactic(auto, using(crate::proofs::Handing::waits_some, crate::proofs::Handing::waits_none))]
     fn take_waiting(&mut self, talks: &Talks) -> Result<usize, Refusal>
         ensures takes { IfOk result (HearsWaiting self.old.near talks.now.host self.old.client self.new.near) }
-        ensures own { OnOk result (is_own (talking_of talks.now) self.old.client ≡ true) }
+        ensures own { OnOk result (is_own_client (talking_of talks.now) self.old.client ≡ true) }
         ensures session { self.new ≡ record self.old { near = self.new.near } }
     {
         if !talks.is_own(self.client) {

@@ -14,13 +14,13 @@ use std::alloc::Global;
 use std::io;
 use std::net::{Net, SocketAddr};
 
-/// As often it is read, and written, before others have their turn.
+/// The most reads of it, and writes to it, before others have their turn.
 const MOVES: usize = 16;
 
 /// The most milliseconds that a peer has to answer a Bye.
 const LINGER: u64 = 2_000;
 
-/// After as many milliseconds without a byte a peer holds no place that others wait for.
+/// The milliseconds without a byte after which a peer holds no place that others wait for.
 const LULL: u64 = 1_000;
 
 /// How far a connection is.

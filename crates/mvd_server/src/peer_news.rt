@@ -12,7 +12,7 @@ use std::alloc::{AllocError, Global};
 use std::fmt::Write as Print;
 use std::net::SocketAddr;
 
-/// Where sessions are as many seconds apart, no connection is kept from one to the next.
+/// The least seconds between two sessions at which no connection is kept from one to the next.
 const APART: u32 = 60;
 
 /// What all sessions share.

@@ -7,7 +7,7 @@ ghost use Rattle.mvd_dots.specs.declared.refusals.Refusal.TheVariants.{Memory, R
 ghost use Rattle.mvd_input.specs.declared.fault.Fault.TheVariants.{Stopped};
 ghost use Rattle.mvd_replica.specs.Replicas.{site_of};
 ghost use Rattle.mvd_server.specs.Closing.{EndsAtFault, EndsServed, EndsWithRoot, IsDeserted};
-ghost use Rattle.mvd_server.specs.Rounds.{BeginsServing, GoesOn, IsServed};
+ghost use Rattle.mvd_server.specs.Rounds.{BeginsServing, GoesOnServing, IsServed};
 ghost use Rattle.mvd_server.specs.Talking.{talking_of};
 ghost use Rattle.mvd_server.specs.Wires.{Carries, wired_of};
 
@@ -221,7 +221,7 @@ impl Server {
         writer: &mut W,
         errors: &mut E,
     ) -> Result<(), Fault>
-        ensures goes { GoesOn K.Sockets (wired_of self.old.crowd.talks sockets.old) replica.old
+        ensures goes { GoesOnServing K.Sockets (wired_of self.old.crowd.talks sockets.old) replica.old
             (wired_of self.new.crowd.talks sockets.new) replica.new }
         ensures left { OnOk result (IsDeserted (talking_of self.new.crowd.talks)) }
         ensures root { OnOk result (EndsWithRoot (site_of replica.new) (W.contents writer.new)) }
@@ -241,7 +241,7 @@ impl Server {
         writer: &mut W,
         errors: &mut E,
     ) -> Result<(), Fault>
-        ensures goes { GoesOn K.Sockets (wired_of self.old.crowd.talks sockets.old) replica.old
+        ensures goes { GoesOnServing K.Sockets (wired_of self.old.crowd.talks sockets.old) replica.old
             (wired_of self.new.crowd.talks sockets.new) replica.new }
         ensures left { OnOk result (IsDeserted (talking_of self.new.crowd.talks)) }
         ensures cause { IfErr result (EndsAtFault (site_of replica.new)) }
@@ -265,7 +265,7 @@ impl Server {
         writer: &mut W,
         errors: &mut E,
     ) -> Result<(), Fault>
-        ensures goes { GoesOn K.Sockets (wired_of self.old.crowd.talks sockets.old) replica.old
+        ensures goes { GoesOnServing K.Sockets (wired_of self.old.crowd.talks sockets.old) replica.old
             (wired_of self.new.crowd.talks sockets.new) replica.new }
         ensures cause { IfErr result (EndsAtFault (site_of replica.new)) }
     {

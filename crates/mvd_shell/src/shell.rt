@@ -37,7 +37,9 @@ CTX is - where nothing was read, @ for all that `get K` shows now, or a context.
 /// Answers each line of the reader at once, in the words of a script, until the input ends. Empty lines, and those
 /// that begin with `#`, are skipped and counted; a line that is no command is told with its number, counted from 1,
 /// and the next one is read. A write of which it is not known whether it was done is told as `unknown`, and not as
-/// `refused`. / It ends as `Stopped` where a line has over 16,777,216 bytes, the reader or the writer fails, or memory
+/// `refused`.
+///
+/// It ends as `Stopped` where a line has over 16,777,216 bytes, the reader or the writer fails, or memory
 /// is refused for what is read or printed; and where there are more lines than can be counted. What was told before
 /// stays.
 pub fn shell_run<A: Endpoint, L: Losses<A>, R: BufRead, W: Write>(

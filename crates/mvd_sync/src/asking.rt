@@ -165,7 +165,7 @@ pub fn ask_gets<P: Peer>(
     read_all(side.alloc(), told, taken, keys.len())
 }
 
-/// So many bytes of pushes are sent at once, unless it is one push.
+/// The most bytes of pushes that are sent at once, unless it is one push.
 const WINDOW_BYTES: u64 = 1_048_576;
 
 /// How long the frame of a push is.

@@ -25,10 +25,10 @@ use mvd_wire::Items;
 use std::alloc::Global;
 use std::marker::Model;
 
-/// So many keys are exchanged at once.
+/// The most keys that are exchanged at once.
 const WINDOW: usize = 1_000;
 
-/// So many of the refused keys are named.
+/// The most refused keys that are named.
 const NAMED: usize = 100;
 
 /// The keys that wait to be exchanged, and what was done so far.

@@ -19,7 +19,7 @@ use std::alloc::Global;
 use std::marker::Model;
 use std::mem;
 
-/// So many nodes or pages are asked for at once.
+/// The most nodes or pages that are asked for at once.
 pub const WINDOW: usize = 64;
 
 /// Whether two digests are the same.

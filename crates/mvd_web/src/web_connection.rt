@@ -16,10 +16,10 @@ use mvd_wire::Ending;
 use std::alloc::{AllocError, Global};
 use std::hash::RandomState;
 
-/// Where as many bytes wait to leave, no request is taken and no input is wanted.
+/// The most bytes that wait to leave: from there on no request is taken and no input is wanted.
 pub const WAITS_MAX: usize = 262_144;
 
-/// A body may have as many bytes.
+/// The most bytes of a body.
 pub const BODY_MAX: usize = 1_048_576;
 
 /// The bytes that came, the request that was taken of them and is not answered, and the bytes that wait to leave.

@@ -10,7 +10,7 @@ pub enum Ending {
     Bye,
     /// The input ended after a frame.
     End,
-    /// A refusal, which is told in one frame more.
+    /// A refusal, which is told in one frame more, but for 35.
     Stopped(Refusal),
 }
 

@@ -25,7 +25,7 @@ use Rattle.mvd_world.specs.declared.steps.Outcome.{Outcome}
 use Rattle.mvd_world.specs.declared.steps.Outcome.TheVariants.{Failed, Met, NoSuch, Replied, Sent}
 use Rattle.mvd_world.specs.Machine.{Knowledge, MayStep, SentMessage, Sends, Setting, Takes, is_numbered, is_site, may_be}
 use Rattle.mvd_world.specs.Worlds.{IsWorld, Steps, message_of, state_of_message}
-use Rattle.mvd_world.specs.OpenWorlds.{AsksSite, AsksWindow, IsMessageAt, IsOneStep, LeadsWhere, OneByOne, PushSent, TellsSent, WasSent, refusal_in}
+use Rattle.mvd_world.specs.OpenWorlds.{AsksOneSite, AsksWindow, IsMessageAt, IsOneStep, LeadsWhere, OneByOne, PushSent, TellsSent, WasSent, refusal_in}
 use Rattle.mvd_world.proofs.Cutting.{one_by_one_longer, one_more_asked, sent_still}
 use Rattle.mvd_world.proofs.Leading.{SiteChanges, number_in, receives_lead}
 use Rattle.mvd_world.proofs.Taking.{step_none, step_takes}
@@ -153,9 +153,9 @@ pub window_asked : (old new : World) (site : ℕ) (window is : Window) (t : Told
 window_asked old new site window is t same leads = subst (λ w. LeadsWhere old new (λ before. Each (WasSent before.messages) (asked_in (Some w)).pushes) (λ setting before after. AsksWindow setting site before w t after)) (sym same) leads
 
 pub site_asked : (old new : World) (site : ℕ) (window : Option Window) (is : Window) (t : Told) → window ≡ Some is → LeadsWhere old new (λ before. Each (WasSent before.messages) (asked_in (Some is)).pushes) (λ setting before after. AsksWindow setting site before is t after)
-    → LeadsWhere old new (λ before. Each (WasSent before.messages) (asked_in window).pushes) (λ setting before after. AsksSite setting site before window (Some t) after)
-site_asked old new site window is t same leads = subst (λ w. LeadsWhere old new (λ before. Each (WasSent before.messages) (asked_in w).pushes) (λ setting before after. AsksSite setting site before w (Some t) after)) (sym same) leads
+    → LeadsWhere old new (λ before. Each (WasSent before.messages) (asked_in window).pushes) (λ setting before after. AsksOneSite setting site before window (Some t) after)
+site_asked old new site window is t same leads = subst (λ w. LeadsWhere old new (λ before. Each (WasSent before.messages) (asked_in w).pushes) (λ setting before after. AsksOneSite setting site before w (Some t) after)) (sym same) leads
 
-pub site_not_asked : (world : World) (site : ℕ) (window : Option Window) → window ≡ None → LeadsWhere world world (λ before. Each (WasSent before.messages) (asked_in window).pushes) (λ setting before after. AsksSite setting site before window None after)
-site_not_asked world site window none = subst (λ w. LeadsWhere world world (λ before. Each (WasSent before.messages) (asked_in w).pushes) (λ setting before after. AsksSite setting site before w None after)) (sym none)
+pub site_not_asked : (world : World) (site : ℕ) (window : Option Window) → window ≡ None → LeadsWhere world world (λ before. Each (WasSent before.messages) (asked_in window).pushes) (λ setting before after. AsksOneSite setting site before window None after)
+site_not_asked world site window none = subst (λ w. LeadsWhere world world (λ before. Each (WasSent before.messages) (asked_in w).pushes) (λ setting before after. AsksOneSite setting site before w None after)) (sym none)
     (λ setting before stands sent. (before, ((refl, refl), stands)))

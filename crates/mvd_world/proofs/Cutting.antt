@@ -25,7 +25,7 @@ use Rattle.mvd_world.specs.declared.steps.Outcome.{Outcome}
 use Rattle.mvd_world.specs.declared.steps.Outcome.TheVariants.{Replied, Sent as Sent_as, Met, Failed, NoSuch}
 use Rattle.mvd_world.specs.Agreeing.{IsNoWrite, WithoutWrites}
 use Rattle.mvd_world.specs.Machine.{Knowledge, MayStep, RunsSteps, SentMessage, Setting, Takes, is_site, may_be}
-use Rattle.mvd_world.specs.OpenWorlds.{AllTold, AreCutInto, AsksForNode, AsksForPage, AsksForState, AsksSite, AsksToTake, AsksWindow, GoesOn, IsCutInto, IsNoWriting, IsOfWindow, IsOneStep, MayAct, MayBegin, MayGo, OneByOne, RunsActs, Scene, WasSent, all_asked_of, goes_at, had_ended, has_failed, has_gone, has_stopped, is_done, no_room}
+use Rattle.mvd_world.specs.OpenWorlds.{AllAreTold, AreCutInto, AsksForNode, AsksForPage, AsksForState, AsksOneSite, AsksToTake, AsksWindow, WindowsOn, IsCutInto, IsNoWriting, IsOfWindow, IsOneStep, MayAct, MayBegin, MayGo, OneByOne, RunsActs, Scene, WasSent, all_asked_of, goes_at, had_ended, has_failed, has_gone, has_stopped, is_done, no_room}
 
 -- ---- messages are only added
 
@@ -144,7 +144,7 @@ module _ (setting : Setting) (site : ℕ) where
   pub take_step : IsOneStep setting (AsksToTake setting site)
   take_step before q a after h = (Receive site (h.0 + 1), h.1, h.3, tt)
 
-all_steps : {Q A : Type 0} (setting : Setting) (as_told : Vec (Result A Refusal) Global → Told) (Asks : Knowledge → Q → Result A Refusal → Knowledge → Type 0) → IsOneStep setting Asks → (before : Knowledge) (qs : List Q) (t : Told) (after : Knowledge) → AllTold as_told Asks before qs t after → CutSteps setting before after
+all_steps : {Q A : Type 0} (setting : Setting) (as_told : Vec (Result A Refusal) Global → Told) (Asks : Knowledge → Q → Result A Refusal → Knowledge → Type 0) → IsOneStep setting Asks → (before : Knowledge) (qs : List Q) (t : Told) (after : Knowledge) → AllAreTold as_told Asks before qs t after → CutSteps setting before after
 all_steps setting as_told Asks is before qs t after (all_asked_of answers e one) = one_by_one_steps setting Asks is before qs answers.items after one
 all_steps setting as_told Asks is before qs t after (no_room e same) = no_steps setting before after same
 
@@ -154,7 +154,7 @@ window_steps setting site before (wanted.Pages pages) t after h = all_steps sett
 window_steps setting site before (wanted.Gets keys) t after h = all_steps setting (λ answers. telling.States answers) (AsksForState setting site) (state_step setting site) before keys.items t after h
 window_steps setting site before (wanted.Pushes pairs) t after h = all_steps setting (λ answers. telling.Pushes answers) (AsksToTake setting site) (take_step setting site) before pairs.items t after h
 
-pub site_steps : (setting : Setting) (site : ℕ) (before : Knowledge) (window : Option Window) (t : Option Told) (after : Knowledge) → AsksSite setting site before window t after → CutSteps setting before after
+pub site_steps : (setting : Setting) (site : ℕ) (before : Knowledge) (window : Option Window) (t : Option Told) (after : Knowledge) → AsksOneSite setting site before window t after → CutSteps setting before after
 site_steps setting site before None t after h = no_steps setting before after h.1
 site_steps setting site before (Some window) (Some t) after h = window_steps setting site before window t after h
 site_steps setting site before (Some window) None after h = absurd h
@@ -168,7 +168,7 @@ steps_longer setting before (s ∷ steps) [] after h = absurd h
 pub cut_longer : (setting : Setting) (before after : Knowledge) → CutSteps setting before after → IsLonger before.messages after.messages
 cut_longer setting before after c = steps_longer setting before c.steps c.outcomes after c.runs
 
-pub go_steps : (setting : Setting) (local peer : ℕ) (machine : Machining) (before : Knowledge) (came : Came) (left : Option Machining) (after : Knowledge) → GoesOn setting local peer machine before came left after → CutSteps setting before after
+pub go_steps : (setting : Setting) (local peer : ℕ) (machine : Machining) (before : Knowledge) (came : Came) (left : Option Machining) (after : Knowledge) → WindowsOn setting local peer machine before came left after → CutSteps setting before after
 go_steps setting local peer machine before came left after (has_gone asking next step has window is stays) =
     steps_on setting before window.between after (site_steps setting local before step.local window.mine window.between window.local_side) (site_steps setting peer window.between step.peer window.theirs after window.peer_side)
 go_steps setting local peer machine before came left after (has_failed asking next step fault has window is stays) =

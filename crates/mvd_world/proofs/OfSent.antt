@@ -38,7 +38,7 @@ use Rattle.mvd_sync.proofs.Keys.{Each-weaker}
 use Rattle.mvd_world.specs.declared.steps.Outcome.{Outcome}
 use Rattle.mvd_world.specs.declared.steps.Outcome.TheVariants.{Replied, Sent as Sent_as, Met, Failed as Failed_as, NoSuch}
 use Rattle.mvd_world.specs.Machine.{Knowledge, SentMessage, Setting}
-use Rattle.mvd_world.specs.OpenWorlds.{AreSentTo, AsksForState, AsksSite, IsOfSent, OneByOne, OneWindow, TellsSent, WasSent, all_asked_of, no_room}
+use Rattle.mvd_world.specs.OpenWorlds.{AreSentTo, AsksForState, AsksOneSite, IsOfSent, OneByOne, OneWindow, TellsSent, WasSent, all_asked_of, no_room}
 use Rattle.mvd_world.proofs.Cutting.{IsLonger, cut_longer, one_by_one_longer, sent_still, site_steps, state_step}
 
 -- ---- what stands of some messages stands of more
@@ -191,7 +191,7 @@ module _ (setting : Setting) (site : ℕ) where
   no_gets window answers after none is = subst (λ keys. ForEach (λ key t. IfOk t (λ s. WasSent after.messages (key, s))) keys answers) (sym none) (subst (λ ts. ForEach (λ key t. IfOk t (λ s. WasSent after.messages (key, s))) [] ts) is tt)
 
   -- the answers that are read as states
-  pub site_sent : (before : Knowledge) (window : Option Window) (t : Option Told) (after : Knowledge) → AsksSite setting site before window t after → (answers : List (Result State Refusal)) → states_told t ≡ Ok answers → ForEach (λ key r. IfOk r (λ s. WasSent after.messages (key, s))) (asked_in window).gets answers
+  pub site_sent : (before : Knowledge) (window : Option Window) (t : Option Told) (after : Knowledge) → AsksOneSite setting site before window t after → (answers : List (Result State Refusal)) → states_told t ≡ Ok answers → ForEach (λ key r. IfOk r (λ s. WasSent after.messages (key, s))) (asked_in window).gets answers
   site_sent before None t after h answers is = no_gets (asked_in None) answers after refl (let e : states_told None ≡ Ok answers = subst (λ x. states_told x ≡ Ok answers) h.0 is in cc)
   site_sent before (Some window) None after h answers is = absurd h
   site_sent before (Some (wanted.Gets keys)) (Some t) after (all_asked_of given e one) answers is =
@@ -218,7 +218,7 @@ each_state P (key ∷ keys) (t ∷ answers) [] p r = absurd r
 each_state P (key ∷ keys) (Ok a ∷ answers) (s ∷ read) p r = (subst (P key) (sym r.0) p.0, each_state P keys answers read p.1 r.1)
 each_state P (key ∷ keys) (Err refusal ∷ answers) (s ∷ read) p r = absurd r.0
 
-pub read_sent : (setting : Setting) (site : ℕ) (before : Knowledge) (window : Option Window) (t : Option Told) (after : Knowledge) (keys : List Key) (left left' : ℕ) (share : Share) (read : List State) → AsksSite setting site before window t after
+pub read_sent : (setting : Setting) (site : ℕ) (before : Knowledge) (window : Option Window) (t : Option Told) (after : Knowledge) (keys : List Key) (left left' : ℕ) (share : Share) (read : List State) → AsksOneSite setting site before window t after
     → (asked_in window).gets ≡ take left keys → TakesBudget left left' (length keys) share.asked → share.wanted ≡ length keys → AllRead IsStateOf (states_told t) share read → ForEach (SentAs after.messages) keys read
 read_sent setting site before window t after keys left left' share read asks cut budget counted all =
     let whole : (asked_in window).gets ≡ keys = cut ∙ take_all left keys (let e = budget.spent in let s = all.whole in omega (arith, e, s, counted)) in

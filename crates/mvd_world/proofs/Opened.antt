@@ -22,7 +22,7 @@ use Rattle.mvd_world.specs.declared.steps.Outcome.{Outcome}
 use Rattle.mvd_world.specs.declared.worlds.World.{World}
 use Rattle.mvd_world.specs.Machine.{Knowledge, SentMessage, Setting, is_numbered, may_be}
 use Rattle.mvd_world.specs.Worlds.{IsWorld, Steps}
-use Rattle.mvd_world.specs.OpenWorlds.{ActsOpen, AsksSite, BeginsOpen, GoesOn, HasEnded, IsOfSent, IsOpenWorld, LeadsWhere, MayAct, MayBegin, MayStop, OneWindow, RunsActs, Scene, SessionIsOfSent, TellsWork, WasSent, goes_at, had_ended, has_failed, has_gone, has_stopped, is_done, no_scene}
+use Rattle.mvd_world.specs.OpenWorlds.{ActsOpen, AsksOneSite, BeginsOpen, WindowsOn, HasEnded, IsOfSent, IsOpenWorld, LeadsWhere, MayAct, MayBegin, MayStop, OneWindow, RunsActs, Scene, SessionIsOfSent, TellsWork, WasSent, goes_at, had_ended, has_failed, has_gone, has_stopped, is_done, no_scene}
 use Rattle.mvd_world.proofs.Cutting.{IsLonger, cut_longer, go_steps, site_steps, step_longer}
 use Rattle.mvd_world.proofs.OfSent.{local_sent, peer_sent, stage_more, went_sent, window_sent}
 use Rattle.mvd_world.proofs.Taking.{may_be_same}
@@ -112,7 +112,7 @@ begin_acts old new local peer number machine may starts same_world grown counted
 -- ---- a session goes on
 
 -- what it is to push after it was sent
-go_sent : (setting : Setting) (local peer : ℕ) (machine : Machining) (before : Knowledge) (came : Came) (left : Option Machining) (after : Knowledge) → GoesOn setting local peer machine before came left after → IsOfSent before.messages machine.stage → IfSome left (λ m. IsOfSent after.messages m.stage)
+go_sent : (setting : Setting) (local peer : ℕ) (machine : Machining) (before : Knowledge) (came : Came) (left : Option Machining) (after : Knowledge) → WindowsOn setting local peer machine before came left after → IsOfSent before.messages machine.stage → IfSome left (λ m. IsOfSent after.messages m.stage)
 go_sent setting local peer machine before came left after (has_gone asking next step has window is stays) given =
     subst (λ o. IfSome o (λ (m : Machining). IsOfSent after.messages m.stage)) (sym stays)
     (window_sent setting local peer before asking step next after window has.asks.0 (went_sent before.messages machine.work machine.stage asking.work asking.stage has.went given))
@@ -124,7 +124,7 @@ if_machine : (messages : List SentMessage) (o : Option Machining) (machine : Mac
 if_machine messages o machine is h = subst (λ o. IfSome o (λ (m : Machining). IsOfSent messages m.stage)) is h
 
 pub go_acts : (old new : OpenWorld) (number index : ℕ) (session : OpenSession) (machine : Machining) (came : Came) (left : Option Machining) → number ≡ index + 1 → slice_get old.sessions.items index ≡ Some session → session.machine ≡ Some machine
-    → LeadsWhere old.world new.world (λ before. IsOfSent before.messages machine.stage) (λ setting before after. GoesOn setting session.local session.peer machine before came left after)
+    → LeadsWhere old.world new.world (λ before. IsOfSent before.messages machine.stage) (λ setting before after. WindowsOn setting session.local session.peer machine before came left after)
     → new.sessions.items ≡ slice_set old.sessions.items index (record { local = session.local; peer = session.peer; machine = left }) → ActsOpen old new (Go number) came
 go_acts old new number index session machine came left at here is_open leads changed setting before is =
     let there : slice_get before.sessions index ≡ Some session = ap (λ l. slice_get l index) is.sessions ∙ here in
@@ -199,8 +199,8 @@ next_has old new result step is next = subst (λ r. IfOk r (HasNext old new)) is
 
 -- both sites were asked
 pub went_on : (old mid new : World) (local peer : ℕ) (machine asking next : Machining) (step : Asking) (mine theirs : Option Told) (result : Result (Unit {0}) SyncFault) → HasNext machine asking (Some step)
-    → LeadsWhere old mid (λ before. Each (WasSent before.messages) (asked_in step.local).pushes) (λ setting before after. AsksSite setting local before step.local mine after)
-    → LeadsWhere mid new (λ before. Each (WasSent before.messages) (asked_in step.peer).pushes) (λ setting before after. AsksSite setting peer before step.peer theirs after)
+    → LeadsWhere old mid (λ before. Each (WasSent before.messages) (asked_in step.local).pushes) (λ setting before after. AsksOneSite setting local before step.local mine after)
+    → LeadsWhere mid new (λ before. Each (WasSent before.messages) (asked_in step.peer).pushes) (λ setting before after. AsksOneSite setting peer before step.peer theirs after)
     → TakesTold asking mine theirs next result
     → LeadsWhere old new (λ before. IsOfSent before.messages machine.stage) (λ setting before after. OneWindow setting local peer before asking step next result after)
 went_on old mid new local peer machine asking next step mine theirs result has first second takes setting before stands given =
@@ -212,24 +212,24 @@ went_on old mid new local peer machine asking next step mine theirs result has f
 
 pub goes_went : (old new : World) (local peer : ℕ) (machine asking next : Machining) (step : Asking) → HasNext machine asking (Some step)
     → LeadsWhere old new (λ before. IsOfSent before.messages machine.stage) (λ setting before after. OneWindow setting local peer before asking step next (Ok tt) after)
-    → LeadsWhere old new (λ before. IsOfSent before.messages machine.stage) (λ setting before after. GoesOn setting local peer machine before coming.Went (Some next) after)
+    → LeadsWhere old new (λ before. IsOfSent before.messages machine.stage) (λ setting before after. WindowsOn setting local peer machine before coming.Went (Some next) after)
 goes_went old new local peer machine asking next step has window setting before stands given =
     let w = window setting before stands given in
     (w.0, (has_gone asking next step has w.1.0 refl refl, w.1.1))
 
 pub goes_failed : (old new : World) (local peer : ℕ) (machine asking next : Machining) (step : Asking) (fault : SyncFault) → HasNext machine asking (Some step)
     → LeadsWhere old new (λ before. IsOfSent before.messages machine.stage) (λ setting before after. OneWindow setting local peer before asking step next (Err fault) after)
-    → LeadsWhere old new (λ before. IsOfSent before.messages machine.stage) (λ setting before after. GoesOn setting local peer machine before (coming.Failed fault) None after)
+    → LeadsWhere old new (λ before. IsOfSent before.messages machine.stage) (λ setting before after. WindowsOn setting local peer machine before (coming.Failed fault) None after)
 goes_failed old new local peer machine asking next step fault has window setting before stands given =
     let w = window setting before stands given in
     (w.0, (has_failed asking next step fault has w.1.0 refl refl, w.1.1))
 
 pub goes_done : (world : World) (local peer : ℕ) (machine asking : Machining) (report : Report) → HasNext machine asking None → TellsWork asking.work report
-    → LeadsWhere world world (λ before. IsOfSent before.messages machine.stage) (λ setting before after. GoesOn setting local peer machine before (coming.Met report) None after)
+    → LeadsWhere world world (λ before. IsOfSent before.messages machine.stage) (λ setting before after. WindowsOn setting local peer machine before (coming.Met report) None after)
 goes_done world local peer machine asking report has tells setting before stands given = (before, (is_done asking report has tells refl refl refl, stands))
 
 pub goes_stops : (world : World) (local peer : ℕ) (machine : Machining) (fault : SyncFault) → MayStop machine fault
-    → LeadsWhere world world (λ before. IsOfSent before.messages machine.stage) (λ setting before after. GoesOn setting local peer machine before (coming.Failed fault) None after)
+    → LeadsWhere world world (λ before. IsOfSent before.messages machine.stage) (λ setting before after. WindowsOn setting local peer machine before (coming.Failed fault) None after)
 goes_stops world local peer machine fault why setting before stands given = (before, (has_stopped fault why refl refl refl, stands))
 
 -- ---- a run

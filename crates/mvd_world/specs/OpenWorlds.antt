@@ -130,12 +130,12 @@ OneByOne Asks before (q ∷ qs) (a ∷ answers) after =
 OneByOne Asks before qs answers after = ⊥
 
 -- all questions of a kind were asked; or memory was refused for their answers, and none was
-pub data AllTold {Q A : Type 0} (as_told : Vec (Result A Refusal) Global → Told)
+pub data AllAreTold {Q A : Type 0} (as_told : Vec (Result A Refusal) Global → Told)
     (Asks : Knowledge → Q → Result A Refusal → Knowledge → Type 0) (before : Knowledge) (questions : List Q)
     (told : Told) (after : Knowledge) : Type 0 where
   all_asked_of : (answers : Vec (Result A Refusal) Global) → told ≡ as_told answers
-      → OneByOne Asks before questions answers.items after → AllTold as_told Asks before questions told after
-  no_room : told ≡ telling.Refused Memory → after ≡ before → AllTold as_told Asks before questions told after
+      → OneByOne Asks before questions answers.items after → AllAreTold as_told Asks before questions told after
+  no_room : told ≡ telling.Refused Memory → after ≡ before → AllAreTold as_told Asks before questions told after
 
 -- whatever these questions push was sent
 abbrev pub PushSent : {Q : Type 0} → (Q → List (Key × State)) → List Q → Knowledge → Type 0
@@ -143,18 +143,18 @@ PushSent pushes questions before = Each (λ q. Each (WasSent before.messages) (p
 
 abbrev pub AsksWindow : Setting → ℕ → Knowledge → Window → Told → Knowledge → Type 0
 AsksWindow setting site before (wanted.Nodes paths) =
-    AllTold (λ answers. telling.Nodes answers) (AsksForNode setting site) before paths.items
+    AllAreTold (λ answers. telling.Nodes answers) (AsksForNode setting site) before paths.items
 AsksWindow setting site before (wanted.Pages pages) =
-    AllTold (λ answers. telling.Pages answers) (AsksForPage setting site) before pages.items
+    AllAreTold (λ answers. telling.Pages answers) (AsksForPage setting site) before pages.items
 AsksWindow setting site before (wanted.Gets keys) =
-    AllTold (λ answers. telling.States answers) (AsksForState setting site) before keys.items
+    AllAreTold (λ answers. telling.States answers) (AsksForState setting site) before keys.items
 AsksWindow setting site before (wanted.Pushes pairs) =
-    AllTold (λ answers. telling.Pushes answers) (AsksToTake setting site) before pairs.items
+    AllAreTold (λ answers. telling.Pushes answers) (AsksToTake setting site) before pairs.items
 
 -- A SITE IS ASKED a window, if there is one
-abbrev pub AsksSite : Setting → ℕ → Knowledge → Option Window → Option Told → Knowledge → Type 0
-AsksSite setting site before None told after = (told ≡ None) × (after ≡ before)
-AsksSite setting site before (Some window) told after =
+abbrev pub AsksOneSite : Setting → ℕ → Knowledge → Option Window → Option Told → Knowledge → Type 0
+AsksOneSite setting site before None told after = (told ≡ None) × (after ≡ before)
+AsksOneSite setting site before (Some window) told after =
     IsSomeAnd told (λ t. AsksWindow setting site before window t after)
 
 -- ONE WINDOW of a session: both sites are asked what its machine wants, and it takes what just they told
@@ -163,8 +163,8 @@ pub record OneWindow (setting : Setting) (local peer : ℕ) (before : Knowledge)
   pub between : Knowledge
   pub mine : Option Told
   pub theirs : Option Told
-  pub local_side : AsksSite setting local before step.local mine between
-  pub peer_side : AsksSite setting peer between step.peer theirs after
+  pub local_side : AsksOneSite setting local before step.local mine between
+  pub peer_side : AsksOneSite setting peer between step.peer theirs after
   pub takes : TakesTold asking mine theirs machine result
 
 -- what the session did is told
@@ -180,19 +180,19 @@ MayStop machine fault = (fault ≡ Local Memory) ⊎ (machine.stage ≡ Failed f
 
 -- WHAT A GO COMES TO: a window, after which the session goes on (`has_gone`) or has failed (`has_failed`); it was done, and
 -- nothing is asked (`is_done`); or it stops before anything is asked
-pub data GoesOn (setting : Setting) (local peer : ℕ) (machine : Machining) (before : Knowledge) (came : Came)
+pub data WindowsOn (setting : Setting) (local peer : ℕ) (machine : Machining) (before : Knowledge) (came : Came)
     (left : Option Machining) (after : Knowledge) : Type 0 where
   has_gone : (asking next : Machining) (step : Asking) → HasNext machine asking (Some step)
       → OneWindow setting local peer before asking step next (Ok tt) after → came ≡ coming.Went → left ≡ Some next
-      → GoesOn setting local peer machine before came left after
+      → WindowsOn setting local peer machine before came left after
   has_failed : (asking next : Machining) (step : Asking) (fault : SyncFault) → HasNext machine asking (Some step)
       → OneWindow setting local peer before asking step next (Err fault) after → came ≡ coming.Failed fault
-      → left ≡ None → GoesOn setting local peer machine before came left after
+      → left ≡ None → WindowsOn setting local peer machine before came left after
   is_done : (asking : Machining) (report : Report) → HasNext machine asking None → TellsWork asking.work report
       → after ≡ before → came ≡ coming.Met report → left ≡ None
-      → GoesOn setting local peer machine before came left after
+      → WindowsOn setting local peer machine before came left after
   has_stopped : (fault : SyncFault) → MayStop machine fault → after ≡ before → came ≡ coming.Failed fault → left ≡ None
-      → GoesOn setting local peer machine before came left after
+      → WindowsOn setting local peer machine before came left after
 
 -- ---- a world in which sessions are open
 
@@ -230,7 +230,7 @@ pub data MayGo (setting : Setting) (before : Scene) (number : ℕ) (came : Came)
       → MayGo setting before number came after
   goes_at : (index : ℕ) (session : OpenSession) (machine : Machining) (left : Option Machining) → number ≡ index + 1
       → slice_get before.sessions index ≡ Some session → session.machine ≡ Some machine
-      → GoesOn setting session.local session.peer machine before.knowledge came left after.knowledge
+      → WindowsOn setting session.local session.peer machine before.knowledge came left after.knowledge
       → after.sessions ≡ slice_set before.sessions index (record session { machine = left })
       → MayGo setting before number came after
 

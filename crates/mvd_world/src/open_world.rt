@@ -2,7 +2,7 @@
 ghost use Rattle.std.specs.Prelude.{◌≡◌, ◌≤◌, ◌<◌, ◌++◌, ◌∷◌, [], IfErr, IfOk, OnErr, OnOk, length};
 ghost use Rattle.mvd_dots.specs.declared.refusals.Refusal.TheVariants.{Memory};
 ghost use Rattle.mvd_world.specs.Machine.{is_numbered, setting_of};
-ghost use Rattle.mvd_world.specs.OpenWorlds.{ActsOpen, GoesOn, IsOfSent, IsOpenWorld, LeadActs, LeadsWhere, no_scene};
+ghost use Rattle.mvd_world.specs.OpenWorlds.{ActsOpen, WindowsOn, IsOfSent, IsOpenWorld, LeadActs, LeadsWhere, no_scene};
 ghost use Rattle.mvd_world.specs.declared.acts.Act.TheVariants.{Begin, Go, Take};
 ghost use Rattle.mvd_world.specs.declared.acts.Came.TheVariants.{Took};
 
@@ -148,7 +148,7 @@ fn go_on(
     machine: Machine,
 ) -> (Came, Option<Machine>)
     ensures { LeadsWhere world.old world.new (λ before. IsOfSent before.messages machine.stage)
-        (λ setting before after. GoesOn setting local peer machine before result.0 result.1 after) }
+        (λ setting before after. WindowsOn setting local peer machine before result.0 result.1 after) }
 {
     let mut machine = machine;
     let step = match machine.next() {

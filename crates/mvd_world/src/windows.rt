@@ -12,7 +12,7 @@ ghost use Rattle.mvd_sync.specs.declared.telling.Told.TheVariants.{Nodes, Pages,
 ghost use Rattle.mvd_wire.specs.declared.request.Request.TheVariants.{Bucket, Node};
 ghost use Rattle.mvd_world.specs.declared.steps.Step.TheVariants.{Ask, Receive, Send};
 ghost use Rattle.mvd_world.specs.Machine.{Knowledge, Setting};
-ghost use Rattle.mvd_world.specs.OpenWorlds.{AllTold, AsksForNode, AsksForPage, AsksForState, AsksSite, AsksToTake};
+ghost use Rattle.mvd_world.specs.OpenWorlds.{AllAreTold, AsksForNode, AsksForPage, AsksForState, AsksOneSite, AsksToTake};
 ghost use Rattle.mvd_world.specs.OpenWorlds.{AsksWindow, IsOneStep, LeadsWhere, PushSent, WasSent, node_in, page_in};
 ghost use Rattle.mvd_world.specs.OpenWorlds.{page_of_told, push_in, refusal_in};
 ghost use Rattle.mvd_world.specs.Worlds.{state_of_message};
@@ -205,7 +205,7 @@ impl Question for (Key, KeyState) {
 /// What a site tells of questions, each of which it is asked. If memory is refused, it is asked none.
 fn tell<Q: Question>(alloc: Global, world: &mut World, site: u32, questions: Vec<Q>) -> Told
     ensures { LeadsWhere world.old world.new (PushSent Q.pushes questions.items) (λ setting before after.
-        AllTold Q.as_told (Q.asks setting site) before questions.items result after) }
+        AllAreTold Q.as_told (Q.asks setting site) before questions.items result after) }
 {
     let mut answers = match room_for(alloc, questions.len()) {
         Ok(room) => room,
@@ -233,7 +233,7 @@ fn ask_window(alloc: Global, world: &mut World, site: u32, window: Window) -> To
 /// What a site tells of a window, if it is asked one.
 pub fn ask_site(alloc: Global, world: &mut World, site: u32, window: Option<Window>) -> Option<Told>
     ensures { LeadsWhere world.old world.new (λ before. Each (WasSent before.messages) (asked window).pushes)
-        (λ setting before after. AsksSite setting site before window result after) }
+        (λ setting before after. AsksOneSite setting site before window result after) }
 {
     match window {
         None => None,

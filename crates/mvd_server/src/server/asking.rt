@@ -1,5 +1,5 @@
 //! The order of a pass: who asks is answered before the changes of others are committed.
-ghost use Rattle.mvd_server.specs.Rounds.{AnswersClients, GoesOn};
+ghost use Rattle.mvd_server.specs.Rounds.{AnswersClients, GoesOnServing};
 ghost use Rattle.mvd_server.specs.Wires.{wired_of};
 
 use crate::server::Server;
@@ -17,7 +17,7 @@ impl Server {
         sockets: &mut K,
         replica: &mut Replica<S>,
     )
-        ensures { GoesOn K.Sockets (wired_of self.old.crowd.talks sockets.old) replica.old
+        ensures { GoesOnServing K.Sockets (wired_of self.old.crowd.talks sockets.old) replica.old
             (wired_of self.new.crowd.talks sockets.new) replica.new }
     {
         self.next.clear();

@@ -3,7 +3,7 @@ ghost use Rattle.std.specs.Prelude.{◌≡◌, IfSome, OnErr, OnOk, Some};
 ghost use Rattle.mvd_conn.specs.History.{new_history};
 ghost use Rattle.mvd_host.specs.Hosts.{client_of};
 ghost use Rattle.mvd_server.specs.Guarded.{guard_for};
-ghost use Rattle.mvd_server.specs.Talking.{Comes, ComesBy, Does, GoesAtOnce, MayGo, OpensWeb, TalksDeeds, talking_of};
+ghost use Rattle.mvd_server.specs.Talking.{Comes, ComesBy, DoesAct, GoesAtOnce, MayGo, OpensWeb, TalksDeeds, talking_of};
 ghost use Rattle.mvd_server.specs.declared.talks.Kind.TheVariants.{Http};
 
 use crate::talks::{Kind, Talks};
@@ -29,7 +29,7 @@ impl Talks {
     fn admit_frames(&mut self) -> Option<u64>
         ensures guarded { IfSome result (λ number.
             client_of self.new.host number ≡ Some (new_history self.old.guard)) }
-        ensures comes { IfSome result (λ number. Does (Comes number) (talking_of self.old) (talking_of self.new)) }
+        ensures comes { IfSome result (λ number. DoesAct (Comes number) (talking_of self.old) (talking_of self.new)) }
         ensures own { self.new.own ≡ self.old.own }
         ensures deeds { TalksDeeds self.old self.new }
     {

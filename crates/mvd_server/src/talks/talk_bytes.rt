@@ -13,7 +13,7 @@ use mvd_dots::Refusal;
 use mvd_web::WebConnection;
 use mvd_wire::Ending;
 
-/// Where as many bytes wait to leave to a client, none of its frames is answered.
+/// The most bytes that wait to leave to a client: from there on none of its frames is answered.
 const WAITS_MAX: usize = 262_144;
 
 impl Talks {

@@ -1,5 +1,5 @@
 use Rattle.std.specs.Prelude.{◌≡◌, option_copied}
-use Rattle.mvd_client.specs.Between.{IsFresh}
+use Rattle.mvd_client.specs.Between.{IsFreshLine}
 use Rattle.mvd_client.specs.LetIn.{GivesIn}
 use Rattle.mvd_client.proofs.ends.meet.Given as goal
 
@@ -8,8 +8,8 @@ abbrev pub invariant-tries : goal.invariant-tries
 invariant-tries g l = record {
   near : l.near.address ≡ l.initial.near.address;
   far : l.far.address ≡ l.initial.far.address;
-  near_fresh : IsFresh g.D.Dialed.Line (GivesIn g.D.Dialed.Line (g.D.Dial.gives l.dial l.initial.near.address) (option_copied l.terms.token)) l.initial.near.link
-      → IsFresh g.D.Dialed.Line (GivesIn g.D.Dialed.Line (g.D.Dial.gives l.dial l.initial.near.address) (option_copied l.terms.token)) l.near.link;
-  far_fresh : IsFresh g.D.Dialed.Line (GivesIn g.D.Dialed.Line (g.D.Dial.gives l.dial l.initial.far.address) (option_copied l.terms.token)) l.initial.far.link
-      → IsFresh g.D.Dialed.Line (GivesIn g.D.Dialed.Line (g.D.Dial.gives l.dial l.initial.far.address) (option_copied l.terms.token)) l.far.link;
+  near_fresh : IsFreshLine g.D.Dialed.Line (GivesIn g.D.Dialed.Line (g.D.Dial.gives l.dial l.initial.near.address) (option_copied l.terms.token)) l.initial.near.link
+      → IsFreshLine g.D.Dialed.Line (GivesIn g.D.Dialed.Line (g.D.Dial.gives l.dial l.initial.near.address) (option_copied l.terms.token)) l.near.link;
+  far_fresh : IsFreshLine g.D.Dialed.Line (GivesIn g.D.Dialed.Line (g.D.Dial.gives l.dial l.initial.far.address) (option_copied l.terms.token)) l.initial.far.link
+      → IsFreshLine g.D.Dialed.Line (GivesIn g.D.Dialed.Line (g.D.Dial.gives l.dial l.initial.far.address) (option_copied l.terms.token)) l.far.link;
 }

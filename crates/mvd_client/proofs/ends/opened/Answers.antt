@@ -1,5 +1,5 @@
 use Rattle.std.proofs.Common.{◌∙◌, option_copied, refl, subst, sym}
-use Rattle.mvd_client.specs.Between.{IsFresh}
+use Rattle.mvd_client.specs.Between.{IsFreshLine}
 use Rattle.mvd_client.specs.LetIn.{GivesIn}
 use Rattle.mvd_client.proofs.ends.opened.Goals as goal
 
@@ -11,7 +11,7 @@ returns-then-link-lt-MOST_FRAMES-clause-none g c = c.take.ensures.after
 
 pub returns-then-link-lt-MOST_FRAMES-clause-opened : goal.returns-then-link-lt-MOST_FRAMES-clause-opened
 returns-then-link-lt-MOST_FRAMES-clause-opened g c = λ fresh.
-    subst (IsFresh g.D.Dialed.Line (GivesIn g.D.Dialed.Line (g.D.Dial.gives c.args.dial.now c.args.end.now.address) (option_copied c.args.terms.token))) (sym c.take.ensures.value ∙ c.in-Some.is) fresh
+    subst (IsFreshLine g.D.Dialed.Line (GivesIn g.D.Dialed.Line (g.D.Dial.gives c.args.dial.now c.args.end.now.address) (option_copied c.args.terms.token))) (sym c.take.ensures.value ∙ c.in-Some.is) fresh
 
 pub returns-in-Ok-clause-address : goal.returns-in-Ok-clause-address
 returns-in-Ok-clause-address g c = refl

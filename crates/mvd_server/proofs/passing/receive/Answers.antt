@@ -1,6 +1,6 @@
 use Rattle.std.proofs.Common.{refl, subst, take}
 use Rattle.mvd_server.specs.Talking.{talking_of}
-use Rattle.mvd_server.specs.Wires.{TakesIn, wired_of}
+use Rattle.mvd_server.specs.Wires.{TakesInput, wired_of}
 use Rattle.mvd_server.proofs.Deeds.{carries_deeds, carries_in, carries_on}
 use Rattle.mvd_server.proofs.Wiring.{carries_end, carries_still, takes_in}
 use Rattle.mvd_server.proofs.passing.receive.Goals as goal
@@ -12,7 +12,7 @@ returns-in-Bytes g c =
     let new = talking_of c.feed.new.self in
     let bytes = take c.in-Bytes.count c.read.new.piece.bytes.items in
     let takes = takes_in n c.first.result.now old new (c.wants_input.ensures c.if-not-wants_input.false) c.feed.ensures in
-    carries_in g.K.Sockets n bytes old new c.args.sockets.now c.read.new.sockets c.in-Bytes.ensures.gives (subst (λ b. TakesIn n b old new) c.first.ensures.first takes)
+    carries_in g.K.Sockets n bytes old new c.args.sockets.now c.read.new.sockets c.in-Bytes.ensures.gives (subst (λ b. TakesInput n b old new) c.first.ensures.first takes)
 
 pub returns-in-Nothing : goal.returns-in-Nothing
 returns-in-Nothing g c = carries_still g.K.Sockets (talking_of c.args.talks.now) c.args.sockets.now c.read.new.sockets c.in-Nothing.ensures.gives

@@ -97,7 +97,7 @@ abbrev pub TellsBatch : ℕ → WebValue → Batch → HostValue → WebValue �
 TellsBatch n old batch host new batch' host' =
     IsOnlyTold batch batch' × TakenFrom n host host'
     × ((told : Result Bool Refusal)
-        × OnOk told (TellsEach n batch host batch' host') × TellsAllLines told old batch' new)
+    × OnOk told (TellsEach n batch host batch' host') × TellsAllLines told old batch' new)
 
 -- ---- responses
 

@@ -110,7 +110,7 @@ module _ {K : Type 0} (k : Ghosts K) where
   WiredStep old new =
       (Deed old.talking new.talking × (new.sockets ≡ old.sockets))
       ⊎ ((n : ℕ) × (bytes : List ℕ) × k.gave old.sockets n bytes new.sockets
-          × TakesInput n bytes old.talking new.talking)
+      × TakesInput n bytes old.talking new.talking)
       ⊎ ((n : ℕ) × (bytes : List ℕ) × k.took old.sockets n bytes new.sockets × GivesOut n bytes old.talking new.talking)
 
   abbrev pub Carries : Wired K → Wired K → Type 0

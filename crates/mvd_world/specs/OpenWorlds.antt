@@ -178,8 +178,8 @@ pub record TellsWork (work : Exchanging) (report : Report) : Type 0 where
 abbrev pub MayStop : Machining → SyncFault → Type 0
 MayStop machine fault = (fault ≡ Local Memory) ⊎ (machine.stage ≡ Failed fault)
 
--- WHAT A GO COMES TO: a window, after which the session goes on (`has_gone`) or has failed (`has_failed`); it was done, and
--- nothing is asked (`is_done`); or it stops before anything is asked
+-- WHAT A GO COMES TO: a window, after which the session goes on (`has_gone`) or has failed (`has_failed`); it was done,
+-- and nothing is asked (`is_done`); or it stops before anything is asked
 pub data WindowsOn (setting : Setting) (local peer : ℕ) (machine : Machining) (before : Knowledge) (came : Came)
     (left : Option Machining) (after : Knowledge) : Type 0 where
   has_gone : (asking next : Machining) (step : Asking) → HasNext machine asking (Some step)

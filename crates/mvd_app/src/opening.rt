@@ -84,7 +84,7 @@ fn opened_as<'a, S: Start>(
     start: S,
 ) -> Result<Replica<FileStore<FileFrom<S>>>, Stop<'a>>
     ensures opened { IfOk result (λ replica. OpensAsSite (image_at S.Start) config (Ok replica)) }
-    // A file that was lost is not made, and is told as lost.
+    // A file that was lost is refused as lost.
     ensures lost { is_lost told ≡ true → IsErrAnd result (TellsLost db.entry) }
     // No other file is told so: it is opened, or refused for a cause.
     ensures found { is_lost told ≡ false → IfErr result (RefusesFile ⟦<FileStore<FileFrom<S>> as Store>⟧

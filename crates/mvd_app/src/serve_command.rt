@@ -27,7 +27,8 @@ pub(crate) fn serve_stored<'a, K: Sockets, S: Alter + Drop, W: Write>(
     writer: &mut W,
 ) -> Result<(), Stop<'a>>
     requires { ForSome peers ArePeers }
-    ensures { ServesTo K.Sockets (option_copied terms.entry.token) sockets.old replica.old sockets.new replica.new result }
+    ensures { ServesTo K.Sockets (option_copied terms.entry.token)
+        sockets.old replica.old sockets.new replica.new result }
 {
     let mut errors = rt.stderr();
     let mut outlet = match Outlet::new(rt, rt.alloc(), writer) {

@@ -133,10 +133,10 @@ pub(crate) fn meet<'a, D: Dial, E: Write>(
     ensures met { EndsBetween D.Dialed.Line
         (GivesIn D.Dialed.Line (D.gives dial.now near.old.address) (option_copied terms.entry.token))
         (GivesIn D.Dialed.Line (D.gives dial.now far.old.address) (option_copied terms.entry.token))
-        (IsFreshLine D.Dialed.Line (GivesIn D.Dialed.Line (D.gives dial.now near.old.address) (option_copied terms.entry.token))
-        near.old.link)
-        (IsFreshLine D.Dialed.Line (GivesIn D.Dialed.Line (D.gives dial.now far.old.address) (option_copied terms.entry.token))
-        far.old.link)
+        (IsFreshLine D.Dialed.Line
+        (GivesIn D.Dialed.Line (D.gives dial.now near.old.address) (option_copied terms.entry.token)) near.old.link)
+        (IsFreshLine D.Dialed.Line
+        (GivesIn D.Dialed.Line (D.gives dial.now far.old.address) (option_copied terms.entry.token)) far.old.link)
         near.old.address far.old.address near.new.link far.new.link result }
 {
     'tries: for _anew in 0..MOST_ANEW {
@@ -206,10 +206,10 @@ fn session<'a, D: Dial, E: Write>(
     ensures met { EndsBetween D.Dialed.Line
         (GivesIn D.Dialed.Line (D.gives dial.now near.old.address) (option_copied terms.entry.token))
         (GivesIn D.Dialed.Line (D.gives dial.now far.old.address) (option_copied terms.entry.token))
-        (IsFreshLine D.Dialed.Line (GivesIn D.Dialed.Line (D.gives dial.now near.old.address) (option_copied terms.entry.token))
-        near.old.link)
-        (IsFreshLine D.Dialed.Line (GivesIn D.Dialed.Line (D.gives dial.now far.old.address) (option_copied terms.entry.token))
-        far.old.link)
+        (IsFreshLine D.Dialed.Line
+        (GivesIn D.Dialed.Line (D.gives dial.now near.old.address) (option_copied terms.entry.token)) near.old.link)
+        (IsFreshLine D.Dialed.Line
+        (GivesIn D.Dialed.Line (D.gives dial.now far.old.address) (option_copied terms.entry.token)) far.old.link)
         near.old.address far.old.address near.new.link far.new.link result }
 {
     let side = Side::Local;

@@ -21,7 +21,8 @@ use std::marker::Model;
 /// The most frames that are taken of one connection.
 pub const FRAMES_MAX: u32 = 1_000_000;
 
-/// The most bytes that wait to leave: from there on no input is wanted, and no frame is taken where they wait or are owed.
+/// The most bytes that wait to leave: from there on no input is wanted, and no frame is taken where they wait or are
+/// owed.
 pub const WAITS_MAX: usize = 262_144;
 
 /// The most bytes that may come at once.

@@ -59,8 +59,8 @@ impl Host {
         self.clients.len()
     }
 
-    /// Admits a client, with a new connection, and gives its number. It is `None` where all places are taken. Where
-    /// there is a guard, nothing is taken of the client before it has shown the token.
+    /// Admits a client, with a new connection, and gives its number. It is `None` where all places are taken, or no
+    /// number is left. Where there is a guard, nothing is taken of the client before it has shown the token.
     pub fn admit(&mut self, guard: Option<Guard>) -> Result<Option<u64>, Refusal>
         ensures ok { IfOk result (λ number. Admits guard self.old number self.new) }
         ensures err { IfErr result (λ e. (e ≡ Refusal.Memory) × (self.new ≡ self.old)) }

@@ -53,7 +53,8 @@ fn push_next_count(
     entry: &KeyCount,
     is_first: bool,
 ) -> Result<(), Refusal>
-    ensures text { OnOk result (string_bytes out.new ≡ string_bytes out.old ++ led_if is_first key_count_text entry.now) }
+    ensures text { OnOk result
+        (string_bytes out.new ≡ string_bytes out.old ++ led_if is_first key_count_text entry.now) }
     ensures memory { IsOkUnless result Refusal.Memory }
 {
     if !is_first {

@@ -64,7 +64,8 @@ fn is_above(pairs: &[(Key, Vec<u8>)], key: &Key) -> bool
 /// Adds the key and the state that the row shows. It is refused where the row shows none, or the
 /// key is not above the last.
 pub fn push_row(alloc: Global, pairs: &mut Vec<(Key, Vec<u8>)>, row: &Row) -> Result<(), Refusal>
-    ensures pushed { OnOk result (pair_entries pairs.new.items ≡ pair_entries pairs.old.items ++ shown_row_entry row.now ∷ []) }
+    ensures pushed { OnOk result
+        (pair_entries pairs.new.items ≡ pair_entries pairs.old.items ++ shown_row_entry row.now ∷ []) }
     ensures form { OnOk result (is_key (bytes (column row.now 0)) ≡ true) }
     ensures rising { pairs_rise (pair_entries pairs.old.items)
         → OnOk result (pairs_rise (pair_entries pairs.new.items)) }

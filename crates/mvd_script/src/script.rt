@@ -87,7 +87,8 @@ impl Script {
     /// Whether the line may stand here; it is taken then.
     fn takes(&mut self, line: Line<'_>, out: &mut String) -> Result<bool, Fault>
         requires { string_bytes out.old ≡ [] }
-        ensures taken { IfOk result (λ is_taken. TakesLine line.entry self.old self.new is_taken (string_bytes out.new)) }
+        ensures taken { IfOk result (λ is_taken.
+            TakesLine line.entry self.old self.new is_taken (string_bytes out.new)) }
         ensures memory { IfErr result (λ fault. fault ≡ Stopped Memory) }
     {
         match line {

@@ -99,8 +99,8 @@ module _ {S : Type 0} {g : Ghosts S} where
   abbrev pub world_of : {K : Type 0} → Wired K → Replica S g → World K (Held S)
   world_of wired replica = record { wired = wired; site = site_of replica; conn = conn_of replica }
 
-  -- ONE HOST served all the while: by reads and writes of the sockets, by rounds, and by deeds that feed it no frames
-  -- of their own
+  -- ONE HOST served all the while: by reads and writes of the sockets, by rounds, and by deeds, which feed it frames for
+  -- requests over HTTP and for its own sessions alone
   abbrev pub GoesOnServing : {K : Type 0} → SocketGhosts K → Wired K → Replica S g → Wired K → Replica S g → Type 0
   GoesOnServing k wired old wired' new = Path (ServeStep (state g) k) (world_of wired old) (world_of wired' new)
 

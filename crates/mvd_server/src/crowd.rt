@@ -26,8 +26,8 @@ use std::collections::BTreeMap;
 use std::hash::RandomState;
 use std::mem;
 
-/// The most sockets that may be open at once beside those that are served: of clients that are told that there is no place,
-/// and of those that take their last reply. Further ones wait in the listener's queue.
+/// The most sockets that may be open at once beside those that are served: of clients that are told that there is no
+/// place, and of those that take their last reply. Further ones wait in the listener's queue.
 pub(crate) const SPARE: usize = 64;
 
 /// The numbers from this one on are of clients that are turned away. The host's are below it.

@@ -107,8 +107,10 @@ pub fn serve_run<
     writer: &mut W,
     errors: &mut E,
 ) -> Result<(), Stop<'a>>
-    // However it ends, the site changed by turns of one host alone, fed by its sockets, and its records follow.
-    ensures served { IsServed K.Sockets (option_copied terms.entry.token) sockets.old replica.old sockets.new replica.new }
+    // However it ends, the site changed by turns of one host alone, fed by its sockets and its sessions with peers, and
+    // its records follow.
+    ensures served { IsServed K.Sockets (option_copied terms.entry.token)
+        sockets.old replica.old sockets.new replica.new }
     // Where it ends well, nobody is left but the server's own.
     ensures left { OnOk result (EndsServed K.Sockets (option_copied terms.entry.token) sockets.old replica.old
         sockets.new replica.new) }

@@ -156,7 +156,8 @@ impl Talks {
         }
     }
 
-    /// Hands on the first writes of a client, which its request asks for. Where memory is refused to keep them, none is.
+    /// Hands on the first writes of a client, which its request asks for. Where memory is refused to keep them, none
+    /// is.
     fn begin_writes(&mut self, batch: Batch, number: u64, counts: &mut Counts)
         ensures { MayBegin number batch (talking_of self.old) → TalksDeeds self.old self.new }
     {

@@ -75,7 +75,8 @@ fn take_line<A: Endpoint, L: Losses<A>, R: BufRead, W: Write>(
     writer: &mut W,
     out: &mut String,
 ) -> Result<bool, Fault>
-    ensures told { ShellTakesLine A.answers L.lost number (at asked.old (R.remaining reader.old) (W.contents writer.old))
+    ensures told { ShellTakesLine A.answers L.lost number
+        (at asked.old (R.remaining reader.old) (W.contents writer.old))
         (at asked.new (R.remaining reader.new) (W.contents writer.new)) result }
     ensures asked { AsksInTurn A.answers asked.old asked.new }
     ensures ends { IfErr result EndsEarly }

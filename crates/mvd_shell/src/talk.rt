@@ -114,8 +114,8 @@ pub fn say<A: Endpoint>(
     }
 }
 
-/// Asks for page after page from a request on, and prints them. Nothing is asked for which there is no room to tell that
-/// it was done.
+/// Asks for page after page from a request on, and prints them. Nothing is asked for which there is no room to tell
+/// that it was done.
 fn say_pages<A: Endpoint>(
     alloc: Global,
     asked: &mut A,

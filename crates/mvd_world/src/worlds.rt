@@ -233,7 +233,8 @@ impl World {
         requires some_peer { 1 ≤ peer }
         requires within_peer { peer ≤ length self.old.sites.items }
         requires two { local ≢ peer }
-        ensures leads { Leads self.old self.new (λ setting before after. MeetSites setting before local peer result after) }
+        ensures leads { Leads self.old self.new
+            (λ setting before after. MeetSites setting before local peer result after) }
         ensures short { AreShort self.old → AreShort self.new }
     {
         sync_at(

@@ -222,7 +222,7 @@ same "the same file with room for its keys" "context 1:1 1:1 {} context 2:1 2:1 
 cp b.db damaged.db
 sql damaged.db "PRAGMA journal_mode = delete" "UPDATE states2 SET state = x'00' WHERE key = 'b'" >/dev/null
 refused "a damaged row" 1 "fault 17 Damaged" \
-  "damaged.db is damaged, or of a later version of mvd: name another file, or a copy of this one" \
+  "damaged.db is damaged, or of a later version of mvd: name another file, or make a new site from a copy (docs/USING.md, Backups)" \
   damaged.db serve --db damaged.db --site 2 --port "$port"
 sql other.db "CREATE TABLE note (title TEXT)" "INSERT INTO note VALUES ('a')" >/dev/null
 other=$(cksum <other.db)
@@ -239,7 +239,7 @@ refused "another program's database, with a table of one of our names" 1 "fault 
 same "its bytes" "$other" "$(cksum <other.db)"
 same "no log beside it" "" "$(ls other.db-wal 2>/dev/null || :)"
 seq 2000 >none.db
-refused "no database" 1 "fault 21 Store" "none.db is no database of mvd, or damaged: name another file, or a copy of this one" \
+refused "no database" 1 "fault 21 Store" "none.db is no database of mvd, or damaged: name another file, or make a new site from a copy (docs/USING.md, Backups)" \
   none.db serve --db none.db --site 2 --port "$port"
 refused "no folder" 1 "fault 21 Store" "no/b.db: unable to open database file; check its folder, its permissions and the disk" \
   b.db shell --db no/b.db --site 2

@@ -37,7 +37,7 @@ pub enum Hint<'a> {
     BadToken(&'a str),
     #[error("{0} is in use: end the program that has it open, or ask that one through its port")]
     InUse(&'a str),
-    #[error("{0} is no database of mvd, or damaged: name another file, or a copy of this one")]
+    #[error("{0} is no database of mvd, or damaged: name another file, or make a new site from a copy (docs/USING.md, Backups)")]
     NoDatabase(&'a str),
     #[error("{0} is missing, but its log is there: put the file back, docs/USING.md tells how")]
     Lost(&'a str),
@@ -45,7 +45,7 @@ pub enum Hint<'a> {
     Unusable(&'a str, sqlite::Error),
     #[error("{0} is the file of site {1}: give that number as --site, or name another file")]
     OtherSite(&'a str, u32),
-    #[error("{0} is damaged, or of a later version of mvd: name another file, or a copy of this one")]
+    #[error("{0} is damaged, or of a later version of mvd: name another file, or make a new site from a copy (docs/USING.md, Backups)")]
     Damaged(&'a str),
     #[error("{0} is the file of another program: name another file")]
     Foreign(&'a str),

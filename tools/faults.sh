@@ -3,8 +3,8 @@
 # It runs the proved tests (`rt test` in their crates, or `rt ci`, first), and needs a C compiler. And it does the same to
 # the program as a server that is asked one put over HTTP (tools/refused_web.py).
 # usage: tools/faults.sh                each growth of each test
-#        tools/faults.sh --short        each growth of the cheapest test and of the put, and each 50th of the others: what the
-#                                       gate runs
+#        tools/faults.sh --short        each growth of the script's test, all but the first of the server with the put, and each 50th
+#                                       of the others: what the gate runs
 #        tools/faults.sh web            each growth of the server with the put
 #        tools/faults.sh CRATE TEST     each growth of one test
 set -eu

@@ -69,8 +69,8 @@ CREATE TABLE states2 (key TEXT PRIMARY KEY NOT NULL, state TEXT NOT NULL) STRICT
 CREATE TABLE states (code TEXT); CREATE TABLE meta (name TEXT PRIMARY KEY, value INTEGER); CREATE TABLE other (x);
 ";
 
-/// Databases of ours, a line each, behind the tables of version 1 where it begins with a 1: a half of the tables, names
-/// in other letters, and tables of ours beside other objects.
+/// Databases of ours, a line each, behind the tables of version 1 where it begins with a 1: one of the tables, names in
+/// other letters, and tables of ours beside other objects.
 const OURS: &str = "\
 - CREATE TABLE states (key TEXT PRIMARY KEY NOT NULL, state BLOB NOT NULL) STRICT
 - CREATE TABLE Meta (Name TEXT PRIMARY KEY NOT NULL, Value INTEGER NOT NULL) STRICT

@@ -14,7 +14,7 @@ use std::alloc::AllocError;
 pub const LINE_ROOM: usize = 64;
 
 /// Puts the line of one reply to a write behind what `out` holds. Where `out` has room for `LINE_ROOM` bytes more, it
-/// takes no memory and gives no error.
+/// gives no error.
 pub fn push_line(out: &mut String, reply: &Reply) -> Result<(), AllocError>
     ensures text { OnOk result (string_bytes out.new ≡ string_bytes out.old ++ line_text reply.now) }
     ensures room { FillsRoom result out.old (length (line_text reply.now)) out.new }

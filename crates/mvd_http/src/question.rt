@@ -7,7 +7,7 @@ use mvd_wire::{Items, Request};
 pub enum Question {
     /// The page.
     Page,
-    /// The root of the hash tree, with the number of keys and the site.
+    /// The root of the hash tree, with the numbers of keys and of keys in conflict, and the site.
     Root,
     /// Counts.
     Metrics,

@@ -5,7 +5,7 @@ use Rattle.mvd_input.specs.declared.fault.Fault.{Fault}
 use Rattle.mvd_input.specs.declared.fault.Fault.TheVariants.{Stopped, Line}
 
 -- its input is too long, the reader or the writer failed, or memory was refused; else one of its lines, counted from 1,
--- is no command
+-- is at fault
 abbrev pub EndsEarly : Fault → Type 0
 EndsEarly (Stopped refusal) = (refusal ≡ Memory)
     ⊎ ((refusal ≡ FrameTooLong) ⊎ ((refusal ≡ ReadFailed) ⊎ (refusal ≡ WriteFailed)))

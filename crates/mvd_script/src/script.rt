@@ -228,8 +228,9 @@ impl Script {
 
 /// Runs the script that the reader gives, and writes what its commands print.
 ///
-/// It ends as `Line` at the first line that is not a command, or is no UTF-8, and as `Stopped` where the script has
-/// over 16,777,216 bytes, the reader or the writer fails, or memory is refused. What was printed before stays.
+/// It ends as `Line` at the first line that spells no command, may not stand there, or is no UTF-8, and as `Stopped`
+/// where the script has over 16,777,216 bytes, the reader or the writer fails, or memory is refused. What was printed
+/// before stays.
 pub fn sim<R: Read, W: Write>(alloc: Global, reader: &mut R, writer: &mut W) -> Result<(), Fault>
     ensures played { Simulates (R.remaining reader.old) (R.remaining reader.new) (W.contents writer.old)
         (W.contents writer.new) result }

@@ -36,8 +36,8 @@ abbrev pub changed_bytes : Changes → ℕ
 changed_bytes changes = sum_by (λ c. length c.0) changes
 
 -- What a call does that is to change all these keys: it does, or memory is refused, which is `Broken`, and some of the
--- first are changed, and not all. It computes the digest of each bucket and that of each node above once. These read
--- the digests of the keys in the buckets, and at most sixteen digests of each node
+-- first are changed, and not all. It computes the digest of each bucket and that of each node above at most once.
+-- These read the digests of the keys in the buckets, and at most sixteen digests of each node
 pub record ChangesAll
     (changes : Changes) (old new : KeyDigests) (result : Result ⊤ Refusal) (before after : Hashed) : Type 0 where
   pub ok : OnOk result (new ≡ changed_all old changes)

@@ -33,7 +33,7 @@ pub fn equal_roots_are_of_equal_maps<S>()
     ensures { (spelled : List ℕ → S → List ℕ) → EqualRootsAreOfEqualMaps spelled }
 {}
 
-/// A change of one key takes five computations: of its path, its bucket, and the three nodes above. These read the
+/// A change of one key takes at most five computations: of its path, its bucket, and the three nodes above. These read the
 /// digests of the keys with its path.
 pub fn one_change_is_counted()
     ensures keys { (held : KeyDigests) (key : List ℕ) (digest : Option (List ℕ)) →

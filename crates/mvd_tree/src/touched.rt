@@ -1,5 +1,5 @@
-//! Changes of keys: their buckets and the nodes over those, each of which is made anew once. It takes memory for the
-//! keys that are put in alone.
+//! Changes of keys: their buckets and the nodes over those, each of which is made anew once. It needs memory for the
+//! keys that are put in alone: a midstate for which there is none is not kept.
 ghost use Rattle.std.specs.Prelude.{◌≡◌, ℕ, ◌<◌, ◌+◌, ◌*◌, ◌/◌, List, IfErr, OnErr, OnOk, length, map, nat_eq};
 ghost use Rattle.std.specs.Prelude.{slice_index_or, slice_range, take};
 ghost use Rattle.std.specs.FinMap.{empty, entries, len};

@@ -75,8 +75,8 @@ impl Tree {
         Self::open(alloc, Vec::new(alloc), hashed)
     }
 
-    /// The tree of these keys with their digests. It computes each node once. The keys must rise,
-    /// which `rises` tests.
+    /// The tree of these keys with their digests. It computes each node at most once. The keys must
+    /// rise, which `rises` tests.
     pub fn open(
         alloc: Global,
         entries: Vec<(Key, [u8; 32])>,
@@ -121,8 +121,8 @@ impl Tree {
     }
 
     /// Changes keys, the later ones after the earlier ones. It computes each bucket that they touch and each node above
-    /// once, and takes memory for the keys that are put in alone. Where it is refused, which is `Broken`, some of the
-    /// first are changed, and not all.
+    /// at most once, and needs memory for the keys that are put in alone. Where it is refused, which is `Broken`, some
+    /// of the first are changed, and not all.
     pub fn change(&mut self, changes: &[KeyChange], hashed: &mut Hashed) -> Result<(), Refusal>
         ensures { ChangesAll changes.now self.old self.new result hashed.old hashed.new }
     {

@@ -1,14 +1,16 @@
 -- A request to change a key behind a change of that key that waits to be put in.
-use Rattle.std.specs.Prelude.{◌≡◌, ℕ, ◌+◌, ◌≤◌, false, List, [], ◌∷◌, ◌++◌, None, Some}
-use Rattle.std.specs.FinMap.{FinMap, empty, get, insert}
+use Rattle.std.specs.Prelude.{◌≡◌, ◌≢◌, ⊤, Bool, ℕ, ◌+◌, ◌<◌, ◌≤◌, false, true, List, [], ◌∷◌, ◌++◌, Option, None, Some, get_or, length}
+use Rattle.std.specs.List.{AllByRecursion}
+use Rattle.std.specs.FinMap.{FinMap, get, insert}
 use Rattle.mvd_keys.specs.Key.{key_cmp}
 use Rattle.mvd_keys.specs.Writes.{Key}
 use Rattle.mvd_wire.specs.declared.request.Request.{Request}
-use Rattle.mvd_wire.specs.declared.request.Request.TheVariants.{Put, Delete, Push}
+use Rattle.mvd_wire.specs.declared.request.Request.TheVariants.{Get, Put, Delete, Push, Hello, Bye}
 use Rattle.mvd_site.specs.Change.{ChangeValue}
 use Rattle.mvd_site.specs.Config.{ConfigValue}
 use Rattle.mvd_site.specs.Held.{States}
 use Rattle.mvd_site.specs.Installs.{with_group}
+use Rattle.mvd_site.specs.Over.{AsksToChange}
 use Rattle.mvd_site.specs.Sites.{SiteValue}
 use Rattle.mvd_kept.specs.declared.prepared.Prepared.{Prepared}
 use Rattle.mvd_kept.specs.declared.prepared.Prepared.TheVariants.{Answer, Change}
@@ -26,21 +28,25 @@ abbrev pub noted_at : Places → ℕ → Prepared → Places
 noted_at places at (Answer reply) = places
 noted_at places at (Change change) = insert places change.key at
 
--- and of each of a group, whose first is at that place
-abbrev pub noted : Places → ℕ → List Prepared → Places
-noted places at [] = places
-noted places at (prepared ∷ group) = noted (noted_at places at prepared) (at + 1) group
+-- what was prepared is no change of this key
+abbrev pub LeavesKey : Key → Prepared → Type 0
+LeavesKey key (Answer reply) = ⊤
+LeavesKey key (Change change) = change.key ≢ key
 
--- of each key that a group changes the place of its last change
-abbrev pub last_places : List Prepared → Places
-last_places group = noted empty 0 group
+-- at that place of a group stands this change, and its state is the one that the group leaves its key
+pub record StandsLast (group : List Prepared) (at : ℕ) (change : ChangeValue) : Type 0 where
+  pub stands : (other : Prepared) → get_or group at other ≡ Change change
+  pub leaves : (states : States) → get (with_group states group) change.key ≡ Some change.state
 
--- the request asks to change this key
-abbrev pub AsksToChange : Key → Request → Type 0
-AsksToChange key (Put own seen document) = own ≡ key
-AsksToChange key (Delete own seen) = own ≡ key
-AsksToChange key (Push own pushed) = own ≡ key
-AsksToChange key request = ⊥
+-- none of a group changes the key, or the last change of it stands at that place
+abbrev pub IsLastAt : List Prepared → Key → Option ℕ → Type 0
+IsLastAt group key None = AllByRecursion (LeavesKey key) group
+IsLastAt group key (Some at) =
+    (at < length group) × (change : ChangeValue) × (change.key ≡ key) × StandsLast group at change
+
+-- of each key that a group changes this is the place of its last change
+abbrev pub AreLast : List Prepared → Places → Type 0
+AreLast group places = (key : Key) → IsLastAt group key (get places key)
 
 -- the request asks to change none of these keys
 abbrev pub IsFree : Places → Request → Type 0
@@ -52,19 +58,22 @@ pub record IsLastBefore (group : List Prepared) (request : Request) (change : Ch
   pub leaves : (states : States) → get (with_group states group) change.key ≡ Some change.state
   pub sees : SeesAny request group
 
+-- the answer to the request can depend on the state of every key
+abbrev pub sees_all_keys : Request → Bool
+sees_all_keys (Get own) = false
+sees_all_keys (Put own seen document) = false
+sees_all_keys (Delete own seen) = false
+sees_all_keys (Push own pushed) = false
+sees_all_keys (Hello token) = false
+sees_all_keys Bye = false
+sees_all_keys request = true
+
 -- ---- what comes of it
 
--- a site where the key of a change has its state
-pub record IsAfter (config : ConfigValue) (before : ChangeValue) (site : SiteValue) : Type 0 where
-  pub config_is : site.config ≡ config
-  pub whole : site.broken ≡ false
-  pub holds : get site.states before.key ≡ Some before.state
-
 -- once the key has the state of that change, the request comes to this, whatever the other keys have
-pub record ComesBehind (config : ConfigValue) (before : ChangeValue) (request : Request)
-    (prepared : Prepared) : Type 0 where
-  pub comes : (states : States) → get states before.key ≡ Some before.state → ComesTo config states request prepared
-  pub sendable : IsSendable request prepared
+abbrev pub ComesBehind : ConfigValue → ChangeValue → Request → Prepared → Type 0
+ComesBehind config before request prepared = (states : States) → get states before.key ≡ Some before.state
+    → ComesTo config states request prepared × IsSendable request prepared
 
 -- it joins a group that adds some keys, and adds so many
 pub record JoinsGroup (site : SiteValue) (group : List Prepared) (added : ℕ) (request : Request) (prepared : Prepared)

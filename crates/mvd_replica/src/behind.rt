@@ -1,13 +1,14 @@
 //! What a request to change a key comes to behind a change of that key that waits to be put in.
-ghost use Rattle.std.specs.Prelude.{◌≡◌, IfOk, IfSome, None, Ok, false};
+ghost use Rattle.std.specs.Prelude.{◌≡◌, IfSome, None, Ok, false};
 ghost use Rattle.mvd_kept.specs.declared.prepared.Prepared.TheVariants.{Change as Changed};
-ghost use Rattle.mvd_replica.specs.Behind.{AsksToChange, ComesBehind, IsAfter, IsFree, IsLastBefore, last_places};
+ghost use Rattle.mvd_site.specs.Over.{AsksToChange};
+ghost use Rattle.mvd_replica.specs.Behind.{AreLast, ComesBehind, IsFree, IsLastBefore};
 ghost use Rattle.mvd_replica.specs.Groups.{ComesAlone};
 
 use crate::adding::key_asked;
 use crate::waiting::Waiting;
 use mvd_dots::Refusal;
-use mvd_site::{Change, Prepared, Site, may_be_held};
+use mvd_site::{Change, Prepared, Site};
 use mvd_wire::Request;
 
 /// Of the changes that wait the last of the key that a request asks to change.
@@ -16,7 +17,7 @@ pub fn last_change<'a>(
     waiting: &Waiting,
     request: &Request,
 ) -> Option<&'a Change>
-    requires { waiting.now ≡ last_places group.now }
+    requires { AreLast group.now waiting.now }
     ensures last { IfSome result (λ change. IsLastBefore group.now request.now change.now) }
     ensures none { result ≡ None → IsFree waiting.now request.now }
 {
@@ -43,22 +44,6 @@ fn change_in(prepared: Result<Prepared, Refusal>) -> Option<Change>
     }
 }
 
-/// A site with the key of a change alone, in the state that this leaves.
-fn site_after(site: &Site, before: &Change) -> Result<Site, Refusal>
-    ensures { IfOk result (IsAfter site.now.config before.now) }
-{
-    let alloc = site.alloc();
-    let state = before.state().copy(alloc)?;
-    if !may_be_held(&state) {
-        return Err(Refusal::StateTooLarge);
-    }
-    let key = before.key().copy(alloc)?;
-    let config = site.config().copy()?;
-    let mut states = Vec::with_capacity(alloc, 1)?;
-    states.push_reserved((key, state));
-    Site::open(alloc, config, states)
-}
-
 /// What a request comes to behind that change, if it is a change both alone and then. So the request may be refused with
 /// the others where the store refuses their commit. `None` also where memory is refused.
 pub fn follow(site: &Site, before: &Change, request: &Request) -> Option<Prepared>
@@ -70,15 +55,13 @@ pub fn follow(site: &Site, before: &Change, request: &Request) -> Option<Prepare
     let Some(_own) = change_in(site.prepare(request)) else {
         return None;
     };
-    let after = match site_after(site, before) {
-        Ok(after) => after,
-        Err(_) => return None,
-    };
-    let behind = change_in(after.prepare(request));
-    let Some(change) = behind else {
+    let Some(change) = change_in(site.prepare_after(before, request)) else {
         return None;
     };
-    // Here it is known that what comes in has a spelling.
-    let _state = change.state();
+    // Here it is known that what comes in has a spelling, that its siblings' dots were seen, and that its key is one.
+    let state = change.state();
+    let _seen = state.context();
+    let key = change.key();
+    let _text = key.text();
     Some(Prepared::Change(change))
 }

@@ -9,7 +9,7 @@ ghost use Rattle.mvd_wire.specs.Codecs.{spell_state};
 ghost use Rattle.mvd_wire.specs.declared.reply.Reply.TheVariants.{Refused};
 ghost use Rattle.mvd_site.specs.Installs.{changes_in, is_change};
 ghost use Rattle.mvd_replica.specs.Adding.{CountsKeys};
-ghost use Rattle.mvd_replica.specs.Behind.{JoinsGroup, last_places};
+ghost use Rattle.mvd_replica.specs.Behind.{AreLast, JoinsGroup};
 ghost use Rattle.mvd_replica.specs.Groups.{ComesTo, FirstWaits, IsSendable, MustWait};
 ghost use Rattle.mvd_replica.specs.Groups.{StandTogether, pairs_in, reply_unstored};
 ghost use Rattle.mvd_replica.specs.Replicas.{next_count};
@@ -72,7 +72,7 @@ fn join(
 ) -> Result<Option<(Prepared, u32)>, Refusal>
     requires count { changes ≡ changes_in group.now }
     requires keys { CountsKeys site.now group.now added }
-    requires noted { waiting.now ≡ last_places group.now }
+    requires noted { AreLast group.now waiting.now }
     ensures joins { IfOk result (λ found. IfSome found (λ it.
         JoinsGroup site.now group.now added request.now it.0 it.1)) }
     ensures short { IfOk result (λ found. IfSome found (λ _. length group.now < 1024)) }

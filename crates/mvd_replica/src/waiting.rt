@@ -6,7 +6,7 @@ ghost use Rattle.std.specs.FinMap as map;
 ghost use Rattle.mvd_dots.specs.declared.refusals.Refusal.TheVariants.{Memory};
 ghost use Rattle.mvd_kept.specs.declared.prepared.Prepared.{Prepared};
 ghost use Rattle.mvd_site.specs.Installs.{changes_in};
-ghost use Rattle.mvd_replica.specs.Behind.{IsFree, last_places, noted_at};
+ghost use Rattle.mvd_replica.specs.Behind.{AreLast, IsFree, noted_at, sees_all_keys};
 ghost use Rattle.mvd_replica.specs.Groups.{IsApart, SeesAny};
 
 use mvd_dots::Refusal;
@@ -86,11 +86,23 @@ impl Waiting {
     }
 }
 
-/// Whether a question can depend on one of the changes of a group that wait, of which there are so many.
+/// Whether the answer to a request can depend on the state of every key.
+fn sees_all(request: &Request) -> bool
+    ensures { result ≡ sees_all_keys request.now }
+{
+    match request {
+        Request::Get(_) | Request::Put(..) | Request::Delete(..) | Request::Push(..) => false,
+        Request::Hello(_) | Request::Bye => false,
+        _ => true,
+    }
+}
+
+/// Whether a request that asks to change none of their keys can depend on one of the changes that wait, of which there
+/// are so many.
 pub fn asks_any(request: &Request, waiting: &Waiting, changes: u32) -> bool
-    ensures apart { result ≡ false → (group : List Prepared) → waiting.now ≡ last_places group →
+    ensures apart { result ≡ false → (group : List Prepared) → AreLast group waiting.now →
         changes ≡ changes_in group → IsFree waiting.now request.now → AllByRecursion (IsApart request.now) group }
-    ensures sees { result ≡ true → (group : List Prepared) → waiting.now ≡ last_places group →
+    ensures sees { result ≡ true → (group : List Prepared) → AreLast group waiting.now →
         changes ≡ changes_in group → SeesAny request.now group }
 {
     if changes == 0 {
@@ -98,11 +110,6 @@ pub fn asks_any(request: &Request, waiting: &Waiting, changes: u32) -> bool
     }
     match request {
         Request::Get(key) => waiting.has(key),
-        Request::Put(..) => false,
-        Request::Delete(..) => false,
-        Request::Push(..) => false,
-        Request::Hello(_) => false,
-        Request::Bye => false,
-        _ => true,
+        _ => sees_all(request),
     }
 }

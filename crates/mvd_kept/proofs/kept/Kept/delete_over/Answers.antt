@@ -10,7 +10,7 @@ pub limited-requires : goal.limited-requires
 limited-requires c =
     let old = c.args.old.now in
     let done : after_delete old c.args.seen.now ≡ c.in-Ok.state = cc (c.in-Ok.ensures) in
-    λ none. sym done ∙ after_delete-empty old c.args.seen.now c.requires.valid (ap (λ (s : State). is_empty s.context) done ∙ none)
+    record { grows = λ none. sym done ∙ after_delete-empty old c.args.seen.now c.requires.valid (ap (λ (s : State). is_empty s.context) done ∙ none) }
 
 pub returns-in-Ok-clause-answer : goal.returns-in-Ok-clause-answer
 returns-in-Ok-clause-answer c = λ states found.

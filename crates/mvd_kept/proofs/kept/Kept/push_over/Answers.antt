@@ -45,7 +45,7 @@ pub limited-requires : goal.limited-requires
 limited-requires c =
     let old = c.args.old.now in
     let done = join_ok old c.args.pushed.now c.in-Ok.state c.in-Ok.ensures.answer in
-    λ none. done.1 ∙ join-empty old c.args.pushed.now c.requires.valid c.in-Ok.ensures.valid (ap (λ (s : State). is_empty s.context) (sym done.1) ∙ none)
+    record { grows = λ none. done.1 ∙ join-empty old c.args.pushed.now c.requires.valid c.in-Ok.ensures.valid (ap (λ (s : State). is_empty s.context) (sym done.1) ∙ none) }
 
 pub returns-in-Ok-clause-answer : goal.returns-in-Ok-clause-answer
 returns-in-Ok-clause-answer c = λ states found.

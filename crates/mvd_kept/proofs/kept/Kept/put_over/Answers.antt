@@ -27,7 +27,7 @@ pub limited-requires : goal.limited-requires
 limited-requires c =
     let old = c.args.old.now in
     let done = put_ok old c.args.seen.now c.in_ok-document.document (mint c.site.result (union old.context c.args.seen.now)) c.in-Ok.state c.in-Ok.dot c.in-Ok.ensures.answer in
-    λ none. absurd (true≢false (sym none ∙ ap (λ (s : State). is_empty s.context) done.1 ∙ is_empty-after_put old c.in-Ok.dot c.args.seen.now c.in_ok-document.document))
+    record { grows = λ none. absurd (true≢false (sym none ∙ ap (λ (s : State). is_empty s.context) done.1 ∙ is_empty-after_put old c.in-Ok.dot c.args.seen.now c.in_ok-document.document)) }
 
 pub returns-in-Ok-clause-answer : goal.returns-in-Ok-clause-answer
 returns-in-Ok-clause-answer c = λ states found.

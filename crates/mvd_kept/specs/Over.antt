@@ -1,5 +1,5 @@
 -- What a request comes to over a state that its key was found in, whatever states that was found among.
-use Rattle.std.specs.Prelude.{◌≡◌, Bool, false, is_some, Option, Some, Result, IfOk}
+use Rattle.std.specs.Prelude.{◌≡◌, Bool, false, is_some, Option, Result, IfOk}
 use Rattle.std.specs.FinMap.{get}
 use Rattle.mvd_dots.specs.Dot.{DotValue}
 use Rattle.mvd_dots.specs.declared.refusals.Refusal.{Refusal}

@@ -1,5 +1,5 @@
 -- Changes of keys that change already in a commit: where the last one stands, and what comes behind it.
-use Rattle.std.proofs.Common.{◌≡◌, ◌≢◌, ◌∙◌, ℕ, ◌+◌, ◌<◌, ◌≤◌, arith, Bool, true, false, cond, List, [], ◌∷◌, ◌++◌, Option, Some, None, is_some, true≢false, refl, sym, ap, subst, inl, inr, length, length-append, get_or}
+use Rattle.std.proofs.Common.{◌≡◌, ◌≢◌, ◌∙◌, ℕ, ◌+◌, ◌<◌, arith, Bool, true, false, cond, List, [], ◌∷◌, ◌++◌, Option, Some, None, is_some, true≢false, refl, sym, ap, subst, length, length-append, get_or}
 use Rattle.std.proofs.lemmas.List.{get_or_append_left}
 use Rattle.std.proofs.lemmas.Option.{same_Some}
 use Rattle.std.proofs.Math.Seq.{get_or-append_seam}
@@ -7,7 +7,7 @@ use Rattle.std.specs.List.{AllByRecursion}
 use Rattle.std.specs.Ordering.{eq_by_cmp}
 use Rattle.std.specs.FinMap.{empty, get, get-empty, get-insert, insert, len as map_len, len-insert}
 use Rattle.mvd_keys.specs.Key.{key_cmp}
-use Rattle.mvd_keys.specs.State.{State as Keyed, Text, after_delete, after_put, join}
+use Rattle.mvd_keys.specs.State.{State as Keyed, after_delete, after_put, join}
 use Rattle.mvd_keys.specs.Writes.{Key}
 use Rattle.mvd_keys.proofs.KeyOrder.{key_total, same_where_tied, tied_itself_key}
 use Rattle.mvd_keys.proofs.StatesOfWrites.{key_apart}
@@ -27,7 +27,7 @@ use Rattle.mvd_kept.specs.declared.prepared.Prepared.{Prepared}
 use Rattle.mvd_kept.specs.declared.prepared.Prepared.TheVariants.{Answer, Change}
 use Rattle.mvd_replica.specs.Adding.{CountsAdded, CountsKeys, KeepsRoomFor, adds_of, key_to_change}
 use Rattle.mvd_replica.specs.Behind.{AreLast, ComesBehind, IsFree, IsLastAt, IsLastBefore, JoinsGroup, LeavesKey, Places, StandsLast, noted_at, sees_all_keys}
-use Rattle.mvd_replica.specs.Groups.{ComesAlone, ComesTo, IsApart, IsElsewhere, IsSendable, Joins, SeesAny}
+use Rattle.mvd_replica.specs.Groups.{ComesAlone, ComesTo, IsApart, IsElsewhere, IsSendable, SeesAny}
 use Rattle.mvd_replica.proofs.AddedKeys.{counts_more, room_kept, with_more}
 use Rattle.mvd_replica.proofs.Grouping.{apart_at, comes_after, keyed}
 
@@ -44,7 +44,7 @@ insert_else : (m : States) (key own : Key) (s : Keyed) → own ≢ key → get (
 insert_else m key own s apart = get-insert key_total m key s own ∙ ap (λ b. cond b (Some s) (get m own)) (key_apart own key apart)
 
 longer : (group : List Prepared) (prepared : Prepared) (at : ℕ) → at < length group → at < length (group ++ prepared ∷ [])
-longer group prepared at low = let is = length-append group (prepared ∷ []) in omega (arith, low, is)
+longer group prepared at low = let is : length (group ++ prepared ∷ []) ≡ length group + 1 = length-append group (prepared ∷ []) in omega (arith, low, is)
 
 -- it stands where it stood, behind one more that leaves its key
 stands_on : (group : List Prepared) (at : ℕ) (change : ChangeValue) (prepared : Prepared) → at < length group → LeavesKey change.key prepared → StandsLast group at change → StandsLast (group ++ prepared ∷ []) at change
@@ -71,7 +71,7 @@ stands_new group change = record {
 
 last_new : (group : List Prepared) (change : ChangeValue) (key : Key) → change.key ≡ key → IsLastAt (group ++ Change change ∷ []) key (Some (length group))
 last_new group change key is =
-    let count = length-append group (Change change ∷ []) in
+    let count : length (group ++ Change change ∷ []) ≡ length group + 1 = length-append group (Change change ∷ []) in
     (omega (arith, count), change, is, stands_new group change)
 
 last_change : (group : List Prepared) (places : Places) (change : ChangeValue) (key : Key) (b : Bool) → eq_by_cmp key_cmp key change.key ≡ b → IsLastAt group key (get places key) →

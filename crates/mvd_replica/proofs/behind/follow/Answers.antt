@@ -1,12 +1,9 @@
-use Rattle.std.proofs.Common.{ap, sym, subst, ◌≡◌, Ok, true, Result}
-use Rattle.mvd_dots.specs.declared.refusals.Refusal.{Refusal}
+use Rattle.std.proofs.Common.{subst, ◌≡◌, true}
 use Rattle.mvd_keys.specs.Key.{is_key}
 use Rattle.mvd_keys.specs.State.{IsValid}
 use Rattle.mvd_site.specs.Known.{IsValidRequest}
 use Rattle.mvd_site.specs.Over.{with_states}
 use Rattle.mvd_site.specs.Prepared.{IsReady, PreparesFrom}
-use Rattle.mvd_kept.specs.declared.prepared.Prepared.{Prepared}
-use Rattle.mvd_kept.specs.declared.prepared.Prepared.TheVariants.{Change}
 use Rattle.std.specs.Prelude.{IfOk}
 use Rattle.mvd_replica.proofs.Grouped.{comes_change}
 use Rattle.mvd_replica.proofs.behind.follow.Goals as goal

@@ -1,4 +1,4 @@
-use Rattle.std.proofs.Common.{Some, sym, ◌∙◌}
+use Rattle.std.proofs.Common.{sym}
 use Rattle.mvd_replica.proofs.Behind.{free_none, free_unfound, last_before, place_change, place_low}
 use Rattle.mvd_replica.proofs.behind.last_change.Goals as goal
 

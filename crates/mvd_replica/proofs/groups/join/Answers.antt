@@ -1,4 +1,4 @@
-use Rattle.std.proofs.Common.{arith, inl, inr, Some}
+use Rattle.std.proofs.Common.{arith, inl, inr}
 use Rattle.mvd_replica.proofs.AddedKeys.{room_lacking}
 use Rattle.mvd_replica.proofs.Behind.{joins_behind, joins_beside}
 use Rattle.mvd_replica.proofs.groups.join.Goals as goal

@@ -2,7 +2,7 @@ use Rattle.std.proofs.Common.{◌∙◌, ◌+◌, ◌++◌, ◌∷◌, [], refl,
 use Rattle.std.proofs.lemmas.List.{take_more}
 use Rattle.mvd_site.specs.Installs.{changes_in}
 use Rattle.mvd_replica.specs.Adding.{CountsKeys}
-use Rattle.mvd_replica.specs.Behind.{AreLast, JoinsGroup, noted_at}
+use Rattle.mvd_replica.specs.Behind.{AreLast, JoinsGroup}
 use Rattle.mvd_replica.specs.Groups.{MustWait, StandTogether}
 use Rattle.mvd_replica.proofs.AddedKeys.{counts_none}
 use Rattle.mvd_replica.proofs.Behind.{last_more, last_none}

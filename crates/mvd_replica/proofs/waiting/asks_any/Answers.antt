@@ -1,4 +1,4 @@
-use Rattle.std.proofs.Common.{arith, sym, ◌∙◌}
+use Rattle.std.proofs.Common.{sym, ◌∙◌}
 use Rattle.mvd_replica.proofs.Behind.{apart_none, get_apart, get_sees, other_apart, other_sees}
 use Rattle.mvd_replica.proofs.waiting.asks_any.Goals as goal
 

@@ -1,7 +1,6 @@
-use Rattle.std.proofs.Common.{ap, sym, ◌∙◌}
+use Rattle.std.proofs.Common.{ap, ◌∙◌}
 use Rattle.std.specs.FinMap.{insert}
 use Rattle.mvd_kept.proofs.HeldMaps.{one_inserted}
-use Rattle.mvd_replica.specs.Behind.{noted_at}
 use Rattle.mvd_replica.proofs.waiting.Waiting.note.Goals as goal
 
 pub returns-clause-noted : goal.returns-clause-noted

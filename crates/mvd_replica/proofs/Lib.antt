@@ -15,7 +15,7 @@ pub mod Batched
 pub mod Grouping
 pub mod Putting
 pub mod AddedKeys
-pub mod Behind
+pub mod SameKey
 pub mod Still
 pub mod Counting
 pub mod Recording

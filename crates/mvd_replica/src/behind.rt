@@ -21,13 +21,14 @@ pub fn last_change<'a>(
     ensures last { IfSome result (λ change. IsLastBefore group.now request.now change.now) }
     ensures none { result ≡ None → IsFree waiting.now request.now }
 {
-    let Some(key) = key_asked(request) else {
-        return None;
+    let key = match key_asked(request) {
+        Some(key) => key,
+        None => return None,
     };
-    let Some(at) = waiting.place(key) else {
-        return None;
+    let at = match waiting.place(key) {
+        Some(at) => at,
+        None => return None,
     };
-    prove!(at < group.len());
     match &group[at] {
         Prepared::Change(change) => Some(change),
         Prepared::Answer(_) => unreachable!(),

@@ -21,6 +21,6 @@ returns-clause-alone c whole =
 pub returns-clause-behind : goal.returns-clause-behind
 returns-clause-behind c = λ states found.
     let site = with_states c.args.site.now states in
-    comes_change site c.args.request.now c.in-Some-2.change (subst (PreparesFrom site.config site.states c.args.request.now) c.in-Some-2.ensures (c.prepare_after.ensures.states states found))
-    (subst (λ r. IfOk r (IsReady site)) c.in-Some-2.ensures (c.prepare_after.ensures.ready states found)) (subst (λ r. IfOk r (λ _. IsValidRequest c.args.request.now)) c.in-Some-2.ensures c.prepare_after.ensures.valid) c.state-state.ensures.spelled
-    (subst IsValid c.state-state.ensures.state c.context-_seen.ensures.valid) (subst (λ k. is_key k ≡ true) c.key-key.ensures c.text-_text.ensures.key)
+    comes_change site c.args.request.now c.in-Some-change_in.change (subst (PreparesFrom site.config site.states c.args.request.now) c.in-Some-change_in.ensures (c.prepare_after.ensures.states states found))
+    (subst (λ r. IfOk r (IsReady site)) c.in-Some-change_in.ensures (c.prepare_after.ensures.ready states found)) (subst (λ r. IfOk r (λ _. IsValidRequest c.args.request.now)) c.in-Some-change_in.ensures c.prepare_after.ensures.valid) c.state-state.ensures.spelled
+    (subst IsValid c.state-state.ensures.state c.context-seen.ensures.valid) (subst (λ k. is_key k ≡ true) c.key-key.ensures c.text-text.ensures.key)

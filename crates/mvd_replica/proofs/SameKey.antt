@@ -4,6 +4,7 @@ use Rattle.std.proofs.lemmas.List.{get_or_append_left}
 use Rattle.std.proofs.lemmas.Option.{same_Some}
 use Rattle.std.proofs.Math.Seq.{get_or-append_seam}
 use Rattle.std.specs.List.{AllByRecursion}
+use Rattle.std.specs.Prelude.{IfSome}
 use Rattle.std.specs.Ordering.{eq_by_cmp}
 use Rattle.std.specs.FinMap.{empty, get, get-empty, get-insert, insert, len as map_len, len-insert}
 use Rattle.mvd_keys.specs.Key.{key_cmp}
@@ -265,3 +266,11 @@ joins_beside site group added count request prepared keys apart room broken come
   keys = counts_more site group request prepared added count keys apart broken comes adds;
   few = adds.few;
 }
+
+-- what joined, as the code has it
+pub of_joined : (P : Prepared → ℕ → Type 0) (found : Option (Prepared × ℕ)) (prepared : Prepared) (adds : ℕ) → found ≡ Some (prepared, adds) → IfSome found (λ it. P it.0 it.1) → P prepared adds
+of_joined P found prepared adds is all = subst (λ o. IfSome o (λ it. P it.0 it.1)) is all
+
+pub none_joined : (found : Option (Prepared × ℕ)) → ((it : Prepared × ℕ) → found ≡ Some it → ⊥) → found ≡ None
+none_joined None other = refl
+none_joined (Some it) other = absurd (other it refl)

@@ -4,7 +4,7 @@ use Rattle.std.specs.Coded.{Coded, code_by, coded×, coded_ℕ, coded_list, code
 use Rattle.mvd_dots.specs.Dot.{DotValue, dot_code}
 use Rattle.mvd_keys.specs.State.{State, state_code}
 use Rattle.mvd_keys.specs.Writes.{Key}
-use Rattle.mvd_wire.specs.Codecs.{spell_state}
+use Rattle.mvd_wire.specs.Codecs.{spell_state, state_limit}
 use Rattle.mvd_wire.specs.declared.reply.Reply.{Reply}
 use Rattle.mvd_wire.specs.declared.reply.Reply.TheVariants.{Written, Done}
 use Rattle.mvd_kept.specs.Answer.{spelled}
@@ -21,12 +21,13 @@ change_code =
     code_by (Key × (State × Option DotValue)) (coded× (coded_list coded_ℕ) (coded× state_code (coded_option dot_code)))
     (λ c. (c.key, (c.state, c.dot))) (λ p. record { key = p.0; state = p.1.0; dot = p.1.1 }) (λ _. refl)
 
--- the bytes are the key and then the state, as they are spelled, and the state begins there
+-- the bytes are the key and then the state, as they are spelled, and the state begins there; it is not too long
 pub record SpellsChange (key : Key) (s : State) (start : ℕ) (bytes : List ℕ) : Type 0 where
   pub whole : bytes ≡ spelled key s
   pub state : drop start bytes ≡ spell_state s
   pub within : start ≤ length bytes
   pub spelled : IsSpelled s
+  pub short : length (spell_state s) ≤ state_limit
 
 -- a put is answered with its dot, and a delete or a push is done
 abbrev pub change_reply : Option DotValue → Reply

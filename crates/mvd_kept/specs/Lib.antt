@@ -7,6 +7,7 @@ pub mod FromStates
 pub mod Held
 pub mod Known
 pub mod Prepared
+pub mod Over
 pub mod Sites
 pub mod Walk
 pub mod Installs

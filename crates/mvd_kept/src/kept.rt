@@ -5,7 +5,6 @@ ghost use Rattle.std.specs.FinMap as map;
 ghost use Rattle.mvd_count.specs.Counted.{RoseBy};
 ghost use Rattle.mvd_dots.specs.declared.refusals.Refusal.TheVariants.{Broken, DotClash, Memory};
 ghost use Rattle.mvd_keys.specs.State.{IsValid, clashes, empty_state};
-ghost use Rattle.mvd_keys.specs.Writes.{is_empty};
 ghost use Rattle.mvd_wire.specs.declared.request.Request.TheVariants.{Get, Put, Delete, Push};
 ghost use Rattle.mvd_wire.specs.declared.reply.Reply.TheVariants.{State as Shown};
 ghost use Rattle.mvd_kept.specs.Costs.{AnswerCosts, Costs, PrepareCosts};
@@ -14,21 +13,21 @@ ghost use Rattle.mvd_kept.specs.FromStates.{AnswersFrom, joined_site, push_reply
 ghost use Rattle.mvd_kept.specs.Held.{AreHeld, IsKept, state_at};
 ghost use Rattle.mvd_kept.specs.Installs.{broken_site};
 ghost use Rattle.mvd_kept.specs.Known.{IsValidRequest};
-ghost use Rattle.mvd_kept.specs.Prepared.{IsFrugal, IsReady, LimitsTo, PreparesAt, PreparesFrom};
+ghost use Rattle.mvd_kept.specs.Prepared.{IsFrugal, IsReady, PreparesAt, PreparesFrom};
 ghost use Rattle.mvd_kept.specs.Prepared.{PreparesFromStates, PreparesReply};
 ghost use Rattle.mvd_kept.specs.Sites.{SiteValue};
 
 use crate::config::Config;
 use crate::held::Held;
-use crate::prepared::{Change, Prepared, reply_of};
+use crate::prepared::Prepared;
 use crate::work::{HeldLook, Work};
 use mvd_count::Count;
 use mvd_docs::Document;
-use mvd_dots::{Context, Dot, Refusal};
+use mvd_dots::{Context, Refusal};
 use mvd_keys::{Key, KeyState};
 use mvd_rows::Rows;
 use mvd_tree::Tree;
-use mvd_wire::{Reply, Request, STATE_LIMIT, state_length};
+use mvd_wire::{Reply, Request};
 use std::alloc::Global;
 use std::marker::Model;
 
@@ -248,11 +247,7 @@ impl Kept {
     {
         let empty = KeyState::empty(self.alloc);
         let (is_held, old) = self.look(key, &empty, looks);
-        let document = document.copy()?;
-        match old.put(self.alloc, self.config.site(), seen, document) {
-            Err(refusal) => return Err(refusal),
-            Ok((state, dot)) => return self.limited(key, is_held, old, state, Some(dot)),
-        }
+        self.put_over(key, is_held, old, seen, document)
     }
 
     fn prepare_delete(
@@ -268,10 +263,7 @@ impl Kept {
     {
         let empty = KeyState::empty(self.alloc);
         let (is_held, old) = self.look(key, &empty, looks);
-        match old.delete(self.alloc, seen) {
-            Err(refusal) => return Err(refusal),
-            Ok(state) => return self.limited(key, is_held, old, state, None),
-        }
+        self.delete_over(key, is_held, old, seen)
     }
 
     /// What a push of this state to this key comes to, with at most one look at a held key state.
@@ -289,18 +281,9 @@ impl Kept {
             IfErr result (λ refusal. refusal ≢ Memory) }
         ensures looked { RoseBy 1 looks.old looks.new }
     {
-        if state_length(pushed) > STATE_LIMIT {
-            return Err(Refusal::StateTooLarge);
-        }
         let empty = KeyState::empty(self.alloc);
         let (is_held, old) = self.look(key, &empty, looks);
-        if old.includes(pushed) {
-            return Ok(Prepared::Answer(Reply::Done));
-        }
-        match old.join(self.alloc, pushed) {
-            Err(refusal) => return Err(refusal),
-            Ok(state) => return self.limited(key, is_held, old, state, None),
-        }
+        self.push_over(key, is_held, old, pushed)
     }
 
     /// Whether the key is held, and its state or the empty one. This is one look.
@@ -320,34 +303,5 @@ impl Kept {
             Some(state) => (true, state),
             None => (false, empty),
         }
-    }
-
-    /// What giving the key this state comes to, by the limits; `dot` is that of a put.
-    fn limited(
-        &self,
-        key: &Key,
-        is_held: bool,
-        old: &KeyState,
-        after: KeyState,
-        dot: Option<Dot>,
-    ) -> Result<Prepared, Refusal>
-        requires is_held { is_held ≡ is_some (map.get self.now.states key.now) }
-        requires old { old.now ≡ state_at self.now.states key.now }
-        requires grows { is_empty after.context ≡ true → after ≡ old.now }
-        ensures limits { LimitsTo self.now key.now after dot result }
-        ensures ready { IfOk result (IsReady self.now) }
-        ensures whole { IfErr result (λ refusal. refusal ≢ Broken) }
-    {
-        if state_length(&after) > STATE_LIMIT {
-            return Err(Refusal::StateTooLarge);
-        }
-        if old.same(&after) {
-            return Ok(Prepared::Answer(reply_of(dot)));
-        }
-        if !is_held && self.states.len() == self.config.max_keys() as usize {
-            return Err(Refusal::Full);
-        }
-        let change = Change::new(self.alloc, key, after, dot)?;
-        Ok(Prepared::Change(change))
     }
 }

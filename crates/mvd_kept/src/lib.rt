@@ -12,6 +12,7 @@ mod opening;
 mod prepared;
 mod questions;
 mod work;
+mod writes;
 
 pub use config::Config;
 pub use kept::Kept;

@@ -34,12 +34,12 @@ impl Model for Change {
 }
 
 impl Change {
-    ghost use Rattle.std.specs.Prelude.{◌≡◌, ◌≤◌, Ok, length};
+    ghost use Rattle.std.specs.Prelude.{◌≡◌, ◌≤◌, Ok, false, length};
     ghost use Rattle.mvd_dots.specs.Answer.{IsAnswer};
     ghost use Rattle.mvd_digest.specs.Counted.{Hashes};
     ghost use Rattle.mvd_tree.specs.States.{key_digest};
     ghost use Rattle.mvd_wire.specs.Codecs.{spell_state, state_limit};
-    ghost use Rattle.mvd_kept.specs.Answer.{spelled};
+    ghost use Rattle.mvd_kept.specs.Answer.{is_too_large, spelled};
     ghost use Rattle.mvd_kept.specs.Held.{IsSpelled};
 
     /// The change that gives the key this state, by a put of this dot if it is one.
@@ -69,10 +69,11 @@ impl Change {
         &self.key
     }
 
-    /// The state that the key is to have. It has a spelling, so its bytes decode to it again.
+    /// The state that the key is to have. It has a spelling, so its bytes decode to it again, and that is not too long.
     pub fn state(&self) -> &KeyState
         ensures state { result.now ≡ self.now.state }
         ensures spelled { IsSpelled self.now.state }
+        ensures short { is_too_large self.now.state ≡ false }
     {
         &self.state
     }

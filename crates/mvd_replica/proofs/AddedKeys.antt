@@ -14,7 +14,7 @@ use Rattle.mvd_wire.specs.declared.request.Request.{Request}
 use Rattle.mvd_wire.specs.declared.reply.Reply.TheVariants.{Refused}
 use Rattle.mvd_site.specs.Change.{ChangeValue}
 use Rattle.mvd_site.specs.Held.{AreHeld, States, state_at}
-use Rattle.mvd_site.specs.Installs.{changes_in, with_group, with_prepared}
+use Rattle.mvd_site.specs.Installs.{with_group, with_prepared}
 use Rattle.mvd_site.specs.Sites.{SiteValue}
 use Rattle.mvd_kept.specs.declared.prepared.Prepared.{Prepared}
 use Rattle.mvd_kept.specs.declared.prepared.Prepared.TheVariants.{Answer, Change}
@@ -77,7 +77,7 @@ lacks_where site request added (Err refusal) some full is = tt
 pub counts_none : (site : SiteValue) → CountsKeys site [] 0
 counts_none site = record { most = omega arith; few = omega arith; exact = λ _. omega arith }
 
-with_more : (m : States) (group : List Prepared) (prepared : Prepared) → with_group m (group ++ prepared ∷ []) ≡ with_prepared (with_group m group) prepared
+pub with_more : (m : States) (group : List Prepared) (prepared : Prepared) → with_group m (group ++ prepared ∷ []) ≡ with_prepared (with_group m group) prepared
 with_more m [] prepared = refl
 with_more m (p ∷ group) prepared = with_more (with_prepared m p) group prepared
 
@@ -116,15 +116,6 @@ counts_more site group request (Change change) added count keys apart broken com
     (grown site.states (with_group site.states group) change (found_changed site.config site.states group request change apart (comes whole).0.0))
 
 -- ---- room for the next
-
-still_with : (group : List Prepared) (m : States) → changes_in group ≡ 0 → with_group m group ≡ m
-still_with [] m none = refl
-still_with (Answer reply ∷ group) m none = still_with group m (omega (arith, none))
-still_with (Change change ∷ group) m none = absurd (omega (arith, none))
-
--- no change waits
-pub room_still : (site : SiteValue) (group : List Prepared) (request : Request) → changes_in group ≡ 0 → KeepsRoom site.config site.states (with_group site.states group) request
-room_still site group request none = inl (ap map_len (still_with group site.states none))
 
 pub room_kept : (site : SiteValue) (group : List Prepared) (request : Request) (added : ℕ) → CountsKeys site group added → KeepsRoomFor site request added →
     KeepsRoom site.config site.states (with_group site.states group) request

@@ -2,7 +2,6 @@
 use Rattle.std.proofs.Common.{◌≡◌, ◌≢◌, ◌∙◌, ℕ, ◌+◌, ◌<◌, arith, true, false, List, [], ◌∷◌, ◌++◌, None, Result, Ok, Err, refl, sym, ap, ap₂, subst, subst₂, inl, inr, true≢false, length, take, get_or, append-nil}
 use Rattle.std.proofs.lemmas.List.{map-append, take_more}
 use Rattle.std.specs.Prelude.{IfSome, IsTrue, OnOk}
-use Rattle.std.specs.List.{AllByRecursion}
 use Rattle.mvd_dots.specs.declared.refusals.Refusal.{Refusal}
 use Rattle.mvd_dots.specs.declared.refusals.Refusal.TheVariants.{Broken, Memory}
 use Rattle.mvd_keys.specs.Key.{is_key}
@@ -29,12 +28,11 @@ use Rattle.mvd_site.specs.Sites.{SiteValue}
 use Rattle.mvd_site.proofs.Outcomes.{change_plain, refused_fits}
 use Rattle.mvd_site.proofs.Pushes.{refusal_is}
 use Rattle.mvd_site.proofs.Runs.{fitting}
-use Rattle.mvd_replica.specs.Groups.{ComesTo, IsApart, IsGivenReply, IsSendable, MayJoin, StandTogether, pairs_in}
+use Rattle.mvd_replica.specs.Groups.{ComesTo, IsGivenReply, IsSendable, pairs_in}
 use Rattle.sqlite.specs.Effect.{Database}
 use Rattle.sqlite.specs.State.{State as Shown, Survives}
 use Rattle.sqlite.proofs.StateLemmas.{survives_weaker}
 use Rattle.mvd_replica.specs.Shared.{LeavesPairs}
-use Rattle.mvd_replica.proofs.Grouping.{together_more}
 use Rattle.mvd_replica.proofs.Putting.{nothing_added}
 
 -- ---- what was prepared, as the code has it
@@ -88,18 +86,10 @@ comes_change site request change from ready valid spelled sound key =
 
 -- ---- lists, one more
 
-pub apart_more : (request : Request) (group : List Prepared) (prepared : Prepared) → AllByRecursion (IsApart request) group → IsApart request prepared → AllByRecursion (IsApart request) (group ++ prepared ∷ [])
-apart_more request [] prepared all one = (one, tt)
-apart_more request (p ∷ group) prepared all one = (all.0, apart_more request group prepared all.1 one)
-
 pub pairs_more : (group : List Prepared) (prepared : Prepared) → pairs_in (group ++ prepared ∷ []) ≡ pairs_in group ++ pairs_in (prepared ∷ [])
 pairs_more [] prepared = refl
 pairs_more (Answer reply ∷ group) prepared = pairs_more group prepared
 pairs_more (Change change ∷ group) prepared = ap (λ l. (change.key, spell_state change.state) ∷ l) (pairs_more group prepared)
-
-pub together_joined : (site : SiteValue) (requests : List Request) (group : List Prepared) (request : Request) (prepared : Prepared) → StandTogether site requests group →
-    ComesTo site.config site.states request prepared × IsSendable request prepared → MayJoin site request group → StandTogether site (requests ++ request ∷ []) (group ++ prepared ∷ [])
-together_joined site requests group request prepared all one may = together_more site requests group request prepared all one may.apart may.room
 
 -- ---- what is stored, as the code has it
 

@@ -30,7 +30,7 @@ use Rattle.mvd_site.specs.Sites.{SiteValue, has_no_room}
 use Rattle.mvd_site.proofs.Answered.{with_state-same, with_state-seen}
 use Rattle.mvd_site.specs.Installs.{MayAllBeIn, MayBeIn, changes_in, is_change, with_group, with_one, with_prepared}
 use Rattle.mvd_replica.specs.Adding.{KeepsRoom}
-use Rattle.mvd_replica.specs.Groups.{AllComeTo, AreSendable, ComeInOrder, ComesTo, FirstWaits, IsApart, IsElsewhere, IsSendable, MustWait, SeesAny, StandTogether, pairs_in}
+use Rattle.mvd_replica.specs.Groups.{AllComeAlone, AreSendable, ComeInOrder, ComesAlone, ComesTo, FirstWaits, IsApart, IsElsewhere, IsSendable, Joins, MustWait, StandTogether, pairs_in}
 
 -- ---- a request at one key is untouched by a change of another
 
@@ -70,7 +70,7 @@ FindsAlike config m n Bye = Unit {0}
 FindsAlike config m n request = n ≡ m
 
 -- the key of a change is that of its request
-keyed : (key : Key) (s : Keyed) (c : Key × Keyed) → Some (key, s) ≡ Some c → key ≡ c.0
+pub keyed : (key : Key) (s : Keyed) (c : Key × Keyed) → Some (key, s) ≡ Some c → key ≡ c.0
 keyed key s c is = let same : ◌≡◌ {A = Key × Keyed} (key, s) c = cc in ap (λ p. p.0) same
 
 -- and it is another than one that the request does not see
@@ -230,7 +230,7 @@ answer_elsewhere config m key s request apart room =
     let change : ChangeValue = record { key = key; state = s; dot = None } in
     answer_alike config m (insert m key s) request (alike_after config m (Change change ∷ []) request (apart, tt) room)
 
-comes_after : (config : ConfigValue) (group : List Prepared) (m : States) (request : Request) (prepared : Prepared) → IsSendable request prepared → AllByRecursion (IsApart request) group →
+pub comes_after : (config : ConfigValue) (group : List Prepared) (m : States) (request : Request) (prepared : Prepared) → IsSendable request prepared → AllByRecursion (IsApart request) group →
     KeepsRoom config m (with_group m group) request → ComesTo config m request prepared → ComesTo config (with_group m group) request prepared
 comes_after config group m request prepared sendable apart room comes =
     comes_alike config m (with_group m group) request (alike_after config m group request apart room) prepared sendable comes
@@ -243,8 +243,8 @@ sendable_more [] (p ∷ group) request prepared all one = absurd all
 sendable_more (r ∷ requests) [] request prepared all one = absurd all
 sendable_more (r ∷ requests) (p ∷ group) request prepared all one = (all.0, sendable_more requests group request prepared all.1 one)
 
-each_more : (config : ConfigValue) (m : States) (requests : List Request) (group : List Prepared) (request : Request) (prepared : Prepared) → AllComeTo config m requests group → ComesTo config m request prepared →
-    AllComeTo config m (requests ++ request ∷ []) (group ++ prepared ∷ [])
+each_more : (config : ConfigValue) (m : States) (requests : List Request) (group : List Prepared) (request : Request) (prepared : Prepared) → AllComeAlone config m requests group → ComesAlone config m request prepared →
+    AllComeAlone config m (requests ++ request ∷ []) (group ++ prepared ∷ [])
 each_more config m [] [] request prepared all one = (one, tt)
 each_more config m [] (p ∷ group) request prepared all one = absurd all
 each_more config m (r ∷ requests) [] request prepared all one = absurd all
@@ -260,36 +260,24 @@ ordered_more config m (r ∷ requests) (p ∷ group) request prepared all one = 
 pub together_none : (site : SiteValue) → StandTogether site [] []
 together_none site = record { each = tt; ordered = tt; sendable = tt }
 
-pub together_more : (site : SiteValue) (requests : List Request) (group : List Prepared) (request : Request) (prepared : Prepared) → StandTogether site requests group →
-    ComesTo site.config site.states request prepared × IsSendable request prepared → AllByRecursion (IsApart request) group →
-    KeepsRoom site.config site.states (with_group site.states group) request →
+pub together_more : (site : SiteValue) (requests : List Request) (group : List Prepared) (request : Request) (prepared : Prepared) → StandTogether site requests group → Joins site request group prepared →
     StandTogether site (requests ++ request ∷ []) (group ++ prepared ∷ [])
-together_more site requests group request prepared all one apart room = record {
-  each = each_more site.config site.states requests group request prepared all.each one.0;
-  ordered = ordered_more site.config site.states requests group request prepared all.ordered (comes_after site.config group site.states request prepared one.1 apart room one.0);
-  sendable = sendable_more requests group request prepared all.sendable one.1;
+together_more site requests group request prepared all one = record {
+  each = each_more site.config site.states requests group request prepared all.each one.alone;
+  ordered = ordered_more site.config site.states requests group request prepared all.ordered one.behind;
+  sendable = sendable_more requests group request prepared all.sendable one.sendable;
 }
 
 pub changes_more : (group : List Prepared) (prepared : Prepared) → changes_in (group ++ prepared ∷ []) ≡ changes_in group + is_change prepared
 changes_more [] prepared = omega arith
 changes_more (p ∷ group) prepared = let later : changes_in (group ++ prepared ∷ []) ≡ changes_in group + is_change prepared = changes_more group prepared in omega (arith, later)
 
--- no change waits
-pub apart_none : (request : Request) (group : List Prepared) → changes_in group ≡ 0 → AllByRecursion (IsApart request) group
-apart_none request [] none = tt
-apart_none request (Answer reply ∷ group) none = (tt, apart_none request group (omega (arith, none)))
-apart_none request (Change change ∷ group) none = absurd (omega (arith, none))
-
 -- ---- which request waits
 
-apart_at : (request : Request) (group : List Prepared) (i : ℕ) (d : Prepared) → i < length group → AllByRecursion (IsApart request) group → IsApart request (get_or group i d)
+pub apart_at : (request : Request) (group : List Prepared) (i : ℕ) (d : Prepared) → i < length group → AllByRecursion (IsApart request) group → IsApart request (get_or group i d)
 apart_at request [] i d low all = absurd (omega (arith, low))
 apart_at request (p ∷ group) zero d low all = all.0
 apart_at request (p ∷ group) (suc i) d low all = apart_at request group i d (omega (arith, low)) all.1
-
--- it sees one of them
-pub sees_at : (request : Request) (group : List Prepared) (i : ℕ) (item : Prepared) → i < length group → item ≡ get_or group i item → (IsApart request item → ⊥) → SeesAny request group
-sees_at request group i item low is sees all = sees (subst (IsApart request) (sym is) (apart_at request group i item low all))
 
 -- the next one, as the code has it
 pub next_waits : (site : SiteValue) (requests : List Request) (group : List Prepared) (i : ℕ) (request : Request) → length group ≡ i → i < length requests → request ≡ get_or requests i request →

@@ -15,6 +15,7 @@ pub mod Batched
 pub mod Grouping
 pub mod Putting
 pub mod AddedKeys
+pub mod SameKey
 pub mod Still
 pub mod Counting
 pub mod Recording

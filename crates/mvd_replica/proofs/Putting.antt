@@ -26,7 +26,7 @@ use Rattle.mvd_site.proofs.Outcomes.{change_plain, join_ok, refused_fits}
 use Rattle.mvd_site.proofs.Prepare.{answers_from_answer, answers_from_breaking, answers_from_change}
 use Rattle.mvd_replica.specs.Batch.{AnswersOneFrom, AreAmongTurns, Loses, TakesAllFrom, lost_requests}
 use Rattle.mvd_site.specs.Installs.{PutsAll, PutsIfWhole, PutsOne, broken_site, with_group, with_one, with_prepared}
-use Rattle.mvd_replica.specs.Groups.{AllComeTo, AreSendable, ComeInOrder, ComesTo, IsAlone, IsGivenReply, IsSendable, StandTogether, pairs_in, reply_unstored}
+use Rattle.mvd_replica.specs.Groups.{AllComeAlone, AreSendable, ComeInOrder, ComesAlone, ComesTo, IsAlone, IsGivenReply, IsSendable, StandTogether, pairs_in, reply_unstored}
 use Rattle.mvd_replica.specs.Sides.{AnswersFromStored}
 use Rattle.mvd_replica.specs.Whole.{after_all}
 use Rattle.mvd_replica.specs.Turns.{IsToldElse, Turn}
@@ -179,7 +179,7 @@ one_forgone old request change refusal whole memory alone =
     (inl (λ _. inr (inl (ap Refused memory, refl)))) (λ frugal _. absurd (no_change old.config old.states request change frugal alone.0.0)) (λ held. held)
 
 pub together_alone : (site : SiteValue) (request : Request) (change : ChangeValue) → IsAlone site request change → StandTogether site (request ∷ []) (Change change ∷ [])
-together_alone site request change alone = record { each = (alone.0, tt); ordered = (alone.0, tt); sendable = (alone.1, tt) }
+together_alone site request change alone = record { each = ((change, alone.0), tt); ordered = (alone.0, tt); sendable = (alone.1, tt) }
 
 pub ordered_after : (old mid : SiteValue) (prepared : Prepared) (reply : Reply) (requests : List Request) (group : List Prepared) → PutsIfWhole old mid prepared reply →
     (old.broken ≡ false → ComeInOrder old.config (with_prepared old.states prepared) requests group) → mid.broken ≡ false → ComeInOrder mid.config mid.states requests group
@@ -202,15 +202,15 @@ takes_put (r ∷ requests) (p ∷ group) (x ∷ replies) old new ordered sendabl
   takes_put requests group replies all.0 new (ordered_after old all.0 p x requests group all.1 (λ whole. (ordered whole).1)) sendable.1 all.2,
 )
 
-one_unstored_from : (old : SiteValue) (request : Request) (prepared : Prepared) → old.broken ≡ false → ComesTo old.config old.states request prepared → IsSendable request prepared → AnswersOneFrom old old request (reply_unstored prepared)
+one_unstored_from : (old : SiteValue) (request : Request) (prepared : Prepared) → old.broken ≡ false → ComesAlone old.config old.states request prepared → IsSendable request prepared → AnswersOneFrom old old request (reply_unstored prepared)
 one_unstored_from old request (Answer reply) was comes sendable = one_whole old old request reply reply was refl sendable (inl (answers_same old request reply comes)) comes.1 (λ held. held)
 one_unstored_from old request (Change change) was comes sendable =
     one_whole old old request (Refused Store) (Refused Store) was refl
     (record { other = λ bad. cc; fits = refused_fits Store; choice = nothing_added request Store })
-    (inr (record { told = refl; changes = λ same. insert_differs old.states change.key change.state comes.0.differs (sym comes.0.after ∙ same); whole = was; site = refl }))
+    (inr (record { told = refl; changes = λ same. insert_differs old.states comes.0.key comes.0.state comes.1.0.differs (sym comes.1.0.after ∙ same); whole = was; site = refl }))
     (λ _ bad. cc) (λ held. held)
 
-pub takes_unstored : (requests : List Request) (group : List Prepared) (old : SiteValue) → old.broken ≡ false → AllComeTo old.config old.states requests group → AreSendable requests group →
+pub takes_unstored : (requests : List Request) (group : List Prepared) (old : SiteValue) → old.broken ≡ false → AllComeAlone old.config old.states requests group → AreSendable requests group →
     TakesAllFrom old old (turns_of requests (map reply_unstored group))
 takes_unstored [] [] old was each sendable = refl
 takes_unstored [] (p ∷ group) old was each sendable = absurd sendable

@@ -14,7 +14,7 @@ use Rattle.mvd_kept.specs.declared.prepared.Prepared.TheVariants.{Answer, Change
 use Rattle.mvd_site.specs.Sites.{SiteValue}
 use Rattle.mvd_replica.specs.Batch.{HoldsLost, TakesAllFrom, lost_requests}
 use Rattle.mvd_site.specs.Installs.{PutsAll, PutsIfWhole, PutsOne, with_group}
-use Rattle.mvd_replica.specs.Groups.{AllComeTo, AreSendable, ComeInOrder, IsSendable, pairs_in, reply_unstored}
+use Rattle.mvd_replica.specs.Groups.{AllComeAlone, AreSendable, ComeInOrder, IsSendable, pairs_in, reply_unstored}
 use Rattle.mvd_replica.specs.Holds.{AreSpelled, HoldsSite, HoldsStates, SpellStates}
 use Rattle.mvd_replica.specs.Shared.{LeavesPairs}
 use Rattle.mvd_replica.specs.Whole.{after_all}
@@ -220,7 +220,7 @@ module _ (requests : List Request) (group : List Prepared) (replies : List Reply
   }
 
 -- the store refused them
-pub stores_none : (requests : List Request) (group : List Prepared) (old : SiteValue) (before after : State) → old.broken ≡ false → AllComeTo old.config old.states requests group →
+pub stores_none : (requests : List Request) (group : List Prepared) (old : SiteValue) (before after : State) → old.broken ≡ false → AllComeAlone old.config old.states requests group →
     ComeInOrder old.config old.states requests group → AreSendable requests group → AreSpelled old.states → (IsSound after → after.committed ≡ before.committed) →
     IsLast after → (pairs_in group ≡ [] → after ≡ before) → Survives before after (LeavesPairs before (pairs_in group)) →
     StoresTurns (turns_of requests (map reply_unstored group)) old old before after

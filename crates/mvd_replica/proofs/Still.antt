@@ -11,13 +11,13 @@ use Rattle.mvd_kept.specs.declared.prepared.Prepared.{Prepared}
 use Rattle.mvd_kept.specs.declared.prepared.Prepared.TheVariants.{Answer, Change}
 use Rattle.sqlite_trees.specs.declared.store.Store.{Ghosts}
 use Rattle.mvd_replica.specs.declared.replica.Replica.{Replica}
-use Rattle.mvd_replica.specs.Groups.{AllComeTo}
+use Rattle.mvd_replica.specs.Groups.{AllComeAlone}
 use Rattle.mvd_replica.specs.Commits.{ChangesNothing, IsStill}
 use Rattle.mvd_wire.specs.declared.reply.Reply.{Reply}
 use Rattle.mvd_replica.proofs.Putting.{AreOne, turns_of}
 
 -- requests that change nothing are prepared as answers
-pub none_changed : (site : SiteValue) (requests : List Request) (group : List Prepared) → AllComeTo site.config site.states requests group → AllByRecursion (ChangesNothing site) requests →
+pub none_changed : (site : SiteValue) (requests : List Request) (group : List Prepared) → AllComeAlone site.config site.states requests group → AllByRecursion (ChangesNothing site) requests →
     changes_in group ≡ 0
 none_changed site [] [] each still = refl
 none_changed site [] (p ∷ group) each still = absurd each
@@ -25,7 +25,7 @@ none_changed site (r ∷ requests) [] each still = absurd each
 none_changed site (r ∷ requests) (Answer reply ∷ group) each still =
     let later : changes_in group ≡ 0 = none_changed site requests group each.1 still.1 in omega (arith, later)
 none_changed site (r ∷ requests) (Change change ∷ group) each still =
-    absurd (insert_differs site.states change.key change.state each.0.0.differs (sym each.0.0.after ∙ still.0))
+    absurd (insert_differs site.states each.0.0.key each.0.0.state each.0.1.0.differs (sym each.0.1.0.after ∙ still.0))
 
 -- turns that change nothing ask nothing that would
 pub still_requests : (site : SiteValue) (requests : List Request) (replies : List Reply) → AreOne requests replies → AllByRecursion (IsStill site) (turns_of requests replies) → AllByRecursion (ChangesNothing site) requests

@@ -56,6 +56,11 @@ ComesTo config states request (Answer reply) =
 ComesTo config states request (Change change) =
     PreparesChangeFrom config states request change × (has_no_room config states change.key ≡ false)
 
+-- the request comes to this alone; or, where this is a change, to some change
+abbrev pub ComesAlone : ConfigValue → States → Request → Prepared → Type 0
+ComesAlone config states request (Answer reply) = ComesTo config states request (Answer reply)
+ComesAlone config states request (Change change) = (own : ChangeValue) × ComesTo config states request (Change own)
+
 -- the reply can be sent, and there are writes that the request then adds
 pub record IsGivenReply (request : Request) (reply : Reply) : Type 0 where
   pub other : reply ≢ Refused Broken
@@ -71,28 +76,29 @@ IsSendable request (Change change) =
 
 -- ---- many
 
--- each request came to this from these states
-abbrev pub AllComeTo : ConfigValue → States → List Request → List Prepared → Type 0
-AllComeTo config states [] [] = ⊤
-AllComeTo config states (request ∷ requests) (prepared ∷ group) =
-    ComesTo config states request prepared × AllComeTo config states requests group
-AllComeTo config states requests group = ⊥
+-- each request comes to this alone, or to some change where this is one
+abbrev pub AllComeAlone : ConfigValue → States → List Request → List Prepared → Type 0
+AllComeAlone config states [] [] = ⊤
+AllComeAlone config states (request ∷ requests) (prepared ∷ group) =
+    ComesAlone config states request prepared × AllComeAlone config states requests group
+AllComeAlone config states requests group = ⊥
 
 abbrev pub AreSendable : List Request → List Prepared → Type 0
 AreSendable [] [] = ⊤
 AreSendable (request ∷ requests) (prepared ∷ group) = IsSendable request prepared × AreSendable requests group
 AreSendable requests group = ⊥
 
--- each request comes to this also once what was prepared before it is put in
+-- each request comes to this once what was prepared before it is put in
 abbrev pub ComeInOrder : ConfigValue → States → List Request → List Prepared → Type 0
 ComeInOrder config states [] [] = ⊤
 ComeInOrder config states (request ∷ requests) (prepared ∷ group) =
     ComesTo config states request prepared × ComeInOrder config (with_prepared states prepared) requests group
 ComeInOrder config states requests group = ⊥
 
--- What was prepared of requests beside each other: each stands by itself, and after those before it
+-- What was prepared of requests that share a commit: each is right after those before it. Where the store refuses the
+-- commit, a reply is right without them too, and a change is refused that would have changed something without them
 pub record StandTogether (site : SiteValue) (requests : List Request) (group : List Prepared) : Type 0 where
-  pub each : AllComeTo site.config site.states requests group
+  pub each : AllComeAlone site.config site.states requests group
   pub ordered : ComeInOrder site.config site.states requests group
   pub sendable : AreSendable requests group
 
@@ -101,10 +107,11 @@ abbrev pub IsAlone : SiteValue → Request → ChangeValue → Type 0
 IsAlone site request change =
     ComesTo site.config site.states request (Change change) × IsSendable request (Change change)
 
--- a request may be prepared beside these: it sees none of them, and once they are in there is as much room for it
-pub record MayJoin (site : SiteValue) (request : Request) (group : List Prepared) : Type 0 where
-  pub apart : AllByRecursion (IsApart request) group
-  pub room : KeepsRoom site.config site.states (with_group site.states group) request
+-- the request comes to this behind these
+pub record Joins (site : SiteValue) (request : Request) (group : List Prepared) (prepared : Prepared) : Type 0 where
+  pub alone : ComesAlone site.config site.states request prepared
+  pub behind : ComesTo site.config (with_group site.states group) request prepared
+  pub sendable : IsSendable request prepared
 
 -- the request may see a key that one of these changes
 abbrev pub SeesAny : Request → List Prepared → Type 0

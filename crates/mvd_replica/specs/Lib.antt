@@ -17,6 +17,7 @@ pub mod SideCalls
 pub mod Batch
 pub mod Adding
 pub mod Groups
+pub mod Behind
 pub mod Shared
 pub mod Asks
 pub mod Replicas

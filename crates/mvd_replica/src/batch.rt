@@ -14,12 +14,13 @@ use mvd_wire::{Reply, Request};
 use sqlite::Alter;
 
 impl<S: Alter> Replica<S> {
-    /// The replies of `answer` to one request after the other. Up to 1,024 requests share a commit, as long as none
-    /// of them could see what one before it changes, there is room left for a key that it may add, and memory is not
-    /// refused for it. No reply tells of a change that is not committed. Where a commit is refused, each change in it
-    /// is told so, and nothing of it was done. Where putting a change in breaks the site, that request and all after
-    /// it are told so; the records hold its change, and those of some later ones. Where memory is refused for the list
-    /// of replies, nothing was done.
+    /// The replies of `answer` to one request after the other. Up to 1,024 requests share a commit, also changes of one
+    /// key, each over the one before it. It ends before a question that could see what one before it changes; before a
+    /// request at a key that changes already which changes nothing, alone or then; and where there may be no room for a
+    /// key that is added, or memory is refused. No reply tells of a change that is not committed. Where a commit is
+    /// refused, each change in it is told so, and nothing of it was done. Where putting a change in breaks the site,
+    /// that request and all after it are told so; the records hold its change, and those of some later ones. Where
+    /// memory is refused for the list of replies, nothing was done.
     pub fn answer_all(&mut self, requests: &[Request]) -> Result<Vec<Reply>, Refusal>
         ensures { AnswersMany self.old requests.now result self.new }
     {

@@ -1,7 +1,7 @@
 //! What requests come to that share a commit: prepared side by side, and stored at once.
-ghost use Rattle.std.specs.Prelude.{◌≡◌, ◌≤◌, ◌<◌, ◌+◌, ◌++◌, [], IfErr, IfOk, drop, false, length, map, take, true};
+ghost use Rattle.std.specs.Prelude.{◌≡◌, ◌≤◌, ◌<◌, ◌+◌, ◌++◌, [], IfErr, IfOk, IfSome, None, drop, false, length, map};
+ghost use Rattle.std.specs.Prelude.{take, true};
 ghost use Rattle.std.specs.Prelude.{vec_capacity};
-ghost use Rattle.std.specs.List.{AllByRecursion};
 ghost use Rattle.mvd_records.specs.Pairs.{pair_entries};
 ghost use Rattle.mvd_dots.specs.declared.refusals.Refusal.TheVariants.{Broken};
 ghost use Rattle.mvd_kept.specs.declared.prepared.Prepared.TheVariants.{Answer};
@@ -9,14 +9,17 @@ ghost use Rattle.mvd_wire.specs.Codecs.{spell_state};
 ghost use Rattle.mvd_wire.specs.declared.reply.Reply.TheVariants.{Refused};
 ghost use Rattle.mvd_site.specs.Installs.{changes_in, is_change};
 ghost use Rattle.mvd_replica.specs.Adding.{CountsKeys};
-ghost use Rattle.mvd_replica.specs.Groups.{ComesTo, FirstWaits, IsApart, IsElsewhere, IsSendable, MayJoin, MustWait};
-ghost use Rattle.mvd_replica.specs.Groups.{SeesAny, StandTogether, pairs_in, reply_unstored};
+ghost use Rattle.mvd_replica.specs.Behind.{AreLast, JoinsGroup};
+ghost use Rattle.mvd_replica.specs.Groups.{ComesTo, FirstWaits, IsSendable, MustWait};
+ghost use Rattle.mvd_replica.specs.Groups.{StandTogether, pairs_in, reply_unstored};
 ghost use Rattle.mvd_replica.specs.Replicas.{next_count};
 ghost use Rattle.mvd_replica.specs.Restored.{WereSound};
 ghost use Rattle.mvd_replica.specs.Shared.{IsUnstored, StoresNone, StoresOpen, StoresPairs, SurvivesPairs};
 ghost use Rattle.mvd_replica.specs.Shared.{WereClean};
 
 use crate::adding::{SHARING_MAX, keys_added, lacks_room};
+use crate::behind::{follow, last_change};
+use crate::waiting::{Waiting, asks_any};
 use mvd_dots::Refusal;
 use mvd_keys::Key;
 use mvd_records::Records;
@@ -24,74 +27,6 @@ use mvd_site::{Change, Prepared, Site};
 use mvd_wire::{Reply, Request};
 use sqlite::Alter;
 use std::alloc::Global;
-
-/// Whether the answer to a request can depend on the state of this key.
-fn sees(request: &Request, key: &Key) -> bool
-    ensures apart { result ≡ false → IsElsewhere key.now request.now }
-    ensures sees { result ≡ true → IsElsewhere key.now request.now → ⊥ }
-{
-    match request {
-        Request::Get(own) => *own == *key,
-        Request::Put(own, ..) => *own == *key,
-        Request::Delete(own, _) => *own == *key,
-        Request::Push(own, _) => *own == *key,
-        Request::Hello(_) | Request::Bye => false,
-        _ => true,
-    }
-}
-
-/// Whether it can depend on what this changes.
-fn sees_one(request: &Request, prepared: &Prepared) -> bool
-    ensures apart { result ≡ false → IsApart request.now prepared.now }
-    ensures sees { result ≡ true → IsApart request.now prepared.now → ⊥ }
-{
-    match prepared {
-        Prepared::Change(change) => sees(request, change.key()),
-        Prepared::Answer(_) => false,
-    }
-}
-
-/// Whether it can depend on what one of these changes.
-fn sees_any(request: &Request, group: &[Prepared]) -> bool
-    ensures apart { result ≡ false → AllByRecursion (IsApart request.now) group.now }
-    ensures sees { result ≡ true → SeesAny request.now group.now }
-{
-    for prepared in group {
-        if sees_one(request, prepared) {
-            return true;
-        }
-    }
-    false
-}
-
-/// Whether a request has to wait until these, with so many changes and keys that they add, are put in: it could see
-/// one, or there may be less room for it then, or they are as many as share a commit.
-fn must_wait(
-    site: &Site,
-    group: &[Prepared],
-    changes: u32,
-    added: u32,
-    request: &Request,
-) -> Result<bool, Refusal>
-    requires count { changes ≡ changes_in group.now }
-    requires keys { CountsKeys site.now group.now added }
-    ensures joins { IfOk result (λ waits. waits ≡ false → MayJoin site.now request.now group.now) }
-    ensures short { IfOk result (λ waits. waits ≡ false → length group.now < 1024) }
-    ensures waits { IfOk result (λ waits. waits ≡ true → MustWait site.now request.now group.now) }
-    ensures memory { IfErr result (λ refusal. refusal ≡ Refusal.Memory) }
-{
-    if group.len() >= SHARING_MAX {
-        return Ok(true);
-    }
-    if changes == 0 {
-        return Ok(false);
-    }
-    let lacks = lacks_room(site, added, request)?;
-    if lacks {
-        return Ok(true);
-    }
-    Ok(sees_any(request, group))
-}
 
 /// The number of changes that this is.
 fn changes_of(prepared: &Prepared) -> u32
@@ -125,6 +60,49 @@ pub fn prepare_one(site: &Site, request: &Request) -> Prepared
     prepared
 }
 
+/// What a request comes to behind a group, with how many keys it adds; `None` where it has to wait until that is put in:
+/// it could see a change, there may be less room for it then, or they are as many as share a commit.
+fn join(
+    site: &Site,
+    group: &[Prepared],
+    waiting: &Waiting,
+    changes: u32,
+    added: u32,
+    request: &Request,
+) -> Result<Option<(Prepared, u32)>, Refusal>
+    requires count { changes ≡ changes_in group.now }
+    requires keys { CountsKeys site.now group.now added }
+    requires noted { AreLast group.now waiting.now }
+    ensures joins { IfOk result (λ found. IfSome found (λ it.
+        JoinsGroup site.now group.now added request.now it.0 it.1)) }
+    ensures short { IfOk result (λ found. IfSome found (λ _. length group.now < 1024)) }
+    ensures waits { IfOk result (λ found. found ≡ None → MustWait site.now request.now group.now) }
+    ensures memory { IfErr result (λ refusal. refusal ≡ Refusal.Memory) }
+{
+    if group.len() >= SHARING_MAX {
+        return Ok(None);
+    }
+    match last_change(group, waiting, request) {
+        Some(before) => {
+            return match follow(site, before, request) {
+                Some(prepared) => Ok(Some((prepared, 0))),
+                None => Ok(None),
+            };
+        }
+        None => {}
+    }
+    let lacks = lacks_room(site, added, request)?;
+    if lacks {
+        return Ok(None);
+    }
+    if asks_any(request, waiting, changes) {
+        return Ok(None);
+    }
+    let prepared = prepare_one(site, request);
+    let adds = keys_added(site, &prepared)?;
+    Ok(Some((prepared, adds)))
+}
+
 /// What requests come to, from the first on, up to one that has to wait for those before it.
 pub fn prepare_all(
     alloc: Global,
@@ -141,15 +119,15 @@ pub fn prepare_all(
     ensures memory { IfErr result (λ refusal. refusal ≡ Refusal.Memory) }
 {
     let mut group = Vec::with_capacity(alloc, requests.len().min(SHARING_MAX))?;
+    let mut waiting = Waiting::new(alloc);
     let mut changes: u32 = 0;
     let mut added: u32 = 0;
     for request in requests {
-        let waits = must_wait(site, &group, changes, added, request)?;
-        if waits {
+        let joined = join(site, &group, &waiting, changes, added, request)?;
+        let Some((prepared, adds)) = joined else {
             return Ok(group);
-        }
-        let prepared = prepare_one(site, request);
-        let adds = keys_added(site, &prepared)?;
+        };
+        waiting.note(alloc, &prepared, group.len(), requests.len())?;
         added += adds;
         changes += changes_of(&prepared);
         group.push_reserved(prepared);

@@ -3,6 +3,7 @@
 
 mod adding;
 mod batch;
+mod behind;
 pub mod calls;
 pub mod file;
 mod groups;
@@ -13,6 +14,7 @@ mod restoring;
 pub mod serving;
 mod side;
 mod turns;
+mod waiting;
 
 pub use adding::key_asked;
 pub use calls::ViewRows;

@@ -7,5 +7,6 @@ pub use Rattle.mvd_kept.specs.FromStates
 pub use Rattle.mvd_kept.specs.Held
 pub use Rattle.mvd_kept.specs.Installs
 pub use Rattle.mvd_kept.specs.Known
+pub use Rattle.mvd_kept.specs.Over
 pub use Rattle.mvd_kept.specs.Prepared
 pub use Rattle.mvd_kept.specs.Sites

@@ -15,10 +15,12 @@ ghost use Rattle.mvd_wire.specs.declared.request.Request.TheVariants.{Push};
 ghost use Rattle.mvd_kept.specs.Answer.{digests, node_digests};
 ghost use Rattle.mvd_kept.specs.AtOnce.{AnswersRequest};
 ghost use Rattle.mvd_kept.specs.FromStates.{AnswersFrom, bucket_refusal, joined_site, push_reply, unless_broken};
-ghost use Rattle.mvd_kept.specs.Held.{AreHeld, IsHeldState, state_at};
+ghost use Rattle.mvd_kept.specs.Held.{AreHeld, IsHeldState, States, state_at};
 ghost use Rattle.mvd_kept.specs.Installs.{InstallsAll, MayAllBeIn, broken_site, changed_site};
 ghost use Rattle.mvd_kept.specs.Known.{KnownEvent, IsValidRequest, Tells};
-ghost use Rattle.mvd_kept.specs.Prepared.{IsChangeNow, IsFrugal, IsReady, PreparesAt, PreparesFromStates};
+ghost use Rattle.mvd_kept.specs.Over.{AsksToChange, with_states};
+ghost use Rattle.mvd_kept.specs.Prepared.{IsChangeNow, IsFrugal, IsReady, PreparesAt, PreparesFrom};
+ghost use Rattle.mvd_kept.specs.Prepared.{PreparesFromStates};
 ghost use Rattle.mvd_kept.specs.Sites.{AnswersFromNothing, SiteValue, has_no_room, opened};
 
 use crate::uncounted::no_work;
@@ -159,6 +161,20 @@ impl Site {
         ensures frugal { IsFrugal self.now.states request.now → IfErr result (λ refusal. refusal ≢ Memory) }
     {
         self.kept.prepare(request, &mut begun())
+    }
+
+    /// What a request to change the key of a change comes to once that is put in, whatever else is. Nothing is changed
+    /// yet.
+    pub fn prepare_after(&self, before: &Change, request: &Request) -> Result<Prepared, Refusal>
+        requires { AsksToChange before.now.key request.now }
+        ensures states { (states : States) → map.get states before.now.key ≡ Some before.now.state →
+            PreparesFrom self.now.config states request.now result }
+        ensures ready { (states : States) → map.get states before.now.key ≡ Some before.now.state →
+            IfOk result (IsReady (with_states self.now states)) }
+        ensures valid { IfOk result (λ _. IsValidRequest request.now) }
+        ensures whole { IfErr result (λ refusal. refusal ≢ Broken) }
+    {
+        self.kept.prepare_after(before, request)
     }
 
     /// The state of a key, empty where the key is not held. A broken site refuses it.

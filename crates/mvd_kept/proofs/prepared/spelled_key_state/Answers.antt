@@ -23,4 +23,4 @@ returns-clause-spells c =
     subst (λ n. SpellsChange key state n c.extend_from_slice.new.self.items) (sym sized)
     (behind key state c.in_ok-bytes.bytes.items c.in_ok-state.state.items c.extend_from_slice.new.self.items c.in_ok-bytes.ensures.spells.1 (sym is)
     (c.in_ok-extend_from_slice.ensures.items ∙ ap (λ l. c.in_ok-bytes.bytes.items ++ l) c.deref.ensures.value)
-    (record { fits = c.in_ok-state.ensures.spells.0 }))
+    (record { fits = c.in_ok-state.ensures.spells.0 }) c.requires)

@@ -1,6 +1,7 @@
-use Rattle.std.proofs.Common.{◌≡◌, ◌≤◌, false, length, min, take, vec_capacity}
+use Rattle.std.proofs.Common.{◌≡◌, ◌<◌, ◌≤◌, false, length, min, take, vec_capacity}
 use Rattle.mvd_site.specs.Installs.{changes_in}
 use Rattle.mvd_replica.specs.Adding.{CountsKeys}
+use Rattle.mvd_replica.specs.Behind.{AreLast}
 use Rattle.mvd_replica.specs.Groups.{StandTogether}
 use Rattle.mvd_replica.proofs.groups.prepare_all.Given as goal
 
@@ -12,5 +13,6 @@ invariant-loop-request l = record {
   room : min (length l.requests) 1024 ≤ vec_capacity l.group;
   few : l.changes ≤ length l.group.items;
   keys : CountsKeys l.site l.group.items l.added;
+  noted : l.request-index < length l.requests → AreLast l.group.items l.waiting;
   together : l.site.broken ≡ false → StandTogether l.site (take l.request-index l.requests) l.group.items;
 }

@@ -1,65 +1,13 @@
-use Rattle.std.proofs.Common.{◌≡◌, Bool, true, false, true≢false, refl, ap, sym, ◌∙◌, subst, ⊎_elim, inl, inr, None, Ok}
-use Rattle.mvd_keys.specs.State.{State, clashes, join, join_answer}
-use Rattle.mvd_keys.specs.Writes.{is_empty}
-use Rattle.mvd_keys.proofs.Lists.{join-empty}
-use Rattle.mvd_wire.specs.declared.reply.Reply.TheVariants.{Done, Refused}
-use Rattle.mvd_kept.specs.Answer.{is_too_large}
-use Rattle.mvd_kept.specs.Held.{state_at}
-use Rattle.mvd_kept.proofs.Lengths.{is_short}
-use Rattle.mvd_kept.specs.declared.prepared.Prepared.TheVariants.{Answer}
-use Rattle.mvd_kept.proofs.Outcomes.{change_plain, join_err, join_ok, memory_or_not}
-use Rattle.mvd_kept.proofs.Prepare.{limited_push, pushed_clash}
-use Rattle.mvd_kept.proofs.Steps.{within-still}
+use Rattle.std.proofs.Common.{refl, subst, Ok, ◌≡◌, sym}
+use Rattle.mvd_keys.specs.State.{State, join_answer}
 use Rattle.mvd_kept.proofs.kept.Kept.prepare_push.Goals as goal
 
-pub returns-then-includes-clause-answer : goal.returns-then-includes-clause-answer
-returns-then-includes-clause-answer c =
-    let site = c.args.self.now in
-    let old = c.look-is_held.result.1.now in
-    let pushed = c.args.pushed.now in
-    let small : is_too_large pushed ≡ false = is_short pushed c.state_length.result c.state_length.ensures.length c.if-state_length-gt-STATE_LIMIT.false in
-    let same = join_ok old pushed old (c.if-includes.ensures.known.0 refl) in
-    limited_push site c.args.key.now pushed old (Ok (Answer Done)) small
-    (ap (λ s. clashes s pushed) (sym c.look-is_held.ensures.state) ∙ same.0) (same.1 ∙ ap (λ s. join s pushed) c.look-is_held.ensures.state)
-    (within-still site.config site.states c.args.key.now old Done c.look-is_held.ensures.kept.short c.look-is_held.ensures.state, refl, c.look-is_held.ensures.state)
+pub returns-clause-answer : goal.returns-clause-answer
+returns-clause-answer c = c.push_over.ensures.answer c.args.self.now.states (record { is_held = c.look-is_held.ensures.is_held; state = c.look-is_held.ensures.state; own = λ _. refl })
 
-pub returns-then-includes-clause-ready : goal.returns-then-includes-clause-ready
-returns-then-includes-clause-ready c = change_plain None
+pub returns-clause-ready : goal.returns-clause-ready
+returns-clause-ready c = c.push_over.ensures.ready c.args.self.now.states (record { is_held = c.look-is_held.ensures.is_held; state = c.look-is_held.ensures.state; own = λ _. refl })
 
-pub returns-in-Err-clause-answer : goal.returns-in-Err-clause-answer
-returns-in-Err-clause-answer c =
-    let old = c.look-is_held.result.1.now in
-    let pushed = c.args.pushed.now in
-    let small : is_too_large pushed ≡ false = is_short pushed c.state_length.result c.state_length.ensures.length c.if-state_length-gt-STATE_LIMIT.false in
-    ⊎_elim (λ memory. inr memory)
-    (λ other.
-    let clash = join_err old pushed c.in-Err.refusal (c.in-Err.ensures.answer other) in
-    inl (ap Refused clash.1 ∙ pushed_clash c.args.self.now c.args.key.now pushed small (ap (λ s. clashes s pushed) (sym c.look-is_held.ensures.state) ∙ clash.0)))
-    (memory_or_not c.in-Err.refusal)
-
-pub limited-requires-clause-grows : goal.limited-requires-clause-grows
-limited-requires-clause-grows c =
-    let old = c.look-is_held.result.1.now in
-    let done = join_ok old c.args.pushed.now c.in-Ok.state c.in-Ok.ensures.answer in
-    λ none. done.1 ∙ join-empty old c.args.pushed.now c.look-is_held.ensures.kept.valid c.in-Ok.ensures.valid (ap (λ (s : State). is_empty s.context) (sym done.1) ∙ none)
-
-pub returns-in-Ok-clause-answer : goal.returns-in-Ok-clause-answer
-returns-in-Ok-clause-answer c =
-    let old = c.look-is_held.result.1.now in
-    let pushed = c.args.pushed.now in
-    let small : is_too_large pushed ≡ false = is_short pushed c.state_length.result c.state_length.ensures.length c.if-state_length-gt-STATE_LIMIT.false in
-    let done = join_ok old pushed c.in-Ok.state c.in-Ok.ensures.answer in
-    limited_push c.args.self.now c.args.key.now pushed c.in-Ok.state c.limited.result small
-    (ap (λ s. clashes s pushed) (sym c.look-is_held.ensures.state) ∙ done.0) (done.1 ∙ ap (λ s. join s pushed) c.look-is_held.ensures.state) c.limited.ensures.limits
-
--- where the key's state holds what is pushed, that was told above
-held_already : (old at pushed : State) (told : Bool) → old ≡ at → (join_answer old pushed ≡ Ok old → told ≡ true) → told ≡ false → join_answer at pushed ≡ Ok at → ⊥
-held_already old at pushed told same tells apart holds = true≢false (sym (tells (subst (λ (s : State). join_answer s pushed ≡ Ok s) (sym same) holds)) ∙ apart)
-
-pub returns-in-Err-clause-frugal : goal.returns-in-Err-clause-frugal
-returns-in-Err-clause-frugal c = λ holds.
-    absurd (held_already c.look-is_held.result.1.now (state_at c.args.self.now.states c.args.key.now) c.args.pushed.now c.includes.result c.look-is_held.ensures.state c.includes.ensures.known.1 c.if-includes.false holds)
-
-pub returns-in-Ok-clause-frugal : goal.returns-in-Ok-clause-frugal
-returns-in-Ok-clause-frugal c = λ holds.
-    absurd (held_already c.look-is_held.result.1.now (state_at c.args.self.now.states c.args.key.now) c.args.pushed.now c.includes.result c.look-is_held.ensures.state c.includes.ensures.known.1 c.if-includes.false holds)
+pub returns-clause-frugal : goal.returns-clause-frugal
+returns-clause-frugal c = λ holds.
+    c.push_over.ensures.frugal (subst (λ (s : State). join_answer s c.args.pushed.now ≡ Ok s) (sym c.look-is_held.ensures.state) holds)

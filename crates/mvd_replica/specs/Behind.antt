@@ -1,5 +1,6 @@
 -- A request to change a key behind a change of that key that waits to be put in.
-use Rattle.std.specs.Prelude.{◌≡◌, ◌≢◌, ⊤, Bool, ℕ, ◌+◌, ◌<◌, ◌≤◌, false, true, List, [], ◌∷◌, ◌++◌, Option, None, Some, get_or, length}
+use Rattle.std.specs.Prelude.{◌≡◌, ◌≢◌, ⊤, Bool, ℕ, ◌+◌, ◌<◌, ◌≤◌, false, true, List, [], ◌∷◌, ◌++◌, length}
+use Rattle.std.specs.Prelude.{Option, None, Some, get_or}
 use Rattle.std.specs.List.{AllByRecursion}
 use Rattle.std.specs.FinMap.{FinMap, get, insert}
 use Rattle.mvd_keys.specs.Key.{key_cmp}

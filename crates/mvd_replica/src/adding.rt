@@ -9,7 +9,7 @@ use mvd_keys::Key;
 use mvd_site::{Prepared, Site};
 use mvd_wire::Request;
 
-/// The most requests that share a commit, so that no request is held against many others.
+/// The most requests that share a commit.
 pub(crate) const SHARING_MAX: usize = 1_024;
 
 /// The key that a request asks to change.

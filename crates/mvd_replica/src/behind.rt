@@ -45,8 +45,8 @@ fn change_in(prepared: Result<Prepared, Refusal>) -> Option<Change>
     }
 }
 
-/// What a request comes to behind that change, if it is a change both alone and then. So the request may be refused with
-/// the others where the store refuses their commit. `None` also where memory is refused.
+/// What a request comes to behind that change, if it is a change both alone and then. So it may be refused with the
+/// others where the store refuses their commit. `None` also where memory is refused.
 pub fn follow(site: &Site, before: &Change, request: &Request) -> Option<Prepared>
     requires { AsksToChange before.now.key request.now }
     ensures alone { site.now.broken ≡ false →

@@ -60,8 +60,8 @@ pub fn prepare_one(site: &Site, request: &Request) -> Prepared
     prepared
 }
 
-/// What a request comes to behind a group, with how many keys it adds; `None` where it has to wait until that is put in:
-/// it could see a change, there may be less room for it then, or they are as many as share a commit.
+/// What a request comes to behind a group, with how many keys it adds; `None` where it has to wait until that is put
+/// in: it could see a change, there may be less room for it then, or they are as many as share a commit.
 fn join(
     site: &Site,
     group: &[Prepared],

@@ -1,7 +1,8 @@
 -- What is noted of a request that was asked over a line.
-use Rattle.std.proofs.Common.{◌≡◌, ◌≢◌, ◌⊎◌, ◌∙◌, ◌+◌, ◌-◌, ◌^◌, ◌==◌, ◌&&◌, ◌||◌, Bool, Err, Ok, Result, ap, false, inl, inr, min, not, refl, subst, sym, true}
+use Rattle.std.proofs.Common.{◌≡◌, ◌≢◌, ◌⊎◌, ◌∙◌, ◌+◌, ◌-◌, ◌^◌, ◌==◌, ◌&&◌, ◌||◌, Bool, Err, None, Ok, Result, ap, false, inl, inr, min, not, refl, subst, sym, true}
 use Rattle.std.specs.Prelude.{if◌then◌else◌, is_ok, ℕ}
-use Rattle.mvd_client.specs.AskedServer.{RepliesNoted, breaks_at, down_after, has_frame, lost_after, may_be_sent, may_change}
+use Rattle.mvd_client.specs.AskedServer.{RepliesNoted, breaks_at, down_after, ended_after, ended_by, has_frame, lost_after, may_be_sent, may_change}
+use Rattle.mvd_client.specs.AskedServer.RepliesNoted.{asks}
 use Rattle.mvd_client.specs.declared.asked_server.AskedServer.{AskedServer}
 use Rattle.mvd_dots.specs.Refusal.{number_of}
 use Rattle.mvd_dots.specs.declared.refusals.Refusal.{Refusal}
@@ -69,18 +70,21 @@ kept_truly config states request refusal none =
 
 module _ {L : Type 0} (line : Ghosts L) (old new : AskedServer L) (request : Request) where
   pub replied : (told : Result Reply Refusal) (reply : Reply) → told ≡ Ok reply → Asks (link_of line old.remote) (link_of line new.remote) request told
-      → AsksTruly line (any_query request) old.remote new.remote told → new.is_down ≡ old.is_down → new.lost ≡ old.lost → RepliesNoted line old new request reply
-  replied told reply is asked truth down lost = record {
+      → AsksTruly line (any_query request) old.remote new.remote told → new.is_down ≡ old.is_down → new.lost ≡ old.lost → old.ended ≡ None → new.ended ≡ ended_by reply
+      → RepliesNoted line old new request reply
+  replied told reply is asked truth down lost goes ended = asks goes (record {
     replies = record { told = told; shown = sym (ap shown_reply is); asked = asked; truth = truth };
     down = down ∙ sym (ap (down_after old.is_down request) is);
     lost = lost ∙ sym (ap (lost_after old.is_down old.lost request) is);
-  }
+    ended = ended ∙ sym (ap ended_after is);
+  })
 
   -- no reply came over the link
   pub refused : (told : Result Reply Refusal) (mid : Remote L) (refusal : Refusal) (is_write : Bool) → new.remote ≡ mid → told ≡ Err refusal → is_write ≡ may_change request → (old.is_down ≡ false → has_frame request ≡ true)
       → Asks (link_of line old.remote) (link_of line mid) request told → AsksTruly line (any_query request) old.remote mid told → new.is_down ≡ (old.is_down || breaks_at true refusal)
-      → new.lost ≡ LostIf (is_write && (not old.is_down && may_be_sent true refusal)) old.lost → RepliesNoted line old new request (Refused refusal)
-  refused told mid refusal is_write same is write framed asked truth down lost = record {
+      → new.lost ≡ LostIf (is_write && (not old.is_down && may_be_sent true refusal)) old.lost → old.ended ≡ None → new.ended ≡ old.ended
+      → RepliesNoted line old new request (Refused refusal)
+  refused told mid refusal is_write same is write framed asked truth down lost goes ended = asks goes (record {
     replies = record {
       told = told;
       shown = sym (ap shown_reply is);
@@ -90,12 +94,14 @@ module _ {L : Type 0} (line : Ghosts L) (old new : AskedServer L) (request : Req
     down = down ∙ down_handed old.is_down request refusal framed ∙ sym (ap (down_after old.is_down request) is);
     lost = lost ∙ ap (λ (w : Bool). LostIf (w && (not old.is_down && may_be_sent true refusal)) old.lost) write
         ∙ ap (λ (s : Bool). LostIf (may_change request && s) old.lost) (sent_handed old.is_down request refusal framed) ∙ sym (ap (lost_after old.is_down old.lost request) is);
-  }
+    ended = ended ∙ goes ∙ sym (ap ended_after is);
+  })
 
   -- it was not handed to the link
   pub unframed : (refusal : Refusal) (is_write : Bool) → new.remote ≡ old.remote → is_write ≡ may_change request → HasNone request refusal → new.is_down ≡ (old.is_down || breaks_at false refusal)
-      → new.lost ≡ LostIf (is_write && (not old.is_down && may_be_sent false refusal)) old.lost → RepliesNoted line old new request (Refused refusal)
-  unframed refusal is_write same write none down lost = record {
+      → new.lost ≡ LostIf (is_write && (not old.is_down && may_be_sent false refusal)) old.lost → old.ended ≡ None → new.ended ≡ old.ended
+      → RepliesNoted line old new request (Refused refusal)
+  unframed refusal is_write same write none down lost goes ended = asks goes (record {
     replies = record {
       told = Err refusal;
       shown = refl;
@@ -106,4 +112,5 @@ module _ {L : Type 0} (line : Ghosts L) (old new : AskedServer L) (request : Req
     down = down ∙ ap (λ (b : Bool). old.is_down || b) (none_breaks request refusal none);
     lost = lost ∙ ap (λ (w : Bool). LostIf (w && (not old.is_down && may_be_sent false refusal)) old.lost) write
         ∙ ap (λ (s : Bool). LostIf (may_change request && (not old.is_down && s)) old.lost) (none_sent request refusal none);
-  }
+    ended = ended ∙ goes;
+  })

@@ -1,11 +1,13 @@
 -- A server as a shell asks it: which of its writes are lost.
-use Rattle.std.specs.Prelude.{◌≡◌, ◌+◌, ◌-◌, ◌^◌, ◌==◌, ◌&&◌, ◌||◌, ℕ, Bool, true, false, if◌then◌else◌, min, nat_le, not, is_ok, Result, Ok, Err}
+use Rattle.std.specs.Prelude.{◌≡◌, ◌+◌, ◌-◌, ◌^◌, ◌==◌, ◌&&◌, ◌||◌, ℕ, Bool, true, false, if◌then◌else◌, min, nat_le}
+use Rattle.std.specs.Prelude.{not, is_ok, Option, Some, None, Result, Ok, Err}
 use Rattle.mvd_client.specs.declared.asked_server.AskedServer.{AskedServer}
 use Rattle.mvd_dots.specs.Refusal.{number_of}
 use Rattle.mvd_dots.specs.declared.refusals.Refusal.{Refusal}
 use Rattle.mvd_remote.specs.Remotes.{RepliesFar}
 use Rattle.mvd_remote.specs.declared.line.Line.{Ghosts}
 use Rattle.mvd_wire.specs.declared.reply.Reply.{Reply}
+use Rattle.mvd_wire.specs.declared.reply.Reply.TheVariants.{Refused}
 use Rattle.mvd_wire.specs.declared.request.Request.{Request}
 use Rattle.mvd_wire.specs.declared.request.Request.TheVariants.{Delete, Push, Put}
 use Rattle.mvd_wire.specs.Requests.{request_frame}
@@ -45,15 +47,38 @@ lost_after is_down lost request (Err refusal) =
     if may_change request && (not is_down && may_be_sent (has_frame request) refusal) then min (lost + 1) (2 ^ 64 - 1)
     else lost
 
--- A REQUEST IS ASKED OVER A LINE, and replied to, or refused in place of a reply. One more write is lost just where no
+-- a refusal behind which a server ends the connection: it waited too long (34), serves as many as it may (36), or was
+-- not shown its token (38)
+abbrev pub ends_connection : Refusal → Bool
+ends_connection refusal = number_of refusal == 34 || (number_of refusal == 36 || number_of refusal == 38)
+
+-- by which refusal a reply says that the server has ended the connection, if it does
+abbrev pub ended_by : Reply → Option Refusal
+ended_by (Refused refusal) = if ends_connection refusal then Some refusal else None
+ended_by reply = None
+
+abbrev pub ended_after : Result Reply Refusal → Option Refusal
+ended_after (Ok reply) = ended_by reply
+ended_after (Err refusal) = None
+
+-- A request is asked over a line, and replied to, or refused in place of a reply. One more write is lost just where no
 -- reply came to one that may have gone out: the link was not known to be broken, and refuses with 20, or with 30 to 36
 -- a request that has a frame. So 31 is of a write that was answered by no frame, and not of one that is too long to be
 -- sent. What the server itself refuses is not lost.
-pub record RepliesNoted {L : Type 0} (line : Ghosts L) (old new : AskedServer L) (request : Request)
+pub record AsksNoted {L : Type 0} (line : Ghosts L) (old new : AskedServer L) (request : Request)
     (reply : Reply) : Type 0 where
   pub replies : RepliesFar line old.remote new.remote request reply
   pub down : new.is_down ≡ down_after old.is_down request replies.told
   pub lost : new.lost ≡ lost_after old.is_down old.lost request replies.told
+  pub ended : new.ended ≡ ended_after replies.told
+
+-- A REQUEST TO A SERVER is asked over the line; or the server has ended the connection, and then nothing is asked, and
+-- the request is refused as that was
+pub data RepliesNoted {L : Type 0} (line : Ghosts L) (old new : AskedServer L) (request : Request)
+    (reply : Reply) : Type 0 where
+  asks : old.ended ≡ None → AsksNoted line old new request reply → RepliesNoted line old new request reply
+  is_over : (refusal : Refusal) → old.ended ≡ Some refusal → new ≡ old → reply ≡ Refused refusal
+      → RepliesNoted line old new request reply
 
 -- how many writes are lost
 abbrev pub lost_of : {L : Type 0} → AskedServer L → ℕ

@@ -1,5 +1,5 @@
 -- A shell over a line to a server.
-use Rattle.std.specs.Prelude.{◌≡◌, ℕ, false, List, None, Option, Result, Ok, Err}
+use Rattle.std.specs.Prelude.{◌≡◌, ℕ, false, List, None, Some, Option, Result, Ok, Err}
 use Rattle.std.specs.declared.net.socket_addr.SocketAddr.{SocketAddr}
 use Rattle.mvd_client.specs.declared.asked_server.AskedServer.{AskedServer}
 use Rattle.mvd_client.specs.AskedServer.{RepliesNoted, lost_of}
@@ -14,9 +14,15 @@ use Rattle.mvd_remote.specs.Lines.{line_of, refused_of}
 use Rattle.mvd_remote.specs.Remotes.{AsksOver, bye_query}
 use Rattle.mvd_remote.specs.declared.line.Line.{Ghosts}
 
--- a Bye was asked over the line, and nothing else, and this was told
+-- a Bye was asked over the line, and nothing else, and this was told; where the server has ended the connection nothing
+-- is asked, and this is told of the Bye, too
+abbrev pub SaysByeAfter : {L : Type 0} → Ghosts L → Option Refusal → AskedServer L → AskedServer L
+    → Result (Unit {0}) Refusal → Type 0
+SaysByeAfter line None old new told = AsksOver line bye_query old.remote new.remote told
+SaysByeAfter line (Some refusal) old new told = (new ≡ old) × (told ≡ Err refusal)
+
 abbrev pub SaysBye : {L : Type 0} → Ghosts L → AskedServer L → AskedServer L → Result (Unit {0}) Refusal → Type 0
-SaysBye line old new told = AsksOver line bye_query old.remote new.remote told
+SaysBye line old new told = SaysByeAfter line old.ended old new told
 
 -- a command ends as the Bye behind its lines was told
 abbrev pub EndsWithBye : SocketAddr → Result (Unit {0}) Refusal → Result (Unit {0}) Stop → Type 0
@@ -49,7 +55,7 @@ pub data ShellsAt {L : Type 0} (line : Ghosts L) (gives : L → Type 0) (address
   nobody : (stop : Stop) → result ≡ Err stop → IsUndialed address stop → input' ≡ input → out' ≡ out
       → ShellsAt line gives address input out input' out' result
   ran : (fresh : L) → gives fresh → (before after : AskedServer L) → line_of before.remote ≡ fresh
-      → refused_of before.remote ≡ None → before.is_down ≡ false → before.lost ≡ 0
+      → refused_of before.remote ≡ None → before.is_down ≡ false → before.lost ≡ 0 → before.ended ≡ None
       → ShellsOver (RepliesNoted line) lost_of (SaysBye line) address (at before input out)
       (at after input' out') result
       → ShellsAt line gives address input out input' out' result

@@ -1,6 +1,8 @@
 //! A server as a shell asks it.
 ghost use Rattle.std.specs.Prelude.{◌≡◌, ◌≢◌, ◌+◌, ◌-◌, ◌^◌, ◌||◌, ◌&&◌, Err, IfErr, OnOk, true, false, if◌then◌else◌, min, not, None};
-ghost use Rattle.mvd_client.specs.AskedServer.{RepliesNoted, breaks_at, breaks_link, has_frame, lost_of, may_be_sent, may_change};
+ghost use Rattle.mvd_client.specs.AskedServer.{RepliesNoted, breaks_at, breaks_link, ended_by, has_frame, lost_of};
+ghost use Rattle.mvd_client.specs.AskedServer.{may_be_sent, may_change};
+ghost use Rattle.mvd_client.specs.Talked.{SaysBye};
 ghost use Rattle.mvd_dots.specs.declared.refusals.Refusal.TheVariants.{Memory};
 ghost use Rattle.mvd_remote.specs.Lines.{line_of, refused_of};
 ghost use Rattle.mvd_wire.specs.Requests.{request_frame};
@@ -21,6 +23,8 @@ pub struct AskedServer<L: Line> {
     pub is_down: bool,
     /// How many writes may have been done, though no reply came.
     pub lost: u64,
+    /// The refusal behind which the server ended the connection, if it did: each later request is refused so.
+    pub ended: Option<Refusal>,
 }
 
 /// Reads how many writes of an `AskedServer` are lost.
@@ -41,11 +45,13 @@ impl<L: Line> AskedServer<L> {
         ensures goes_on { refused_of result.remote ≡ None }
         ensures up { result.is_down ≡ false }
         ensures none_lost { result.lost ≡ 0 }
+        ensures goes { result.ended ≡ None }
     {
         AskedServer {
             remote: Remote::over(alloc, line),
             is_down: false,
             lost: 0,
+            ended: None,
         }
     }
 
@@ -67,6 +73,7 @@ impl<L: Line> AskedServer<L> {
     /// Notes that no reply came to a request, whether the link was handed that, and how it was refused.
     fn note(&mut self, is_write: bool, is_handed: bool, refusal: Refusal)
         ensures remote { self.new.remote ≡ self.old.remote }
+        ensures ended { self.new.ended ≡ self.old.ended }
         ensures down { self.new.is_down ≡ (self.old.is_down || breaks_at is_handed refusal) }
         ensures lost { self.new.lost ≡ (if is_write && (not self.old.is_down && may_be_sent is_handed refusal)
             then min (self.old.lost + 1) (2 ^ 64 - 1) else self.old.lost) }
@@ -77,12 +84,26 @@ impl<L: Line> AskedServer<L> {
         }
         self.is_down = self.is_down || is_broken;
     }
+
+    /// Says Bye. Where the server has ended the connection, this is how.
+    pub fn bye(&mut self) -> Result<(), Refusal>
+        ensures { SaysBye L.Line self.old self.new result }
+    {
+        match self.ended {
+            Some(refusal) => Err(refusal),
+            None => self.remote.bye(),
+        }
+    }
 }
 
 impl<L: Line> Endpoint for AskedServer<L> {
     ghost answers = { RepliesNoted L.Line };
 
     fn ask(&mut self, request: Request) -> Reply {
+        match self.ended {
+            Some(refusal) => return Reply::Refused(refusal),
+            None => {}
+        }
         let is_write = may_change(&request);
         match self.framed(&request) {
             Ok(()) => {}
@@ -95,7 +116,10 @@ impl<L: Line> Endpoint for AskedServer<L> {
         let told = self.remote.ask(&request);
         drop(request);
         match told {
-            Ok(reply) => reply,
+            Ok(reply) => {
+                self.ended = ended_by(&reply);
+                reply
+            }
             Err(refusal) => {
                 self.note(is_write, true, refusal);
                 Reply::Refused(refusal)
@@ -120,4 +144,14 @@ fn breaks_link(refusal: Refusal) -> bool
 {
     let number = refusal.number();
     30 <= number && number <= 36
+}
+
+/// By which refusal a reply says that the server has ended the connection, if it does.
+fn ended_by(reply: &Reply) -> Option<Refusal>
+    ensures { result ≡ ended_by reply.now }
+{
+    match reply {
+        Reply::Refused(refusal) if matches!(refusal.number(), 34 | 36 | 38) => Some(*refusal),
+        _ => None,
+    }
 }

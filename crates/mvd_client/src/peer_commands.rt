@@ -307,7 +307,7 @@ fn add_root<S: Alter + Drop>(
 
 /// Answers the lines through the server at an address, to which the token is shown first, if there is one, and says Bye
 /// at their end. Where the connection was lost, a write to which no reply came is told as unknown; each later line is
-/// refused so, and so is the Bye.
+/// refused so, and so is the Bye. Where the server ended it, each later line and the Bye are refused as it said.
 pub fn remote_shell_run<'a, D: Dial, R: BufRead, W: Write>(
     dial: &D,
     alloc: Global,
@@ -346,7 +346,7 @@ pub fn shell_over<'a, L: Line, R: BufRead, W: Write>(
         Ok(()) => {}
         Err(fault) => return Err(Stop::in_input(fault, Hint::Script)),
     }
-    match server.remote.bye() {
+    match server.bye() {
         Ok(()) => Ok(()),
         Err(refusal) => Err(Stop::at_server(address, refusal)),
     }

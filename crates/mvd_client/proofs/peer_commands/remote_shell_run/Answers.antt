@@ -9,5 +9,5 @@ returns-in-Err g c = record {
 
 pub returns : goal.returns
 returns g c = record {
-  shells = ran c.in-Ok.line c.in-Ok.ensures c.over-server.result c.shell_over.new.server c.over-server.ensures.line c.over-server.ensures.goes_on c.over-server.ensures.up c.over-server.ensures.none_lost c.shell_over.ensures.shells;
+  shells = ran c.in-Ok.line c.in-Ok.ensures c.over-server.result c.shell_over.new.server c.over-server.ensures.line c.over-server.ensures.goes_on c.over-server.ensures.up c.over-server.ensures.none_lost c.over-server.ensures.goes c.shell_over.ensures.shells;
 }

@@ -17,7 +17,7 @@ returns-in-Ok-bye g c = record {
     last = c.shell_run.new.asked;
     told = c.shell_run.result;
     shells = c.shell_run.ensures.told;
-    ends = rw c.in-Ok.is (c.bye.result, c.bye.ensures.asked, rw c.in-Ok-bye.is refl);
+    ends = rw c.in-Ok.is (c.bye.result, c.bye.ensures, rw c.in-Ok-bye.is refl);
   };
 }
 
@@ -29,7 +29,7 @@ returns-in-Err-bye g c = record {
     shells = c.shell_run.ensures.told;
     ends = rw c.in-Ok.is (
       c.bye.result,
-      c.bye.ensures.asked,
+      c.bye.ensures,
       rw c.in-Err-bye.is (
         c.at_server.result,
         refl,

@@ -200,7 +200,9 @@ def by_commands(place, server, other, right, wrong):
         fails(place.run("sync", *local, "--port", port, *words), "38 NotAdmitted", hint)
         fails(place.run("sync", "--port", port, "--with", far, *words), "38 NotAdmitted", hint)
         done = place.run("shell", "--port", port, *words, lines="get k\nput k - {}\n")
-        if "NotAdmitted" not in done[1] + done[2] or "1:" in done[1]:
+        if words:
+            fails(done, "38 NotAdmitted", hint)
+        elif done[:2] != (1, "refused 38 NotAdmitted\n" * 2) or "fault 38" not in done[2] or hint not in done[2]:
             miss(f"a shell without the token was told {done}")
     done = place.run("sync", "--port", port, "--with", far, "--token-file", right)
     if done[0] != 0 or "keys " not in done[1]:

@@ -1,5 +1,5 @@
 -- Frames that are read one after the other, each printed as a line.
-use Rattle.std.proofs.Common.{◌≡◌, ◌∙◌, ◌-◌, ◌+◌, ◌≤◌, ◌<◌, ℕ, List, [], ◌∷◌, ◌++◌, Option, None, Some, Result, Ok, Err, length, take, ap, append_assoc, arith, refl, sym}
+use Rattle.std.proofs.Common.{◌≡◌, ◌∙◌, ◌-◌, ◌+◌, ◌≤◌, ◌<◌, ℕ, List, [], ◌∷◌, ◌++◌, length, take, ap, append_assoc, arith, refl, sym}
 use Rattle.std.proofs.lemmas.List.{append-nil, flat_map_more, length-append, take_at}
 use Rattle.std.specs.Int.{w32}
 use Rattle.std.specs.List.{flat_map}

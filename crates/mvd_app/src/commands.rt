@@ -187,6 +187,7 @@ fn run_loop<'a, R: BufRead, W: Write>(
     }
 }
 
+/// What a command is stopped with by a fault of `loop`.
 fn unlooped<'a>(fault: Fault) -> Stop<'a>
     ensures { result.fault ≡ fault }
 {

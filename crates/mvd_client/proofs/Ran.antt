@@ -1,5 +1,5 @@
 -- A run of the machine by two sides, each of which has another within, is one by those within.
-use Rattle.std.proofs.Common.{◌≡◌, ℕ, List, [], ◌∷◌, Option, Some, None, Result, Ok, Err, ap, length}
+use Rattle.std.proofs.Common.{ℕ, List, [], ◌∷◌, Option, Some, None, Result, Ok, Err, ap, length}
 use Rattle.std.specs.Result.{IfOk}
 use Rattle.mvd_client.proofs.Seen.{answered, around, refused}
 use Rattle.mvd_dots.specs.declared.refusals.Refusal.{Refusal}

@@ -18,4 +18,4 @@ loop-out-preserved-in_ok-print_digits-in-Some c =
     let frame = frame_value c.in-Some.field-0 in
     let is : c.loop-out.rest.now ≡ spell_frame frame ++ c.read_frame.new.reader.now = subst (λ (o : Option Frame). IfSome o (λ f. c.loop-out.rest.now ≡ spell_frame (frame_value f) ++ c.read_frame.new.reader.now)) c.in-Some.is c.in_ok-read_frame.ensures.spelled in
     so_far_more c.args.frames.now c.loop-out.rest.now c.read_frame.new.reader.now (string_bytes c.args.out.now) (string_bytes c.loop-out.out) (string_bytes c.print_digits.new.out) frame c.loop-out.invariant is
-        (c.in_ok-print_digits-in-Some.ensures ∙ ap (λ (b : List ℕ). string_bytes c.loop-out.out ++ (encode_lower b ++ codes "\n")) (front_taken c.loop-out.rest.now (spell_frame frame) c.read_frame.new.reader.now _ is refl))
+    (c.in_ok-print_digits-in-Some.ensures ∙ ap (λ (b : List ℕ). string_bytes c.loop-out.out ++ (encode_lower b ++ codes "\n")) (front_taken c.loop-out.rest.now (spell_frame frame) c.read_frame.new.reader.now _ is refl))

@@ -20,20 +20,24 @@ use std::io::{self, BufRead, BufReader, Write};
 use std::process::ExitCode;
 
 fn main(rt: HostRuntime) -> io::Result<ExitCode> {
-    let words = match words(&rt) {
-        Ok(words) => words,
-        Err(error) => return unread(&rt, error),
-    };
-    let texts = texts(&rt, &words)?;
+    match words(&rt) {
+        Ok(words) => started(&rt, &words),
+        Err(error) => unread(&rt, error),
+    }
+}
+
+/// Does what the words ask for, with the system's own input, output and sockets, and gives the status.
+fn started(rt: &HostRuntime, words: &[String]) -> io::Result<ExitCode> {
+    let texts = texts(rt, words)?;
     let Ok(mut reader) = BufReader::new(rt.alloc(), rt.reader()) else {
-        return Ok(tell_stop(&rt, &Stop::from(Refusal::Memory)));
+        return Ok(tell_stop(rt, &Stop::from(Refusal::Memory)));
     };
-    let mut writer = io::writer(&rt);
+    let mut writer = io::writer(rt);
     let mut sockets = Direct {};
-    let dial = mvd_app::Sockets(&rt);
+    let dial = mvd_app::Sockets(rt);
     // A torn write is taken to leave each byte old or new.
     Ok(obey(
-        &rt,
+        rt,
         &texts,
         Unknown,
         &dial,

@@ -1,55 +1,87 @@
 //! The program `mvd`.
 #![tactic(auto)]
 
-ghost use Rattle.mvd_input.specs.Orders.{IsInRange};
+ghost use Rattle.std.specs.Prelude.{◌≡◌};
+ghost use Rattle.std.specs.Process.{exit_status};
+ghost use Rattle.clap.specs.Walk.{texts as texts_of};
+ghost use Rattle.mvd.specs.Obeyed.{Obeys, fault_status, refused_status, status_of};
+ghost use Rattle.mvd_app.specs.Tasks.{outside};
+ghost use Rattle.sqlite.specs.WalFiles.{image_at};
 
-use mvd_app::{Direct, Sockets, Stop, run};
+use mvd_app::{Direct, Stop, run};
+use mvd_client::Dial;
 use mvd_dots::Refusal;
-use mvd_input::{Fault, Order, OrderFault, order_of};
-use sqlite::Unknown;
+use mvd_input::{Fault, OrderFault, order_of};
+use mvd_server::Sockets;
+use sqlite::{FileFrom, FileStore, Start, Unknown};
+use sqlite_trees::store::Store;
 use std::env;
-use std::io::{self, BufReader};
+use std::io::{self, BufRead, BufReader, Write};
 use std::process::ExitCode;
 
 fn main(rt: HostRuntime) -> io::Result<ExitCode> {
     match words(&rt) {
-        Ok(words) => obey(&rt, &words),
+        Ok(words) => started(&rt, &words),
         Err(error) => unread(&rt, error),
     }
 }
 
-/// Does what the words ask for, and gives the status.
-fn obey(rt: &HostRuntime, words: &[String]) -> io::Result<ExitCode> {
+/// Does what the words ask for, with the system's own input, output and sockets, and gives the status.
+fn started(rt: &HostRuntime, words: &[String]) -> io::Result<ExitCode> {
     let texts = texts(rt, words)?;
-    match order_of(rt.alloc(), &texts) {
-        Ok(order) => match done(rt, order) {
-            Ok(()) => Ok(ExitCode::SUCCESS),
-            Err(stop) => Ok(tell_stop(rt, &stop)),
-        },
-        Err(fault) => Ok(refused(rt, &fault)),
-    }
-}
-
-/// Does what an order asks for, with the system's own input, output and sockets.
-fn done<'a>(rt: &'a HostRuntime, order: Order<'a>) -> Result<(), Stop<'a>>
-    requires { IsInRange order }
-{
     let Ok(mut reader) = BufReader::new(rt.alloc(), rt.reader()) else {
-        return Err(Stop::from(Refusal::Memory));
+        return Ok(tell_stop(rt, &Stop::from(Refusal::Memory)));
     };
     let mut writer = io::writer(rt);
     let mut sockets = Direct {};
+    let dial = mvd_app::Sockets(rt);
     // A torn write is taken to leave each byte old or new.
-    run(
+    Ok(obey(
         rt,
-        order,
+        &texts,
         Unknown,
-        &Sockets(rt),
+        &dial,
         &mut sockets,
         &mut reader,
         &mut writer,
-    )
-    .ended
+    ))
+}
+
+/// Does what the words ask for, of which the first is the program's own name, and gives the status.
+fn obey<'a, S: Start, D: Dial, K: Sockets, R: BufRead, W: Write>(
+    rt: &'a HostRuntime,
+    words: &'a [&'a str],
+    start: S,
+    dial: &D,
+    sockets: &mut K,
+    reader: &mut R,
+    writer: &mut W,
+) -> ExitCode
+    // The order of the words is done, and the status is of how that ended. Or the words are no order, and nothing is.
+    ensures { Obeys ⟦<FileStore<FileFrom<S>> as Store>⟧ K.Sockets D.Dialed.Line (D.gives dial.now) (image_at S.Start)
+        (texts_of words.now) (outside sockets.old (R.remaining reader.old) (W.contents writer.old))
+        (outside sockets.new (R.remaining reader.new) (W.contents writer.new)) (exit_status result) }
+{
+    match order_of(rt.alloc(), words) {
+        Ok(order) => {
+            let ran = run(rt, order, start, dial, sockets, reader, writer);
+            status(rt, &ran.ended)
+        }
+        Err(fault) => {
+            drop(start);
+            refused(rt, &fault)
+        }
+    }
+}
+
+/// The status of how a command ended, and why it was stopped, on standard error.
+fn status(rt: &impl Eprint, ended: &Result<(), Stop<'_>>) -> ExitCode
+    ensures { exit_status result ≡ status_of ended.now }
+{
+    match ended {
+        Ok(()) => ExitCode::SUCCESS,
+        Err(stop) => tell_stop(rt, stop),
+    }
 }
 
 /// Tells on standard error that a word is no text, and gives its status.
@@ -80,7 +112,9 @@ fn texts<'a>(rt: &HostRuntime, words: &'a [String]) -> io::Result<Vec<&'a str>> 
 }
 
 /// Tells on standard error why a command line asks for nothing, and gives its status.
-fn refused(rt: &impl Eprint, fault: &OrderFault) -> ExitCode {
+fn refused(rt: &impl Eprint, fault: &OrderFault) -> ExitCode
+    ensures { exit_status result ≡ refused_status fault.now }
+{
     match fault {
         OrderFault::Words(error) => {
             let _ = rt.eprint(error);
@@ -94,13 +128,17 @@ fn refused(rt: &impl Eprint, fault: &OrderFault) -> ExitCode {
 }
 
 /// Tells on standard error why a command was stopped, and gives its status.
-fn tell_stop(rt: &impl Eprint, stop: &Stop<'_>) -> ExitCode {
+fn tell_stop(rt: &impl Eprint, stop: &Stop<'_>) -> ExitCode
+    ensures { exit_status result ≡ fault_status stop.now.fault }
+{
     let _ = eprintln!(rt; "{stop}");
     status_of(&stop.fault)
 }
 
 /// 1 where a command was stopped, and 3 where a line is not a command.
-fn status_of(fault: &Fault) -> ExitCode {
+fn status_of(fault: &Fault) -> ExitCode
+    ensures { exit_status result ≡ fault_status fault.now }
+{
     match fault {
         Fault::Stopped(_) => ExitCode::from(1),
         Fault::Line(_) => ExitCode::from(3),

@@ -1,5 +1,7 @@
 pub mod Ending
 pub mod Following
+pub mod Frames
+pub mod Loops
 pub mod Memory
 pub mod Reading
 pub mod Rounds

@@ -1,6 +1,7 @@
 -- What a command did: to the site of its file, with what is outside, and what its file is then.
 use Rattle.std.specs.Prelude.{◌≡◌, ◌⊎◌, ⊤, ℕ, List, Option, Some, None, Result, Ok, Err}
 use Rattle.std.specs.declared.net.socket_addr.SocketAddr.{SocketAddr}
+use Rattle.mvd_app.specs.Looped.{IsLooped}
 use Rattle.mvd_app.specs.Stored.{CannotOpen, ClosesOrNot, EndsAs, Filed, IsConfigFor, StopsBefore, file_in}
 use Rattle.mvd_app.specs.Tasks.{DoesTask, IsMet, IsSimulated, IsTokenOfOrder, IsTypedAt, Outside}
 use Rattle.mvd_app.specs.declared.closing.Ran.{Ran}
@@ -74,9 +75,10 @@ module _ {D : Type 0} {g : disk.Ghosts D} (f : Ghosts (FileStore D g)) {K L : Ty
   abbrev pub DoesFile : Image → Filed → Outside K → Outside K → Ran D → Type 0
   DoesFile image filed was now ran = IsUnopened f image filed was now ran ⊎ HasDone image filed was now ran
 
-  -- what an order without a file does; of a connection within the process nothing is said
+  -- what an order without a file does
   abbrev pub DoesBeside : Order → Outside K → Outside K → Result (Unit {0}) Stop → Type 0
   DoesBeside order.Sim was now ended = IsSimulated was.input now.input was.out now.out ended
+  DoesBeside (order.Loop setup) was now ended = IsLooped setup was.input now.input was.out now.out ended
   DoesBeside (order.RemoteShell address idle file) was now ended =
       IsTypedAt line (gives address) address file was.input now.input was.out now.out ended
   DoesBeside (order.Meet address list repeat idle verbose file) was now ended =

@@ -1,5 +1,6 @@
 pub mod Done
 pub mod Found
+pub mod Looped
 pub mod Named
 pub mod Noted
 pub mod Refused

@@ -1,6 +1,7 @@
 //! What a command line asks for, done: with standard input and output, files and sockets.
 ghost use Rattle.std.specs.Prelude.{◌≡◌, ◌⊎◌, IfErr, IfOk, IfSome, List, Some, is_some, option_copied, ℕ};
 ghost use Rattle.mvd_app.specs.Done.{DoesFile, DoesOrder};
+ghost use Rattle.mvd_app.specs.Looped.{IsLooped};
 ghost use Rattle.mvd_app.specs.Named.{StopsAtDefs, StopsAtToken};
 ghost use Rattle.mvd_app.specs.Stored.{GivesBack, IsConfigFor, IsWithoutFile, file_in, filed};
 ghost use Rattle.mvd_app.specs.Tasks.{DoesTask, IsMet, IsSimulated, IsTypedAt, MayWork, outside, task_of};
@@ -59,7 +60,7 @@ pub fn run<'a, S: Start, D: Dial, K: Sockets, R: BufRead, W: Write>(
     ensures kept { IfSome result.files (GivesBack ⟦<FileFrom<S> as Disk>⟧ (image_at S.Start) (file_in order.entry)) }
     // The site of the file was not opened, and the command is stopped with what a file told. Or its task was done, and
     // nothing else, and it was closed, if it is whole and can be; then a run of the store by the task's turns stands in
-    // the file. What a script, a shell or a session read and printed is of what it did.
+    // the file. What a script, a shell, a session or `loop` read and printed is of what it did.
     ensures done { DoesOrder ⟦<FileStore<FileFrom<S>> as Store>⟧ K.Sockets D.Dialed.Line (D.gives dial.now)
         (image_at S.Start) order.entry (outside sockets.old (R.remaining reader.old) (W.contents writer.old))
         (outside sockets.new (R.remaining reader.new) (W.contents writer.new)) result }
@@ -176,13 +177,24 @@ fn run_loop<'a, R: BufRead, W: Write>(
     writer: &mut W,
 ) -> Result<(), Stop<'a>>
     requires { IsSetUp setup }
+    ensures { IsLooped setup.entry (R.remaining reader.old) (R.remaining reader.new) (W.contents writer.old)
+        (W.contents writer.new) result }
 {
     let config = config_in(rt, setup)?;
     match loop_run(rt, rt.alloc(), reader, writer, config) {
         Ok(()) => Ok(()),
+        Err(fault) => Err(unlooped(fault)),
+    }
+}
+
+/// What a command is stopped with by a fault of `loop`.
+fn unlooped<'a>(fault: Fault) -> Stop<'a>
+    ensures { result.fault ≡ fault }
+{
+    match fault {
         // This is of the connection, too, and then not of the input.
-        Err(Fault::Stopped(Refusal::ReadFailed)) => Err(Stop::from(Refusal::ReadFailed)),
-        Err(fault) => Err(Stop::in_input(fault, Hint::Hexadecimal)),
+        Fault::Stopped(Refusal::ReadFailed) => Stop::from(Refusal::ReadFailed),
+        fault => Stop::in_input(fault, Hint::Hexadecimal),
     }
 }
 

@@ -1,6 +1,7 @@
 //! What the commands of the program do: with standard input and output, and with a stored site.
 #![tactic(auto)]
 
+mod awaited;
 mod closing;
 mod commands;
 mod looping;

@@ -1,6 +1,6 @@
 -- Sessions of two servers, over lines that are fresh, or were.
 use Rattle.std.proofs.Common.{◌≡◌, ℕ, List, Option, None, Some, Result, Ok, Err, ap, refl, subst, sym}
-use Rattle.std.specs.Prelude.{⊤}
+use Rattle.std.specs.Prelude.{IfOk, ⊤}
 use Rattle.std.specs.declared.net.socket_addr.SocketAddr.{SocketAddr}
 use Rattle.mvd_client.specs.Between.{EndsBetween, FailsBetween, IsFreshLine, MeetsBetween, far_within, true_within}
 use Rattle.mvd_client.specs.Between.FailsBetween.{faulted, no_far, no_near}
@@ -12,6 +12,7 @@ use Rattle.mvd_client.specs.declared.ends.Failure.{Failure}
 use Rattle.mvd_peer.specs.Sides.{two}
 use Rattle.mvd_remote.specs.Lines.{line_of, refused_of}
 use Rattle.mvd_remote.specs.declared.remote.Remote.{Remote}
+use Rattle.mvd_sync.specs.Ran.{IsRun}
 use Rattle.mvd_sync.specs.Session.{Session}
 use Rattle.mvd_remote.specs.declared.line.Line.{Ghosts as LineGhosts}
 use Rattle.mvd_sync.specs.declared.report.Report.{Report}
@@ -29,6 +30,7 @@ module _ {L : Type 0} (line : LineGhosts L) (near_gives far_gives : L → Type 0
     near_given = λ fresh. it.near_given (near_so fresh);
     far_given = λ fresh. it.far_given (far_so fresh);
     session = it.session;
+    runs = it.runs;
   }
 
   fails_sooner : (near far : SocketAddr) (failure : Failure) → FailsBetween line near_gives far_gives C D near far failure → FailsBetween line near_gives far_gives A B near far failure
@@ -70,8 +72,8 @@ module _ {L : Type 0} (line : LineGhosts L) where
   -- a session over two lines
   pub between : (near far near' far' : Remote (Counted L)) (near_gives far_gives : L → Type 0) (A B : Type 0) (near_link far_link : Counted L) → line_of near ≡ near_link → refused_of near ≡ None → line_of far ≡ far_link → refused_of far ≡ None
       → (A → near_gives near_link.line) → (B → far_gives far_link.line) → (told : Result Report SyncFault)
-      → Session (sides_between (true_within line) (far_within line) (true_within line) (far_within line)) 10000000 (two near far) (two near' far') told → MeetsBetween line near_gives far_gives A B told
-  between near far near' far' near_gives far_gives A B near_link far_link near_line near_on far_line far_on near_given far_given told session = record {
+      → Session (sides_between (true_within line) (far_within line) (true_within line) (far_within line)) 10000000 (two near far) (two near' far') told → IfOk told (IsRun (sides_between (true_within line) (far_within line) (true_within line) (far_within line)) 10000000 (two near far) (two near' far')) → MeetsBetween line near_gives far_gives A B told
+  between near far near' far' near_gives far_gives A B near_link far_link near_line near_on far_line far_on near_given far_given told session ran = record {
     near = near;
     far = far;
     near' = near';
@@ -81,15 +83,16 @@ module _ {L : Type 0} (line : LineGhosts L) where
     near_given = λ fresh. subst (λ (c : Counted L). near_gives c.line) (sym near_line) (near_given fresh);
     far_given = λ fresh. subst (λ (c : Counted L). far_gives c.line) (sym far_line) (far_given fresh);
     session = session;
+    runs = ran;
   }
 
   -- so one that ended well, whose lines are kept
   pub ended_well : (near far near' far' : Remote (Counted L)) (near_gives far_gives : L → Type 0) (A B : Type 0) (near_link far_link near_kept far_kept : Counted L) → line_of near ≡ near_link → refused_of near ≡ None → line_of far ≡ far_link → refused_of far ≡ None
       → (A → near_gives near_link.line) → (B → far_gives far_link.line) → (report : Report) → near_kept ≡ line_of near' → far_kept ≡ line_of far' → (near_at far_at : SocketAddr)
-      → Session (sides_between (true_within line) (far_within line) (true_within line) (far_within line)) 10000000 (two near far) (two near' far') (Ok report) → EndsBetween line near_gives far_gives A B near_at far_at (Some near_kept) (Some far_kept) (Ok report)
+      → Session (sides_between (true_within line) (far_within line) (true_within line) (far_within line)) 10000000 (two near far) (two near' far') (Ok report) → IsRun (sides_between (true_within line) (far_within line) (true_within line) (far_within line)) 10000000 (two near far) (two near' far') report → EndsBetween line near_gives far_gives A B near_at far_at (Some near_kept) (Some far_kept) (Ok report)
   unfolding between
-  ended_well near far near' far' near_gives far_gives A B near_link far_link near_kept far_kept near_line near_on far_line far_on near_given far_given report near_is far_is near_at far_at session = (
-    between near far near' far' near_gives far_gives A B near_link far_link near_line near_on far_line far_on near_given far_given (Ok report) session,
+  ended_well near far near' far' near_gives far_gives A B near_link far_link near_kept far_kept near_line near_on far_line far_on near_given far_given report near_is far_is near_at far_at session ran = (
+    between near far near' far' near_gives far_gives A B near_link far_link near_line near_on far_line far_on near_given far_given (Ok report) session ran,
     ap Some near_is,
     ap Some far_is,
   )

@@ -9,3 +9,4 @@ pub mod Once
 pub mod Opened
 pub mod PushTurns
 pub mod Seen
+pub mod Ran

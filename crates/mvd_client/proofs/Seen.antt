@@ -29,10 +29,10 @@ module _ {S T : Type 0} (inner : T → S) (follows : ℕ → T → T → Type 0)
   reached : (old new : T) → Reaches follows old new → Reaches side.follows (inner old) (inner new)
   reached old new (n, way) = (n, within n old new way)
 
-  answered : (old new : T) → HasAnswered follows (λ t. side.can_answer (inner t)) old new → HasAnswered side.follows side.can_answer (inner old) (inner new)
+  pub answered : (old new : T) → HasAnswered follows (λ t. side.can_answer (inner t)) old new → HasAnswered side.follows side.can_answer (inner old) (inner new)
   answered old new (mid, before, did, after) = (inner mid, reached old mid before, did, reached mid new after)
 
-  refused : (old new : T) (refusal : Refusal) → HasRefused follows (λ t. side.can_refuse (inner t)) old new refusal → HasRefused side.follows side.can_refuse (inner old) (inner new) refusal
+  pub refused : (old new : T) (refusal : Refusal) → HasRefused follows (λ t. side.can_refuse (inner t)) old new refusal → HasRefused side.follows side.can_refuse (inner old) (inner new) refusal
   refused old new refusal (mid, before, did, after) = (inner mid, reached old mid before, did, reached mid new after)
 
   silent : (old : T) → IsSilent side.follows side.can_answer (inner old) → IsSilent follows (λ t. side.can_answer (inner t)) old

@@ -1,5 +1,5 @@
 -- Sessions of two servers, each at the other end of a line that its address leads to, and what is printed of them.
-use Rattle.std.specs.Prelude.{◌≡◌, ◌⊎◌, ⊤, ℕ, List, [], false, Option, None, Some, Result, Ok, Err, IsErrAnd}
+use Rattle.std.specs.Prelude.{◌≡◌, ◌⊎◌, ⊤, ℕ, List, [], false, Option, None, Some, Result, Ok, Err, IfOk, IsErrAnd}
 use Rattle.std.specs.Net.Socket.{socket_ip}
 use Rattle.std.specs.declared.net.socket_addr.SocketAddr.{SocketAddr}
 use Rattle.mvd_client.specs.LetIn.{GivesIn}
@@ -18,6 +18,7 @@ use Rattle.mvd_peer.specs.Sides.{two}
 use Rattle.mvd_remote.specs.Lines.{Far, line_of, refused_of}
 use Rattle.mvd_remote.specs.declared.line.Line.{Ghosts as LineGhosts}
 use Rattle.mvd_remote.specs.declared.remote.Remote.{Remote}
+use Rattle.mvd_sync.specs.Ran.{IsRun}
 use Rattle.mvd_sync.specs.Session.{Session}
 use Rattle.mvd_sync.specs.declared.report.Report.{Report}
 use Rattle.mvd_sync.specs.declared.report.Side.TheVariants as side
@@ -36,7 +37,8 @@ module _ {L : Type 0} (line : LineGhosts L) where
   IsFreshLine gives None = ⊤
   IsFreshLine gives (Some counted) = gives counted.line
 
-  -- A SESSION OF TWO SERVERS, over lines that their addresses give, unless a line was kept of a session before
+  -- A SESSION OF TWO SERVERS, over lines that their addresses give, unless a line was kept of a session before. It is a
+  -- run of the machine where it ends well
   pub record MeetsBetween (near_gives far_gives : L → Type 0) (near_fresh far_fresh : Type 0)
       (told : Result Report SyncFault) : Type 0 where
     pub near : Remote (Counted L)
@@ -49,6 +51,8 @@ module _ {L : Type 0} (line : LineGhosts L) where
     pub far_given : far_fresh → far_gives (line_of far).line
     pub session : Session (sides_between true_within far_within true_within far_within) 10000000 (two near far)
         (two near' far') told
+    pub runs : IfOk told (IsRun (sides_between true_within far_within true_within far_within) 10000000 (two near far)
+        (two near' far'))
 
   -- why there is no report: an address leads to no line, or a session ended with a fault; of the side that it names
   pub data FailsBetween (near_gives far_gives : L → Type 0) (near_fresh far_fresh : Type 0) (near far : SocketAddr)

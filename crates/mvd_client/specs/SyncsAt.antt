@@ -1,5 +1,5 @@
 -- A session with what an address leads to.
-use Rattle.std.specs.Prelude.{◌≡◌, ℕ, List, [], None, Option, Result, Ok, Err}
+use Rattle.std.specs.Prelude.{◌≡◌, ℕ, List, [], None, Option, Result, Ok, Err, IfOk}
 use Rattle.std.specs.declared.net.socket_addr.SocketAddr.{SocketAddr}
 use Rattle.mvd_dots.specs.declared.refusals.Refusal.{Refusal}
 use Rattle.mvd_client.specs.Reported.{Reports}
@@ -16,6 +16,7 @@ use Rattle.mvd_replica.specs.Replicas.{site_of}
 use Rattle.mvd_replica.specs.Sides.{IsTrueSite}
 use Rattle.mvd_replica.specs.declared.replica.Replica.{Replica}
 use Rattle.mvd_site.specs.Sites.{SiteValue}
+use Rattle.mvd_sync.specs.Ran.{IsRun}
 use Rattle.mvd_sync.specs.Session.{Session}
 use Rattle.mvd_sync.specs.declared.report.Report.{Report}
 use Rattle.mvd_sync.specs.declared.report.SyncFault.{SyncFault}
@@ -42,11 +43,12 @@ EndsBy line (Err fault) mid after told = (after ≡ mid) × (told ≡ Err fault)
 
 -- a site `S`, and a line `L` over which the far side is asked
 module _ {S : Type 0} {g : Ghosts S} {L : Type 0} (line : LineGhosts L) where
-  -- ONE SESSION over a line, and a Bye
+  -- ONE SESSION over a line, which is a run of the machine where it ends well, and a Bye
   pub record SyncsOver (old new : Replica S g) (before after : Remote L) (told : Result Report SyncFault) : Type 0 where
     pub mid : Remote L
     pub ran : Result Report SyncFault
     pub session : Session (sides_at line) 10000000 (two old before) (two new mid) ran
+    pub runs : IfOk ran (IsRun (sides_at line) 10000000 (two old before) (two new mid))
     pub ends : EndsBy line ran mid after told
     -- where the line is true, no reply is due, and so is the site, the two meet
     pub meets : IsTrueSite (site_of old) → line.is_true (line_of before) → (line.far (line_of before)).due ≡ []

@@ -8,6 +8,7 @@ ghost use Rattle.mvd_client.specs.SyncSides.{sides_between};
 ghost use Rattle.mvd_dots.specs.declared.refusals.Refusal.TheVariants.{Memory};
 ghost use Rattle.mvd_peer.specs.Sides.{two};
 ghost use Rattle.mvd_remote.specs.Lines.{IsTrueRemote, far_of};
+ghost use Rattle.mvd_sync.specs.Ran.{IsRun};
 ghost use Rattle.mvd_sync.specs.Session.{Session};
 
 use crate::peer_commands::{left_with, print_refused};
@@ -50,6 +51,8 @@ pub fn meet_over<L: Line, M: Line, E: Write>(
     // Whatever is at the other ends.
     ensures session { Session (sides_between L.is_true L.far M.is_true M.far) 10000000
         (two near.old far.old.side) (two near.new far.new.side) result }
+    ensures ran { IfOk result (IsRun (sides_between L.is_true L.far M.is_true M.far) 10000000
+        (two near.old far.old.side) (two near.new far.new.side)) }
 {
     sync(alloc, near, far)
 }

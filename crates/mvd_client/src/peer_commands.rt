@@ -17,6 +17,7 @@ ghost use Rattle.mvd_replica.specs.Replicas.{site_of};
 ghost use Rattle.mvd_replica.specs.Sides.{IsTrueSite};
 ghost use Rattle.mvd_shell.specs.Shell.{at};
 ghost use Rattle.mvd_remote.specs.Lines.{IsTrueRemote, far_of};
+ghost use Rattle.mvd_sync.specs.Ran.{IsRun};
 ghost use Rattle.mvd_sync.specs.Session.{Session};
 
 use crate::asked_server::{AskedServer, Noted};
@@ -168,6 +169,8 @@ fn session_of<L: Line, S: Alter + Drop, E: Write>(
 ) -> Result<Report, SyncFault>
     ensures session { Session (sides_at L.Line) 10000000 (two replica.old watched.old.side)
         (two replica.new watched.new.side) result }
+    ensures ran { IfOk result (IsRun (sides_at L.Line) 10000000 (two replica.old watched.old.side)
+        (two replica.new watched.new.side)) }
     // What it does to the site is turns.
     ensures takes { TakesPushes replica.old replica.new }
     ensures pushed { FollowsPushed replica.old replica.new }
@@ -189,6 +192,8 @@ fn session_with<L: Line, S: Alter + Drop, E: Write>(
     ensures same_reference { side.new.replica.ghost_name ≡ side.old.replica.ghost_name }
     ensures session { Session (sides_at L.Line) 10000000 (two side.old.replica.now watched.old.side)
         (two side.new.replica.now watched.new.side) result }
+    ensures ran { IfOk result (IsRun (sides_at L.Line) 10000000 (two side.old.replica.now watched.old.side)
+        (two side.new.replica.now watched.new.side)) }
     ensures takes { TakesPushes side.old.replica.now side.new.replica.now }
     ensures pushed { FollowsPushed side.old.replica.now side.new.replica.now }
     ensures few { IsTrueSite (site_of side.old.replica.now) → IsTrueRemote L.is_true L.far watched.old.side →

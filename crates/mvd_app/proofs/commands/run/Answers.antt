@@ -10,7 +10,7 @@ returns-in-Sim g c = record {
 }
 
 pub returns-in-Loop : goal.returns-in-Loop
-returns-in-Loop g c = record { kept = none_back _ _ c.without_file-in-Loop.result c.without_file-in-Loop.ensures; done = rw c.in-Loop.is tt }
+returns-in-Loop g c = record { kept = none_back _ _ c.without_file-in-Loop.result c.without_file-in-Loop.ensures; done = rw c.in-Loop.is (rw c.without_file-in-Loop.ensures.ended c.run_loop.ensures) }
 
 pub returns-in-RemoteShell : goal.returns-in-RemoteShell
 returns-in-RemoteShell g c = record {

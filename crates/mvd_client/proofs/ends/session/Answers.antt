@@ -55,7 +55,7 @@ pub returns-in-Err-meet_over-clause-met : goal.returns-in-Err-meet_over-clause-m
 returns-in-Err-meet_over-clause-met g c = faulted c.in-Err-meet_over.fault
     (between g.D.Dialed.Line c.over-local.result c.over.result c.meet_over.new.near c.meet_over.new.far.side (GivesIn g.D.Dialed.Line (g.D.Dial.gives c.args.dial.now c.args.near.now.address) (option_copied c.args.terms.token)) (GivesIn g.D.Dialed.Line (g.D.Dial.gives c.args.dial.now c.args.far.now.address) (option_copied c.args.terms.token))
     (IsFreshLine g.D.Dialed.Line (GivesIn g.D.Dialed.Line (g.D.Dial.gives c.args.dial.now c.args.near.now.address) (option_copied c.args.terms.token)) c.args.near.now.link) (IsFreshLine g.D.Dialed.Line (GivesIn g.D.Dialed.Line (g.D.Dial.gives c.args.dial.now c.args.far.now.address) (option_copied c.args.terms.token)) c.args.far.now.link) c.in-Ok.link c.in-Ok-opened.link
-    c.over-local.ensures.line c.over-local.ensures.goes_on c.over.ensures.line c.over.ensures.goes_on c.in-Ok.ensures.opened c.in-Ok-opened.ensures.opened (Err c.in-Err-meet_over.fault) c.in-Err-meet_over.ensures.session)
+    c.over-local.ensures.line c.over-local.ensures.goes_on c.over.ensures.line c.over.ensures.goes_on c.in-Ok.ensures.opened c.in-Ok-opened.ensures.opened (Err c.in-Err-meet_over.fault) c.in-Err-meet_over.ensures.session tt)
     (failed_at c.opened.new.end.address c.args.near.now.address c.opened-2.new.end.address c.args.far.now.address c.in-Err-meet_over.fault c.failed.result c.opened.ensures.address c.opened-2.ensures.address c.failed.ensures)
 
 pub returns-clause-near : goal.returns-clause-near
@@ -69,4 +69,4 @@ returns-clause-met g c =
     ended_well g.D.Dialed.Line c.over-local.result c.over.result c.meet_over.new.near c.meet_over.new.far.side (GivesIn g.D.Dialed.Line (g.D.Dial.gives c.args.dial.now c.args.near.now.address) (option_copied c.args.terms.token)) (GivesIn g.D.Dialed.Line (g.D.Dial.gives c.args.dial.now c.args.far.now.address) (option_copied c.args.terms.token))
     (IsFreshLine g.D.Dialed.Line (GivesIn g.D.Dialed.Line (g.D.Dial.gives c.args.dial.now c.args.near.now.address) (option_copied c.args.terms.token)) c.args.near.now.link) (IsFreshLine g.D.Dialed.Line (GivesIn g.D.Dialed.Line (g.D.Dial.gives c.args.dial.now c.args.far.now.address) (option_copied c.args.terms.token)) c.args.far.now.link) c.in-Ok.link c.in-Ok-opened.link c.into_line-2.result c.into_line-3.result
     c.over-local.ensures.line c.over-local.ensures.goes_on c.over.ensures.line c.over.ensures.goes_on c.in-Ok.ensures.opened c.in-Ok-opened.ensures.opened c.in-Ok-meet_over.report c.into_line-2.ensures c.into_line-3.ensures
-    c.args.near.now.address c.args.far.now.address c.in-Ok-meet_over.ensures.session
+    c.args.near.now.address c.args.far.now.address c.in-Ok-meet_over.ensures.session c.in-Ok-meet_over.ensures.ran

@@ -1,6 +1,7 @@
 use Rattle.std.proofs.Common.{arith}
 use Rattle.mvd_client.specs.SyncSides.{far_side, stored_side}
 use Rattle.mvd_client.proofs.PushTurns.{takes_turns}
+use Rattle.mvd_client.proofs.Ran.{run_within}
 use Rattle.mvd_client.proofs.Seen.{session_within}
 use Rattle.mvd_client.proofs.Watching.{asks_few}
 use Rattle.mvd_client.proofs.peer_commands.session_with.Goals as goal
@@ -12,6 +13,11 @@ pub returns-clause-session : goal.returns-clause-session
 returns-clause-session g c =
     session_within c.args.side.now c.sync.new.local c.args.watched.now c.sync.new.peer (λ side. side.replica.now) (λ watched. watched.side) stored_side (far_side g.L.Line.is_true g.L.Line.far) _ _ 10000000 c.sync.result c.sync.ensures.session
     (λ n old new way. way.1.follows) (λ n old new way. way.0.1)
+
+pub returns-clause-ran : goal.returns-clause-ran
+returns-clause-ran g c =
+    run_within (λ side. side.replica.now) (λ watched. watched.side) stored_side (far_side g.L.Line.is_true g.L.Line.far) _ _ (λ n old new way. way.1.follows) (λ n old new way. way.0.1)
+    10000000 c.args.side.now c.sync.new.local c.args.watched.now c.sync.new.peer c.sync.result c.sync.ensures.ran
 
 pub returns-clause-takes : goal.returns-clause-takes
 returns-clause-takes g c = takes_turns c.args.side.now.replica.now c.sync.new.local.replica.now c.sync.ensures.session.course.follows.0.1

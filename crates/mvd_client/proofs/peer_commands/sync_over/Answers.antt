@@ -13,6 +13,7 @@ returns-in-Err-clause-syncs g c = record {
   mid = c.session_of.new.watched.side;
   ran = c.session_of.result;
   session = c.session_of.ensures.session;
+  runs = c.session_of.ensures.ran;
   ends = rw c.in-Err.is (refl, refl);
   meets = λ s t d n. returns-in-Err-clause-meets g c s (fresh_is_true g.L.Line.is_true g.L.Line.far c.args.watched.now.side t d n);
 }
@@ -30,6 +31,7 @@ returns-in-Ok-bye-clause-syncs g c = record {
   mid = c.session_of.new.watched.side;
   ran = c.session_of.result;
   session = c.session_of.ensures.session;
+  runs = c.session_of.ensures.ran;
   ends = rw c.in-Ok.is (c.bye.result, c.bye.ensures.asked, rw c.in-Ok-bye.is refl);
   meets = λ s t d n. returns-in-Ok-bye-clause-meets g c s (fresh_is_true g.L.Line.is_true g.L.Line.far c.args.watched.now.side t d n);
 }
@@ -47,6 +49,7 @@ returns-in-Err-bye-clause-syncs g c = record {
   mid = c.session_of.new.watched.side;
   ran = c.session_of.result;
   session = c.session_of.ensures.session;
+  runs = c.session_of.ensures.ran;
   ends = rw c.in-Ok.is (c.bye.result, c.bye.ensures.asked, rw c.in-Err-bye.is refl);
   meets = λ s t d n. returns-in-Err-bye-clause-meets g c s (fresh_is_true g.L.Line.is_true g.L.Line.far c.args.watched.now.side t d n);
 }

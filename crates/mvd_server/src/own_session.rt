@@ -47,7 +47,7 @@ impl Talks {
     }
 
     /// Whether a client is its own.
-    pub fn is_own_client(&self, number: u64) -> bool
+    pub fn is_own(&self, number: u64) -> bool
         ensures { result ≡ is_own_client (talking_of self.now) number }
     {
         self.own.contains(&number)

@@ -326,11 +326,25 @@ pub(crate) fn answer(
 )
     ensures { TellsClient number (web_of web.old) host.old (web_of web.new) host.new }
 {
-    if let Some(reply) = at_hand
-        && take_at_hand(alloc, host, number, reply)
-    {
+    let Some(reply) = at_hand else {
+        return answer_next(alloc, host, web, number, counts);
+    };
+    if take_at_hand(alloc, host, number, reply) {
         return tell_reply(alloc, web, reply, counts);
     }
+    answer_next(alloc, host, web, number, counts);
+}
+
+/// Queues the response that the next reply of the host is, if there is one.
+fn answer_next(
+    alloc: Global,
+    host: &mut Host,
+    web: &mut WebConnection,
+    number: u64,
+    counts: &mut Counts,
+)
+    ensures { TellsClient number (web_of web.old) host.old (web_of web.new) host.new }
+{
     match next_reply(alloc, host, number) {
         Some(Ok(reply)) => tell_reply(alloc, web, &reply, counts),
         Some(Err(refusal)) => tell_unread(alloc, web, refusal, counts),

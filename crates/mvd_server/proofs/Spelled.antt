@@ -8,7 +8,7 @@ use Rattle.mvd_frames.proofs.ReplyLaws.{replies_again}
 use Rattle.mvd_server.specs.Fronts.{IsFrontReply}
 use Rattle.mvd_wire.proofs.Laws.{passed_ok}
 use Rattle.mvd_wire.specs.Frames.{FrameValue, frame_at, frame_limit, spell_frame}
-use Rattle.mvd_wire.specs.Replies.{IsReply, refusal, reply_bytes, reply_frame, reply_kind, reply_payload}
+use Rattle.mvd_wire.specs.Replies.{IsReply, reply_frame, reply_kind, reply_payload}
 use Rattle.mvd_wire.specs.Requests.{framed}
 use Rattle.mvd_wire.specs.declared.reply.Reply.{Reply}
 use Rattle.mvd_wire.specs.declared.reply.Reply.TheVariants as reply

@@ -37,9 +37,11 @@ pub(crate) fn take_at_hand(alloc: Global, host: &mut Host, number: u64, reply: &
     let Ok(frame) = encode_reply(alloc, reply) else {
         return false;
     };
-    match host.waiting(number) {
-        Some(bytes) if bytes.starts_with(&frame) => {}
-        _ => return false,
+    let Some(bytes) = host.waiting(number) else {
+        return false;
+    };
+    if !bytes.starts_with(&frame) {
+        return false;
     }
     host.sent(number, frame.len());
     true

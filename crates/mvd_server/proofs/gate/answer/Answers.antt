@@ -8,4 +8,4 @@ pub returns-then-take_at_hand : goal.returns-then-take_at_hand
 returns-then-take_at_hand c = inr (Ok c.in-Some.reply.now, c.take_at_hand.ensures.taken c.if-take_at_hand.true, c.tell_reply.ensures)
 
 pub returns : goal.returns
-returns c = subst (λ (h : HostValue). TellsClient c.args.number (web_of c.args.web.now) h (web_of c.answer_next.new.web) c.answer_next.new.host) (c.take_at_hand.ensures.none c.if-take_at_hand.false) c.answer_next.ensures
+returns c = subst (λ (h : HostValue). TellsClient c.args.number (web_of c.args.web.now) h (web_of c.answer_next-2.new.web) c.answer_next-2.new.host) (c.take_at_hand.ensures.none c.if-take_at_hand.false) c.answer_next-2.ensures

@@ -3,7 +3,7 @@ ghost use Rattle.std.specs.Prelude.{◌≤◌, length};
 ghost use Rattle.mvd_host.specs.Hosts.{IfClient, client_of};
 
 use super::replica_calls::{Bytes, ROOM};
-use mvd_host::{Feed, Host, Tally};
+use mvd_host::{Feed, Host, RoundReplies, Tally};
 use mvd_replica::Replica;
 use sqlite::Alter;
 use std::alloc::Global;
@@ -60,7 +60,13 @@ pub fn drop_waiting(host: &mut Host, client: u64) {
 
 pub fn round<S: Alter>(alloc: Global, host: &mut Host, replica: &mut Replica<S>, ready: &[u64]) {
     let mut changes = Feed::new(alloc);
-    let _ = host.round(replica, ready, &mut Tally::new(), &mut changes);
+    let _ = host.round(
+        replica,
+        ready,
+        &mut Tally::new(),
+        &mut changes,
+        &mut RoundReplies::new(alloc),
+    );
 }
 
 /// Sends these frames, one of each of the first three clients, which are answered at once. It is done again where

@@ -14,4 +14,5 @@ mod tally;
 
 pub use feed::{Feed, TOLD_MAX};
 pub use host::{CLIENTS_MAX, Host};
+pub use round::RoundReplies;
 pub use tally::{KINDS, Tally};

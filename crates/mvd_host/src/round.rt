@@ -11,7 +11,25 @@ use crate::taking::Taken;
 use crate::tally::Tally;
 use mvd_dots::Refusal;
 use mvd_replica::Replica;
+use mvd_wire::Reply;
 use sqlite::Alter;
+use std::alloc::Global;
+
+/// The replies of a round, each with its client. Who uses one compares its frame with what waits.
+#[derive(Drop)]
+pub struct RoundReplies {
+    pub clients: Vec<u64>,
+    pub replies: Vec<Reply>,
+}
+
+impl RoundReplies {
+    pub fn new(alloc: Global) -> RoundReplies {
+        RoundReplies {
+            clients: Vec::new(alloc),
+            replies: Vec::new(alloc),
+        }
+    }
+}
 
 impl Host {
     ghost use Rattle.mvd_host.specs.Round.{GoesForward, Round, host_side};
@@ -19,13 +37,15 @@ impl Host {
     /// Takes at most 1,024 frames of each ready client, answers them together, queues each reply on its own client's
     /// connection, counts what was done and refused, and notes in the feed which keys may have changed. Gives whether
     /// there may be more to do at once: after `false` no frame can be taken of a ready client now, and after `true`
-    /// some was. It is refused where memory was for a frame; what else was taken is answered.
+    /// some was. It is refused where memory was for a frame; what else was taken is answered. The replies to requests
+    /// are kept as values, too.
     pub fn round<S: Alter>(
         &mut self,
         replica: &mut Replica<S>,
         ready: &[u64],
         tally: &mut Tally,
         feed: &mut Feed,
+        kept: &mut RoundReplies,
     ) -> Result<bool, Refusal>
         ensures round { (turns : List (ℕ × Turn)) × Round ready.now turns
             (host_side self.old replica.old) (host_side self.new replica.new) ×
@@ -38,17 +58,23 @@ impl Host {
         if taken.is_none() {
             return told(refused, false);
         }
-        match feed.answer(replica, &taken.requests) {
+        let Taken {
+            clients,
+            requests,
+            faults,
+        } = taken;
+        match feed.answer(replica, &requests) {
             Ok(replies) => {
-                queue_replies(&mut self.clients, &taken.clients, &replies);
-                tally.note_all(&taken.requests, &replies);
+                queue_replies(&mut self.clients, &clients, &replies);
+                tally.note_all(&requests, &replies);
+                *kept = RoundReplies { clients, replies };
             }
             Err(refusal) => {
-                queue_refused(&mut self.clients, &taken.clients, refusal);
-                tally.note_refused(&taken.requests, refusal);
+                queue_refused(&mut self.clients, &clients, refusal);
+                tally.note_refused(&requests, refusal);
             }
         }
-        queue_faults(&mut self.clients, &taken.faults);
+        queue_faults(&mut self.clients, &faults);
         told(refused, true)
     }
 }

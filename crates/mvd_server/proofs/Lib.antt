@@ -18,6 +18,7 @@ pub mod Placing
 pub mod Rounds
 pub mod Showing
 pub mod Sinces
+pub mod Spelled
 pub mod Swapping
 pub mod Waking
 pub mod Wiring

@@ -52,6 +52,12 @@ AnswersReply (Ok (Ask request)) reply status body = AnswersAsked false request r
 AnswersReply (Ok (Live request)) reply status body = AnswersAsked true request reply status body
 AnswersReply _ reply status body = ⊥
 
+-- the site is asked, and nothing of it changes
+abbrev pub ChangesNothing : Result Question Refusal → Type 0
+ChangesNothing (Ok (Ask request)) = is_web_change request ≡ false
+ChangesNothing (Ok (Live request)) = is_web_change request ≡ false
+ChangesNothing _ = ⊥
+
 -- a response to the request that waits
 pub record AnswersBy (asked : Asked) (reply : Result Reply Refusal) (old new : WebValue) : Type 0 where
   pub status : ℕ

@@ -12,8 +12,8 @@ use crate::batch::Batch;
 use crate::changes::push_since;
 use crate::feeding::hand_on;
 use crate::metrics::{Counts, Now};
-use crate::replies::next_reply;
-use crate::responding::{answer_of, refuse, respond, tell_pushed, tell_reply};
+use crate::replies::{next_reply, take_at_hand};
+use crate::responding::{answer_of, refuse, respond, tell_pushed, tell_reply, tell_unread};
 use http::StatusCode;
 use mvd_conn::Guard;
 use mvd_dots::Refusal;
@@ -22,6 +22,7 @@ use mvd_host::{Feed, Host};
 use mvd_http::{Answer, Content, Fault, Methods, PAGE, Question, push_root};
 use mvd_replica::Replica;
 use mvd_web::{Asked, WebConnection};
+use mvd_wire::Reply;
 use sqlite::Alter;
 use std::alloc::Global;
 
@@ -313,9 +314,29 @@ fn tell_metrics<S: Alter + Drop>(
     }
 }
 
-/// Queues the response to the request of a client that the host has answered. Where there is no memory for the response
-/// to a change, which may be stored, the connection ends without one.
+/// Queues the response to the request of a client that the host has answered, maybe by the reply at hand. Where there
+/// is no memory for the response to a change, which may be stored, the connection ends without one.
 pub(crate) fn answer(
+    alloc: Global,
+    host: &mut Host,
+    web: &mut WebConnection,
+    number: u64,
+    at_hand: Option<&Reply>,
+    counts: &mut Counts,
+)
+    ensures { TellsClient number (web_of web.old) host.old (web_of web.new) host.new }
+{
+    let Some(reply) = at_hand else {
+        return answer_next(alloc, host, web, number, counts);
+    };
+    if take_at_hand(alloc, host, number, reply) {
+        return tell_reply(alloc, web, reply, counts);
+    }
+    answer_next(alloc, host, web, number, counts);
+}
+
+/// Queues the response that the next reply of the host is, if there is one.
+fn answer_next(
     alloc: Global,
     host: &mut Host,
     web: &mut WebConnection,
@@ -324,8 +345,10 @@ pub(crate) fn answer(
 )
     ensures { TellsClient number (web_of web.old) host.old (web_of web.new) host.new }
 {
-    if let Some(reply) = next_reply(alloc, host, number) {
-        tell_reply(alloc, web, reply, counts);
+    match next_reply(alloc, host, number) {
+        Some(Ok(reply)) => tell_reply(alloc, web, &reply, counts),
+        Some(Err(refusal)) => tell_unread(alloc, web, refusal, counts),
+        None => {}
     }
 }
 

@@ -1,10 +1,10 @@
 //! The replies that the host has for a client over HTTP.
-ghost use Rattle.std.specs.Prelude.{◌≢◌, ◌≤◌, [], length};
+ghost use Rattle.std.specs.Prelude.{◌≡◌, ◌≢◌, ◌≤◌, [], IsTrue, Ok, Some, false, length};
 ghost use Rattle.mvd_server.specs.Fronts.{IsFrontReply, TakesFront};
 
 use mvd_conn::{Front, front_of};
 use mvd_dots::Refusal;
-use mvd_frames::decode_reply;
+use mvd_frames::{decode_reply, encode_reply};
 use mvd_host::Host;
 use mvd_wire::Reply;
 use std::alloc::Global;
@@ -25,6 +25,26 @@ pub(crate) fn next_reply(
     };
     host.sent(number, count);
     Some(reply)
+}
+
+/// Takes the next reply that the host has for a client, if it is this one. Whether it was taken: not, too, where memory
+/// is refused.
+#[tactic(auto, using(crate::proofs::Answering::waits_if))]
+pub(crate) fn take_at_hand(alloc: Global, host: &mut Host, number: u64, reply: &Reply) -> bool
+    ensures taken { IsTrue result → TakesFront number host.old (Some (Ok reply.now)) host.new }
+    ensures none { result ≡ false → host.new ≡ host.old }
+{
+    let Ok(frame) = encode_reply(alloc, reply) else {
+        return false;
+    };
+    let Some(bytes) = host.waiting(number) else {
+        return false;
+    };
+    if !bytes.starts_with(&frame) {
+        return false;
+    }
+    host.sent(number, frame.len());
+    true
 }
 
 /// The reply that the frame in front of these bytes is, and how many of them it has.

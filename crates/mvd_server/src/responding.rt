@@ -1,11 +1,10 @@
 //! The responses to requests of HTTP, as they are queued.
-ghost use Rattle.std.specs.Prelude.{◌≡◌, IfOk, IsTrue, string_bytes};
-ghost use Rattle.mvd_http.specs.Answers.{Responds, is_stored};
+ghost use Rattle.std.specs.Prelude.{◌≡◌, Err, IfOk, IsTrue, Ok, string_bytes};
 ghost use Rattle.mvd_http.specs.declared.fields.Content.TheVariants.{Json};
 ghost use Rattle.mvd_server.specs.Errands.{AwaitsChange};
 ghost use Rattle.mvd_server.specs.Plans.{plain_answer};
-ghost use Rattle.mvd_server.specs.Responding.{AnswersReply, AnswersWeb, content_of as content_for, is_web_change};
-ghost use Rattle.mvd_server.specs.Responding.{RefusesWeb, TellsBody, json_answer, status_or_500, told_with};
+ghost use Rattle.mvd_server.specs.Responding.{AnswersReply, AnswersWeb, ChangesNothing, content_of as content_for};
+ghost use Rattle.mvd_server.specs.Responding.{RefusesWeb, TellsBody, is_web_change, json_answer, status_or_500};
 ghost use Rattle.mvd_web.specs.Inside.{web_of};
 ghost use Rattle.mvd_web.specs.Web.{RespondsTo};
 
@@ -13,9 +12,9 @@ use crate::metrics::Counts;
 use http::StatusCode;
 use mvd_dots::Refusal;
 use mvd_http::{Answer, Content, Question, live_response_of, refused_response, response_of};
-use mvd_web::{Asked, WebConnection};
+use mvd_web::WebConnection;
 use mvd_wire::{Reply, Request};
-use std::alloc::{AllocError, Global};
+use std::alloc::Global;
 
 pub(crate) fn answer_of(status: StatusCode, content: Content) -> Answer
     ensures { result ≡ plain_answer status content }
@@ -104,13 +103,8 @@ pub(crate) fn tell_pushed(
 /// Queues the response to the request that waits, which is answered by this reply. Where there is no memory for the
 /// response to a change, which may be stored, the connection ends without one.
 #[tactic(auto, using(crate::proofs::Answering::answered))]
-pub(crate) fn tell_reply(
-    alloc: Global,
-    web: &mut WebConnection,
-    reply: Result<Reply, Refusal>,
-    counts: &mut Counts,
-)
-    ensures { AnswersWeb (web_of web.old).asked reply (web_of web.old) (web_of web.new) }
+pub(crate) fn tell_reply(alloc: Global, web: &mut WebConnection, reply: &Reply, counts: &mut Counts)
+    ensures { AnswersWeb (web_of web.old).asked (Ok reply.now) (web_of web.old) (web_of web.new) }
 {
     let mut body = String::new(alloc);
     let status = match web.asked() {
@@ -123,43 +117,51 @@ pub(crate) fn tell_reply(
     }
 }
 
-/// Puts the body of a response into `body`, and gives its status. Of a change whose reply cannot be read nothing is
-/// told.
+/// Puts the body of the response to a question into `body`, and gives its status.
 fn put_body(
     alloc: Global,
     question: &Result<Question, Refusal>,
-    reply: Result<Reply, Refusal>,
+    reply: &Reply,
     body: &mut String,
 ) -> Result<u16, Refusal>
-    ensures { IfOk result (λ status. AnswersReply question.now reply status (string_bytes body.new)) }
+    ensures { IfOk result (λ status. AnswersReply question.now (Ok reply.now) status (string_bytes body.new)) }
 {
-    let (request, is_live) = match question {
-        Ok(Question::Ask(request)) => (request, false),
-        Ok(Question::Live(request)) => (request, true),
-        _ => return Err(Refusal::BadKind),
-    };
-    match reply {
-        Ok(reply) => Ok(put_reply(alloc, request, is_live, &reply, body)?),
-        Err(refusal) if is_change(request) => Err(refusal),
-        Err(refusal) => Ok(refused_response(body, refusal)?),
+    match question {
+        Ok(Question::Ask(request)) => Ok(response_of(alloc, request, reply, body)?),
+        Ok(Question::Live(request)) => Ok(live_response_of(alloc, request, reply, body)?),
+        _ => Err(Refusal::BadKind),
     }
 }
 
-/// Puts the body of a reply into `body`, maybe without the keys that have no sibling, and gives its status.
-fn put_reply(
+/// Tells the request that waits that its reply cannot be read. Of a change, which may be stored, nothing is told: the
+/// connection ends.
+#[tactic(auto, using(crate::proofs::Answering::unread))]
+pub(crate) fn tell_unread(
     alloc: Global,
-    request: &Request,
-    is_live: bool,
-    reply: &Reply,
-    body: &mut String,
-) -> Result<u16, AllocError>
-    ensures { IfOk result (λ status.
-        Responds (is_stored reply.now) (told_with is_live request.now reply.now) status (string_bytes body.new)) }
+    web: &mut WebConnection,
+    refusal: Refusal,
+    counts: &mut Counts,
+)
+    ensures { AnswersWeb (web_of web.old).asked (Err refusal) (web_of web.old) (web_of web.new) }
 {
-    if is_live {
-        live_response_of(alloc, request, reply, body)
+    let is_told = match web.asked() {
+        Some(asked) => changes_nothing(&asked.question),
+        None => return,
+    };
+    if is_told {
+        refuse(alloc, web, counts, refusal);
     } else {
-        response_of(alloc, request, reply, body)
+        web.stop(refusal);
+    }
+}
+
+/// Whether a question is one to the site, and no change.
+fn changes_nothing(question: &Result<Question, Refusal>) -> bool
+    ensures { IsTrue result → ChangesNothing question.now }
+{
+    match question {
+        Ok(Question::Ask(request) | Question::Live(request)) => !is_change(request),
+        _ => false,
     }
 }
 

@@ -15,10 +15,11 @@ use crate::parked::Parked;
 use crate::responding::{asks_changes, refuse, tell_pushed};
 use mvd_conn::Guard;
 use mvd_dots::Refusal;
-use mvd_host::{Feed, Host};
+use mvd_host::{Feed, Host, RoundReplies};
 use mvd_http::push_changes;
 use mvd_replica::Replica;
 use mvd_web::WebConnection;
+use mvd_wire::Reply;
 use sqlite::Alter;
 use std::alloc::{AllocError, Global};
 use std::collections::BTreeMap;
@@ -94,16 +95,19 @@ impl Talks {
         }
         // Where memory was refused for a frame, there may be more, but not at once.
         let commits = replica.commits();
-        let round = self
-            .host
-            .round(replica, ready, &mut counts.tally, &mut self.changes);
+        let mut replies = RoundReplies::new(self.alloc);
+        let round = self.host.round(
+            replica,
+            ready,
+            &mut counts.tally,
+            &mut self.changes,
+            &mut replies,
+        );
         let more = matches!(round, Ok(true));
         if more || round.is_err() {
             counts.rounds = counts.rounds.saturating_add(1);
         }
-        for number in ready {
-            self.tell(*number, counts);
-        }
+        self.tell_all(&replies, ready, counts);
         self.wake(replica, counts);
         more & (replica.commits() == commits)
     }
@@ -230,8 +234,20 @@ impl Talks {
         }
     }
 
-    /// Queues what a client over HTTP is told.
-    fn tell(&mut self, number: u64, counts: &mut Counts)
+    /// Queues what clients over HTTP are told: first those whose replies are at hand.
+    fn tell_all(&mut self, at_hand: &RoundReplies, ready: &[u64], counts: &mut Counts)
+        ensures { TalksDeeds self.old self.new }
+    {
+        for (number, reply) in at_hand.clients.iter().zip(&at_hand.replies) {
+            self.tell(*number, Some(reply), counts);
+        }
+        for number in ready {
+            self.tell(*number, None, counts);
+        }
+    }
+
+    /// Queues what a client over HTTP is told, maybe by the reply at hand.
+    fn tell(&mut self, number: u64, at_hand: Option<&Reply>, counts: &mut Counts)
         ensures { TalksDeeds self.old self.new }
     {
         let Some(web) = self.webs.get_mut(&number) else {
@@ -239,7 +255,7 @@ impl Talks {
         };
         let host = &mut self.host;
         let Some(batch) = self.batches.get_mut(&number) else {
-            return answer(self.alloc, host, web, number, counts);
+            return answer(self.alloc, host, web, number, at_hand, counts);
         };
         answer_writes(self.alloc, host, web, batch, number, counts);
         if web.asked().is_none() {

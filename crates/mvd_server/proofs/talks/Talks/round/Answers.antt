@@ -5,9 +5,6 @@ use Rattle.mvd_server.proofs.talks.Talks.round.Goals as goal
 pub loop-number-preserved : goal.loop-number-preserved
 loop-number-preserved g c = deeds_on (talking_of c.args.self.now) (talking_of c.loop-number.self) (talking_of c.take_in.new.self) c.loop-number.invariant c.take_in.ensures
 
-pub loop-number-2-preserved : goal.loop-number-2-preserved
-loop-number-2-preserved g c = deeds_on _ (talking_of c.loop-number-2.self) (talking_of c.tell.new.self) c.loop-number-2.invariant c.tell.ensures
-
 pub returns : goal.returns
 returns g c =
     let before = talking_of c.loop-number.self in
@@ -20,6 +17,6 @@ returns g c =
         ready = c.args.ready.now;
         turns = c.round-round.ensures.round.0;
         round = c.round-round.ensures.round.1;
-        last = deeds_on (with_host before host) (talking_of c.loop-number-2.self) (talking_of c.wake.new.self) c.loop-number-2.invariant c.wake.ensures;
+        last = deeds_on (with_host before host) (talking_of c.tell_all.new.self) (talking_of c.wake.new.self) c.tell_all.ensures c.wake.ensures;
       };
     }

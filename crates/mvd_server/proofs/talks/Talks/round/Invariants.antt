@@ -3,6 +3,3 @@ use Rattle.mvd_server.proofs.talks.Talks.round.Given as goal
 
 abbrev pub invariant-loop-number : goal.invariant-loop-number
 invariant-loop-number g l = TalksDeeds l.initial.self l.self
-
-abbrev pub invariant-loop-number-2 : goal.invariant-loop-number-2
-invariant-loop-number-2 g l = TalksDeeds l.initial.self l.self

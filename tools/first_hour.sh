@@ -247,7 +247,8 @@ def old_file():
     if marks != ([(2,), (1,)], [(0,)]):
         miss(f"a file of version 1 is left as {marks}")
     wants("a file of a later version", "mvd shell --db old.db --site 1", "mvd: fault 17 Damaged\nmvd: old.db is damaged, or of a "
-          "later version of mvd: name another file, or make a new site from a copy (docs/USING.md, Backups)\n", 1, "get k\n")
+          "later version of mvd: use that version, name another file, or make a new site from a copy "
+          "(docs/USING.md, Backups)\n", 1, "get k\n")
 
 
 def interrupted():

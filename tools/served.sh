@@ -222,7 +222,7 @@ same "the same file with room for its keys" "context 1:1 1:1 {} context 2:1 2:1 
 cp b.db damaged.db
 sql damaged.db "PRAGMA journal_mode = delete" "UPDATE states2 SET state = x'00' WHERE key = 'b'" >/dev/null
 refused "a damaged row" 1 "fault 17 Damaged" \
-  "damaged.db is damaged, or of a later version of mvd: name another file, or make a new site from a copy (docs/USING.md, Backups)" \
+  "damaged.db is damaged, or of a later version of mvd: use that version, name another file, or make a new site from a copy (docs/USING.md, Backups)" \
   damaged.db serve --db damaged.db --site 2 --port "$port"
 sql other.db "CREATE TABLE note (title TEXT)" "INSERT INTO note VALUES ('a')" >/dev/null
 other=$(cksum <other.db)

@@ -45,7 +45,7 @@ pub enum Hint<'a> {
     Unusable(&'a str, sqlite::Error),
     #[error("{0} is the file of site {1}: give that number as --site, or name another file")]
     OtherSite(&'a str, u32),
-    #[error("{0} is damaged, or of a later version of mvd: name another file, or make a new site from a copy (docs/USING.md, Backups)")]
+    #[error("{0} is damaged, or of a later version of mvd: use that version, name another file, or make a new site from a copy (docs/USING.md, Backups)")]
     Damaged(&'a str),
     #[error("{0} is the file of another program: name another file")]
     Foreign(&'a str),

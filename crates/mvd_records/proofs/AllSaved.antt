@@ -1,25 +1,12 @@
 -- What a call leaves that saves the states of many keys.
-use Rattle.std.proofs.Common.{◌≡◌, ℕ, List, [], ◌∷◌, ◌++◌, Ok, inl, ◌+◌, take, arith, refl, sym, ap, subst, ◌∙◌}
+use Rattle.std.proofs.Common.{◌≡◌, ℕ, List, [], ◌∷◌, ◌++◌, inl, ◌+◌, take, arith, refl, sym, ap, subst, ◌∙◌}
 use Rattle.std.proofs.lemmas.List.{map-append}
 use Rattle.std.specs.FinMap.{insert}
-use Rattle.sqlite.specs.declared.types.Value.TheVariants.{Text, Blob}
-use Rattle.sqlite.specs.Effect.{Database, IsDatabase}
-use Rattle.sqlite.specs.State.{State, Executes}
-use Rattle.sqlite.specs.Listing.{understood}
-use Rattle.sqlite.proofs.Callers.{runs_as, statement_of}
-use Rattle.mvd_records.specs.Tables.{all_tables}
+use Rattle.sqlite.specs.Effect.{Database}
+use Rattle.sqlite.specs.State.{State}
 use Rattle.mvd_records.specs.States.{StoredStates}
-use Rattle.mvd_records.specs.Records.{HoldsRecords, SavesStates, SavesState, StaysInside, with_pairs}
+use Rattle.mvd_records.specs.Records.{SavesStates, SavesState, StaysInside, with_pairs}
 use Rattle.mvd_records.specs.Pairs.{Pair, pair_entries}
-use Rattle.mvd_records.proofs.Saved.{saved}
-use Rattle.mvd_records.proofs.Texts.{save_text, save_command, save_is, save_plain}
-
--- the statement, run inside a transaction
-pub set : (version site : ℕ) (old new : State) (key bytes : List ℕ) (count : ℕ) → IsDatabase old.now → HoldsRecords version site old.now → Executes save_text (Text key ∷ Blob bytes ∷ []) old new (Ok count)
-    → IsDatabase new.now × (HoldsRecords version site new.now × SavesState old.now new.now key bytes)
-set version site old new key bytes count sound holds h =
-    let w = runs_as save_text (Text key ∷ Blob bytes ∷ []) old new all_tables holds.tables.schema save_command save_is save_plain count h in
-    (w.sound, saved old.step_limit (statement_of save_text (understood all_tables save_text)) version site old.now new.now w.tally key bytes sound holds w.changed)
 
 with_more : (states : StoredStates) (pairs : List (List ℕ × List ℕ)) (p : List ℕ × List ℕ) → with_pairs states (pairs ++ p ∷ []) ≡ insert (with_pairs states pairs) p.0 p.1
 with_more states [] p = refl

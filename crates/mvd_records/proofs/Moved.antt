@@ -1,9 +1,8 @@
 -- What a call leaves that moves a key.
 use Rattle.std.proofs.Common.{◌≡◌, ◌≢◌, inl, inr, ℕ, List, ◌∷◌, [], map, Option, Some, Ok, unwrap_or, refl, sym, ap, subst, ◌∙◌, arith}
 use Rattle.std.specs.FinMap.{get, insert, remove}
-use Rattle.sqlite.specs.declared.types.Value.TheVariants.{Text, Blob}
-use Rattle.sqlite.specs.Command.TheVariants.{Delete, Insert}
-use Rattle.sqlite.specs.Source.TheVariants.{Values}
+use Rattle.sqlite.specs.declared.types.Value.TheVariants.{Text}
+use Rattle.sqlite.specs.Command.TheVariants.{Delete}
 use Rattle.sqlite.specs.Order.{Row}
 use Rattle.sqlite.specs.Effect.{Database, IsDatabase}
 use Rattle.sqlite.specs.View.{IsShaped}
@@ -15,12 +14,12 @@ use Rattle.mvd_records.specs.Tables.{all_tables, old_states_table, meta, new_sta
 use Rattle.mvd_records.specs.States.{states_in, shown_row, AreMarks}
 use Rattle.mvd_records.specs.Records.{HoldsRecords, TakesStoredState, SavesState, MovesState, LacksKey}
 use Rattle.mvd_records.specs.Records as maps
-use Rattle.mvd_records.proofs.Rows.{key_of, state_of, states_set, states_dropped}
-use Rattle.mvd_records.proofs.Rules.{AreStates, apart_in, old_states_of, new_states_of}
+use Rattle.mvd_records.proofs.Rows.{key_of, state_of, states_dropped}
+use Rattle.mvd_records.proofs.Rules.{AreStates, apart_in, old_states_of}
 use Rattle.mvd_records.proofs.Asked.{get_has, has_get}
 use Rattle.mvd_records.proofs.Saved.{rows_there, with_rows}
-use Rattle.mvd_records.proofs.Taking.{takes, puts}
-use Rattle.mvd_records.proofs.Texts.{take_text, take_query, take_is, take_plain, put_text, put_is, put_plain, save_terms}
+use Rattle.mvd_records.proofs.Taking.{takes}
+use Rattle.mvd_records.proofs.Texts.{take_text, take_query, take_is, take_plain}
 
 pub record Taken (version site : ℕ) (old new : State) (key : List ℕ) (count : ℕ) : Type 0 where
   pub sound : IsDatabase new.now
@@ -57,29 +56,6 @@ taken version site old new key count sound holds h =
         | inr none ↦ absurd (some (w.counted ∙ ap (λ (o : Option ℕ). unwrap_or o 0) none.1))
       ];
     }
-
-pub put : (version site : ℕ) (old new : State) (key state : List ℕ) (count : ℕ) → IsDatabase old.now → HoldsRecords version site old.now → Executes put_text (Text key ∷ Blob state ∷ []) old new (Ok count)
-    → IsDatabase new.now × (HoldsRecords version site new.now × SavesState old.now new.now key state)
-put version site old new key state count sound holds h =
-    let has = holds.tables.schema in
-    let w = runs_as put_text (Text key ∷ Blob state ∷ []) old new all_tables has (Insert 2 (Values save_terms 3)) put_is put_plain count h in
-    let are : AreStates (old.now.trees 4) = new_states_of old.now has sound (holds.tables.rows new_states_table (inr (inr (inl refl)))) in
-    let it = puts old.step_limit (statement_of put_text (understood all_tables put_text)) old.now new.now w.tally key state has are w.sound w.changed in
-    let done = it.1 in
-    let set = states_set (old.now.trees 4) (new.now.trees 4) done.row (apart_in _ are) done.sets in (
-      w.sound,
-      (
-        record {
-          tables = with_rows new.now it.0 (subst (IsShaped shape.Table) (sym done.old_rows) (holds.tables.rows old_states_table (inl refl))) (subst (IsShaped shape.Table) (sym done.marks) (holds.tables.rows meta (inr (inl refl)))) done.shaped;
-          marks = subst (λ (rows : List Row). AreMarks version site (map shown_row rows)) (sym done.marks) holds.marks;
-        },
-        record {
-          old_same = ap states_in ((rows_there new.now it.0).0 ∙ (done.old_rows ∙ sym (rows_there old.now has).0));
-          saved = ap states_in (rows_there new.now it.0).1 ∙ (set ∙ (ap (λ k. insert (states_in (old.now.trees 4)) k (state_of done.row)) done.key_is
-              ∙ (ap (insert (states_in (old.now.trees 4)) key) done.state_is ∙ ap (λ rows. insert (states_in rows) key state) (sym (rows_there old.now has).1))));
-        },
-      ),
-    )
 
 -- out of one table, and into the other
 pub both_moved : (a b c : Database) (key state : List ℕ) → TakesStoredState a b key → SavesState b c key state → MovesState a c key state

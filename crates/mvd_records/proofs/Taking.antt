@@ -15,8 +15,7 @@ use Rattle.sqlite.specs.Program.{overlay}
 use Rattle.sqlite.specs.Collation.TheVariants.{Binary}
 use Rattle.sqlite.specs.Edit.{Edit, edit_of, edited, without_all, taken_by, next_rowid, are_fresh}
 use Rattle.sqlite.specs.Rowids.TheVariants.{Chosen}
-use Rattle.sqlite.specs.Source.TheVariants.{Values}
-use Rattle.sqlite.specs.Command.TheVariants.{Delete, Insert}
+use Rattle.sqlite.specs.Command.TheVariants.{Delete}
 use Rattle.sqlite.specs.Does.{Tally, Does}
 use Rattle.sqlite.specs.Rows.{Written}
 use Rattle.sqlite.specs.Tree.{Trees, put_row, rowid, has_rowid}
@@ -39,7 +38,29 @@ use Rattle.mvd_records.proofs.Rows.{IsEntry, Drops, looked_up, key_of, same_key}
 use Rattle.mvd_records.proofs.Rules.{AreStates, new_states_of}
 use Rattle.mvd_records.proofs.Asked.{text_tie}
 use Rattle.mvd_records.proofs.Saving.{went, same_value, cast_null, plain_mode, only_one, none_picked, entry, one_row_edit, applied, inserted, Saves}
-use Rattle.mvd_records.proofs.Texts.{take_query, save_terms}
+use Rattle.mvd_records.proofs.Texts.{take_query, put_command}
+
+-- ---- the rows with a key
+
+module _ (key : List ℕ) where
+  abbrev pub names : Row → Bool
+  names x = equal Binary (column x 1) (Text key) && true
+
+  names_is : (x : Row) → IsEntry x → names x ≡ (is_eq (slice_cmp nat_cmp (key_of x) key) && true)
+  names_is x it = rw it.is (ap (λ t. t && true) (text_tie it.key key))
+
+  pub names_it : (x : Row) → IsEntry x → key_of x ≡ key → names x ≡ true
+  names_it x it e = names_is x it ∙ ap (λ t. t && true) (subst (λ k. is_eq (slice_cmp nat_cmp (key_of x) k) ≡ true) e (ap is_eq (tied_itself nat_list_cmp_total (key_of x))))
+
+  pub named : (x : Row) → IsEntry x → names x ≡ true → key_of x ≡ key
+  named x it p = same_key _ _ (and_parts _ _ (sym (names_is x it) ∙ p)).0
+
+  pub unnamed : (x : Row) → IsEntry x → key_of x ≢ key → names x ≡ false
+  unnamed x it other = elim (cases_Bool (names x)) [ inl has ↦ absurd (other (named x it has)) | inr none ↦ none ]
+
+pub none_long : {X : Type 0} (xs : List X) → length xs ≡ 0 → xs ≡ []
+none_long [] e = refl
+none_long (x ∷ xs) e = absurd (omega arith)
 
 -- ---- out of the old table
 
@@ -47,41 +68,22 @@ module _ (key : List ℕ) where
   abbrev given : Row
   given = Text key ∷ []
 
-  abbrev picks : Row → Bool
-  picks x = equal Binary (column x 1) (Text key) && true
-
   abbrev env : Row → List Row
   env x = given ∷ x ∷ []
-
-  picks_is : (x : Row) → IsEntry x → picks x ≡ (is_eq (slice_cmp nat_cmp (key_of x) key) && true)
-  picks_is x it = rw it.is (ap (λ t. t && true) (text_tie it.key key))
-
-  picked : (x : Row) → IsEntry x → key_of x ≡ key → picks x ≡ true
-  picked x it e = picks_is x it ∙ ap (λ t. t && true) (subst (λ k. is_eq (slice_cmp nat_cmp (key_of x) k) ≡ true) e (ap is_eq (tied_itself nat_list_cmp_total (key_of x))))
-
-  has_key : (x : Row) → IsEntry x → picks x ≡ true → key_of x ≡ key
-  has_key x it p = same_key _ _ (and_parts _ _ (sym (picks_is x it) ∙ p)).0
-
-  left_out : (x : Row) → IsEntry x → key_of x ≢ key → picks x ≡ false
-  left_out x it other = elim (cases_Bool (picks x)) [ inl has ↦ absurd (other (has_key x it has)) | inr none ↦ none ]
 
   -- the statement reads the rowid of the row that has the key, or none
   taken_rows : (db : Trees) (rows : List Row) → AreStates (db 0) → IsAnswer take_query (overlay db []) given rows → (r : Row) → Has (db 0) r → key_of r ≡ key → rows ≡ (rowid r ∷ []) ∷ []
   taken_rows db rows are a r there own =
-      let one = λ (x : Row) (h : Has (db 0) x) (p : picks x ≡ true). are.one x r h there (has_key x (are.entry x h) p ∙ sym own) in
-      let staged : a.staged ≡ env r ∷ [] = a.grouped ∙ only_one picks env (db 0) r are.shaped.0 there (picked r (are.entry r there) own) one in
+      let one = λ (x : Row) (h : Has (db 0) x) (p : names key x ≡ true). are.one x r h there (named key x (are.entry x h) p ∙ sym own) in
+      let staged : a.staged ≡ env r ∷ [] = a.grouped ∙ only_one (names key) env (db 0) r are.shaped.0 there (names_it key r (are.entry r there) own) one in
       let o : Output = ([], rowid r ∷ []) in
       let kept : a.kept ≡ o ∷ [] = a.distinct ∙ ap (map (output take_query)) staged in
       let ordered = one_permutation o a.ordered (subst (λ k. IsPermutation k a.ordered) kept a.same) in
       a.shown ∙ ap (λ xs. page take_query given (map (λ (p : Output). p.1) xs)) ordered
 
-  none_long : {X : Type 0} (xs : List X) → length xs ≡ 0 → xs ≡ []
-  none_long [] e = refl
-  none_long (x ∷ xs) e = absurd (omega arith)
-
   no_rows : (db : Trees) (rows : List Row) → AreStates (db 0) → IsAnswer take_query (overlay db []) given rows → ((x : Row) → Has (db 0) x → key_of x ≢ key) → rows ≡ []
   no_rows db rows are a none =
-      let staged : a.staged ≡ [] = a.grouped ∙ none_picked picks env (db 0) (λ x h. left_out x (are.entry x h) (none x h)) in
+      let staged : a.staged ≡ [] = a.grouped ∙ none_picked (names key) env (db 0) (λ x h. unnamed key x (are.entry x h) (none x h)) in
       let kept : a.kept ≡ [] = a.distinct ∙ ap (map (output take_query)) staged in
       let ordered : a.ordered ≡ [] = none_long a.ordered (omega (arith, length_permutation a.kept a.ordered a.same, ap length kept)) in
       a.shown ∙ ap (λ xs. page take_query given (map (λ (p : Output). p.1) xs)) ordered
@@ -177,10 +179,10 @@ not_taken rows row fresh there =
     absurd cc
 
 pub puts : (limit : Option ℕ) (text : List ℕ) (db after : Database) (tally : Tally) (key state : List ℕ) → db.schema ≡ all_tables → AreStates (db.trees 4) → IsDatabase after
-    → Does limit plain_mode (Text key ∷ Blob state ∷ []) db text None (Insert 2 (Values save_terms 3)) (Ok (tally, after)) → (after.schema ≡ all_tables) × Saves db.trees after.trees key state
+    → Does limit plain_mode (Text key ∷ Blob state ∷ []) db text None put_command (Ok (tally, after)) → (after.schema ≡ all_tables) × Saves db.trees after.trees key state
 puts limit text db after tally key state has are sound h =
     let params = Text key ∷ Blob state ∷ [] in
-    let done = went (subst (λ s. Does limit plain_mode params (record db { schema = s }) text None (Insert 2 (Values save_terms 3)) (Ok (tally, after))) has h) in
+    let done = went (subst (λ s. Does limit plain_mode params (record db { schema = s }) text None put_command (Ok (tally, after))) has h) in
     let now = ap (λ (p : Tally × Database). p.1) (same_value (went (went done.2).2).2) in
     let given = went done.1 in
     let written = went (went given.2).2 in

@@ -8,9 +8,10 @@ use Rattle.sqlite.specs.State.{State, Executes, HasCleanDisk, Survives}
 use Rattle.mvd_dots.specs.declared.refusals.Refusal.{Refusal}
 use Rattle.mvd_dots.specs.declared.refusals.Refusal.TheVariants.{Damaged, SiteMismatch, Store}
 use Rattle.mvd_records.specs.Tables.{all_tables}
-use Rattle.mvd_records.specs.Records.{EndsMove, HasNone, HasTables, HoldsRecords, IsOurs, IsSound, KeepsRows}
-use Rattle.mvd_records.specs.Records.{KeepsStates, LacksKey, MovesState, OpensRecords, SavesState, SavesStates}
-use Rattle.mvd_records.specs.Records.{StaysInside, TakesStoredState, TellsMarks, TellsVersion, marks_of, old_states}
+use Rattle.mvd_records.specs.Records.{ChangesState, EndsMove, FindsNone, HasNone, HasTables, HoldsRecords, IsOurs}
+use Rattle.mvd_records.specs.Records.{IsSound, KeepsRows, KeepsStates, LacksKey, MovesState, OpensRecords, SavesState}
+use Rattle.mvd_records.specs.Records.{SavesStates, StaysInside, TakesStoredState, TellsMarks, TellsVersion, marks_of}
+use Rattle.mvd_records.specs.Records.{old_states}
 
 -- the statement ran inside a transaction, which goes on
 pub record RanStatement (sql : List ℕ) (params : Row) (old : State) (count : ℕ) (new : State) : Type 0 where
@@ -67,6 +68,14 @@ always P = record { makes = λ _. OfRecords P; may_refuse = λ _. ⊥; refuses =
 
 abbrev pub saving : List ℕ → List ℕ → Meaning ⊤
 saving key state = always (λ old new. SavesState old new key state)
+
+-- it is told whether the key was there, and then it has the state
+abbrev pub changing : List ℕ → List ℕ → Meaning Bool
+changing key state = record {
+  makes = λ there. OfRecords (λ old new. MatchBool there (ChangesState old new key state) (FindsNone old new key));
+  may_refuse = λ _. ⊥;
+  refuses = λ _ _. ⊥;
+}
 
 abbrev pub saving_all : List (List ℕ × List ℕ) → Meaning ⊤
 saving_all pairs = always (λ old new. SavesStates old new pairs)

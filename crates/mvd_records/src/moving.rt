@@ -1,9 +1,10 @@
 //! Moving keys from the old table to the new one.
 ghost use Rattle.std.specs.Prelude.{◌≡◌};
 ghost use Rattle.sqlite.specs.Held.{state};
-ghost use Rattle.mvd_records.specs.Jobs.{DoesInside, finding_old, finishing, moving, raising, saving, one_statement};
+ghost use Rattle.mvd_records.specs.Jobs.{DoesInside, finding_old, finishing, moving, one_statement, raising};
 
 use crate::jobs::{Job, execute};
+use crate::storing::put_new;
 use mvd_dots::Refusal;
 use sqlite::{Alter, Transaction, params};
 
@@ -14,21 +15,6 @@ fn take_old<S: Alter>(tx: &mut Transaction<'_, S>, key: &str) -> Result<(), Refu
 {
     match execute(tx, "DELETE FROM states WHERE key = ?1", params![key]) {
         Ok(0) => Err(Refusal::Damaged),
-        Ok(_) => Ok(()),
-        Err(refusal) => Err(refusal),
-    }
-}
-
-fn put_new<S: Alter>(tx: &mut Transaction<'_, S>, key: &str, bytes: &[u8]) -> Result<(), Refusal>
-    ensures same_reference { tx.new.conn.ghost_name ≡ tx.old.conn.ghost_name }
-    ensures done { DoesInside (saving key.now bytes.now) (state S.Store tx.old.conn.now) result
-        (state S.Store tx.new.conn.now) }
-{
-    match execute(
-        tx,
-        "INSERT INTO states2 (key, state) VALUES (?1, ?2)",
-        params![key, bytes],
-    ) {
         Ok(_) => Ok(()),
         Err(refusal) => Err(refusal),
     }

@@ -1,7 +1,7 @@
 //! Setting the states of keys.
 ghost use Rattle.std.specs.Prelude.{◌≡◌};
 ghost use Rattle.sqlite.specs.Held.{state};
-ghost use Rattle.mvd_records.specs.Jobs.{DoesInside, saving, saving_all};
+ghost use Rattle.mvd_records.specs.Jobs.{DoesInside, changing, saving, saving_all};
 ghost use Rattle.mvd_records.specs.Pairs.{pair_entries};
 
 use crate::jobs::{Job, execute};
@@ -9,18 +9,55 @@ use mvd_dots::Refusal;
 use mvd_keys::Key;
 use sqlite::{Alter, Transaction, params};
 
-/// Sets the state of one key inside a transaction.
-fn set_state<S: Alter>(tx: &mut Transaction<'_, S>, key: &str, bytes: &[u8]) -> Result<(), Refusal>
+/// Changes the state of a key that is there: whether it was.
+fn change_state<S: Alter>(
+    tx: &mut Transaction<'_, S>,
+    key: &str,
+    bytes: &[u8],
+) -> Result<bool, Refusal>
+    ensures same_reference { tx.new.conn.ghost_name ≡ tx.old.conn.ghost_name }
+    ensures done { DoesInside (changing key.now bytes.now) (state S.Store tx.old.conn.now) result
+        (state S.Store tx.new.conn.now) }
+{
+    match execute(
+        tx,
+        "UPDATE states2 SET state = ?2 WHERE key = ?1",
+        params![key, bytes],
+    ) {
+        Ok(count) => Ok(count != 0),
+        Err(refusal) => Err(refusal),
+    }
+}
+
+/// Puts in a key that is not there, with its state.
+pub fn put_new<S: Alter>(
+    tx: &mut Transaction<'_, S>,
+    key: &str,
+    bytes: &[u8],
+) -> Result<(), Refusal>
     ensures same_reference { tx.new.conn.ghost_name ≡ tx.old.conn.ghost_name }
     ensures done { DoesInside (saving key.now bytes.now) (state S.Store tx.old.conn.now) result
         (state S.Store tx.new.conn.now) }
 {
     match execute(
         tx,
-        "INSERT INTO states2 (key, state) VALUES (?1, ?2) ON CONFLICT (key) DO UPDATE SET state = excluded.state",
+        "INSERT INTO states2 (key, state) VALUES (?1, ?2)",
         params![key, bytes],
     ) {
         Ok(_) => Ok(()),
+        Err(refusal) => Err(refusal),
+    }
+}
+
+/// Sets the state of one key inside a transaction. Most keys that are set are there, so it first looks for the key.
+fn set_state<S: Alter>(tx: &mut Transaction<'_, S>, key: &str, bytes: &[u8]) -> Result<(), Refusal>
+    ensures same_reference { tx.new.conn.ghost_name ≡ tx.old.conn.ghost_name }
+    ensures done { DoesInside (saving key.now bytes.now) (state S.Store tx.old.conn.now) result
+        (state S.Store tx.new.conn.now) }
+{
+    match change_state(tx, key, bytes) {
+        Ok(true) => Ok(()),
+        Ok(false) => put_new(tx, key, bytes),
         Err(refusal) => Err(refusal),
     }
 }

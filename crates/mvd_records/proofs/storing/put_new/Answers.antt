@@ -1,7 +1,7 @@
 use Rattle.mvd_records.specs.Jobs.{saving}
-use Rattle.mvd_records.proofs.Moved.{put}
+use Rattle.mvd_records.proofs.Saved.{put}
 use Rattle.mvd_records.proofs.Transacted.{stopped, went}
-use Rattle.mvd_records.proofs.moving.put_new.Goals as goal
+use Rattle.mvd_records.proofs.storing.put_new.Goals as goal
 
 pub returns-in-Ok-clause-done : goal.returns-in-Ok-clause-done
 returns-in-Ok-clause-done g c = went (saving c.args.key.now c.args.bytes.now) _ _ c.execute.ensures.stays tt (λ clean inside. (c.in-Ok.ensures.ran clean inside).inside) (λ clean inside version site sound holds.

@@ -1,12 +1,13 @@
 -- What a call leaves that saves the states of many keys.
-use Rattle.std.proofs.Common.{◌≡◌, ℕ, List, [], ◌∷◌, ◌++◌, inl, ◌+◌, take, arith, refl, sym, ap, subst, ◌∙◌}
-use Rattle.std.proofs.lemmas.List.{map-append}
+use Rattle.std.proofs.Common.{◌≡◌, ℕ, List, [], ◌∷◌, ◌++◌, inl, ◌+◌, ◌<◌, get_or, length, take, arith, refl, sym, ap, ◌∙◌}
+use Rattle.std.proofs.lemmas.List.{map-append, take_more}
 use Rattle.std.specs.FinMap.{insert}
 use Rattle.sqlite.specs.Effect.{Database}
 use Rattle.sqlite.specs.State.{State}
+use Rattle.mvd_records.specs.declared.storing.Save.{Save}
 use Rattle.mvd_records.specs.States.{StoredStates}
 use Rattle.mvd_records.specs.Records.{SavesStates, SavesState, StaysInside, with_pairs}
-use Rattle.mvd_records.specs.Pairs.{Pair, pair_entries}
+use Rattle.mvd_records.specs.Pairs.{saved_entries}
 
 with_more : (states : StoredStates) (pairs : List (List ℕ × List ℕ)) (p : List ℕ × List ℕ) → with_pairs states (pairs ++ p ∷ []) ≡ insert (with_pairs states pairs) p.0 p.1
 with_more states [] p = refl
@@ -28,8 +29,9 @@ stays_self a = record {
   survives = record { clean = omega arith; shield = λ h. h; counts = omega arith; limit = refl; closes = λ _ was. inl was; crash = λ _ _ may. inl may };
 }
 
-pub entries_more : (pairs : List Pair) (i : ℕ) (p : Pair) → take (i + 1) pairs ≡ take i pairs ++ p ∷ [] → pair_entries (take (i + 1) pairs) ≡ pair_entries (take i pairs) ++ (p.0, p.1.items) ∷ []
-entries_more pairs i p e = ap pair_entries e ∙ map-append _ (take i pairs) (p ∷ [])
+-- what stands where none does
+abbrev pub no_save : Save
+no_save = record { key = record { ref_ptr = (0, 0); now = [] }; bytes = record { ref_ptr = (0, 0); now = [] } }
 
-pub saves_as : (a b : Database) (key key' bytes bytes' : List ℕ) → key ≡ key' → bytes ≡ bytes' → SavesState a b key bytes → SavesState a b key' bytes'
-saves_as a b key key' bytes bytes' k d it = subst (λ x. SavesState a b x bytes') k (subst (SavesState a b key) d it)
+pub entries_more : (saves : List Save) (i : ℕ) → i < length saves → let s = get_or saves i no_save in saved_entries (take (i + 1) saves) ≡ saved_entries (take i saves) ++ (s.key.now, s.bytes.now) ∷ []
+entries_more saves i low = let s = get_or saves i no_save in ap saved_entries (take_more saves i no_save low) ∙ map-append _ (take i saves) (s ∷ [])

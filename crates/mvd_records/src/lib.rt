@@ -10,8 +10,9 @@ pub mod owner;
 mod pairs;
 mod records;
 mod statements;
-mod storing;
+pub mod storing;
 
 pub use foreign::is_foreign;
 pub use owner::owner_in;
 pub use records::Records;
+pub use storing::Save;

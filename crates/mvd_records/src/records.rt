@@ -2,7 +2,7 @@
 ghost use Rattle.std.specs.Prelude.{◌≡◌, ◌≤◌};
 ghost use Rattle.sqlite.specs.Held.{state};
 ghost use Rattle.sqlite.specs.State.{IsLive};
-ghost use Rattle.mvd_records.specs.Pairs.{pair_entries};
+ghost use Rattle.mvd_records.specs.Pairs.{saved_entries};
 
 use crate::jobs::in_transaction;
 use crate::loading::StateTable;
@@ -84,11 +84,11 @@ impl<S: Alter> Records<S> {
     }
 
     /// Sets the states of these keys in one transaction, one after the other: all of them, or none.
-    pub fn save_all(&mut self, pairs: &[(Key, Vec<u8>)]) -> Result<(), Refusal>
+    pub fn save_all(&mut self, saves: &[Save<'_>]) -> Result<(), Refusal>
         requires { self.old.version ≡ 2 }
-        ensures { SavesAll (seen S.Store self.old) (pair_entries pairs.now) result (seen S.Store self.new) }
+        ensures { SavesAll (seen S.Store self.old) (saved_entries saves.now) result (seen S.Store self.new) }
     {
-        in_transaction(&mut self.conn, &SaveAll { pairs })
+        in_transaction(&mut self.conn, &SaveAll { saves })
     }
 
     /// The map of version 2, by rising key. 17 where a key is out of form or in both maps, or an

@@ -2,11 +2,10 @@
 ghost use Rattle.std.specs.Prelude.{◌≡◌};
 ghost use Rattle.sqlite.specs.Held.{state};
 ghost use Rattle.mvd_records.specs.Jobs.{DoesInside, changing, saving, saving_all};
-ghost use Rattle.mvd_records.specs.Pairs.{pair_entries};
+ghost use Rattle.mvd_records.specs.Pairs.{saved_entries};
 
 use crate::jobs::{Job, execute};
 use mvd_dots::Refusal;
-use mvd_keys::Key;
 use sqlite::{Alter, Transaction, params};
 
 /// Changes the state of a key that is there: whether it was.
@@ -82,17 +81,17 @@ impl Job for Save<'_> {
 /// Sets the states of these keys, one after the other.
 #[derive(Drop)]
 pub struct SaveAll<'a> {
-    pub pairs: &'a [(Key, Vec<u8>)],
+    pub saves: &'a [Save<'a>],
 }
 
 impl Job for SaveAll<'_> {
     type Out = ();
 
-    ghost means = { λ job. saving_all (pair_entries job.pairs.now) };
+    ghost means = { λ job. saving_all (saved_entries job.saves.now) };
 
     fn run<S: Alter>(&self, tx: &mut Transaction<'_, S>) -> Result<(), Refusal> {
-        for pair in self.pairs {
-            match set_state(tx, pair.0.text(), &pair.1) {
+        for save in self.saves {
+            match set_state(tx, save.key, save.bytes) {
                 Ok(()) => {}
                 Err(refusal) => return Err(refusal),
             }

@@ -13,7 +13,8 @@ use Rattle.mvd_wire.specs.declared.reply.Reply.{Reply}
 use Rattle.mvd_wire.specs.declared.reply.Reply.TheVariants.{Refused}
 use Rattle.mvd_records.specs.Calls.{SavesAll}
 use Rattle.mvd_records.specs.Contents.{Contents, Holds}
-use Rattle.mvd_records.specs.Pairs.{Pair, pair_entries}
+use Rattle.mvd_records.specs.Pairs.{saved_entries}
+use Rattle.mvd_records.specs.declared.storing.Save.{Save}
 use Rattle.mvd_records.specs.Seen.{Seen}
 use Rattle.mvd_records.specs.Records.{HoldsRecords, IsSound, LeavesTrees, SavesState, SavesStates, new_states, old_states, with_pairs}
 use Rattle.mvd_site.specs.Change.{ChangeValue, change_reply}
@@ -134,15 +135,15 @@ one_only (p ∷ q ∷ group) prepared count is = absurd (omega (arith, count))
 
 -- ---- what is to be stored, one more
 
-module _ (pairs : List Pair) (group : List Prepared) (i : ℕ) (item : Prepared) where
-  pub pairs_next : (change : ChangeValue) (pair : Pair) → i < length group → item ≡ get_or group i item → item ≡ Change change → pair.0 ≡ change.key → pair.1.items ≡ spell_state change.state →
-      pair_entries pairs ≡ pairs_in (take i group) → pair_entries (pairs ++ pair ∷ []) ≡ pairs_in (take (i + 1) group)
-  pairs_next change pair low is change-is key bytes so_far =
-      let last : (pair.0, pair.1.items) ∷ [] ≡ pairs_in (item ∷ []) = ap₂ (λ k b. (k, b) ∷ []) key bytes ∙ sym (ap (λ p. pairs_in (p ∷ [])) change-is) in
-      map-append (λ (p : Pair). (p.0, p.1.items)) pairs (pair ∷ []) ∙ ap₂ (λ a b. a ++ b) so_far last ∙ sym (pairs_more (take i group) item)
+module _ (saves : List Save) (group : List Prepared) (i : ℕ) (item : Prepared) where
+  pub saves_next : (change : ChangeValue) (save : Save) → i < length group → item ≡ get_or group i item → item ≡ Change change → save.key.now ≡ change.key → save.bytes.now ≡ spell_state change.state →
+      saved_entries saves ≡ pairs_in (take i group) → saved_entries (saves ++ save ∷ []) ≡ pairs_in (take (i + 1) group)
+  saves_next change save low is change-is key bytes so_far =
+      let last : (save.key.now, save.bytes.now) ∷ [] ≡ pairs_in (item ∷ []) = ap₂ (λ k b. (k, b) ∷ []) key bytes ∙ sym (ap (λ p. pairs_in (p ∷ [])) change-is) in
+      map-append (λ (s : Save). (s.key.now, s.bytes.now)) saves (save ∷ []) ∙ ap₂ (λ a b. a ++ b) so_far last ∙ sym (pairs_more (take i group) item)
       ∙ ap pairs_in (ap (λ p. take i group ++ p ∷ []) is ∙ sym (take_more group i item low))
 
-  pub pairs_skip : (reply : Reply) → i < length group → item ≡ get_or group i item → item ≡ Answer reply → pair_entries pairs ≡ pairs_in (take i group) → pair_entries pairs ≡ pairs_in (take (i + 1) group)
-  pairs_skip reply low is reply-is so_far =
+  pub saves_skip : (reply : Reply) → i < length group → item ≡ get_or group i item → item ≡ Answer reply → saved_entries saves ≡ pairs_in (take i group) → saved_entries saves ≡ pairs_in (take (i + 1) group)
+  saves_skip reply low is reply-is so_far =
       so_far ∙ sym (append-nil (pairs_in (take i group))) ∙ ap (λ l. pairs_in (take i group) ++ l) (sym (ap (λ p. pairs_in (p ∷ [])) reply-is)) ∙ sym (pairs_more (take i group) item)
       ∙ ap pairs_in (ap (λ p. take i group ++ p ∷ []) is ∙ sym (take_more group i item low))

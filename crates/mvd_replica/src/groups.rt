@@ -2,10 +2,9 @@
 ghost use Rattle.std.specs.Prelude.{◌≡◌, ◌≤◌, ◌<◌, ◌+◌, ◌++◌, [], IfErr, IfOk, IfSome, None, drop, false, length, map};
 ghost use Rattle.std.specs.Prelude.{take, true};
 ghost use Rattle.std.specs.Prelude.{vec_capacity};
-ghost use Rattle.mvd_records.specs.Pairs.{pair_entries};
+ghost use Rattle.mvd_records.specs.Pairs.{saved_entries};
 ghost use Rattle.mvd_dots.specs.declared.refusals.Refusal.TheVariants.{Broken};
 ghost use Rattle.mvd_kept.specs.declared.prepared.Prepared.TheVariants.{Answer};
-ghost use Rattle.mvd_wire.specs.Codecs.{spell_state};
 ghost use Rattle.mvd_wire.specs.declared.reply.Reply.TheVariants.{Refused};
 ghost use Rattle.mvd_site.specs.Installs.{changes_in, is_change};
 ghost use Rattle.mvd_replica.specs.Adding.{CountsKeys};
@@ -21,9 +20,8 @@ use crate::adding::{SHARING_MAX, keys_added, lacks_room};
 use crate::behind::{follow, last_change};
 use crate::waiting::{Waiting, asks_any};
 use mvd_dots::Refusal;
-use mvd_keys::Key;
-use mvd_records::Records;
-use mvd_site::{Change, Prepared, Site};
+use mvd_records::{Records, Save};
+use mvd_site::{Prepared, Site};
 use mvd_wire::{Reply, Request};
 use sqlite::Alter;
 use std::alloc::Global;
@@ -135,31 +133,20 @@ pub fn prepare_all(
     Ok(group)
 }
 
-/// A change as it is stored.
-fn pair_of(alloc: Global, change: &Change) -> Result<(Key, Vec<u8>), Refusal>
-    ensures key { IfOk result (λ pair. pair.0 ≡ change.now.key) }
-    ensures bytes { IfOk result (λ pair. pair.1.items ≡ spell_state change.now.state) }
-    ensures memory { IfErr result (λ refusal. refusal ≡ Refusal.Memory) }
-{
-    let key = change.key().copy(alloc)?;
-    let mut bytes = Vec::new(alloc);
-    bytes.extend_from_slice(change.bytes())?;
-    Ok((key, bytes))
-}
-
 /// What is to be stored of these.
-fn pairs_of(alloc: Global, group: &[Prepared]) -> Result<Vec<(Key, Vec<u8>)>, Refusal>
-    ensures pairs { IfOk result (λ pairs. pair_entries pairs.items ≡ pairs_in group.now) }
+fn saves_of(alloc: Global, group: &[Prepared]) -> Result<Vec<Save<'_>>, Refusal>
+    ensures saves { IfOk result (λ saves. saved_entries saves.items ≡ pairs_in group.now) }
     ensures memory { IfErr result (λ refusal. refusal ≡ Refusal.Memory) }
 {
-    let mut pairs = Vec::new(alloc);
+    let mut saves = Vec::with_capacity(alloc, group.len())?;
     for prepared in group {
         if let Prepared::Change(change) = prepared {
-            let pair = pair_of(alloc, change)?;
-            pairs.push(pair)?;
+            let key = change.key().text();
+            let bytes = change.bytes();
+            saves.push(Save { key, bytes })?;
         }
     }
-    Ok(pairs)
+    Ok(saves)
 }
 
 /// Stores the changes among these at once. Where memory is refused, or there are none, the records are as they were.
@@ -185,11 +172,11 @@ pub fn store_all<S: Alter>(
             Prepared::Answer(_) => Ok(()),
         };
     }
-    let pairs = pairs_of(alloc, group)?;
-    if pairs.is_empty() {
+    let saves = saves_of(alloc, group)?;
+    if saves.is_empty() {
         return Ok(());
     }
-    records.save_all(&pairs)
+    records.save_all(&saves)
 }
 
 /// A count of commits, with the one that stored these; there is none where no change is among them.

@@ -1,7 +1,7 @@
 use Rattle.std.proofs.Common.{◌≡◌, ◌∙◌, ◌∷◌, [], ap, subst, sym}
 use Rattle.sqlite.specs.Held.{state}
 use Rattle.sqlite.specs.State.{Survives}
-use Rattle.mvd_records.specs.Pairs.{pair_entries}
+use Rattle.mvd_records.specs.Pairs.{saved_entries}
 use Rattle.mvd_records.specs.Seen.{seen}
 use Rattle.mvd_records.proofs.Follows.{all_survive, saves_kept, saves_saved, saves_survives}
 use Rattle.mvd_kept.specs.declared.prepared.Prepared.TheVariants.{Change}
@@ -12,8 +12,8 @@ use Rattle.mvd_replica.proofs.groups.store_all.Goals as goal
 
 pub returns-clause-stored : goal.returns-clause-stored
 returns-clause-stored g c site sound holds =
-    store_many c.save_all.result (seen g.S.Store c.args.records.now) (seen g.S.Store c.save_all.new.self) (pair_entries c.deref.result.now) c.args.group.now site c.save_all.ensures
-    (ap pair_entries c.deref.ensures.value ∙ c.in_ok-pairs.ensures.pairs) sound holds
+    store_many c.save_all.result (seen g.S.Store c.args.records.now) (seen g.S.Store c.save_all.new.self) (saved_entries c.deref.result.now) c.args.group.now site c.save_all.ensures
+    (ap saved_entries c.deref.ensures.value ∙ c.in_ok-saves.ensures.saves) sound holds
 
 pub returns-in-Change-clause-stored : goal.returns-in-Change-clause-stored
 returns-in-Change-clause-stored g c site sound holds =
@@ -23,8 +23,8 @@ returns-in-Change-clause-stored g c site sound holds =
 pub returns-clause-survives : goal.returns-clause-survives
 returns-clause-survives g c =
     subst (λ l. Survives (state g.S.Store c.args.records.now.conn) (state g.S.Store c.save_all.new.self.conn) (LeavesPairs (state g.S.Store c.args.records.now.conn) l))
-    (ap pair_entries c.deref.ensures.value ∙ c.in_ok-pairs.ensures.pairs)
-    (all_survive (seen g.S.Store c.args.records.now) (seen g.S.Store c.save_all.new.self) (pair_entries c.deref.result.now) c.save_all.result c.save_all.ensures)
+    (ap saved_entries c.deref.ensures.value ∙ c.in_ok-saves.ensures.saves)
+    (all_survive (seen g.S.Store c.args.records.now) (seen g.S.Store c.save_all.new.self) (saved_entries c.deref.result.now) c.save_all.result c.save_all.ensures)
 
 pub returns-in-Change-clause-survives : goal.returns-in-Change-clause-survives
 returns-in-Change-clause-survives g c =

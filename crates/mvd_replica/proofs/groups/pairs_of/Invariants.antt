@@ -1,8 +1,0 @@
-use Rattle.std.proofs.Common.{◌≡◌, take}
-use Rattle.mvd_records.specs.Pairs.{pair_entries}
-use Rattle.mvd_replica.specs.Groups.{pairs_in}
-use Rattle.mvd_replica.proofs.groups.pairs_of.Given as goal
-
--- what is to be stored so far
-abbrev pub invariant-loop-prepared : goal.invariant-loop-prepared
-invariant-loop-prepared l = pair_entries l.pairs.items ≡ pairs_in (take l.prepared-index l.group)

@@ -15,6 +15,7 @@ abbrev pub stored_side : {S : Type 0} {g : Ghosts S} → SideOf (Replica S g)
 stored_side = record {
   states = λ replica. (site_of replica).states;
   is_faithful = λ replica. IsTrueSite (site_of replica);
+  is_live = λ replica. IsTrueSite (site_of replica);
   can_give = λ _ _. Unit {0};
   follows = λ _ old new. SideFollows (stored_of old) (stored_of new);
   can_refuse = λ replica. ReplicaRefuses (site_of replica);
@@ -28,6 +29,7 @@ abbrev pub far_side : {L : Type 0} → (L → Type 0) → (L → Far) → SideOf
 far_side is_true far = record {
   states = λ remote. (far_of far remote).states;
   is_faithful = IsTrueRemote is_true far;
+  is_live = λ _. ⊥;
   can_give = λ _ _. Unit {0};
   follows = λ _. RemoteFollows far;
   can_refuse = λ remote refusal. (own : Refusal) → refused_of remote ≡ Some own → refusal ≡ own;

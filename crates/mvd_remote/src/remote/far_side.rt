@@ -43,6 +43,8 @@ impl<L: Line> Peer for Remote<L> {
     // It is faithful where the line is true.
     ghost is_faithful = { IsTrueRemote L.is_true L.far };
 
+    ghost is_live = { λ _. ⊥ };
+
     ghost can_give = { λ _ _. Unit {0} };
 
     // A link that refuses stays as it is.
@@ -58,6 +60,8 @@ impl<L: Line> Peer for Remote<L> {
     ghost number = { λ _. None };
 
     ghost in_form = { λ remote truth. L.in_form (line_of remote) truth.line };
+
+    ghost live_form = { λ _ never. absurd never };
 
     ghost follows_self = { λ remote. remote_follows_self L.far remote };
 

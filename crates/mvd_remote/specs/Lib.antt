@@ -3,3 +3,4 @@ pub mod LinkWindows
 pub mod Lines
 pub mod Remotes
 pub mod Mail
+pub mod LiveLines

@@ -91,7 +91,8 @@ pub trait Peer {
         ensures follows { follows 1 self.old self.new }
         ensures refuses { IfErr result (can_refuse self.new) }
         ensures answers { OnOk result (can_answer self.new) }
-        ensures live { TellsOne is_live states PageTold (path.now, option_copied after.entry) result self.old self.new };
+        ensures live { TellsOne is_live states PageTold (path.now, option_copied after.entry) result
+            self.old self.new };
 
     /// The state of a key, which is the empty one where the key is not held.
     fn get(&mut self, key: &Key) -> Result<KeyState, Refusal>
@@ -119,7 +120,8 @@ pub trait Peer {
         ensures follows { follows 1 self.old self.new }
         ensures refuses { IfErr result (can_refuse self.new) }
         ensures answers { OnOk result (can_answer self.new) }
-        ensures live { TellsOne is_live states (TellsPush (most_keys self.old)) (key.now, state.now) result self.old self.new };
+        ensures live { TellsOne is_live states (TellsPush (most_keys self.old)) (key.now, state.now) result
+            self.old self.new };
 
     /// The digests of several nodes.
     fn nodes(&mut self, paths: &[Path]) -> Result<Vec<Result<Digests, Refusal>>, Refusal>

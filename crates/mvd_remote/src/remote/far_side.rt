@@ -131,8 +131,8 @@ impl<L: Line> Peer for Remote<L> {
         ensures stays { StaysRefused self.old self.new result }
         ensures config { KeepsConfig L.far self.old self.new }
         ensures truth { AsksAllTruly L.Line (node_queries paths.now) self.old self.new result }
-        ensures moments { EndsLive L.Line (SettlesLive as_digests) (λ told. told.items) (map (λ path. Node path) paths.now)
-            self.old self.new result }
+        ensures moments { EndsLive L.Line (SettlesLive as_digests) (λ told. told.items)
+            (map (λ path. Node path) paths.now) self.old self.new result }
     {
         if let Some(refusal) = self.refused {
             return Err(refusal);
@@ -149,8 +149,8 @@ impl<L: Line> Peer for Remote<L> {
         ensures stays { StaysRefused self.old self.new result }
         ensures config { KeepsConfig L.far self.old self.new }
         ensures truth { AsksAllTruly L.Line (page_queries asked.now) self.old self.new result }
-        ensures moments { EndsLive L.Line (SettlesLive as_page) (λ told. told.items) (map (λ q. Bucket q.0 q.1) asked.now)
-            self.old self.new result }
+        ensures moments { EndsLive L.Line (SettlesLive as_page) (λ told. told.items)
+            (map (λ q. Bucket q.0 q.1) asked.now) self.old self.new result }
     {
         if let Some(refusal) = self.refused {
             return Err(refusal);
@@ -164,8 +164,8 @@ impl<L: Line> Peer for Remote<L> {
         ensures stays { StaysRefused self.old self.new result }
         ensures config { KeepsConfig L.far self.old self.new }
         ensures truth { AsksAllTruly L.Line (state_queries keys.now) self.old self.new result }
-        ensures moments { EndsLive L.Line (SettlesLive as_state) (λ told. told.items) (map (λ key. Get key) keys.now)
-            self.old self.new result }
+        ensures moments { EndsLive L.Line (SettlesLive as_state) (λ told. told.items)
+            (map (λ key. Get key) keys.now) self.old self.new result }
     {
         if let Some(refusal) = self.refused {
             return Err(refusal);
@@ -179,8 +179,8 @@ impl<L: Line> Peer for Remote<L> {
         ensures stays { StaysRefused self.old self.new result }
         ensures config { KeepsConfig L.far self.old self.new }
         ensures truth { AsksAllTruly L.Line (push_queries pairs.now) self.old self.new result }
-        ensures moments { EndsLive L.Line (SettlesLive as_done) (λ told. told.items) (map (λ pair. Push pair.0 pair.1) pairs.now)
-            self.old self.new result }
+        ensures moments { EndsLive L.Line (SettlesLive as_done) (λ told. told.items)
+            (map (λ pair. Push pair.0 pair.1) pairs.now) self.old self.new result }
         ensures valid { IfOk result (λ _. Each (λ pair. IsValid pair.1) pairs.now) }
     {
         if let Some(refusal) = self.refused {

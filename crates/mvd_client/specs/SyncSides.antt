@@ -4,7 +4,7 @@ use Rattle.mvd_dots.specs.declared.refusals.Refusal.{Refusal}
 use Rattle.mvd_peer.specs.Sides.{SideOf, Sides}
 use Rattle.mvd_wire.specs.declared.request.Request.{Request}
 use Rattle.mvd_remote.specs.Lines.{Far, IsTrueRemote, RemoteFollows, far_of, refused_of}
-use Rattle.mvd_remote.specs.LiveLines.{IsLiveRemote}
+use Rattle.mvd_remote.specs.LiveRemotes.{IsLiveRemote}
 use Rattle.mvd_remote.specs.declared.line.Line.{Ghosts as LineGhosts}
 use Rattle.mvd_remote.specs.declared.remote.Remote.{Remote}
 use Rattle.mvd_replica.specs.Replicas.{site_of, stored_of}

@@ -1,10 +1,18 @@
 -- What goes out and comes in over a live line.
-use Rattle.std.proofs.Common.{◌≡◌, ◌≢◌, ◌⊎◌, inl, inr, ℕ, ◌+◌, ◌<◌, true, List, [], ◌∷◌, ◌++◌, length, take, get_or, Option, Some, None, refl, sym, ap, subst, ◌∙◌}
+use Rattle.std.proofs.Common.{◌≡◌, ◌≢◌, ◌⊎◌, inl, inr, ℕ, ◌+◌, ◌<◌, ◌≤◌, arith, true, List, [], ◌∷◌, ◌++◌, length, take, get_or, Option, Some, None, refl, sym, ap, subst, ◌∙◌}
 use Rattle.std.specs.Prelude.{Result, Ok, Err, IfOk, IfErr, IfSome, MatchResult, OnOk}
 use Rattle.std.proofs.lemmas.List.{take_more}
 use Rattle.mvd_dots.specs.declared.refusals.Refusal.{Refusal}
-use Rattle.mvd_dots.specs.declared.refusals.Refusal.TheVariants.{Broken, Memory}
-use Rattle.mvd_wire.specs.Frames.{FrameValue, frame_value}
+use Rattle.mvd_dots.specs.Refusal.{number_of}
+use Rattle.mvd_dots.specs.declared.refusals.Refusal.TheVariants.{BadBody, BadContext, BadDefs, BadDocument, BadKey, BadKind, BadNumber, BadPath}
+use Rattle.mvd_dots.specs.declared.refusals.Refusal.TheVariants.{BadTerm, Broken, Damaged, DocumentTooLong, DotClash, Exhausted, FrameTooLong, Full}
+use Rattle.mvd_dots.specs.declared.refusals.Refusal.TheVariants.{Memory, NoIndex, NoView, NotAdmitted, NotCanonical, NotObject, ReadFailed}
+use Rattle.mvd_dots.specs.declared.refusals.Refusal.TheVariants.{SiteMismatch, StateTooLarge, Store, TooManyRequests, Truncated, WriteFailed}
+use Rattle.mvd_keys.specs.State.{IsValid, State}
+use Rattle.mvd_keys.specs.Writes.{Key}
+use Rattle.mvd_peer.specs.PushedStates.{Each}
+use Rattle.mvd_peer.proofs.Pushes.{Each-append}
+use Rattle.mvd_wire.specs.Frames.{EndsReading, FrameValue, frame_value}
 use Rattle.mvd_wire.specs.declared.frame.Frame.{Frame}
 use Rattle.mvd_wire.specs.Replies.{reply_of}
 use Rattle.mvd_wire.specs.declared.request.Request.{Request}
@@ -18,8 +26,11 @@ use Rattle.mvd_peer.specs.Telling.{TellsEach}
 use Rattle.mvd_peer.specs.Windows.{ForEach, leaves_open}
 use Rattle.mvd_peer.proofs.Telling.{each_since, grows_over, grows_same}
 use Rattle.mvd_remote.specs.LinkWindows.{Frames, IsToldBy, frames_of}
-use Rattle.mvd_remote.specs.Lines.{IsReplyTaken, LeavesNothingOpen, TrueReply, and_framed, framed_requests}
-use Rattle.mvd_remote.specs.LiveLines.{AnswersAt, AnswersLive, IsNextAnswer, LiveTurn, LiveTurns, SettlesLive, TakesAwaited, ToldAt, ToldLive}
+use Rattle.mvd_remote.specs.Lines.{IsNextReply, IsReplyTaken, LeavesNothingOpen, TakesDue, TrueReply, and_framed, framed_requests}
+use Rattle.mvd_remote.specs.LiveLines.{AnswersAt, IsNextAnswer}
+use Rattle.mvd_remote.specs.LiveRemotes.{LiveTurn, LiveTurns, SettlesLive, TakesAwaited, ToldAt, ToldLive, TookTurn}
+use Rattle.mvd_remote.specs.declared.line.Line.{Ghosts}
+use Rattle.mvd_remote.specs.declared.remote.Remote.{Remote}
 use Rattle.mvd_remote.proofs.Lined.{after_is, is_memory, none_of, nones_of}
 
 -- ---- one reply
@@ -43,15 +54,66 @@ frame_spent config awaited left old new came frame refusal e next why =
       | inr other ↦ let never = sym (why other) ∙ spells in absurd (cc)
     ])
 
+-- a reply that was due is the one that the frame spells
+next_due : (due left : List Reply) (frame : FrameValue) (reply : Reply) → IsNextReply due left frame → reply_of frame.kind frame.payload ≡ Ok reply → TakesDue due left (Ok reply)
+next_due [] left frame reply next is = tt
+next_due (r ∷ later) left frame reply next is = (inl (sym is ∙ next.0), next.1)
+
+pub frame_due : (due left : List Reply) (came : Option Frame) (frame : Frame) (reply : Reply) → came ≡ Some frame → IfSome came (λ f. IsNextReply due left (frame_value f)) → reply_of frame.kind frame.payload.items ≡ Ok reply → TakesDue due left (Ok reply)
+frame_due due left came frame reply e next is = next_due due left (frame_value frame) reply (subst (λ o. IfSome o (λ f. IsNextReply due left (frame_value f))) e next) is
+
+-- reading ends with a refusal that leaves open what was taken
+pub ends_open : (refusal : Refusal) → EndsReading refusal → leaves_open refusal ≡ true
+ends_open refusal (inl e) = ap leaves_open e
+ends_open refusal (inr (inl e)) = ap leaves_open e
+ends_open refusal (inr (inr (inl e))) = ap leaves_open e
+ends_open refusal (inr (inr (inr e))) = ap leaves_open e
+
+-- and so does any from 30 on
+pub high_open : (refusal : Refusal) → 30 ≤ number_of refusal → leaves_open refusal ≡ true
+high_open BadKey high = absurd (omega (arith, high))
+high_open BadContext high = absurd (omega (arith, high))
+high_open BadDocument high = absurd (omega (arith, high))
+high_open NotObject high = absurd (omega (arith, high))
+high_open BadNumber high = absurd (omega (arith, high))
+high_open DocumentTooLong high = absurd (omega (arith, high))
+high_open NotCanonical high = absurd (omega (arith, high))
+high_open Exhausted high = absurd (omega (arith, high))
+high_open StateTooLarge high = absurd (omega (arith, high))
+high_open Full high = absurd (omega (arith, high))
+high_open DotClash high = absurd (omega (arith, high))
+high_open NoIndex high = absurd (omega (arith, high))
+high_open NoView high = absurd (omega (arith, high))
+high_open BadPath high = absurd (omega (arith, high))
+high_open BadTerm high = absurd (omega (arith, high))
+high_open SiteMismatch high = absurd (omega (arith, high))
+high_open Damaged high = absurd (omega (arith, high))
+high_open Store high = absurd (omega (arith, high))
+high_open Memory high = refl
+high_open Broken high = refl
+high_open Truncated high = refl
+high_open FrameTooLong high = refl
+high_open BadKind high = refl
+high_open BadBody high = refl
+high_open ReadFailed high = refl
+high_open WriteFailed high = refl
+high_open TooManyRequests high = refl
+high_open BadDefs high = refl
+high_open NotAdmitted high = refl
+
 -- ---- turns
 
 at_since : (config : ConfigValue) (q : Request) (t : Result Reply Refusal) (old mid held : States) → AreHeld old → AreHeld mid → Grows old mid → ToldAt config q t mid held → ToldAt config q t old held
-at_since config q t old mid held p r up (reply, taken, at) = (reply, taken, record {
-  before = at.before;
-  was = (at.was.0, grows_over old mid at.before p r at.was.0 up at.was.1);
-  is = at.is;
-  so = at.so;
-})
+at_since config q t old mid held p r up (reply, taken, at) = (
+  reply,
+  taken,
+  record {
+    before = at.before;
+    was = (at.was.0, grows_over old mid at.before p r at.was.0 up at.was.1);
+    is = at.is;
+    so = at.so;
+  },
+)
 
 -- one turn more, of what was held since before
 one_turn : (config : ConfigValue) (why : Option Refusal) (told : Result Reply Refusal) (awaited left : List Request) (old mid new : States) → AreHeld old → AreHeld mid → AreHeld new → Grows old mid → Grows mid new → LiveTurn config why awaited left mid new told → (moments : List States) × LiveTurns config (why ∷ []) (told ∷ []) awaited left old moments new
@@ -83,6 +145,26 @@ turns_more_at config all i why d replies us reply awaited between left old mid n
     let longer : take (i + 1) all ≡ take i all ++ why ∷ [] = take_more all i d low ∙ ap (λ x. take i all ++ x ∷ []) (sym at) in
     subst (λ (ns : List (Option Refusal)). (more : List States) × LiveTurns config ns us awaited left old more new) (sym longer)
     (subst (λ (us : List (Result Reply Refusal)). (more : List States) × LiveTurns config (take i all ++ why ∷ []) us awaited left old more new) (sym told) (turns_more config (take i all) replies why reply awaited between left old mid new moments p q r on before turn))
+
+-- over a line
+pub took_more : {L : Type 0} (line : Ghosts L) → ((l : L) → line.is_live l → AreHeld (line.far l).states) → (first mid new : Remote L) (all : List (Option Refusal)) (i : ℕ) (why d : Option Refusal) (replies us : List (Result Reply Refusal)) (reply : Result Reply Refusal) → i < length all → why ≡ get_or all i d → us ≡ replies ++ reply ∷ [] → line.is_live first.line → line.is_live mid.line
+    → (line.far mid.line).config ≡ (line.far first.line).config → Grows (line.far first.line).states (line.far mid.line).states
+    → (moments : List States) → LiveTurns (line.far first.line).config (take i all) replies (line.awaits first.line) (line.awaits mid.line) (line.far first.line).states moments (line.far mid.line).states → TookTurn line why mid new (Ok reply)
+    → line.is_live new.line × Grows (line.far first.line).states (line.far new.line).states × (moments : List States) × LiveTurns (line.far first.line).config (take (i + 1) all) us (line.awaits first.line) (line.awaits new.line) (line.far first.line).states moments (line.far new.line).states
+took_more line form first mid new all i why d replies us reply low at pushed live live' same up moments before turn =
+    let p = form first.line live in
+    let q = form mid.line live' in
+    let r = form new.line turn.live in
+    let more = turns_more_at (line.far first.line).config all i why d replies us reply (line.awaits first.line) (line.awaits mid.line) (line.awaits new.line) (line.far first.line).states (line.far mid.line).states (line.far new.line).states moments low at pushed p q r turn.grows before
+    (subst (λ c. LiveTurn c why (line.awaits mid.line) (line.awaits new.line) (line.far mid.line).states (line.far new.line).states reply) same turn.told) in
+    (turn.live, grows_over (line.far first.line).states (line.far mid.line).states (line.far new.line).states p q r up turn.grows, more.0, more.1)
+
+-- none yet
+pub took_none : {L : Type 0} (line : Ghosts L) → ((l : L) → line.is_live l → AreHeld (line.far l).states) → (first : Remote L) (replies : List (Result Reply Refusal)) → replies ≡ [] → line.is_live first.line
+    → line.is_live first.line × Grows (line.far first.line).states (line.far first.line).states × (moments : List States) × LiveTurns (line.far first.line).config [] replies (line.awaits first.line) (line.awaits first.line) (line.far first.line).states moments (line.far first.line).states
+took_none line form first replies none live =
+    let same = grows_same (line.far first.line).states (form first.line live) in
+    (live, same, [], subst (λ ts. LiveTurns (line.far first.line).config [] ts (line.awaits first.line) (line.awaits first.line) (line.far first.line).states [] (line.far first.line).states) (sym none) (refl, same))
 
 -- ---- what was told in turn
 
@@ -143,3 +225,11 @@ module _ {A : Type 0} (as_reply : A → Reply) (config : ConfigValue) where
       → IfOk made (λ v. (moments : List States) × TellsEach (SettlesLive as_reply config) qs (items v) old moments new)
   live_answered items qs ts old new moments (Ok v) h e s = (moments, settled old new qs ts (items v) moments h e s)
   live_answered items qs ts old new moments (Err refusal) h e s = tt
+
+-- ---- pushes
+
+-- one state more that is valid, in turn
+pub valid_more : (all : List (Key × State)) (i : ℕ) (pair : Key × State) → i < length all → pair ≡ get_or all i pair → Each (λ p. IsValid p.1) (take i all) → IsValid pair.1 → Each (λ p. IsValid p.1) (take (i + 1) all)
+valid_more all i pair low at before valid =
+    let longer : take (i + 1) all ≡ take i all ++ pair ∷ [] = take_more all i pair low ∙ ap (λ x. take i all ++ x ∷ []) (sym at) in
+    subst (Each (λ p. IsValid p.1)) (sym longer) (Each-append (λ p. IsValid p.1) (take i all) (pair ∷ []) before (valid, tt))

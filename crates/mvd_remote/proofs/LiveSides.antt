@@ -22,7 +22,7 @@ use Rattle.mvd_peer.specs.Windows.{CannotTake, PageValue, leaves_open}
 use Rattle.mvd_peer.proofs.JoinLaws.{valid_at}
 use Rattle.mvd_peer.proofs.Pushes.{state-pushed}
 use Rattle.mvd_remote.specs.Lines.{TrueReply, as_digests, as_done, as_page, as_state}
-use Rattle.mvd_remote.specs.LiveLines.{AnswersLive, SettlesLive}
+use Rattle.mvd_remote.specs.LiveRemotes.{AnswersLive, SettlesLive}
 use Rattle.mvd_remote.proofs.FarSides.{open_cause, unframed_push}
 
 -- ---- one answer at a moment
@@ -52,12 +52,12 @@ module _ {Q A : Type 0} (as_reply : A → Reply) (config : ConfigValue) (ask : Q
   window_tells is_live states qs old new (Err refusal) fits so = tt
 
   -- one question
-  module _ (open : (q : Q) (held : States) (refusal : Refusal) → leaves_open refusal ≡ true → Right held q (Err refusal)) where
+  module _ (opened : (q : Q) (held : States) (refusal : Refusal) → leaves_open refusal ≡ true → Right held q (Err refusal)) where
     one_right : (q : Q) (held : States) (a : Result A Refusal) → Fits q → AnswersLive as_reply config held (ask q) a → Right held q a
     one_right q held (Ok v) fits (before, form, so) = right q before held v form fits so
     one_right q held (Err refusal) fits (inl (before, form, so)) = refuses q before held refusal so
     one_right q held (Err refusal) fits (inr (inl none)) = unframed q held refusal none
-    one_right q held (Err refusal) fits (inr (inr left)) = open q held refusal left
+    one_right q held (Err refusal) fits (inr (inr left)) = opened q held refusal left
 
     one_tells : {S : Type 0} (is_live : S → Type 0) (states : S → States) (q : Q) (old new : S) (result : Result A Refusal) → Fits q
         → (is_live old → is_live new × (held : States) × AreHeld held × Grows (states old) held × AnswersLive as_reply config held (ask q) result × Grows held (states new)) → TellsOne is_live states Right q result old new

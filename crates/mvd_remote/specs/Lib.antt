@@ -4,3 +4,4 @@ pub mod Lines
 pub mod Remotes
 pub mod Mail
 pub mod LiveLines
+pub mod LiveRemotes

@@ -10,7 +10,7 @@ ghost use Rattle.mvd_dots.specs.declared.refusals.Refusal.{Refusal};
 ghost use Rattle.mvd_wire.specs.declared.request.Request.{Request};
 ghost use Rattle.mvd_wire.specs.declared.reply.Reply.TheVariants.{Refused};
 ghost use Rattle.mvd_remote.specs.Lines.{IsTrueRemote, KeepsConfig, line_of, refused_of};
-ghost use Rattle.mvd_remote.specs.LiveLines.{AsksLive, IsLiveRemote, TakesLive};
+ghost use Rattle.mvd_remote.specs.LiveRemotes.{AsksLive, IsLiveRemote, TakesLive};
 ghost use Rattle.mvd_remote.specs.Links.{Asks, ReadsReply, SendsAsked, StaysRefused, answered_by};
 ghost use Rattle.mvd_remote.specs.Remotes.{AsksOver, AsksTruly, TakesReply, any_query, bye_query, hello_query, link_of};
 ghost use Rattle.mvd_remote.specs.Remotes.{query};

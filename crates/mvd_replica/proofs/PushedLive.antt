@@ -14,6 +14,7 @@ use Rattle.mvd_peer.proofs.Telling.{each_joined, grows_same, push_told}
 use Rattle.mvd_replica.specs.Batch.{TakesAllFrom}
 use Rattle.mvd_replica.specs.Pushes.{push_of, told_of}
 use Rattle.mvd_replica.specs.Turns.{Turn}
+use Rattle.sqlite.specs.State.{State as Shown}
 use Rattle.mvd_replica.proofs.Batching.{whole_all}
 use Rattle.mvd_replica.proofs.Positions.{AnswersAll}
 use Rattle.mvd_replica.proofs.Pushed.{AskPushes, asks, asks_first, first_takes, held_seen, no_turn, none_asked, one_turn, told_by}

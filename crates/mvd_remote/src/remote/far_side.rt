@@ -11,7 +11,7 @@ ghost use Rattle.mvd_wire.specs.Requests.{IsRequest, request_frame};
 ghost use Rattle.mvd_remote.specs.Lines.{IsTrueRemote, KeepsConfig, RemoteFollows};
 ghost use Rattle.mvd_remote.specs.Lines.{as_digests, as_done, as_page, as_state};
 ghost use Rattle.mvd_remote.specs.Lines.{far_of, line_of, refused_of, remote_follows_on, remote_follows_self};
-ghost use Rattle.mvd_remote.specs.LiveLines.{AsksLive, EndsLive, IsLiveRemote, SettlesLive};
+ghost use Rattle.mvd_remote.specs.LiveRemotes.{AsksLive, EndsLive, IsLiveRemote, SettlesLive};
 ghost use Rattle.mvd_remote.specs.Links.{StaysRefused};
 ghost use Rattle.mvd_remote.specs.Remotes.{AsksAllOver, AsksAllTruly, AsksOver, AsksTruly};
 ghost use Rattle.mvd_remote.specs.Remotes.{node_queries, node_query, page_queries, page_query, push_queries, push_query};

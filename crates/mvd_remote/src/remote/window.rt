@@ -8,7 +8,7 @@ ghost use Rattle.mvd_remote.specs.LinkWindows.{TurnBreaks};
 ghost use Rattle.mvd_remote.specs.LinkWindows.{and_frame, frames_of};
 ghost use Rattle.mvd_remote.specs.Lines.{HaveFrames, DueTurn, DueTurns, KeepsConfig};
 ghost use Rattle.mvd_remote.specs.Lines.{TellsAllTruly, TookTurns, line_of, refused_of};
-ghost use Rattle.mvd_remote.specs.LiveLines.{EndsLive, SettlesLive, ToldLive, TookLiveTurns, TookTurn};
+ghost use Rattle.mvd_remote.specs.LiveRemotes.{EndsLive, SettlesLive, ToldLive, TookLiveTurns, TookTurn};
 ghost use Rattle.mvd_remote.specs.Links.{ReadCause};
 ghost use Rattle.mvd_remote.specs.Remotes.{AsksAllTruly, EndsTruly, link_of, queries};
 ghost use Rattle.mvd_wire.specs.declared.request.Request.{Request};

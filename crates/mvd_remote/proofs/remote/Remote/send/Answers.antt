@@ -26,8 +26,8 @@ pub returns-in-Err-clause-live : goal.returns-in-Err-clause-live
 returns-in-Err-clause-live g c request fits is was =
     let sent = c.in-Err.ensures.live was.line in
     let far = g.L.Line.far in
-    let open = ap leaves_open c.in-Err.ensures.err in
+    let opened = ap leaves_open c.in-Err.ensures.err in
     let live = subst g.L.Line.is_live (sym c.breaks.ensures.kept) sent.0 in
     let told = left_open (λ (r : Reply). r) (far c.args.self.now.line).config request (far c.args.self.now.line).states (far c.breaks.new.self.line).states c.breaks.result (g.met.L.Line.live_form c.args.self.now.line was.line)
-    (subst (λ l. Grows (far c.args.self.now.line).states (far l).states) (sym c.breaks.ensures.kept) sent.1) (ap leaves_open c.breaks.ensures.refused.1 ∙ open) in
-    (live_refuses g.L.Line.is_live g.L.Line.awaits c.breaks.new.self c.in-Err.refusal live c.breaks.ensures.refused.0 open, told.0, told.1, told.2, told.3, told.4)
+    (subst (λ l. Grows (far c.args.self.now.line).states (far l).states) (sym c.breaks.ensures.kept) sent.1) (ap leaves_open c.breaks.ensures.refused.1 ∙ opened) in
+    (live_refuses g.L.Line.is_live g.L.Line.awaits c.breaks.new.self c.in-Err.refusal live c.breaks.ensures.refused.0 opened, told.0, told.1, told.2, told.3, told.4)

@@ -4,7 +4,7 @@ use Rattle.mvd_remote.specs.LinkWindows.{Frames}
 use Rattle.mvd_remote.specs.Lines.{AreRequestFrames, DueTurns, framed_requests}
 use Rattle.mvd_remote.proofs.Lined.{send_broke, still_goes, turns_broke, window_frames, window_told}
 use Rattle.mvd_peer.specs.Windows.{leaves_open}
-use Rattle.mvd_remote.specs.LiveLines.{LiveTurns}
+use Rattle.mvd_remote.specs.LiveRemotes.{LiveTurns}
 use Rattle.mvd_remote.proofs.LiveAsked.{live_goes, live_refuses}
 use Rattle.mvd_remote.proofs.LiveLined.{window_live}
 use Rattle.mvd_remote.proofs.remote.Remote.send_all.Goals as goal
@@ -57,7 +57,7 @@ returns-in-Ok-clause-live g c requests is spelled was =
     let moved = subst (λ cfg. LiveTurns cfg c.args.window.now.1 replies (awaits mid) (awaits new) (far mid).states told.0 (far new).states) c.send.ensures.config
     (subst (λ (ns : List (Option Refusal)). LiveTurns (far mid).config ns replies (awaits mid) (awaits new) (far mid).states told.0 (far new).states) nones told.1) in
     let it = window_live (far old).config requests c.args.window.now replies (awaits old) (awaits mid) (awaits new) (far old).states (far mid).states (far new).states told.0 is (was.step c.requires) out (form old was.line) (form mid sent.0) (form new turns.live) sent.1 moved in
-    (live_goes g.L.Line.is_live awaits c.take_turns.new.self turns.live c.in-Ok.ensures.goes_on it.1, told.0, it.0)
+    (live_goes g.L.Line.is_live awaits c.take_turns.new.self turns.live c.in-Ok.ensures.goes_on it.1, (told.0, it.0))
 
 pub returns-in-Err-take_turns-clause-live : goal.returns-in-Err-take_turns-clause-live
 returns-in-Err-take_turns-clause-live g c requests is spelled was =

@@ -4,7 +4,7 @@ use Rattle.mvd_remote.specs.LinkWindows.{IsOfKind, TakeTurns}
 use Rattle.mvd_remote.specs.Lines.{DueTurns}
 use Rattle.mvd_site.specs.Held.{States}
 use Rattle.mvd_peer.specs.Live.{Grows}
-use Rattle.mvd_remote.specs.LiveLines.{LiveTurns}
+use Rattle.mvd_remote.specs.LiveRemotes.{LiveTurns}
 use Rattle.mvd_remote.proofs.remote.Remote.take_turns.Given as goal
 
 -- the first requests were answered in their turn

@@ -7,7 +7,7 @@ use Rattle.mvd_site.specs.Answer.{digests}
 use Rattle.mvd_site.specs.Held.{state_at}
 use Rattle.mvd_remote.specs.declared.remote.Remote.{Remote}
 use Rattle.mvd_remote.specs.Lines.{IsTrueRemote, RemoteFollows, remote_follows_self}
-use Rattle.mvd_remote.specs.LiveLines.{IsLiveRemote}
+use Rattle.mvd_remote.specs.LiveRemotes.{IsLiveRemote}
 use Rattle.mvd_remote.specs.Remotes.{link_of}
 use Rattle.mvd_remote.proofs.LiveSides.{node_live, nodes_live, page_live, pages_live, push_live, pushes_live, state_live, states_live}
 use Rattle.mvd_peer.specs.Windows.{IsNode}

@@ -2,7 +2,7 @@
 use Rattle.std.proofs.Common.{◌≡◌, ℕ, List, Option, None, Some, Result, Ok, Err, ap, refl, subst, sym}
 use Rattle.std.specs.Prelude.{IfOk, ⊤}
 use Rattle.std.specs.declared.net.socket_addr.SocketAddr.{SocketAddr}
-use Rattle.mvd_client.specs.Between.{EndsBetween, FailsBetween, IsFreshLine, MeetsBetween, far_within, true_within}
+use Rattle.mvd_client.specs.Between.{EndsBetween, FailsBetween, IsFreshLine, MeetsBetween, counted_within}
 use Rattle.mvd_client.specs.Between.FailsBetween.{faulted, no_far, no_near}
 use Rattle.mvd_client.specs.LetIn.{GivesIn}
 use Rattle.mvd_client.specs.Met.{IsFailureOf}
@@ -72,7 +72,7 @@ module _ {L : Type 0} (line : LineGhosts L) where
   -- a session over two lines
   pub between : (near far near' far' : Remote (Counted L)) (near_gives far_gives : L → Type 0) (A B : Type 0) (near_link far_link : Counted L) → line_of near ≡ near_link → refused_of near ≡ None → line_of far ≡ far_link → refused_of far ≡ None
       → (A → near_gives near_link.line) → (B → far_gives far_link.line) → (told : Result Report SyncFault)
-      → Session (sides_between (true_within line) (far_within line) (true_within line) (far_within line)) 10000000 (two near far) (two near' far') told → IfOk told (IsRun (sides_between (true_within line) (far_within line) (true_within line) (far_within line)) 10000000 (two near far) (two near' far')) → MeetsBetween line near_gives far_gives A B told
+      → Session (sides_between (counted_within line) (counted_within line)) 10000000 (two near far) (two near' far') told → IfOk told (IsRun (sides_between (counted_within line) (counted_within line)) 10000000 (two near far) (two near' far')) → MeetsBetween line near_gives far_gives A B told
   between near far near' far' near_gives far_gives A B near_link far_link near_line near_on far_line far_on near_given far_given told session ran = record {
     near = near;
     far = far;
@@ -89,7 +89,7 @@ module _ {L : Type 0} (line : LineGhosts L) where
   -- so one that ended well, whose lines are kept
   pub ended_well : (near far near' far' : Remote (Counted L)) (near_gives far_gives : L → Type 0) (A B : Type 0) (near_link far_link near_kept far_kept : Counted L) → line_of near ≡ near_link → refused_of near ≡ None → line_of far ≡ far_link → refused_of far ≡ None
       → (A → near_gives near_link.line) → (B → far_gives far_link.line) → (report : Report) → near_kept ≡ line_of near' → far_kept ≡ line_of far' → (near_at far_at : SocketAddr)
-      → Session (sides_between (true_within line) (far_within line) (true_within line) (far_within line)) 10000000 (two near far) (two near' far') (Ok report) → IsRun (sides_between (true_within line) (far_within line) (true_within line) (far_within line)) 10000000 (two near far) (two near' far') report → EndsBetween line near_gives far_gives A B near_at far_at (Some near_kept) (Some far_kept) (Ok report)
+      → Session (sides_between (counted_within line) (counted_within line)) 10000000 (two near far) (two near' far') (Ok report) → IsRun (sides_between (counted_within line) (counted_within line)) 10000000 (two near far) (two near' far') report → EndsBetween line near_gives far_gives A B near_at far_at (Some near_kept) (Some far_kept) (Ok report)
   unfolding between
   ended_well near far near' far' near_gives far_gives A B near_link far_link near_kept far_kept near_line near_on far_line far_on near_given far_given report near_is far_is near_at far_at session ran = (
     between near far near' far' near_gives far_gives A B near_link far_link near_line near_on far_line far_on near_given far_given (Ok report) session ran,

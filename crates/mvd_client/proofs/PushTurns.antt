@@ -13,6 +13,7 @@ use Rattle.mvd_site.specs.Held.{AreHeld}
 use Rattle.mvd_peer.specs.PushedStates.{Each}
 use Rattle.mvd_peer.specs.Sides.{is_site_refusal, tells_broken}
 use Rattle.mvd_peer.specs.Windows.{Asked, EachAnswer, EachTold, Ends, IsLeftOpen, Pushes, PushesFirst, for_pushes, manner}
+use Rattle.mvd_peer.specs.Telling.{TellsAll, TellsPush}
 use Rattle.mvd_peer.proofs.OneByOne.{told_still}
 use Rattle.mvd_replica.specs.Batch.{AnswersAll}
 use Rattle.mvd_replica.specs.Pushes.{push_of}
@@ -77,6 +78,10 @@ module _ {S T : Type 0} {g : Ghosts S} (old new : T) (inner : T → Replica S g)
   pub window_pushes : (result : Result (Vec (Result (Unit {0}) Refusal) Global) Refusal) → IfOk result (TellsPushes (inner old) pairs (inner new)) → IsTrueSite (site_of (inner old)) →
       IfOk result (λ told. IsTrueSite (site_of (inner new)) × Pushes (site_of (inner old)).config.max_keys (site_of (inner old)).states pairs told.items (site_of (inner new)).states)
   window_pushes result tells was = ok_as result tells (λ told it. it.pushes was)
+
+  pub window_live : (result : Result (Vec (Result (Unit {0}) Refusal) Global) Refusal) → IfOk result (TellsPushes (inner old) pairs (inner new)) →
+      TellsAll (λ (t : T). IsTrueSite (site_of (inner t))) (λ (t : T). (site_of (inner t)).states) (TellsPush (site_of (inner old)).config.max_keys) pairs old new result
+  window_live result tells = ok_as result tells (λ told it. it.live)
 
   broken_refuses : (refusal : Refusal) → refusal ≡ Broken → (site_of (inner new)).broken ≡ true → Refuses new refusal
   broken_refuses refusal is broken = inl (subst (λ r. is_site_refusal r ≡ true) (sym is) refl, broken ∙ sym (ap tells_broken is))

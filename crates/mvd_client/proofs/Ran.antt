@@ -33,10 +33,10 @@ module _ {S T : Type 0} (inner : T → S) (follows : ℕ → T → T → Type 0)
 
   tells_of : (wanted : Wanted) (heard : Option Told) (old new : T) → SideTells (around inner follows side) wanted heard old new → SideTells side wanted heard (inner old) (inner new)
   tells_of wanted None old new still = ap inner still
-  tells_of wanted (Some (Nodes these)) old new (asked, stays) = (asked_of (nodes_of side.is_faithful side.states (inner old)) wanted.nodes these.items old new asked, stays)
-  tells_of wanted (Some (Pages these)) old new (asked, stays) = (asked_of (pages_kind side.is_faithful side.states (inner old)) wanted.pages these.items old new asked, stays)
-  tells_of wanted (Some (States these)) old new (asked, stays) = (asked_of (gets_of side.can_give side.is_faithful side.states (inner old)) wanted.gets these.items old new asked, stays)
-  tells_of wanted (Some (Pushes these)) old new (asked, pushed) = (asked_of for_pushes wanted.pushes these.items old new asked, pushed)
+  tells_of wanted (Some (Nodes these)) old new (asked, stays, live) = (asked_of (nodes_of side.is_faithful side.states (inner old)) wanted.nodes these.items old new asked, stays, live)
+  tells_of wanted (Some (Pages these)) old new (asked, stays, live) = (asked_of (pages_kind side.is_faithful side.states (inner old)) wanted.pages these.items old new asked, stays, live)
+  tells_of wanted (Some (States these)) old new (asked, stays, live) = (asked_of (gets_of side.can_give side.is_faithful side.states (inner old)) wanted.gets these.items old new asked, stays, live)
+  tells_of wanted (Some (Pushes these)) old new (asked, pushed, live) = (asked_of for_pushes wanted.pushes these.items old new asked, pushed, live)
   tells_of wanted (Some (Refused refusal)) old new it = absurd it
 
 module _ {S T M N : Type 0} (inner : T → S) (inner_peer : N → M) (side : SideOf S) (peer : SideOf M) (follows : ℕ → T → T → Type 0) (follows_peer : ℕ → N → N → Type 0)

@@ -15,6 +15,7 @@ abbrev pub around : {S T : Type 0} → (T → S) → (ℕ → T → T → Type 0
 around inner follows side = record {
   states = λ t. side.states (inner t);
   is_faithful = λ t. side.is_faithful (inner t);
+  is_live = λ t. side.is_live (inner t);
   can_give = side.can_give;
   follows = follows;
   can_refuse = λ t. side.can_refuse (inner t);

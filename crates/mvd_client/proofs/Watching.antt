@@ -8,6 +8,9 @@ use Rattle.mvd_keys.specs.Writes.{Key}
 use Rattle.mvd_site.specs.Held.{States}
 use Rattle.mvd_sync.specs.Session.{AreFew, HasAllThatDiffer}
 use Rattle.mvd_peer.specs.Sides.{HasAnswered, HasRefused, Reaches}
+use Rattle.std.specs.Prelude.{Vec}
+use Rattle.std.specs.declared.alloc.Global.{Global}
+use Rattle.mvd_peer.specs.Telling.{TellsAll}
 use Rattle.mvd_peer.specs.Windows.{Ends}
 use Rattle.mvd_peer.proofs.OneByOne.{told_still}
 use Rattle.mvd_peer.proofs.OneByOne.{AskedBy}
@@ -69,3 +72,7 @@ module _ {S T : Type 0} (inner : T → S) (asked : T → ℕ) (around : T → S 
 
 pub asks_few : (before after asked wanted : ℕ) (mine theirs : States) → after ≡ before + asked → ((differing : List Key) → HasAllThatDiffer mine theirs differing → AreFew (asked + wanted) theirs differing) → CountsFew before after mine theirs
 asks_few before after asked wanted mine theirs count few = record { asked = asked; counted = count; few = λ differing all. let bound = few differing all in omega (arith, bound) }
+
+-- what a side within told as a live one
+pub live_seen : {S Q A : Type 0} (is_live : S → Type 0) (states : S → States) (Right : States → Q → Result A Refusal → Type 0) (qs : List Q) (old mid new : S) → new ≡ mid → (result : Result (Vec (Result A Refusal) Global) Refusal) → TellsAll is_live states Right qs old mid result → TellsAll is_live states Right qs old new result
+live_seen is_live states Right qs old mid new same result tells = subst (λ s. TellsAll is_live states Right qs old s result) (sym same) tells

@@ -6,7 +6,7 @@ use Rattle.mvd_client.specs.LetIn.{GivesIn}
 use Rattle.mvd_client.specs.Met.{IsFailureOf, IsStoppedAt}
 use Rattle.mvd_client.specs.Reported.{ReportsAs, meeting_text, root_of}
 use Rattle.mvd_client.specs.Stopped.{IsUndialed}
-use Rattle.mvd_client.specs.SyncSides.{sides_between}
+use Rattle.mvd_client.specs.SyncSides.{LineSide, sides_between}
 use Rattle.mvd_client.specs.declared.counted.Counted.{Counted}
 use Rattle.mvd_client.specs.declared.ends.Failure.{Failure}
 use Rattle.mvd_client.specs.declared.meeting.Root.{Root}
@@ -32,6 +32,14 @@ module _ {L : Type 0} (line : LineGhosts L) where
   abbrev pub far_within : Counted L → Far
   far_within counted = line.far counted.line
 
+  abbrev pub counted_within : LineSide (Counted L)
+  counted_within = record {
+    is_true = true_within;
+    far = far_within;
+    is_live = λ counted. line.is_live counted.line;
+    awaits = λ counted. line.awaits counted.line;
+  }
+
   -- a line that is kept for a server is one that its address gives, and nothing was asked over it
   abbrev pub IsFreshLine : (L → Type 0) → Option (Counted L) → Type 0
   IsFreshLine gives None = ⊤
@@ -49,9 +57,9 @@ module _ {L : Type 0} (line : LineGhosts L) where
     pub far_goes_on : refused_of far ≡ None
     pub near_given : near_fresh → near_gives (line_of near).line
     pub far_given : far_fresh → far_gives (line_of far).line
-    pub session : Session (sides_between true_within far_within true_within far_within) 10000000 (two near far)
+    pub session : Session (sides_between counted_within counted_within) 10000000 (two near far)
         (two near' far') told
-    pub runs : IfOk told (IsRun (sides_between true_within far_within true_within far_within) 10000000 (two near far)
+    pub runs : IfOk told (IsRun (sides_between counted_within counted_within) 10000000 (two near far)
         (two near' far'))
 
   -- why there is no report: an address leads to no line, or a session ended with a fault; of the side that it names

@@ -8,6 +8,7 @@ use Rattle.mvd_keys.specs.State.{State}
 use Rattle.mvd_keys.specs.Writes.{Key}
 use Rattle.mvd_peer.specs.Windows.{EachAnswer, EachTold, Pushes}
 use Rattle.mvd_replica.specs.Replicas.{site_of, stored_of}
+use Rattle.mvd_replica.specs.SideCalls.{TellsMoments}
 use Rattle.mvd_replica.specs.Sides.{IsTrueSite, ReplicaRefuses, SideFollows, side_follows_on, side_follows_self}
 use Rattle.mvd_replica.specs.declared.replica.Replica.{Replica}
 use Rattle.mvd_runs.specs.Sessions.{SideTakes}
@@ -33,6 +34,7 @@ module _ {S : Type 0} {g : Ghosts S} where
     pub told : EachTold (Unit {0}) (ReplicaRefuses (site_of new)) answers.items
     pub pushes : IsTrueSite (site_of old) → IsTrueSite (site_of new)
         × Pushes (site_of old).config.max_keys (site_of old).states pairs answers.items (site_of new).states
+    pub live : TellsMoments old pairs new answers
 
   -- a window that is not told: memory was refused, and nothing was pushed; or the site is broken then
   abbrev pub EndsPushes : Replica S g → Replica S g → Refusal → Type 0

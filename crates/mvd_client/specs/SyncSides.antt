@@ -1,8 +1,10 @@
 -- The two sides of a session that a command holds: a stored site, and what is asked over a line.
-use Rattle.std.specs.Prelude.{◌≡◌, false, None, Some}
+use Rattle.std.specs.Prelude.{◌≡◌, false, List, None, Some}
 use Rattle.mvd_dots.specs.declared.refusals.Refusal.{Refusal}
 use Rattle.mvd_peer.specs.Sides.{SideOf, Sides}
+use Rattle.mvd_wire.specs.declared.request.Request.{Request}
 use Rattle.mvd_remote.specs.Lines.{Far, IsTrueRemote, RemoteFollows, far_of, refused_of}
+use Rattle.mvd_remote.specs.LiveRemotes.{IsLiveRemote}
 use Rattle.mvd_remote.specs.declared.line.Line.{Ghosts as LineGhosts}
 use Rattle.mvd_remote.specs.declared.remote.Remote.{Remote}
 use Rattle.mvd_replica.specs.Replicas.{site_of, stored_of}
@@ -15,6 +17,7 @@ abbrev pub stored_side : {S : Type 0} {g : Ghosts S} → SideOf (Replica S g)
 stored_side = record {
   states = λ replica. (site_of replica).states;
   is_faithful = λ replica. IsTrueSite (site_of replica);
+  is_live = λ replica. IsTrueSite (site_of replica);
   can_give = λ _ _. Unit {0};
   follows = λ _ old new. SideFollows (stored_of old) (stored_of new);
   can_refuse = λ replica. ReplicaRefuses (site_of replica);
@@ -23,24 +26,36 @@ stored_side = record {
   number = λ replica. Some (site_of replica).config.site;
 }
 
--- what is asked over a line: it is faithful where the line is true, and a link that refuses stays as it is
-abbrev pub far_side : {L : Type 0} → (L → Type 0) → (L → Far) → SideOf (Remote L)
-far_side is_true far = record {
-  states = λ remote. (far_of far remote).states;
-  is_faithful = IsTrueRemote is_true far;
+-- when a line is true, or live, and what is at its other end
+pub record LineSide (L : Type 0) : Type 1 where
+  pub is_true : L → Type 0
+  pub far : L → Far
+  pub is_live : L → Type 0
+  pub awaits : L → List Request
+
+abbrev pub line_side : {L : Type 0} → LineGhosts L → LineSide L
+line_side line =
+    record { is_true = line.is_true; far = line.far; is_live = line.is_live; awaits = line.awaits }
+
+-- what is asked over a line: it is faithful where the line is true, live where the line is live, and a link that
+-- refuses stays as it is
+abbrev pub far_side : {L : Type 0} → LineSide L → SideOf (Remote L)
+far_side line = record {
+  states = λ remote. (far_of line.far remote).states;
+  is_faithful = IsTrueRemote line.is_true line.far;
+  is_live = IsLiveRemote line.is_live line.awaits;
   can_give = λ _ _. Unit {0};
-  follows = λ _. RemoteFollows far;
+  follows = λ _. RemoteFollows line.far;
   can_refuse = λ remote refusal. (own : Refusal) → refused_of remote ≡ Some own → refusal ≡ own;
   can_answer = λ remote. refused_of remote ≡ None;
-  most_keys = λ remote. (far_of far remote).config.max_keys;
+  most_keys = λ remote. (far_of line.far remote).config.max_keys;
   number = λ _. None;
 }
 
 -- a stored site, and the other end of a line
 abbrev pub sides_at : {S : Type 0} {g : Ghosts S} {L : Type 0} → LineGhosts L → Sides (Replica S g) (Remote L)
-sides_at line = record { local = stored_side; peer = far_side line.is_true line.far }
+sides_at line = record { local = stored_side; peer = far_side (line_side line) }
 
 -- the other ends of two lines
-abbrev pub sides_between : {L M : Type 0} → (L → Type 0) → (L → Far) → (M → Type 0) → (M → Far)
-    → Sides (Remote L) (Remote M)
-sides_between near_true near far_true far = record { local = far_side near_true near; peer = far_side far_true far }
+abbrev pub sides_between : {L M : Type 0} → LineSide L → LineSide M → Sides (Remote L) (Remote M)
+sides_between near far = record { local = far_side near; peer = far_side far }

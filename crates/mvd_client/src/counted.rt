@@ -31,7 +31,13 @@ impl<L: Line> Line for Counted<L> {
 
     ghost far = { λ counted. L.far counted.line };
 
+    ghost is_live = { λ counted. L.is_live counted.line };
+
+    ghost awaits = { λ counted. L.awaits counted.line };
+
     ghost in_form = { λ counted. L.in_form counted.line };
+
+    ghost live_form = { λ counted. L.live_form counted.line };
 
     fn send(&mut self, frames: &[u8]) -> Result<(), Refusal> {
         self.line.send(frames)

@@ -93,7 +93,13 @@ impl<S: Read + Write + Drop> Line for Link<S> {
 
     ghost far = { λ _. nowhere };
 
+    ghost is_live = { λ _. ⊥ };
+
+    ghost awaits = { λ _. [] };
+
     ghost in_form = { λ _ never. absurd never };
+
+    ghost live_form = { λ _ never. absurd never };
 
     fn send(&mut self, frames: &[u8]) -> Result<(), Refusal> {
         write_frame(self, frames)

@@ -4,7 +4,7 @@ ghost use Rattle.std.specs.Io.KnownBytes.{Appends};
 ghost use Rattle.mvd_client.specs.Met.{MeetsFars};
 ghost use Rattle.mvd_client.specs.Questioned.{CountsFew, questions};
 ghost use Rattle.mvd_client.specs.Reported.{CutReport, ReportsAs, meeting_text, root_at_text, root_of};
-ghost use Rattle.mvd_client.specs.SyncSides.{sides_between};
+ghost use Rattle.mvd_client.specs.SyncSides.{line_side, sides_between};
 ghost use Rattle.mvd_dots.specs.declared.refusals.Refusal.TheVariants.{Memory};
 ghost use Rattle.mvd_peer.specs.Sides.{two};
 ghost use Rattle.mvd_remote.specs.Lines.{IsTrueRemote, far_of};
@@ -49,9 +49,9 @@ pub fn meet_over<L: Line, M: Line, E: Write>(
         (far_of L.far near.old).states (far_of M.far far.old.side).states }
     ensures most { questions far.new.asked.items ≤ questions far.old.asked.items + 10000000 }
     // Whatever is at the other ends.
-    ensures session { Session (sides_between L.is_true L.far M.is_true M.far) 10000000
+    ensures session { Session (sides_between (line_side L.Line) (line_side M.Line)) 10000000
         (two near.old far.old.side) (two near.new far.new.side) result }
-    ensures ran { IfOk result (IsRun (sides_between L.is_true L.far M.is_true M.far) 10000000
+    ensures ran { IfOk result (IsRun (sides_between (line_side L.Line) (line_side M.Line)) 10000000
         (two near.old far.old.side) (two near.new far.new.side)) }
 {
     sync(alloc, near, far)

@@ -61,6 +61,8 @@ impl<P: Peer + Drop, E: Write> Peer for Watched<'_, P, E> {
 
     ghost is_faithful = { λ watched. P.is_faithful watched.side };
 
+    ghost is_live = { λ watched. P.is_live watched.side };
+
     ghost can_give = { P.can_give };
 
     ghost follows = { λ n old new. AsksMore P.follows n (old.side, questions old.asked.items)
@@ -75,6 +77,8 @@ impl<P: Peer + Drop, E: Write> Peer for Watched<'_, P, E> {
     ghost number = { λ watched. P.number watched.side };
 
     ghost in_form = { λ watched. P.in_form watched.side };
+
+    ghost live_form = { λ watched. P.live_form watched.side };
 
     ghost follows_self = { λ watched. asks_none P.follows watched.side (questions watched.asked.items)
         (P.follows_self watched.side) };

@@ -31,6 +31,9 @@ impl<S: Alter + Drop> Peer for StoredSide<'_, S> {
 
     ghost is_faithful = { λ side. IsTrueSite (site_of side.replica.now) };
 
+    // Nobody else writes to it meanwhile.
+    ghost is_live = { λ side. IsTrueSite (site_of side.replica.now) };
+
     ghost can_give = { λ _ _. Unit {0} };
 
     // It stays the same replica.
@@ -46,6 +49,8 @@ impl<S: Alter + Drop> Peer for StoredSide<'_, S> {
     ghost number = { λ side. Some (site_of side.replica.now).config.site };
 
     ghost in_form = { λ _ whole. whole.1 };
+
+    ghost live_form = { λ _ whole. whole.1 };
 
     ghost follows_self = { λ side. (refl, turns_self side.replica.now) };
 

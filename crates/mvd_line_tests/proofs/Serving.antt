@@ -120,7 +120,7 @@ behinds : (a b : Option FrameValue) (r s : List ℕ) → read_at a r ≡ read_at
 unfolding behind
 behinds a b r s e = ap behind e
 
-nothing_left : (left : List Request) (bytes rest : List ℕ) → AreRequestFrames left bytes → frame_at bytes ≡ Ok (None, rest) → left ≡ []
+pub nothing_left : (left : List Request) (bytes rest : List ℕ) → AreRequestFrames left bytes → frame_at bytes ≡ Ok (None, rest) → left ≡ []
 nothing_left [] bytes rest h e = refl
 nothing_left (q ∷ qs) bytes rest h e = let never = fronts None (Some (asked_frame q)) rest h.1 (sym e ∙ first_frame q h.0 h.1 bytes h.3 h.4) in absurd (cc)
 
@@ -139,7 +139,7 @@ pub record Next (left : List Request) (frame : Frame) (rest : List ℕ) : Type 0
   pub spells : SpellsRequest q frame.kind frame.payload.items
   pub frames : AreRequestFrames later rest
 
-next_of : (left : List Request) (bytes : List ℕ) (frame : Frame) (rest : List ℕ) → AreRequestFrames left bytes → frame_at bytes ≡ Ok (Some (frame_value frame), rest) → Next left frame rest
+pub next_of : (left : List Request) (bytes : List ℕ) (frame : Frame) (rest : List ℕ) → AreRequestFrames left bytes → frame_at bytes ≡ Ok (Some (frame_value frame), rest) → Next left frame rest
 next_of [] bytes frame rest h e = let never = fronts None (Some (frame_value frame)) [] rest (sym no_frame ∙ subst (λ b. frame_at b ≡ Ok (Some (frame_value frame), rest)) h e) in absurd (cc)
 next_of (q ∷ qs) bytes frame rest h e =
     let both = sym (first_frame q h.0 h.1 bytes h.3 h.4) ∙ e in

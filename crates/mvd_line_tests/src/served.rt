@@ -1,5 +1,5 @@
 //! A line to a site at hand, which is true.
-ghost use Rattle.std.specs.Prelude.{◌≡◌, None};
+ghost use Rattle.std.specs.Prelude.{◌≡◌, [], None};
 ghost use Rattle.mvd_site.specs.Held.{AreHeld};
 ghost use Rattle.mvd_site.specs.Known.{IsValidRequest};
 ghost use Rattle.mvd_remote.specs.Lines.{TrueReply};
@@ -75,7 +75,7 @@ impl Served {
 }
 
 /// The siblings of a state that is pushed have been seen.
-fn is_valid(request: &Request)
+pub(crate) fn is_valid(request: &Request)
     ensures { IsValidRequest request.now }
 {
     if let Request::Push(_, state) = request {
@@ -92,7 +92,14 @@ impl Line for Served {
 
     ghost far = { λ served. far_at served.site served.waiting.items };
 
+    // It is true, and nobody else writes to its far side.
+    ghost is_live = { λ _. ⊥ };
+
+    ghost awaits = { λ _. [] };
+
     ghost in_form = { λ _ held. held };
+
+    ghost live_form = { λ _ never. absurd never };
 
     fn send(&mut self, frames: &[u8]) -> Result<(), Refusal> {
         let mut rest = frames;

@@ -21,7 +21,7 @@ use Rattle.mvd_peer.proofs.JoinLaws.{valid_at}
 use Rattle.mvd_peer.proofs.Pushes.{state-pushed}
 use Rattle.mvd_sync.specs.Machines.{HasNext, Machining}
 use Rattle.mvd_sync.specs.Session.{HasAllThatDiffer}
-use Rattle.mvd_sync.specs.Steps.{Wanted, asked}
+use Rattle.mvd_sync.specs.Steps.{Wanted}
 use Rattle.mvd_sync.specs.declared.asked.Step.{Step}
 use Rattle.mvd_sync.specs.declared.telling.Told.{Told}
 use Rattle.mvd_sync.specs.declared.telling.Told.TheVariants as told
@@ -31,7 +31,7 @@ use Rattle.mvd_live.specs.Lives.{WasHeld}
 use Rattle.mvd_live.specs.Runs.{StartsRun, TakesLeg, Leg, RunsLegs, Standing, all_locals, all_peers}
 use Rattle.mvd_live.proofs.FewWhole.{asks_few}
 use Rattle.mvd_live.proofs.Runner.{run_more, run_none}
-use Rattle.mvd_live.proofs.Whole.{given, grown, lives}
+use Rattle.mvd_live.proofs.Whole.{given_so, grown, lives}
 use Rattle.mvd_live.proofs.Written.{either, same_get, written_differ}
 
 -- ---- the state of one key
@@ -168,16 +168,16 @@ module _ (number : Option ℕ) (questions : ℕ) (most : Two ℕ ℕ) (old : Sta
     pub local : Mine (state_at now.local key)
     pub peer : Theirs (state_at now.peer key)
 
-  one_window : (done : List Leg) (mid : Standing) (leg : Leg) → RunsLegs most old done mid → TakesLeg most mid leg → SideAlone (asked leg.step.local) leg.mine mid.local leg.locals leg.after.local → SideAlone (asked leg.step.peer) leg.theirs mid.peer leg.peers leg.after.peer → IsSo done mid
+  one_window : (done : List Leg) (mid : Standing) (leg : Leg) → RunsLegs most old done mid → TakesLeg most mid leg → SideAlone leg.asks.local leg.mine mid.local leg.locals leg.after.local → SideAlone leg.asks.peer leg.theirs mid.peer leg.peers leg.after.peer → IsSo done mid
       → IsSo (done ++ leg ∷ []) leg.after
   one_window done mid leg run goes here there is =
       let a = state_at old.local key in
       let b = state_at old.peer key in
       let va = valid_at old.local begins.local key in
       let vb = valid_at old.peer begins.peer key in
-      let told = given number questions most old done mid begins run leg.asking leg.step goes.next in
-      let p = alone_keeps key Mine Theirs (mine_joins a b va vb) (all_peers done) is.theirs (asked leg.step.local) leg.mine mid.local leg.after.local leg.locals told.to_local here is.local in
-      let q = alone_keeps key Theirs Mine (theirs_joins a b va vb) (all_locals done) is.mine (asked leg.step.peer) leg.theirs mid.peer leg.after.peer leg.peers told.to_peer there is.peer in
+      let told = given_so number questions most old done mid begins run leg.asking leg.asks goes.next in
+      let p = alone_keeps key Mine Theirs (mine_joins a b va vb) (all_peers done) is.theirs leg.asks.local leg.mine mid.local leg.after.local leg.locals told.0 here is.local in
+      let q = alone_keeps key Theirs Mine (theirs_joins a b va vb) (all_locals done) is.mine leg.asks.peer leg.theirs mid.peer leg.after.peer leg.peers told.1 there is.peer in
       record {
         mine = both_so Mine key (all_locals done) leg.locals (all_locals (done ++ leg ∷ [])) (locals_more done leg) is.mine p.0;
         theirs = both_so Theirs key (all_peers done) leg.peers (all_peers (done ++ leg ∷ [])) (peers_more done leg) is.theirs q.0;

@@ -13,7 +13,7 @@ use Rattle.mvd_sync.specs.Machines.{AsksForNext, CarriedOn, HasNext, HearsAt, Ma
 use Rattle.mvd_sync.specs.Meetings.{held_keys}
 use Rattle.mvd_sync.specs.OneTurn.{untold}
 use Rattle.mvd_sync.specs.Session.{AreFew}
-use Rattle.mvd_sync.specs.Steps.{asked, cut_wanted}
+use Rattle.mvd_sync.specs.Steps.{Wanted, cut_wanted}
 use Rattle.mvd_sync.specs.Walking.{PageQuestion, Walking, pages_of}
 use Rattle.mvd_sync.specs.declared.asked.Step.{Step}
 use Rattle.mvd_sync.specs.declared.asking.Questions.{Questions}
@@ -28,12 +28,13 @@ use Rattle.mvd_sync.specs.declared.telling.Told.{Told}
 use Rattle.mvd_sync.specs.declared.turn.Turn.{Turn}
 use Rattle.mvd_sync.proofs.Stages.{plan_keys, same_length}
 use Rattle.mvd_live.specs.Few.{AsksFew, HasAllThatDiffered, asked_local, asked_peer, questions_in}
-use Rattle.mvd_live.specs.Runs.{StartsRun, Leg, RunsLegs, Standing, all_locals, all_peers}
+use Rattle.mvd_live.specs.Runs.{AsksBoth, StartsRun, Leg, RunsLegs, Standing, all_locals, all_peers, both_asked}
 use Rattle.mvd_live.proofs.FewNodes.{first_few, level_few}
 use Rattle.mvd_live.proofs.FewStages.{FewAt, WalkStands, held_short, local_begins, settle_few, stands_less, told_few, turn_owes, wants_few, went_few}
 use Rattle.mvd_live.proofs.Moments.{Frame}
 use Rattle.mvd_live.proofs.Steps.{HeardBoth, nodes_here, nodes_there, pages_here, pages_there}
 use Rattle.mvd_live.proofs.Turns.{last_of}
+use Rattle.mvd_live.proofs.Runner.{asks_named}
 use Rattle.mvd_live.proofs.Whole.{Amid, amid_leg, first_amid, frame, grows_self, grown, heard_both, taken}
 
 take_few : {X : Type 0} (n : ℕ) (xs : List X) → (length (take n xs) ≤ length xs) × (length (take n xs) ≤ n)
@@ -157,17 +158,20 @@ cut_few side left (Failed fault) =
     omega (arith, w, z, y, x)
 
 -- those of a window to a side
-abbrev questions_at : Side → Step → ℕ
-questions_at AtLocal step = questions_in (asked step.local)
-questions_at AtPeer step = questions_in (asked step.peer)
+abbrev questions_at : Side → Two Wanted Wanted → ℕ
+questions_at AtLocal asks = questions_in asks.local
+questions_at AtPeer asks = questions_in asks.peer
 
 abbrev asked_at : Side → List Leg → ℕ
 asked_at side [] = 0
-asked_at side (leg ∷ legs) = questions_at side leg.step + asked_at side legs
+asked_at side (leg ∷ legs) = questions_at side leg.asks + asked_at side legs
 
-pub step_few : (side : Side) (old asking : Machining) (step : Step) → HasNext old asking (Some step) → questions_at side step ≤ wanted_count side asking.stage
-step_few AtLocal old asking step next = subst (λ w. questions_in w ≤ wanted_count AtLocal asking.stage) (sym next.asks.0.local) (cut_few AtLocal asking.left.local asking.stage)
-step_few AtPeer old asking step next = subst (λ w. questions_in w ≤ wanted_count AtPeer asking.stage) (sym next.asks.0.peer) (cut_few AtPeer asking.left.peer asking.stage)
+both_few : (side : Side) (old asking : Machining) (asks : Two Wanted Wanted) → AsksBoth old asking asks → questions_at side asks ≤ wanted_count side asking.stage
+both_few AtLocal old asking asks next = subst (λ w. questions_in w ≤ wanted_count AtLocal asking.stage) (sym next.local) (cut_few AtLocal asking.left.local asking.stage)
+both_few AtPeer old asking asks next = subst (λ w. questions_in w ≤ wanted_count AtPeer asking.stage) (sym next.peer) (cut_few AtPeer asking.left.peer asking.stage)
+
+pub step_few : (side : Side) (old asking : Machining) (step : Step) → HasNext old asking (Some step) → questions_at side (both_asked step) ≤ wanted_count side asking.stage
+step_few side old asking step next = both_few side old asking (both_asked step) (asks_named old asking step next)
 
 -- ---- all windows
 
@@ -183,11 +187,11 @@ module _ (f : Frame) (differed : List Key) (all : HasAllThatDiffered f.locals f.
       let g = run.0 in
       let t = taken f most old leg at after here there g in
       let now = went_few f differed all side asked old.machine.work old.machine.stage leg.asking.work leg.asking.stage g.next.went few in
-      let n = step_few side old.machine leg.asking leg.step g.next in
-      let heard = hears_few f differed all most side leg.asking.left leg.after.machine.left answers t.0 asked (asked + questions_at side leg.step) leg.asking.work leg.after.machine.work leg.asking.stage leg.after.machine.stage g.next.asks.1
+      let n = both_few side old.machine leg.asking leg.asks g.next in
+      let heard = hears_few f differed all most side leg.asking.left leg.after.machine.left answers t.0 asked (asked + questions_at side leg.asks) leg.asking.work leg.after.machine.work leg.asking.stage leg.after.machine.stage g.next.some
       (heard_both f most old leg at after here there g) t.1 t.2 (omega (arith, n)) now in
       let rest = run_few legs leg.after after run.1 (λ held c. among held (Contains-append_right leg.locals (all_locals legs) held c)) (λ held c. among' held (Contains-append_right leg.peers (all_peers legs) held c))
-      (asked + questions_at side leg.step) heard in
+      (asked + questions_at side leg.asks) heard in
       subst (λ n. FewAt f differed side n new.machine.work new.machine.stage) (omega arith) rest
 
 asks_or_done : (now : Machining) (step : Option Step) → AsksForNext now step → StageAsks now.stage ⊎ (now.stage ≡ Done)
@@ -196,11 +200,11 @@ asks_or_done now (Some step) asks = inl asks.1
 
 local_same : (legs : List Leg) → asked_at AtLocal legs ≡ asked_local legs
 local_same [] = refl
-local_same (leg ∷ legs) = ap (λ n. questions_in (asked leg.step.local) + n) (local_same legs)
+local_same (leg ∷ legs) = ap (λ n. questions_in leg.asks.local + n) (local_same legs)
 
 peer_same : (legs : List Leg) → asked_at AtPeer legs ≡ asked_peer legs
 peer_same [] = refl
-peer_same (leg ∷ legs) = ap (λ n. questions_in (asked leg.step.peer) + n) (peer_same legs)
+peer_same (leg ∷ legs) = ap (λ n. questions_in leg.asks.peer + n) (peer_same legs)
 
 module _ (number : Option ℕ) (questions : ℕ) (most : Two ℕ ℕ) (old : Standing) (legs : List Leg) (new : Standing) (begins : StartsRun number questions old) (run : RunsLegs most old legs new) (differed : List Key) (all : HasAllThatDiffered (all_locals legs) (all_peers legs) differed) where
   first_at : (side : Side) → FewAt (frame number questions most old legs new begins run) differed side 0 old.machine.work old.machine.stage

@@ -16,7 +16,8 @@ use Rattle.mvd_sync.specs.declared.asked.Window.{Window}
 use Rattle.mvd_sync.specs.declared.asked.Window.TheVariants as wanted
 use Rattle.mvd_sync.specs.declared.telling.Told.{Told}
 use Rattle.mvd_sync.specs.declared.telling.Told.TheVariants as telling
-use Rattle.mvd_live.specs.Runs.{TakesLeg, Leg, Standing}
+use Rattle.mvd_live.specs.Runs.{TakesLeg, Leg, Standing, both_asked}
+use Rattle.mvd_live.proofs.Runner.{asks_named}
 use Rattle.mvd_live.specs.Told.{LiveTells, TellsEach, TellsNode, PageTold, TellsPush, StateTold}
 use Rattle.mvd_world.specs.Machine.{Knowledge, Setting}
 use Rattle.mvd_world.specs.OpenWorlds.{AsksForNode, AsksForPage, AsksForState, AsksOneSite, AsksToTake, AsksWindow, OneByOne, OneWindow, all_asked_of, no_room}
@@ -131,12 +132,12 @@ window_gone setting local peer start before after machine asking next step since
     let b = site_told setting peer start window.between after after now none step.peer window.theirs window.peer_side in
     let all = after ∷ (a.moments ++ b.moments) in
     record {
-      leg = record { asking = asking; step = step; mine = window.mine; theirs = window.theirs; locals = held_at local a.moments; peers = held_at peer b.moments; after = standing_at local peer after next };
+      leg = record { asking = asking; asks = both_asked step; mine = window.mine; theirs = window.theirs; locals = held_at local a.moments; peers = held_at peer b.moments; after = standing_at local peer after next };
       is = refl;
       moments = all;
       between = ((led_on setting start window.between after now second, none), Each-append (IsBetween setting start after) a.moments b.moments a.between b.between);
       goes = λ form. record {
-        next = has;
+        next = asks_named machine asking step has;
         local = a.tells (local_form local peer a.moments (Each-left (AreInForm local peer) a.moments b.moments form.1));
         peer = b.tells (peer_form local peer b.moments (Each-right (AreInForm local peer) a.moments b.moments form.1));
         held = form.0;

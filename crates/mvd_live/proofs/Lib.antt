@@ -33,3 +33,4 @@ pub mod Right
 pub mod InWindows
 pub mod Going
 pub mod RanInWindows
+pub mod Over

@@ -16,9 +16,10 @@ use Rattle.mvd_meet.specs.declared.stepping.Meeting.{Meeting}
 use Rattle.mvd_live.specs.Few.{HasAllThatDiffered, MailsFew, asked_local, asked_peer, questions_in, sent_local, sent_peer}
 use Rattle.mvd_live.specs.Lives.{IsGiven, Lives}
 use Rattle.mvd_live.specs.Mail.{AreLive, MailEnds, Mail, MailSteps, Sits, Waiting, mail_locals, mail_peers, standing, waits_at}
-use Rattle.mvd_live.specs.Runs.{StartsRun, TakesLeg, IsLater, Leg, RunsLegs, Standing, all_locals, all_peers}
+use Rattle.mvd_live.specs.Runs.{StartsRun, TakesLeg, IsLater, Leg, RunsLegs, Standing, all_locals, all_peers, both_asked}
 use Rattle.mvd_live.proofs.Answered.{both_answered}
 use Rattle.mvd_live.proofs.FewWhole.{asks_few, step_few}
+use Rattle.mvd_live.proofs.Runner.{asks_named}
 use Rattle.mvd_live.proofs.Whole.{given, grows_self, lives}
 
 -- what is asked of what is wanted is no more
@@ -34,7 +35,7 @@ module _ (most : Two ℕ ℕ) where
   abbrev leg_of : Waiting → Meeting → Mail → (mine theirs : Option Told) → (local peer : States) → Leg
   leg_of old mid mail mine theirs local peer = record {
     asking = old.meeting.machine;
-    step = old.step;
+    asks = both_asked old.step;
     mine = mine;
     theirs = theirs;
     locals = mail.locals;
@@ -45,7 +46,7 @@ module _ (most : Two ℕ ℕ) where
   leg_goes : (machine : Machining) (old : Waiting) (mid : Meeting) (mail : Mail) (near far : Caller) (local peer : States) (h : HearsBoth old.meeting mail.near mail.far mid near far (Ok tt)) → HasNext machine old.meeting.machine (Some old.step) → AreLive most old mail local peer
       → TakesLeg most (at_machine machine old) (leg_of old mid mail h.mine h.theirs local peer)
   leg_goes machine old mid mail near far local peer h next live = let came = both_answered old.meeting.machine mid.machine h.mine h.theirs next.asks.1 h.takes in record {
-    next = next;
+    next = asks_named machine old.meeting.machine old.step next;
     local = live.near near h.mine h.local came.0;
     peer = live.far far h.theirs h.peer came.1;
     held = live.held;

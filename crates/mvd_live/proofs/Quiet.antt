@@ -57,25 +57,6 @@ push_refused most old key state refusal p why = (p, grows_self old p, why, grows
 
 -- ---- one after the other
 
--- what is told later is told since before
-pub each_since : {Q A : Type 0} (Right : States → Q → A → Type 0) (rs : List Q) (more : List A) (old mid new : States) (later : List States) → AreHeld old → AreHeld mid → AreHeld new → Grows old mid → TellsEach Right rs more mid later new → TellsEach Right rs more old later new
-each_since Right [] [] old mid new [] p q r up tells = grown_on old mid new p q r up tells
-each_since Right [] [] old mid new (m ∷ later) p q r up tells = absurd tells
-each_since Right [] (a ∷ more) old mid new later p q r up tells = absurd tells
-each_since Right (x ∷ rs) [] old mid new later p q r up tells = absurd tells
-each_since Right (x ∷ rs) (a ∷ more) old mid new [] p q r up tells = absurd tells
-each_since Right (x ∷ rs) (a ∷ more) old mid new (m ∷ later) p q r up tells = (tells.0, grown_on old mid m p q tells.0 up tells.1, tells.2, tells.3)
-
-pub each_joined : {Q A : Type 0} (Right : States → Q → A → Type 0) (qs rs : List Q) (answers more : List A) (old mid new : States) (moments later : List States) → AreHeld old → AreHeld mid → AreHeld new
-    → TellsEach Right qs answers old moments mid → TellsEach Right rs more mid later new → TellsEach Right (qs ++ rs) (answers ++ more) old (moments ++ later) new
-each_joined Right [] rs [] more old mid new [] later p q r first second = each_since Right rs more old mid new later p q r first second
-each_joined Right [] rs [] more old mid new (m ∷ moments) later p q r first second = absurd first
-each_joined Right [] rs (a ∷ answers) more old mid new moments later p q r first second = absurd first
-each_joined Right (x ∷ qs) rs [] more old mid new moments later p q r first second = absurd first
-each_joined Right (x ∷ qs) rs (a ∷ answers) more old mid new [] later p q r first second = absurd first
-each_joined Right (x ∷ qs) rs (a ∷ answers) more old mid new (m ∷ moments) later p q r first second =
-    (first.0, first.1, first.2, each_joined Right qs rs answers more m mid new moments later first.0 q r first.3 second)
-
 pub each_rises : {Q A : Type 0} (Right : States → Q → A → Type 0) (qs : List Q) (answers : List A) (old new : States) (moments : List States) → TellsEach Right qs answers old moments new → Rises old moments new
 each_rises Right [] [] old new [] tells = tells
 each_rises Right [] [] old new (m ∷ moments) tells = absurd tells

@@ -148,14 +148,14 @@ spent_run most [] old new cut run =
 spent_run most (leg ∷ legs) old new cut run =
     let g = run.0 in
     let answers : Answers = record { mine = leg.mine; theirs = leg.theirs } in
-    let t = hears_ok g.takes.after leg.asking.left leg.asking.work leg.asking.stage answers leg.after.machine.left leg.after.machine.work g.takes.hears g.takes.is g.next.asks.1 in
+    let t = hears_ok g.takes.after leg.asking.left leg.asking.work leg.asking.stage answers leg.after.machine.left leg.after.machine.work g.takes.hears g.takes.is g.next.some in
     let here = cut_went old.machine.work old.machine.stage leg.asking.work leg.asking.stage g.next.went cut in
     let next : IsCut leg.after.machine.stage = subst IsCut (sym g.takes.stage) (cut_hears leg.asking.work leg.after.machine.work leg.asking.stage _ t.0 answers t.2) in
     let rest = spent_run most legs leg.after new next run.1 in
-    let n : questions_in (asked leg.step.local) ≡ min leg.asking.left.local (wanted_count AtLocal leg.asking.stage) = ap questions_in g.next.asks.0.local ∙ cut_long AtLocal leg.asking.left.local leg.asking.stage here in
-    let m : questions_in (asked leg.step.peer) ≡ min leg.asking.left.peer (wanted_count AtPeer leg.asking.stage) = ap questions_in g.next.asks.0.peer ∙ cut_long AtPeer leg.asking.left.peer leg.asking.stage here in
-    let x = spent_one leg.asking.left.local leg.after.machine.left.local (wanted_count AtLocal leg.asking.stage) t.0.local.asked (questions_in (asked leg.step.local)) t.1.local n in
-    let y = spent_one leg.asking.left.peer leg.after.machine.left.peer (wanted_count AtPeer leg.asking.stage) t.0.peer.asked (questions_in (asked leg.step.peer)) t.1.peer m in
+    let n : questions_in leg.asks.local ≡ min leg.asking.left.local (wanted_count AtLocal leg.asking.stage) = ap questions_in g.next.local ∙ cut_long AtLocal leg.asking.left.local leg.asking.stage here in
+    let m : questions_in leg.asks.peer ≡ min leg.asking.left.peer (wanted_count AtPeer leg.asking.stage) = ap questions_in g.next.peer ∙ cut_long AtPeer leg.asking.left.peer leg.asking.stage here in
+    let x = spent_one leg.asking.left.local leg.after.machine.left.local (wanted_count AtLocal leg.asking.stage) t.0.local.asked (questions_in leg.asks.local) t.1.local n in
+    let y = spent_one leg.asking.left.peer leg.after.machine.left.peer (wanted_count AtPeer leg.asking.stage) t.0.peer.asked (questions_in leg.asks.peer) t.1.peer m in
     let k : leg.asking.left.local ≡ old.machine.left.local = λ i. (g.next.left i).local in
     let j : leg.asking.left.peer ≡ old.machine.left.peer = λ i. (g.next.left i).peer in
     (omega (arith, x, k, rest.0), omega (arith, y, j, rest.1))

@@ -13,7 +13,7 @@ use Rattle.mvd_peer.specs.Sides.{Two}
 use Rattle.mvd_sync.specs.Exchanges.{Counts, Done as DoneKey, Exchanging, left_keys}
 use Rattle.mvd_sync.specs.Machines.{HasNext, HearsAt, Machining, StageAsks, StageHears, TakesShares, hears, is_same, quiet, stage_after, stage_told, wanted_at}
 use Rattle.mvd_sync.specs.OneTurn.{untold}
-use Rattle.mvd_sync.specs.Steps.{asked}
+use Rattle.mvd_sync.specs.Steps.{Wanted}
 use Rattle.mvd_sync.specs.declared.asked.Step.{Step}
 use Rattle.mvd_sync.specs.declared.asking.Questions.{Questions}
 use Rattle.mvd_sync.specs.declared.report.Side.{Side}
@@ -27,7 +27,7 @@ use Rattle.mvd_sync.specs.declared.turn.Turn.{Turn}
 use Rattle.mvd_sync.proofs.Descents.{Each-right, Each-take}
 use Rattle.mvd_sync.proofs.Keys.{Each-weaker}
 use Rattle.mvd_live.specs.Lives.{IsGiven, Lives, WasHeld}
-use Rattle.mvd_live.specs.Runs.{StartsRun, TakesLeg, Leg, RunsLegs, Standing, all_locals, all_peers}
+use Rattle.mvd_live.specs.Runs.{AsksBoth, StartsRun, TakesLeg, Leg, RunsLegs, Standing, all_locals, all_peers, both_asked}
 use Rattle.mvd_live.proofs.Fates.{AtStage, Holds, IsGood, went_good, went_holds}
 use Rattle.mvd_live.proofs.Given.{Given, GivenAt, GivenTo}
 use Rattle.mvd_live.proofs.Heard.{tells_grow}
@@ -41,8 +41,8 @@ runs_grow most [] old new p q run = (run.local, run.peer)
 runs_grow most (leg ∷ legs) old new p q run =
     let g = run.0 in
     let rest = runs_grow most legs leg.after new g.held.0 g.held.1 run.1 in
-    let here = tells_grow most.local (asked leg.step.local) leg.mine old.local leg.after.local leg.locals p g.held.0 g.local in
-    let there = tells_grow most.peer (asked leg.step.peer) leg.theirs old.peer leg.after.peer leg.peers q g.held.1 g.peer in (
+    let here = tells_grow most.local leg.asks.local leg.mine old.local leg.after.local leg.locals p g.held.0 g.local in
+    let there = tells_grow most.peer leg.asks.peer leg.theirs old.peer leg.after.peer leg.peers q g.held.1 g.peer in (
       (rest.0.0, grown_on old.local leg.after.local new.local p g.held.0 rest.0.0 here rest.0.1),
       (rest.1.0, grown_on old.peer leg.after.peer new.peer q g.held.1 rest.1.0 there rest.1.1),
     )
@@ -72,7 +72,7 @@ module _ (f : Frame) (most : Two ℕ ℕ) (old : Standing) (leg : Leg) (at : Ami
 
   pub heard_both : HeardBoth f most leg.asking.left leg.asking.stage (record { mine = leg.mine; theirs = leg.theirs })
   heard_both = record {
-    asked = record { local = asked leg.step.local; peer = asked leg.step.peer };
+    asked = leg.asks;
     local = record {
       old = old.local;
       new = leg.after.local;
@@ -87,13 +87,13 @@ module _ (f : Frame) (most : Two ℕ ℕ) (old : Standing) (leg : Leg) (at : Ami
       within = record { first_held = f.fb; last_held = f.fb'; old_held = at.peer.0; new_held = after.peer.0; since = at.peer.1; until = after.peer.2; among = among' };
       tells = g.peer;
     };
-    of_local = g.next.asks.0.local;
-    of_peer = g.next.asks.0.peer;
+    of_local = g.next.local;
+    of_peer = g.next.peer;
   }
 
   pub taken : (shares : Shares) × TakesShares leg.asking.stage leg.asking.left leg.after.machine.left shares × HearsAt leg.asking.work leg.asking.stage shares (record { mine = leg.mine; theirs = leg.theirs }) leg.after.machine.work (Ok leg.after.machine.stage)
   taken =
-      let t = hears_ok g.takes.after leg.asking.left leg.asking.work leg.asking.stage (record { mine = leg.mine; theirs = leg.theirs }) leg.after.machine.left leg.after.machine.work g.takes.hears g.takes.is g.next.asks.1 in
+      let t = hears_ok g.takes.after leg.asking.left leg.asking.work leg.asking.stage (record { mine = leg.mine; theirs = leg.theirs }) leg.after.machine.left leg.after.machine.work g.takes.hears g.takes.is g.next.some in
       (t.0, t.1, subst (λ s. HearsAt leg.asking.work leg.asking.stage t.0 (record { mine = leg.mine; theirs = leg.theirs }) leg.after.machine.work (Ok s)) (sym g.takes.stage) t.2)
 
   pub asked_good : IsGood f most old.machine.stage → IsGood f most leg.asking.stage
@@ -106,7 +106,7 @@ module _ (f : Frame) (most : Two ℕ ℕ) (old : Standing) (leg : Leg) (at : Ami
   pub leg_holds : IsGood f most old.machine.stage → (done : List DoneKey) → Holds f most done old.machine.work old.machine.stage → (now : List DoneKey) × Holds f most now leg.after.machine.work leg.after.machine.stage
   leg_holds good done holds =
       let went = went_holds f most done old.machine.work old.machine.stage leg.asking.work leg.asking.stage g.next.went good holds in
-      (went.0, hears_holds f most leg.asking.left leg.after.machine.left (record { mine = leg.mine; theirs = leg.theirs }) taken.0 went.0 leg.asking.work leg.after.machine.work leg.asking.stage leg.after.machine.stage g.next.asks.1 heard_both taken.1 taken.2 (asked_good good) went.1)
+      (went.0, hears_holds f most leg.asking.left leg.after.machine.left (record { mine = leg.mine; theirs = leg.theirs }) taken.0 went.0 leg.asking.work leg.after.machine.work leg.asking.stage leg.after.machine.stage g.next.some heard_both taken.1 taken.2 (asked_good good) went.1)
 
 -- ---- all windows
 
@@ -121,8 +121,8 @@ module _ (f : Frame) (most : Two ℕ ℕ) (new : Standing) (ends : Grows new.loc
 
   pub amid_leg : (old : Standing) (leg : Leg) (legs : List Leg) → Amid f old → TakesLeg most old leg → RunsLegs most leg.after legs new → Amid f leg.after
   amid_leg old leg legs at g run = amid_next legs leg.after g.held.0 g.held.1
-      (grown_on f.a old.local leg.after.local f.fa at.local.0 g.held.0 at.local.1 (tells_grow most.local (asked leg.step.local) leg.mine old.local leg.after.local leg.locals at.local.0 g.held.0 g.local))
-      (grown_on f.b old.peer leg.after.peer f.fb at.peer.0 g.held.1 at.peer.1 (tells_grow most.peer (asked leg.step.peer) leg.theirs old.peer leg.after.peer leg.peers at.peer.0 g.held.1 g.peer)) run
+      (grown_on f.a old.local leg.after.local f.fa at.local.0 g.held.0 at.local.1 (tells_grow most.local leg.asks.local leg.mine old.local leg.after.local leg.locals at.local.0 g.held.0 g.local))
+      (grown_on f.b old.peer leg.after.peer f.fb at.peer.0 g.held.1 at.peer.1 (tells_grow most.peer leg.asks.peer leg.theirs old.peer leg.after.peer leg.peers at.peer.0 g.held.1 g.peer)) run
 
   pub run_good : (legs : List Leg) (old : Standing) → Amid f old → RunsLegs most old legs new → ((held : States) → Contains (all_locals legs) held → Contains f.locals held) → ((held : States) → Contains (all_peers legs) held → Contains f.peers held) → IsGood f most old.machine.stage → IsGood f most new.machine.stage
   run_good [] old at run among among' good = subst (λ (m : Machining). IsGood f most m.stage) (sym run.machine) good
@@ -231,13 +231,18 @@ module _ (number : Option ℕ) (questions : ℕ) (most : Two ℕ ℕ) (old : Sta
         ];
       }
 
+  -- nothing that is asked of both is made up
+  pub given_so : (asking : Machining) (asks : Two Wanted Wanted) → AsksBoth new.machine asking asks → Each (WasHeld (all_peers legs)) asks.local.pushes × Each (WasHeld (all_locals legs)) asks.peer.pushes
+  unfolding frame
+  given_so asking asks next =
+      let before = run_good frame most new (grows_self new.local grown.0.0) (grows_self new.peer grown.1.0) legs old first_amid run (λ held c. c) (λ held c. c) first_good in
+      let now = (went_good frame most new.machine.work new.machine.stage asking.work asking.stage next.went before).given in (
+        subst (Each (WasHeld (all_peers legs))) (λ i. (sym next.local i).pushes) (Each-take (WasHeld (all_peers legs)) asking.left.local (wanted_at AtLocal asking.stage).pushes (wanted_local (all_locals legs) (all_peers legs) asking.stage now)),
+        subst (Each (WasHeld (all_locals legs))) (λ i. (sym next.peer i).pushes) (Each-take (WasHeld (all_locals legs)) asking.left.peer (wanted_at AtPeer asking.stage).pushes (wanted_peer (all_locals legs) (all_peers legs) asking.stage now)),
+      )
+
   -- NOTHING IS MADE UP
   pub given : (asking : Machining) (step : Step) → HasNext new.machine asking (Some step) → IsGiven (all_locals legs) (all_peers legs) step
-  unfolding frame
   given asking step next =
-      let before = run_good frame most new (grows_self new.local grown.0.0) (grows_self new.peer grown.1.0) legs old first_amid run (λ held c. c) (λ held c. c) first_good in
-      let now = (went_good frame most new.machine.work new.machine.stage asking.work asking.stage next.went before).given in
-      record {
-        to_local = subst (Each (WasHeld (all_peers legs))) (λ i. (sym next.asks.0.local i).pushes) (Each-take (WasHeld (all_peers legs)) asking.left.local (wanted_at AtLocal asking.stage).pushes (wanted_local (all_locals legs) (all_peers legs) asking.stage now));
-        to_peer = subst (Each (WasHeld (all_locals legs))) (λ i. (sym next.asks.0.peer i).pushes) (Each-take (WasHeld (all_locals legs)) asking.left.peer (wanted_at AtPeer asking.stage).pushes (wanted_peer (all_locals legs) (all_peers legs) asking.stage now));
-      }
+      let it = given_so asking (both_asked step) (record { left = next.left; went = next.went; local = next.asks.0.local; peer = next.asks.0.peer; some = next.asks.1 }) in
+      record { to_local = it.0; to_peer = it.1 }

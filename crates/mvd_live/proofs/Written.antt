@@ -96,11 +96,11 @@ locals_between most (leg ∷ legs) old new p q run held c =
     let rest = (runs_grow most legs leg.after new g.held.0 g.held.1 run.1).0 in
     elim (Contains-append_cases leg.locals (all_locals legs) held c) [
       | inl here ↦
-          let at = tells_between most.local (asked leg.step.local) leg.mine old.local leg.after.local leg.locals p g.held.0 g.local held here in
+          let at = tells_between most.local leg.asks.local leg.mine old.local leg.after.local leg.locals p g.held.0 g.local held here in
           record { form = at.form; since = at.since; until = grown_on held leg.after.local new.local at.form g.held.0 rest.0 at.until rest.1 }
       | inr later ↦
           let at = locals_between most legs leg.after new g.held.0 g.held.1 run.1 held later in
-          let up = tells_grow most.local (asked leg.step.local) leg.mine old.local leg.after.local leg.locals p g.held.0 g.local in
+          let up = tells_grow most.local leg.asks.local leg.mine old.local leg.after.local leg.locals p g.held.0 g.local in
           record { form = at.form; since = grown_on old.local leg.after.local held p g.held.0 at.form up at.since; until = at.until }
     ]
 
@@ -111,11 +111,11 @@ peers_between most (leg ∷ legs) old new p q run held c =
     let rest = (runs_grow most legs leg.after new g.held.0 g.held.1 run.1).1 in
     elim (Contains-append_cases leg.peers (all_peers legs) held c) [
       | inl here ↦
-          let at = tells_between most.peer (asked leg.step.peer) leg.theirs old.peer leg.after.peer leg.peers q g.held.1 g.peer held here in
+          let at = tells_between most.peer leg.asks.peer leg.theirs old.peer leg.after.peer leg.peers q g.held.1 g.peer held here in
           record { form = at.form; since = at.since; until = grown_on held leg.after.peer new.peer at.form g.held.1 rest.0 at.until rest.1 }
       | inr later ↦
           let at = peers_between most legs leg.after new g.held.0 g.held.1 run.1 held later in
-          let up = tells_grow most.peer (asked leg.step.peer) leg.theirs old.peer leg.after.peer leg.peers q g.held.1 g.peer in
+          let up = tells_grow most.peer leg.asks.peer leg.theirs old.peer leg.after.peer leg.peers q g.held.1 g.peer in
           record { form = at.form; since = grown_on old.peer leg.after.peer held q g.held.1 at.form up at.since; until = at.until }
     ]
 

@@ -43,8 +43,8 @@ SideAlone w (Some other) = HoldsStill
 -- nor to either side of a session
 abbrev pub AreAlone : Standing → List Leg → Standing → Type 0
 AreAlone old [] new = (new.local ≡ old.local) × (new.peer ≡ old.peer)
-AreAlone old (leg ∷ legs) new = SideAlone (asked leg.step.local) leg.mine old.local leg.locals leg.after.local
-    × SideAlone (asked leg.step.peer) leg.theirs old.peer leg.peers leg.after.peer × AreAlone leg.after legs new
+AreAlone old (leg ∷ legs) new = SideAlone leg.asks.local leg.mine old.local leg.locals leg.after.local
+    × SideAlone leg.asks.peer leg.theirs old.peer leg.peers leg.after.peer × AreAlone leg.after legs new
 
 -- ---- what comes of it
 

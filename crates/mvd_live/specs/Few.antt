@@ -26,11 +26,11 @@ questions_in w = length w.nodes + length w.pages + length w.gets + length w.push
 -- those to the local side, and those to the peer
 abbrev pub asked_local : List Leg → ℕ
 asked_local [] = 0
-asked_local (leg ∷ legs) = questions_in (asked leg.step.local) + asked_local legs
+asked_local (leg ∷ legs) = questions_in leg.asks.local + asked_local legs
 
 abbrev pub asked_peer : List Leg → ℕ
 asked_peer [] = 0
-asked_peer (leg ∷ legs) = questions_in (asked leg.step.peer) + asked_peer legs
+asked_peer (leg ∷ legs) = questions_in leg.asks.peer + asked_peer legs
 
 -- FEW WERE ASKED, with those that are wanted next: of each side one, five for each of these keys, and one for each
 -- thousand that it holds by then

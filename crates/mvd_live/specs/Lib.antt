@@ -7,3 +7,4 @@ pub mod Alone
 pub mod Answers
 pub mod Hosts
 pub mod InWindows
+pub mod Over

@@ -1,11 +1,12 @@
 -- A session of two sides to which others write, one window after the other.
-use Rattle.std.specs.Prelude.{◌≡◌, ℕ, List, [], ◌∷◌, ◌++◌, Option, Some, Ok}
+use Rattle.std.specs.Prelude.{◌≡◌, ℕ, List, [], ◌∷◌, ◌++◌, Option, Ok}
 use Rattle.mvd_site.specs.Held.{AreHeld, States}
 use Rattle.mvd_peer.specs.Live.{Grows}
-use Rattle.mvd_peer.specs.Sides.{Two}
-use Rattle.mvd_sync.specs.Machines.{HasNext, Machining, Starts, TakesTold}
-use Rattle.mvd_sync.specs.Steps.{asked}
+use Rattle.mvd_peer.specs.Sides.{Two, two}
+use Rattle.mvd_sync.specs.Machines.{Machining, StageAsks, StageWent, Starts, TakesTold, wanted_at}
+use Rattle.mvd_sync.specs.Steps.{Wanted, asked, cut_wanted}
 use Rattle.mvd_sync.specs.declared.asked.Step.{Step}
+use Rattle.mvd_sync.specs.declared.report.Side.TheVariants.{Local as AtLocal, Peer as AtPeer}
 use Rattle.mvd_sync.specs.declared.telling.Told.{Told}
 use Rattle.mvd_live.specs.Told.{LiveTells}
 
@@ -21,11 +22,23 @@ pub record StartsRun (number : Option ℕ) (questions : ℕ) (now : Standing) : 
   pub local : AreHeld now.local
   pub peer : AreHeld now.peer
 
+-- what a step asks of both sides
+abbrev pub both_asked : Step → Two Wanted Wanted
+both_asked step = two (asked step.local) (asked step.peer)
+
+-- IT WENT ON without a question, as far as it could, and asks this of both sides
+pub record AsksBoth (old new : Machining) (asks : Two Wanted Wanted) : Type 0 where
+  pub left : new.left ≡ old.left
+  pub went : StageWent old.work old.stage new.work new.stage
+  pub local : asks.local ≡ cut_wanted new.left.local (wanted_at AtLocal new.stage)
+  pub peer : asks.peer ≡ cut_wanted new.left.peer (wanted_at AtPeer new.stage)
+  pub some : StageAsks new.stage
+
 -- What happened from one window to the next: what was asked of either side, what it told, and what it held at the
 -- moment of each answer; and how the session then stands
 pub record Leg : Type 0 where
   pub asking : Machining
-  pub step : Step
+  pub asks : Two Wanted Wanted
   pub mine : Option Told
   pub theirs : Option Told
   pub locals : List States
@@ -34,9 +47,9 @@ pub record Leg : Type 0 where
 
 -- the machine asked that, took what was told, and goes on; both sides told as live sides do
 pub record TakesLeg (most : Two ℕ ℕ) (old : Standing) (leg : Leg) : Type 0 where
-  pub next : HasNext old.machine leg.asking (Some leg.step)
-  pub local : LiveTells most.local (asked leg.step.local) leg.mine old.local leg.locals leg.after.local
-  pub peer : LiveTells most.peer (asked leg.step.peer) leg.theirs old.peer leg.peers leg.after.peer
+  pub next : AsksBoth old.machine leg.asking leg.asks
+  pub local : LiveTells most.local leg.asks.local leg.mine old.local leg.locals leg.after.local
+  pub peer : LiveTells most.peer leg.asks.peer leg.theirs old.peer leg.peers leg.after.peer
   pub held : AreHeld leg.after.local × AreHeld leg.after.peer
   pub takes : TakesTold leg.asking leg.mine leg.theirs leg.after.machine (Ok tt)
 

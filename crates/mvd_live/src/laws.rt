@@ -17,9 +17,11 @@ ghost use Rattle.mvd_host.specs.Course.{own};
 ghost use Rattle.mvd_host.specs.Runs.{HostMoment, OneList, TellsOwn, side_at};
 ghost use Rattle.mvd_peer.specs.Live.{Grows, Rises};
 ghost use Rattle.mvd_peer.specs.PushedStates.{Each};
+ghost use Rattle.mvd_peer.specs.PeerSides.{sides_of};
 ghost use Rattle.mvd_peer.specs.Sides.{Two};
 ghost use Rattle.mvd_peer.specs.Windows.{CannotTake, EachAnswer, HasKeys, IsNode, TakesState, TellsMore};
 ghost use Rattle.mvd_sync.specs.Machines.{HasNext, Machining};
+ghost use Rattle.mvd_sync.specs.Ran.{IsRun};
 ghost use Rattle.mvd_sync.specs.Session.{HasAllThatDiffer};
 ghost use Rattle.mvd_sync.specs.Steps.{Wanted, asked, no_question, only_gets, only_nodes, only_pages};
 ghost use Rattle.mvd_sync.specs.Tellings.{Page};
@@ -40,13 +42,16 @@ ghost use Rattle.mvd_live.specs.Mail.{MailEnds, IsLiveMail, KeepsCounts, Mail, M
 ghost use Rattle.mvd_live.specs.Mail.{mail_locals, mail_peers, standing, waits_at};
 ghost use Rattle.mvd_meet.specs.Callers.{asked_in_window, came_at, requests_of};
 ghost use Rattle.mvd_meet.specs.declared.caller.Caller.{Caller};
-ghost use Rattle.mvd_live.specs.Runs.{StartsRun, TakesLeg, Leg, RunsLegs, Standing, all_locals, all_peers};
+ghost use Rattle.mvd_live.specs.Over.{LivesOver};
+ghost use Rattle.mvd_live.specs.Runs.{AsksBoth, StartsRun, TakesLeg, Leg, RunsLegs, Standing, all_locals, all_peers};
+ghost use Rattle.mvd_live.specs.Runs.{both_asked};
 ghost use Rattle.mvd_live.specs.Told.{LiveTells, TellsEach, TellsPush, TellsQuietly};
 ghost use Rattle.mvd_sync.specs.declared.report.Report.{Report};
 ghost use Rattle.mvd_world.specs.Machine.{Setting};
 ghost use Rattle.mvd_world.specs.OpenWorlds.{Scene};
 ghost use Rattle.sqlite.specs.Held.{Held, state};
 
+use mvd_peer::Peer;
 use sqlite::Alter;
 
 /// A session that says that it is done: of each key that its report does not leave, both sides have what either had as
@@ -161,6 +166,17 @@ pub fn a_runner_runs()
     ensures goes_on { (number : Option ℕ) (questions : ℕ) (most : Two ℕ ℕ) (old mid : Standing) (legs : List Leg)
         (leg : Leg) → StartsRun number questions old → RunsLegs most old legs mid → TakesLeg most mid leg
         → RunsLegs most old (legs ++ leg ∷ []) leg.after }
+    // What `next` names is asked of both.
+    ensures asks { (old asking : Machining) (step : Step) → HasNext old asking (Some step)
+        → AsksBoth old asking (both_asked step) }
+{}
+
+/// A session that `sync` or `sync_within` ran to its end with no fault (their clause `ran`), of two sides that are live:
+/// whoever writes to either meanwhile, it has come to what these laws say, by its own windows.
+pub fn a_session_of_live_sides_lives<L: Peer, P: Peer>()
+    ensures { (questions : ℕ) (old new : Two L P) (report : Report)
+        → IsRun (sides_of L.Peer P.Peer) questions old new report → L.is_live old.local → P.is_live old.peer
+        → LivesOver (sides_of L.Peer P.Peer) questions old new report }
 {}
 
 /// A side to which nobody else writes is live, where it answers as `Peer` says of a faithful one. So the premise of

@@ -4,3 +4,4 @@ pub mod OneByOne
 pub mod SiteSides
 pub mod ManyPushes
 pub mod Growths
+pub mod Telling

@@ -24,9 +24,13 @@ use Rattle.mvd_site.specs.Held.{AreHeld, States, state_at}
 use Rattle.mvd_site.specs.Sites.{SiteValue}
 use Rattle.mvd_peer.specs.PushedStates.{is_nothing, put_state, pushed}
 use Rattle.std.specs.Cmp.{unsigned_Decides}
-use Rattle.mvd_peer.specs.Windows.{CannotTake, RefusesPage}
+use Rattle.mvd_peer.specs.Windows.{CannotTake, IsNode, RefusesPage}
 use Rattle.mvd_peer.specs.Sides.{SiteFollows, SiteRefuses, is_site_refusal, tells_broken, is_of_question}
 use Rattle.mvd_peer.proofs.JoinLaws.{nothing_empty, valid_at}
+
+-- a site that is not broken
+abbrev pub IsWholeSite : SiteValue → Type 0
+IsWholeSite site = (site.broken ≡ false) × AreHeld site.states
 
 -- ---- the digests of a node
 
@@ -46,6 +50,13 @@ module _ (broken : Bool) (m : States) (path : List ℕ) (r : Result Digests Refu
   node_bucket long =
       let is : nat_lt (length path) 3 ≡ false = grind (arith, nat_tests) in
       subst (λ r. IfOk r (λ d. d.children ≡ None)) (sym (told broken m path r e whole)) (ap (λ b. if b then Some (children_digests (digests m) path) else None) is)
+
+  pub node_is : IfOk r (IsNode (digests m) path)
+  node_is = subst (λ r. IfOk r (IsNode (digests m) path)) (sym (told broken m path r e whole)) (
+    refl,
+    λ short. let is : nat_lt (length path) 3 ≡ true = grind (arith, nat_tests) in ap (λ b. if b then Some (children_digests (digests m) path) else None) is,
+    λ long. let is : nat_lt (length path) 3 ≡ false = grind (arith, nat_tests) in ap (λ b. if b then Some (children_digests (digests m) path) else None) is,
+  )
 
   pub node_not_of_key : IfErr r (λ refusal. is_of_question refusal ≡ false)
   node_not_of_key = subst (λ r. IfErr r (λ refusal. is_of_question refusal ≡ false)) (sym (told broken m path r e whole)) tt

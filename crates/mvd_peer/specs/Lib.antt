@@ -3,3 +3,4 @@ pub mod Sides
 pub mod PeerSides
 pub mod Windows
 pub mod Live
+pub mod Telling

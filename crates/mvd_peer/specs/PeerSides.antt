@@ -7,6 +7,7 @@ abbrev pub side_of : {P : Type 0} → Ghosts P → SideOf P
 side_of g = record {
   states = g.states;
   is_faithful = g.is_faithful;
+  is_live = g.is_live;
   can_give = g.can_give;
   follows = g.follows;
   can_refuse = g.can_refuse;

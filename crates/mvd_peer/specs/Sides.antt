@@ -13,6 +13,7 @@ use Rattle.mvd_site.specs.Sites.{SiteValue}
 pub record SideOf (S : Type 0) : Type 1 where
   pub states : S → States
   pub is_faithful : S → Type 0
+  pub is_live : S → Type 0
   pub can_give : Key → State → Type 0
   -- the second is what the first may be after so many questions
   pub follows : ℕ → S → S → Type 0

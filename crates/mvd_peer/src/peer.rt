@@ -8,6 +8,7 @@ ghost use Rattle.mvd_keys.specs.Writes.{Key};
 ghost use Rattle.mvd_site.specs.Held.{AreHeld, States, state_at};
 ghost use Rattle.mvd_site.specs.Answer.{digests};
 ghost use Rattle.mvd_peer.specs.Sides.{IsOfNoQuestion, StaysFaithful};
+ghost use Rattle.mvd_peer.specs.Telling.{PageTold, StateTold, TellsAll, TellsNode, TellsOne, TellsPush};
 ghost use Rattle.mvd_peer.specs.Windows.{AskedAll, CannotTake, Ends, HasKeys, IsLeftOpen, IsNode, IsPushed, LeavesOfPush};
 ghost use Rattle.mvd_peer.specs.Windows.{PushedAll, PushedSome, RefusesPage, TellsMore};
 ghost use Rattle.mvd_peer.specs.Windows.{for_pushes, gets_of, holding, manner, nodes_of, pages_kind};
@@ -30,12 +31,19 @@ pub type Page = (Vec<(Key, [u8; 32])>, bool);
 /// of these has a call for many questions: one answer for each, in order, as if they were asked one
 /// after the other. A refusal in that list has changed nothing. An `Err` is of the whole call: the
 /// first of the questions were made, or none.
+///
+/// A side that is live may be written to by others meanwhile. It answers each question rightly of what it holds at a
+/// moment of its own, one after the other, and what it holds only grows. It stays live, unless it says that it is
+/// broken, or refuses a whole call.
 pub trait Peer {
     /// The key states that it holds.
     ghost states: { Self → States };
 
     /// Whether it is faithful to them.
     ghost is_faithful: { Self → Type 0 };
+
+    /// Whether it is live.
+    ghost is_live: { Self → Type 0 };
 
     /// What it may give as the state of a key, faithful or not.
     ghost can_give: { Key → State → Type 0 };
@@ -69,7 +77,8 @@ pub trait Peer {
         ensures not_of_question { is_faithful self.old → IfErr result IsOfNoQuestion }
         ensures follows { follows 1 self.old self.new }
         ensures refuses { IfErr result (can_refuse self.new) }
-        ensures answers { OnOk result (can_answer self.new) };
+        ensures answers { OnOk result (can_answer self.new) }
+        ensures live { TellsOne is_live states TellsNode path.now result self.old self.new };
 
     /// A page of a bucket after a key.
     fn bucket(&mut self, path: &Path, after: Option<&Key>) -> Result<Page, Refusal>
@@ -81,7 +90,9 @@ pub trait Peer {
         ensures not_of_question { is_faithful self.old → IfErr result (RefusesPage path.now) }
         ensures follows { follows 1 self.old self.new }
         ensures refuses { IfErr result (can_refuse self.new) }
-        ensures answers { OnOk result (can_answer self.new) };
+        ensures answers { OnOk result (can_answer self.new) }
+        ensures live { TellsOne is_live states PageTold (path.now, option_copied after.entry) result
+            self.old self.new };
 
     /// The state of a key, which is the empty one where the key is not held.
     fn get(&mut self, key: &Key) -> Result<KeyState, Refusal>
@@ -91,7 +102,8 @@ pub trait Peer {
         ensures not_of_question { is_faithful self.old → IfErr result IsOfNoQuestion }
         ensures follows { follows 1 self.old self.new }
         ensures refuses { IfErr result (can_refuse self.new) }
-        ensures answers { OnOk result (can_answer self.new) };
+        ensures answers { OnOk result (can_answer self.new) }
+        ensures live { TellsOne is_live states StateTold key.now result self.old self.new };
 
     /// Joins a state to that of a key.
     fn push(&mut self, key: &Key, state: &KeyState) -> Result<(), Refusal>
@@ -107,7 +119,9 @@ pub trait Peer {
             IfErr result (CannotTake (most_keys self.old) (states self.old) key.now state.now) }
         ensures follows { follows 1 self.old self.new }
         ensures refuses { IfErr result (can_refuse self.new) }
-        ensures answers { OnOk result (can_answer self.new) };
+        ensures answers { OnOk result (can_answer self.new) }
+        ensures live { TellsOne is_live states (TellsPush (most_keys self.old)) (key.now, state.now) result
+            self.old self.new };
 
     /// The digests of several nodes.
     fn nodes(&mut self, paths: &[Path]) -> Result<Vec<Result<Digests, Refusal>>, Refusal>
@@ -116,6 +130,7 @@ pub trait Peer {
             (nodes_of is_faithful states) paths.now self.old self.new result }
         ensures ended { IfErr result (Ends follows can_refuse (length paths.now) self.old self.new) }
         ensures not_of_question { is_faithful self.old → IfErr result IsOfNoQuestion }
+        ensures live { TellsAll is_live states TellsNode paths.now self.old self.new result }
     {
         let mut told = room_for(self.alloc(), paths.len())?;
         for path in paths {
@@ -138,6 +153,7 @@ pub trait Peer {
             (pages_kind is_faithful states) asked.now self.old self.new result }
         ensures ended { IfErr result (Ends follows can_refuse (length asked.now) self.old self.new) }
         ensures not_of_question { is_faithful self.old → IfErr result IsOfNoQuestion }
+        ensures live { TellsAll is_live states PageTold asked.now self.old self.new result }
     {
         let mut told = room_for(self.alloc(), asked.len())?;
         for (path, after) in asked {
@@ -157,6 +173,7 @@ pub trait Peer {
             (gets_of can_give is_faithful states) keys.now self.old self.new result }
         ensures ended { IfErr result (Ends follows can_refuse (length keys.now) self.old self.new) }
         ensures not_of_question { is_faithful self.old → IfErr result IsOfNoQuestion }
+        ensures live { TellsAll is_live states StateTold keys.now self.old self.new result }
     {
         let mut told = room_for(self.alloc(), keys.len())?;
         for key in keys {
@@ -180,6 +197,7 @@ pub trait Peer {
         ensures unbroken { is_faithful self.old →
             IfErr result (λ refusal. refusal ≢ Refusal.Broken → is_faithful self.new) }
         ensures first { PushedSome (holding is_faithful states most_keys) pairs.now self.old self.new result }
+        ensures live { TellsAll is_live states (TellsPush (most_keys self.old)) pairs.now self.old self.new result }
     {
         let mut told = room_for(self.alloc(), pairs.len())?;
         for (key, state) in pairs {
@@ -194,6 +212,9 @@ pub trait Peer {
 
     /// A faithful side holds keys and states in form.
     ghost in_form: { (side : Self) → is_faithful side → AreHeld (states side) };
+
+    /// So does a live one.
+    ghost live_form: { (side : Self) → is_live side → AreHeld (states side) };
 
     /// After no question a side follows itself.
     ghost follows_self: { (side : Self) → follows 0 side side };

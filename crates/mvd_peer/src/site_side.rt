@@ -18,6 +18,9 @@ impl Peer for Site {
 
     ghost is_faithful = { λ site. (site.broken ≡ false) × AreHeld site.states };
 
+    // Nobody else writes to it meanwhile.
+    ghost is_live = { λ site. (site.broken ≡ false) × AreHeld site.states };
+
     ghost can_give = { λ _ _. Unit {0} };
 
     ghost follows = { λ _. SiteFollows };
@@ -31,6 +34,8 @@ impl Peer for Site {
     ghost number = { λ site. Some site.config.site };
 
     ghost in_form = { λ _ whole. whole.1 };
+
+    ghost live_form = { λ _ whole. whole.1 };
 
     ghost follows_self = { site_follows_self };
 

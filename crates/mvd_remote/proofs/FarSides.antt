@@ -167,7 +167,7 @@ module _ {A : Type 0} (as_reply : A → Reply) (config : ConfigValue) where
 -- ---- pushes
 
 -- why a push has no frame
-unframed_push : (config : ConfigValue) (old : States) (key : Key) (s : State) (refusal : Refusal) → request_frame (Push key s) ≡ Err refusal → CannotTake config.max_keys old key s refusal
+pub unframed_push : (config : ConfigValue) (old : States) (key : Key) (s : State) (refusal : Refusal) → request_frame (Push key s) ≡ Err refusal → CannotTake config.max_keys old key s refusal
 unframed_push config old key s refusal e = elim (nat_le (length (spell_state s)) state_limit) as (λ b. nat_le (length (spell_state s)) state_limit ≡ b → (if b then frame_within 0x29 (push.spell (key, s)) else Err StateTooLarge) ≡ Err refusal → CannotTake config.max_keys old key s refusal) [
   | true ↦ λ is e. subst (CannotTake config.max_keys old key s) (sym (too_long 0x29 (push.spell (key, s)) refusal e)) tt
   | false ↦ λ is e.
@@ -177,7 +177,7 @@ unframed_push config old key s refusal e = elim (nat_le (length (spell_state s))
 ] refl e
 
 -- a refusal that leaves a push open has no cause in the key
-open_cause : (config : ConfigValue) (old : States) (key : Key) (s : State) (refusal : Refusal) → leaves_open refusal ≡ true → CannotTake config.max_keys old key s refusal
+pub open_cause : (config : ConfigValue) (old : States) (key : Key) (s : State) (refusal : Refusal) → leaves_open refusal ≡ true → CannotTake config.max_keys old key s refusal
 open_cause config old key s BadPath e = absurd (cc)
 open_cause config old key s StateTooLarge e = absurd (cc)
 open_cause config old key s Full e = absurd (cc)

@@ -4,3 +4,6 @@ pub mod Lined
 pub mod FarSides
 pub mod Mailed
 pub mod SiteReplies
+pub mod LiveLined
+pub mod LiveSides
+pub mod LiveAsked

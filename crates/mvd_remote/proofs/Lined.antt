@@ -40,7 +40,7 @@ due_more_at all i why d replies us reply old mid new low at told before turn =
     let longer : take (i + 1) all ≡ take i all ++ why ∷ [] = take_more all i d low ∙ ap (λ x. take i all ++ x ∷ []) (sym at) in
     subst (λ (ns : List (Option Refusal)). DueTurns ns us old new) (sym longer) (subst (λ (us : List (Result Reply Refusal)). DueTurns (take i all ++ why ∷ []) us old new) (sym told) (due_more (take i all) replies why reply old mid new before turn))
 
-is_memory : (refusal : Refusal) → (refusal ≡ Memory) ⊎ (refusal ≢ Memory)
+pub is_memory : (refusal : Refusal) → (refusal ≡ Memory) ⊎ (refusal ≢ Memory)
 is_memory Memory = inl refl
 is_memory refusal = inr (λ e. absurd (cc))
 
@@ -64,7 +64,7 @@ frame_not_taken due left came frame refusal e next why = not_taken due left (fra
 
 -- ---- frames
 
-abbrev none_of : Result (List ℕ) Refusal → Option Refusal
+abbrev pub none_of : Result (List ℕ) Refusal → Option Refusal
 none_of (Ok frame) = None
 none_of (Err refusal) = Some refusal
 
@@ -72,7 +72,7 @@ abbrev and_bytes : Result (List ℕ) Refusal → List ℕ → List ℕ
 and_bytes (Ok frame) bytes = frame ++ bytes
 and_bytes (Err refusal) bytes = bytes
 
-abbrev nones_of : List Request → List (Option Refusal)
+abbrev pub nones_of : List Request → List (Option Refusal)
 nones_of [] = []
 nones_of (q ∷ qs) = none_of (request_frame q) ∷ nones_of qs
 
@@ -87,7 +87,7 @@ one_added : (before : Frames) (frame : Result (List ℕ) Refusal) (bytes : List 
 one_added (fs, ns) (Ok frame) bytes nones = ap (λ x. (x, (ns ++ None ∷ []) ++ nones)) (append_assoc fs frame bytes) ∙ ap (λ y. (fs ++ (frame ++ bytes), y)) (append_assoc ns (None ∷ []) nones)
 one_added (fs, ns) (Err refusal) bytes nones = ap (λ y. (fs ++ bytes, y)) (append_assoc ns (Some refusal ∷ []) nones)
 
-after_is : (before : Frames) (qs : List Request) → frames_after before qs ≡ both_of before (bytes_of qs) (nones_of qs)
+pub after_is : (before : Frames) (qs : List Request) → frames_after before qs ≡ both_of before (bytes_of qs) (nones_of qs)
 after_is (fs, ns) [] = ap (λ x. (x, ns)) (sym (append-nil fs)) ∙ ap (λ y. (fs ++ [], y)) (sym (append-nil ns))
 after_is before (q ∷ qs) = after_is (and_frame before (request_frame q)) qs ∙ one_added before (request_frame q) (bytes_of qs) (nones_of qs)
 

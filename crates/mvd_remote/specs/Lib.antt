@@ -3,3 +3,5 @@ pub mod LinkWindows
 pub mod Lines
 pub mod Remotes
 pub mod Mail
+pub mod LiveLines
+pub mod LiveRemotes

@@ -1,9 +1,11 @@
 //! A line to a site at the other end of a connection.
-ghost use Rattle.std.specs.Prelude.{◌≡◌, None, List, ℕ, Option, IfErr, OnOk, OnErr, option_map};
+ghost use Rattle.std.specs.Prelude.{◌≡◌, [], None, List, ℕ, Option, IfErr, OnOk, OnErr, option_map};
 ghost use Rattle.std.specs.Io.KnownBytes.{Appends};
 ghost use Rattle.mvd_dots.specs.declared.refusals.Refusal.TheVariants.{WriteFailed};
 ghost use Rattle.mvd_wire.specs.Frames.{AppendsFront, EndsReading, Reads, frame_at, frame_value};
+ghost use Rattle.mvd_wire.specs.declared.request.Request.{Request};
 ghost use Rattle.mvd_site.specs.Held.{AreHeld};
+ghost use Rattle.mvd_remote.specs.LiveLines.{ReadsLive, SendsLive};
 ghost use Rattle.mvd_remote.specs.Lines.{Far, ReadsTruly, SendsTruly, line_of, nowhere, refused_of};
 
 use crate::remote::Remote;
@@ -18,6 +20,9 @@ use std::io::{Read, Write};
 /// A line is true where its far side is faithful, and where it hands on what is sent to that and what that
 /// replies. Nothing else is said of a line that failed: the far side may have taken the first of the
 /// requests that went out.
+///
+/// A line is live where its far side is, and others may write to that meanwhile: what it holds only grows, and each
+/// reply that comes is the one to the first request whose reply is awaited, as it was answered at some moment.
 pub trait Line: Sized + Drop {
     /// The bytes that it has still to give, where they are known.
     ghost remaining: { Self → Option (List ℕ) };
@@ -28,8 +33,14 @@ pub trait Line: Sized + Drop {
     /// Whether it is true.
     ghost is_true: { Self → Type 0 };
 
-    /// What is at its other end, if it is true.
+    /// What is at its other end, if it is true or live.
     ghost far: { Self → Far };
+
+    /// Whether it is live.
+    ghost is_live: { Self → Type 0 };
+
+    /// The requests whose replies are awaited, if it is live.
+    ghost awaits: { Self → List Request };
 
     /// Sends frames. After a refusal a front of them was sent.
     fn send(&mut self, frames: &[u8]) -> Result<(), Refusal>
@@ -38,7 +49,8 @@ pub trait Line: Sized + Drop {
         ensures err { IfErr result (λ refusal. refusal ≡ WriteFailed) }
         ensures unread { remaining self.new ≡ remaining self.old }
         ensures config { (far self.new).config ≡ (far self.old).config }
-        ensures truth { SendsTruly is_true far frames.now self.old self.new result };
+        ensures truth { SendsTruly is_true far frames.now self.old self.new result }
+        ensures live { SendsLive is_live awaits far frames.now self.old self.new result };
 
     /// Takes the next frame. It is `None` where the line ends before a frame's first byte.
     fn receive(&mut self, alloc: Global) -> Result<Option<Frame>, Refusal>
@@ -46,10 +58,14 @@ pub trait Line: Sized + Drop {
         ensures err { IfErr result EndsReading }
         ensures unsent { contents self.new ≡ contents self.old }
         ensures config { (far self.new).config ≡ (far self.old).config }
-        ensures truth { ReadsTruly is_true far self.old self.new result };
+        ensures truth { ReadsTruly is_true far self.old self.new result }
+        ensures live { ReadsLive is_live awaits far self.old self.new result };
 
     /// The far side of a true line holds keys and states in form.
     ghost in_form: { (line : Self) → is_true line → AreHeld (far line).states };
+
+    /// So does that of a live one.
+    ghost live_form: { (line : Self) → is_live line → AreHeld (far line).states };
 }
 
 /// A reader and a writer. What is at their other end is not known.
@@ -69,7 +85,13 @@ impl<R: Read + Drop, W: Write + Drop> Line for Duplex<R, W> {
 
     ghost far = { λ _. nowhere };
 
+    ghost is_live = { λ _. ⊥ };
+
+    ghost awaits = { λ _. [] };
+
     ghost in_form = { λ _ never. absurd never };
+
+    ghost live_form = { λ _ never. absurd never };
 
     fn send(&mut self, frames: &[u8]) -> Result<(), Refusal> {
         write_frame(&mut self.writer, frames)

@@ -31,7 +31,13 @@ impl Line for Mailbox {
 
     ghost far = { λ _. nowhere };
 
+    ghost is_live = { λ _. ⊥ };
+
+    ghost awaits = { λ _. [] };
+
     ghost in_form = { λ _ never. absurd never };
+
+    ghost live_form = { λ _ never. absurd never };
 
     fn send(&mut self, frames: &[u8]) -> Result<(), Refusal> {
         match self.leaving.extend_from_slice(frames) {

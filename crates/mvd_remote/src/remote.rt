@@ -10,6 +10,7 @@ ghost use Rattle.mvd_dots.specs.declared.refusals.Refusal.{Refusal};
 ghost use Rattle.mvd_wire.specs.declared.request.Request.{Request};
 ghost use Rattle.mvd_wire.specs.declared.reply.Reply.TheVariants.{Refused};
 ghost use Rattle.mvd_remote.specs.Lines.{IsTrueRemote, KeepsConfig, line_of, refused_of};
+ghost use Rattle.mvd_remote.specs.LiveRemotes.{AsksLive, IsLiveRemote, TakesLive};
 ghost use Rattle.mvd_remote.specs.Links.{Asks, ReadsReply, SendsAsked, StaysRefused, answered_by};
 ghost use Rattle.mvd_remote.specs.Remotes.{AsksOver, AsksTruly, TakesReply, any_query, bye_query, hello_query, link_of};
 ghost use Rattle.mvd_remote.specs.Remotes.{query};
@@ -67,6 +68,7 @@ impl<L: Line> Remote<L> {
         ensures line { line_of result ≡ line }
         ensures goes_on { refused_of result ≡ None }
         ensures truth { L.is_true line → (L.far line).due ≡ [] → IsTrueRemote L.is_true L.far result }
+        ensures live { L.is_live line → L.awaits line ≡ [] → IsLiveRemote L.is_live L.awaits result }
     {
         Remote {
             alloc,
@@ -105,6 +107,7 @@ impl<L: Line> Remote<L> {
         ensures unsent { L.contents (line_of self.new) ≡ L.contents (line_of self.old) }
         ensures config { KeepsConfig L.far self.old self.new }
         ensures truth { TakesReply L.Line self.old self.new result }
+        ensures live { TakesLive L.Line self.old self.new result }
     {
         let came = match self.line.receive(self.alloc) {
             Ok(Some(came)) => came,
@@ -133,6 +136,8 @@ impl<L: Line> Remote<L> {
         ensures config { KeepsConfig L.far self.old self.new }
         ensures truth { (request : Request) → IsRequest request → request_frame request ≡ Ok frame.now →
             AsksTruly L.Line (any_query request) self.old self.new result }
+        ensures live { (request : Request) → IsRequest request → request_frame request ≡ Ok frame.now →
+            AsksLive L.Line request (λ reply. reply) self.old self.new result }
     {
         match self.line.send(frame) {
             Ok(()) => self.read(kind),
@@ -168,6 +173,9 @@ impl<L: Line> Remote<L> {
         ensures truth { (request : Request) → IfOk frame (λ _. IsRequest request) →
             Gives (λ v. v.items) frame (request_frame request) →
             AsksTruly L.Line (query request A.as_reply) self.old self.new result }
+        ensures live { (request : Request) → IfOk frame (λ _. IsRequest request) →
+            Gives (λ v. v.items) frame (request_frame request) →
+            AsksLive L.Line request A.as_reply self.old self.new result }
     {
         if let Some(refusal) = self.refused {
             return Err(refusal);

@@ -30,6 +30,7 @@ pub mod Asking
 pub mod ReplicaLemmas
 pub mod Restarts
 pub mod Pushed
+pub mod PushedLive
 pub mod Commits
 pub mod Fronts
 pub mod EmptyFiles

@@ -175,18 +175,18 @@ module _ (old new : SiteValue) (p : Key × State) (seen : AreSeen old.states) (v
 abbrev pub AskPushes : List (Key × State) → List Turn → Type 0
 AskPushes pairs turns = map (λ (t : Turn). t.asked) turns ≡ map (λ (p : Key × State). Ok (push_of p)) pairs
 
-asks_first : (p : Key × State) (pairs : List (Key × State)) (turn : Turn) (turns : List Turn) → AskPushes (p ∷ pairs) (turn ∷ turns) → (turn.asked ≡ Ok (push_of p)) × AskPushes pairs turns
+pub asks_first : (p : Key × State) (pairs : List (Key × State)) (turn : Turn) (turns : List Turn) → AskPushes (p ∷ pairs) (turn ∷ turns) → (turn.asked ≡ Ok (push_of p)) × AskPushes pairs turns
 asks_first p pairs turn turns e =
     let is : turn.asked ∷ map (λ (t : Turn). t.asked) turns ≡ Ok (push_of p) ∷ map (λ (p : Key × State). Ok (push_of p)) pairs = e in
     (cc, cc)
 
-none_asked : (turn : Turn) (turns : List Turn) → AskPushes [] (turn ∷ turns) → ⊥
+pub none_asked : (turn : Turn) (turns : List Turn) → AskPushes [] (turn ∷ turns) → ⊥
 none_asked turn turns e = absurd (cc)
 
-no_turn : (p : Key × State) (pairs : List (Key × State)) → AskPushes (p ∷ pairs) [] → ⊥
+pub no_turn : (p : Key × State) (pairs : List (Key × State)) → AskPushes (p ∷ pairs) [] → ⊥
 no_turn p pairs e = absurd (cc)
 
-first_takes : (old mid : SiteValue) (p : Key × State) (turn : Turn) → turn.asked ≡ Ok (push_of p) → TakesFrom old mid turn.asked turn.reply → AnswersOneFrom old mid (push_of p) turn.reply
+pub first_takes : (old mid : SiteValue) (p : Key × State) (turn : Turn) → turn.asked ≡ Ok (push_of p) → TakesFrom old mid turn.asked turn.reply → AnswersOneFrom old mid (push_of p) turn.reply
 first_takes old mid p turn asked takes = subst (λ a. TakesFrom old mid a turn.reply) asked takes
 
 pub all_come : (pairs : List (Key × State)) (turns : List Turn) (old new : SiteValue) → AskPushes pairs turns → TakesAllFrom old new turns → AreSeen old.states → Each (λ p. IsValid p.1) pairs → ComesByPushes (λ _ _. Unit {0}) old.states new.states
@@ -328,13 +328,13 @@ follows_push key s old new before after follows reply leaves comes = record {
 abbrev as_asked : Request → Result Request Refusal
 as_asked request = Ok request
 
-ok_pushes : (pairs : List (Key × State)) → map as_asked (map push_of pairs) ≡ map (λ (p : Key × State). as_asked (push_of p)) pairs
+pub ok_pushes : (pairs : List (Key × State)) → map as_asked (map push_of pairs) ≡ map (λ (p : Key × State). as_asked (push_of p)) pairs
 ok_pushes [] = refl
 ok_pushes (p ∷ pairs) = ap (λ l. as_asked (push_of p) ∷ l) (ok_pushes pairs)
 
 module _ (pairs : List (Key × State)) (requests : List Request) (replies : List Reply) (old new : SiteValue) (before after : Shown) (same : requests ≡ map push_of pairs) (it : AnswersAll requests replies old new before after)
     (held : AreHeld old.states) (valid : Each (λ p. IsValid p.1) pairs) where
-  asks : AskPushes pairs it.turns
+  pub asks : AskPushes pairs it.turns
   asks = it.asked ∙ ap (map as_asked) same ∙ ok_pushes pairs
 
   pub answered_follow : SideFollows old new before after

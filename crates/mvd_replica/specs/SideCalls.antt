@@ -8,6 +8,7 @@ use Rattle.mvd_keys.specs.Writes.{Key}
 use Rattle.mvd_wire.specs.declared.reply.Reply.{Reply}
 use Rattle.mvd_site.specs.Held.{state_at}
 use Rattle.mvd_peer.specs.PushedStates.{pushed}
+use Rattle.mvd_peer.specs.Telling.{TellsLive, TellsPush}
 use Rattle.mvd_peer.specs.Windows.{Asked, CannotTake, Ends, Pushes, PushesFirst, for_pushes, manner}
 use Rattle.sqlite_trees.specs.declared.store.Store.{Ghosts}
 use Rattle.mvd_replica.specs.declared.replica.Replica.{Replica}
@@ -79,6 +80,13 @@ module _ {S : Type 0} {g : Ghosts S} where
   PushesWindow old pairs new told =
       IsTrueSite (site_of new)
       × Pushes (site_of old).config.max_keys (site_of old).states pairs told.items (site_of new).states
+
+  -- each push of a site that was true is told at a moment of its own, one after the other, and it is true still
+  abbrev pub TellsMoments : Replica S g → List (Key × State) → Replica S g → Vec (Result (Unit {0}) Refusal) Global
+      → Type 0
+  TellsMoments old pairs new told =
+      TellsLive (λ (r : Replica S g). IsTrueSite (site_of r)) (λ (r : Replica S g). (site_of r).states)
+      (TellsPush (site_of old).config.max_keys) pairs told.items old new
 
   -- the window was not told: memory was refused, or the replica refused so that it refuses all
   abbrev pub EndsWindow : Replica S g → List (Key × State) → Replica S g → Refusal → Type 0

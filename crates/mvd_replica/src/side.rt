@@ -4,7 +4,8 @@ ghost use Rattle.std.specs.Option.{option_copied};
 ghost use Rattle.std.proofs.Common.{ap};
 ghost use Rattle.mvd_replica.specs.ReplicaCalls.{TellsBucketPage, TellsState, node_told};
 ghost use Rattle.mvd_replica.specs.SideCalls.{EndsWindow, IsToldAlike, IsTrueUnlessBroken, IsWindowRefusal, PushesOnSide};
-ghost use Rattle.mvd_replica.specs.SideCalls.{PushesSome, PushesWindow, TellsWindow};
+ghost use Rattle.mvd_replica.specs.SideCalls.{PushesSome, PushesWindow, TellsMoments, TellsWindow};
+ghost use Rattle.mvd_keys.specs.State.{IsValid};
 ghost use Rattle.mvd_peer.specs.Windows.{IsLeftOpen};
 
 use crate::pushes::{add_told, pushes_of};
@@ -27,6 +28,9 @@ impl<S: Alter> Peer for Replica<S> {
 
     ghost is_faithful = { λ replica. IsTrueSite (site_of replica) };
 
+    // Nobody else writes to it meanwhile.
+    ghost is_live = { λ replica. IsTrueSite (site_of replica) };
+
     ghost can_give = { λ _ _. Unit {0} };
 
     ghost follows = { λ _ old new. SideFollows (stored_of old) (stored_of new) };
@@ -40,6 +44,8 @@ impl<S: Alter> Peer for Replica<S> {
     ghost number = { λ replica. Some (site_of replica).config.site };
 
     ghost in_form = { λ _ whole. whole.1 };
+
+    ghost live_form = { λ _ whole. whole.1 };
 
     ghost follows_self = { λ replica. side_follows_self _ };
 
@@ -77,7 +83,8 @@ impl<S: Alter> Peer for Replica<S> {
     }
 
     fn push(&mut self, key: &Key, state: &KeyState) -> Result<(), Refusal>
-        ensures { PushesOnSide self.old key.now state.now result self.new }
+        ensures pushes { PushesOnSide self.old key.now state.now result self.new }
+        ensures valid { IsValid state.now }
     {
         // Here it is known that the pushed state's siblings have been seen.
         let _seen = state.context();
@@ -98,6 +105,7 @@ impl<S: Alter> Peer for Replica<S> {
         ensures left_open { IsTrueSite (site_of self.old) → IfErr result IsLeftOpen }
         ensures unbroken { IsTrueSite (site_of self.old) → IfErr result (IsTrueUnlessBroken self.new) }
         ensures first { IsTrueSite (site_of self.old) → OnErr result (PushesSome self.old pairs.now self.new) }
+        ensures live { IfOk result (TellsMoments self.old pairs.now self.new) }
     {
         self.stands();
         let mut told = Vec::with_capacity(self.alloc, pairs.len())?;

@@ -105,6 +105,8 @@ impl Peer for Counting {
 
     ghost is_faithful = { λ _. ⊥ };
 
+    ghost is_live = { λ _. ⊥ };
+
     ghost can_give = { λ _ _. Unit {0} };
 
     ghost follows = { λ _ _ _. Unit {0} };
@@ -118,6 +120,8 @@ impl Peer for Counting {
     ghost number = { λ side. Some side.site.config.site };
 
     ghost in_form = { λ _ never. absurd never };
+
+    ghost live_form = { λ _ never. absurd never };
 
     ghost follows_self = { λ _. tt };
 

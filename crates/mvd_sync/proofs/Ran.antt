@@ -7,7 +7,9 @@ use Rattle.mvd_dots.specs.declared.refusals.Refusal.{Refusal}
 use Rattle.mvd_keys.specs.State.{State}
 use Rattle.mvd_keys.specs.Writes.{Key}
 use Rattle.mvd_peer.specs.Sides.{SideOf, Sides}
+use Rattle.mvd_peer.specs.Telling.{TellsAll, TellsLive}
 use Rattle.mvd_peer.specs.Windows.{Asked, AskedAll, Kind}
+use Rattle.mvd_site.specs.Held.{States}
 use Rattle.mvd_sync.specs.Answers.{ListingValue}
 use Rattle.mvd_sync.specs.Exchanges.{CountsDone, Exchanging, Moment, moment}
 use Rattle.mvd_sync.specs.Level.{GoesDown, IsDown, Level, next_nodes}
@@ -41,14 +43,14 @@ use Rattle.mvd_sync.proofs.Pushing.{as_many}
 -- ---- the answers of a window
 
 -- all that was told is read, of as many questions as were asked
-pub heard_all : {S Q A B : Type 0} (s : SideOf S) (IsOf : A → B → Type 0) (IsNone : A → Type 0) (told_in : Option Told → Result (List (Result A Refusal)) Refusal) (tell : Vec (Result A Refusal) Global → Told)
+pub heard_all : {S Q A B : Type 0} (s : SideOf S) (Right : States → Q → Result A Refusal → Type 0) (IsOf : A → B → Type 0) (IsNone : A → Type 0) (told_in : Option Told → Result (List (Result A Refusal)) Refusal) (tell : Vec (Result A Refusal) Global → Told)
     → ((v : Vec (Result A Refusal) Global) → told_in (Some (tell v)) ≡ Ok v.items)
     → (kind : S → Kind Q A) (w : Wanted) (qs : List Q) (left left' taken : ℕ) (old new : S) → TakesBudget left left' (length qs) taken
-    → ((v : Vec (Result A Refusal) Global) → Asked (manner_of s) (kind old) (take left qs) v.items old new → SideTells s (cut_wanted left w) (Some (tell v)) old new)
-    → (told : Result (Vec (Result A Refusal) Global) Refusal) → AskedAll (manner_of s) kind (take taken qs) old new told
+    → ((v : Vec (Result A Refusal) Global) → Asked (manner_of s) (kind old) (take left qs) v.items old new → TellsLive s.is_live s.states Right (take left qs) v.items old new → SideTells s (cut_wanted left w) (Some (tell v)) old new)
+    → (told : Result (Vec (Result A Refusal) Global) Refusal) → AskedAll (manner_of s) kind (take taken qs) old new told → TellsAll s.is_live s.states Right (take taken qs) old new told
     → (result : Result (Vec B Global) Refusal) → ReadsAll IsOf IsNone told taken (length qs) result
     → IfOk result (λ read. Hears s IsOf told_in w (length qs) read.items (with_left old left) (with_left new left'))
-heard_all {S} {Q} {A} s IsOf IsNone told_in tell is_told kind w qs left left' taken old new takes tells (Ok v) asked (Ok read) it =
+heard_all {S} {Q} {A} s Right IsOf IsNone told_in tell is_told kind w qs left left' taken old new takes tells (Ok v) asked live (Ok read) it =
     let spent = takes.spent in
     let most = takes.most in
     let all = it.1 in
@@ -59,13 +61,14 @@ heard_all {S} {Q} {A} s IsOf IsNone told_in tell is_told kind w qs left left' ta
     record {
       told = Some (tell v);
       share = record { asked = taken; wanted = length qs };
-      tells = tells v (subst (λ (xs : List Q). Asked (manner_of s) (kind old) xs v.items old new) (whole ∙ sym wide) asked);
+      tells = tells v (subst (λ (xs : List Q). Asked (manner_of s) (kind old) xs v.items old new) (whole ∙ sym wide) asked)
+          (subst (λ (xs : List Q). TellsLive s.is_live s.states Right xs v.items old new) (whole ∙ sym wide) live);
       takes = takes;
       wanted = refl;
       is = record { answers = v.items; is = is_told v; counted = omega (arith, many, long, most, all); whole = all; each = it.0 };
     }
-heard_all s IsOf IsNone told_in tell is_told kind w qs left left' taken old new takes tells (Ok v) asked (Err refusal) it = tt
-heard_all s IsOf IsNone told_in tell is_told kind w qs left left' taken old new takes tells (Err refusal) asked result it =
+heard_all s Right IsOf IsNone told_in tell is_told kind w qs left left' taken old new takes tells (Ok v) asked live (Err refusal) it = tt
+heard_all s Right IsOf IsNone told_in tell is_told kind w qs left left' taken old new takes tells (Err refusal) asked live result it =
     subst (λ r. IfOk r (λ read. Hears s IsOf told_in w (length qs) read.items (with_left old left) (with_left new left'))) (sym it) tt
 
 -- ---- a turn

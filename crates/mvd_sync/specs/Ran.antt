@@ -1,6 +1,7 @@
 -- What a session asked its two sides and took of them, as a run of the machine.
 use Rattle.std.specs.Prelude.{◌≡◌, ℕ, Option, Some, None, Ok}
 use Rattle.mvd_peer.specs.Sides.{SideOf, Sides, StaysFaithful, Two, two}
+use Rattle.mvd_peer.specs.Telling.{PageTold, StateTold, TellsLive, TellsNode, TellsPush}
 use Rattle.mvd_peer.specs.Windows.{Asked, Manner, PushedAll, for_pushes, gets_of, holding, manner, nodes_of, pages_kind}
 use Rattle.mvd_sync.specs.Exchanges.{Exchanging}
 use Rattle.mvd_sync.specs.Machines.{GoesAlone, IsQuiet, Machining, StageAsks, Starts, TakesTold, wanted_at}
@@ -18,21 +19,22 @@ use Rattle.mvd_sync.specs.declared.telling.Told.TheVariants.{Nodes, Pages, Pushe
 abbrev pub manner_of : {S : Type 0} → SideOf S → Manner S
 manner_of s = manner s.follows s.can_refuse s.can_answer
 
--- WHAT A SIDE TELLS of questions that it answers, all of one kind, as `Peer` says of such a call; a side that is asked
--- nothing stays as it is
+-- WHAT A SIDE TELLS of questions that it answers, all of one kind, as `Peer` says of such a call, also of a live side; a
+-- side that is asked nothing stays as it is
 abbrev pub SideTells : {S : Type 0} → SideOf S → Wanted → Option Told → S → S → Type 0
 SideTells s w None old new = new ≡ old
 SideTells s w (Some (Nodes told)) old new =
     Asked (manner_of s) (nodes_of s.is_faithful s.states old) w.nodes told.items old new
-    × StaysFaithful s.is_faithful s.states old new
+    × StaysFaithful s.is_faithful s.states old new × TellsLive s.is_live s.states TellsNode w.nodes told.items old new
 SideTells s w (Some (Pages told)) old new =
     Asked (manner_of s) (pages_kind s.is_faithful s.states old) w.pages told.items old new
-    × StaysFaithful s.is_faithful s.states old new
+    × StaysFaithful s.is_faithful s.states old new × TellsLive s.is_live s.states PageTold w.pages told.items old new
 SideTells s w (Some (States told)) old new =
     Asked (manner_of s) (gets_of s.can_give s.is_faithful s.states old) w.gets told.items old new
-    × StaysFaithful s.is_faithful s.states old new
+    × StaysFaithful s.is_faithful s.states old new × TellsLive s.is_live s.states StateTold w.gets told.items old new
 SideTells s w (Some (Pushes told)) old new = Asked (manner_of s) for_pushes w.pushes told.items old new
     × PushedAll (holding s.is_faithful s.states s.most_keys) w.pushes old new (Ok told)
+    × TellsLive s.is_live s.states (TellsPush (s.most_keys old)) w.pushes told.items old new
 SideTells s w (Some (Refused refusal)) old new = ⊥
 
 -- ---- a run

@@ -102,6 +102,7 @@ abbrev pub site_side : SideOf SiteValue
 site_side = record {
   states = λ s. s.states;
   is_faithful = λ s. (s.broken ≡ false) × AreHeld s.states;
+  is_live = λ s. (s.broken ≡ false) × AreHeld s.states;
   can_give = λ _ _. Unit {0};
   follows = λ _. SiteFollows;
   can_refuse = SiteRefuses;

@@ -1,13 +1,17 @@
 //! A site at the other end of a connection, as a side of a session.
-ghost use Rattle.std.specs.Prelude.{◌≡◌, IfOk, None, Some};
+ghost use Rattle.std.specs.Prelude.{◌≡◌, IfOk, None, Some, map};
 ghost use Rattle.std.proofs.Common.{ap};
 ghost use Rattle.std.specs.Option.{option_copied};
 ghost use Rattle.mvd_dots.specs.declared.refusals.Refusal.{Refusal};
-ghost use Rattle.mvd_wire.specs.declared.request.Request.TheVariants.{Bucket};
+ghost use Rattle.mvd_keys.specs.State.{IsValid};
+ghost use Rattle.mvd_wire.specs.declared.request.Request.TheVariants.{Bucket, Get, Node, Push};
+ghost use Rattle.mvd_peer.specs.PushedStates.{Each};
 ghost use Rattle.mvd_wire.specs.Codec.{Gives};
 ghost use Rattle.mvd_wire.specs.Requests.{IsRequest, request_frame};
 ghost use Rattle.mvd_remote.specs.Lines.{IsTrueRemote, KeepsConfig, RemoteFollows};
+ghost use Rattle.mvd_remote.specs.Lines.{as_digests, as_done, as_page, as_state};
 ghost use Rattle.mvd_remote.specs.Lines.{far_of, line_of, refused_of, remote_follows_on, remote_follows_self};
+ghost use Rattle.mvd_remote.specs.LiveRemotes.{AsksLive, EndsLive, IsLiveRemote, SettlesLive};
 ghost use Rattle.mvd_remote.specs.Links.{StaysRefused};
 ghost use Rattle.mvd_remote.specs.Remotes.{AsksAllOver, AsksAllTruly, AsksOver, AsksTruly};
 ghost use Rattle.mvd_remote.specs.Remotes.{node_queries, node_query, page_queries, page_query, push_queries, push_query};
@@ -43,6 +47,9 @@ impl<L: Line> Peer for Remote<L> {
     // It is faithful where the line is true.
     ghost is_faithful = { IsTrueRemote L.is_true L.far };
 
+    // It is live where the line is.
+    ghost is_live = { IsLiveRemote L.is_live L.awaits };
+
     ghost can_give = { λ _ _. Unit {0} };
 
     // A link that refuses stays as it is.
@@ -58,6 +65,8 @@ impl<L: Line> Peer for Remote<L> {
     ghost number = { λ _. None };
 
     ghost in_form = { λ remote truth. L.in_form (line_of remote) truth.line };
+
+    ghost live_form = { λ remote live. L.live_form (line_of remote) live.line };
 
     ghost follows_self = { λ remote. remote_follows_self L.far remote };
 
@@ -78,6 +87,7 @@ impl<L: Line> Peer for Remote<L> {
         ensures stays { StaysRefused self.old self.new result }
         ensures config { KeepsConfig L.far self.old self.new }
         ensures truth { AsksTruly L.Line (node_query path.now) self.old self.new result }
+        ensures moment { AsksLive L.Line (Node path.now) as_digests self.old self.new result }
     {
         self.ask_for(encode_node(self.alloc, path))
     }
@@ -87,6 +97,8 @@ impl<L: Line> Peer for Remote<L> {
         ensures stays { StaysRefused self.old self.new result }
         ensures config { KeepsConfig L.far self.old self.new }
         ensures truth { AsksTruly L.Line (page_query path.now (option_copied after.entry)) self.old self.new result }
+        ensures moment { AsksLive L.Line (Bucket path.now (option_copied after.entry)) as_page
+            self.old self.new result }
     {
         self.ask_for(self.bucket_frame(path, after))
     }
@@ -96,6 +108,7 @@ impl<L: Line> Peer for Remote<L> {
         ensures stays { StaysRefused self.old self.new result }
         ensures config { KeepsConfig L.far self.old self.new }
         ensures truth { AsksTruly L.Line (state_query key.now) self.old self.new result }
+        ensures moment { AsksLive L.Line (Get key.now) as_state self.old self.new result }
     {
         self.ask_for(encode_get(self.alloc, key))
     }
@@ -105,7 +118,11 @@ impl<L: Line> Peer for Remote<L> {
         ensures stays { StaysRefused self.old self.new result }
         ensures config { KeepsConfig L.far self.old self.new }
         ensures truth { AsksTruly L.Line (push_query key.now state.now) self.old self.new result }
+        ensures moment { AsksLive L.Line (Push key.now state.now) as_done self.old self.new result }
+        ensures valid { IsValid state.now }
     {
+        // Here it is known that the pushed state's siblings have been seen.
+        let _seen = state.context();
         self.ask_for(encode_push(self.alloc, key, state))
     }
 
@@ -114,6 +131,8 @@ impl<L: Line> Peer for Remote<L> {
         ensures stays { StaysRefused self.old self.new result }
         ensures config { KeepsConfig L.far self.old self.new }
         ensures truth { AsksAllTruly L.Line (node_queries paths.now) self.old self.new result }
+        ensures moments { EndsLive L.Line (SettlesLive as_digests) (λ told. told.items)
+            (map (λ path. Node path) paths.now) self.old self.new result }
     {
         if let Some(refusal) = self.refused {
             return Err(refusal);
@@ -130,6 +149,8 @@ impl<L: Line> Peer for Remote<L> {
         ensures stays { StaysRefused self.old self.new result }
         ensures config { KeepsConfig L.far self.old self.new }
         ensures truth { AsksAllTruly L.Line (page_queries asked.now) self.old self.new result }
+        ensures moments { EndsLive L.Line (SettlesLive as_page) (λ told. told.items)
+            (map (λ q. Bucket q.0 q.1) asked.now) self.old self.new result }
     {
         if let Some(refusal) = self.refused {
             return Err(refusal);
@@ -143,6 +164,8 @@ impl<L: Line> Peer for Remote<L> {
         ensures stays { StaysRefused self.old self.new result }
         ensures config { KeepsConfig L.far self.old self.new }
         ensures truth { AsksAllTruly L.Line (state_queries keys.now) self.old self.new result }
+        ensures moments { EndsLive L.Line (SettlesLive as_state) (λ told. told.items)
+            (map (λ key. Get key) keys.now) self.old self.new result }
     {
         if let Some(refusal) = self.refused {
             return Err(refusal);
@@ -156,6 +179,9 @@ impl<L: Line> Peer for Remote<L> {
         ensures stays { StaysRefused self.old self.new result }
         ensures config { KeepsConfig L.far self.old self.new }
         ensures truth { AsksAllTruly L.Line (push_queries pairs.now) self.old self.new result }
+        ensures moments { EndsLive L.Line (SettlesLive as_done) (λ told. told.items)
+            (map (λ pair. Push pair.0 pair.1) pairs.now) self.old self.new result }
+        ensures valid { IfOk result (λ _. Each (λ pair. IsValid pair.1) pairs.now) }
     {
         if let Some(refusal) = self.refused {
             return Err(refusal);

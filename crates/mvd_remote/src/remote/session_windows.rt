@@ -2,6 +2,8 @@
 ghost use Rattle.std.specs.Prelude.{◌≡◌, ◌∷◌, [], IfErr, IfOk, map};
 ghost use Rattle.mvd_dots.specs.declared.refusals.Refusal.TheVariants.{Memory};
 ghost use Rattle.mvd_wire.specs.declared.request.Request.TheVariants.{Bucket, Bye, Get, Hello, Node, Push};
+ghost use Rattle.mvd_keys.specs.State.{IsValid};
+ghost use Rattle.mvd_peer.specs.PushedStates.{Each};
 ghost use Rattle.mvd_remote.specs.LinkWindows.{frames_of};
 ghost use Rattle.mvd_remote.specs.Lines.{HaveFrames};
 
@@ -56,10 +58,13 @@ impl Window {
     pub fn pushes(alloc: Global, pairs: &[(Key, KeyState)]) -> Result<Self, Refusal>
         ensures frames { IfOk result (λ window. window ≡ frames_of (map (λ pair. Push pair.0 pair.1) pairs.now)) }
         ensures spelled { IfOk result (λ _. HaveFrames (map (λ pair. Push pair.0 pair.1) pairs.now)) }
+        ensures valid { IfOk result (λ _. Each (λ pair. IsValid pair.1) pairs.now) }
         ensures memory { IfErr result (λ refusal. refusal ≡ Memory) }
     {
         let mut window = Window::new(alloc, pairs.len())?;
         for (key, state) in pairs {
+            // Here it is known that the pushed state's siblings have been seen.
+            let _seen = state.context();
             window.add(encode_push(alloc, key, state))?;
         }
         Ok(window)

@@ -8,6 +8,7 @@ ghost use Rattle.mvd_remote.specs.LinkWindows.{TurnBreaks};
 ghost use Rattle.mvd_remote.specs.LinkWindows.{and_frame, frames_of};
 ghost use Rattle.mvd_remote.specs.Lines.{HaveFrames, DueTurn, DueTurns, KeepsConfig};
 ghost use Rattle.mvd_remote.specs.Lines.{TellsAllTruly, TookTurns, line_of, refused_of};
+ghost use Rattle.mvd_remote.specs.LiveRemotes.{EndsLive, SettlesLive, ToldLive, TookLiveTurns, TookTurn};
 ghost use Rattle.mvd_remote.specs.Links.{ReadCause};
 ghost use Rattle.mvd_remote.specs.Remotes.{AsksAllTruly, EndsTruly, link_of, queries};
 ghost use Rattle.mvd_wire.specs.declared.request.Request.{Request};
@@ -91,6 +92,7 @@ impl<L: Line> Remote<L> {
         ensures config { KeepsConfig L.far self.old self.new }
         ensures truth { L.is_true (line_of self.old) →
             TookTurns L.is_true L.far (DueTurn none) self.old self.new result }
+        ensures live { L.is_live (line_of self.old) → TookTurn L.Line none self.old self.new result }
     {
         if let Some(refusal) = none {
             return Ok(Err(refusal));
@@ -124,6 +126,8 @@ impl<L: Line> Remote<L> {
         ensures config { KeepsConfig L.far self.old self.new }
         ensures truth { L.is_true (line_of self.old) → TookTurns L.is_true L.far
             (λ due left _. DueTurns nones.now replies.new.items due left) self.old self.new result }
+        ensures live { L.is_live (line_of self.old) →
+            TookLiveTurns L.Line nones.now replies.new.items self.old self.new result }
     {
         for none in nones {
             let reply = self.turn(*none, kind)?;
@@ -149,6 +153,8 @@ impl<L: Line> Remote<L> {
         ensures truth { (requests : List Request) → window.now ≡ frames_of requests → HaveFrames requests →
             EndsTruly L.Line (λ config before told. TellsAllTruly config before requests told.items)
             requests self.old self.new result }
+        ensures live { (requests : List Request) → window.now ≡ frames_of requests → HaveFrames requests →
+            EndsLive L.Line ToldLive (λ told. told.items) requests self.old self.new result }
     {
         let mut replies = room_for(self.alloc, window.nones.len())?;
         if let Err(refusal) = self.line.send(&window.frames) {
@@ -173,6 +179,8 @@ impl<L: Line> Remote<L> {
         ensures config { KeepsConfig L.far self.old self.new }
         ensures truth { (requests : List Request) → window.now ≡ frames_of requests → HaveFrames requests →
             AsksAllTruly L.Line (queries requests A.as_reply A.of_kind) self.old self.new result }
+        ensures live { (requests : List Request) → window.now ≡ frames_of requests → HaveFrames requests →
+            EndsLive L.Line (SettlesLive A.as_reply) (λ told. told.items) requests self.old self.new result }
     {
         let replies = self.send_all(window, A::kind())?;
         answers(self.alloc, replies)

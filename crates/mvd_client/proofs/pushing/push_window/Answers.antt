@@ -7,6 +7,8 @@ use Rattle.mvd_replica.specs.Sides.{ReplicaRefuses}
 use Rattle.mvd_replica.specs.declared.replica.Replica.{Replica}
 use Rattle.mvd_replica.proofs.Commits.{answers_all}
 use Rattle.mvd_replica.proofs.Pushed.{answered_each, answered_told}
+use Rattle.mvd_replica.proofs.PushedLive.{answered_live}
+use Rattle.mvd_peer.specs.Telling.{TellsEach, TellsPush}
 use Rattle.mvd_client.proofs.PushTurns.{window_turns}
 use Rattle.mvd_client.specs.Pushing.{FollowsTurns, turns_self}
 use Rattle.mvd_client.proofs.pushing.push_window.Goals as goal
@@ -59,4 +61,7 @@ returns-clause-told g c =
       each = subst (EachAnswer (λ _ _. Unit {0}) c.args.pairs.now) (sym items) each;
       told = subst (EachTold (Unit {0}) (ReplicaRefuses (site_of new))) (sym items) told.1;
       pushes = λ was. ((whole, c.stands-2.ensures.held), subst (λ ts. Pushes (site_of old).config.max_keys (site_of old).states c.args.pairs.now ts (site_of new).states) (sym items) told.0);
+      live = λ was.
+          let tells = answered_live c.args.pairs.now c.deref.result.now c.in_ok-replies.replies.items (site_of old) (site_of new) (store_of old) (store_of new) asked all c.stands.ensures.held c.stands-2.ensures.held c.in_ok-requests.ensures.valid whole in
+          ((whole, c.stands-2.ensures.held), tells.0, subst (λ ts. TellsEach (TellsPush (site_of old).config.max_keys) c.args.pairs.now ts (site_of old).states tells.0 (site_of new).states) (sym items) tells.1);
     }

@@ -1,5 +1,6 @@
 use Rattle.mvd_live.specs.Told.{TellsPush}
-use Rattle.mvd_live.proofs.Quiet.{each_joined, tells_rise}
+use Rattle.mvd_peer.proofs.Telling.{each_joined}
+use Rattle.mvd_live.proofs.Quiet.{tells_rise}
 use Rattle.mvd_live.proofs.laws.moments_follow.Goals as goal
 
 pub returns : goal.returns

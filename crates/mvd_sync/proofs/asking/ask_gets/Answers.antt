@@ -3,6 +3,7 @@ use Rattle.mvd_keys.specs.State.{State}
 use Rattle.mvd_site.specs.Held.{state_at}
 use Rattle.mvd_peer.specs.PeerSides.{side_of}
 use Rattle.mvd_peer.specs.Sides.{HasAnswered}
+use Rattle.mvd_peer.specs.Telling.{StateTold}
 use Rattle.mvd_peer.specs.Windows.{for_states, gets_of}
 use Rattle.mvd_sync.specs.Steps.{only_gets}
 use Rattle.mvd_sync.specs.Tellings.{IsStateOf, never, states_told}
@@ -34,5 +35,5 @@ returns-clause-ended g c = (both g c).1
 pub returns-clause-heard : goal.returns-clause-heard
 returns-clause-heard g c =
     let s = side_of g.P.Peer in
-    heard_all s IsStateOf never states_told (λ v. States v) (λ _. refl) (gets_of s.can_give s.is_faithful s.states) (only_gets c.args.keys.now) c.args.keys.now c.args.left.now c.take-taken.new.left c.take-taken.result c.args.side.now c.get_all-told.new.self c.take-taken.ensures
-    (λ v asked. (asked, c.get_all-told.ensures.kept)) c.get_all-told.result c.get_all-told.ensures.told c.read_all.result c.read_all.ensures
+    heard_all s StateTold IsStateOf never states_told (λ v. States v) (λ _. refl) (gets_of s.can_give s.is_faithful s.states) (only_gets c.args.keys.now) c.args.keys.now c.args.left.now c.take-taken.new.left c.take-taken.result c.args.side.now c.get_all-told.new.self c.take-taken.ensures
+    (λ v asked live. (asked, c.get_all-told.ensures.kept, live)) c.get_all-told.result c.get_all-told.ensures.told c.get_all-told.ensures.live c.read_all.result c.read_all.ensures

@@ -3,6 +3,7 @@ use Rattle.mvd_wire.specs.declared.reply.Digests.{Digests}
 use Rattle.mvd_site.specs.Answer.{digests}
 use Rattle.mvd_peer.specs.PeerSides.{side_of}
 use Rattle.mvd_peer.specs.Sides.{HasAnswered}
+use Rattle.mvd_peer.specs.Telling.{TellsNode}
 use Rattle.mvd_peer.specs.Windows.{for_nodes, nodes_of}
 use Rattle.mvd_sync.specs.Questions.{IsInner}
 use Rattle.mvd_sync.specs.Steps.{only_nodes}
@@ -36,5 +37,5 @@ returns-clause-ended g c = (both g c).1
 pub returns-clause-heard : goal.returns-clause-heard
 returns-clause-heard g c =
     let s = side_of g.P.Peer in
-    heard_all s IsNodeOf IsNoNode nodes_told (λ v. Nodes v) (λ _. refl) (nodes_of s.is_faithful s.states) (only_nodes c.args.paths.now) c.args.paths.now c.args.left.now c.take-taken.new.left c.take-taken.result c.args.side.now c.nodes-told.new.self c.take-taken.ensures
-    (λ v asked. (asked, c.nodes-told.ensures.kept)) c.nodes-told.result c.nodes-told.ensures.told c.read_all.result c.read_all.ensures
+    heard_all s TellsNode IsNodeOf IsNoNode nodes_told (λ v. Nodes v) (λ _. refl) (nodes_of s.is_faithful s.states) (only_nodes c.args.paths.now) c.args.paths.now c.args.left.now c.take-taken.new.left c.take-taken.result c.args.side.now c.nodes-told.new.self c.take-taken.ensures
+    (λ v asked live. (asked, c.nodes-told.ensures.kept, live)) c.nodes-told.result c.nodes-told.ensures.told c.nodes-told.ensures.live c.read_all.result c.read_all.ensures

@@ -2,6 +2,7 @@ use Rattle.std.proofs.Common.{◌≡◌, ◌<◌, ◌^◌, None, length, refl}
 use Rattle.mvd_site.specs.Answer.{digests}
 use Rattle.mvd_peer.specs.PeerSides.{side_of}
 use Rattle.mvd_peer.specs.Sides.{HasAnswered}
+use Rattle.mvd_peer.specs.Telling.{PageTold}
 use Rattle.mvd_peer.specs.Windows.{for_pages, pages_kind}
 use Rattle.mvd_sync.specs.Answers.{IsPage, IsBucketPage}
 use Rattle.mvd_sync.specs.Steps.{only_pages}
@@ -35,5 +36,5 @@ returns-clause-ended g c = (both g c).1
 pub returns-clause-heard : goal.returns-clause-heard
 returns-clause-heard g c =
     let s = side_of g.P.Peer in
-    heard_all s IsListingOf IsNoPage pages_told (λ v. Pages v) (λ _. refl) (pages_kind s.is_faithful s.states) (only_pages c.args.asked.now) c.args.asked.now c.args.left.now c.take-taken.new.left c.take-taken.result c.args.side.now c.pages-told.new.self c.take-taken.ensures
-    (λ v asked. (asked, c.pages-told.ensures.kept)) c.pages-told.result c.pages-told.ensures.told c.read_all.result c.read_all.ensures
+    heard_all s PageTold IsListingOf IsNoPage pages_told (λ v. Pages v) (λ _. refl) (pages_kind s.is_faithful s.states) (only_pages c.args.asked.now) c.args.asked.now c.args.left.now c.take-taken.new.left c.take-taken.result c.args.side.now c.pages-told.new.self c.take-taken.ensures
+    (λ v asked live. (asked, c.pages-told.ensures.kept, live)) c.pages-told.result c.pages-told.ensures.told c.pages-told.ensures.live c.read_all.result c.read_all.ensures

@@ -6,6 +6,7 @@ use Rattle.mvd_dots.specs.declared.refusals.Refusal.{Refusal}
 use Rattle.mvd_keys.specs.State.{State}
 use Rattle.mvd_keys.specs.Writes.{Key}
 use Rattle.mvd_sync.specs.Meetings.{pushed_pair}
+use Rattle.mvd_peer.specs.Telling.{TellsLive, TellsPush}
 use Rattle.mvd_peer.specs.Windows.{Asked, PushedAll, for_pushes, holding}
 use Rattle.mvd_sync.specs.OneTurn.{untold}
 use Rattle.mvd_sync.specs.Questions.{IsOfKey, IsWindow, with_left}
@@ -131,7 +132,8 @@ loop-turn-preserved g c =
           (record {
             answers = c.in_ok-answers.answers;
             asked = c.take-taken.result;
-            tells = subst (λ (xs : List (Key × State)). Asked (manner_of s) for_pushes xs answers c.loop-turn.side c.push_all.new.self × PushedAll (holding s.is_faithful s.states s.most_keys) xs c.loop-turn.side c.push_all.new.self (Ok c.in_ok-answers.answers)) cut (c.in_ok-answers.ensures.told, c.in_ok-answers.ensures.pushes);
+            tells = subst (λ (xs : List (Key × State)). Asked (manner_of s) for_pushes xs answers c.loop-turn.side c.push_all.new.self × PushedAll (holding s.is_faithful s.states s.most_keys) xs c.loop-turn.side c.push_all.new.self (Ok c.in_ok-answers.answers)
+                × TellsLive s.is_live s.states (TellsPush (s.most_keys c.loop-turn.side)) xs answers c.loop-turn.side c.push_all.new.self) cut (c.in_ok-answers.ensures.told, c.in_ok-answers.ensures.pushes, c.in_ok-answers.ensures.live);
             takes = takes;
             counted = many;
             whole = all;

@@ -1,6 +1,7 @@
 use Rattle.std.proofs.Common.{refl, ap, ◌∙◌}
 use Rattle.mvd_client.specs.Questioned.{questions}
-use Rattle.mvd_client.proofs.Watching.{asked_within, ends_within, err_as, ok_as, questions-and}
+use Rattle.mvd_peer.specs.Telling.{StateTold}
+use Rattle.mvd_client.proofs.Watching.{asked_within, ends_within, err_as, live_seen, ok_as, questions-and}
 use Rattle.mvd_client.proofs.progress.WatchedPeer.get_all.Goals as goal
 
 pub returns-clause-told : goal.returns-clause-told
@@ -12,3 +13,7 @@ pub returns-clause-ended : goal.returns-clause-ended
 returns-clause-ended g c =
     err_as c.get_all-told.result c.get_all-told.ensures.ended
     (λ refusal came. ends_within (λ w. w.side) (λ w. questions w.asked.items) (λ w s. record { side = s; asked = w.asked; moved = w.moved; told = w.told }) (λ _ _. refl) (λ _ _. refl) g.P.Peer.follows g.P.Peer.can_refuse g.P.Peer.can_answer _ c.args.self.now c.count.new.self c.get_all-told.new.self refusal c.count.ensures.side (ap questions (c.count.ensures.asked ∙ c.and-self.ensures) ∙ questions-and _ _) came)
+
+pub returns-clause-live : goal.returns-clause-live
+returns-clause-live g c =
+    live_seen g.P.Peer.is_live g.P.Peer.states StateTold c.args.keys.now c.args.self.now.side c.get_all-told.new.self c.count.new.self.side c.count.ensures.side c.get_all-told.result c.get_all-told.ensures.live

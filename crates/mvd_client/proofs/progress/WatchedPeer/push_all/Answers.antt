@@ -2,7 +2,8 @@ use Rattle.std.proofs.Common.{refl, ap, subst, sym, ◌∙◌}
 use Rattle.std.specs.Result.{OnErr}
 use Rattle.mvd_peer.specs.Windows.{PushesFirst}
 use Rattle.mvd_client.specs.Questioned.{questions}
-use Rattle.mvd_client.proofs.Watching.{asked_within, ends_within, err_as, ok_as, questions-and}
+use Rattle.mvd_peer.specs.Telling.{TellsPush}
+use Rattle.mvd_client.proofs.Watching.{asked_within, ends_within, err_as, live_seen, ok_as, questions-and}
 use Rattle.mvd_client.proofs.progress.WatchedPeer.push_all.Goals as goal
 
 pub returns-clause-told : goal.returns-clause-told
@@ -19,3 +20,7 @@ pub returns-clause-first : goal.returns-clause-first
 returns-clause-first g c = λ whole.
     subst (λ s. OnErr c.push_all-told.result (PushesFirst (g.P.Peer.is_faithful s) (g.P.Peer.most_keys c.args.self.now.side) (g.P.Peer.states c.args.self.now.side) c.args.pairs.now (g.P.Peer.states s)))
     (sym c.count.ensures.side) (c.push_all-told.ensures.first whole)
+
+pub returns-clause-live : goal.returns-clause-live
+returns-clause-live g c =
+    live_seen g.P.Peer.is_live g.P.Peer.states (TellsPush (g.P.Peer.most_keys c.args.self.now.side)) c.args.pairs.now c.args.self.now.side c.push_all-told.new.self c.count.new.self.side c.count.ensures.side c.push_all-told.result c.push_all-told.ensures.live

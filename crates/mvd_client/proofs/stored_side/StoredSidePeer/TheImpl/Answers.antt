@@ -1,7 +1,12 @@
 use Rattle.std.proofs.Common.{◌≡◌, refl, rules}
 use Rattle.mvd_client.specs.Pushing.{FollowsTurns, turns_self}
+use Rattle.std.specs.Option.{option_copied}
+use Rattle.mvd_client.specs.declared.stored_side.StoredSide.{StoredSide}
+use Rattle.mvd_replica.specs.Replicas.{site_of}
+use Rattle.mvd_replica.specs.Sides.{IsTrueSite}
 use Rattle.mvd_peer.proofs.ManyPushes.{leaves_same}
-use Rattle.mvd_client.proofs.PushTurns.{push_turns, same_turns, window_ended, window_first, window_open, window_pushes, window_told, window_true}
+use Rattle.mvd_peer.proofs.Telling.{quiet_node, quiet_page, quiet_push, quiet_state}
+use Rattle.mvd_client.proofs.PushTurns.{push_turns, same_turns, window_ended, window_first, window_live, window_open, window_pushes, window_told, window_true}
 use Rattle.mvd_client.proofs.stored_side.StoredSidePeer.TheImpl.Goals as goal
 
 pub node-tells : goal.node-tells
@@ -12,6 +17,7 @@ node-tells g c = record {
   follows = (c.ensures.same_reference, same_turns _ _ c.ensures.same);
   refuses = search rules;
   answers = search rules;
+  live = quiet_node (λ (t : StoredSide _ _). IsTrueSite (site_of t.replica.now)) (λ (t : StoredSide _ _). (site_of t.replica.now).states) (λ _ whole. whole.1) c.args.path.now c.result c.args.self.now c.new.self.now (search rules) (search rules);
 }
 
 pub bucket-tells : goal.bucket-tells
@@ -23,6 +29,7 @@ bucket-tells g c = record {
   follows = (c.ensures.same_reference, same_turns _ _ c.ensures.same);
   refuses = search rules;
   answers = search rules;
+  live = quiet_page (λ (t : StoredSide _ _). IsTrueSite (site_of t.replica.now)) (λ (t : StoredSide _ _). (site_of t.replica.now).states) (λ _ whole. whole.1) c.args.path.now (option_copied c.args.after) c.result c.args.self.now c.new.self.now (search rules) (search rules) (search rules);
 }
 
 pub get-tells : goal.get-tells
@@ -34,6 +41,7 @@ get-tells g c = record {
   follows = (c.ensures.same_reference, same_turns _ _ c.ensures.same);
   refuses = search rules;
   answers = search rules;
+  live = quiet_state (λ (t : StoredSide _ _). IsTrueSite (site_of t.replica.now)) (λ (t : StoredSide _ _). (site_of t.replica.now).states) (λ _ whole. whole.1) c.args.key.now c.result c.args.self.now c.new.self.now (search rules) (search rules);
 }
 
 pub push-tells : goal.push-tells
@@ -46,6 +54,8 @@ push-tells g c = record {
   follows = (c.ensures.same_reference, push_turns _ _ _ _ c.result c.ensures.valid c.ensures.pushes);
   refuses = c.ensures.pushes.refuses;
   answers = c.ensures.pushes.answers;
+  live = quiet_push (λ (t : StoredSide _ _). IsTrueSite (site_of t.replica.now)) (λ (t : StoredSide _ _). (site_of t.replica.now).states) (λ _ whole. whole.1) (site_of c.args.self.now.replica.now).config.max_keys c.args.key.now c.args.state.now c.result c.args.self.now c.new.self.now
+      c.ensures.valid c.ensures.pushes.ok c.ensures.pushes.apart (λ whole. leaves_same _ _ _ _ c.result (c.ensures.pushes.refused whole)) c.ensures.pushes.unbroken c.ensures.pushes.cause;
 }
 
 pub push_all-tells : goal.push_all-tells
@@ -61,4 +71,5 @@ push_all-tells g c =
       left_open = λ was. window_open old new (λ side. side.replica.now) (λ a b. (b.replica.ghost_name ≡ a.replica.ghost_name) × FollowsTurns a.replica.now b.replica.now) all self c.args.pairs.now c.result c.ensures.ended;
       unbroken = λ was. window_true old new (λ side. side.replica.now) (λ a b. (b.replica.ghost_name ≡ a.replica.ghost_name) × FollowsTurns a.replica.now b.replica.now) all self c.args.pairs.now c.result c.ensures.ended was;
       first = λ was. window_first old new (λ side. side.replica.now) (λ a b. (b.replica.ghost_name ≡ a.replica.ghost_name) × FollowsTurns a.replica.now b.replica.now) all self c.args.pairs.now c.result c.ensures.ended;
+      live = window_live old new (λ side. side.replica.now) (λ a b. (b.replica.ghost_name ≡ a.replica.ghost_name) × FollowsTurns a.replica.now b.replica.now) all self c.args.pairs.now c.result c.ensures.told;
     }

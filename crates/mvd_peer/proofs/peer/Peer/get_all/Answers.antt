@@ -1,9 +1,11 @@
-use Rattle.std.proofs.Common.{◌≡◌, ◌∙◌, subst, inl, ◌≤◌, length, sym, arith, length-append}
+use Rattle.std.proofs.Common.{◌≡◌, rules, ◌∙◌, subst, inl, ◌≤◌, length, sym, arith, length-append, true≢false}
 use Rattle.std.specs.Prelude.{Err, IfOk}
 use Rattle.std.proofs.lemmas.Result.{IfErr-at_err}
 use Rattle.mvd_dots.specs.declared.refusals.Refusal.TheVariants.{Broken}
 use Rattle.mvd_site.specs.Held.{States, state_at}
 use Rattle.mvd_peer.proofs.OneByOne.{few_more, last_made, one_more_at}
+use Rattle.mvd_peer.specs.Telling.{StateTold}
+use Rattle.mvd_peer.proofs.Telling.{none_live, one_live}
 use Rattle.mvd_peer.proofs.peer.Peer.get_all.Goals as goal
 
 pub returns-then-is_over-clause-ended : goal.returns-then-is_over-clause-ended
@@ -25,6 +27,16 @@ loop-key-preserved g c =
           c.get-answer.ensures.given
           (λ t. let k = before.kept t in subst (λ (m : States). IfOk c.get-answer.result (λ state. state ≡ state_at m c.key-item.result)) k.1 (c.get-answer.ensures.answer k.0))
           c.get-answer.ensures.refuses c.get-answer.ensures.answers (λ t. c.get-answer.ensures.not_of_question (before.kept t).0);
+      live = one_live g.Self.Peer.is_live g.Self.Peer.states g.met.Self.Peer.live_form StateTold _ _ _ _ _ _ _ _ c.get-answer.result c.loop-key-test.true c.key-item.is c.push_reserved.ensures.items before.live (λ e. true≢false (sym (c.is_over.ensures.1 e) ∙ c.if-is_over.false)) c.get-answer.ensures.live;
       count = grind (arith, length-append, c.push_reserved.ensures.items, before.count);
       room = subst (λ n. length c.args.keys.now ≤ n) (sym c.push_reserved.ensures.capacity) before.room;
     }
+
+pub loop-key-init : goal.loop-key-init
+loop-key-init g c = record {
+  kept = search rules;
+  so_far = search rules;
+  live = none_live g.Self.Peer.is_live g.Self.Peer.states g.met.Self.Peer.live_form StateTold c.args.self.now _ c.in_ok-told.ensures.none;
+  count = search rules;
+  room = search rules;
+}

@@ -1,4 +1,4 @@
-use Rattle.std.proofs.Common.{◌≡◌, ◌∙◌, subst, inl, ◌≤◌, length, sym, arith, length-append}
+use Rattle.std.proofs.Common.{◌≡◌, rules, ◌∙◌, subst, inl, ◌≤◌, length, sym, arith, length-append, true≢false}
 use Rattle.std.specs.Prelude.{Err, IfOk}
 use Rattle.std.proofs.lemmas.Result.{IfErr-at_err}
 use Rattle.mvd_dots.specs.declared.refusals.Refusal.TheVariants.{Broken}
@@ -11,6 +11,8 @@ use Rattle.mvd_peer.proofs.OneByOne.{always, both_ok, few_more, last_made, one_m
 use Rattle.std.proofs.Common.{take}
 use Rattle.std.proofs.lemmas.List.{take_all}
 use Rattle.mvd_peer.specs.Windows.{Asked, for_pages, manner}
+use Rattle.mvd_peer.specs.Telling.{PageTold, TellsOne}
+use Rattle.mvd_peer.proofs.Telling.{none_live, one_live}
 use Rattle.mvd_peer.proofs.peer.Peer.pages.Goals as goal
 
 pub returns-clause-told : goal.returns-clause-told
@@ -41,6 +43,16 @@ loop-path-preserved g c =
           (subst (λ (after : Option Key). IfOk c.bucket-answer.result (λ page. (page.0.items ≡ bucket_page (digests (g.Self.Peer.states c.loop-path.self)) c.loop-path-item.result.0 after) × (page.1 ≡ is_more_after_page (digests (g.Self.Peer.states c.loop-path.self)) c.loop-path-item.result.0 after))) c.as_ref.ensures.value
           (both_ok _ _ c.bucket-answer.result (c.bucket-answer.ensures.page k.0) (c.bucket-answer.ensures.more k.0))))
           c.bucket-answer.ensures.refuses c.bucket-answer.ensures.answers (λ t. c.bucket-answer.ensures.not_of_question (before.kept t).0);
+      live = one_live g.Self.Peer.is_live g.Self.Peer.states g.met.Self.Peer.live_form PageTold _ _ _ _ _ _ _ _ c.bucket-answer.result c.loop-path-test.true c.loop-path-item.is c.push_reserved.ensures.items before.live (λ e. true≢false (sym (c.is_over.ensures.1 e) ∙ c.if-is_over.false)) (subst (λ (after : Option Key). TellsOne g.Self.Peer.is_live g.Self.Peer.states PageTold (c.loop-path-item.result.0, after) c.bucket-answer.result c.loop-path.self c.bucket-answer.new.self) c.as_ref.ensures.value c.bucket-answer.ensures.live);
       count = grind (arith, length-append, c.push_reserved.ensures.items, before.count);
       room = subst (λ n. length c.args.asked.now ≤ n) (sym c.push_reserved.ensures.capacity) before.room;
     }
+
+pub loop-path-init : goal.loop-path-init
+loop-path-init g c = record {
+  kept = search rules;
+  so_far = search rules;
+  live = none_live g.Self.Peer.is_live g.Self.Peer.states g.met.Self.Peer.live_form PageTold c.args.self.now _ c.in_ok-told.ensures.none;
+  count = search rules;
+  room = search rules;
+}

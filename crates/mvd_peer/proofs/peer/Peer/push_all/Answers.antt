@@ -1,8 +1,10 @@
-use Rattle.std.proofs.Common.{◌≡◌, [], inl, refl, ◌≤◌, length, sym, subst, arith, length-append}
+use Rattle.std.proofs.Common.{◌≡◌, rules, [], inl, refl, ◌≤◌, length, sym, subst, arith, length-append}
 use Rattle.std.specs.Prelude.{Err}
 use Rattle.std.proofs.lemmas.Result.{IfErr-at_err}
 use Rattle.mvd_peer.proofs.OneByOne.{always, few_more, last_made, on_err, one_more_at}
 use Rattle.mvd_peer.proofs.ManyPushes.{left_same, not_broken, open_first, pushes_more, second_ok, still_true}
+use Rattle.mvd_peer.specs.Telling.{TellsOne, TellsPush}
+use Rattle.mvd_peer.proofs.Telling.{none_live, one_live}
 use Rattle.mvd_peer.proofs.peer.Peer.push_all.Goals as goal
 
 pub returns-in_err-told-clause-first : goal.returns-in_err-told-clause-first
@@ -42,6 +44,17 @@ loop-key-preserved g c =
           );
       so_far = one_more_at g.Self.Peer.follows g.Self.Peer.can_refuse g.Self.Peer.can_answer g.met.Self.Peer.follows_self g.met.Self.Peer.follows_on _ _ _ _ _ _ _ _ c.loop-key-item.result _ _ _ c.loop-key-test.true c.loop-key-item.is c.push_reserved.ensures.items start.so_far c.push-answer.ensures.follows
           (always _) (λ never. absurd never) c.push-answer.ensures.refuses c.push-answer.ensures.answers (λ never. absurd never);
+      live = one_live g.Self.Peer.is_live g.Self.Peer.states g.met.Self.Peer.live_form (TellsPush (g.Self.Peer.most_keys c.args.self.now)) _ _ _ _ _ _ _ _ c.push-answer.result c.loop-key-test.true c.loop-key-item.is c.push_reserved.ensures.items start.live (not_broken _ c.in_default.ensures.none)
+          (subst (λ n. TellsOne g.Self.Peer.is_live g.Self.Peer.states (TellsPush n) c.loop-key-item.result c.push-answer.result c.loop-key.self c.push-answer.new.self) (g.met.Self.Peer.most_stays _ _ _ start.so_far.count) c.push-answer.ensures.live);
       count = grind (arith, length-append, c.push_reserved.ensures.items, start.count);
       room = subst (λ n. length c.args.pairs.now ≤ n) (sym c.push_reserved.ensures.capacity) start.room;
     }
+
+pub loop-key-init : goal.loop-key-init
+loop-key-init g c = record {
+  pushes = search rules;
+  so_far = search rules;
+  live = none_live g.Self.Peer.is_live g.Self.Peer.states g.met.Self.Peer.live_form (TellsPush (g.Self.Peer.most_keys c.args.self.now)) c.args.self.now _ c.in_ok-told.ensures.none;
+  count = search rules;
+  room = search rules;
+}

@@ -3,6 +3,7 @@ use Rattle.mvd_remote.specs.LinkWindows.{AnswersInTurn}
 use Rattle.mvd_remote.specs.Remotes.{link_of}
 use Rattle.mvd_remote.proofs.Lined.{window_answered}
 use Rattle.mvd_remote.proofs.Turns.{all_answered}
+use Rattle.mvd_remote.proofs.LiveLined.{live_answered}
 use Rattle.mvd_remote.proofs.remote.Remote.ask_all.Goals as goal
 
 pub returns-clause-asked : goal.returns-clause-asked
@@ -16,3 +17,8 @@ pub returns-clause-truth : goal.returns-clause-truth
 returns-clause-truth g c requests is spelled was =
     let sent = c.in_ok-replies.ensures.truth requests is spelled was in
     (sent.0, window_answered _ g.A.Answer.as_reply (λ v. v.items) _ _ _ requests c.in_ok-replies.replies.items c.answers.result sent.1 c.answers.ensures.told c.answers.ensures.settled c.answers.ensures.ended)
+
+pub returns-clause-live : goal.returns-clause-live
+returns-clause-live g c requests is spelled was =
+    let sent = c.in_ok-replies.ensures.live requests is spelled was in
+    (sent.0, live_answered g.A.Answer.as_reply (g.L.Line.far c.args.self.now.line).config (λ v. v.items) requests c.in_ok-replies.replies.items _ _ sent.1.0 c.answers.result sent.1.1 c.answers.ensures.told c.answers.ensures.settled)

@@ -1,5 +1,9 @@
-use Rattle.std.proofs.Common.{[], ◌∷◌}
+use Rattle.std.proofs.Common.{[], ◌∷◌, ap, subst, sym, ◌∙◌}
 use Rattle.mvd_remote.proofs.Lined.{one_answered, one_broke, one_frame}
+use Rattle.mvd_wire.specs.declared.reply.Reply.{Reply}
+use Rattle.mvd_peer.specs.Live.{Grows}
+use Rattle.mvd_peer.specs.Windows.{leaves_open}
+use Rattle.mvd_remote.proofs.LiveAsked.{left_open, live_refuses, one_asked}
 use Rattle.mvd_remote.proofs.remote.Remote.send.Goals as goal
 
 pub returns-in-Ok-clause-truth : goal.returns-in-Ok-clause-truth
@@ -11,3 +15,19 @@ pub returns-in-Err-clause-truth : goal.returns-in-Err-clause-truth
 returns-in-Err-clause-truth g c request fits is was =
     let sent = c.in-Err.ensures.truth was.line (request ∷ []) (one_frame request c.args.frame.now fits is) in
     one_broke g.L.Line.is_true g.L.Line.far (λ reply. reply) c.breaks.new.self (g.L.Line.far c.args.self.now.line) c.send.new.self request c.in-Err.refusal c.breaks.result c.breaks.ensures.kept c.breaks.ensures.refused.0 c.breaks.ensures.refused.1 c.in-Err.ensures.err sent.0 sent.1
+
+pub returns-in-Ok-clause-live : goal.returns-in-Ok-clause-live
+returns-in-Ok-clause-live g c request fits is was =
+    let sent = c.in-Ok.ensures.live was.line in
+    let out = sent.2 (request ∷ []) (one_frame request c.args.frame.now fits is) in
+    one_asked g.L.Line g.met.L.Line.live_form c.args.self.now.line _ c.read.new.self request c.read.result c.args.kind _ _ was.line sent.0 sent.1 c.send.ensures.config (was.step c.requires) out (c.read.ensures.live sent.0) c.read.ensures.reads
+
+pub returns-in-Err-clause-live : goal.returns-in-Err-clause-live
+returns-in-Err-clause-live g c request fits is was =
+    let sent = c.in-Err.ensures.live was.line in
+    let far = g.L.Line.far in
+    let opened = ap leaves_open c.in-Err.ensures.err in
+    let live = subst g.L.Line.is_live (sym c.breaks.ensures.kept) sent.0 in
+    let told = left_open (λ (r : Reply). r) (far c.args.self.now.line).config request (far c.args.self.now.line).states (far c.breaks.new.self.line).states c.breaks.result (g.met.L.Line.live_form c.args.self.now.line was.line)
+    (subst (λ l. Grows (far c.args.self.now.line).states (far l).states) (sym c.breaks.ensures.kept) sent.1) (ap leaves_open c.breaks.ensures.refused.1 ∙ opened) in
+    (live_refuses g.L.Line.is_live g.L.Line.awaits c.breaks.new.self c.in-Err.refusal live c.breaks.ensures.refused.0 opened, told.0, told.1, told.2, told.3, told.4)

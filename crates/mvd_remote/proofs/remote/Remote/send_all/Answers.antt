@@ -3,6 +3,10 @@ use Rattle.mvd_dots.specs.declared.refusals.Refusal.{Refusal}
 use Rattle.mvd_remote.specs.LinkWindows.{Frames}
 use Rattle.mvd_remote.specs.Lines.{AreRequestFrames, DueTurns, framed_requests}
 use Rattle.mvd_remote.proofs.Lined.{send_broke, still_goes, turns_broke, window_frames, window_told}
+use Rattle.mvd_peer.specs.Windows.{leaves_open}
+use Rattle.mvd_remote.specs.LiveRemotes.{LiveTurns}
+use Rattle.mvd_remote.proofs.LiveAsked.{live_goes, live_refuses}
+use Rattle.mvd_remote.proofs.LiveLined.{window_live}
 use Rattle.mvd_remote.proofs.remote.Remote.send_all.Goals as goal
 
 pub returns-in-Err-clause-truth : goal.returns-in-Err-clause-truth
@@ -29,3 +33,35 @@ returns-in-Err-take_turns-clause-truth g c requests is spelled was =
     let sent = c.in_default.ensures.truth was.line (framed_requests requests) (subst (AreRequestFrames (framed_requests requests)) (sym bytes) (window_frames requests c.args.window.now is spelled)) in
     let turns = c.in-Err-take_turns.ensures.truth sent.0 in
     turns_broke g.L.Line.is_true g.L.Line.far c.take_turns.new.self (g.L.Line.far c.args.self.now.line) (g.L.Line.far c.send.new.self) requests c.in-Err-take_turns.refusal sent.1 turns.line turns.states turns.unsure c.in-Err-take_turns.ensures.broke.1
+
+pub returns-in-Err-clause-live : goal.returns-in-Err-clause-live
+returns-in-Err-clause-live g c requests is spelled was =
+    let sent = c.in-Err.ensures.live was.line in
+    (live_refuses g.L.Line.is_live g.L.Line.awaits c.breaks.new.self c.in-Err.refusal (subst g.L.Line.is_live (sym c.breaks.ensures.kept) sent.0) c.breaks.ensures.refused.0 (ap leaves_open c.in-Err.ensures.err), tt)
+
+pub returns-in-Ok-clause-live : goal.returns-in-Ok-clause-live
+returns-in-Ok-clause-live g c requests is spelled was =
+    let far = g.L.Line.far in
+    let awaits = g.L.Line.awaits in
+    let form = g.met.L.Line.live_form in
+    let old = c.args.self.now.line in
+    let mid = c.send.new.self in
+    let new = c.take_turns.new.self.line in
+    let bytes = c.deref.ensures.value ∙ ap (λ (w : Frames). w.0) c.window.view_is in
+    let nones = c.deref-2.ensures.value ∙ ap (λ (w : Frames). w.1) c.window.view_is in
+    let sent = c.in_default.ensures.live was.line in
+    let out = sent.2 (framed_requests requests) (subst (AreRequestFrames (framed_requests requests)) (sym bytes) (window_frames requests c.args.window.now is spelled)) in
+    let turns = c.in-Ok.ensures.live sent.0 in
+    let replies = c.take_turns.new.replies.items in
+    let told = turns.told in
+    let moved = subst (λ cfg. LiveTurns cfg c.args.window.now.1 replies (awaits mid) (awaits new) (far mid).states told.0 (far new).states) c.send.ensures.config
+    (subst (λ (ns : List (Option Refusal)). LiveTurns (far mid).config ns replies (awaits mid) (awaits new) (far mid).states told.0 (far new).states) nones told.1) in
+    let it = window_live (far old).config requests c.args.window.now replies (awaits old) (awaits mid) (awaits new) (far old).states (far mid).states (far new).states told.0 is (was.step c.requires) out (form old was.line) (form mid sent.0) (form new turns.live) sent.1 moved in
+    (live_goes g.L.Line.is_live awaits c.take_turns.new.self turns.live c.in-Ok.ensures.goes_on it.1, (told.0, it.0))
+
+pub returns-in-Err-take_turns-clause-live : goal.returns-in-Err-take_turns-clause-live
+returns-in-Err-take_turns-clause-live g c requests is spelled was =
+    let sent = c.in_default.ensures.live was.line in
+    let turns = c.in-Err-take_turns.ensures.live sent.0 in
+    let refusal = c.in-Err-take_turns.refusal in
+    (live_refuses g.L.Line.is_live g.L.Line.awaits c.take_turns.new.self refusal turns.live c.in-Err-take_turns.ensures.broke.1 (turns.unsure refusal c.in-Err-take_turns.ensures.broke.1), tt)

@@ -1,11 +1,17 @@
-use Rattle.std.proofs.Common.{◌≡◌, ◌∷◌, ◌++◌, [], List, arith, refl, sym, subst, ◌∙◌}
-use Rattle.std.specs.Prelude.{All, Result}
+use Rattle.std.proofs.Common.{◌≡◌, rules, ◌∷◌, ◌++◌, [], List, arith, refl, sym, subst, ◌∙◌}
+use Rattle.std.specs.Prelude.{All, Err, Result}
+use Rattle.std.proofs.lemmas.Result.{err_from_is_err_and}
 use Rattle.std.proofs.lemmas.List.Elements.{All-push}
 use Rattle.mvd_dots.specs.declared.refusals.Refusal.{Refusal}
 use Rattle.mvd_wire.specs.declared.reply.Reply.{Reply}
 use Rattle.mvd_remote.specs.LinkWindows.{IsOfKind}
-use Rattle.mvd_remote.proofs.Lined.{due_more_at}
+use Rattle.std.proofs.lemmas.List.{take_all}
+use Rattle.std.proofs.Common.{take}
+use Rattle.mvd_remote.specs.LiveRemotes.{LiveTurns}
+use Rattle.mvd_remote.proofs.Lined.{due_more_at, goes_on}
 use Rattle.mvd_remote.proofs.Turns.{turns_more_at}
+use Rattle.mvd_remote.proofs.LiveAsked.{turns_broke}
+use Rattle.mvd_remote.proofs.LiveLined.{took_more, took_none}
 use Rattle.mvd_remote.proofs.remote.Remote.take_turns.Goals as goal
 
 pub loop-none-preserved : goal.loop-none-preserved
@@ -23,4 +29,44 @@ loop-none-preserved g c =
       due = λ t.
           due_more_at c.args.nones.now c.loop-none.none-index _ _ c.loop-none.replies.items c.push.new.self.items c.in_ok-reply.reply (g.L.Line.far c.args.self.now.line).due (g.L.Line.far c.loop-none.self.line).due (g.L.Line.far c.turn.new.self.line).due c.loop-none-test.true refl items (before.due t)
           (c.in_ok-reply.ensures.truth (before.line t)).due;
+      live = λ t.
+          let was = before.live t in
+          took_more g.L.Line g.met.L.Line.live_form c.args.self.now c.loop-none.self c.turn.new.self c.args.nones.now c.loop-none.none-index _ _ c.loop-none.replies.items c.push.new.self.items c.in_ok-reply.reply c.loop-none-test.true refl items t was.0 before.config was.1 was.2 was.3 (c.in_ok-reply.ensures.live was.0);
     }
+
+pub loop-none-init : goal.loop-none-init
+loop-none-init g c = record {
+  read = search rules;
+  of_kind = search rules;
+  goes_on = search rules;
+  unsent = search rules;
+  config = search rules;
+  line = search rules;
+  states = search rules;
+  due = search rules;
+  live = took_none g.L.Line g.met.L.Line.live_form c.args.self.now c.args.replies.now.items c.requires.empty;
+}
+
+pub returns-clause-live : goal.returns-clause-live
+returns-clause-live g c t =
+    let all : take c.loop-none.none-index c.args.nones.now ≡ c.args.nones.now = take_all c.loop-none.none-index c.args.nones.now c.loop-none-test.false in
+    let was = c.loop-none.invariant.live t in
+    record {
+      live = was.0;
+      grows = was.1;
+      told = (was.2, subst (λ ns. LiveTurns (g.L.Line.far c.args.self.now.line).config ns c.loop-none.replies.items (g.L.Line.awaits c.args.self.now.line) (g.L.Line.awaits c.loop-none.self.line) (g.L.Line.far c.args.self.now.line).states was.2 (g.L.Line.far c.loop-none.self.line).states) all was.3);
+      unsure = λ refusal e. goes_on c.loop-none.self.refused refusal c.loop-none.invariant.goes_on e;
+    }
+
+pub returns-in_err-reply-clause-live : goal.returns-in_err-reply-clause-live
+returns-in_err-reply-clause-live g c t =
+    let was = c.loop-none.invariant.live t in
+    let turn = c.in_err-reply.ensures.live was.0 in
+    let broke = c.in_err-reply.ensures.broke in
+    turns_broke g.L.Line g.met.L.Line.live_form c.args.nones.now c.loop-none.replies.items c.args.self.now c.loop-none.self c.turn.new.self c.turn.new.self.line _ _ (let p = err_from_is_err_and _ c.from_residual.ensures.1 in (p.0, p.1)) refl broke.1 (turn.unsure _ broke.1) t was.0 turn.live was.1 turn.grows
+
+pub returns-then-is_err-clause-live : goal.returns-then-is_err-clause-live
+returns-then-is_err-clause-live g c t =
+    let was = c.loop-none.invariant.live t in
+    let turn = c.in_ok-reply.ensures.live was.0 in
+    turns_broke g.L.Line g.met.L.Line.live_form c.args.nones.now _ c.args.self.now c.loop-none.self c.breaks.new.self c.turn.new.self.line _ (Err c.breaks.result) (c.breaks.result, refl) c.breaks.ensures.kept c.breaks.ensures.refused.0 refl t was.0 turn.live was.1 turn.grows

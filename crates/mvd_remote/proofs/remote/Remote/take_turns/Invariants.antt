@@ -1,7 +1,10 @@
-use Rattle.std.proofs.Common.{◌≡◌, take}
+use Rattle.std.proofs.Common.{◌≡◌, List, take}
 use Rattle.std.specs.Prelude.{All, None}
 use Rattle.mvd_remote.specs.LinkWindows.{IsOfKind, TakeTurns}
 use Rattle.mvd_remote.specs.Lines.{DueTurns}
+use Rattle.mvd_site.specs.Held.{States}
+use Rattle.mvd_peer.specs.Live.{Grows}
+use Rattle.mvd_remote.specs.LiveRemotes.{LiveTurns}
 use Rattle.mvd_remote.proofs.remote.Remote.take_turns.Given as goal
 
 -- the first requests were answered in their turn
@@ -15,4 +18,6 @@ invariant-loop-none g l = record {
   line : g.L.Line.is_true l.fn.self.line → g.L.Line.is_true l.self.line;
   states : g.L.Line.is_true l.fn.self.line → (g.L.Line.far l.self.line).states ≡ (g.L.Line.far l.fn.self.line).states;
   due : g.L.Line.is_true l.fn.self.line → DueTurns (take l.none-index l.nones) l.replies.items (g.L.Line.far l.fn.self.line).due (g.L.Line.far l.self.line).due;
+  live : g.L.Line.is_live l.fn.self.line → g.L.Line.is_live l.self.line × Grows (g.L.Line.far l.fn.self.line).states (g.L.Line.far l.self.line).states × (moments : List States)
+      × LiveTurns (g.L.Line.far l.fn.self.line).config (take l.none-index l.nones) l.replies.items (g.L.Line.awaits l.fn.self.line) (g.L.Line.awaits l.self.line) (g.L.Line.far l.fn.self.line).states moments (g.L.Line.far l.self.line).states;
 }

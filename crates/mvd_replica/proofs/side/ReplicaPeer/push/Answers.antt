@@ -13,8 +13,8 @@ whole_after : (new : SiteValue) (config : ConfigValue) (states : States) (r : Re
 whole_after new config states (Ok done) is = ap (λ (s : SiteValue). s.broken) is
 whole_after new config states (Err refusal) is = tt
 
-pub returns : goal.returns
-returns g c =
+pub returns-clause-pushes : goal.returns-clause-pushes
+returns-clause-pushes g c =
     let old = c.args.self.now.site in
     let new = c.push-pushed.new.self.site in
     let key = c.args.key.now in

@@ -1,5 +1,6 @@
 use Rattle.std.proofs.Common.{◌≡◌, ◌∙◌, ◌++◌, [], List, map, ap, refl, sym, subst, inl, inr, arith, false, true≢false}
 use Rattle.sqlite.specs.Held.{state}
+use Rattle.mvd_peer.specs.Telling.{TellsEach, TellsPush}
 use Rattle.mvd_peer.specs.Windows.{EachAnswer, EachTold, Pushes}
 use Rattle.mvd_peer.proofs.OneByOne.{at_err, on_err, told_still}
 use Rattle.mvd_replica.specs.declared.replica.Replica.{Replica}
@@ -14,6 +15,7 @@ use Rattle.mvd_replica.specs.SideCalls.{EndsWindow}
 use Rattle.sqlite_trees.specs.declared.store.Store.{Ghosts}
 use Rattle.mvd_replica.specs.Sides.{ReplicaRefuses, SideFollows, side_follows_self}
 use Rattle.mvd_replica.proofs.Commits.{answers_all}
+use Rattle.mvd_replica.proofs.PushedLive.{answered_live}
 use Rattle.mvd_replica.proofs.Pushed.{answered_each, answered_follow, answered_told}
 use Rattle.mvd_replica.proofs.side.ReplicaPeer.push_all.Goals as goal
 
@@ -92,3 +94,13 @@ returns-clause-pushes g c was =
     (c.deref.ensures.value ∙ c.in_ok-requests.ensures.pushes) (answers_all _ _ _ _ c.in_ok-replies.ensures.answers) c.stands.ensures.held c.in_ok-requests.ensures.valid whole in
     let items : c.add_told.new.told.items ≡ map told_of c.in_ok-replies.replies.items = c.add_told.ensures.told ∙ ap (λ l. l ++ map told_of c.in_ok-replies.replies.items) c.in_ok-told.ensures.items in
     ((whole, c.stands-2.ensures.held), subst (λ ts. Pushes old.config.max_keys old.states c.args.pairs.now ts new.states) (sym items) told.0)
+
+pub returns-clause-live : goal.returns-clause-live
+returns-clause-live g c was =
+    let old = c.args.self.now.site in
+    let new = c.answer_all.new.self.site in
+    let whole : new.broken ≡ false = sym c.is_broken.ensures ∙ c.if-is_broken.false in
+    let told = answered_live c.args.pairs.now c.deref.result.now c.in_ok-replies.replies.items old new (state g.S.Store c.args.self.now.records.conn) (state g.S.Store c.answer_all.new.self.records.conn)
+    (c.deref.ensures.value ∙ c.in_ok-requests.ensures.pushes) (answers_all _ _ _ _ c.in_ok-replies.ensures.answers) c.stands.ensures.held c.stands-2.ensures.held c.in_ok-requests.ensures.valid whole in
+    let items : c.add_told.new.told.items ≡ map told_of c.in_ok-replies.replies.items = c.add_told.ensures.told ∙ ap (λ l. l ++ map told_of c.in_ok-replies.replies.items) c.in_ok-told.ensures.items in
+    ((whole, c.stands-2.ensures.held), told.0, subst (λ ts. TellsEach (TellsPush old.config.max_keys) c.args.pairs.now ts old.states told.0 new.states) (sym items) told.1)

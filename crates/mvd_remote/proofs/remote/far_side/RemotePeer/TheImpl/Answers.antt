@@ -7,7 +7,9 @@ use Rattle.mvd_site.specs.Answer.{digests}
 use Rattle.mvd_site.specs.Held.{state_at}
 use Rattle.mvd_remote.specs.declared.remote.Remote.{Remote}
 use Rattle.mvd_remote.specs.Lines.{IsTrueRemote, RemoteFollows, remote_follows_self}
+use Rattle.mvd_remote.specs.LiveRemotes.{IsLiveRemote}
 use Rattle.mvd_remote.specs.Remotes.{link_of}
+use Rattle.mvd_remote.proofs.LiveSides.{node_live, nodes_live, page_live, pages_live, push_live, pushes_live, state_live, states_live}
 use Rattle.mvd_peer.specs.Windows.{IsNode}
 use Rattle.mvd_remote.proofs.FarSides.{all_not_of_key, all_right, bucket_asks, get_asks, node_asks, on_ok, one_kept, one_not_of_key, one_right, push_cause, push_leaves, push_taken, pushes_open, still_so, window_first, window_kept, window_not_of_key, window_pushed}
 use Rattle.mvd_peer.proofs.OneByOne.{always}
@@ -26,6 +28,7 @@ nodes-tells g c =
           (λ ts. all_not_of_key (λ digests. Digests digests) far.config (λ path. Node path) node_asks c.args.paths.now ts far.states after.states) (λ was. (c.ensures.truth was).1);
       ended = link_ends (λ (r : Remote g.row.L.Denot). r.refused) (RemoteFollows g.L.Line.far) (remote_follows_self g.L.Line.far) (λ digests. Digests digests) (λ v. v.items) 0xA7 (λ path. Node path) c.args.paths.now c.args.self.now c.new.self.now c.result (link_of g.L.Line c.args.self.now) (link_of g.L.Line c.new.self.now) refl refl (λ over. (c.ensures.stays over.0 over.1).1, c.ensures.config) c.ensures.asked;
       not_of_question = λ was. window_not_of_key (λ digests. Digests digests) far.config (λ path. Node path) node_asks (λ v. v.items) c.args.paths.now far.states after.states c.result (c.ensures.truth was).1;
+      live = nodes_live far.config (IsLiveRemote g.L.Line.is_live g.L.Line.awaits) (λ (r : Remote g.row.L.Denot). (g.L.Line.far r.line).states) c.args.self.now c.new.self.now c.args.paths.now c.result c.ensures.moments;
     }
 
 pub pages-tells : goal.pages-tells
@@ -40,6 +43,7 @@ pages-tells g c =
           (λ ts. all_not_of_key (λ page. Keys page.0.items page.1) far.config (λ q. Bucket q.0 q.1) (λ q. bucket_asks q.0 q.1) c.args.asked.now ts far.states after.states) (λ was. (c.ensures.truth was).1);
       ended = link_ends (λ (r : Remote g.row.L.Denot). r.refused) (RemoteFollows g.L.Line.far) (remote_follows_self g.L.Line.far) (λ page. Keys page.0.items page.1) (λ v. v.items) 0xA8 (λ q. Bucket q.0 q.1) c.args.asked.now c.args.self.now c.new.self.now c.result (link_of g.L.Line c.args.self.now) (link_of g.L.Line c.new.self.now) refl refl (λ over. (c.ensures.stays over.0 over.1).1, c.ensures.config) c.ensures.asked;
       not_of_question = λ was. window_not_of_key (λ page. Keys page.0.items page.1) far.config (λ q. Bucket q.0 q.1) (λ q. bucket_asks q.0 q.1) (λ v. v.items) c.args.asked.now far.states after.states c.result (c.ensures.truth was).1;
+      live = pages_live far.config (IsLiveRemote g.L.Line.is_live g.L.Line.awaits) (λ (r : Remote g.row.L.Denot). (g.L.Line.far r.line).states) c.args.self.now c.new.self.now c.args.asked.now c.result c.ensures.moments;
     }
 
 pub get_all-tells : goal.get_all-tells
@@ -54,6 +58,7 @@ get_all-tells g c =
           (λ ts. all_not_of_key (λ state. State state) far.config (λ key. Get key) get_asks c.args.keys.now ts far.states after.states) (λ was. (c.ensures.truth was).1);
       ended = link_ends (λ (r : Remote g.row.L.Denot). r.refused) (RemoteFollows g.L.Line.far) (remote_follows_self g.L.Line.far) (λ state. State state) (λ v. v.items) 0xA1 (λ key. Get key) c.args.keys.now c.args.self.now c.new.self.now c.result (link_of g.L.Line c.args.self.now) (link_of g.L.Line c.new.self.now) refl refl (λ over. (c.ensures.stays over.0 over.1).1, c.ensures.config) c.ensures.asked;
       not_of_question = λ was. window_not_of_key (λ state. State state) far.config (λ key. Get key) get_asks (λ v. v.items) c.args.keys.now far.states after.states c.result (c.ensures.truth was).1;
+      live = states_live far.config (IsLiveRemote g.L.Line.is_live g.L.Line.awaits) (λ (r : Remote g.row.L.Denot). (g.L.Line.far r.line).states) c.args.self.now c.new.self.now c.args.keys.now c.result c.ensures.moments;
     }
 
 pub push_all-tells : goal.push_all-tells
@@ -67,6 +72,7 @@ push_all-tells g c =
       left_open = λ was. pushes_open far.config (λ v. v.items) c.args.pairs.now far.states after.states c.result (c.ensures.truth was).1;
       unbroken = λ was. still_so _ c.result (c.ensures.truth was).0;
       first = λ was. window_first far.config (λ v. v.items) c.args.pairs.now far.states after.states _ c.result (c.ensures.truth was).1;
+      live = pushes_live far.config (IsLiveRemote g.L.Line.is_live g.L.Line.awaits) (λ (r : Remote g.row.L.Denot). (g.L.Line.far r.line).states) c.args.self.now c.new.self.now c.args.pairs.now c.result c.ensures.valid c.ensures.moments;
     }
 
 pub node-tells : goal.node-tells
@@ -82,6 +88,7 @@ node-tells g c =
       follows = (λ over. (c.ensures.stays over.0 over.1).1, c.ensures.config);
       refuses = one_refuses (λ digests. Digests digests) (Node c.args.path.now) old new c.result c.ensures.asked (λ own e. (c.ensures.stays own e).0);
       answers = one_answers (λ digests. Digests digests) (Node c.args.path.now) old new c.result c.ensures.asked;
+      live = node_live far.config (IsLiveRemote g.L.Line.is_live g.L.Line.awaits) (λ (r : Remote g.row.L.Denot). (g.L.Line.far r.line).states) c.args.self.now c.new.self.now c.args.path.now c.result c.ensures.moment;
     }
 
 pub bucket-tells : goal.bucket-tells
@@ -98,6 +105,7 @@ bucket-tells g c =
       follows = (λ over. (c.ensures.stays over.0 over.1).1, c.ensures.config);
       refuses = one_refuses (λ page. Keys page.0.items page.1) (Bucket c.args.path.now (option_copied c.args.after)) old new c.result c.ensures.asked (λ own e. (c.ensures.stays own e).0);
       answers = one_answers (λ page. Keys page.0.items page.1) (Bucket c.args.path.now (option_copied c.args.after)) old new c.result c.ensures.asked;
+      live = page_live far.config (IsLiveRemote g.L.Line.is_live g.L.Line.awaits) (λ (r : Remote g.row.L.Denot). (g.L.Line.far r.line).states) c.args.self.now c.new.self.now (c.args.path.now, option_copied c.args.after) c.result c.ensures.moment;
     }
 
 pub get-tells : goal.get-tells
@@ -114,6 +122,7 @@ get-tells g c =
       follows = (λ over. (c.ensures.stays over.0 over.1).1, c.ensures.config);
       refuses = one_refuses (λ state. State state) (Get c.args.key.now) old new c.result c.ensures.asked (λ own e. (c.ensures.stays own e).0);
       answers = one_answers (λ state. State state) (Get c.args.key.now) old new c.result c.ensures.asked;
+      live = state_live far.config (IsLiveRemote g.L.Line.is_live g.L.Line.awaits) (λ (r : Remote g.row.L.Denot). (g.L.Line.far r.line).states) c.args.self.now c.new.self.now c.args.key.now c.result c.ensures.moment;
     }
 
 pub push-tells : goal.push-tells
@@ -131,4 +140,5 @@ push-tells g c =
       follows = (λ over. (c.ensures.stays over.0 over.1).1, c.ensures.config);
       refuses = one_refuses (λ _. Done) (Push c.args.key.now c.args.state.now) old new c.result c.ensures.asked (λ own e. (c.ensures.stays own e).0);
       answers = one_answers (λ _. Done) (Push c.args.key.now c.args.state.now) old new c.result c.ensures.asked;
+      live = push_live far.config (IsLiveRemote g.L.Line.is_live g.L.Line.awaits) (λ (r : Remote g.row.L.Denot). (g.L.Line.far r.line).states) c.args.self.now c.new.self.now (c.args.key.now, c.args.state.now) c.result c.ensures.valid c.ensures.moment;
     }

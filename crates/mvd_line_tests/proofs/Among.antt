@@ -1,7 +1,7 @@
 -- A site at hand to which others write meanwhile, behind a live line.
-use Rattle.std.proofs.Common.{◌≡◌, ◌≢◌, inl, inr, ℕ, ◌≤◌, true, false, List, [], ◌∷◌, ◌++◌, Option, Some, None, refl, sym, ap, subst, ◌∙◌, arith}
+use Rattle.std.proofs.Common.{◌≡◌, ◌≢◌, inl, inr, ℕ, ◌≤◌, Bool, true, false, true≢false, List, [], ◌∷◌, ◌++◌, Option, Some, None, refl, sym, ap, subst, ◌∙◌, arith}
 use Rattle.std.proofs.lemmas.List.{append-nil, append_assoc}
-use Rattle.std.specs.Prelude.{Result, Ok, Err, IfErr, IfOk, IfSome, OnOk, option_map}
+use Rattle.std.specs.Prelude.{Result, Ok, Err, not, IfErr, IfOk, IfSome, OnOk, option_map}
 use Rattle.mvd_dots.specs.declared.refusals.Refusal.{Refusal}
 use Rattle.mvd_dots.specs.declared.refusals.Refusal.TheVariants.{Broken, Store}
 use Rattle.mvd_keys.specs.State.{IsValid, State, join}
@@ -98,7 +98,7 @@ session_grows config old new (Find f t after) r of p valid h = absurd (cc)
 session_grows config old new (Row v t) r of p valid h = absurd (cc)
 session_grows config old new (Rows v after) r of p valid h = absurd (cc)
 session_grows config old new (Range f from to after) r of p valid h = absurd (cc)
-session_grows config old new (KeysAsked p after) r of p valid h = absurd (cc)
+session_grows config old new (KeysAsked x after) r of p valid h = absurd (cc)
 session_grows config old new (Conflicts after) r of p valid h = absurd (cc)
 session_grows config old new (Hello t) r of p valid h = absurd (cc)
 session_grows config old new Bye r of p valid h = absurd (cc)
@@ -200,3 +200,7 @@ answered_grown old new q r of p held valid same so = record { was = p; is = held
 
 pub grown_over : (first mid last : SiteValue) → HasGrown first mid → HasGrown mid last → HasGrown first last
 grown_over first mid last up on = record { was = up.was; is = on.is; grows = grows_over first.states mid.states last.states up.was up.is on.is up.grows on.grows; config = on.config ∙ up.config }
+
+pub not_not : (b : Bool) → not b ≡ false → b ≡ true
+not_not true e = refl
+not_not false e = absurd (true≢false e)

@@ -1,7 +1,7 @@
 -- A site at hand to which others write meanwhile, behind a live line.
-use Rattle.std.proofs.Common.{◌≡◌, ◌≢◌, inl, inr, ℕ, ◌≤◌, Bool, true, false, true≢false, List, [], ◌∷◌, ◌++◌, Option, Some, None, refl, sym, ap, subst, ◌∙◌, arith}
+use Rattle.std.proofs.Common.{◌≡◌, ◌≢◌, inl, inr, ℕ, ◌≤◌, true, false, List, [], ◌∷◌, ◌++◌, Option, Some, None, refl, sym, ap, subst, ◌∙◌, arith}
 use Rattle.std.proofs.lemmas.List.{append-nil, append_assoc}
-use Rattle.std.specs.Prelude.{Result, Ok, Err, not, IfErr, IfOk, IfSome, OnOk, option_map}
+use Rattle.std.specs.Prelude.{Result, Ok, Err, IfErr, IfOk, IfSome, OnOk, option_map}
 use Rattle.mvd_dots.specs.declared.refusals.Refusal.{Refusal}
 use Rattle.mvd_dots.specs.declared.refusals.Refusal.TheVariants.{Broken, Store}
 use Rattle.mvd_keys.specs.State.{IsValid, State, join}
@@ -181,17 +181,17 @@ next_answer first mid last q r bytes after awaited left result up on so is spell
     answer_of (Err refusal) h = tt
     answer_of (Ok None) h = tt
     answer_of (Ok (Some frame)) h = subst (λ a. IsNextAnswer first.config a left first.states last.states (frame_value frame)) (sym is) (
-        refl,
-        r,
-        h.0,
-        last.states,
-        record {
-          before = mid.states;
-          was = (up.is, up.grows);
-          is = (on.is, on.grows);
-          so = subst (λ c. TrueReply c mid.states q r last.states) up.config so;
-        },
-        grows_same last.states on.is,
+      refl,
+      r,
+      h.0,
+      last.states,
+      record {
+        before = mid.states;
+        was = (up.is, up.grows);
+        is = (on.is, on.grows);
+        so = subst (λ c. TrueReply c mid.states q r last.states) up.config so;
+      },
+      grows_same last.states on.is,
     )
 
 -- what a session asked, or what is refused
@@ -200,7 +200,3 @@ answered_grown old new q r of p held valid same so = record { was = p; is = held
 
 pub grown_over : (first mid last : SiteValue) → HasGrown first mid → HasGrown mid last → HasGrown first last
 grown_over first mid last up on = record { was = up.was; is = on.is; grows = grows_over first.states mid.states last.states up.was up.is on.is up.grows on.grows; config = on.config ∙ up.config }
-
-pub not_not : (b : Bool) → not b ≡ false → b ≡ true
-not_not true e = refl
-not_not false e = absurd (true≢false e)

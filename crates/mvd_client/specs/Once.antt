@@ -1,6 +1,7 @@
 -- One session with one server: what both are asked behind it, and what is printed of it.
 use Rattle.std.specs.Prelude.{◌≡◌, ◌⊎◌, ⊤, ℕ, List, [], false, Option, None, Some, Result, Ok, Err, IsErrAnd}
 use Rattle.std.specs.Net.Socket.{socket_ip}
+use Rattle.std.specs.Result.{result_and}
 use Rattle.std.specs.declared.net.socket_addr.SocketAddr.{SocketAddr}
 use Rattle.mvd_client.specs.Between.{FailsBetween, MeetsBetween, far_within, true_within}
 use Rattle.mvd_client.specs.LetIn.{GivesIn}
@@ -42,11 +43,6 @@ EndsParted near far (Err refusal) far_bye result = (stop : Stop) × (result ≡ 
 EndsParted near far (Ok done) (Err refusal) result = (stop : Stop) × (result ≡ Err stop) × IsStopAt far refusal stop
 EndsParted near far (Ok done) (Ok also_done) result = result ≡ Ok tt
 
--- a command is stopped as the first was stopped, or else ends as the second
-abbrev pub EndsFirst : Result (Unit {0}) Stop → Result (Unit {0}) Stop → Result (Unit {0}) Stop → Type 0
-EndsFirst (Err stop) second result = result ≡ Err stop
-EndsFirst (Ok done) second result = result ≡ second
-
 module _ {L : Type 0} (line : LineGhosts L) where
   -- the link over a line whose frames are counted
   abbrev pub link_within : Remote (Counted L) → Link
@@ -86,7 +82,7 @@ module _ {L : Type 0} (line : LineGhosts L) where
   abbrev pub SaysByeAt : Counted L → Result (Unit {0}) Refusal → Type 0
   SaysByeAt at told = (at' : Counted L) × AsksAt bye_query at at' told
 
-  -- both are parted with, the first one first, however that ends
+  -- both are parted with, also where one of them refuses that
   pub record PartsBoth (near far : SocketAddr) (near_at far_at : Counted L) (result : Result (Unit {0}) Stop)
       : Type 0 where
     pub near_bye : Result (Unit {0}) Refusal
@@ -97,7 +93,7 @@ module _ {L : Type 0} (line : LineGhosts L) where
 
   -- WHAT COMES BEHIND A SESSION of two servers that ended well, over the lines that are kept. A root is not told, and
   -- nothing is printed; or what is printed is of the session, with the root that each server told, and then both are
-  -- parted with
+  -- parted with. The command is stopped as that was told, or else as they are parted with
   pub data ComesBehind (near far : SocketAddr) (near_at far_at : Counted L) (report : Report)
       (out out' : Option (List ℕ)) (result : Result (Unit {0}) Stop) : Type 0 where
     no_near : (stop : Stop) → HasNoRoot near near_at stop → result ≡ Err stop → out' ≡ out
@@ -108,7 +104,7 @@ module _ {L : Type 0} (line : LineGhosts L) where
     told : (near_at' far_at' : Counted L) (near_root far_root : Root) → SaysRoot near near_at near_at' near_root
         → SaysRoot far far_at far_at' far_root → (reported parted : Result (Unit {0}) Stop)
         → ReportsAs (meeting_text report near_root far_root) false report out out' reported
-        → PartsBoth near far near_at' far_at' parted → EndsFirst reported parted result
+        → PartsBoth near far near_at' far_at' parted → result ≡ result_and reported parted
         → ComesBehind near far near_at far_at report out out' result
 
   -- ONE SESSION WITH ONE SERVER, over lines that the addresses give. It failed, and nothing is printed; or this comes

@@ -2,29 +2,29 @@
 use Rattle.std.proofs.Common.{◌≡◌, ℕ, List, [], ◌∷◌, Option, None, Some, Result, Ok, Err, ◌∙◌, inl, inr, refl, subst, sym}
 use Rattle.std.specs.Prelude.{⊤}
 use Rattle.std.specs.List.{AllZip}
-use Rattle.std.specs.Result.{result_and}
 use Rattle.std.specs.declared.net.socket_addr.SocketAddr.{SocketAddr}
 use Rattle.mvd_client.specs.Between.{EndsBetween, far_within, true_within}
 use Rattle.mvd_client.specs.Met.{IsStopAt}
-use Rattle.mvd_client.specs.Once.{AsksAt, AsksRoot, ComesBehind, EndsParted, HasNoRoot, MeetsOnce, PartsBoth, SaysByeAt, SaysRoot, TellsRoot, link_within, own_of}
-use Rattle.mvd_client.specs.Once.ComesBehind.{no_far, no_near, told}
+use Rattle.mvd_client.specs.Once.{AsksAt, AsksRoot, ComesBehind, HasNoRoot, MeetsOnce, SaysRoot, link_within}
 use Rattle.mvd_client.specs.Once.MeetsOnce.{failed, met}
-use Rattle.mvd_client.specs.Reported.{ReportsAs, meeting_text, root_of}
+use Rattle.mvd_client.specs.Reported.{root_of}
 use Rattle.mvd_client.specs.declared.counted.Counted.{Counted}
 use Rattle.mvd_client.specs.declared.ends.Failure.{Failure}
 use Rattle.mvd_client.specs.declared.meeting.Root.{Root}
 use Rattle.mvd_dots.specs.declared.refusals.Refusal.{Refusal}
-use Rattle.mvd_dots.specs.declared.refusals.Refusal.TheVariants.{Memory}
 use Rattle.mvd_hint.specs.declared.hint.Stop.{Stop}
-use Rattle.mvd_remote.specs.Lines.{line_of, refused_of}
+use Rattle.mvd_remote.specs.Lines.{IsTrueRemote, far_of, line_of, refused_of}
 use Rattle.mvd_remote.specs.Links.{AsksLinkFor}
-use Rattle.mvd_remote.specs.Remotes.{Query, bye_query, node_query}
+use Rattle.mvd_remote.specs.Remotes.{Query, node_query}
 use Rattle.mvd_remote.specs.declared.line.Line.{Ghosts as LineGhosts}
 use Rattle.mvd_remote.specs.declared.remote.Remote.{Remote}
 use Rattle.mvd_sync.specs.declared.report.Report.{Report}
 use Rattle.mvd_wire.specs.declared.reply.Digests.{Digests}
 
 -- ---- what each of them is asked
+
+pub same_ok : {A : Type 0} (x y : A) → ◌≡◌ {A = Result A Refusal} (Ok x) (Ok y) → y ≡ x
+same_ok x y is = cc
 
 module _ {L : Type 0} (line : LineGhosts L) where
   -- a question over a line that was kept
@@ -38,6 +38,13 @@ module _ {L : Type 0} (line : LineGhosts L) where
     asked = asked;
     left = refl;
   }
+
+  -- what a line tells that was kept, it tells of the line as it was kept
+  pub truth_at : (kept : Option (Counted L)) (at link : Counted L) (before : Remote (Counted L)) (digest : List ℕ) → kept ≡ Some at → kept ≡ Some link → line_of before ≡ link → (true_within line link → (far_within line link).due ≡ [] → IsTrueRemote (true_within line) (far_within line) before)
+      → (IsTrueRemote (true_within line) (far_within line) before → digest ≡ root_of (far_of (far_within line) before).states) → true_within line at → (far_within line at).due ≡ [] → digest ≡ root_of (far_within line at).states
+  truth_at kept at link before digest kept_is took is opens tells t d =
+      let same : link ≡ at = cc in
+      subst (λ a. digest ≡ root_of (far_within line a).states) (is ∙ same) (tells (opens (subst (true_within line) (sym same) t) (subst (λ a. (far_within line a).due ≡ []) (sym same) d)))
 
   -- a root that was told
   pub root_told : (server : SocketAddr) (kept : Option (Counted L)) (at link : Counted L) (before after : Remote (Counted L)) (root : Root) → kept ≡ Some at → kept ≡ Some link → line_of before ≡ link → refused_of before ≡ None

@@ -19,7 +19,6 @@ use Rattle.mvd_remote.specs.Remotes.{Query, node_query}
 use Rattle.mvd_remote.specs.declared.line.Line.{Ghosts as LineGhosts}
 use Rattle.mvd_remote.specs.declared.remote.Remote.{Remote}
 use Rattle.mvd_sync.specs.declared.report.Report.{Report}
-use Rattle.mvd_wire.specs.declared.reply.Digests.{Digests}
 
 -- ---- what each of them is asked
 

@@ -183,7 +183,7 @@ fn part_both<'a, L: Line>(
     let near_parted = near.part(alloc);
     let far_parted = far.part(alloc);
     match (near_parted, far_parted) {
-        (Err(refusal), _) => Err(Stop::at_server(far.address, refusal)),
+        (Err(refusal), _) => Err(Stop::at_server(near.address, refusal)),
         (Ok(()), Err(refusal)) => Err(Stop::at_server(far.address, refusal)),
         (Ok(()), Ok(())) => Ok(()),
     }

@@ -10,8 +10,8 @@ soon     three servers in a ring with `--every 30`: how long a put at one of the
 idle     two servers of PEERS_KEYS (1000000) keys that name each other with `--every 1`: what they take of a processor, which has to
          be less than 1 percent
 rate     puts a second of 64 clients at a server with two peers and at one without, in turn: at least 0.6 of those without
-amiss    a server with peers that are silent, no `mvd`, closed at once, full, stopped for a while, gone and back, the server itself,
-         or ask for a token: each is told once, no client waits for any, and the server takes little of a processor
+amiss    a server with peers that are silent, no `mvd`, closed at once, full, stopped for a while, gone and back, or ask for a token:
+         each is told once, no client waits for any, and the server takes little of a processor; one that names itself
 stalls   a server with five peers that answer one question and then nothing, and one that is well: a put is there within 3 seconds
 
 It ends with 1 at the first answer that is not the one wanted. With --short, `soon` makes 40 puts, where each names the next, `idle`
@@ -285,15 +285,28 @@ class Amiss:
         wanted(f"each refused key is named once: {self.main.errors}", len(named) == len(set(named)) == 7)
         with urllib.request.urlopen(f"http://127.0.0.1:{self.http}/metrics") as response:
             metrics = response.read().decode()
-        for port in self.ports.values():
-            wanted(f"no metrics of {port}: {metrics}", f'mvd_peer_sessions_total{{peer="127.0.0.1:{port}"' in metrics)
+        for what, port in self.ports.items():
+            is_there = f'mvd_peer_sessions_total{{peer="127.0.0.1:{port}"' in metrics
+            wanted(f"metrics of {what}: {metrics}", is_there == (what != "itself"))
 
     def end(self):
         for server in self.main, self.stopped, *self.others:
             server.end()
 
 
+def alone(program, folder):
+    """A server that names itself ends once as many clients have come and gone as are to come."""
+    port = free()
+    server = Server(program, folder, 6, port, "--conns", 2, "--every", 1, "--peer", port)
+    for number in 1, 2:
+        Client(port).put("k", EMPTY, {"n": number})
+    ends = [f"connection {number} end" for number in (1, 2)]
+    until(f"a server that names itself ends after two clients: {server.out}", lambda: server.process.poll() == 0)
+    until(f"it tells of these two alone: {server.out}", lambda: sorted(server.out[1:-1]) == ends)
+
+
 def amiss(program, folder):
+    alone(program, folder)
     run = Amiss(program, folder)
     run.go_on()
     spent = used_all([run.main], 2)[0] / 2

@@ -238,11 +238,33 @@ refused "another program's database, with a table of one of our names" 1 "fault 
   "other.db is the file of another program: name another file" other.db shell --db other.db --site 2
 same "its bytes" "$other" "$(cksum <other.db)"
 same "no log beside it" "" "$(ls other.db-wal 2>/dev/null || :)"
+python3 -c 'import os, sqlite3
+db = sqlite3.connect("killed.db", isolation_level=None)
+for text in "PRAGMA journal_mode = wal", "CREATE TABLE note (title TEXT)", "INSERT INTO note VALUES (1)":
+    db.execute(text)
+os._exit(0)'
+other=$(cksum <killed.db)
+refused "another program's database, with pages in its log" 1 "fault 17 Damaged" \
+  "killed.db is the file of another program: name another file" killed.db-wal shell --db killed.db --site 2
+same "its bytes" "$other" "$(cksum <killed.db)"
 seq 2000 >none.db
 refused "no database" 1 "fault 21 Store" "none.db is no database of mvd, or damaged: name another file, or make a new site from a copy (docs/USING.md, Backups)" \
   none.db serve --db none.db --site 2 --port "$port"
 refused "no folder" 1 "fault 21 Store" "no/b.db: unable to open database file; check its folder, its permissions and the disk" \
   b.db shell --db no/b.db --site 2
+# An open that is refused for want of memory is told as that, and with no hint. Some of these limits (in KiB) leave too little.
+short=0
+for limit in 8000 10000 12000 14000; do
+  status=0
+  (ulimit -v "$limit" && exec "$program" shell --db short.db --site 2) </dev/null >out 2>fault || status=$?
+  case $status:$(tr '\n' '|' <fault) in
+    "1:mvd: fault 20 Memory|") short=$((short + 1)) ;;
+    0:* | 12[67]:* | 1[34]?:*) ;;
+    *) miss "an open with $limit KiB of memory: status $status: $(cat fault)" ;;
+  esac
+done
+[ "$short" -gt 0 ] || miss "no open was refused for want of memory"
+echo "opens without memory: $short, each told as 20"
 printf 'index city\nview v city n\nmax 1\n' >bad
 refused "a line that defines nothing" 3 "line 3: not a command" \
   "bad: a line is \`index F\` or \`view V G S\`, none of them twice, and at most 16 of either" \

@@ -1,8 +1,8 @@
 -- Why a file is refused, and what its command is stopped with.
-use Rattle.std.specs.Prelude.{ℕ, ◌≡◌, ◌⊎◌, IsTrue, List, Option, Some}
+use Rattle.std.specs.Prelude.{ℕ, ◌≡◌, ◌≢◌, ◌⊎◌, IsTrue, List, Option, Some, None}
 use Rattle.std.specs.Borrow.{Bor}
 use Rattle.mvd_dots.specs.declared.refusals.Refusal.{Refusal}
-use Rattle.mvd_dots.specs.declared.refusals.Refusal.TheVariants.{Damaged, Full, SiteMismatch, Store}
+use Rattle.mvd_dots.specs.declared.refusals.Refusal.TheVariants.{Damaged, Full, Memory, SiteMismatch, Store}
 use Rattle.mvd_input.specs.declared.fault.Fault.TheVariants.{Stopped}
 use Rattle.mvd_records.specs.Calls.{TellsOwner}
 use Rattle.mvd_records.specs.Causes.{NamesNone}
@@ -12,6 +12,9 @@ use Rattle.mvd_replica.specs.declared.file.FileFault.{FileFault}
 use Rattle.mvd_replica.specs.declared.file.FileFault.TheVariants as faults
 use Rattle.sqlite.specs.Held.{Held, state}
 use Rattle.sqlite.specs.State.{State}
+use Rattle.sqlite.specs.declared.error.Error.{Error}
+use Rattle.sqlite.specs.declared.error.Error.TheVariants.{SqliteFailure}
+use Rattle.sqlite.specs.declared.error.ErrorCode.TheVariants.{OutOfMemory}
 use Rattle.sqlite_disk.specs.declared.Disk as disk
 use Rattle.sqlite_store.specs.declared.store.FileStore.{FileStore}
 use Rattle.sqlite_trees.specs.declared.store.Store.{Ghosts}
@@ -47,6 +50,11 @@ pub record TellsOurs (file : Bor (List ℕ)) (refusal : Refusal) (old new : Stat
   pub unnamed : NamesNone old new owner
   pub told : TellsRefusal file refusal owner stop
 
+-- no database could be opened: for want of memory, which is of no file; or for another cause
+pub record TellsUnusable (error : Error) (stop : Stop) : Type 0 where
+  pub memory : error ≡ SqliteFailure OutOfMemory → (stop.fault ≡ Stopped Memory) × (stop.hint ≡ None)
+  pub other : error ≢ SqliteFailure OutOfMemory → stop.fault ≡ Stopped Store
+
 -- What is told of a file that was not opened as a site: that no database could be opened; or why its records are
 -- refused, which are read for that
 module _ {D : Type 0} {g : disk.Ghosts D} (f : Ghosts (FileStore D g)) where
@@ -59,6 +67,6 @@ module _ {D : Type 0} {g : disk.Ghosts D} (f : Ghosts (FileStore D g)) where
         → TellsOurs file refusal (state f old) (state f new) stop
 
   abbrev pub TellsFileFault : Bor (List ℕ) → FileFault D g → Stop → Type 0
-  TellsFileFault file (faults.File error left) stop = stop.fault ≡ Stopped Store
+  TellsFileFault file (faults.File error left) stop = TellsUnusable error stop
   TellsFileFault file (faults.Records refusal conn) stop =
       (after : Held (FileStore D g)) × TellsRecords file refusal conn after stop

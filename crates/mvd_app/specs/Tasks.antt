@@ -8,8 +8,8 @@ use Rattle.mvd_app.specs.Named.{StopsAtToken}
 use Rattle.mvd_app.specs.Noted.{Noting, at_noted}
 use Rattle.mvd_app.specs.declared.commands.Work.{Work}
 use Rattle.mvd_app.specs.declared.commands.Work.TheVariants as work
-use Rattle.mvd_client.specs.Between.{MeetsServer}
 use Rattle.mvd_client.specs.LetIn.{GivesIn}
+use Rattle.mvd_client.specs.Once.{MeetsServer}
 use Rattle.mvd_client.specs.SyncsAt.{TellsSession}
 use Rattle.mvd_client.specs.Talked.{ShellsAt}
 use Rattle.mvd_hint.specs.declared.hint.Stop.{Stop}

@@ -1,7 +1,7 @@
 //! A site opened from its file, which is made where it is missing; or why it was not.
 ghost use Rattle.std.specs.Prelude.{◌≡◌, ◌++◌, IfErr, IfOk, IsErrAnd, IsTrue, Ok, codes, false, string_bytes, true};
 ghost use Rattle.mvd_app.specs.Found.{is_lost, is_missing};
-ghost use Rattle.mvd_app.specs.Refused.{TellsEither, TellsFileFault, TellsForeign, TellsOurs};
+ghost use Rattle.mvd_app.specs.Refused.{TellsEither, TellsFileFault, TellsForeign, TellsOurs, TellsUnusable};
 ghost use Rattle.mvd_app.specs.Stored.{CannotOpen, RefusesFile, TellsLost};
 ghost use Rattle.mvd_records.specs.Foreign.{HoldsForeign};
 ghost use Rattle.mvd_records.specs.Records.{OnlyReads};
@@ -14,14 +14,18 @@ use mvd_hint::Stop;
 use mvd_records::{is_foreign, owner_in};
 use mvd_replica::{FileFault, Replica, open_file};
 use mvd_site::Config;
-use sqlite::{Alter, Connection, FileFrom, FileStore, Start};
+use sqlite::{Alter, Connection, ErrorCode, FileFrom, FileStore, Start};
 use sqlite_disk::Disk;
 use sqlite_trees::store::Store;
 use std::alloc::AllocError;
+use std::fs::OpenOptions;
 use std::{fs, io};
 
 /// Fewer bytes than a log with a page takes: 32 for its head, 24 for that of the page, and 512 for the page.
 const LEAST_LOG: u64 = 568;
+
+/// As many bytes come to a log with pages where it is opened: the last of them shuts it behind its last page.
+const SHUT: u64 = 9;
 
 /// What the system tells of a file, and of the log beside it. It is `None` where it tells nothing.
 #[derive(Clone, Copy)]
@@ -104,7 +108,7 @@ fn opened_as<'a, S: Start>(
             }
             Ok(replica)
         }
-        Err(fault) => Err(unopened(rt, db, fault)),
+        Err(fault) => Err(unopened(rt, db, told.log, fault)),
     }
 }
 
@@ -117,34 +121,58 @@ fn log_length(rt: &HostRuntime, file: &str) -> io::Result<u64> {
     Ok(fs::metadata(rt, log.as_str())?.len())
 }
 
-/// Why a file was not opened as a site. The open makes a log where there is none. It is removed while the file's lock
-/// is still held, so that nobody else has it open.
-fn unopened<'a, D: Disk + Drop>(rt: &HostRuntime, file: &'a str, fault: FileFault<D>) -> Stop<'a>
+/// Why a file was not opened as a site. The open makes a log where there is none, and may add to one. It is left as it
+/// was, with as many bytes, while the file's lock is still held, so that nobody else has it open.
+fn unopened<'a, D: Disk + Drop>(
+    rt: &HostRuntime,
+    file: &'a str,
+    log: Option<u64>,
+    fault: FileFault<D>,
+) -> Stop<'a>
     ensures { TellsFileFault ⟦<FileStore<D> as Store>⟧ file.entry fault result }
 {
     match fault {
         FileFault::File(error, left) => {
             if left.is_some() {
-                let _ = remove_log(rt, file);
+                let _ = leave_log(rt, file, log);
             }
             drop(left);
-            Stop::in_file(file, error)
+            unusable(file, error)
         }
         FileFault::Records(refusal, mut conn) => {
             let stop = refused_in(file, refusal, &mut conn);
-            let _ = remove_log(rt, file);
+            let _ = leave_log(rt, file, log);
             drop(conn);
             stop
         }
     }
 }
 
-/// Removes the log beside a file, where it holds no page.
-fn remove_log(rt: &HostRuntime, file: &str) -> io::Result<()> {
-    if log_length(rt, file)? < LEAST_LOG {
-        fs::remove_file(rt, log_beside(rt, file)?.as_str())?;
+/// What a command is stopped with where no database could be opened. Want of memory is told as such.
+fn unusable<'a>(file: &'a str, error: sqlite::Error) -> Stop<'a>
+    ensures { TellsUnusable error result }
+{
+    match error {
+        sqlite::Error::SqliteFailure(ErrorCode::OutOfMemory) => Stop::from(Refusal::Memory),
+        error => Stop::in_file(file, error),
     }
-    Ok(())
+}
+
+/// Removes the log beside a file, where it holds no page. Where the open added to it, and nobody else did, it has as
+/// many bytes again as it had before.
+fn leave_log(rt: &HostRuntime, file: &str, before: Option<u64>) -> io::Result<()> {
+    let bytes = log_length(rt, file)?;
+    let log = log_beside(rt, file)?;
+    if bytes < LEAST_LOG {
+        return fs::remove_file(rt, log.as_str());
+    }
+    match before {
+        Some(before) if bytes == before.saturating_add(SHUT) => {
+            let log = OpenOptions::new().write(true).open(rt, log.as_str())?;
+            log.set_len(before)
+        }
+        _ => Ok(()),
+    }
 }
 
 /// The name of the log beside a file.

@@ -14,8 +14,8 @@ use sqlite::Alter;
 use std::io::Write;
 use std::net::SocketAddr;
 
-/// Serves a stored site at an address, and meets the peers meanwhile, if there are any. It waits for nobody who should
-/// read what it prints.
+/// Serves a stored site at an address, and meets the peers meanwhile, if there are any: those of the list but itself. It
+/// waits for nobody who should read what it prints.
 #[tactic(auto, using(crate::proofs::Unserved::serves_nothing))]
 pub(crate) fn serve_stored<'a, K: Sockets, S: Alter + Drop, W: Write>(
     rt: &HostRuntime,
@@ -47,9 +47,11 @@ pub(crate) fn serve_stored<'a, K: Sockets, S: Alter + Drop, W: Write>(
             &mut errors,
         );
     };
-    let Ok(addresses) = addresses_of(rt.alloc(), address.ip(), peers.list) else {
+    let Ok(mut addresses) = addresses_of(rt.alloc(), address.ip(), peers.list) else {
         return Err(Stop::from(Refusal::Memory));
     };
+    // All servers may name one list.
+    addresses.retain(|peer| !is_own(address, *peer));
     let terms = Terms {
         peers: &addresses,
         every: peers.every,
@@ -65,4 +67,10 @@ pub(crate) fn serve_stored<'a, K: Sockets, S: Alter + Drop, W: Write>(
         &mut outlet,
         &mut errors,
     )
+}
+
+/// Whether whoever connects to `peer` comes to the server that listens at `own`.
+fn is_own(own: SocketAddr, peer: SocketAddr) -> bool {
+    let (at, to) = (own.ip(), peer.ip());
+    own.port() == peer.port() && (at == to || (at.is_unspecified() && to.is_loopback()))
 }

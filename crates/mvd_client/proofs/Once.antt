@@ -1,53 +1,83 @@
--- One session with one server, and what is printed of it.
-use Rattle.std.proofs.Common.{◌≡◌, ℕ, List, [], ◌∷◌, Option, None, Some, Result, Ok, Err, Bool, false, ◌∙◌, inl, inr, refl, subst, sym, true≢false}
-use Rattle.std.specs.Prelude.{⊤, is_err}
+-- One session with one server, what both are asked behind it, and what is printed of it.
+use Rattle.std.proofs.Common.{◌≡◌, ℕ, List, [], ◌∷◌, Option, None, Some, Result, Ok, Err, ◌∙◌, inl, inr, refl, subst, sym}
+use Rattle.std.specs.Prelude.{⊤}
 use Rattle.std.specs.List.{AllZip}
 use Rattle.std.specs.declared.net.socket_addr.SocketAddr.{SocketAddr}
-use Rattle.mvd_client.specs.Between.{EndsBetween, EndsTold, MeetsOnce, SaysRoot}
-use Rattle.mvd_client.specs.Between.MeetsOnce.{failed, met, no_root}
-use Rattle.mvd_client.specs.Met.{IsStopAt, IsStoppedAt}
-use Rattle.mvd_client.specs.Reported.{ReportsAs, meeting_text}
+use Rattle.mvd_client.specs.Between.{EndsBetween, far_within, true_within}
+use Rattle.mvd_client.specs.Met.{IsStopAt}
+use Rattle.mvd_client.specs.Once.{AsksAt, AsksRoot, ComesBehind, HasNoRoot, MeetsOnce, SaysRoot, link_within}
+use Rattle.mvd_client.specs.Once.MeetsOnce.{failed, met}
+use Rattle.mvd_client.specs.Reported.{root_of}
 use Rattle.mvd_client.specs.declared.counted.Counted.{Counted}
 use Rattle.mvd_client.specs.declared.ends.Failure.{Failure}
 use Rattle.mvd_client.specs.declared.meeting.Root.{Root}
 use Rattle.mvd_dots.specs.declared.refusals.Refusal.{Refusal}
 use Rattle.mvd_hint.specs.declared.hint.Stop.{Stop}
-use Rattle.mvd_remote.specs.Lines.{line_of}
+use Rattle.mvd_remote.specs.Lines.{IsTrueRemote, far_of, line_of, refused_of}
+use Rattle.mvd_remote.specs.Links.{AsksLinkFor}
+use Rattle.mvd_remote.specs.Remotes.{Query, node_query}
 use Rattle.mvd_remote.specs.declared.line.Line.{Ghosts as LineGhosts}
+use Rattle.mvd_remote.specs.declared.remote.Remote.{Remote}
 use Rattle.mvd_sync.specs.declared.report.Report.{Report}
+
+-- ---- what each of them is asked
+
+pub same_ok : {A : Type 0} (x y : A) → ◌≡◌ {A = Result A Refusal} (Ok x) (Ok y) → y ≡ x
+same_ok x y is = cc
+
+module _ {L : Type 0} (line : LineGhosts L) where
+  -- a question over a line that was kept
+  pub asks_at : {A : Type 0} (query : Query A) (kept : Option (Counted L)) (at link : Counted L) (before after : Remote (Counted L)) (told : Result A Refusal) → kept ≡ Some at → kept ≡ Some link → line_of before ≡ link → refused_of before ≡ None
+      → AsksLinkFor query.as_reply query.request (link_within line before) (link_within line after) told → AsksAt line query at (line_of after) told
+  asks_at query kept at link before after told kept_is took is goes asked = record {
+    before = before;
+    after = after;
+    at_line = (let same : link ≡ at = cc in is ∙ same);
+    goes_on = goes;
+    asked = asked;
+    left = refl;
+  }
+
+  -- what a line tells that was kept, it tells of the line as it was kept
+  pub truth_at : (kept : Option (Counted L)) (at link : Counted L) (before : Remote (Counted L)) (digest : List ℕ) → kept ≡ Some at → kept ≡ Some link → line_of before ≡ link → (true_within line link → (far_within line link).due ≡ [] → IsTrueRemote (true_within line) (far_within line) before)
+      → (IsTrueRemote (true_within line) (far_within line) before → digest ≡ root_of (far_of (far_within line) before).states) → true_within line at → (far_within line at).due ≡ [] → digest ≡ root_of (far_within line at).states
+  truth_at kept at link before digest kept_is took is opens tells t d =
+      let same : link ≡ at = cc in
+      subst (λ a. digest ≡ root_of (far_within line a).states) (is ∙ same) (tells (opens (subst (true_within line) (sym same) t) (subst (λ a. (far_within line a).due ≡ []) (sym same) d)))
+
+  -- a root that was told
+  pub root_told : (server : SocketAddr) (kept : Option (Counted L)) (at link : Counted L) (before after : Remote (Counted L)) (root : Root) → kept ≡ Some at → kept ≡ Some link → line_of before ≡ link → refused_of before ≡ None
+      → AsksRoot (link_within line) before after (Ok root.digest) → root.address ≡ server → (true_within line at → (far_within line at).due ≡ [] → root.digest ≡ root_of (far_within line at).states) → SaysRoot line server at (line_of after) root
+  root_told server kept at link before after root kept_is took is goes (inl (memory, same)) address truth = absurd cc
+  root_told server kept at link before after root kept_is took is goes (inr (Ok digests, asked, own)) address truth = record {
+    address = address;
+    digests = digests;
+    asked = asks_at (node_query []) kept at link before after (Ok digests) kept_is took is goes asked;
+    own = cc;
+    truth = truth;
+  }
+  root_told server kept at link before after root kept_is took is goes (inr (Err refusal, asked, own)) address truth = absurd cc
+
+  -- a root that was not
+  pub root_refused : (server : SocketAddr) (kept : Option (Counted L)) (at link : Counted L) (before after : Remote (Counted L)) (refusal : Refusal) (stop : Stop) → kept ≡ Some at → kept ≡ Some link → line_of before ≡ link → refused_of before ≡ None
+      → AsksRoot (link_within line) before after (Err refusal) → IsStopAt server refusal stop → HasNoRoot line server at stop
+  root_refused server kept at link before after refusal stop kept_is took is goes (inl (memory, same)) stops = record { refusal = refusal; stops = stops; why = inl cc }
+  root_refused server kept at link before after refusal stop kept_is took is goes (inr (Ok digests, asked, own)) stops = absurd cc
+  root_refused server kept at link before after refusal stop kept_is took is goes (inr (Err other, asked, own)) stops =
+      let same : other ≡ refusal = cc in
+      record { refusal = refusal; stops = stops; why = inr (line_of after, asks_at (node_query []) kept at link before after (Err refusal) kept_is took is goes (subst (λ r. AsksLinkFor (node_query []).as_reply (node_query []).request (link_within line before) (link_within line after) (Err r)) same asked)) }
+
+-- ---- one session
 
 module _ {L : Type 0} (line : LineGhosts L) (near_gives far_gives : L → Type 0) (near far : SocketAddr) (near_kept far_kept : Option (Counted L)) (out : Option (List ℕ)) where
   pub once_failed : (failure : Failure) → EndsBetween line near_gives far_gives ⊤ ⊤ near far near_kept far_kept (Err failure) → MeetsOnce line near_gives far_gives near far out out (Err failure.stop)
   once_failed failure it = failed failure it refl refl
 
-  module _ (report : Report) (it : EndsBetween line near_gives far_gives ⊤ ⊤ near far near_kept far_kept (Ok report)) where
-    pub once_no_near : (near_at : SocketAddr) (stop : Stop) → near_at ≡ near → IsStoppedAt near_at stop → MeetsOnce line near_gives far_gives near far out out (Err stop)
-    once_no_near near_at stop same at = no_root report it.0 stop (inl (subst (λ a. IsStoppedAt a stop) same at)) refl refl
-
-    pub once_no_far : (far_at : SocketAddr) (stop : Stop) → far_at ≡ far → IsStoppedAt far_at stop → MeetsOnce line near_gives far_gives near far out out (Err stop)
-    once_no_far far_at stop same at = no_root report it.0 stop (inr (subst (λ a. IsStoppedAt a stop) same at)) refl refl
-
-    pub once_met : (near_root far_root : Root) (near_at far_at : SocketAddr) → near_at ≡ near → far_at ≡ far → ((at : Counted L) → near_kept ≡ Some at → SaysRoot line near_at at near_root) → ((at : Counted L) → far_kept ≡ Some at → SaysRoot line far_at at far_root)
-        → (out' : Option (List ℕ)) (told result : Result (Unit {0}) Stop) → ReportsAs (meeting_text report near_root far_root) false report out out' told → EndsTold line near far told result → MeetsOnce line near_gives far_gives near far out out' result
-    once_met near_root far_root near_at far_at near_same far_same near_told far_told out' told result reports ends = met report it.0 near_root far_root
-        (subst (λ a. SaysRoot line a (line_of it.0.near') near_root) near_same (near_told (line_of it.0.near') it.1))
-        (subst (λ a. SaysRoot line a (line_of it.0.far') far_root) far_same (far_told (line_of it.0.far') it.2)) told reports ends
-
--- ---- how it ends
-
-pub was_told : (told : Result (Unit {0}) Stop) (is : Bool) → is ≡ is_err told → is ≡ false → told ≡ Ok tt
-was_told (Ok done) is same not = refl
-was_told (Err stop) is same not = absurd (true≢false (sym same ∙ not))
-
-module _ {L : Type 0} (line : LineGhosts L) (near far : SocketAddr) (told : Result (Unit {0}) Stop) where
-  pub told_whole : told ≡ Ok tt → EndsTold line near far told (Ok tt)
-  told_whole is = inl (sym is)
-
-  pub no_near_bye : (near_at : SocketAddr) (refusal : Refusal) (stop : Stop) → near_at ≡ near → IsStopAt near_at refusal stop → told ≡ Ok tt → EndsTold line near far told (Err stop)
-  no_near_bye near_at refusal stop same at is = inr (is, stop, refl, inl (refusal, subst (λ a. IsStopAt a refusal stop) same at))
-
-  pub no_far_bye : (far_at : SocketAddr) (refusal : Refusal) (stop : Stop) → far_at ≡ far → IsStopAt far_at refusal stop → told ≡ Ok tt → EndsTold line near far told (Err stop)
-  no_far_bye far_at refusal stop same at is = inr (is, stop, refl, inr (refusal, subst (λ a. IsStopAt a refusal stop) same at))
+  pub once_met : (report : Report) (it : EndsBetween line near_gives far_gives ⊤ ⊤ near far near_kept far_kept (Ok report)) (near_at far_at : SocketAddr) → near_at ≡ near → far_at ≡ far → (out' : Option (List ℕ)) (result : Result (Unit {0}) Stop)
+      → ((a b : Counted L) → near_kept ≡ Some a → far_kept ≡ Some b → ComesBehind line near_at far_at a b report out out' result) → MeetsOnce line near_gives far_gives near far out out' result
+  once_met report it near_at far_at near_is far_is out' result behind = met report it.0
+      (subst (λ a. ComesBehind line near a (line_of it.0.near') (line_of it.0.far') report out out' result) far_is
+      (subst (λ a. ComesBehind line a far_at (line_of it.0.near') (line_of it.0.far') report out out' result) near_is (behind (line_of it.0.near') (line_of it.0.far') it.1 it.2)))
 
 -- ---- a list with one server
 

@@ -1,19 +1,11 @@
--- Sessions of two servers, each at the other end of a line that its address leads to, and what is printed of them.
-use Rattle.std.specs.Prelude.{◌≡◌, ◌⊎◌, ⊤, ℕ, List, [], false, Option, None, Some, Result, Ok, Err, IfOk, IsErrAnd}
-use Rattle.std.specs.Net.Socket.{socket_ip}
+-- Sessions of two servers, each at the other end of a line that its address leads to.
+use Rattle.std.specs.Prelude.{◌≡◌, ⊤, Option, None, Some, Result, Ok, Err, IfOk}
 use Rattle.std.specs.declared.net.socket_addr.SocketAddr.{SocketAddr}
-use Rattle.mvd_client.specs.LetIn.{GivesIn}
-use Rattle.mvd_client.specs.Met.{IsFailureOf, IsStoppedAt}
-use Rattle.mvd_client.specs.Reported.{ReportsAs, meeting_text, root_of}
+use Rattle.mvd_client.specs.Met.{IsFailureOf}
 use Rattle.mvd_client.specs.Stopped.{IsUndialed}
 use Rattle.mvd_client.specs.SyncSides.{LineSide, sides_between}
 use Rattle.mvd_client.specs.declared.counted.Counted.{Counted}
 use Rattle.mvd_client.specs.declared.ends.Failure.{Failure}
-use Rattle.mvd_client.specs.declared.meeting.Root.{Root}
-use Rattle.mvd_dots.specs.declared.refusals.Refusal.TheVariants.{Memory}
-use Rattle.mvd_hint.specs.declared.hint.Stop.{Stop}
-use Rattle.mvd_input.specs.Addresses.{IsAddress}
-use Rattle.mvd_input.specs.declared.fault.Fault.TheVariants.{Stopped}
 use Rattle.mvd_peer.specs.Sides.{two}
 use Rattle.mvd_remote.specs.Lines.{Far, line_of, refused_of}
 use Rattle.mvd_remote.specs.declared.line.Line.{Ghosts as LineGhosts}
@@ -80,43 +72,3 @@ module _ {L : Type 0} (line : LineGhosts L) where
       × (near_kept ≡ Some (line_of it.near')) × (far_kept ≡ Some (line_of it.far'))
   EndsBetween near_gives far_gives near_fresh far_fresh near far near_kept far_kept (Err failure) =
       FailsBetween near_gives far_gives near_fresh far_fresh near far failure
-
-  -- the root of a server, as it was told over a line: of a true side, where no reply was due, that of all that it holds
-  pub record SaysRoot (server : SocketAddr) (at : Counted L) (root : Root) : Type 0 where
-    pub address : root.address ≡ server
-    pub digest : true_within at → (far_within at).due ≡ [] → root.digest ≡ root_of (far_within at).states
-
-  -- ---- one session with one server
-
-  -- a Bye to either of them failed
-  abbrev pub StopsAtBye : SocketAddr → SocketAddr → Stop → Type 0
-  StopsAtBye near far stop = IsStoppedAt near stop ⊎ IsStoppedAt far stop
-
-  -- the report was told; and where all of it was, a Bye may stop the command
-  abbrev pub EndsTold : SocketAddr → SocketAddr → Result (Unit {0}) Stop → Result (Unit {0}) Stop → Type 0
-  EndsTold near far told result =
-      (result ≡ told) ⊎ ((told ≡ Ok tt) × (stop : Stop) × (result ≡ Err stop) × StopsAtBye near far stop)
-
-  -- ONE SESSION WITH ONE SERVER, over lines that the addresses give. It failed, and nothing is printed; or a root was
-  -- not told; or what is printed is of the session that ran, with the root that either server told
-  pub data MeetsOnce (near_gives far_gives : L → Type 0) (near far : SocketAddr) (out out' : Option (List ℕ))
-      (result : Result (Unit {0}) Stop) : Type 0 where
-    failed : (failure : Failure) → FailsBetween near_gives far_gives ⊤ ⊤ near far failure → result ≡ Err failure.stop
-        → out' ≡ out → MeetsOnce near_gives far_gives near far out out' result
-    no_root : (report : Report) → MeetsBetween near_gives far_gives ⊤ ⊤ (Ok report) → (stop : Stop)
-        → IsStoppedAt near stop ⊎ IsStoppedAt far stop → result ≡ Err stop → out' ≡ out
-        → MeetsOnce near_gives far_gives near far out out' result
-    met : (report : Report) → (it : MeetsBetween near_gives far_gives ⊤ ⊤ (Ok report)) → (near_root far_root : Root)
-        → SaysRoot near (line_of it.near') near_root → SaysRoot far (line_of it.far') far_root
-        → (told : Result (Unit {0}) Stop)
-        → ReportsAs (meeting_text report near_root far_root) false report out out' told
-        → EndsTold near far told result → MeetsOnce near_gives far_gives near far out out' result
-
-  -- so with the server that a text names: a port alone is at the address of the first. Or memory was refused for it
-  pub data MeetsServer (gives : SocketAddr → L → Type 0) (token : Option (List ℕ)) (near : SocketAddr) (text : List ℕ)
-      (out out' : Option (List ℕ)) (result : Result (Unit {0}) Stop) : Type 0 where
-    no_address : IsErrAnd result (λ stop. stop.fault ≡ Stopped Memory) → out' ≡ out
-        → MeetsServer gives token near text out out' result
-    once : (far : SocketAddr) → IsAddress (socket_ip near) text far
-        → MeetsOnce (GivesIn line (gives near) token) (GivesIn line (gives far) token) near far out out' result
-        → MeetsServer gives token near text out out' result

@@ -1,4 +1,5 @@
 pub mod Between
+pub mod Once
 pub mod Met
 pub mod Pushing
 pub mod Questioned

@@ -43,7 +43,3 @@ IsStopAt address refusal stop =
 abbrev pub IsFailureOf : SocketAddr → SocketAddr → SyncFault → Failure → Type 0
 IsFailureOf near far (by.Local refusal) failure = (failure.side ≡ side.Local) × IsStopAt near refusal failure.stop
 IsFailureOf near far (by.Peer refusal) failure = (failure.side ≡ side.Peer) × IsStopAt far refusal failure.stop
-
--- so by some refusal
-abbrev pub IsStoppedAt : SocketAddr → Stop → Type 0
-IsStoppedAt address stop = (refusal : Refusal) × IsStopAt address refusal stop

@@ -1,9 +1,11 @@
 //! The servers that meet, the connections with them, and one session of two of them.
-ghost use Rattle.std.specs.Prelude.{◌≡◌, IfErr, IfOk, None, OnErr, Some, option_copied};
-ghost use Rattle.mvd_client.specs.Between.{EndsBetween, IsFreshLine, SaysRoot};
+ghost use Rattle.std.specs.Prelude.{◌≡◌, IfErr, IfOk, IsErrAnd, None, OnErr, Some, option_copied};
+ghost use Rattle.mvd_client.specs.Between.{EndsBetween, IsFreshLine};
 ghost use Rattle.mvd_client.specs.LetIn.{GivesIn};
-ghost use Rattle.mvd_client.specs.Met.{IsFailureOf, IsStoppedAt};
+ghost use Rattle.mvd_client.specs.Met.{IsFailureOf, IsStopAt};
+ghost use Rattle.mvd_client.specs.Once.{SaysByeAt, TellsRoot};
 ghost use Rattle.mvd_client.specs.Stopped.{IsUndialed};
+ghost use Rattle.mvd_dots.specs.declared.refusals.Refusal.TheVariants.{Truncated};
 
 use crate::counted::Counted;
 use crate::dial::{Dial, let_in, undialed};
@@ -69,7 +71,8 @@ impl<L: Line> End<L> {
 
     /// Says Bye where a connection is open, which ends.
     pub(crate) fn part(&mut self, alloc: Global) -> Result<(), Refusal>
-        ensures { self.new.address ≡ self.old.address }
+        ensures address { self.new.address ≡ self.old.address }
+        ensures said { (at : Counted L) → self.old.link ≡ Some at → SaysByeAt L.Line at result }
     {
         match self.link.take() {
             Some(link) => Remote::over(alloc, link).bye(),
@@ -80,9 +83,9 @@ impl<L: Line> End<L> {
     /// The digest of all that the server holds, over the connection that is open.
     pub(crate) fn root<'a>(&mut self, alloc: Global) -> Result<Root, Stop<'a>>
         ensures address { self.new.address ≡ self.old.address }
-        ensures told { IfOk result (λ root. (at : Counted L) → self.old.link ≡ Some at →
-            SaysRoot L.Line self.old.address at root) }
-        ensures stopped { IfErr result (IsStoppedAt self.old.address) }
+        ensures told { (at : Counted L) → self.old.link ≡ Some at →
+            TellsRoot L.Line self.old.address at self.new.link result }
+        ensures none { self.old.link ≡ None → IsErrAnd result (IsStopAt self.old.address Truncated) }
     {
         let address = self.address;
         let Some(link) = self.link.take() else {

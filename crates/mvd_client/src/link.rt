@@ -1,4 +1,4 @@
-//! A connection to a server: what is sent waits until something would be read.
+//! A connection to a server: what is sent leaves at once.
 ghost use Rattle.std.specs.Prelude.{◌≡◌, ◌++◌, [], IfErr, IfOk, None, Some};
 ghost use Rattle.mvd_dots.specs.declared.refusals.Refusal.TheVariants.{Memory};
 ghost use Rattle.mvd_client.specs.Sent.{bytes_in};
@@ -10,29 +10,16 @@ use mvd_frames::{read_frame, write_frame};
 use mvd_remote::Line;
 use mvd_wire::Frame;
 use std::alloc::Global;
-use std::io::{self, BufReader, BufWriter, Read, Write};
+use std::io::{self, BufReader, Read, Write};
 
-/// The most bytes that are read at once, and that may wait to be sent.
+/// The most bytes that are read at once.
 const PIECE: usize = 65_536;
 
-/// A stream, and what waits to be sent over it: that leaves before anything is read.
-#[derive(Drop)]
-struct Waiting<S: Read + Write + Drop> {
-    stream: BufWriter<S>,
-}
-
-impl<S: Read + Write + Drop> Read for Waiting<S> {
-    fn read(&mut self, buf: &mut [u8]) -> io::Result<usize> {
-        self.stream.flush()?;
-        self.stream.get_mut().read(buf)
-    }
-}
-
-/// A stream to a server, which is read and written, many bytes at once. So all requests of a window leave together, and
-/// none of them waits while a reply is waited for.
+/// A stream to a server, which is read many bytes at once. The requests of a window are sent together, and leave before
+/// a reply is waited for. So a stream that does not take them is told as such, and not as one that cannot be read.
 #[derive(Drop)]
 pub struct Link<S: Read + Write + Drop> {
-    stream: BufReader<Waiting<S>>,
+    stream: BufReader<S>,
     /// The bytes that it took to send, for proofs alone.
     sent: Log<u8, ()>,
 }
@@ -42,10 +29,7 @@ impl<S: Read + Write + Drop> Link<S> {
         ensures none { IfOk result (λ link. link.sent.items ≡ []) }
         ensures memory { IfErr result (λ refusal. refusal ≡ Memory) }
     {
-        let Ok(stream) = BufWriter::with_capacity(alloc, PIECE, stream) else {
-            return Err(Refusal::Memory);
-        };
-        match BufReader::with_capacity(alloc, PIECE, Waiting { stream }) {
+        match BufReader::with_capacity(alloc, PIECE, stream) {
             Ok(stream) => Ok(Link {
                 stream,
                 sent: Log::new(),
@@ -59,7 +43,7 @@ impl<S: Read + Write + Drop> Write for Link<S> {
     ghost contents = { λ link. Some (bytes_in link.sent.items) };
 
     fn write(&mut self, bytes: &[u8]) -> io::Result<usize> {
-        match self.stream.get_mut().stream.write(bytes) {
+        match self.stream.get_mut().write(bytes) {
             Ok(count) => {
                 note(&mut self.sent, &bytes[..count]);
                 Ok(count)
@@ -69,7 +53,7 @@ impl<S: Read + Write + Drop> Write for Link<S> {
     }
 
     fn flush(&mut self) -> io::Result<()> {
-        self.stream.get_mut().stream.flush()
+        self.stream.get_mut().flush()
     }
 }
 
@@ -102,7 +86,11 @@ impl<S: Read + Write + Drop> Line for Link<S> {
     ghost live_form = { λ _ never. absurd never };
 
     fn send(&mut self, frames: &[u8]) -> Result<(), Refusal> {
-        write_frame(self, frames)
+        write_frame(self, frames)?;
+        match self.flush() {
+            Ok(()) => Ok(()),
+            Err(_) => Err(Refusal::WriteFailed),
+        }
     }
 
     fn receive(&mut self, alloc: Global) -> Result<Option<Frame>, Refusal> {

@@ -2,12 +2,14 @@
 ghost use Rattle.std.specs.Prelude.{◌≡◌, ◌≢◌, ◌≤◌, ◌+◌, ◌++◌, [], IfErr, IfOk, IsErr, OnOk, false, string_bytes};
 ghost use Rattle.std.specs.Io.KnownBytes.{Appends};
 ghost use Rattle.mvd_client.specs.Met.{MeetsFars};
+ghost use Rattle.mvd_client.specs.Once.{AsksRoot};
 ghost use Rattle.mvd_client.specs.Questioned.{CountsFew, questions};
 ghost use Rattle.mvd_client.specs.Reported.{CutReport, ReportsAs, meeting_text, root_at_text, root_of};
 ghost use Rattle.mvd_client.specs.SyncSides.{line_side, sides_between};
 ghost use Rattle.mvd_dots.specs.declared.refusals.Refusal.TheVariants.{Memory};
 ghost use Rattle.mvd_peer.specs.Sides.{two};
 ghost use Rattle.mvd_remote.specs.Lines.{IsTrueRemote, far_of};
+ghost use Rattle.mvd_remote.specs.Remotes.{link_of};
 ghost use Rattle.mvd_sync.specs.Ran.{IsRun};
 ghost use Rattle.mvd_sync.specs.Session.{Session};
 
@@ -59,7 +61,8 @@ pub fn meet_over<L: Line, M: Line, E: Write>(
 
 /// The digest of all that the server at the other end of a line holds.
 pub fn root_over<L: Line>(alloc: Global, remote: &mut Remote<L>) -> Result<[u8; 32], Refusal>
-    ensures { IsTrueRemote L.is_true L.far remote.old →
+    ensures asked { AsksRoot (link_of L.Line) remote.old remote.new result }
+    ensures truth { IsTrueRemote L.is_true L.far remote.old →
         IfOk result (λ digest. digest ≡ root_of (far_of L.far remote.old).states) }
 {
     let path = Path::new(alloc, &[])?;

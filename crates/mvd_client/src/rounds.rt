@@ -1,8 +1,9 @@
 //! Sessions between a server and each of a list, one after the other: once, or again and again.
-ghost use Rattle.std.specs.Prelude.{◌≡◌, ◌≢◌, ◌∷◌, [], ℕ, IfNone, IfSome, List, None, OnOk, length, option_copied};
+ghost use Rattle.std.specs.Prelude.{◌≡◌, ◌≢◌, ◌∷◌, [], ℕ, IfNone, IfSome, List, None, OnOk, Some, length, option_copied};
 ghost use Rattle.std.specs.Io.KnownBytes.{Appends};
-ghost use Rattle.mvd_client.specs.Between.{MeetsOnce, MeetsServer};
+ghost use Rattle.mvd_client.specs.Once.{ComesBehind, MeetsOnce, MeetsServer, PartsBoth};
 ghost use Rattle.mvd_client.specs.LetIn.{GivesIn};
+ghost use Rattle.mvd_client.specs.declared.counted.Counted.{Counted};
 ghost use Rattle.mvd_input.specs.Addresses.{IsAddressList, items_of};
 ghost use Rattle.mvd_client.specs.Reported.{met_text};
 
@@ -15,7 +16,7 @@ use mvd_hint::Stop;
 use mvd_input::{Fault, Repeat, addresses_of, tell};
 use mvd_meet::{Met, Pace, are_same};
 use mvd_remote::Line;
-use mvd_sync::Left;
+use mvd_sync::{Left, Report};
 use mvd_wire::Items;
 use std::alloc::Global;
 use std::fmt::Write as Print;
@@ -138,10 +139,25 @@ fn meet_one<'a, D: Dial, W: Write, E: Write>(
         near.old.address far (W.contents writer.old) (W.contents writer.new) result }
 {
     let mut far = End::new(far);
-    let report = match meet(dial, alloc, near, &mut far, terms, errors) {
-        Ok(report) => report,
-        Err(failure) => return Err(failure.stop),
-    };
+    match meet(dial, alloc, near, &mut far, terms, errors) {
+        Ok(report) => tell_and_part(alloc, &report, near, &mut far, writer, errors),
+        Err(failure) => Err(failure.stop),
+    }
+}
+
+/// Tells of a session of two servers, with the root that each of them has, and parts with both.
+fn tell_and_part<'a, L: Line, W: Write, E: Write>(
+    alloc: Global,
+    report: &Report,
+    near: &mut End<L>,
+    far: &mut End<L>,
+    writer: &mut W,
+    errors: &mut E,
+) -> Result<(), Stop<'a>>
+    ensures { (near_at far_at : Counted L) → near.old.link ≡ Some near_at → far.old.link ≡ Some far_at →
+        ComesBehind L.Line near.old.address far.old.address near_at far_at report.now
+        (W.contents writer.old) (W.contents writer.new) result }
+{
     let near_root = match near.root(alloc) {
         Ok(root) => root,
         Err(stop) => return Err(stop),
@@ -150,18 +166,26 @@ fn meet_one<'a, D: Dial, W: Write, E: Write>(
         Ok(root) => root,
         Err(stop) => return Err(stop),
     };
-    let told = tell_meeting(alloc, &report, near_root, far_root, writer, errors);
+    let told = tell_meeting(alloc, report, near_root, far_root, writer, errors);
+    let parted = part_both(alloc, near, far);
+    told.and(parted)
+}
+
+/// Parts with two servers, also where one of them refuses that.
+fn part_both<'a, L: Line>(
+    alloc: Global,
+    near: &mut End<L>,
+    far: &mut End<L>,
+) -> Result<(), Stop<'a>>
+    ensures { (near_at far_at : Counted L) → near.old.link ≡ Some near_at → far.old.link ≡ Some far_at →
+        PartsBoth L.Line near.old.address far.old.address near_at far_at result }
+{
     let near_parted = near.part(alloc);
     let far_parted = far.part(alloc);
-    if told.is_err() {
-        return told;
-    }
-    if let Err(refusal) = near_parted {
-        return Err(Stop::at_server(near.address, refusal));
-    }
-    match far_parted {
-        Ok(()) => Ok(()),
-        Err(refusal) => Err(Stop::at_server(far.address, refusal)),
+    match (near_parted, far_parted) {
+        (Err(refusal), _) => Err(Stop::at_server(near.address, refusal)),
+        (Ok(()), Err(refusal)) => Err(Stop::at_server(far.address, refusal)),
+        (Ok(()), Ok(())) => Ok(()),
     }
 }
 

@@ -1,7 +1,7 @@
 use Rattle.std.proofs.Common.{◌∙◌, ap, length, option_copied, refl, subst, sym}
 use Rattle.std.specs.declared.net.socket_addr.SocketAddr.{SocketAddr}
-use Rattle.mvd_client.specs.Between.{MeetsOnce}
-use Rattle.mvd_client.specs.Between.MeetsServer.{no_address, once}
+use Rattle.mvd_client.specs.Once.{MeetsOnce}
+use Rattle.mvd_client.specs.Once.MeetsServer.{no_address, once}
 use Rattle.mvd_client.specs.LetIn.{GivesIn}
 use Rattle.mvd_client.proofs.Once.{is_far, one_of, was_none}
 use Rattle.mvd_hint.specs.declared.hint.Stop.{Stop}

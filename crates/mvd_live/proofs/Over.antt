@@ -77,7 +77,7 @@ module _ {L P : Type 0} (s : Sides L P)
     pub local : s.local.is_live new.at.local × (s.local.most_keys new.at.local ≡ most.local)
     pub peer : s.peer.is_live new.at.peer × (s.peer.most_keys new.at.peer ≡ most.peer)
 
-  pub so_far : {new : Running L P} → RunsTo s old new → SoFar new
+  so_far : {new : Running L P} → RunsTo s old new → SoFar new
   so_far (begins new is) = subst SoFar (sym is) (record {
     legs = [];
     last = old.machine;

@@ -4,7 +4,7 @@ use crate::two_sites::meet;
 use mvd_dots::Refusal;
 use mvd_frames::decode_request;
 use mvd_keys::{Key, KeyState};
-use mvd_line_tests::Served;
+use mvd_line_tests::{Served, ServedAmongOthers};
 use mvd_peer::Peer;
 use mvd_remote::{Duplex, Remote};
 use mvd_rows::Defs;
@@ -267,4 +267,51 @@ pub fn meets_over_a_line(local: &mut Counting) -> Result<bool, Refusal> {
     local.put("k", "-", "{}")?;
     let far = Site::new(alloc, Config::new(2, 10, Defs::new(alloc)))?;
     Ok(meets_site(local, far))
+}
+
+/// What others push into a site: the states of a third one, at a key that both hold, and at two that nobody else holds.
+fn of_others(alloc: Global) -> Result<Vec<(Key, KeyState)>, Refusal> {
+    let mut third = Counting::new(alloc, 3, 10)?;
+    let mut others = Vec::new(alloc);
+    for name in ["k", "m", "n"] {
+        third.put(name, "-", "{}")?;
+        let key = Key::read(alloc, name)?;
+        let state = third.site.get(&key)?;
+        others.push((key, state))?;
+    }
+    Ok(others)
+}
+
+fn has_all(local: &Counting, states: &[(Key, KeyState)]) -> Result<bool, Refusal> {
+    for (key, state) in states {
+        if !local.site.get(key)?.includes(state) {
+            return Ok(false);
+        }
+    }
+    Ok(true)
+}
+
+/// Whether sessions with a site end well while others write to it, and the roots are equal once nobody does.
+fn meets_written(local: &mut Counting, remote: &mut Remote<ServedAmongOthers>) -> bool {
+    let alloc = local.alloc;
+    let met = meet(alloc, local, remote);
+    let again = meet(alloc, local, remote);
+    let last = meet(alloc, local, remote);
+    met.is_ok() && again.is_ok() && last == Ok(0)
+}
+
+/// The same of a site behind a line, with what others push before each of its first replies.
+fn meets_live(local: &mut Counting, far: Site, others: Vec<(Key, KeyState)>) -> bool {
+    let alloc = local.alloc;
+    let mut remote = Remote::over(alloc, ServedAmongOthers::new(alloc, far, others));
+    meets_written(local, &mut remote)
+}
+
+/// The same of this site with one key, which then has all that others pushed, and one with none behind a line.
+pub fn meets_among_others(local: &mut Counting) -> Result<bool, Refusal> {
+    let alloc = local.alloc;
+    local.put("k", "-", "{}")?;
+    let far = Site::new(alloc, Config::new(2, 10, Defs::new(alloc)))?;
+    let others = of_others(alloc)?;
+    Ok(meets_live(local, far, others) && has_all(local, &of_others(alloc)?)?)
 }

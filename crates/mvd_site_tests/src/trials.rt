@@ -5,8 +5,8 @@ use crate::mistaken::takes_what_is_given;
 use crate::peers::Counting;
 use crate::refused_growth::session_of;
 use crate::remotes::{
-    are_ended, end_with_other_kinds, meets_over_a_line, says_hello, take_their_kinds,
-    windows_are_whole,
+    are_ended, end_with_other_kinds, meets_among_others, meets_over_a_line, says_hello,
+    take_their_kinds, windows_are_whole,
 };
 use crate::two_sites::{are_asked, clash, tells_old};
 use mvd_dots::Refusal;
@@ -30,6 +30,7 @@ pub enum Trial {
     Replies,
     Windows,
     Line,
+    Among,
     Pages,
     Growth,
 }
@@ -53,6 +54,7 @@ fn holds_of(one: &mut Counting, two: &mut Counting, trial: Trial) -> Result<bool
         Trial::Replies => take_their_kinds(one.alloc),
         Trial::Windows => windows_are_whole(one.alloc),
         Trial::Line => meets_over_a_line(one),
+        Trial::Among => meets_among_others(one),
         Trial::Growth => session_of(one, two),
     }
 }
@@ -74,7 +76,7 @@ pub fn holds(alloc: Global, number: u32, max_keys: u32, trial: Trial) -> Result<
 }
 
 /// What holds, with the number of the second site, and how many keys each site may have.
-const CASES: [(&str, u32, u32, Trial); 14] = [
+const CASES: [(&str, u32, u32, Trial); 15] = [
     ("so many questions and no more", 2, 10, Trial::Asked),
     ("states that clash are left", 1, 10, Trial::Clash),
     ("an old copy is told", 2, 10, Trial::Old),
@@ -114,6 +116,12 @@ const CASES: [(&str, u32, u32, Trial); 14] = [
     ("keys come by the thousand", 2, 1_001, Trial::Pages),
     ("a window is read and written whole", 2, 10, Trial::Windows),
     ("a session over a line to a site", 2, 10, Trial::Line),
+    (
+        "a session over a line to a site among others",
+        2,
+        10,
+        Trial::Among,
+    ),
 ];
 
 #[test]

@@ -83,6 +83,9 @@ def main(file, command):
             # (a number is given again to a later process)
             each = pid, start
             jobs[each] = jobs.get(each) or job(pid)
+            if not jobs[each] and by in below and (job(by) or (None, None))[1] is not None:
+                # a compiler is counted with the crate that it works for
+                jobs[each] = job(by)
             if jobs[each] and jobs[each][1] is None:
                 # what a script starts is counted with the script
                 seconds = 0.0 if by in below and job(by) == jobs[each] else seconds + of_ended

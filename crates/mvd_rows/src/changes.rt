@@ -18,7 +18,7 @@ use crate::marks::Spot;
 use crate::meters::Meter;
 use crate::moves::Way;
 use crate::views::View;
-use mvd_docs::Document;
+use mvd_docs::{Document, Parsed};
 use mvd_dots::Refusal;
 use mvd_keys::{Key, KeyState, Sibling};
 use std::alloc::Global;
@@ -57,7 +57,7 @@ impl Rows {
         ensures counts { Within (length self.old.indexes.items + 2 * length self.old.views.items)
             (4 * length self.old.views.items) meter.old meter.new }
     {
-        let parsed = document.parsed(self.alloc)?;
+        let parsed = Parsed::of(self.alloc, document)?;
         change_places(self.alloc, &mut self.indexes, way, spot, &parsed, meter)?;
         change_rows(self.alloc, &mut self.views, way, &parsed, meter)?;
         Ok(())

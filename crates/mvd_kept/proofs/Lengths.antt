@@ -1,11 +1,8 @@
 -- How long states are, and which are too long.
-use Rattle.std.proofs.Common.{◌≡◌, ℕ, ◌<◌, ◌≤◌, ◌-◌, ◌^◌, true, false, min, nat_lt, nat_le, if◌then◌else◌, Ok, Err, length, ap, le-ltb, lt-ltb, arith}
+use Rattle.std.proofs.Common.{◌≡◌, ℕ, ◌<◌, ◌≤◌, ◌-◌, ◌^◌, true, false, min, nat_lt, length, le-ltb, lt-ltb, arith}
 use Rattle.mvd_keys.specs.State.{State, empty_state}
 use Rattle.mvd_keys.proofs.Lists.{IsValid-empty}
-use Rattle.std.proofs.lemmas.Bool.Decides.{nat_tests}
-use Rattle.mvd_dots.specs.declared.refusals.Refusal.TheVariants.{StateTooLarge}
-use Rattle.mvd_wire.specs.Codec.{spelled_within}
-use Rattle.mvd_wire.specs.Codecs.{layout2, spell_state, state_codec, state_limit}
+use Rattle.mvd_wire.specs.Codecs.{spell_state, state_limit}
 use Rattle.mvd_wire.proofs.Spellings.{length_empty}
 use Rattle.mvd_kept.specs.Answer.{is_too_large}
 use Rattle.mvd_kept.specs.Held.{IsKept}
@@ -26,11 +23,3 @@ is_long s counted is large = long_if state_limit (length (spell_state s)) counte
 
 pub kept_empty : IsKept empty_state
 kept_empty = record { short = le-ltb state_limit (length (spell_state empty_state)) (omega (arith, length_empty)); valid = IsValid-empty }
-
-le-true : (n limit : ℕ) → n ≤ limit → nat_le n limit ≡ true
-le-true n limit low = grind (arith, nat_tests)
-
--- what a state within the limit is spelled as
-pub spelled : (s : State) → length (spell_state s) ≤ state_limit → spelled_within StateTooLarge state_limit (state_codec layout2) s ≡ Ok (spell_state s)
-unfolding spell_state
-spelled s low = ap (λ b. if b then Ok (spell_state s) else Err StateTooLarge) (le-true (length (spell_state s)) state_limit low)

@@ -1,5 +1,5 @@
 -- What a change of a key's state answered says of it.
-use Rattle.std.proofs.Common.{◌≡◌, ◌≢◌, ◌⊎◌, Bool, true, false, Option, Some, None, Result, Ok, Err, if◌then◌else◌, refl, sym, ap, ◌∙◌, inl, inr, ⊎_elim}
+use Rattle.std.proofs.Common.{◌≡◌, ◌≢◌, ◌⊎◌, Bool, true, false, Option, Some, None, Result, Ok, Err, if◌then◌else◌, refl, sym, ap, ◌∙◌, inl, inr}
 use Rattle.std.specs.Result.{OnOk, is_err}
 use Rattle.mvd_dots.specs.Dot.{DotValue}
 use Rattle.mvd_dots.specs.Context.{DotSet}
@@ -15,11 +15,6 @@ use Rattle.mvd_kept.specs.Prepared.{IsPlain}
 pub memory_or_not : (refusal : Refusal) → (refusal ≡ Memory) ⊎ (refusal ≢ Memory)
 memory_or_not Memory = inl refl
 memory_or_not refusal = inr (λ e. cc)
-
--- where the answer is no refusal, only memory can have been refused
-pub must_be_memory : {A : Type 0} (refusal : Refusal) (x : A) (answer : Result A Refusal) → answer ≡ Ok x → (refusal ≢ Memory → answer ≡ Err refusal) → refusal ≡ Memory
-must_be_memory {A} refusal x answer ok refused =
-    ⊎_elim (λ memory. memory) (λ other. absurd (let bad : ◌≡◌ {A = Result A Refusal} (Ok x) (Err refusal) = sym ok ∙ refused other in cc)) (memory_or_not refusal)
 
 -- what holds of a call that was not refused
 pub where_ok : {A E : Type 0} (result : Result A E) (P : Type 0) → OnOk result P → false ≡ is_err result → P

@@ -7,7 +7,7 @@ ghost use Rattle.mvd_kept.specs.Held.{IsSpelled};
 use mvd_dots::{Dot, Refusal};
 use mvd_keys::{Key, KeyState};
 use mvd_tree::{Hashed, key_digest};
-use mvd_wire::{Reply, encode_key, encode_state};
+use mvd_wire::{Reply, state_length, write_key, write_state};
 use std::alloc::Global;
 use std::marker::Model;
 
@@ -110,6 +110,9 @@ impl Change {
     }
 }
 
+/// The most bytes that a key's spelling has.
+const KEY_SPELLED_MAX: usize = 129;
+
 /// A key and a state of at most 1,150,000 bytes as they are spelled, one after the other, and where the state begins.
 pub(crate) fn spelled_key_state(
     alloc: Global,
@@ -120,10 +123,11 @@ pub(crate) fn spelled_key_state(
     ensures spells { IfOk result (λ r. SpellsChange key.now state.now r.0 r.1.items) }
     ensures only { IfErr result (λ refusal. refusal ≡ Refusal.Memory) }
 {
-    let mut bytes = encode_key(alloc, key)?;
+    let length = state_length(state) as usize;
+    let mut bytes = Vec::with_capacity(alloc, KEY_SPELLED_MAX + length)?;
+    write_key(&mut bytes, key)?;
     let key_length = bytes.len();
-    let state = encode_state(alloc, state)?;
-    bytes.extend_from_slice(&state)?;
+    write_state(&mut bytes, state)?;
     Ok((key_length, bytes))
 }
 

@@ -1,4 +1,5 @@
 pub mod Loading
+pub mod Memories
 pub mod Moving
 pub mod RestoredOrder
 pub mod Positions

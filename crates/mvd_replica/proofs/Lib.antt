@@ -17,6 +17,7 @@ pub mod Grouping
 pub mod Putting
 pub mod AddedKeys
 pub mod SameKey
+pub mod Lent
 pub mod Still
 pub mod Counting
 pub mod Recording

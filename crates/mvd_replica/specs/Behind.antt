@@ -17,7 +17,7 @@ use Rattle.mvd_site.specs.Sites.{SiteValue}
 use Rattle.mvd_kept.specs.declared.prepared.Prepared.{Prepared}
 use Rattle.mvd_kept.specs.declared.prepared.Prepared.TheVariants.{Answer, Change}
 use Rattle.mvd_replica.specs.Adding.{CountsKeys, key_to_change}
-use Rattle.mvd_replica.specs.Groups.{ComesTo, IsSendable, Joins, SeesAny}
+use Rattle.mvd_replica.specs.Groups.{ComesTo, IsSendable, ComesInGroup, SeesAny}
 
 -- ---- where the changes stand
 
@@ -99,7 +99,7 @@ ChangesAsked request (Change change) = key_to_change request ≡ Some change.key
 -- it joins a group that adds some keys, and adds so many
 pub record JoinsGroup (site : SiteValue) (group : List Prepared) (added : ℕ) (request : Request) (prepared : Prepared)
     (adds : ℕ) : Type 0 where
-  pub joins : site.broken ≡ false → Joins site request group prepared
+  pub joins : site.broken ≡ false → ComesInGroup site request group prepared
   pub keys : CountsKeys site (group ++ prepared ∷ []) (added + adds)
   pub few : adds ≤ 1
   pub asked : ChangesAsked request prepared

@@ -8,7 +8,7 @@ that is not as wanted:
 - each connection is answered, and puts are answered behind them;
 - the first lines are in the pipe, whole and in their order; once it is read, the next line is `dropped N`, and with the N dropped
   ones each connection is told of once; so also with `--conns`, up to the root at the end;
-- into a file each line goes;
+- into a file each line goes; where its disk is full, lines are dropped and told of in the same way, and no client is cut;
 - once nobody is left who could read, the server ends with 35, as other commands do.
 The files are made in TMPDIR (else /tmp).
 """
@@ -16,6 +16,8 @@ import atexit
 import contextlib
 import fcntl
 import os
+import resource
+import signal
 import socket
 import subprocess
 import sys
@@ -32,6 +34,8 @@ FLOOD = 5_000
 # the most that `--conns` takes, and a pipe that holds no line of each
 CONNS, SHORT_PIPE = 1_000, 16_384
 F_SETPIPE_SZ = 1_031
+# as many bytes a file holds on a disk that is full then, and as many of them are left at first
+DISK, LEFT = 1_000_000, 200
 
 
 def wanted(what, holds, seen=""):
@@ -42,11 +46,11 @@ def wanted(what, holds, seen=""):
 class Server:
     """A server, whose output goes where nobody may read it."""
 
-    def __init__(self, folder, name, *words, output=subprocess.PIPE):
+    def __init__(self, folder, name, *words, output=subprocess.PIPE, limit=None):
         with socket.create_server(("127.0.0.1", 0)) as free:
             self.port = free.getsockname()[1]
         words = [PROGRAM, "serve", "--db", os.path.join(folder, name), "--site", "1", "--port", str(self.port), *words]
-        self.process = subprocess.Popen(words, stdout=output, stderr=subprocess.PIPE)
+        self.process = subprocess.Popen(words, stdout=output, stderr=subprocess.PIPE, preexec_fn=limit)
         atexit.register(self.process.kill)
 
     def client(self):
@@ -166,6 +170,34 @@ def into_file(folder):
     print(f"unread: {CONNS} lines in a file, none dropped", flush=True)
 
 
+def has_little_room():
+    """No file grows over so many bytes, and a write that would is refused."""
+    signal.signal(signal.SIGXFSZ, signal.SIG_IGN)
+    resource.setrlimit(resource.RLIMIT_FSIZE, (DISK, resource.getrlimit(resource.RLIMIT_FSIZE)[1]))
+
+
+def onto_a_full_disk(folder):
+    path, ended = os.path.join(folder, "log.txt"), 50
+    with open(path, "wb") as output:
+        output.write(b"\n" * (DISK - LEFT))
+    with open(path, "ab") as output:
+        server = Server(folder, "full.db", output=output, limit=has_little_room)
+    server.flood(ended)
+    server.puts()
+    with open(path, encoding="ascii") as output:
+        first = output.read()[DISK - LEFT:].splitlines()[1:-1]
+    told = len(numbered(first))
+    os.truncate(path, 0)
+    server.flood(2)
+    wanted("a server on a full disk goes on", server.process.poll() is None, server.process.returncode)
+    server.process.terminate()
+    server.ends()
+    with open(path, encoding="ascii") as output:
+        lines = [line for line in output.read().splitlines() if line]
+    dropped = dropped_then(lines, told, ended + 3)
+    print(f"unread: on a full disk {told} lines left, and {dropped} were dropped and told of", flush=True)
+
+
 def gone(folder):
     server = Server(folder, "gone.db")
     server.client().bye()
@@ -183,6 +215,7 @@ def main():
         unread(folder)
         unread_with_an_end(folder)
         into_file(folder)
+        onto_a_full_disk(folder)
         gone(folder)
 
 

@@ -11,6 +11,7 @@ use mvd_input::{Peers, addresses_of};
 use mvd_replica::Replica;
 use mvd_server::{Sockets, Terms, serve_run};
 use sqlite::Alter;
+use std::alloc::{AllocError, Global};
 use std::io::Write;
 use std::net::SocketAddr;
 
@@ -47,11 +48,12 @@ pub(crate) fn serve_stored<'a, K: Sockets, S: Alter + Drop, W: Write>(
             &mut errors,
         );
     };
-    let Ok(mut addresses) = addresses_of(rt.alloc(), address.ip(), peers.list) else {
+    let Ok(listed) = addresses_of(rt.alloc(), address.ip(), peers.list) else {
         return Err(Stop::from(Refusal::Memory));
     };
-    // All servers may name one list.
-    addresses.retain(|peer| !is_own(address, *peer));
+    let Ok(addresses) = met_by(rt.alloc(), address, &listed) else {
+        return Err(Stop::from(Refusal::Memory));
+    };
     let terms = Terms {
         peers: &addresses,
         every: peers.every,
@@ -67,6 +69,21 @@ pub(crate) fn serve_stored<'a, K: Sockets, S: Alter + Drop, W: Write>(
         &mut outlet,
         &mut errors,
     )
+}
+
+/// The servers of a list that the one at `own` meets: each once, and not itself, since all servers may name one list.
+fn met_by(
+    alloc: Global,
+    own: SocketAddr,
+    listed: &[SocketAddr],
+) -> Result<Vec<SocketAddr>, AllocError> {
+    let mut met = Vec::new(alloc);
+    for peer in listed {
+        if !is_own(own, *peer) && !met.contains(peer) {
+            met.push(*peer)?;
+        }
+    }
+    Ok(met)
 }
 
 /// Whether whoever connects to `peer` comes to the server that listens at `own`.

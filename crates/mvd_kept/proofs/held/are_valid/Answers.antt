@@ -1,5 +1,4 @@
-use Rattle.std.proofs.Common.{◌≡◌, true, subst}
-use Rattle.std.specs.List.{AllByRecursion}
+use Rattle.std.proofs.Common.{◌≡◌, true}
 use Rattle.mvd_keys.specs.Key.{is_key}
 use Rattle.mvd_keys.specs.State.{IsValid}
 use Rattle.mvd_kept.proofs.Opened.{each_more}

@@ -1,4 +1,4 @@
-use Rattle.std.proofs.Common.{rules, ◌≡◌, List, None, true, sym, ap, ◌∙◌, subst}
+use Rattle.std.proofs.Common.{◌≡◌, List, None, true, sym, ap, ◌∙◌, subst}
 use Rattle.std.specs.FinMap.{from_entries}
 use Rattle.std.specs.List.{AllByRecursion}
 use Rattle.std.specs.Map.{update_all}

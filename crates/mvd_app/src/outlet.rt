@@ -1,4 +1,4 @@
-//! Where a server prints: standard output, which holds nobody up where nobody reads it.
+//! Where a server prints: standard output and standard error, which hold nobody up where nobody reads them.
 ghost use Rattle.std.specs.Prelude.{◌≤◌, IfOk, length};
 
 use mio::unix::SourceFd;
@@ -11,7 +11,10 @@ use std::os::fd::RawFd;
 use std::time::Duration;
 
 /// The descriptor of standard output.
-const STANDARD_OUTPUT: RawFd = 1;
+pub(crate) const STANDARD_OUTPUT: RawFd = 1;
+
+/// That of standard error.
+pub(crate) const STANDARD_ERROR: RawFd = 2;
 
 /// The most bytes that leave together: a pipe that has room takes as many without a wait (`PIPE_BUF`).
 const PIECE: usize = 4_096;
@@ -19,12 +22,14 @@ const PIECE: usize = 4_096;
 /// The most bytes of the line that tells of dropped ones.
 const NOTICE: usize = 32;
 
-/// The writer of standard output, for which nobody waits. Lines that cannot leave at once, or for which a disk has no
+/// The writer of one of them, for which nobody waits. Lines that cannot leave at once, or for which a disk has no
 /// room, are dropped and counted, and the next ones that leave follow a line that tells how many. Where the system does
 /// not say whether there is room, as of a regular file, a write tells.
 #[derive(Drop)]
 pub(crate) struct Outlet<'w, W: Write> {
     writer: &'w mut W,
+    /// What it writes to.
+    descriptor: RawFd,
     poll: Poll,
     events: Events,
     is_watched: bool,
@@ -37,17 +42,23 @@ pub(crate) struct Outlet<'w, W: Write> {
 }
 
 impl<'w, W: Write> Outlet<'w, W> {
-    pub(crate) fn new<N: Net>(rt: &N, alloc: Global, writer: &'w mut W) -> io::Result<Self> {
+    pub(crate) fn new<N: Net>(
+        rt: &N,
+        alloc: Global,
+        descriptor: RawFd,
+        writer: &'w mut W,
+    ) -> io::Result<Self> {
         let notice = String::with_capacity(alloc, NOTICE)?;
         let events = Events::with_capacity(alloc, 1)?;
         let poll = Poll::new(rt)?;
-        let mut output = SourceFd(&STANDARD_OUTPUT);
+        let mut output = SourceFd(&descriptor);
         let registered = poll
             .registry()
             .register(&mut output, Token(0), Interest::WRITABLE);
         let is_watched = registered.is_ok();
         Ok(Outlet {
             writer,
+            descriptor,
             poll,
             events,
             is_watched,
@@ -64,7 +75,7 @@ impl<'w, W: Write> Outlet<'w, W> {
         if !self.is_watched {
             return true;
         }
-        let mut output = SourceFd(&STANDARD_OUTPUT);
+        let mut output = SourceFd(&self.descriptor);
         let registry = self.poll.registry();
         let asked = registry.reregister(&mut output, Token(0), Interest::WRITABLE);
         let looked = self.poll.poll(&mut self.events, Some(Duration::ZERO));

@@ -4,7 +4,7 @@ ghost use Rattle.std.specs.Prelude.{option_copied};
 ghost use Rattle.mvd_app.specs.Tasks.{ServesTo};
 ghost use Rattle.mvd_input.specs.Orders.{ArePeers};
 
-use crate::outlet::Outlet;
+use crate::outlet::{Outlet, STANDARD_ERROR, STANDARD_OUTPUT};
 use mvd_dots::Refusal;
 use mvd_hint::Stop;
 use mvd_input::{Peers, addresses_of};
@@ -31,9 +31,13 @@ pub(crate) fn serve_stored<'a, K: Sockets, S: Alter + Drop, W: Write>(
     ensures { ServesTo K.Sockets (option_copied terms.entry.token)
         sockets.old replica.old sockets.new replica.new result }
 {
-    let mut errors = rt.stderr();
-    let mut outlet = match Outlet::new(rt, rt.alloc(), writer) {
+    let mut stderr = rt.stderr();
+    let mut outlet = match Outlet::new(rt, rt.alloc(), STANDARD_OUTPUT, writer) {
         Ok(outlet) => outlet,
+        Err(error) => return Err(Stop::unheard(address, error)),
+    };
+    let mut errors = match Outlet::new(rt, rt.alloc(), STANDARD_ERROR, &mut stderr) {
+        Ok(errors) => errors,
         Err(error) => return Err(Stop::unheard(address, error)),
     };
     let Some(peers) = peers else {

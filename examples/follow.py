@@ -4,7 +4,8 @@
 usage: follow.py URL [URL..]       where `mvd serve --http` listens, as http://127.0.0.1:7080; several sites that meet
 
 It begins with the keys that are there. Where a site no longer answers, it goes on with the next one from the same root: two sites that
-agree have one root. A site that does not know the root says so, and then all keys are read again.
+agree have one root. So where a site has no place or no memory. A site that does not know the root says so, and then all keys are read
+again.
 """
 import http.client
 import json
@@ -23,7 +24,11 @@ def ask(server, path, **given):
         with urllib.request.urlopen(f"{server}{path}?{query}", timeout=WAIT + 10) as response:
             return json.load(response)
     except urllib.error.HTTPError as fault:
-        return json.load(fault)
+        if fault.code == 404:
+            return json.load(fault)
+        if fault.code < 500:
+            sys.exit(f"follow: {server} refuses it: {fault.read().decode()}")
+        raise
 
 
 def tell(server, key):

@@ -11,7 +11,8 @@ idle     two servers of PEERS_KEYS (1000000) keys that name each other with `--e
          be less than 1 percent
 rate     puts a second of 64 clients at a server with two peers and at one without, in turn: at least 0.6 of those without
 amiss    a server with peers that are silent, no `mvd`, closed at once, full, stopped for a while, gone and back, or ask for a token:
-         each is told once, no client waits for any, and the server takes little of a processor; one that names itself
+         each is told once, also one that is named twice, no client waits for any, and the server takes little of a processor;
+         one that names itself
 stalls   a server with five peers that answer one question and then nothing, and one that is well: a put is there within 3 seconds
 
 It ends with 1 at the first answer that is not the one wanted. With --short, `soon` makes 40 puts, where each names the next, `idle`
@@ -244,8 +245,10 @@ class Amiss:
         self.others = [Server(program, folder, 4, self.ports["closed"], "--token-file", f"{folder}/token"),
                        Server(program, folder, 2, self.ports["full"], "--max-keys", 3)]
         self.stopped, self.http, self.took = Server(program, folder, 5, self.ports["stopped"]), free(), []
+        # two of them stand twice in the list
+        named = [*self.ports.values(), self.ports["silent"], f"127.0.0.1:{self.ports['closed']}"]
         self.main = Server(program, folder, 1, self.ports["itself"], "--http", self.http, "--idle", 2, "--every", 1,
-                           "--peer", ",".join(map(str, self.ports.values())))
+                           "--peer", ",".join(map(str, named)))
         self.client = Client(self.ports["itself"])
 
     def put_for(self, seconds):
@@ -286,8 +289,8 @@ class Amiss:
         with urllib.request.urlopen(f"http://127.0.0.1:{self.http}/metrics") as response:
             metrics = response.read().decode()
         for what, port in self.ports.items():
-            is_there = f'mvd_peer_sessions_total{{peer="127.0.0.1:{port}"' in metrics
-            wanted(f"metrics of {what}: {metrics}", is_there == (what != "itself"))
+            series = metrics.count(f'mvd_peer_sessions_total{{peer="127.0.0.1:{port}"')
+            wanted(f"metrics of {what}: {metrics}", series == (0 if what == "itself" else 3))
 
     def end(self):
         for server in self.main, self.stopped, *self.others:

@@ -1,5 +1,5 @@
 #!/usr/bin/env python3
-"""Runs `mvd serve` into a pipe that nobody reads, and sees that it goes on.
+"""Runs `mvd serve` into pipes that nobody reads, and sees that it goes on.
 
 usage: tools/unread.py PROGRAM
 
@@ -8,7 +8,8 @@ that is not as wanted:
 - each connection is answered, and puts are answered behind them;
 - the first lines are in the pipe, whole and in their order; once it is read, the next line is `dropped N`, and with the N dropped
   ones each connection is told of once; so also with `--conns`, up to the root at the end;
-- into a file each line goes;
+- into a file each line goes; where its disk is full, lines are dropped and told of in the same way, and no client is cut;
+- so also the lines on standard error, which name keys that a peer refuses: puts go on to be answered;
 - once nobody is left who could read, the server ends with 35, as other commands do.
 The files are made in TMPDIR (else /tmp).
 """
@@ -16,6 +17,8 @@ import atexit
 import contextlib
 import fcntl
 import os
+import resource
+import signal
 import socket
 import subprocess
 import sys
@@ -32,6 +35,10 @@ FLOOD = 5_000
 # the most that `--conns` takes, and a pipe that holds no line of each
 CONNS, SHORT_PIPE = 1_000, 16_384
 F_SETPIPE_SZ = 1_031
+# so many keys are refused, whose lines are more than the shortest pipe holds
+REFUSED, SHORTEST_PIPE = 60, 4_096
+# as many bytes a file holds on a disk that is full then, and as many of them are left at first
+DISK, LEFT = 1_000_000, 200
 
 
 def wanted(what, holds, seen=""):
@@ -42,11 +49,11 @@ def wanted(what, holds, seen=""):
 class Server:
     """A server, whose output goes where nobody may read it."""
 
-    def __init__(self, folder, name, *words, output=subprocess.PIPE):
+    def __init__(self, folder, name, *words, output=subprocess.PIPE, limit=None, site=1):
         with socket.create_server(("127.0.0.1", 0)) as free:
             self.port = free.getsockname()[1]
-        words = [PROGRAM, "serve", "--db", os.path.join(folder, name), "--site", "1", "--port", str(self.port), *words]
-        self.process = subprocess.Popen(words, stdout=output, stderr=subprocess.PIPE)
+        words = [PROGRAM, "serve", "--db", os.path.join(folder, name), "--site", str(site), "--port", str(self.port), *words]
+        self.process = subprocess.Popen(words, stdout=output, stderr=subprocess.PIPE, preexec_fn=limit)
         atexit.register(self.process.kill)
 
     def client(self):
@@ -90,9 +97,9 @@ class Server:
         return (out or b"").decode(), self.process.returncode, errors.decode()
 
 
-def in_pipe(process):
+def in_pipe(pipe):
     """What stands in the pipe now."""
-    came, output = b"", process.stdout.fileno()
+    came, output = b"", pipe.fileno()
     os.set_blocking(output, False)
     try:
         while piece := os.read(output, 65_536):
@@ -112,7 +119,7 @@ def numbered(lines):
 
 def told_first(server):
     """How many connections the pipe tells of, which are the first."""
-    first = in_pipe(server.process).splitlines()
+    first = in_pipe(server.process.stdout).splitlines()
     wanted("the first line", first[:1] == [f"listening 127.0.0.1:{server.port}"], first[:1])
     told = numbered(first[1:])
     wanted("the lines are those of the first connections", told == list(range(1, len(told) + 1)), told)
@@ -166,6 +173,58 @@ def into_file(folder):
     print(f"unread: {CONNS} lines in a file, none dropped", flush=True)
 
 
+def has_little_room():
+    """No file grows over so many bytes, and a write that would is refused."""
+    signal.signal(signal.SIGXFSZ, signal.SIG_IGN)
+    resource.setrlimit(resource.RLIMIT_FSIZE, (DISK, resource.getrlimit(resource.RLIMIT_FSIZE)[1]))
+
+
+def onto_a_full_disk(folder):
+    path, ended = os.path.join(folder, "log.txt"), 50
+    with open(path, "wb") as output:
+        output.write(b"\n" * (DISK - LEFT))
+    with open(path, "ab") as output:
+        server = Server(folder, "full.db", output=output, limit=has_little_room)
+    server.flood(ended)
+    server.puts()
+    with open(path, encoding="ascii") as output:
+        first = output.read()[DISK - LEFT:].splitlines()[1:-1]
+    told = len(numbered(first))
+    os.truncate(path, 0)
+    server.flood(2)
+    wanted("a server on a full disk goes on", server.process.poll() is None, server.process.returncode)
+    server.process.terminate()
+    server.ends()
+    with open(path, encoding="ascii") as output:
+        lines = [line for line in output.read().splitlines() if line]
+    dropped = dropped_then(lines, told, ended + 3)
+    print(f"unread: on a full disk {told} lines left, and {dropped} were dropped and told of", flush=True)
+
+
+def errors_unread(folder):
+    full = Server(folder, "few.db", "--max-keys", "1", site=2)
+    full.client().put("only", bytes(4), {})
+    server = Server(folder, "named.db", "--peer", str(full.port), "--every", "1")
+    fcntl.fcntl(server.process.stderr, F_SETPIPE_SZ, SHORTEST_PIPE)
+    client = server.client()
+    for number in range(REFUSED):
+        client.put(f"{number:0128}", bytes(4), {"n": number})
+        time.sleep(0.02)
+    client.bye()
+    longest = server.puts()
+    first = in_pipe(server.process.stderr).splitlines()
+    wanted("keys are named", len(first) > 10 and all(line.endswith(f"10 Full at 127.0.0.1:{full.port}") for line in first[1:]), first[-1:])
+    client = server.client()
+    for number in range(PUTS):
+        client.put(f"last{number}", bytes(4), {"n": number})
+        time.sleep(0.1)
+    server.process.terminate()
+    _, _, rest = server.ends()
+    wanted("dropped lines of standard error are told of", rest.startswith("dropped "), rest[:100])
+    full.process.terminate()
+    print(f"unread: of lines on standard error {len(first)} left; the longest of {PUTS} puts took {longest:.0f} ms", flush=True)
+
+
 def gone(folder):
     server = Server(folder, "gone.db")
     server.client().bye()
@@ -183,6 +242,8 @@ def main():
         unread(folder)
         unread_with_an_end(folder)
         into_file(folder)
+        onto_a_full_disk(folder)
+        errors_unread(folder)
         gone(folder)
 
 

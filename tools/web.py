@@ -300,6 +300,21 @@ def check_places(folder):
     wanted("two connections were served", [end[2:] for end in endings] == ["end", "end"], endings)
 
 
+def check_busy(folder):
+    """Who waits for an answer is not idle, however long the server takes, and nor is who asked while it stood still."""
+    server = Server(folder, "--idle", "1", name="busy.db")
+    line = json.dumps({"key": "k", "document": {"n": "x" * 900}}) + "\n"
+    server.is_told("1,000 writes of one key, which take long", 200, '{"dot":"1:1000"}', "POST", "/keys", line * 1000)
+    with socket.create_connection(("127.0.0.1", server.http), PATIENCE) as peer:
+        server.is_told("another client is answered", 200, "root", "GET", "/root")
+        server.process.send_signal(signal.SIGSTOP)
+        peer.sendall(b"GET /root HTTP/1.1\r\nHost: localhost\r\n\r\n")
+        time.sleep(2)
+        server.process.send_signal(signal.SIGCONT)
+        wanted("what came while the server stood still is answered", peer.recv(65536).startswith(b"HTTP/1.1 200"))
+    server.close()
+
+
 def check_no_room(folder):
     """A write for which the file has no room is refused, and just what was told as written is there, also when it is opened again."""
     server, got, written = Server(folder, name="room.db", most=1_000_000), None, 0
@@ -434,7 +449,7 @@ def main():
         try:
             for check in check_rows, check_contexts, check_refusals, check_connections, check_pipelines, check_together:
                 check(server)
-            for check in check_table, check_endings, check_places, check_no_room:
+            for check in check_table, check_endings, check_places, check_busy, check_no_room:
                 check(folder)
             if IS_SHORT:
                 return

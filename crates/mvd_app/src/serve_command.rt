@@ -2,15 +2,17 @@
 ghost use Rattle.std.specs.Option.{ForSome};
 ghost use Rattle.std.specs.Prelude.{option_copied};
 ghost use Rattle.mvd_app.specs.Tasks.{ServesTo};
+ghost use Rattle.mvd_input.specs.Addresses.{IsAddressList};
 ghost use Rattle.mvd_input.specs.Orders.{ArePeers};
 
-use crate::outlet::Outlet;
+use crate::outlet::{Outlet, STANDARD_ERROR, STANDARD_OUTPUT};
 use mvd_dots::Refusal;
 use mvd_hint::Stop;
 use mvd_input::{Peers, addresses_of};
 use mvd_replica::Replica;
 use mvd_server::{Sockets, Terms, serve_run};
 use sqlite::Alter;
+use std::alloc::{AllocError, Global};
 use std::io::Write;
 use std::net::SocketAddr;
 
@@ -30,28 +32,49 @@ pub(crate) fn serve_stored<'a, K: Sockets, S: Alter + Drop, W: Write>(
     ensures { ServesTo K.Sockets (option_copied terms.entry.token)
         sockets.old replica.old sockets.new replica.new result }
 {
-    let mut errors = rt.stderr();
-    let mut outlet = match Outlet::new(rt, rt.alloc(), writer) {
+    let mut outlet = match Outlet::new(rt, rt.alloc(), STANDARD_OUTPUT, writer) {
         Ok(outlet) => outlet,
+        Err(error) => return Err(Stop::unheard(address, error)),
+    };
+    serve_met(rt, sockets, replica, address, terms, peers, &mut outlet)
+}
+
+/// The same, where nobody waits for the writer. Nor does anybody for standard error.
+#[tactic(auto, using(crate::proofs::Unserved::serves_nothing))]
+fn serve_met<'a, K: Sockets, S: Alter + Drop, W: Write>(
+    rt: &HostRuntime,
+    sockets: &mut K,
+    replica: &mut Replica<S>,
+    address: SocketAddr,
+    terms: Terms<'_>,
+    peers: Option<Peers<'_>>,
+    writer: &mut W,
+) -> Result<(), Stop<'a>>
+    requires { ForSome peers ArePeers }
+    ensures { ServesTo K.Sockets (option_copied terms.entry.token)
+        sockets.old replica.old sockets.new replica.new result }
+{
+    let alloc = rt.alloc();
+    let mut stderr = rt.stderr();
+    let mut errors = match Outlet::new(rt, alloc, STANDARD_ERROR, &mut stderr) {
+        Ok(errors) => errors,
         Err(error) => return Err(Stop::unheard(address, error)),
     };
     let Some(peers) = peers else {
         return serve_run(
             rt,
-            rt.alloc(),
+            alloc,
             sockets,
             replica,
             address,
             terms,
-            &mut outlet,
+            writer,
             &mut errors,
         );
     };
-    let Ok(mut addresses) = addresses_of(rt.alloc(), address.ip(), peers.list) else {
+    let Ok(addresses) = met_by(alloc, address, peers.list) else {
         return Err(Stop::from(Refusal::Memory));
     };
-    // All servers may name one list.
-    addresses.retain(|peer| !is_own(address, *peer));
     let terms = Terms {
         peers: &addresses,
         every: peers.every,
@@ -59,14 +82,28 @@ pub(crate) fn serve_stored<'a, K: Sockets, S: Alter + Drop, W: Write>(
     };
     serve_run(
         rt,
-        rt.alloc(),
+        alloc,
         sockets,
         replica,
         address,
         terms,
-        &mut outlet,
+        writer,
         &mut errors,
     )
+}
+
+/// The servers of a list that the one at `own` meets: each once, and not itself, since all servers may name one list.
+fn met_by(alloc: Global, own: SocketAddr, list: &str) -> Result<Vec<SocketAddr>, AllocError>
+    requires { IsAddressList list.now }
+{
+    let listed = addresses_of(alloc, own.ip(), list)?;
+    let mut met = Vec::new(alloc);
+    for peer in &listed {
+        if !is_own(own, *peer) && !met.contains(peer) {
+            met.push(*peer)?;
+        }
+    }
+    Ok(met)
 }
 
 /// Whether whoever connects to `peer` comes to the server that listens at `own`.

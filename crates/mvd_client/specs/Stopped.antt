@@ -5,6 +5,7 @@ use Rattle.std.specs.declared.net.socket_addr.SocketAddr.{SocketAddr}
 use Rattle.mvd_dots.specs.Refusal.{number_of}
 use Rattle.mvd_dots.specs.declared.refusals.Refusal.{Refusal}
 use Rattle.mvd_dots.specs.declared.refusals.Refusal.TheVariants.{BadBody, BadKind, DotClash, FrameTooLong, Full, Memory, NotAdmitted, ReadFailed}
+use Rattle.mvd_dots.specs.declared.refusals.Refusal.TheVariants.{TooManyRequests}
 use Rattle.mvd_client.specs.declared.dial.DialFault.{DialFault}
 use Rattle.mvd_client.specs.declared.dial.DialFault.TheVariants as faults
 use Rattle.mvd_input.specs.declared.fault.Fault.TheVariants.{Stopped}
@@ -21,8 +22,8 @@ pub record IsInSession (refusal : Refusal) (stop : Stop) : Type 0 where
   pub full : refusal ≡ Full → stop.hint ≡ Some hints.Full
   pub other : refusal ≢ DotClash → refusal ≢ Full → stop.hint ≡ None
 
--- the server at an address refuses, or does not answer as one, or the connection with it breaks; the hint tells which,
--- but of 20, which is of no side
+-- the server at an address refuses, has no place, or does not answer as one, or the connection with it breaks; the hint
+-- tells which, but of 20, which is of no side
 pub record IsAtServer (address : SocketAddr) (refusal : Refusal) (stop : Stop) : Type 0 where
   pub fault : stop.fault ≡ Stopped refusal
   pub memory : refusal ≡ Memory → stop.hint ≡ None
@@ -31,8 +32,9 @@ pub record IsAtServer (address : SocketAddr) (refusal : Refusal) (stop : Stop) :
   pub no_peer : (refusal ≡ FrameTooLong) ⊎ ((refusal ≡ BadKind) ⊎ (refusal ≡ BadBody))
       → stop.hint ≡ Some (hints.NoPeer address)
   pub token : refusal ≡ NotAdmitted → stop.hint ≡ Some (hints.NotAdmitted address)
+  pub place : refusal ≡ TooManyRequests → stop.hint ≡ Some (hints.NoPlace address)
   pub broken : refusal ≢ FrameTooLong → refusal ≢ BadKind → refusal ≢ BadBody → refusal ≢ NotAdmitted
-      → 30 ≤ number_of refusal
+      → refusal ≢ TooManyRequests → 30 ≤ number_of refusal
       → stop.hint ≡ Some (hints.Broken address)
 
 -- a command is stopped since an address leads to no line: no server answers there, or it does not let in whoever shows

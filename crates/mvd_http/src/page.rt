@@ -5,7 +5,7 @@ pub const PAGE: &str = r##"<!DOCTYPE html>
 <!--
 The page of mvd: keys and their siblings, lists, and writes, over the HTTP interface of one site.
 It is built into the program and loads nothing from elsewhere. The server must send it with this policy:
-Content-Security-Policy: default-src 'none'; script-src 'sha256-ZX7paCH1By00xLfFtV5a3JR4B9ntpuaai9IHEvihQsA='; style-src 'sha256-GfXVPu/24CyMDZkrHnm/405USX81HQtD5DIfoaMqPsA='; connect-src 'self'; img-src data:; base-uri 'none'; form-action 'none'; frame-ancestors 'none'; require-trusted-types-for 'script'; trusted-types 'none'
+Content-Security-Policy: default-src 'none'; script-src 'sha256-ppR1IyiDYd2+3Rzf1K4xI7VGB2cvvWWUQYLJvr+KGTk='; style-src 'sha256-GfXVPu/24CyMDZkrHnm/405USX81HQtD5DIfoaMqPsA='; connect-src 'self'; img-src data:; base-uri 'none'; form-action 'none'; frame-ancestors 'none'; require-trusted-types-for 'script'; trusted-types 'none'
 tools/page.py stamp   writes the policy of this file's style and script into this comment.
 tools/page.py test    drives the page in a browser, under this policy.
 -->
@@ -451,7 +451,10 @@ const CONTEXT_LETTERS = 8000;
 let token = sessionStorage.getItem('mvd-token');
 
 class Refused extends Error {
-  constructor(number, name) { super(`Refused, ${number} ${name}. ${REFUSALS[number] ?? ''}`.trim()); }
+  constructor(number, name) {
+    super(`Refused, ${number} ${name}. ${REFUSALS[number] ?? ''}`.trim());
+    this.number = number;
+  }
 }
 
 class NoAnswer extends Error {}
@@ -897,7 +900,8 @@ async function follow() {
       since = news.get('root');
       if (isNew && mine === following) await hear(news);
     } catch (fault) {
-      if (fault instanceof Refused) return;
+      // With a token it begins again.
+      if (fault instanceof Refused && fault.number === '38') return;
       await new Promise((done) => { setTimeout(done, PAUSE); });
     }
   }

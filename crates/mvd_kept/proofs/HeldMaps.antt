@@ -97,3 +97,8 @@ room_left config m key s room few =
       | true ↦ λ _. few
       | false ↦ λ apart. grind (arith, nat_tests)
     ] room)
+
+-- states that may be held, of keys
+pub held_all : (es : List (Key × State)) → AllByRecursion (λ e. IsHeldState e.1) es → AllByRecursion (λ e. IsValid e.1 × (is_key e.0 ≡ true)) es → AllByRecursion (λ e. IsSpelled e.1) es → AreHeld (from_entries es)
+held_all [] held valid spelled = held_none [] refl
+held_all (e ∷ es) held valid spelled = kept_inserted (from_entries es) e.0 e.1 (held_all es held.1 valid.1 spelled.1) held.0 valid.0.0 valid.0.1 spelled.0

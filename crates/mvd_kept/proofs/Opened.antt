@@ -2,12 +2,15 @@
 use Rattle.std.proofs.Common.{◌≡◌, false, cond, List, [], ◌∷◌, ◌++◌, Some, None, refl, sym, ap, ◌∙◌, subst, T, is_some, arith, ℕ, ◌+◌, zero, suc, ◌<◌, length, map, take, drop, get_or}
 use Rattle.std.proofs.Math.Seq.{split_at}
 use Rattle.std.proofs.lemmas.List.{map-id, take_more}
-use Rattle.std.specs.List.{AllByRecursion}
+use Rattle.std.specs.List.{AllByRecursion, IsDistinct}
 use Rattle.std.specs.declared.cmp.Ordering.{Ordering}
 use Rattle.std.specs.declared.cmp.Ordering.TheVariants.{Less, Equal, Greater}
-use Rattle.std.specs.Ordering.{is_eq, is_lt}
+use Rattle.std.specs.Ordering.{eq_by_cmp, is_eq, is_lt}
+use Rattle.std.specs.Map.{lookup, update_all}
+use Rattle.std.specs.BTreeMap.{is_at}
+use Rattle.std.proofs.lemmas.Map.Made.{update_all_none}
 use Rattle.std.specs.Cmp.{eq_by_cmp_equiv}
-use Rattle.std.specs.FinMap.{get, find, from_entries, from_entries_push, get-from_entries, insert, is_sorted, len, len-empty, len-insert}
+use Rattle.std.specs.FinMap.{get, find, from_entries, from_entries_push, get-from_entries, insert, is_sorted, len, len-empty, len-insert, same_map}
 use Rattle.std.specs.FinMap.Entries.{below_all}
 use Rattle.mvd_keys.specs.Key.{key_cmp}
 use Rattle.mvd_keys.specs.State.{State}
@@ -16,8 +19,9 @@ use Rattle.mvd_keys.proofs.KeyOrder.{key_antisymmetric, key_total}
 use Rattle.mvd_keys.proofs.Rising.{first_true, second_true}
 use Rattle.mvd_keys.proofs.Standing.{Stands-for}
 use Rattle.mvd_kept.specs.Held.{AreHeld, States}
+use Rattle.mvd_kept.proofs.HeldMaps.{get_key}
 
-abbrev Entry : Type 0
+abbrev pub Entry : Type 0
 Entry = Key × State
 
 less_is_no_tie : (o : Ordering) → T (is_lt o) → is_eq o ≡ false
@@ -98,3 +102,20 @@ each_pushed P (x ∷ es) e all here = (all.0, each_pushed P es e all.1 here)
 pub each_more : (P : Entry → Type 0) (es : List Entry) (i : ℕ) (e : Entry) → AllByRecursion P (take i es) → i < length es → e ≡ get_or es i e → P e → AllByRecursion P (take (i + 1) es)
 each_more P es i e all low is here =
     subst (AllByRecursion P) (sym (take_more es i e low ∙ ap (λ x. take i es ++ x ∷ []) (sym is))) (each_pushed P (take i es) e all here)
+
+-- ---- all entries at once
+
+below_distinct : (key : Key) (es : List Entry) → T (below_all key_cmp key es) → AllByRecursion (λ y. eq_by_cmp key_cmp key y ≡ false) (map (λ e. e.0) es)
+below_distinct key [] h = tt
+below_distinct key (e ∷ es) h = (less_is_no_tie (key_cmp key e.0) (first_true _ _ h), below_distinct key es (second_true (is_lt (key_cmp key e.0)) _ h))
+
+-- rising keys are distinct
+rising_distinct : (es : List Entry) → T (is_sorted key_cmp es) → IsDistinct (eq_by_cmp key_cmp) (map (λ e. e.0) es)
+unfolding IsDistinct
+rising_distinct [] h = tt
+rising_distinct (e ∷ es) h = (below_distinct e.0 es (first_true _ _ h), rising_distinct es (second_true (below_all key_cmp e.0 es) _ h))
+
+-- the map of rising entries, where they were all put in at once
+pub made_at_once : (es fs : List Entry) → T (is_sorted key_cmp es) → ((q : Key) → lookup (is_at (key_cmp q)) fs ≡ update_all (eq_by_cmp key_cmp) (λ _. None) es q) → from_entries {R = key_cmp} fs ≡ from_entries es
+made_at_once es fs rises h = same_map key_total key_antisymmetric _ _ (λ q.
+    get_key fs q ∙ h q ∙ update_all_none (eq_by_cmp_equiv key_total) (eq_by_cmp key_cmp) (λ x y. refl) es q (rising_distinct es rises) ∙ sym (get_key es q))

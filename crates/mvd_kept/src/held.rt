@@ -1,5 +1,7 @@
 //! The key states that a site holds, and the only way to them.
-ghost use Rattle.std.specs.Prelude.{◌≡◌, ◌+◌, ◌*◌, IfErr, IfOk, IfSome, Ok, OnErr, OnOk, length};
+ghost use Rattle.std.specs.Prelude.{◌≡◌, ◌+◌, ◌*◌, IfErr, IfOk, IfSome, IsTrue, Ok, OnErr, OnOk, length, true};
+ghost use Rattle.std.specs.List.{AllByRecursion};
+ghost use Rattle.std.specs.FinMap.{from_entries, is_sorted};
 ghost use Rattle.std.specs.Bound.{bound_map};
 ghost use Rattle.std.specs.declared.ops.Bound.TheVariants.{Unbounded};
 ghost use Rattle.std.specs.BTreeMap as tree;
@@ -10,7 +12,8 @@ ghost use Rattle.std.specs.FinMap as map;
 ghost use Rattle.mvd_count.specs.Counted.{RoseBy, counted};
 ghost use Rattle.mvd_dots.specs.Answer.{IsAnswer};
 ghost use Rattle.mvd_dots.specs.declared.refusals.Refusal.TheVariants.{Broken, Memory};
-ghost use Rattle.mvd_keys.specs.Key.{key_cmp};
+ghost use Rattle.mvd_keys.specs.Key.{is_key, key_cmp};
+ghost use Rattle.mvd_keys.specs.State.{IsValid};
 ghost use Rattle.mvd_rows.specs.Changes.{IsRoomy, differing, looks_each, updates_each};
 ghost use Rattle.mvd_rows.specs.Counted.{Within};
 ghost use Rattle.mvd_rows.specs.Defs.{Definitions};
@@ -60,6 +63,21 @@ impl Held {
         Held {
             states: BTreeMap::new(alloc),
         }
+    }
+
+    /// Just these states, all put in at once. So each node of the map is full, and it would be half full where they came
+    /// one after the other by rising key.
+    pub fn of(alloc: Global, states: Vec<(Key, KeyState)>) -> Result<Held, Refusal>
+        requires rising { IsTrue (is_sorted key_cmp states.items) }
+        requires held { AllByRecursion (λ entry. IsHeldState entry.1) states.items }
+        requires spelled { AllByRecursion (λ entry. IsSpelled entry.1) states.items }
+        ensures held { IfOk result (λ held. held ≡ from_entries states.items) }
+        ensures kept { IfOk result AreHeld }
+        ensures only { IfErr result (λ refusal. refusal ≡ Memory) }
+    {
+        are_valid(&states);
+        let states = BTreeMap::from_iter(alloc, states)?;
+        Ok(Held { states })
     }
 
     /// The state of a key, if it is held. This is one look.
@@ -193,6 +211,16 @@ impl Held {
             Some(old) => rows.change(key, old, state, &mut work.rows),
             None => rows.change(key, &empty, state, &mut work.rows),
         }
+    }
+}
+
+/// Of each of these it is known that its siblings' dots have been seen, and that its key is one.
+fn are_valid(states: &[(Key, KeyState)])
+    ensures { AllByRecursion (λ entry. IsValid entry.1 × (is_key entry.0 ≡ true)) states.now }
+{
+    for entry in states {
+        let _seen = entry.1.context();
+        let _text = entry.0.text();
     }
 }
 

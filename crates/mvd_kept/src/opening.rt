@@ -2,7 +2,7 @@
 ghost use Rattle.std.specs.Prelude.{◌≡◌, ◌≤◌, ◌↔◌, List, Ok, false, IfErr, IfOk, IsTrue, length};
 ghost use Rattle.std.specs.List.{AllByRecursion};
 ghost use Rattle.std.specs.FinMap as map;
-ghost use Rattle.std.specs.FinMap.{from_entries, is_sorted};
+ghost use Rattle.std.specs.FinMap.{is_sorted};
 ghost use Rattle.mvd_dots.specs.Answer.{IsAnswer};
 ghost use Rattle.mvd_dots.specs.declared.refusals.Refusal.TheVariants.{Memory};
 ghost use Rattle.mvd_keys.specs.Key.{key_cmp};
@@ -12,7 +12,7 @@ ghost use Rattle.mvd_wire.specs.Codecs.{spell_state, state_limit};
 ghost use Rattle.mvd_digest.specs.Counted.{Hashes};
 ghost use Rattle.mvd_kept.specs.Answer.{spelled};
 ghost use Rattle.mvd_kept.specs.Costs.{Costs, OpenCosts, all_bytes};
-ghost use Rattle.mvd_kept.specs.Held.{AreHeld, IsHeldState, IsSpelled, key_digests};
+ghost use Rattle.mvd_kept.specs.Held.{IsHeldState, IsSpelled, key_digests};
 ghost use Rattle.mvd_kept.specs.Sites.{opened};
 
 use crate::config::Config;
@@ -67,7 +67,7 @@ impl Kept {
         let digests = digests_of(alloc, &states, &mut work.hashed)?;
         let tree = Tree::open(alloc, digests, &mut work.hashed)?;
         let rows = rows_of(alloc, config.defs(), &states, &mut work.rows)?;
-        let held = held_of(alloc, states)?;
+        let held = Held::of(alloc, states)?;
         let kept = Kept {
             alloc,
             config,
@@ -88,22 +88,6 @@ pub fn may_be_held(state: &KeyState) -> bool
         return false;
     }
     !state.context().is_empty()
-}
-
-/// The map of just these states.
-pub fn held_of(alloc: Global, states: Vec<(Key, KeyState)>) -> Result<Held, Refusal>
-    requires rising { IsTrue (is_sorted key_cmp states.items) }
-    requires held { AllByRecursion (λ entry. IsHeldState entry.1) states.items }
-    requires spelled { AllByRecursion (λ entry. IsSpelled entry.1) states.items }
-    ensures held { IfOk result (λ held. held ≡ from_entries states.items) }
-    ensures kept { IfOk result AreHeld }
-    ensures only { IfErr result (λ refusal. refusal ≡ Memory) }
-{
-    let mut held = Held::new(alloc);
-    for (key, state) in states {
-        held.insert(key, state)?;
-    }
-    Ok(held)
 }
 
 /// The digests of the keys in these states.

@@ -285,14 +285,15 @@ impl Crowd {
         }
     }
 
-    /// A client's time has come: it ends, unless a byte moved since that was set.
+    /// A client's time has come: it ends, unless a byte moved since that was set, or it waits for the answer to a request
+    /// over HTTP.
     fn look_after(&mut self, number: u64, ready: &mut Vec<u64>)
         ensures { TalksDeeds self.old.talks self.new.talks }
     {
         let Some(client) = self.clients.get_mut(&number) else {
             return;
         };
-        let due = if self.talks.is_parked(number) {
+        let due = if self.talks.awaits_answer(number) {
             self.now.saturating_add(self.idle)
         } else {
             client.deadline

@@ -331,14 +331,15 @@ impl Server {
         }
     }
 
-    /// Lets clients in, ends those that are idle, and reads once of each that is listed.
+    /// Lets clients in, reads once of each that is listed, and ends those that are idle: not for want of what came
+    /// while the server was busy.
     fn take_in<K: Sockets>(&mut self, sockets: &mut K) -> Result<(), AllocError>
         ensures { Carries K.Sockets (wired_of self.old.crowd.talks sockets.old)
             (wired_of self.new.crowd.talks sockets.new) }
     {
         self.let_in(sockets)?;
-        self.crowd.end_idle(&mut self.ready);
         self.crowd.read_all(sockets, &self.ready);
+        self.crowd.end_idle(&mut self.ready);
         Ok(())
     }
 

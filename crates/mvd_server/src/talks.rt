@@ -329,9 +329,12 @@ impl Talks {
         let _ = self.woken.push(number);
     }
 
-    /// Whether a client waits for a change.
-    pub fn is_parked(&self, number: u64) -> bool {
-        self.parked.has(number)
+    /// Whether a client waits for the answer to a request over HTTP, which may be a change.
+    pub fn awaits_answer(&self, number: u64) -> bool {
+        match self.webs.get(&number) {
+            Some(web) => web.asked().is_some(),
+            None => false,
+        }
     }
 
     /// A client that waits for a change, if it does, is told soon that there is none.

@@ -1,6 +1,7 @@
 //! The keys of one bucket, in order, and the SHA-256 computation over their digests.
 ghost use Rattle.std.specs.Prelude.{◌≡◌, ◌≢◌, ℕ, ◌<◌, ◌≤◌, ◌+◌, ◌*◌, true, false, slice_index_or, length};
 ghost use Rattle.std.specs.Prelude.{IfOk, OnOk, OnErr, T, option_copied, List};
+ghost use Rattle.std.specs.List.{insert};
 ghost use Rattle.std.specs.Ordering.{is_lt};
 ghost use Rattle.std.specs.FinMap.{empty, entries, len, retain_keys, is_sorted};
 ghost use Rattle.std.specs.FinMap as map;
@@ -118,6 +119,25 @@ fn read_all(
     hasher
 }
 
+/// Puts in an entry. Where there is no room, it takes that of eight entries more, and not as much again as there is,
+/// since most of a tree's memory lies here.
+fn insert_at(
+    entries: &mut Vec<(Key, [u8; 32])>,
+    index: usize,
+    key: Key,
+    digest: [u8; 32],
+) -> Result<(), Refusal>
+    requires { index ≤ length entries.old.items }
+    ensures ok { OnOk result (entries.new.items ≡ insert entries.old.items index (key, digest)) }
+    ensures err { OnErr result (entries.new.items ≡ entries.old.items) }
+{
+    if entries.len() == entries.capacity() {
+        entries.reserve_exact(8)?;
+    }
+    entries.insert(index, (key, digest))?;
+    Ok(())
+}
+
 /// A copy of these entries.
 pub(crate) fn copies(
     alloc: Global,
@@ -191,7 +211,7 @@ impl Bucket {
             return Ok(());
         }
         let key = key.copy(alloc)?;
-        self.entries.insert(below, (key, digest))?;
+        insert_at(&mut self.entries, below, key, digest)?;
         Ok(())
     }
 
@@ -206,7 +226,7 @@ impl Bucket {
             entry.1 = digest;
             return Ok(());
         }
-        self.entries.insert(below, (key, digest))?;
+        insert_at(&mut self.entries, below, key, digest)?;
         Ok(())
     }
 

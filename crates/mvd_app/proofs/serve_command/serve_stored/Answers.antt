@@ -1,4 +1,4 @@
-use Rattle.std.proofs.Common.{option_copied, refl}
+use Rattle.std.proofs.Common.{option_copied}
 use Rattle.mvd_app.proofs.Unserved.{serves_nothing}
 use Rattle.mvd_app.proofs.serve_command.serve_stored.Goals as goal
 use Rattle.mvd_replica.specs.Replicas.{site_of}
@@ -7,7 +7,3 @@ use Rattle.mvd_server.proofs.Closing.{ends_unread}
 pub returns-in-Err : goal.returns-in-Err
 returns-in-Err g c =
     serves_nothing g.K.Sockets (option_copied c.args.terms.token) c.args.sockets.now c.args.replica.now c.unheard.result (ends_unread (site_of c.args.replica.now) c.unheard.result.fault c.unheard.ensures)
-
-pub returns-in_default-addresses_of : goal.returns-in_default-addresses_of
-returns-in_default-addresses_of g c =
-    serves_nothing g.K.Sockets (option_copied c.args.terms.token) c.args.sockets.now c.args.replica.now c.from.result (rw c.from.ensures (λ other. absurd (other refl)))

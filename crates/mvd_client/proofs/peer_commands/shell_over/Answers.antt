@@ -44,6 +44,7 @@ returns-in-Err-bye g c = record {
             | inr (inr body) ↦ c.at_server.ensures.body body
           ];
           token = c.at_server.ensures.token;
+          place = c.at_server.ensures.place;
           broken = c.at_server.ensures.broken;
         },
       ),

@@ -25,14 +25,14 @@ invariant_of-self-2 c =
     let at = rw c.if-held.false at c.find-below.ensures.splits in
     let copied : c.in_ok-key.key ≡ c.args.key.now = let h = c.in_ok-key.ensures in cc in
     record {
-      read = subst₂ AreRead (sym c.in_ok-insert.ensures.items) (sym c.truncate.ensures.items) (read_insert c.self.inside.entries.items c.self.inside.midstates.items c.find-below.result.0 _ c.self.invariant.read (omega (arith, ap length c.deref.ensures.value, c.find-below.ensures.within)));
-      sorted = (after_put c.self.inside.entries.items c.insert.new.self.items c.args.self.now c.args.key.now c.args.digest c.self.invariant.sorted c.self.view_is
-          (put_absent c.args.key.now c.args.digest c.self.inside.entries.items c.find-below.result.0 (rw c.deref.ensures.value at at) ∙ sym (c.in_ok-insert.ensures.items ∙ ap (λ k. insert c.self.inside.entries.items c.find-below.result.0 (k, c.args.digest)) copied))).0;
+      read = subst₂ AreRead (sym c.in_ok-insert_at.ensures.ok) (sym c.truncate.ensures.items) (read_insert c.self.inside.entries.items c.self.inside.midstates.items c.find-below.result.0 _ c.self.invariant.read (omega (arith, ap length c.deref.ensures.value, c.find-below.ensures.within)));
+      sorted = (after_put c.self.inside.entries.items c.insert_at.new.entries.items c.args.self.now c.args.key.now c.args.digest c.self.invariant.sorted c.self.view_is
+          (put_absent c.args.key.now c.args.digest c.self.inside.entries.items c.find-below.result.0 (rw c.deref.ensures.value at at) ∙ sym (c.in_ok-insert_at.ensures.ok ∙ ap (λ k. insert c.self.inside.entries.items c.find-below.result.0 (k, c.args.digest)) copied))).0;
     }
 
 pub returns-clause-ok : goal.returns-clause-ok
 returns-clause-ok c =
     let at = rw c.if-held.false at c.find-below.ensures.splits in
     let copied : c.in_ok-key.key ≡ c.args.key.now = let h = c.in_ok-key.ensures in cc in
-    (after_put c.self.inside.entries.items c.insert.new.self.items c.args.self.now c.args.key.now c.args.digest c.self.invariant.sorted c.self.view_is
-    (put_absent c.args.key.now c.args.digest c.self.inside.entries.items c.find-below.result.0 (rw c.deref.ensures.value at at) ∙ sym (c.in_ok-insert.ensures.items ∙ ap (λ k. insert c.self.inside.entries.items c.find-below.result.0 (k, c.args.digest)) copied))).1
+    (after_put c.self.inside.entries.items c.insert_at.new.entries.items c.args.self.now c.args.key.now c.args.digest c.self.invariant.sorted c.self.view_is
+    (put_absent c.args.key.now c.args.digest c.self.inside.entries.items c.find-below.result.0 (rw c.deref.ensures.value at at) ∙ sym (c.in_ok-insert_at.ensures.ok ∙ ap (λ k. insert c.self.inside.entries.items c.find-below.result.0 (k, c.args.digest)) copied))).1

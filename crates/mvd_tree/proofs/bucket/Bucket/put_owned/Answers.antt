@@ -23,13 +23,13 @@ pub invariant_of-self-2 : goal.invariant_of-self-2
 invariant_of-self-2 c =
     let at = rw c.if-held.false at c.find-below.ensures.splits in
     record {
-      read = subst₂ AreRead (sym c.in_ok-insert.ensures.items) (sym c.truncate.ensures.items) (read_insert c.self.inside.entries.items c.self.inside.midstates.items c.find-below.result.0 _ c.self.invariant.read (omega (arith, ap length c.deref.ensures.value, c.find-below.ensures.within)));
-      sorted = (after_put c.self.inside.entries.items c.insert.new.self.items c.args.self.now c.args.key c.args.digest c.self.invariant.sorted c.self.view_is
-          (put_absent c.args.key c.args.digest c.self.inside.entries.items c.find-below.result.0 (rw c.deref.ensures.value at at) ∙ sym c.in_ok-insert.ensures.items)).0;
+      read = subst₂ AreRead (sym c.in_ok-insert_at.ensures.ok) (sym c.truncate.ensures.items) (read_insert c.self.inside.entries.items c.self.inside.midstates.items c.find-below.result.0 _ c.self.invariant.read (omega (arith, ap length c.deref.ensures.value, c.find-below.ensures.within)));
+      sorted = (after_put c.self.inside.entries.items c.insert_at.new.entries.items c.args.self.now c.args.key c.args.digest c.self.invariant.sorted c.self.view_is
+          (put_absent c.args.key c.args.digest c.self.inside.entries.items c.find-below.result.0 (rw c.deref.ensures.value at at) ∙ sym c.in_ok-insert_at.ensures.ok)).0;
     }
 
 pub returns : goal.returns
 returns c =
     let at = rw c.if-held.false at c.find-below.ensures.splits in
-    (after_put c.self.inside.entries.items c.insert.new.self.items c.args.self.now c.args.key c.args.digest c.self.invariant.sorted c.self.view_is
-    (put_absent c.args.key c.args.digest c.self.inside.entries.items c.find-below.result.0 (rw c.deref.ensures.value at at) ∙ sym c.in_ok-insert.ensures.items)).1
+    (after_put c.self.inside.entries.items c.insert_at.new.entries.items c.args.self.now c.args.key c.args.digest c.self.invariant.sorted c.self.view_is
+    (put_absent c.args.key c.args.digest c.self.inside.entries.items c.find-below.result.0 (rw c.deref.ensures.value at at) ∙ sym c.in_ok-insert_at.ensures.ok)).1

@@ -1,4 +1,4 @@
-use Rattle.std.proofs.Common.{sym, ◌∙◌}
+use Rattle.std.proofs.Common.{◌∙◌}
 use Rattle.mvd_host.proofs.Changing.{with_key, without_key}
 use Rattle.mvd_host.proofs.noting.changed_keys.Goals as goal
 

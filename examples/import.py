@@ -14,6 +14,8 @@ import time
 import urllib.parse
 
 LINES, BYTES = 1_000, 1_048_576
+# as many writes are answered over one connection
+WRITES = 1_000_000
 
 
 def batches(lines):
@@ -31,8 +33,13 @@ def batches(lines):
 
 def main(server):
     link = http.client.HTTPConnection(urllib.parse.urlsplit(server).netloc)
-    begun, taken, refused = time.monotonic(), 0, 0
+    begun, taken, refused, sent = time.monotonic(), 0, 0, 0
     for batch in batches(line.rstrip(b"\n") + b"\n" for line in sys.stdin.buffer if line.strip()):
+        if sent + len(batch) > WRITES:
+            # the next request opens another one
+            link.close()
+            sent = 0
+        sent += len(batch)
         link.request("POST", "/keys", b"".join(batch))
         response = link.getresponse()
         answers = response.read()

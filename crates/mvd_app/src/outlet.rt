@@ -152,7 +152,7 @@ fn piece_of(buf: &[u8]) -> usize
     }
 }
 
-/// Writes once. It gives how many bytes left: none where a disk has no room for one.
+/// Writes once. It gives how many bytes left: none where there is no room for one.
 fn leave<W: Write>(writer: &mut W, piece: &[u8]) -> io::Result<usize>
     ensures { IfOk result (λ count. count ≤ length piece.now) }
 {
@@ -161,7 +161,7 @@ fn leave<W: Write>(writer: &mut W, piece: &[u8]) -> io::Result<usize>
             writer.flush()?;
             Ok(count)
         }
-        Err(error) => if is_full(error.kind()) {
+        Err(error) => if is_want_of_room(error.kind()) {
             Ok(0)
         } else {
             Err(error)
@@ -169,11 +169,14 @@ fn leave<W: Write>(writer: &mut W, piece: &[u8]) -> io::Result<usize>
     }
 }
 
-/// Whether a disk has no room, for this user at least.
-fn is_full(kind: ErrorKind) -> bool {
+/// Whether a disk has no room, for this user at least, or a pipe that others fill, too.
+fn is_want_of_room(kind: ErrorKind) -> bool {
     matches!(
         kind,
-        ErrorKind::StorageFull | ErrorKind::QuotaExceeded | ErrorKind::FileTooLarge
+        ErrorKind::StorageFull
+            | ErrorKind::QuotaExceeded
+            | ErrorKind::FileTooLarge
+            | ErrorKind::WouldBlock
     )
 }
 

@@ -1,5 +1,5 @@
 -- Requests change no states but those of the keys that they ask to change.
-use Rattle.std.proofs.Common.{◌≡◌, ◌⊎◌, inl, inr, ℕ, ◌<◌, ◌≤◌, ◌^◌, ◌-◌, ◌+◌, min, Bool, true, false, cond, if◌then◌else◌, List, [], ◌∷◌, map, Some, Result, Ok, Err, refl, sym, ap, subst, ◌∙◌, arith}
+use Rattle.std.proofs.Common.{◌≡◌, ◌⊎◌, inl, inr, ℕ, ◌<◌, ◌≤◌, ◌^◌, ◌-◌, ◌+◌, min, Bool, true, false, cond, if◌then◌else◌, List, [], ◌∷◌, ◌++◌, map, Option, None, Some, Result, Ok, Err, refl, sym, ap, subst, ◌∙◌, append-nil, append_assoc, arith}
 use Rattle.std.specs.Option.{option_to_list}
 use Rattle.std.specs.FinMap.{get, insert, get-insert}
 use Rattle.std.specs.Ordering.{eq_by_cmp}
@@ -92,6 +92,27 @@ turns_change old new (turn ∷ turns) (request ∷ requests) asked takes =
     let others : map (λ turn. turn.asked) turns ≡ map (λ request. Ok request) requests = cc in
     changes_on (option_to_list (key_to_change request)) (keys_to_change requests) old.states mid.states new.states
     (turn_changes old mid turn.asked turn.reply request first takes.1) (turns_change mid new turns requests others takes.2)
+
+-- ---- the keys that are noted
+
+changed_more : (requests : List Request) (request : Request) → keys_to_change (requests ++ request ∷ []) ≡ keys_to_change requests ++ option_to_list (key_to_change request)
+changed_more [] request = append-nil (option_to_list (key_to_change request))
+changed_more (r ∷ requests) request =
+    ap (λ (l : List Key). option_to_list (key_to_change r) ++ l) (changed_more requests request) ∙ sym (append_assoc (option_to_list (key_to_change r)) (keys_to_change requests) (option_to_list (key_to_change request)))
+
+-- with one more, whose request asks to change it
+pub with_key : (requests : List Request) (request : Request) (key : Key) (keys more : List Key) → keys ≡ keys_to_change requests → Some key ≡ key_to_change request → more ≡ keys ++ key ∷ [] → more ≡ keys_to_change (requests ++ request ∷ [])
+with_key requests request key keys more so_far some is =
+    is ∙ ap (λ (l : List Key). l ++ key ∷ []) so_far ∙ ap (λ (o : Option Key). keys_to_change requests ++ option_to_list o) some ∙ sym (changed_more requests request)
+
+none_where : (o : Option Key) → ((key : Key) → o ≡ Some key → ⊥) → o ≡ None
+none_where None other = refl
+none_where (Some key) other = absurd (other key refl)
+
+-- with one request more that asks to change none
+pub without_key : (requests : List Request) (request : Request) (keys : List Key) → keys ≡ keys_to_change requests → ((key : Key) → key_to_change request ≡ Some key → ⊥) → keys ≡ keys_to_change (requests ++ request ∷ [])
+without_key requests request keys so_far other =
+    so_far ∙ sym (append-nil (keys_to_change requests)) ∙ ap (λ (o : Option Key). keys_to_change requests ++ option_to_list o) (sym (none_where (key_to_change request) other)) ∙ sym (changed_more requests request)
 
 -- ---- commits
 

@@ -63,16 +63,12 @@ impl Host {
             requests,
             faults,
         } = taken;
-        match feed.answer(replica, &requests) {
+        match feed.answer(replica, requests, tally) {
             Ok(replies) => {
                 queue_replies(&mut self.clients, &clients, &replies);
-                tally.note_all(&requests, &replies);
                 *kept = RoundReplies { clients, replies };
             }
-            Err(refusal) => {
-                queue_refused(&mut self.clients, &clients, refusal);
-                tally.note_refused(&requests, refusal);
-            }
+            Err(refusal) => queue_refused(&mut self.clients, &clients, refusal),
         }
         queue_faults(&mut self.clients, &faults);
         told(refused, true)

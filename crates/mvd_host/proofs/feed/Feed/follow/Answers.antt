@@ -10,7 +10,7 @@ use Rattle.mvd_host.proofs.feed.Feed.follow.Goals as goal
 pub returns-in-Ok-changed_keys-clause-notes : goal.returns-in-Ok-changed_keys-clause-notes
 returns-in-Ok-changed_keys-clause-notes g c =
     let states = c.args.replica.now.site.states in
-    noted_notes c.args.requests.now states c.args.self.now c.note.new.self c.in-Ok-changed_keys.keys.items c.in-Ok.root c.note.result c.in-Ok-changed_keys.ensures (root_is c.args.replica.now.site c.in-Ok.root c.in-Ok.ensures.0) c.note.ensures.ok c.note.ensures.err
+    noted_notes c.args.requests.items states c.args.self.now c.note.new.self c.in-Ok-changed_keys.keys.items c.in-Ok.root c.note.result c.in-Ok-changed_keys.ensures (root_is c.args.replica.now.site c.in-Ok.root c.in-Ok.ensures.0) c.note.ensures.ok c.note.ensures.err
 
 pub returns-in-Ok-changed_keys-clause-lists : goal.returns-in-Ok-changed_keys-clause-lists
 returns-in-Ok-changed_keys-clause-lists g c before changes =

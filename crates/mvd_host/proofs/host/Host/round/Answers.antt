@@ -28,8 +28,8 @@ queue_replies-requires-clause-due g c =
     let old = c.self.inside.clients.entries in
     let mid = c.take_all-refused.new.clients.entries in
     let ts = zip (map (λ (r : ℕ × Request). r.0) all.requests) a.turns in
-    let asked = zip_asks all.requests a.turns (a.asked ∙ ap (λ (l : List Request). map (λ r. Ok r) l) (c.deref.ensures.value ∙ all.holds.requests_are)) in
-    subst (λ l. AreDue l mid) (sym (ok_tells all.requests c.deref-in-Ok.result.now a.turns c.deref-in-Ok-2.result.now (c.deref-in-Ok.ensures.value ∙ all.holds.clients) (a.told ∙ sym c.deref-in-Ok-2.ensures.value)))
+    let asked = zip_asks all.requests a.turns (a.asked ∙ ap (λ (l : List Request). map (λ r. Ok r) l) all.holds.requests_are) in
+    subst (λ l. AreDue l mid) (sym (ok_tells all.requests c.deref.result.now a.turns c.deref-in-Ok.result.now (c.deref.ensures.value ∙ all.holds.clients) (a.told ∙ sym c.deref-in-Ok.ensures.value)))
     (due_front (tells ts) (refused_faults taken.faults.items) mid (due old mid mid mid taken all ts asked c.self.inside.admitted c.self.invariant))
 
 pub queue_refused-requires : goal.queue_refused-requires
@@ -48,7 +48,7 @@ queue_refused-requires g c =
 pub queue_replies-requires-clause-fits : goal.queue_replies-requires-clause-fits
 queue_replies-requires-clause-fits g c =
     let a = answers_all _ _ _ _ c.in-Ok.ensures.answers.answers in
-    subst (λ (b : List Reply). AllByRecursion (λ (r : ℕ × Reply). CanBeSent r.1) (zip c.deref-in-Ok.result.now b)) (a.told ∙ sym c.deref-in-Ok-2.ensures.value) (zip_fits c.deref-in-Ok.result.now a.turns a.takes.fits)
+    subst (λ (b : List Reply). AllByRecursion (λ (r : ℕ × Reply). CanBeSent r.1) (zip c.deref.result.now b)) (a.told ∙ sym c.deref-in-Ok.ensures.value) (zip_fits c.deref.result.now a.turns a.takes.fits)
 
 pub queue_faults-requires : goal.queue_faults-requires
 queue_faults-requires g c =
@@ -61,8 +61,8 @@ queue_faults-requires g c =
     let a : Answered all.requests mid between c.args.replica.now.site c.answer.new.replica.site (state g.S.Store c.args.replica.now.records.conn) (state g.S.Store c.answer.new.replica.records.conn) =
     elim c.match-answer.branch [
       | in-Ok w ↦ subst (λ (s : Inside). Answered all.requests mid s.clients.entries c.args.replica.now.site c.answer.new.replica.site (state g.S.Store c.args.replica.now.records.conn) (state g.S.Store c.answer.new.replica.records.conn)) (sym w.self-inside-is)
-          (answered_ok all.requests c.deref.result.now w.deref-in-Ok.result.now w.deref-in-Ok-2.result.now mid w.queue_replies.new.clients.entries _ _ _ _ (c.deref.ensures.value ∙ all.holds.requests_are) (w.deref-in-Ok.ensures.value ∙ all.holds.clients)
-          (subst (λ (l : List Reply). AnswersAll c.deref.result.now l _ _ _ _) (sym w.deref-in-Ok-2.ensures.value) (answers_all _ _ _ _ w.in-Ok.ensures.answers.answers)) w.queue_replies.ensures.queues)
+          (answered_ok all.requests taken.requests.items w.deref.result.now w.deref-in-Ok.result.now mid w.queue_replies.new.clients.entries _ _ _ _ all.holds.requests_are (w.deref.ensures.value ∙ all.holds.clients)
+          (subst (λ (l : List Reply). AnswersAll taken.requests.items l _ _ _ _) (sym w.deref-in-Ok.ensures.value) (answers_all _ _ _ _ w.in-Ok.ensures.answers.answers)) w.queue_replies.ensures.queues)
       | in-Err w ↦ subst (λ (s : Inside). Answered all.requests mid s.clients.entries c.args.replica.now.site c.answer.new.replica.site (state g.S.Store c.args.replica.now.records.conn) (state g.S.Store c.answer.new.replica.records.conn)) (sym w.self-inside-is)
           (subst (λ r. Answered all.requests mid w.queue_refused.new.clients.entries c.args.replica.now.site r.site (state g.S.Store c.args.replica.now.records.conn) (state g.S.Store r.records.conn)) (sym w.in-Err.ensures.answers.memory.1)
           (answered_err all.requests w.deref-in-Err.result.now w.in-Err.refusal mid w.queue_refused.new.clients.entries c.args.replica.now.site (state g.S.Store c.args.replica.now.records.conn) (w.deref-in-Err.ensures.value ∙ all.holds.clients) w.in-Err.ensures.answers.memory.0 w.queue_refused.ensures.queues))
@@ -119,8 +119,8 @@ invariant_of-self-2 g c =
     let a : Answered all.requests mid between c.args.replica.now.site c.answer.new.replica.site (state g.S.Store c.args.replica.now.records.conn) (state g.S.Store c.answer.new.replica.records.conn) =
     elim c.match-answer.branch [
       | in-Ok w ↦ subst (λ (s : Inside). Answered all.requests mid s.clients.entries c.args.replica.now.site c.answer.new.replica.site (state g.S.Store c.args.replica.now.records.conn) (state g.S.Store c.answer.new.replica.records.conn)) (sym w.self-inside-is)
-          (answered_ok all.requests c.deref.result.now w.deref-in-Ok.result.now w.deref-in-Ok-2.result.now mid w.queue_replies.new.clients.entries _ _ _ _ (c.deref.ensures.value ∙ all.holds.requests_are) (w.deref-in-Ok.ensures.value ∙ all.holds.clients)
-          (subst (λ (l : List Reply). AnswersAll c.deref.result.now l _ _ _ _) (sym w.deref-in-Ok-2.ensures.value) (answers_all _ _ _ _ w.in-Ok.ensures.answers.answers)) w.queue_replies.ensures.queues)
+          (answered_ok all.requests taken.requests.items w.deref.result.now w.deref-in-Ok.result.now mid w.queue_replies.new.clients.entries _ _ _ _ all.holds.requests_are (w.deref.ensures.value ∙ all.holds.clients)
+          (subst (λ (l : List Reply). AnswersAll taken.requests.items l _ _ _ _) (sym w.deref-in-Ok.ensures.value) (answers_all _ _ _ _ w.in-Ok.ensures.answers.answers)) w.queue_replies.ensures.queues)
       | in-Err w ↦ subst (λ (s : Inside). Answered all.requests mid s.clients.entries c.args.replica.now.site c.answer.new.replica.site (state g.S.Store c.args.replica.now.records.conn) (state g.S.Store c.answer.new.replica.records.conn)) (sym w.self-inside-is)
           (subst (λ r. Answered all.requests mid w.queue_refused.new.clients.entries c.args.replica.now.site r.site (state g.S.Store c.args.replica.now.records.conn) (state g.S.Store r.records.conn)) (sym w.in-Err.ensures.answers.memory.1)
           (answered_err all.requests w.deref-in-Err.result.now w.in-Err.refusal mid w.queue_refused.new.clients.entries c.args.replica.now.site (state g.S.Store c.args.replica.now.records.conn) (w.deref-in-Err.ensures.value ∙ all.holds.clients) w.in-Err.ensures.answers.memory.0 w.queue_refused.ensures.queues))
@@ -149,8 +149,8 @@ returns-clause-round g c =
     let a : Answered all.requests mid between c.args.replica.now.site c.answer.new.replica.site (state g.S.Store c.args.replica.now.records.conn) (state g.S.Store c.answer.new.replica.records.conn) =
     elim c.match-answer.branch [
       | in-Ok w ↦ subst (λ (s : Inside). Answered all.requests mid s.clients.entries c.args.replica.now.site c.answer.new.replica.site (state g.S.Store c.args.replica.now.records.conn) (state g.S.Store c.answer.new.replica.records.conn)) (sym w.self-inside-is)
-          (answered_ok all.requests c.deref.result.now w.deref-in-Ok.result.now w.deref-in-Ok-2.result.now mid w.queue_replies.new.clients.entries _ _ _ _ (c.deref.ensures.value ∙ all.holds.requests_are) (w.deref-in-Ok.ensures.value ∙ all.holds.clients)
-          (subst (λ (l : List Reply). AnswersAll c.deref.result.now l _ _ _ _) (sym w.deref-in-Ok-2.ensures.value) (answers_all _ _ _ _ w.in-Ok.ensures.answers.answers)) w.queue_replies.ensures.queues)
+          (answered_ok all.requests taken.requests.items w.deref.result.now w.deref-in-Ok.result.now mid w.queue_replies.new.clients.entries _ _ _ _ all.holds.requests_are (w.deref.ensures.value ∙ all.holds.clients)
+          (subst (λ (l : List Reply). AnswersAll taken.requests.items l _ _ _ _) (sym w.deref-in-Ok.ensures.value) (answers_all _ _ _ _ w.in-Ok.ensures.answers.answers)) w.queue_replies.ensures.queues)
       | in-Err w ↦ subst (λ (s : Inside). Answered all.requests mid s.clients.entries c.args.replica.now.site c.answer.new.replica.site (state g.S.Store c.args.replica.now.records.conn) (state g.S.Store c.answer.new.replica.records.conn)) (sym w.self-inside-is)
           (subst (λ r. Answered all.requests mid w.queue_refused.new.clients.entries c.args.replica.now.site r.site (state g.S.Store c.args.replica.now.records.conn) (state g.S.Store r.records.conn)) (sym w.in-Err.ensures.answers.memory.1)
           (answered_err all.requests w.deref-in-Err.result.now w.in-Err.refusal mid w.queue_refused.new.clients.entries c.args.replica.now.site (state g.S.Store c.args.replica.now.records.conn) (w.deref-in-Err.ensures.value ∙ all.holds.clients) w.in-Err.ensures.answers.memory.0 w.queue_refused.ensures.queues))

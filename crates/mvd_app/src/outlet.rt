@@ -92,7 +92,7 @@ impl<'w, W: Write> Outlet<'w, W> {
             }
             self.begin_notice()?;
         }
-        let rest = self.notice.as_bytes().get(self.noticed..).unwrap_or(&[]);
+        let rest = behind(self.notice.as_bytes(), self.noticed);
         let count = leave(self.writer, rest)?;
         self.is_cut = is_cut(rest, count, self.is_cut);
         self.noticed = self.noticed.saturating_add(count);
@@ -156,6 +156,11 @@ fn piece_of(buf: &[u8]) -> usize
         Some(at) => at + 1,
         None => most,
     }
+}
+
+/// What is left behind so many bytes.
+fn behind(bytes: &[u8], count: usize) -> &[u8] {
+    &bytes[count.min(bytes.len())..]
 }
 
 /// Writes once. It gives how many bytes left: none where there is no room for one.

@@ -36,8 +36,9 @@ pub(crate) struct Outlet<'w, W: Write> {
     dropped: u64,
     /// What left last is not a whole line.
     is_cut: bool,
-    /// The line that tells of dropped ones, and how many of its bytes left.
+    /// The line that tells of dropped ones, of how many, and how many of its bytes left while not all did.
     notice: String,
+    named: u64,
     noticed: usize,
 }
 
@@ -65,6 +66,7 @@ impl<'w, W: Write> Outlet<'w, W> {
             dropped: 0,
             is_cut: false,
             notice,
+            named: 0,
             noticed: 0,
         })
     }
@@ -84,28 +86,32 @@ impl<'w, W: Write> Outlet<'w, W> {
 
     /// Tells how many lines were dropped, if some were, and whether there is room behind that.
     fn tell_dropped(&mut self) -> io::Result<bool> {
-        if self.noticed == self.notice.len() {
+        if self.noticed == 0 {
             if self.dropped == 0 {
                 return Ok(true);
             }
             self.begin_notice()?;
         }
-        let rest = self.notice.as_bytes().get(self.noticed..).unwrap_or(&[]);
+        let rest = behind(self.notice.as_bytes(), self.noticed);
         let count = leave(self.writer, rest)?;
         self.is_cut = is_cut(rest, count, self.is_cut);
         self.noticed = self.noticed.saturating_add(count);
-        Ok(self.noticed == self.notice.len() && self.has_room())
+        if self.noticed < self.notice.len() {
+            return Ok(false);
+        }
+        self.noticed = 0;
+        self.dropped = self.dropped.saturating_sub(self.named);
+        Ok(self.dropped == 0 && self.has_room())
     }
 
     /// The line that tells of all that were dropped until now, on a line of its own.
     fn begin_notice(&mut self) -> io::Result<()> {
         self.notice.clear();
-        self.noticed = 0;
         if self.is_cut {
             self.notice.push('\n')?;
         }
         writeln!(self.notice, "dropped {}", self.dropped)?;
-        self.dropped = 0;
+        self.named = self.dropped;
         Ok(())
     }
 
@@ -150,6 +156,11 @@ fn piece_of(buf: &[u8]) -> usize
         Some(at) => at + 1,
         None => most,
     }
+}
+
+/// What is left behind so many bytes.
+fn behind(bytes: &[u8], count: usize) -> &[u8] {
+    &bytes[count.min(bytes.len())..]
 }
 
 /// Writes once. It gives how many bytes left: none where there is no room for one.

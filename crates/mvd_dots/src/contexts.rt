@@ -152,6 +152,9 @@ impl Context {
                 return Ok(());
             }
         }
+        if self.entries.is_empty() {
+            self.entries.reserve_exact(1)?;
+        }
         self.entries.insert(i, single)?;
         Ok(())
     }
@@ -175,6 +178,9 @@ impl Context {
         ensures memory { IsOkUnless result Refusal.Memory }
     {
         let loose = Vec::from_slice(self.alloc, loose)?;
+        if self.entries.is_empty() {
+            self.entries.reserve_exact(1)?;
+        }
         self.entries.push(Entry { site, base, loose })?;
         Ok(())
     }
@@ -310,7 +316,7 @@ fn joined_entries(
     ensures form { IfOk result (λ joined. AreEntries joined.items) }
     ensures union { IfOk result (λ joined. set_of joined.items ≡ set.union (set_of first.now) (set_of second.now)) }
 {
-    let mut out = Vec::new(alloc);
+    let mut out = Vec::with_capacity(alloc, 1)?;
     let mut i = 0;
     let mut j = 0;
     while i < first.len() && j < second.len() {

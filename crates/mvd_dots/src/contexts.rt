@@ -152,9 +152,7 @@ impl Context {
                 return Ok(());
             }
         }
-        if self.entries.is_empty() {
-            self.entries.reserve_exact(1)?;
-        }
+        reserve_one(&mut self.entries)?;
         self.entries.insert(i, single)?;
         Ok(())
     }
@@ -178,9 +176,7 @@ impl Context {
         ensures memory { IsOkUnless result Refusal.Memory }
     {
         let loose = Vec::from_slice(self.alloc, loose)?;
-        if self.entries.is_empty() {
-            self.entries.reserve_exact(1)?;
-        }
+        reserve_one(&mut self.entries)?;
         self.entries.push(Entry { site, base, loose })?;
         Ok(())
     }
@@ -337,6 +333,17 @@ fn joined_entries(
     copy_onto(alloc, &mut out, &first[i..])?;
     copy_onto(alloc, &mut out, &second[j..])?;
     Ok(out)
+}
+
+/// Makes room for a first entry, and for no others: most lists have one entry, and a list would begin with room for
+/// four.
+fn reserve_one(entries: &mut Vec<Entry>) -> Result<(), AllocError>
+    ensures { entries.new.items ≡ entries.old.items }
+{
+    if entries.is_empty() {
+        entries.reserve_exact(1)?;
+    }
+    Ok(())
 }
 
 /// Pushes a copy of each entry.

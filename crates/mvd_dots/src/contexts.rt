@@ -152,6 +152,7 @@ impl Context {
                 return Ok(());
             }
         }
+        reserve_one(&mut self.entries)?;
         self.entries.insert(i, single)?;
         Ok(())
     }
@@ -175,6 +176,7 @@ impl Context {
         ensures memory { IsOkUnless result Refusal.Memory }
     {
         let loose = Vec::from_slice(self.alloc, loose)?;
+        reserve_one(&mut self.entries)?;
         self.entries.push(Entry { site, base, loose })?;
         Ok(())
     }
@@ -310,7 +312,7 @@ fn joined_entries(
     ensures form { IfOk result (λ joined. AreEntries joined.items) }
     ensures union { IfOk result (λ joined. set_of joined.items ≡ set.union (set_of first.now) (set_of second.now)) }
 {
-    let mut out = Vec::new(alloc);
+    let mut out = Vec::with_capacity(alloc, 1)?;
     let mut i = 0;
     let mut j = 0;
     while i < first.len() && j < second.len() {
@@ -331,6 +333,17 @@ fn joined_entries(
     copy_onto(alloc, &mut out, &first[i..])?;
     copy_onto(alloc, &mut out, &second[j..])?;
     Ok(out)
+}
+
+/// Makes room for a first entry, and for no others: most lists have one entry, and a list would begin with room for
+/// four.
+fn reserve_one(entries: &mut Vec<Entry>) -> Result<(), AllocError>
+    ensures { entries.new.items ≡ entries.old.items }
+{
+    if entries.is_empty() {
+        entries.reserve_exact(1)?;
+    }
+    Ok(())
 }
 
 /// Pushes a copy of each entry.

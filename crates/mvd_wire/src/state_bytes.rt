@@ -58,7 +58,7 @@ fn each_sibling_at<'a>(
     ensures { Gives (λ x. (pairs_of x.0.items, x.1.now)) result
         ((each (sibling (layout_of version) context.now) (λ _ s. Some s.0) None count).read bytes.now) }
 {
-    let mut siblings = Vec::new(alloc);
+    let mut siblings = Vec::with_capacity(alloc, 1)?;
     let mut previous = None;
     let mut rest = bytes;
     for _ in 0..count {

@@ -10,7 +10,7 @@ use Rattle.mvd_wire.proofs.state_bytes.each_sibling_at.Goals as goal
 pub loop-init : goal.loop-init
 loop-init c =
     let whole : c.args.count - 0 ≡ c.args.count = omega arith in
-    rw (c.new-siblings.ensures.items, whole) (starts (read_each (sibling (layout_of c.args.version) c.args.context.now) (λ _ s. Some s.0) None c.args.count c.args.bytes.now))
+    rw (c.in_ok-siblings.ensures.items, whole) (starts (read_each (sibling (layout_of c.args.version) c.args.context.now) (λ _ s. Some s.0) None c.args.count c.args.bytes.now))
 
 pub returns-in_err-push : goal.returns-in_err-push
 returns-in_err-push c =
@@ -19,7 +19,7 @@ returns-in_err-push c =
 
 pub returns-in_err-sibling : goal.returns-in_err-sibling
 returns-in_err-sibling c =
-    let p = err_from_is_err_and c.from_residual.result c.from_residual.ensures.1 in
+    let p = err_from_is_err_and c.from_residual-in_err-sibling.result c.from_residual-in_err-sibling.ensures.1 in
     rw (p.1, p.2) (ends (sibling (layout_of c.args.version) c.args.context.now) (λ _ s. Some s.0) c.in_err-sibling.field-0.0 (pairs_of c.loop.siblings.items) c.loop.previous c.args.count c.loop.counter c.loop.rest.now (read_each (sibling (layout_of c.args.version) c.args.context.now) (λ _ s. Some s.0) None c.args.count c.args.bytes.now) c.loop-test.true c.in_err-sibling.ensures c.loop.invariant)
 
 pub loop-preserved : goal.loop-preserved

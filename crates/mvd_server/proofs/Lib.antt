@@ -22,3 +22,4 @@ pub mod Spelled
 pub mod Swapping
 pub mod Waking
 pub mod Wiring
+pub mod Writing

@@ -1,5 +1,5 @@
 -- The lines of many writes.
-use Rattle.std.proofs.Common.{◌≡◌, ◌∙◌, ◌+◌, ◌++◌, ℕ, List, Option, Some, None, Result, Ok, inl, inr, ap, subst, sym}
+use Rattle.std.proofs.Common.{◌≡◌, ◌∙◌, ◌+◌, ◌<◌, ◌++◌, ℕ, List, length, Option, Some, None, Result, Ok, inl, inr, ap, subst, sym}
 use Rattle.std.specs.List.{slice_get}
 use Rattle.std.specs.Prelude.{string_bytes}
 use Rattle.mvd_dots.specs.declared.refusals.Refusal.{Refusal}
@@ -29,13 +29,14 @@ pub only_on : (old mid new : Batch) → IsOnlyTold old mid → IsOnlyTold mid ne
 only_on old mid new first second = second ∙ ap (λ (b : Batch). record b { told = new.told; lines = new.lines }) first
 
 -- one line more
-pub each_more : (n : ℕ) (first mid : Batch) (start host host' : HostValue) (reply : Reply) (told : ℕ) (lines : List ℕ) → IsOnlyTold first mid → TellsEachLine n first start mid host
+pub each_more : (n : ℕ) (first mid : Batch) (start host host' : HostValue) (reply : Reply) (told : ℕ) (lines : List ℕ) → IsOnlyTold first mid → mid.told < length first.refused.items → TellsEachLine n first start mid host
     → TellsNext (slice_get mid.refused.items mid.told) n host (Some (Ok reply)) host' → told ≡ mid.told + 1 → lines ≡ string_bytes mid.lines ++ line_text reply
     → TellsSome first.refused.items n (lining start first) (record { host = host'; told = told; lines = lines })
-each_more n first mid start host host' reply told lines only so next more line =
+each_more n first mid start host host' reply told lines only within so next more line =
     let same : mid.refused.items ≡ first.refused.items = ap (λ (b : Batch). b.refused.items) only in
     let new : Lining = record { host = host'; told = told; lines = lines } in
     let one : TellsWriteLine first.refused.items n (lining host mid) new = record {
+      within = within;
       reply = reply;
       next = subst (λ (l : List (Option Refusal)). TellsNext (slice_get l mid.told) n host (Some (Ok reply)) host') same next;
       told = more;

@@ -136,6 +136,13 @@ pub data Errand : Type 0 where
   TellsChange : Errand
   Stops : Errand
 
+-- The writes of a request are kept while it waits, and no longer
+abbrev pub KeepsWrites : ℕ → Batch → Desk → Desk → Type 0
+KeepsWrites n batch old new =
+    ((new.web.asked ≡ old.web.asked) × (new.batches ≡ set_value (is_at (nat_cmp n)) old.batches batch))
+    ⊎ ((new.web.asked ≡ None)
+    × (new.batches ≡ remove_entry (is_at (nat_cmp n)) (set_value (is_at (nat_cmp n)) old.batches batch)))
+
 abbrev pub RunsErrand : Errand → Option Guard → ℕ → Desk → Desk → Type 0
 RunsErrand (Asks left) guard n old new =
     AsksNextOf guard n old.web old.host new.web new.host left × (new.batches ≡ old.batches)
@@ -145,8 +152,7 @@ RunsErrand (Forgoes batch) guard n old new =
 RunsErrand Tells guard n old new = TellsClient n old.web old.host new.web new.host × (new.batches ≡ old.batches)
 RunsErrand (TellsMany batch batch') guard n old new =
     (batch_in old.batches n ≡ Some batch) × TellsBatch n old.web batch old.host new.web batch' new.host
-    × ((new.batches ≡ set_value (is_at (nat_cmp n)) old.batches batch')
-    ⊎ (new.batches ≡ remove_entry (is_at (nat_cmp n)) (set_value (is_at (nat_cmp n)) old.batches batch')))
+    × KeepsWrites n batch' old new
 RunsErrand TellsChange guard n old new =
     AwaitsChange old.web.asked × TellsBody content.Json old.web new.web × (new ≡ record old { web = new.web })
 RunsErrand Stops guard n old new =

@@ -1,5 +1,5 @@
 -- The replies that the host has for a client, each taken as it is in front.
-use Rattle.std.specs.Prelude.{◌≡◌, ◌≢◌, ◌⊎◌, ℕ, List, [], drop, Option, Some, None, Result, Ok, Err}
+use Rattle.std.specs.Prelude.{◌≡◌, ◌⊎◌, ℕ, List, [], drop, Option, Some, None, Result, Ok, Err}
 use Rattle.std.specs.Option.{option_and_then}
 use Rattle.mvd_conn.specs.History.{ending_of, sent}
 use Rattle.mvd_wire.specs.declared.ending.Ending.{Ending}
@@ -13,12 +13,13 @@ use Rattle.mvd_wire.specs.Replies.{reply_of}
 use Rattle.mvd_wire.specs.declared.reply.Reply.{Reply}
 use Rattle.mvd_wire.specs.declared.reply.Reply.TheVariants.{Refused}
 
--- The frame in front is read as the reply, and so many bytes are its own; or what is there is none, and is told so
+-- The frame in front is read as the reply, and so many bytes are its own; or what is there is none, is told so, and all
+-- of it is taken
 abbrev pub IsFrontReply : List ℕ → Result Reply Refusal → ℕ → Type 0
 IsFrontReply bytes told count =
     ((f : FrameValue) × (rest : List ℕ) × (frame_at bytes ≡ Ok (Some f, rest))
     × IsAnswer told (reply_of f.kind f.payload) × (drop count bytes ≡ rest))
-    ⊎ ((bytes ≢ []) × (told ≡ Err Truncated))
+    ⊎ ((refusal : Refusal) × (frame_at bytes ≡ Err refusal) × (told ≡ Err Truncated) × (drop count bytes ≡ []))
 
 -- the reply in front of what waits for a client is taken; where nothing waits, none is
 abbrev pub TakesFront : ℕ → HostValue → Option (Result Reply Refusal) → HostValue → Type 0

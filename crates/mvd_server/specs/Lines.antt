@@ -1,5 +1,5 @@
 -- The lines of many writes: each is of the reply to its own write.
-use Rattle.std.specs.Prelude.{◌≡◌, ◌+◌, ◌++◌, ℕ, List, Option, Some, Ok, string_bytes}
+use Rattle.std.specs.Prelude.{◌≡◌, ◌+◌, ◌<◌, ◌++◌, ℕ, List, length, Option, Some, Ok, string_bytes}
 use Rattle.std.specs.List.{slice_get}
 use Rattle.mvd_dots.specs.declared.refusals.Refusal.{Refusal}
 use Rattle.mvd_host.specs.Hosts.{HostValue}
@@ -18,8 +18,9 @@ pub record Lining : Type 0 where
 abbrev pub lining : HostValue → Batch → Lining
 lining host batch = record { host = host; told = batch.told; lines = string_bytes batch.lines }
 
--- the line of the reply to the write that comes next is put behind the others
+-- there is a next write, and the line of the reply to it is put behind the others
 pub record TellsWriteLine (refused : List (Option Refusal)) (n : ℕ) (old new : Lining) : Type 0 where
+  pub within : old.told < length refused
   pub reply : Reply
   pub next : TellsNext (slice_get refused old.told) n old.host (Some (Ok reply)) new.host
   pub told : new.told ≡ old.told + 1

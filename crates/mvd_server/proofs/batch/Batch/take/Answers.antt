@@ -13,7 +13,7 @@ loop-left-preserved c =
     let inv = c.loop-left.invariant in (
       taken_more c.args.number c.args.host.now c.loop-left.host c.next_told.new.host inv.0 (taken_next _ c.args.number c.next_told.result c.loop-left.host c.next_told.new.host c.next_told.ensures),
       only_on c.args.self.now c.loop-left.self _ inv.1 refl,
-      each_more c.args.number c.args.self.now c.loop-left.self c.args.host.now c.loop-left.host c.next_told.new.host c.in_ok-reply.reply _ _ inv.1 inv.2 (subst (λ r. TellsNext (slice_get c.loop-left.self.refused.items c.loop-left.self.told) c.args.number c.loop-left.host (Some r) c.next_told.new.host) c.in_ok-reply.was c.in-Some.ensures) (omega (arith, c)) c.in_ok-push_line.ensures.text,
+      each_more c.args.number c.args.self.now c.loop-left.self c.args.host.now c.loop-left.host c.next_told.new.host c.in_ok-reply.reply _ _ inv.1 (omega (arith, c)) inv.2 (subst (λ r. TellsNext (slice_get c.loop-left.self.refused.items c.loop-left.self.told) c.args.number c.loop-left.host (Some r) c.next_told.new.host) c.in_ok-reply.was c.in-Some.ensures) (omega (arith, c)) c.in_ok-push_line.ensures.text,
       omega (arith, c),
     )
 

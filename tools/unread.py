@@ -35,8 +35,8 @@ FLOOD = 5_000
 # the most that `--conns` takes, and a pipe that holds no line of each
 CONNS, SHORT_PIPE = 1_000, 16_384
 F_SETPIPE_SZ = 1_031
-# so many keys are refused, whose lines are more than the shortest pipe holds
-REFUSED, SHORTEST_PIPE = 60, 4_096
+# so many keys are refused, whose lines are more than that pipe holds
+REFUSED = 99
 # as many bytes a file holds on a disk that is full then, and as many of them are left at first
 DISK, LEFT = 1_000_000, 200
 
@@ -205,7 +205,7 @@ def errors_unread(folder):
     full = Server(folder, "few.db", "--max-keys", "1", site=2)
     full.client().put("only", bytes(4), {})
     server = Server(folder, "named.db", "--peer", str(full.port), "--every", "1")
-    fcntl.fcntl(server.process.stderr, F_SETPIPE_SZ, SHORTEST_PIPE)
+    fcntl.fcntl(server.process.stderr, F_SETPIPE_SZ, SHORT_PIPE)
     client = server.client()
     for number in range(REFUSED):
         client.put(f"{number:0128}", bytes(4), {"n": number})

@@ -5,8 +5,8 @@ usage: tools/many.py PROGRAM
        tools/many.py --short PROGRAM
        tools/many.py PROGRAM OTHER
 
-With --short, as the gate runs it, it tries what is to hold with fewer kills, and takes no figures. PROGRAM is `mvd` as built. It ends with 1 at the first answer that is not the one wanted, and else prints the rows of the tables in
-docs/PERFORMANCE.md. The files are made in TMPDIR (else /tmp), so the puts are those of its disk. MANY_SECONDS has another time for
+With --short, as the gate runs it, it tries what is to hold with fewer kills, and takes no figures. PROGRAM is `mvd` as built. It ends with 1 at the first answer that is not the one wanted, and else prints its figures.
+The files are made in TMPDIR (else /tmp), so the puts are those of its disk. MANY_SECONDS has another time for
 each figure than 3 seconds, and MANY_KILLS another number of servers that are killed than 5. With OTHER, an `mvd` of before, it
 only compares how often one client puts, and eight one after the other, in MANY_TURNS turns (else 9) of a run of each program. Beside
 the programs, Python's `sqlite3` makes upserts of states as long, each in a commit of its own.

@@ -3,8 +3,8 @@
 
 usage: tools/web.py [--short] PROGRAM
 
-PROGRAM is `mvd` as built. It ends with 1 at the first answer that is not the one wanted, and else prints the rows of the table in
-docs/PERFORMANCE.md. With --short, as the gate runs it, it asks without curl, leaves out the connection with a million requests, and
+PROGRAM is `mvd` as built. It ends with 1 at the first answer that is not the one wanted, and else prints its figures.
+With --short, as the gate runs it, it asks without curl, leaves out the connection with a million requests, and
 takes no figures. The files are made in TMPDIR (else /tmp). WEB_SECONDS has another time for each figure than 3 seconds.
 """
 import atexit

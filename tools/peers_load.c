@@ -3,7 +3,7 @@
 // peers_load KIND PORT CLIENTS IN_FLIGHT put|get|load KEYS BYTES SECONDS COUNTERS PID
 // COUNTERS is a file with a number for each key, how often mvd was written there: a put carries it as its context.
 // It prints requests a second, the median and the slowest hundredth in ms, and the microseconds of PID's processor a
-// request. `load` puts each key once. tools/peers.py compiles and calls it.
+// request. `load` puts each key once. tools/peers.py and tools/beside.py compile and call it.
 #define _GNU_SOURCE
 #include <arpa/inet.h>
 #include <dirent.h>

@@ -223,6 +223,8 @@ def more_than_there_are_places(path):
     with Server(path, "--clients", "1", "--conns", "2") as server:
         with server.client() as one, server.client() as other:
             wanted("a second one has no place", reply(other) == (REFUSED, b"\x24"))
+            shell = subprocess.run([PROGRAM, "shell", "--port", str(server.port)], input=b"get k\n", capture_output=True, timeout=PATIENCE)
+            wanted(f"a shell without a place: {shell}", shell.returncode == 1 and b"has no place" in shell.stderr)
             say_bye(one)
         say_bye(server.client())
         server.ended()

@@ -26,15 +26,15 @@ abbrev pub fault_status : Fault → ℕ
 fault_status (of_fault.Stopped refusal) = 1
 fault_status (of_fault.Line number) = 3
 
-abbrev pub status_of : Result (Unit {0}) Stop → ℕ
-status_of (Ok done) = 0
-status_of (Err stop) = fault_status stop.fault
+abbrev pub status_after : Result (Unit {0}) Stop → ℕ
+status_after (Ok done) = 0
+status_after (Err stop) = fault_status stop.fault
 
 -- 2 where words are no order, and 1 where memory was refused for them
-abbrev pub refused_status : OrderFault → ℕ
-refused_status (of_order.Words error) = 2
-refused_status (of_order.Range option most) = 2
-refused_status (of_order.Stopped refusal) = 1
+abbrev pub unread_status : OrderFault → ℕ
+unread_status (of_order.Words error) = 2
+unread_status (of_order.Range option most) = 2
+unread_status (of_order.Stopped refusal) = 1
 
 -- ---- the words
 
@@ -43,8 +43,8 @@ module _ {D : Type 0} {g : disk.Ghosts D} (f : Ghosts (FileStore D g)) {K L : Ty
   -- an order is done, and the status is of how that ended; without an order nothing is done
   abbrev pub DoesRead : Result Order OrderFault → Outside K → Outside K → ℕ → Type 0
   DoesRead (Ok order) was now status =
-      (ran : Ran D) × DoesOrder f k line gives image order was now ran × (status ≡ status_of ran.ended)
-  DoesRead (Err fault) was now status = (now ≡ was) × (status ≡ refused_status fault)
+      (ran : Ran D) × DoesOrder f k line gives image order was now ran × (status ≡ status_after ran.ended)
+  DoesRead (Err fault) was now status = (now ≡ was) × (status ≡ unread_status fault)
 
   -- WHAT THE WORDS ASK FOR IS DONE, if they ask for something
   pub record Obeys (words : List Text) (was now : Outside K) (status : ℕ) : Type 0 where

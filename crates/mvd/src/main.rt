@@ -4,7 +4,7 @@
 ghost use Rattle.std.specs.Prelude.{◌≡◌};
 ghost use Rattle.std.specs.Process.{exit_status};
 ghost use Rattle.clap.specs.Walk.{texts as texts_of};
-ghost use Rattle.mvd.specs.Obeyed.{Obeys, fault_status, refused_status, status_of};
+ghost use Rattle.mvd.specs.Obeyed.{Obeys, fault_status, unread_status, status_after};
 ghost use Rattle.mvd_app.specs.Tasks.{outside};
 ghost use Rattle.sqlite.specs.WalFiles.{image_at};
 
@@ -76,7 +76,7 @@ fn obey<'a, S: Start, D: Dial, K: Sockets, R: BufRead, W: Write>(
 
 /// The status of how a command ended, and why it was stopped, on standard error.
 fn status(rt: &impl Eprint, ended: &Result<(), Stop<'_>>) -> ExitCode
-    ensures { exit_status result ≡ status_of ended.now }
+    ensures { exit_status result ≡ status_after ended.now }
 {
     match ended {
         Ok(()) => ExitCode::SUCCESS,
@@ -113,7 +113,7 @@ fn texts<'a>(rt: &HostRuntime, words: &'a [String]) -> io::Result<Vec<&'a str>> 
 
 /// Tells on standard error why a command line asks for nothing, and gives its status.
 fn refused(rt: &impl Eprint, fault: &OrderFault) -> ExitCode
-    ensures { exit_status result ≡ refused_status fault.now }
+    ensures { exit_status result ≡ unread_status fault.now }
 {
     match fault {
         OrderFault::Words(error) => {

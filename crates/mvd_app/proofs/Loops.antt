@@ -6,7 +6,7 @@ use Rattle.std.specs.Cmp.Lexicographic.{pointwise}
 use Rattle.std.specs.Io.KnownBytes.{Appends, Consumes, IsAtEnd}
 use Rattle.std.specs.List.{flat_map}
 use Rattle.std.specs.Prelude.{◌≢◌, IfErr, OnOk, nat_eq}
-use Rattle.mvd_app.specs.Looped.{FailsLines, IsStopped, Loops, PrintsFrames, PrintsReplies, ReadsAll, ServesAlone, StopsUntold, ended_line, frame_line}
+use Rattle.mvd_app.specs.Looped.{FailsLines, IsStopped, Loops, PrintsFrames, PrintsReplies, ReadsToEnd, ServesAlone, StopsUntold, ended_line, frame_line}
 use Rattle.mvd_app.specs.Stored.{site_without_keys}
 use Rattle.mvd_dots.specs.declared.refusals.Refusal.{Refusal}
 use Rattle.mvd_dots.specs.declared.refusals.Refusal.TheVariants.{FrameTooLong, WriteFailed}
@@ -31,7 +31,7 @@ fails_unread input input' (of_fault.Stopped refusal) (inl memory) long = inl mem
 fails_unread input input' (of_fault.Stopped refusal) (inr (inl much)) long = inr (inr (much, inl (long (ap of_fault.Stopped much))))
 fails_unread input input' (of_fault.Stopped refusal) (inr (inr unread)) long = inr (inl unread)
 
-pub fails_spelling : (input input' : Option (List ℕ)) (text : List ℕ) (fault : Fault) → ReadsAll input input' text → HasFault text fault → FailsLines input input' fault
+pub fails_spelling : (input input' : Option (List ℕ)) (text : List ℕ) (fault : Fault) → ReadsToEnd input input' text → HasFault text fault → FailsLines input input' fault
 fails_spelling input input' text (of_fault.Line number) reads it = (text, reads, it)
 fails_spelling input input' text (of_fault.Stopped refusal) reads (inl memory) = inl memory
 fails_spelling input input' text (of_fault.Stopped refusal) reads (inr (much, inl long)) = inr (inr (much, inl (text, reads.read, long)))
@@ -51,7 +51,7 @@ untold_written out out' (Err (of_fault.Stopped refusal)) failed = inl cc
 pub loops_unread : (config : ConfigValue) (input input' out : Option (List ℕ)) (fault : Fault) → FailsLines input input' fault → Loops config input input' out out (Err fault)
 loops_unread config input input' out fault it = inl (it, refl)
 
-pub loops_unsent : (config : ConfigValue) (input input' out : Option (List ℕ)) (text sent : List ℕ) (fault : Fault) → ReadsAll input input' text → AreJoined text sent → IsStopped fault →
+pub loops_unsent : (config : ConfigValue) (input input' out : Option (List ℕ)) (text sent : List ℕ) (fault : Fault) → ReadsToEnd input input' text → AreJoined text sent → IsStopped fault →
     Loops config input input' out out (Err fault)
 loops_unsent config input input' out text sent (of_fault.Line number) reads spelled it = absurd it
 loops_unsent config input input' out text sent (of_fault.Stopped refusal) reads spelled it = inr ((text, sent, reads, spelled), inr refl)
@@ -66,7 +66,7 @@ prints_replies bytes start mid text ended out out' (Ok done) none (frames, whole
 prints_replies bytes start mid text ended out out' (Err fault) none prints is appends = tt
 
 pub loops_told : (config : ConfigValue) (input input' out out' : Option (List ℕ)) (result : Result (Unit {0}) Fault) (text sent replies : List ℕ) (ended : Result Ended Refusal) →
-    ReadsAll input input' text → AreJoined text sent → ServesAlone config (Some sent) (Some []) (Some replies) ended → ended ≢ Err WriteFailed →
+    ReadsToEnd input input' text → AreJoined text sent → ServesAlone config (Some sent) (Some []) (Some replies) ended → ended ≢ Err WriteFailed →
     OnOk result (PrintsReplies replies ended out out') → IfErr result (StopsUntold out out') → Loops config input input' out out' result
 loops_told config input input' out out' (Ok done) text sent replies ended reads spelled serves whole prints stops = record {
   text = text;

@@ -3,7 +3,7 @@ use Rattle.std.proofs.Common.{◌≡◌, ℕ, List, Option, Some, None, Ok, inl,
 use Rattle.mvd_app.specs.Done.{IsFileLeft, IsRunOf}
 use Rattle.mvd_app.specs.Stored.{ClosesOrNot}
 use Rattle.mvd_records.specs.Records.{IsOurs}
-use Rattle.mvd_replica.specs.File.{IsFoundIn}
+use Rattle.mvd_replica.specs.File.{IsFoundAt}
 use Rattle.mvd_replica.specs.FileCalls.{OpensAsSite, file_of}
 use Rattle.mvd_replica.specs.Replicas.{StoredSite, site_of}
 use Rattle.mvd_replica.specs.Turns.{Turn}
@@ -27,7 +27,7 @@ module _ {D : Type 0} {g : disk.Ghosts D} {f : Ghosts (FileStore D g)} where
   in_file replica = record { site = site_of replica; store = file_of replica }
 
 module _ {D : Type 0} {g : disk.Ghosts D} {f : Ghosts (FileStore D g)} (image : Image) (i : ℕ) (config : ConfigValue) (number : config.site ≡ i) (old new : Replica (FileStore D g) f)
-    (opened : OpensAsSite image config (Ok old)) (rests : HasCleanDisk (file_of old) → (was : Database) × IsFoundIn image was × (IsOurs was → IsAtRest (in_file old))) where
+    (opened : OpensAsSite image config (Ok old)) (rests : HasCleanDisk (file_of old) → (was : Database) × IsFoundAt image was × (IsOurs was → IsAtRest (in_file old))) where
   passes : (turns : List Turn) → WorksBy turns (in_file old) (in_file new) → (files : Option (Files D)) → ClosesOrNot new files → (after : Image) → IsFileLeft new files after →
       Passes i (setup_of config) turns image after
   passes turns works (Some files) closed after (clean, inl is) =

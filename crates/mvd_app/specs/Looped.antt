@@ -64,7 +64,7 @@ pub record ServesAlone (config : ConfigValue) (input out out' : Option (List ℕ
 -- ---- the whole command
 
 -- all that there is to read was read
-pub record ReadsAll (input input' : Option (List ℕ)) (text : List ℕ) : Type 0 where
+pub record ReadsToEnd (input input' : Option (List ℕ)) (text : List ℕ) : Type 0 where
   pub read : Consumes input input' text
   pub ends : IsAtEnd input'
 
@@ -72,7 +72,7 @@ pub record ReadsAll (input input' : Option (List ℕ)) (text : List ℕ) : Type 
 -- printed, and how the connection ended
 pub record LoopsTo (config : ConfigValue) (input input' out out' : Option (List ℕ)) : Type 0 where
   pub text : List ℕ
-  pub reads : ReadsAll input input' text
+  pub reads : ReadsToEnd input input' text
   pub sent : List ℕ
   pub spelled : AreJoined text sent
   pub replies : List ℕ
@@ -85,18 +85,18 @@ pub record LoopsTo (config : ConfigValue) (input input' out out' : Option (List 
 abbrev pub AreTooLong : Option (List ℕ) → Option (List ℕ) → Type 0
 AreTooLong input input' =
     ((front : List ℕ) × Consumes input input' front × (131072 < length front))
-    ⊎ ((text : List ℕ) × ReadsAll input input' text × ((number : ℕ) × FailsAt (lines_of text) number SpellsTooMany))
+    ⊎ ((text : List ℕ) × ReadsToEnd input input' text × ((number : ℕ) × FailsAt (lines_of text) number SpellsTooMany))
 
 -- The lines spell nothing: one of them is at fault, or they are too long. Or they were not read, or memory was refused
 abbrev pub FailsLines : Option (List ℕ) → Option (List ℕ) → Fault → Type 0
 FailsLines input input' (of_fault.Line number) =
-    (text : List ℕ) × ReadsAll input input' text × HasFault text (of_fault.Line number)
+    (text : List ℕ) × ReadsToEnd input input' text × HasFault text (of_fault.Line number)
 FailsLines input input' (of_fault.Stopped refusal) =
     (refusal ≡ Memory) ⊎ ((refusal ≡ ReadFailed) ⊎ ((refusal ≡ FrameTooLong) × AreTooLong input input'))
 
 -- the lines were read to their end, and spell bytes
 abbrev pub SpellsBytes : Option (List ℕ) → Option (List ℕ) → Type 0
-SpellsBytes input input' = (text : List ℕ) × (sent : List ℕ) × ReadsAll input input' text × AreJoined text sent
+SpellsBytes input input' = (text : List ℕ) × (sent : List ℕ) × ReadsToEnd input input' text × AreJoined text sent
 
 -- it was stopped, and not by a line
 abbrev pub IsStopped : Fault → Type 0

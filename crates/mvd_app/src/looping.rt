@@ -2,7 +2,7 @@
 ghost use Rattle.std.specs.Prelude.{◌≡◌, ◌≢◌, ◌≤◌, ◌++◌, [], List, Err, Some, ℕ, IfErr, IfOk, OnErr, OnOk, codes, length};
 ghost use Rattle.std.specs.Prelude.{string_bytes};
 ghost use Rattle.hex.specs.Hex.{encode_lower};
-ghost use Rattle.mvd_app.specs.Looped.{FailsLines, IsStopped, Loops, PrintsFrames, PrintsReplies, ReadsAll};
+ghost use Rattle.mvd_app.specs.Looped.{FailsLines, IsStopped, Loops, PrintsFrames, PrintsReplies, ReadsToEnd};
 ghost use Rattle.mvd_app.specs.Looped.{ServesAlone, StopsUntold, ended_line};
 ghost use Rattle.mvd_app.specs.Stored.{site_without_keys};
 ghost use Rattle.mvd_dots.specs.declared.refusals.Refusal.TheVariants.{WriteFailed};
@@ -49,7 +49,7 @@ pub fn loop_run<N: Net, R: Read, W: Write>(
 #[tactic(auto, using(crate::proofs::Loops::fails_unread, crate::proofs::Loops::fails_spelling))]
 fn requests_in<R: Read>(alloc: Global, reader: &mut R) -> Result<Vec<u8>, Fault>
     ensures spelled { IfOk result (λ bytes. (text : List ℕ) ×
-        ReadsAll (R.remaining reader.old) (R.remaining reader.new) text × AreJoined text bytes.items) }
+        ReadsToEnd (R.remaining reader.old) (R.remaining reader.new) text × AreJoined text bytes.items) }
     ensures fault { IfErr result (FailsLines (R.remaining reader.old) (R.remaining reader.new)) }
 {
     let lines = read_input(alloc, reader, HEX_MAX)?;

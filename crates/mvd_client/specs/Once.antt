@@ -24,9 +24,9 @@ use Rattle.mvd_sync.specs.declared.report.Report.{Report}
 use Rattle.mvd_wire.specs.declared.reply.Digests.{Digests}
 
 -- the digest of all that is held, of the digests of the root
-abbrev pub own_of : Result Digests Refusal → Result (List ℕ) Refusal
-own_of (Ok digests) = Ok digests.own
-own_of (Err refusal) = Err refusal
+abbrev pub own_digest : Result Digests Refusal → Result (List ℕ) Refusal
+own_digest (Ok digests) = Ok digests.own
+own_digest (Err refusal) = Err refusal
 
 -- It is asked over a link, and nothing else, and told as it is replied; or memory was refused before that
 abbrev pub AsksRoot : {M : Type 0} → (Remote M → Link) → Remote M → Remote M → Result (List ℕ) Refusal → Type 0
@@ -34,7 +34,7 @@ AsksRoot link_at old new result =
     ((result ≡ Err Memory) × (new ≡ old))
     ⊎ ((told : Result Digests Refusal)
     × AsksLinkFor (node_query []).as_reply (node_query []).request (link_at old) (link_at new) told
-    × (result ≡ own_of told))
+    × (result ≡ own_digest told))
 
 -- each of two servers was told Bye. The command is stopped by the first that failed, as of the server whose it is
 abbrev pub EndsParted : SocketAddr → SocketAddr → Result (Unit {0}) Refusal → Result (Unit {0}) Refusal

@@ -10,4 +10,5 @@ NamesServer address (hint.NoPeer named) = named ≡ address
 NamesServer address (hint.Refused named) = named ≡ address
 NamesServer address (hint.NotAdmitted named) = named ≡ address
 NamesServer address (hint.Broken named) = named ≡ address
+NamesServer address (hint.NoPlace named) = named ≡ address
 NamesServer address _ = ⊥

@@ -4,7 +4,7 @@ ghost use Rattle.mvd_hint.specs.Named.{NamesServer};
 ghost use Rattle.mvd_dots.specs.Refusal.{number_of};
 ghost use Rattle.mvd_dots.specs.declared.refusals.Refusal.TheVariants.{BadBody, BadKind, Damaged, DotClash, FrameTooLong};
 ghost use Rattle.mvd_dots.specs.declared.refusals.Refusal.TheVariants.{Full, Memory, NotAdmitted, ReadFailed, SiteMismatch};
-ghost use Rattle.mvd_dots.specs.declared.refusals.Refusal.TheVariants.{Store};
+ghost use Rattle.mvd_dots.specs.declared.refusals.Refusal.TheVariants.{Store, TooManyRequests};
 ghost use Rattle.mvd_input.specs.declared.fault.Fault.TheVariants.{Stopped};
 ghost use Rattle.mvd_input.specs.declared.fault.Fault.TheVariants as faults;
 
@@ -63,6 +63,8 @@ pub enum Hint<'a> {
     Broken(SocketAddr),
     #[error("the server at {0} refused it: what was done before stays")]
     Refused(SocketAddr),
+    #[error("the server at {0} has no place, or takes no more of this connection: try again, or give it more --clients; what was done before stays")]
+    NoPlace(SocketAddr),
     #[error("{0} does not answer as mvd does: name another --address and --port, or bring both to one version")]
     NoPeer(SocketAddr),
     #[error("the server at {0} asks for a token, or for another one: name the file with its token by --token-file")]
@@ -276,8 +278,9 @@ impl<'a> Stop<'a> {
         ensures own { refusal ≢ DotClash → refusal ≢ Memory → number_of refusal < 30 →
             result.hint ≡ Some (Hint.Refused address) }
         ensures token { refusal ≡ NotAdmitted → result.hint ≡ Some (Hint.NotAdmitted address) }
+        ensures place { refusal ≡ TooManyRequests → result.hint ≡ Some (Hint.NoPlace address) }
         ensures broken { refusal ≢ FrameTooLong → refusal ≢ BadKind → refusal ≢ BadBody → refusal ≢ NotAdmitted →
-            30 ≤ number_of refusal → result.hint ≡ Some (Hint.Broken address) }
+            refusal ≢ TooManyRequests → 30 ≤ number_of refusal → result.hint ≡ Some (Hint.Broken address) }
         // The hint names the address, but for that of a clash.
         ensures named { refusal ≢ DotClash → refusal ≢ Memory → IsSomeAnd result.hint (NamesServer address) }
     {
@@ -286,6 +289,7 @@ impl<'a> Stop<'a> {
             Refusal::DotClash => Hint::Clash,
             Refusal::FrameTooLong | Refusal::BadKind | Refusal::BadBody => Hint::NoPeer(address),
             Refusal::NotAdmitted => Hint::NotAdmitted(address),
+            Refusal::TooManyRequests => Hint::NoPlace(address),
             _ if refusal.number() < 30 => Hint::Refused(address),
             _ => Hint::Broken(address),
         };

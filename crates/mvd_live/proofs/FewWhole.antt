@@ -28,7 +28,7 @@ use Rattle.mvd_sync.specs.declared.telling.Told.{Told}
 use Rattle.mvd_sync.specs.declared.turn.Turn.{Turn}
 use Rattle.mvd_sync.proofs.Stages.{plan_keys, same_length}
 use Rattle.mvd_live.specs.Few.{AsksFew, HasAllThatDiffered, asked_local, asked_peer, questions_in}
-use Rattle.mvd_live.specs.Runs.{AsksBoth, StartsRun, Leg, RunsLegs, Standing, all_locals, all_peers, both_asked}
+use Rattle.mvd_live.specs.Runs.{GoesOnAsking, StartsRun, Leg, RunsLegs, Standing, all_locals, all_peers, both_asked}
 use Rattle.mvd_live.proofs.FewNodes.{first_few, level_few}
 use Rattle.mvd_live.proofs.FewStages.{FewAt, WalkStands, held_short, local_begins, settle_few, stands_less, told_few, turn_owes, wants_few, went_few}
 use Rattle.mvd_live.proofs.Moments.{Frame}
@@ -166,7 +166,7 @@ abbrev asked_at : Side → List Leg → ℕ
 asked_at side [] = 0
 asked_at side (leg ∷ legs) = questions_at side leg.asks + asked_at side legs
 
-both_few : (side : Side) (old asking : Machining) (asks : Two Wanted Wanted) → AsksBoth old asking asks → questions_at side asks ≤ wanted_count side asking.stage
+both_few : (side : Side) (old asking : Machining) (asks : Two Wanted Wanted) → GoesOnAsking old asking asks → questions_at side asks ≤ wanted_count side asking.stage
 both_few AtLocal old asking asks next = subst (λ w. questions_in w ≤ wanted_count AtLocal asking.stage) (sym next.local) (cut_few AtLocal asking.left.local asking.stage)
 both_few AtPeer old asking asks next = subst (λ w. questions_in w ≤ wanted_count AtPeer asking.stage) (sym next.peer) (cut_few AtPeer asking.left.peer asking.stage)
 

@@ -22,7 +22,7 @@ use Rattle.mvd_sync.specs.declared.telling.Told.TheVariants as told
 use Rattle.mvd_sync.proofs.Keys.{Each-weaker}
 use Rattle.mvd_live.specs.Lives.{WasHeld}
 use Rattle.mvd_live.specs.Over.{AreAllGiven, LivesOver, most_over, standing_over}
-use Rattle.mvd_live.specs.Runs.{AsksBoth, Leg, RunsLegs, Standing, StartsRun, all_locals, all_peers}
+use Rattle.mvd_live.specs.Runs.{GoesOnAsking, Leg, RunsLegs, Standing, StartsRun, all_locals, all_peers}
 use Rattle.mvd_live.specs.Told.{LiveTells}
 use Rattle.mvd_live.proofs.FewWhole.{asks_few}
 use Rattle.mvd_live.proofs.Runner.{run_more, run_none}

@@ -8,7 +8,7 @@ use Rattle.mvd_sync.specs.declared.asked.Step.{Step}
 use Rattle.mvd_sync.specs.Steps.{Wanted}
 use Rattle.mvd_sync.specs.declared.telling.Told.{Told}
 use Rattle.mvd_sync.specs.declared.telling.Told.TheVariants as told
-use Rattle.mvd_live.specs.Runs.{AsksBoth, TakesLeg, IsLater, Leg, RunsLegs, Standing, both_asked}
+use Rattle.mvd_live.specs.Runs.{GoesOnAsking, TakesLeg, IsLater, Leg, RunsLegs, Standing, both_asked}
 use Rattle.mvd_live.specs.Told.{LiveTells, TellsNode, TellsNothing, PageTold, TellsPush, StateTold}
 use Rattle.mvd_live.proofs.Moments.{grown_on}
 use Rattle.mvd_peer.proofs.Telling.{each_since}
@@ -27,7 +27,7 @@ tells_since most w (Some (told.Refused refusal)) old mid new moments p q r up te
 
 goes_since : (most : Two ℕ ℕ) (old mid : Standing) (leg : Leg) → AreHeld old.local → AreHeld old.peer → IsLater old mid → TakesLeg most mid leg → TakesLeg most old leg
 goes_since most old mid leg p q later g = record {
-  next = subst (λ (m : Machining). AsksBoth m leg.asking leg.asks) later.machine g.next;
+  next = subst (λ (m : Machining). GoesOnAsking m leg.asking leg.asks) later.machine g.next;
   local = tells_since most.local leg.asks.local leg.mine old.local mid.local leg.after.local leg.locals p later.local.0 g.held.0 later.local.1 g.local;
   peer = tells_since most.peer leg.asks.peer leg.theirs old.peer mid.peer leg.after.peer leg.peers q later.peer.0 g.held.1 later.peer.1 g.peer;
   held = g.held;
@@ -51,5 +51,5 @@ pub run_none : (most : Two ℕ ℕ) (old : Standing) → AreHeld old.local → A
 run_none most old p q = record { machine = refl; local = (p, grows_self old.local p); peer = (q, grows_self old.peer q) }
 
 -- what `next` names is asked
-pub asks_named : (old asking : Machining) (step : Step) → HasNext old asking (Some step) → AsksBoth old asking (both_asked step)
+pub asks_named : (old asking : Machining) (step : Step) → HasNext old asking (Some step) → GoesOnAsking old asking (both_asked step)
 asks_named old asking step next = record { left = next.left; went = next.went; local = next.asks.0.local; peer = next.asks.0.peer; some = next.asks.1 }

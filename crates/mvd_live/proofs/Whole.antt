@@ -27,7 +27,7 @@ use Rattle.mvd_sync.specs.declared.turn.Turn.{Turn}
 use Rattle.mvd_sync.proofs.Descents.{Each-right, Each-take}
 use Rattle.mvd_sync.proofs.Keys.{Each-weaker}
 use Rattle.mvd_live.specs.Lives.{IsGiven, Lives, WasHeld}
-use Rattle.mvd_live.specs.Runs.{AsksBoth, StartsRun, TakesLeg, Leg, RunsLegs, Standing, all_locals, all_peers, both_asked}
+use Rattle.mvd_live.specs.Runs.{GoesOnAsking, StartsRun, TakesLeg, Leg, RunsLegs, Standing, all_locals, all_peers, both_asked}
 use Rattle.mvd_live.proofs.Fates.{AtStage, Holds, IsGood, went_good, went_holds}
 use Rattle.mvd_live.proofs.Given.{Given, GivenAt, GivenTo}
 use Rattle.mvd_live.proofs.Heard.{tells_grow}
@@ -232,7 +232,7 @@ module _ (number : Option ℕ) (questions : ℕ) (most : Two ℕ ℕ) (old : Sta
       }
 
   -- nothing that is asked of both is made up
-  pub given_so : (asking : Machining) (asks : Two Wanted Wanted) → AsksBoth new.machine asking asks → Each (WasHeld (all_peers legs)) asks.local.pushes × Each (WasHeld (all_locals legs)) asks.peer.pushes
+  pub given_so : (asking : Machining) (asks : Two Wanted Wanted) → GoesOnAsking new.machine asking asks → Each (WasHeld (all_peers legs)) asks.local.pushes × Each (WasHeld (all_locals legs)) asks.peer.pushes
   unfolding frame
   given_so asking asks next =
       let before = run_good frame most new (grows_self new.local grown.0.0) (grows_self new.peer grown.1.0) legs old first_amid run (λ held c. c) (λ held c. c) first_good in

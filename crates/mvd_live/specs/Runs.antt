@@ -27,7 +27,7 @@ abbrev pub both_asked : Step → Two Wanted Wanted
 both_asked step = two (asked step.local) (asked step.peer)
 
 -- IT WENT ON without a question, as far as it could, and asks this of both sides
-pub record AsksBoth (old new : Machining) (asks : Two Wanted Wanted) : Type 0 where
+pub record GoesOnAsking (old new : Machining) (asks : Two Wanted Wanted) : Type 0 where
   pub left : new.left ≡ old.left
   pub went : StageWent old.work old.stage new.work new.stage
   pub local : asks.local ≡ cut_wanted new.left.local (wanted_at AtLocal new.stage)
@@ -47,7 +47,7 @@ pub record Leg : Type 0 where
 
 -- the machine asked that, took what was told, and goes on; both sides told as live sides do
 pub record TakesLeg (most : Two ℕ ℕ) (old : Standing) (leg : Leg) : Type 0 where
-  pub next : AsksBoth old.machine leg.asking leg.asks
+  pub next : GoesOnAsking old.machine leg.asking leg.asks
   pub local : LiveTells most.local leg.asks.local leg.mine old.local leg.locals leg.after.local
   pub peer : LiveTells most.peer leg.asks.peer leg.theirs old.peer leg.peers leg.after.peer
   pub held : AreHeld leg.after.local × AreHeld leg.after.peer

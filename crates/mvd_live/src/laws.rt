@@ -43,7 +43,8 @@ ghost use Rattle.mvd_live.specs.Mail.{mail_locals, mail_peers, standing, waits_a
 ghost use Rattle.mvd_meet.specs.Callers.{asked_in_window, came_at, requests_of};
 ghost use Rattle.mvd_meet.specs.declared.caller.Caller.{Caller};
 ghost use Rattle.mvd_live.specs.Over.{LivesOver};
-ghost use Rattle.mvd_live.specs.Runs.{AsksBoth, StartsRun, TakesLeg, Leg, RunsLegs, Standing, all_locals, all_peers};
+ghost use Rattle.mvd_live.specs.Runs.{GoesOnAsking, StartsRun, TakesLeg, Leg, RunsLegs, Standing};
+ghost use Rattle.mvd_live.specs.Runs.{all_locals, all_peers};
 ghost use Rattle.mvd_live.specs.Runs.{both_asked};
 ghost use Rattle.mvd_live.specs.Told.{LiveTells, TellsEach, TellsPush, TellsQuietly};
 ghost use Rattle.mvd_sync.specs.declared.report.Report.{Report};
@@ -168,7 +169,7 @@ pub fn a_runner_runs()
         → RunsLegs most old (legs ++ leg ∷ []) leg.after }
     // What `next` names is asked of both.
     ensures asks { (old asking : Machining) (step : Step) → HasNext old asking (Some step)
-        → AsksBoth old asking (both_asked step) }
+        → GoesOnAsking old asking (both_asked step) }
 {}
 
 /// A session that `sync` or `sync_within` ran to its end with no fault (their clause `ran`), of two sides that are live:

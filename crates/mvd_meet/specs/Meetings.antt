@@ -39,7 +39,7 @@ pub record AsksBoth (step : Step) (near far near' far' : Caller) : Type 0 where
   pub peer : AsksIf step.peer far far'
 
 -- what both sides tell of what they were asked is what the machine takes
-pub record HearsBoth (old : Meeting) (near far : Caller) (new : Meeting) (near' far' : Caller)
+pub record TakesBoth (old : Meeting) (near far : Caller) (new : Meeting) (near' far' : Caller)
     (result : Result (Unit {0}) SyncFault) : Type 0 where
   pub mine : Option Told
   pub theirs : Option Told
@@ -57,7 +57,7 @@ pub record MeetingBegins (old : Meeting) (near far : Caller) (new : Meeting) (ne
 
 abbrev pub HearsIf : Bool → Meeting → Caller → Caller → Meeting → Caller → Caller → Result (Unit {0}) SyncFault → Type 0
 HearsIf false = MeetingBegins
-HearsIf true = HearsBoth
+HearsIf true = TakesBoth
 
 abbrev pub MeetingHears : Meeting → Caller → Caller → Meeting → Caller → Caller → Result (Unit {0}) SyncFault → Type 0
 MeetingHears old near far new near' far' result =

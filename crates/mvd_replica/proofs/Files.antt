@@ -31,7 +31,7 @@ use Rattle.mvd_site.specs.Config.{ConfigValue}
 use Rattle.mvd_site.specs.Held.{States}
 use Rattle.mvd_site.specs.Sites.{SiteValue}
 use Rattle.mvd_records.specs.Records.{IsOurs}
-use Rattle.mvd_replica.specs.File.{ClosesFile, HoldsAlone, HoldsFile, IsFoundIn}
+use Rattle.mvd_replica.specs.File.{ClosesFile, HoldsAlone, HoldsFile, IsFoundAt}
 use Rattle.mvd_replica.specs.Holds.{HoldsStates}
 use Rattle.mvd_replica.specs.Opened.{OpensSite}
 use Rattle.mvd_replica.specs.Whole.{LeavesStates}
@@ -46,7 +46,7 @@ pub same_database : (a b : Database) → IsDatabase a → IsDatabase b → a.tre
 same_database a b p q same =
     ap₂ (λ schema trees. record { schema = schema; trees = trees }) (one_schema a.schema b.schema b.trees (subst (IsSound a.schema) same p) q) same
 
-pub found_in : (image : Image) (s : State) → FindsIn image s → IsDatabase s.committed → IsFoundIn image s.committed
+pub found_in : (image : Image) (s : State) → FindsIn image s → IsDatabase s.committed → IsFoundAt image s.committed
 found_in image s found sound = record {
   sound = sound;
   holds = λ db it. same_database s.committed db sound it.sound (∥∥₁_elim it.trees (Trees-set _ _) (λ held. found.holds db.trees held));
@@ -54,7 +54,7 @@ found_in image s found sound = record {
 }
 
 -- where the image held some states, the site that was opened has just these
-pub just_held : (image : Image) (config : ConfigValue) (was : Database) (site : SiteValue) (now : Database) → IsFoundIn image was → (IsOurs was → OpensSite config was site now) →
+pub just_held : (image : Image) (config : ConfigValue) (was : Database) (site : SiteValue) (now : Database) → IsFoundAt image was → (IsOurs was → OpensSite config was site now) →
     (number : _) (states : _) → HoldsFile image number states → site.states ≡ states
 just_held image config was site now found opened number states file =
     let holds = subst (HoldsStates number states) (sym (found.holds file.db file.held)) file.holds in

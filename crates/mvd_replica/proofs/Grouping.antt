@@ -30,7 +30,7 @@ use Rattle.mvd_site.specs.Sites.{SiteValue, has_no_room}
 use Rattle.mvd_site.proofs.Answered.{with_state-same, with_state-seen}
 use Rattle.mvd_site.specs.Installs.{MayAllBeIn, MayBeIn, changes_in, is_change, with_group, with_one, with_prepared}
 use Rattle.mvd_replica.specs.Adding.{KeepsRoom}
-use Rattle.mvd_replica.specs.Groups.{AllComeAlone, AreSendable, ComeInOrder, ComesAlone, ComesTo, FirstWaits, IsApart, IsElsewhere, IsSendable, Joins, MustWait, StandTogether, pairs_in}
+use Rattle.mvd_replica.specs.Groups.{AllComeAlone, AreSendable, ComeInOrder, ComesAlone, ComesTo, FirstWaits, IsApart, IsElsewhere, IsSendable, ComesInGroup, MustWait, StandTogether, pairs_in}
 
 -- ---- a request at one key is untouched by a change of another
 
@@ -260,7 +260,7 @@ ordered_more config m (r ∷ requests) (p ∷ group) request prepared all one = 
 pub together_none : (site : SiteValue) → StandTogether site [] []
 together_none site = record { each = tt; ordered = tt; sendable = tt }
 
-pub together_more : (site : SiteValue) (requests : List Request) (group : List Prepared) (request : Request) (prepared : Prepared) → StandTogether site requests group → Joins site request group prepared →
+pub together_more : (site : SiteValue) (requests : List Request) (group : List Prepared) (request : Request) (prepared : Prepared) → StandTogether site requests group → ComesInGroup site request group prepared →
     StandTogether site (requests ++ request ∷ []) (group ++ prepared ∷ [])
 together_more site requests group request prepared all one = record {
   each = each_more site.config site.states requests group request prepared all.each one.alone;

@@ -1,4 +1,5 @@
 pub mod Loading
+pub mod Memories
 pub mod Moving
 pub mod RestoredOrder
 pub mod Positions
@@ -16,6 +17,7 @@ pub mod Grouping
 pub mod Putting
 pub mod AddedKeys
 pub mod SameKey
+pub mod Lent
 pub mod Still
 pub mod Counting
 pub mod Recording

@@ -12,7 +12,7 @@ use Rattle.mvd_site.specs.Sites.{SiteValue}
 use Rattle.mvd_replica.specs.Batch.{HoldsLost, lost_requests}
 use Rattle.mvd_replica.specs.File.{HoldsFile}
 use Rattle.mvd_replica.specs.Holds.{HoldsSite, HoldsStates}
-use Rattle.mvd_replica.specs.Restarts.{AddAll, AllRunsAnswered, AreRuns, IsRun, LeavesWholeTurns, Run}
+use Rattle.mvd_replica.specs.Restarts.{AddAll, AllRunsAnswered, AreRuns, IsFileRun, LeavesWholeTurns, Run}
 use Rattle.mvd_replica.specs.Sides.{HoldsBroken}
 use Rattle.mvd_replica.specs.Whole.{after_all}
 use Rattle.mvd_replica.specs.Turns.{AllTold, TurnEvent, IsFirstBroken, IsToldBroken, IsToldElse, LeavesTurns, TellsTurns, Turn, known_after_turns}
@@ -35,7 +35,7 @@ all_stand config states known (request ∷ requests) added stands (first, rest, 
 
 -- one run
 module _ {C : Type 0} (f : C → State) (site : ℕ) (image : Image) (states : States) (known : List Write) (run : Run C) (file : HoldsFile image site states) (stands : Stands states known)
-    (from : run.image ≡ image) (number : run.config.site ≡ site) (is : IsRun f run) where
+    (from : run.image ≡ image) (number : run.config.site ≡ site) (is : IsFileRun f run) where
   was_sound : IsSound (f run.before)
   was_sound = is.follows.sound is.sound
 

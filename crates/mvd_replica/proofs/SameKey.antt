@@ -27,10 +27,11 @@ use Rattle.mvd_site.specs.Sites.{SiteValue}
 use Rattle.mvd_kept.specs.declared.prepared.Prepared.{Prepared}
 use Rattle.mvd_kept.specs.declared.prepared.Prepared.TheVariants.{Answer, Change}
 use Rattle.mvd_replica.specs.Adding.{CountsAdded, CountsKeys, KeepsRoomFor, adds_of, key_to_change}
-use Rattle.mvd_replica.specs.Behind.{AreLast, ComesBehind, IsFree, IsLastAt, IsLastBefore, JoinsGroup, LeavesKey, Places, StandsLast, noted_at, sees_all_keys}
+use Rattle.mvd_replica.specs.Behind.{AreLast, ChangesAsked, ComesBehind, IsFree, IsLastAt, IsLastBefore, JoinsGroup, LeavesKey, Places, StandsLast, noted_at, noted_key, noted_of, sees_all_keys}
 use Rattle.mvd_replica.specs.Groups.{ComesAlone, ComesTo, IsApart, IsElsewhere, IsSendable, SeesAny}
 use Rattle.mvd_replica.proofs.AddedKeys.{counts_more, room_kept, with_more}
 use Rattle.mvd_replica.proofs.Grouping.{apart_at, comes_after, keyed}
+use Rattle.mvd_replica.proofs.Putting.{whole_change}
 
 -- ---- where the last change stands
 
@@ -214,6 +215,29 @@ apart_none request [] none = tt
 apart_none request (Answer reply ∷ group) none = (tt, apart_none request group (omega (arith, none)))
 apart_none request (Change change ∷ group) none = absurd (omega (arith, none))
 
+-- ---- the key of a change is the one that its request asks to change
+
+asked_from : (m : States) (request : Request) (reply : Reply) (c : Key × Keyed) → change_from m request reply ≡ Some c → key_to_change request ≡ Some c.0
+asked_from m (Put own seen document) (Written dot) c is = ap (λ k. Some k) (keyed own (after_put (state_at m own) dot seen document) c is)
+asked_from m (Delete own seen) Done c is = ap (λ k. Some k) (keyed own (after_delete (state_at m own) seen) c is)
+asked_from m (Push own pushed) Done c is = ap (λ k. Some k) (keyed own (join (state_at m own) pushed) c is)
+asked_from m request reply c is = absurd cc
+
+asked_where : (config : ConfigValue) (m : States) (request : Request) (prepared : Prepared) → ComesTo config m request prepared → ChangesAsked request prepared
+asked_where config m request (Answer reply) comes = tt
+asked_where config m request (Change change) comes = asked_from m request (answer_from config m request) (change.key, change.state) comes.0.leaves
+
+-- also of a broken site
+asked_beside : (site : SiteValue) (request : Request) (prepared : Prepared) → (site.broken ≡ true → prepared ≡ Answer (Refused Broken)) →
+    (site.broken ≡ false → ComesTo site.config site.states request prepared × IsSendable request prepared) → ChangesAsked request prepared
+asked_beside site request (Answer reply) broken comes = tt
+asked_beside site request (Change change) broken comes = asked_where site.config site.states request (Change change) (comes (whole_change site.broken change broken)).0
+
+-- so its place is noted by the request
+pub noted_asked : (places : Places) (at : ℕ) (request : Request) (prepared : Prepared) → ChangesAsked request prepared → noted_of places at request prepared ≡ noted_at places at prepared
+noted_asked places at request (Answer reply) asked = refl
+noted_asked places at request (Change change) asked = ap (noted_key places at) asked
+
 -- ---- what joins
 
 changed_key : (m : States) (key : Key) (request : Request) (reply : Reply) (c : Key × Keyed) → AsksToChange key request → change_from m request reply ≡ Some c → c.0 ≡ key
@@ -248,6 +272,7 @@ joins_behind site group added before request prepared keys last alone behind =
         exact = λ tight. (let was : map_len (with_group site.states group) ≡ map_len site.states + added = keys.exact tight in omega (arith, size, was));
       };
       few = omega arith;
+      asked = asked_where site.config (with_group site.states group) request prepared here.0;
     }
 
 alone_of : (config : ConfigValue) (m : States) (request : Request) (prepared : Prepared) → ComesTo config m request prepared → ComesAlone config m request prepared
@@ -265,6 +290,7 @@ joins_beside site group added count request prepared keys apart room broken come
   };
   keys = counts_more site group request prepared added count keys apart broken comes adds;
   few = adds.few;
+  asked = asked_beside site request prepared broken comes;
 }
 
 -- what joined, as the code has it

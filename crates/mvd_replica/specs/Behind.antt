@@ -1,8 +1,9 @@
 -- A request to change a key behind a change of that key that waits to be put in.
-use Rattle.std.specs.Prelude.{◌≡◌, ◌≢◌, ⊤, Bool, ℕ, ◌+◌, ◌<◌, ◌≤◌, false, true, List, [], ◌∷◌, ◌++◌, length}
+use Rattle.std.specs.Prelude.{◌≡◌, ◌≢◌, ⊤, Bool, ℕ, ◌+◌, ◌<◌, ◌≤◌, false, true, List, [], ◌∷◌, ◌++◌, length, map}
 use Rattle.std.specs.Prelude.{Option, None, Some, get_or}
 use Rattle.std.specs.List.{AllByRecursion}
-use Rattle.std.specs.FinMap.{FinMap, get, insert}
+use Rattle.std.specs.FinMap.{FinMap, from_entries, get, insert}
+use Rattle.std.specs.Borrow.{Bor}
 use Rattle.mvd_keys.specs.Key.{key_cmp}
 use Rattle.mvd_keys.specs.Writes.{Key}
 use Rattle.mvd_wire.specs.declared.request.Request.{Request}
@@ -16,13 +17,27 @@ use Rattle.mvd_site.specs.Sites.{SiteValue}
 use Rattle.mvd_kept.specs.declared.prepared.Prepared.{Prepared}
 use Rattle.mvd_kept.specs.declared.prepared.Prepared.TheVariants.{Answer, Change}
 use Rattle.mvd_replica.specs.Adding.{CountsKeys, key_to_change}
-use Rattle.mvd_replica.specs.Groups.{ComesTo, IsSendable, Joins, SeesAny}
+use Rattle.mvd_replica.specs.Groups.{ComesTo, IsSendable, ComesInGroup, SeesAny}
 
 -- ---- where the changes stand
 
 -- keys with places
 abbrev pub Places : Type 0
 Places = FinMap key_cmp ℕ
+
+-- the same where the entries borrow the keys
+abbrev pub places_of : List (Bor Key × ℕ) → Places
+places_of entries = from_entries (map (λ entry. (entry.0.now, entry.1)) entries)
+
+-- with the place of a change of that key, if there is one
+abbrev pub noted_key : Places → ℕ → Option Key → Places
+noted_key places at None = places
+noted_key places at (Some key) = insert places key at
+
+-- with the place of what a request came to, by the key that it asks to change, if it is a change
+abbrev pub noted_of : Places → ℕ → Request → Prepared → Places
+noted_of places at request (Answer reply) = places
+noted_of places at request (Change change) = noted_key places at (key_to_change request)
 
 -- with the place of what was prepared, if it is a change
 abbrev pub noted_at : Places → ℕ → Prepared → Places
@@ -76,9 +91,15 @@ abbrev pub ComesBehind : ConfigValue → ChangeValue → Request → Prepared �
 ComesBehind config before request prepared = (states : States) → get states before.key ≡ Some before.state
     → ComesTo config states request prepared × IsSendable request prepared
 
+-- a change is one of the key that the request asks to change
+abbrev pub ChangesAsked : Request → Prepared → Type 0
+ChangesAsked request (Answer reply) = ⊤
+ChangesAsked request (Change change) = key_to_change request ≡ Some change.key
+
 -- it joins a group that adds some keys, and adds so many
 pub record JoinsGroup (site : SiteValue) (group : List Prepared) (added : ℕ) (request : Request) (prepared : Prepared)
     (adds : ℕ) : Type 0 where
-  pub joins : site.broken ≡ false → Joins site request group prepared
+  pub joins : site.broken ≡ false → ComesInGroup site request group prepared
   pub keys : CountsKeys site (group ++ prepared ∷ []) (added + adds)
   pub few : adds ≤ 1
+  pub asked : ChangesAsked request prepared

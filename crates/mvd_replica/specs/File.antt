@@ -30,7 +30,7 @@ pub record HoldsFile (image : Image) (site : ℕ) (states : States) : Type 0 whe
 
 -- The database that was found is the one that the image holds, if it holds one. Else the image held none yet, and it is
 -- empty. It lists its schema, and obeys it
-pub record IsFoundIn (image : Image) (was : Database) : Type 0 where
+pub record IsFoundAt (image : Image) (was : Database) : Type 0 where
   pub sound : IsDatabase was
   pub holds : (db : Database) → HoldsImage image db → was ≡ db
   pub reads : AreFoundIn image was.trees
@@ -38,7 +38,7 @@ pub record IsFoundIn (image : Image) (was : Database) : Type 0 where
 -- the site that a file was opened as, and what the records then hold
 pub record OpensFile (image : Image) (config : ConfigValue) (site : SiteValue) (now : Database) : Type 0 where
   pub was : Database
-  pub found : IsFoundIn image was
+  pub found : IsFoundAt image was
   pub opened : IsOurs was → OpensSite config was site now
   -- it is not another program's
   pub own : ¬ IsForeign was
@@ -48,7 +48,7 @@ pub record OpensFile (image : Image) (config : ConfigValue) (site : SiteValue) (
 -- why it was not opened as a site
 pub record RefusesFile (image : Image) (config : ConfigValue) (e : Refusal) (now : Database) : Type 0 where
   pub was : Database
-  pub found : IsFoundIn image was
+  pub found : IsFoundAt image was
   pub refused : IsOurs was → RefusesSite config was e now
   -- another program's database is 17, and stays as it is
   pub foreign : IsForeign was → (e ≡ Damaged) × (now ≡ was)

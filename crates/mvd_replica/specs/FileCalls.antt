@@ -22,7 +22,7 @@ use Rattle.sqlite.specs.WalReads.{AreClean}
 use Rattle.mvd_replica.specs.declared.file.FileFault.{FileFault}
 use Rattle.mvd_replica.specs.declared.file.FileFault.TheVariants.{File}
 use Rattle.mvd_replica.specs.declared.replica.Replica.{Replica}
-use Rattle.mvd_replica.specs.File.{ClosesFile, IsFoundIn, OpensFile}
+use Rattle.mvd_replica.specs.File.{ClosesFile, IsFoundAt, OpensFile}
 use Rattle.mvd_replica.specs.Holds.{HoldsSite, HoldsStates}
 use Rattle.mvd_replica.specs.Refused.{FailsFile}
 use Rattle.mvd_replica.specs.Replicas.{conn_of, site_of, stored_of}
@@ -57,7 +57,7 @@ module _ {D : Type 0} {g : Ghosts D} {f : store.Ghosts (FileStore D g)} where
     pub is_open : IfOk result (λ replica. HasCleanDisk (file_of replica) → IsTrue (file_of replica).is_open)
     -- then, of new files and of files of ours in either version, a stop leaves the site's states
     pub rests : IfOk result (λ replica. HasCleanDisk (file_of replica) →
-        (was : Database) × IsFoundIn image was × (IsOurs was → IsAtRest (stored_of replica)))
+        (was : Database) × IsFoundAt image was × (IsOurs was → IsAtRest (stored_of replica)))
     -- a refusal has its cause in what the file and its log hold, in the disk, in want of memory, or in a program that
     -- has the file open
     pub refused : IfErr result (FailsFile image config)

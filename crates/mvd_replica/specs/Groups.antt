@@ -108,7 +108,8 @@ IsAlone site request change =
     ComesTo site.config site.states request (Change change) × IsSendable request (Change change)
 
 -- the request comes to this behind these
-pub record Joins (site : SiteValue) (request : Request) (group : List Prepared) (prepared : Prepared) : Type 0 where
+pub record ComesInGroup (site : SiteValue) (request : Request) (group : List Prepared) (prepared : Prepared)
+    : Type 0 where
   pub alone : ComesAlone site.config site.states request prepared
   pub behind : ComesTo site.config (with_group site.states group) request prepared
   pub sendable : IsSendable request prepared

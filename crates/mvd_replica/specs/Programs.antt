@@ -13,7 +13,7 @@ use Rattle.sqlite.specs.Files.{IsEmpty, image_of}
 use Rattle.sqlite.specs.Recovery.{Image}
 use Rattle.sqlite.specs.WalFiles.{outcomes}
 use Rattle.sqlite.specs.WalReads.{AreClean}
-use Rattle.mvd_replica.specs.File.{HoldsAlone, HoldsFile, IsFoundIn}
+use Rattle.mvd_replica.specs.File.{HoldsAlone, HoldsFile, IsFoundAt}
 use Rattle.mvd_replica.specs.Holds.{HoldsSite, HoldsStates}
 use Rattle.mvd_replica.specs.Replicas.{StoredSite}
 use Rattle.mvd_replica.specs.Whole.{after_all}
@@ -53,7 +53,7 @@ pub record HoldsMore {D : Type 0} (g : Ghosts D) (site : ℕ) (known : List Writ
 -- where they held none yet
 pub record KeepsFile {D : Type 0} (g : Ghosts D) (image : Image) (site : ℕ) (files : Files D) : Type 0 where
   pub was : Database
-  pub found : IsFoundIn image was
+  pub found : IsFoundAt image was
   -- it is no other program's; and if it is ours, it is this site's and not damaged
   pub own : ¬ IsForeign was
   pub order : IsOurs was → AreReadable site was

@@ -47,7 +47,7 @@ left_in f run = record { site = run.new; store = f run.after }
 -- What the calls of a run promise. `open_file` opened the file. `serve`, or a host of many clients in its rounds, took
 -- the turns. `stands` tells that the states are held ones. `close` left the file. And the store is sound: nobody else
 -- has written the file, its disk has returned what was written, and no failure has shut it.
-pub record IsRun {C : Type 0} (f : C → State) (run : Run C) : Type 0 where
+pub record IsFileRun {C : Type 0} (f : C → State) (run : Run C) : Type 0 where
   pub config : run.old.config ≡ run.config
   pub whole : run.old.broken ≡ false
   pub opens : IsSound (f run.before) → OpensFile run.image run.config run.old (f run.before).committed
@@ -63,7 +63,7 @@ pub record IsRun {C : Type 0} (f : C → State) (run : Run C) : Type 0 where
 abbrev pub AreRuns : {C : Type 0} → (C → State) → ℕ → Image → List (Run C) → Type 0
 AreRuns f site image [] = ⊤
 AreRuns f site image (run ∷ runs) =
-    (run.image ≡ image) × (run.config.site ≡ site) × IsRun f run × AreRuns f site run.left runs
+    (run.image ≡ image) × (run.config.site ≡ site) × IsFileRun f run × AreRuns f site run.left runs
 
 -- what requests add, each answered from the writes known before it
 abbrev pub AddAll : ConfigValue → List Write → List Request → List Write → Type 0

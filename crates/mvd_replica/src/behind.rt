@@ -12,10 +12,10 @@ use mvd_site::{Change, Prepared, Site};
 use mvd_wire::Request;
 
 /// Of the changes that wait the last of the key that a request asks to change.
-pub fn last_change<'a>(
+pub fn last_change<'a, 'r>(
     group: &'a [Prepared],
-    waiting: &Waiting,
-    request: &Request,
+    waiting: &Waiting<'r>,
+    request: &'r Request,
 ) -> Option<&'a Change>
     requires { AreLast group.now waiting.now }
     ensures last { IfSome result (λ change. IsLastBefore group.now request.now change.now) }

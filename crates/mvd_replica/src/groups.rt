@@ -60,13 +60,13 @@ pub fn prepare_one(site: &Site, request: &Request) -> Prepared
 
 /// What a request comes to behind a group, with how many keys it adds; `None` where it has to wait until that is put
 /// in: it could see a change, there may be less room for it then, or they are as many as share a commit.
-fn join(
+fn join<'a>(
     site: &Site,
     group: &[Prepared],
-    waiting: &Waiting,
+    waiting: &Waiting<'a>,
     changes: u32,
     added: u32,
-    request: &Request,
+    request: &'a Request,
 ) -> Result<Option<(Prepared, u32)>, Refusal>
     requires count { changes ≡ changes_in group.now }
     requires keys { CountsKeys site.now group.now added }
@@ -125,7 +125,7 @@ pub fn prepare_all(
         let Some((prepared, adds)) = joined else {
             return Ok(group);
         };
-        waiting.note(alloc, &prepared, group.len(), requests.len())?;
+        waiting.note(request, &prepared, group.len(), requests.len())?;
         added += adds;
         changes += changes_of(&prepared);
         group.push_reserved(prepared);

@@ -13,7 +13,7 @@ use Rattle.sqlite.specs.State.{HasCleanDisk}
 use Rattle.sqlite.specs.Tree.{Trees}
 use Rattle.sqlite.specs.WalFiles.{outcomes}
 use Rattle.mvd_replica.specs.declared.replica.Replica.{Replica}
-use Rattle.mvd_replica.specs.File.{HoldsFile, IsFoundIn}
+use Rattle.mvd_replica.specs.File.{HoldsFile, IsFoundAt}
 use Rattle.mvd_replica.specs.FileCalls.{IsClosed, OpensAsSite, file_database, file_of}
 use Rattle.mvd_replica.specs.Holds.{HoldsStates}
 use Rattle.mvd_replica.specs.Replicas.{conn_of, site_of}
@@ -45,7 +45,7 @@ module _ {D : Type 0} {g : Ghosts D} {f : store.Ghosts (FileStore D g)} (i : ℕ
 
   -- a stop, where the store was at rest when it was opened
   abbrev Rests : Type 0
-  Rests = HasCleanDisk (file_of old) → (was : Database) × IsFoundIn image was × (IsOurs was → IsAtRest (record { site = site_of old; store = file_of old }))
+  Rests = HasCleanDisk (file_of old) → (was : Database) × IsFoundAt image was × (IsOurs was → IsAtRest (record { site = site_of old; store = file_of old }))
 
   pub stopped_run : Rests → (after : Image) (trees : Trees) → HasCleanDisk (file_of new) → (file_of new).may_leave trees → ∥ HoldsDatabase after trees ∥₁ → Passes i (setup_of config) turns image after
   stopped_run rests after trees clean may holds =

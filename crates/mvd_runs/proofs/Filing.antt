@@ -14,7 +14,7 @@ use Rattle.mvd_site.specs.Held.{States}
 use Rattle.mvd_site.specs.Sites.{SiteValue}
 use Rattle.mvd_model.specs.TheStore.{AddAll, AreAmong, Event, Happen, Knows, Opened, Site, config}
 use Rattle.mvd_replica.specs.Batch.{AreAmongTurns as AreAmongTurns, HoldsLost, Loses, lost_requests}
-use Rattle.mvd_replica.specs.File.{HoldsFile, IsFoundIn}
+use Rattle.mvd_replica.specs.File.{HoldsFile, IsFoundAt}
 use Rattle.mvd_replica.specs.Restarts.{Run}
 use Rattle.mvd_replica.specs.Turns.{AreUndoneIn, Turn}
 use Rattle.mvd_replica.specs.Whole.{after_all}
@@ -95,7 +95,7 @@ lost_undone turns site lost = subst (λ ts. AreUndoneIn ts (lost_requests lost))
 
 -- ---- what was found
 
-ours_found : (a : Knows) (i : ℕ) (image : Image) (was : Database) → IsFoundIn image was → IsFile a i image ⊎ IsNewFile a i image → IsOurs was
+ours_found : (a : Knows) (i : ℕ) (image : Image) (was : Database) → IsFoundAt image was → IsFile a i image ⊎ IsNewFile a i image → IsOurs was
 ours_found a i image was found (inl file) =
     ours_held i file.states was (subst (HoldsStates i file.states) (sym (found.holds file.holds.db file.holds.held)) file.holds.holds)
 ours_found a i image was found (inr new) = new.ours was found

@@ -1,6 +1,6 @@
 -- A file in which an empty database is found is a new one.
 use Rattle.std.proofs.Common.{◌≡◌, ℕ, []}
-use Rattle.mvd_replica.specs.File.{IsFoundIn}
+use Rattle.mvd_replica.specs.File.{IsFoundAt}
 use Rattle.mvd_replica.proofs.EmptyFiles.{just_none, none_ours, none_tables}
 use Rattle.mvd_model.specs.TheStore.{Knows}
 use Rattle.mvd_runs.specs.Files.{IsNewFile}
@@ -8,7 +8,7 @@ use Rattle.sqlite.specs.Effect.{Database}
 use Rattle.sqlite.specs.Files.{IsEmpty}
 use Rattle.sqlite.specs.Recovery.{Image}
 
-pub new_file : (a : Knows) (i : ℕ) (image : Image) → ((was : Database) → IsFoundIn image was → IsEmpty was.trees) → (a i).known ≡ [] → IsNewFile a i image
+pub new_file : (a : Knows) (i : ℕ) (image : Image) → ((was : Database) → IsFoundAt image was → IsEmpty was.trees) → (a i).known ≡ [] → IsNewFile a i image
 new_file a i image empties nothing = record {
   nothing = nothing;
   ours = λ was found. none_ours was (none_tables was found.sound (empties was found));

@@ -11,7 +11,7 @@ use Rattle.mvd_site.specs.Held.{States}
 use Rattle.mvd_site.specs.Known.{IsValidRequest}
 use Rattle.mvd_model.specs.TheStore.{AddAll, AreAmong, Event, Happen, Knows, Opened, Setup, config}
 use Rattle.mvd_replica.specs.Batch.{TurnsFollow}
-use Rattle.mvd_replica.specs.File.{HoldsFile, IsFoundIn, OpensFile}
+use Rattle.mvd_replica.specs.File.{HoldsFile, IsFoundAt, OpensFile}
 use Rattle.mvd_replica.specs.Holds.{HoldsSite, HoldsStates}
 use Rattle.mvd_replica.specs.Readable.{HasJust}
 use Rattle.mvd_replica.specs.Replicas.{StoredSite}
@@ -40,8 +40,8 @@ pub record IsFile (a : Knows) (i : ℕ) (image : Image) : Type 0 where
 -- none of our tables or is ours, and spells no state
 pub record IsNewFile (a : Knows) (i : ℕ) (image : Image) : Type 0 where
   pub nothing : (a i).known ≡ []
-  pub ours : (was : Database) → IsFoundIn image was → IsOurs was
-  pub just : (was : Database) → IsFoundIn image was → HasJust was empty
+  pub ours : (was : Database) → IsFoundAt image was → IsOurs was
+  pub just : (was : Database) → IsFoundAt image was → HasJust was empty
 
 abbrev pub setup_of : ConfigValue → Setup
 setup_of c = record { max_keys = c.max_keys; defs = c.defs }
@@ -84,7 +84,7 @@ pub record Closes {C : Type 0} (f : C → State) (run : Run C) : Type 0 where
 -- Or it was stopped after these turns or within the last of them, and nobody else has written the file
 pub record Stops {C : Type 0} (f : C → State) (run : Run C) : Type 0 where
   pub opened : IsSound (f run.before)
-  pub rests : (was : Database) × IsFoundIn run.image was × (IsOurs was → IsAtRest (opened_in f run))
+  pub rests : (was : Database) × IsFoundAt run.image was × (IsOurs was → IsAtRest (opened_in f run))
   pub leaves : LeavesTurns run.turns (opened_in f run) (left_in f run)
   pub clean : HasCleanDisk (f run.after)
   pub trees : Trees

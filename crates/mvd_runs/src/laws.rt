@@ -19,7 +19,7 @@ ghost use Rattle.mvd_model.specs.TheStore.{Knows, Next, Promise, Told};
 ghost use Rattle.mvd_replica.specs.Asks.{TellsAnswer};
 ghost use Rattle.mvd_replica.specs.Batch.{AnswersAll, TakesTurns};
 ghost use Rattle.mvd_replica.specs.Commits.{AnswersInCommits, SharesCommit};
-ghost use Rattle.mvd_replica.specs.File.{IsFoundIn};
+ghost use Rattle.mvd_replica.specs.File.{IsFoundAt};
 ghost use Rattle.mvd_replica.specs.FileCalls.{ClosesInto, OpensAsSite};
 ghost use Rattle.mvd_replica.specs.Pushes.{push_of};
 ghost use Rattle.mvd_replica.specs.ReplicaCalls.{PushesState, ReplicaAnswers};
@@ -107,7 +107,7 @@ pub fn a_command_is_a_run<D: Disk + Drop>(
 
 /// The first run of all is on a new file: one in which no database is found, or an empty one.
 pub fn a_first_run_is_events()
-    ensures { (a : Knows) (i : ℕ) (image : Image) → ((was : Database) → IsFoundIn image was → IsEmpty was.trees)
+    ensures { (a : Knows) (i : ℕ) (image : Image) → ((was : Database) → IsFoundAt image was → IsEmpty was.trees)
         → (a i).known ≡ [] → IsNewFile a i image }
 {}
 

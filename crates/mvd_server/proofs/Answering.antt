@@ -7,7 +7,7 @@ use Rattle.mvd_http.specs.Answers.{IsToldAs, refused_told}
 use Rattle.mvd_http.specs.declared.question.Question.{Question}
 use Rattle.mvd_http.specs.declared.question.Question.TheVariants.{Page, Root, Metrics, Ask, Live, Changes, Many, TooManyLines, Nowhere, NotAllowed}
 use Rattle.mvd_server.specs.Errands.{AwaitsChange}
-use Rattle.mvd_server.specs.Responding.{AnswersReply, AnswersWeb, ChangesNothing, RefusesWeb, json_answer}
+use Rattle.mvd_server.specs.Responding.{AnswersReply, AnswersWeb, AsksNoChange, RefusesWeb, json_answer}
 use Rattle.mvd_web.specs.Web.{RespondsTo, WebValue}
 use Rattle.mvd_web.specs.declared.taken.Asked.{Asked}
 use Rattle.mvd_wire.specs.declared.reply.Reply.{Reply}
@@ -28,7 +28,7 @@ answered (Some waits) asked reply old new status body is answers responds =
     })
 
 -- by why its reply cannot be read, where nothing changes
-asks_told : (question : Result Question Refusal) (refusal : Refusal) (status : ℕ) (body : List ℕ) → ChangesNothing question → IsToldAs (refused_told refusal) status body → AnswersReply question (Err refusal) status body
+asks_told : (question : Result Question Refusal) (refusal : Refusal) (status : ℕ) (body : List ℕ) → AsksNoChange question → IsToldAs (refused_told refusal) status body → AnswersReply question (Err refusal) status body
 asks_told (Ok (Ask request)) refusal status body only told = (only, told)
 asks_told (Ok (Live request)) refusal status body only told = (only, told)
 asks_told (Ok (Many writes)) refusal status body only told = absurd only
@@ -41,18 +41,18 @@ asks_told (Ok Nowhere) refusal status body only told = absurd only
 asks_told (Ok (NotAllowed methods)) refusal status body only told = absurd only
 asks_told (Err e) refusal status body only told = absurd only
 
-refused_by : (o : Option Asked) (asked : Asked) (refusal : Refusal) (old new : WebValue) → Some asked ≡ o → o ≡ old.asked → ChangesNothing asked.question → RefusesWeb refusal old new → AnswersWeb o (Err refusal) old new
+refused_by : (o : Option Asked) (asked : Asked) (refusal : Refusal) (old new : WebValue) → Some asked ≡ o → o ≡ old.asked → AsksNoChange asked.question → RefusesWeb refusal old new → AnswersWeb o (Err refusal) old new
 refused_by None asked refusal old new is same only refuses = cc
 refused_by (Some waits) asked refusal old new is same only (inr stopped) = inr stopped
 refused_by (Some waits) asked refusal old new is same only (inl told) =
     inl (record {
       status = told.status;
       body = told.body;
-      answers = asks_told waits.question refusal told.status told.body (subst (λ (a : Asked). ChangesNothing a.question) (one_asked asked waits is) only) told.told;
+      answers = asks_told waits.question refusal told.status told.body (subst (λ (a : Asked). AsksNoChange a.question) (one_asked asked waits is) only) told.told;
       responds = subst (λ o. RespondsTo o old (json_answer told.status told.body) told.body new) (sym same) told.responds;
     })
 
-pub unread : (asked : Asked) (refusal : Refusal) (old new : WebValue) → Some asked ≡ old.asked → ChangesNothing asked.question → RefusesWeb refusal old new → AnswersWeb old.asked (Err refusal) old new
+pub unread : (asked : Asked) (refusal : Refusal) (old new : WebValue) → Some asked ≡ old.asked → AsksNoChange asked.question → RefusesWeb refusal old new → AnswersWeb old.asked (Err refusal) old new
 unread asked refusal old new is only refuses = refused_by old.asked asked refusal old new is refl only refuses
 
 -- so many of the bytes that wait for a client are there

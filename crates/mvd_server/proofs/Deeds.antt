@@ -17,7 +17,7 @@ use Rattle.mvd_server.specs.Handed.{HandsBatch, TakenFrom}
 use Rattle.mvd_server.specs.HostBytes.{TakesBytes, sent_of}
 use Rattle.mvd_server.specs.OwnSides.{DismissesIf, DismissesOwn}
 use Rattle.mvd_server.specs.Responding.{RefusesWeb}
-use Rattle.mvd_server.specs.Talking.{Act, Attends, Begins, Calls, Comes, ComesBy, ComesByWeb, Deed, Deeds, DoesAct, GoesOwn, Hands, IsWriting, KeepsBatch, LacksMemory, MayBegin, MayCall, OpensWeb, TalksDeeds, Talking, TurnsBack, is_own_client, talking_of, web_in, with_host, with_web}
+use Rattle.mvd_server.specs.Talking.{Act, Attends, Begins, Calls, Comes, ComesBy, ComesByWeb, Deed, Deeds, DoesAct, GoesOwn, Hands, IsWriting, KeepsBatch, LacksMemory, MayBeginWrites, MayCall, OpensWeb, TalksDeeds, Talking, TurnsBack, is_own_client, talking_of, web_in, with_host, with_web}
 use Rattle.mvd_server.specs.Wires.{Carries, GivesOut, TakesInput, Wired, WiredStep}
 use Rattle.mvd_server.specs.declared.batch.Batch.{Batch}
 use Rattle.mvd_server.specs.declared.talks.Kind.TheVariants.{Http}
@@ -83,7 +83,7 @@ deed_hands n batch batch' old host entries has hands is =
     (deeds_one (Hands n batch batch') old (record old { host = host; batches = set_value (is_at (nat_cmp n)) old.batches batch' }) (has, hands, refl))
 
 -- they begin
-pub deed_begins : (n : ℕ) (batch : Batch) (old mid : Talking) → MayBegin n batch old → KeepsBatch n batch old mid → Deeds old mid
+pub deed_begins : (n : ℕ) (batch : Batch) (old mid : Talking) → MayBeginWrites n batch old → KeepsBatch n batch old mid → Deeds old mid
 deed_begins n batch old mid may keeps = deeds_one (Begins n batch) old mid (may, keeps)
 
 pub writing : (n : ℕ) (web web' : WebConnection) (webs entries : List (ℕ × WebConnection)) (batch : Batch) → found_at n webs ≡ Some web → entries ≡ set_value (is_at (nat_cmp n)) webs web' → IsBatchFor (web_of web').asked batch
@@ -97,7 +97,7 @@ lacking : (n : ℕ) (batch : Batch) (web web' : WebConnection) (old new : Talkin
 lacking n batch web web' old new has writes none refuses is =
     subst (λ t. Deeds old t) (sym is) (deed_attends n (Forgoes batch) web web' old old.host old.batches (set_value (is_at (nat_cmp n)) old.webs web') has ((writes, none), refuses, refl) refl)
 
-pub deed_lacks : (n : ℕ) (batch : Batch) (old new : Talking) → MayBegin n batch old → LacksMemory n old new → Deeds old new
+pub deed_lacks : (n : ℕ) (batch : Batch) (old new : Talking) → MayBeginWrites n batch old → LacksMemory n old new → Deeds old new
 deed_lacks n batch old new may (inl same) = deeds_same old new same
 deed_lacks n batch old new may (inr (web, web', has, refuses, is)) = lacking n batch web web' old new has (subst (λ o. IsWriting o batch) has may.0) may.1 refuses is
 

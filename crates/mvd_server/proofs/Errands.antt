@@ -19,7 +19,7 @@ use Rattle.mvd_server.specs.Errands.{Asks, AsksNextOf, AsksOne, Desk, DoesPlan, 
 use Rattle.mvd_server.specs.Fronts.{IsFrontReply, TakesFront}
 use Rattle.mvd_server.specs.Handed.{HandsBatch, HandsFrom, HandsPiece, HandsWhole, Handing, IsUnwanted, TakenFrom, handing}
 use Rattle.mvd_server.specs.HostBytes.{TakesBytes, sent_of}
-use Rattle.mvd_server.specs.Lines.{IsOnlyTold, TellsEach}
+use Rattle.mvd_server.specs.Lines.{IsOnlyTold, TellsEachLine}
 use Rattle.mvd_server.specs.Paths.{IsWay, Path}
 use Rattle.mvd_server.specs.Plans.{IsPlanOf, plain_answer}
 use Rattle.mvd_server.specs.declared.batch.Batch.{Batch}
@@ -152,11 +152,11 @@ does_frame n frame old host host' bytes count is hands whole =
 -- ---- many writes are told
 
 module _ (n : ℕ) (old : WebValue) (batch : Batch) (host : HostValue) (new : WebValue) (batch' : Batch) (host' : HostValue) where
-  pub tells_all : IsOnlyTold batch batch' → TellsEach n batch host batch' host' → length batch'.refused.items ≤ batch'.told → TakenFrom n host host' → RespondsTo old.asked old (plain_answer 200 content.Lines) (string_bytes batch'.lines) new
+  pub tells_all : IsOnlyTold batch batch' → TellsEachLine n batch host batch' host' → length batch'.refused.items ≤ batch'.told → TakenFrom n host host' → RespondsTo old.asked old (plain_answer 200 content.Lines) (string_bytes batch'.lines) new
       → TellsBatch n old batch host new batch' host'
   tells_all only each all taken responds = (only, taken, (Ok true, each, (all, responds)))
 
-  pub tells_none : IsOnlyTold batch batch' → TellsEach n batch host batch' host' → TakenFrom n host host' → new ≡ old → TellsBatch n old batch host new batch' host'
+  pub tells_none : IsOnlyTold batch batch' → TellsEachLine n batch host batch' host' → TakenFrom n host host' → new ≡ old → TellsBatch n old batch host new batch' host'
   tells_none only each taken same = (only, taken, (Ok false, each, same))
 
   pub tells_stop : (refusal : Refusal) → IsOnlyTold batch batch' → TakenFrom n host host' → new ≡ stopped_by old refusal → TellsBatch n old batch host new batch' host'

@@ -11,7 +11,7 @@ use Rattle.mvd_server.proofs.Errands.{CallsOne, calls_batch, calls_errand}
 use Rattle.mvd_server.proofs.Keyed.{has_set}
 use Rattle.mvd_server.specs.HostBytes.{TakesBytes, waits_of}
 use Rattle.mvd_server.specs.Paths.{IsWay}
-use Rattle.mvd_server.specs.Talking.{Attends, Begins, Calls, Comes, ComesByWeb, ComesOwn, Deed, Goes, GoesOwn, Hands, IsMadeFor, IsSpent, Talking, TurnsBack, is_own_client, web_in}
+use Rattle.mvd_server.specs.Talking.{Attends, Begins, Calls, Comes, ComesByWeb, ComesOwn, Deed, Goes, GoesOwn, Hands, IsMadeFor, HasNothingLeft, Talking, TurnsBack, is_own_client, web_in}
 use Rattle.mvd_server.specs.Wires.{GivesOut, SendsBy, TakesBy, TakesInput}
 use Rattle.mvd_web.specs.declared.web_connection.WebConnection.{WebConnection}
 
@@ -63,7 +63,7 @@ gone_is old new m n leaves (h, found) gone = on (n == m) refl
 abbrev Parts : Talking → ℕ → History → Type 0
 Parts t n h = (is_done h ≡ true) ⊎ IsMadeFor t n
 
-parts_spent : (t : Talking) (n : ℕ) (h : History) → client_of t.host n ≡ Some h → (o : Option WebConnection) → web_in t n ≡ o → IsSpent o (client_of t.host n) → Parts t n h
+parts_spent : (t : Talking) (n : ℕ) (h : History) → client_of t.host n ≡ Some h → (o : Option WebConnection) → web_in t n ≡ o → HasNothingLeft o (client_of t.host n) → Parts t n h
 parts_spent t n h found None has done = inl (subst (λ o. IsClient o (λ c. is_done c ≡ true)) found done)
 parts_spent t n h found (Some web) has spent = inr (inl (web, has))
 
@@ -84,7 +84,7 @@ module _ (old new : Talking) (n : ℕ) (h : History) (found : client_of old.host
       absurd (let no : ⊥ = omega (arith, is, number, given) in no)
   parts_deed given (Goes m, does) =
       let is : n ≡ m = gone_is old.host new.host m n does.1 here gone in
-      parts_spent old n h found (web_in old n) refl (subst (λ i. IsSpent (web_in old i) (client_of old.host i)) (sym is) does.0)
+      parts_spent old n h found (web_in old n) refl (subst (λ i. HasNothingLeft (web_in old i) (client_of old.host i)) (sym is) does.0)
   parts_deed given (GoesOwn m, does) =
       let is : n ≡ m = gone_is old.host new.host m n does.1 here gone in
       inr (inr (subst (λ i. is_own_client old i ≡ true) (sym is) does.0))

@@ -1,28 +1,28 @@
 -- The places of sessions.
 use Rattle.std.proofs.Common.{◌≡◌, ◌≤◌, ◌<◌, ◌+◌, ◌∷◌, [], ◌++◌, ◌∙◌, ℕ, List, Option, Some, arith, ap, get_or, length, set, sym}
 use Rattle.std.proofs.lemmas.List.Sums.{sum_by-set, sum_by_push}
-use Rattle.mvd_server.specs.Peerings.{SwapsPlaces, TakesNoPlace, count_if, has_place, places_of, running}
+use Rattle.mvd_server.specs.Peerings.{SwapsPlaces, TakesNoPlace, count_if, has_place, places_of, places_taken}
 use Rattle.mvd_server.specs.OwnSides.{IsFreshSession}
 use Rattle.mvd_server.specs.declared.own_session.OwnSession.{OwnSession}
 use Rattle.mvd_server.specs.declared.peering.Peering.{Peering}
 
 module _ (list : List Peering) (i : ℕ) (new d : Peering) where
   -- one of them goes on
-  pub places_set : (free free' : ℕ) → i < length list → running list + free ≤ 4 → places_of new + free' ≤ places_of (get_or list i d) + free → running (set list i new) + free' ≤ 4
+  pub places_set : (free free' : ℕ) → i < length list → places_taken list + free ≤ 4 → places_of new + free' ≤ places_of (get_or list i d) + free → places_taken (set list i new) + free' ≤ 4
   places_set free free' at few goes =
-      let sum : running (set list i new) + places_of (get_or list i d) ≡ running list + places_of new = sum_by-set places_of list i new d at in
+      let sum : places_taken (set list i new) + places_of (get_or list i d) ≡ places_taken list + places_of new = sum_by-set places_of list i new d at in
       omega (arith, sum)
 
   -- one of them takes none
-  pub places_kept : i < length list → running list ≤ 4 → places_of new ≤ places_of (get_or list i d) → running (set list i new) ≤ 4
+  pub places_kept : i < length list → places_taken list ≤ 4 → places_of new ≤ places_of (get_or list i d) → places_taken (set list i new) ≤ 4
   places_kept at few goes =
-      let sum : running (set list i new) + places_of (get_or list i d) ≡ running list + places_of new = sum_by-set places_of list i new d at in
+      let sum : places_taken (set list i new) + places_of (get_or list i d) ≡ places_taken list + places_of new = sum_by-set places_of list i new d at in
       omega (arith, sum)
 
 -- one more has none
-pub places_push : (list : List Peering) (new : Peering) → running list ≡ 0 → places_of new ≡ 0 → running (list ++ new ∷ []) ≡ 0
+pub places_push : (list : List Peering) (new : Peering) → places_taken list ≡ 0 → places_of new ≡ 0 → places_taken (list ++ new ∷ []) ≡ 0
 places_push list new none unmet =
-    let sum : running (list ++ new ∷ []) ≡ running list + places_of new = sum_by_push places_of list new in
+    let sum : places_taken (list ++ new ∷ []) ≡ places_taken list + places_of new = sum_by_push places_of list new in
     omega (arith, sum)
 
 -- a session keeps what it has

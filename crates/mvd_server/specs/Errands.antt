@@ -13,7 +13,7 @@ use Rattle.mvd_server.specs.Admitted.{AsksSite, IsOwnPage, KeepsOut, MayAsk, is_
 use Rattle.mvd_server.specs.Batches.{BeginsBatch}
 use Rattle.mvd_server.specs.Fronts.{TakesFront}
 use Rattle.mvd_server.specs.Handed.{HandsWhole, TakenFrom}
-use Rattle.mvd_server.specs.Lines.{IsOnlyTold, TellsEach}
+use Rattle.mvd_server.specs.Lines.{IsOnlyTold, TellsEachLine}
 use Rattle.mvd_server.specs.Plans.{IsPlanOf, plain_answer}
 use Rattle.mvd_server.specs.Responding.{AnswersWeb, RefusesWeb, TellsBody, token_answer, not_admitted}
 use Rattle.mvd_server.specs.declared.batch.Batch.{Batch}
@@ -97,7 +97,7 @@ abbrev pub TellsBatch : ℕ → WebValue → Batch → HostValue → WebValue �
 TellsBatch n old batch host new batch' host' =
     IsOnlyTold batch batch' × TakenFrom n host host'
     × ((told : Result Bool Refusal)
-    × OnOk told (TellsEach n batch host batch' host') × TellsAllLines told old batch' new)
+    × OnOk told (TellsEachLine n batch host batch' host') × TellsAllLines told old batch' new)
 
 -- ---- responses
 

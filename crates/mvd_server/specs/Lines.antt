@@ -19,7 +19,7 @@ abbrev pub lining : HostValue → Batch → Lining
 lining host batch = record { host = host; told = batch.told; lines = string_bytes batch.lines }
 
 -- the line of the reply to the write that comes next is put behind the others
-pub record TellsOne (refused : List (Option Refusal)) (n : ℕ) (old new : Lining) : Type 0 where
+pub record TellsWriteLine (refused : List (Option Refusal)) (n : ℕ) (old new : Lining) : Type 0 where
   pub reply : Reply
   pub next : TellsNext (slice_get refused old.told) n old.host (Some (Ok reply)) new.host
   pub told : new.told ≡ old.told + 1
@@ -27,10 +27,10 @@ pub record TellsOne (refused : List (Option Refusal)) (n : ℕ) (old new : Linin
 
 -- the lines of some are, one after the other
 abbrev pub TellsSome : List (Option Refusal) → ℕ → Lining → Lining → Type 0
-TellsSome refused n old new = Path (TellsOne refused n) old new
+TellsSome refused n old new = Path (TellsWriteLine refused n) old new
 
-abbrev pub TellsEach : ℕ → Batch → HostValue → Batch → HostValue → Type 0
-TellsEach n batch host batch' host' = TellsSome batch.refused.items n (lining host batch) (lining host' batch')
+abbrev pub TellsEachLine : ℕ → Batch → HostValue → Batch → HostValue → Type 0
+TellsEachLine n batch host batch' host' = TellsSome batch.refused.items n (lining host batch) (lining host' batch')
 
 -- nothing of the writes changes but which are told
 abbrev pub IsOnlyTold : Batch → Batch → Type 0

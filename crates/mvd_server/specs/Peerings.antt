@@ -29,8 +29,8 @@ abbrev pub places_of : Peering → ℕ
 places_of peering = count_if (has_place peering.session)
 
 -- as many sessions have a place
-abbrev pub running : List Peering → ℕ
-running peers = sum_by places_of peers
+abbrev pub places_taken : List Peering → ℕ
+places_taken peers = sum_by places_of peers
 
 -- A PLACE IS TAKEN only where one is free: those taken and those free are no more than before
 abbrev pub SwapsPlaces : Bool → ℕ → Bool → ℕ → Type 0

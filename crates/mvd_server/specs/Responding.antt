@@ -53,10 +53,10 @@ AnswersReply (Ok (Live request)) reply status body = AnswersAsked true request r
 AnswersReply _ reply status body = ⊥
 
 -- the site is asked, and nothing of it changes
-abbrev pub ChangesNothing : Result Question Refusal → Type 0
-ChangesNothing (Ok (Ask request)) = is_web_change request ≡ false
-ChangesNothing (Ok (Live request)) = is_web_change request ≡ false
-ChangesNothing _ = ⊥
+abbrev pub AsksNoChange : Result Question Refusal → Type 0
+AsksNoChange (Ok (Ask request)) = is_web_change request ≡ false
+AsksNoChange (Ok (Live request)) = is_web_change request ≡ false
+AsksNoChange _ = ⊥
 
 -- a response to the request that waits
 pub record AnswersBy (asked : Asked) (reply : Result Reply Refusal) (old new : WebValue) : Type 0 where

@@ -56,8 +56,8 @@ IsWriting None batch = ⊥
 IsWriting (Some web) batch = IsBatchFor (web_of web).asked batch
 
 -- they are, and it has no others
-abbrev pub MayBegin : ℕ → Batch → Talking → Type 0
-MayBegin n batch t = IsWriting (web_in t n) batch × (batch_in t.batches n ≡ None)
+abbrev pub MayBeginWrites : ℕ → Batch → Talking → Type 0
+MayBeginWrites n batch t = IsWriting (web_in t n) batch × (batch_in t.batches n ≡ None)
 
 -- one over HTTP waits for a change
 abbrev pub IsWaiting : Option WebConnection → Type 0
@@ -102,14 +102,14 @@ TakesNoMore client web = IsSome (option_and_then ending_of client) ⊎ IsNew (we
 
 -- NOTHING IS LEFT TO DO for a client. One of frames has ended, and all that it was told has left; or its connection
 -- broke. One over HTTP has no request that waits, and all that it was told has left; or it was stopped
-abbrev pub IsSpent : Option WebConnection → Option History → Type 0
-IsSpent None client = IsClient client (λ h. is_done h ≡ true)
-IsSpent (Some web) client =
+abbrev pub HasNothingLeft : Option WebConnection → Option History → Type 0
+HasNothingLeft None client = IsClient client (λ h. is_done h ≡ true)
+HasNothingLeft (Some web) client =
     IsOver (web_of web)
     ⊎ (TakesNoMore client web × ((web_of web).asked ≡ None) × ((web_of web).waits ≡ []))
 
-abbrev pub MayGo : ℕ → Talking → Type 0
-MayGo n t = IsSpent (web_in t n) (client_of t.host n)
+abbrev pub MayPart : ℕ → Talking → Type 0
+MayPart n t = HasNothingLeft (web_in t n) (client_of t.host n)
 
 -- but by its socket, or for a request over HTTP, no byte comes of another client, and none leaves
 abbrev pub MayCall : Talking → ℕ → Call → Type 0
@@ -146,7 +146,7 @@ DoesAct (TurnsBack n mid) old new =
     (guard : Option Guard) × AdmitsOne guard old.host mid n × ClientLeaves mid n new.host
     × (new ≡ with_host old new.host)
 DoesAct (Goes n) old new =
-    MayGo n old × ClientLeaves old.host n new.host
+    MayPart n old × ClientLeaves old.host n new.host
     × (new ≡ record old {
       host = new.host;
       webs = remove_entry (is_at (nat_cmp n)) old.webs;
@@ -161,7 +161,7 @@ DoesAct (Attends n web web' errand) old new =
     × RunsErrand errand old.guard n (desk old.host (web_of web) old.batches) (desk new.host (web_of web') new.batches)
     × (new ≡ record (with_web old n web') { host = new.host; batches = new.batches })
 DoesAct (Begins n batch) old new =
-    MayBegin n batch old × (new ≡ record old { batches = insert_entry nat_cmp old.batches n batch })
+    MayBeginWrites n batch old × (new ≡ record old { batches = insert_entry nat_cmp old.batches n batch })
 DoesAct (Hands n batch batch') old new =
     (batch_in old.batches n ≡ Some batch) × HandsBatch n batch old.host batch' new.host
     × (new ≡ record old { host = new.host; batches = set_value (is_at (nat_cmp n)) old.batches batch' })

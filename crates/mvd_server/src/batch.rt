@@ -4,7 +4,7 @@ ghost use Rattle.std.specs.List.{slice_get};
 ghost use Rattle.mvd_server.specs.Fronts.{TellsNext, end_refusal};
 ghost use Rattle.mvd_server.specs.Handed.{HandsBatch, TakenFrom};
 ghost use Rattle.mvd_server.specs.Batches.{BeginsBatch, bytes_if, frame_of_write, refusal_if};
-ghost use Rattle.mvd_server.specs.Lines.{IsOnlyTold, TellsEach};
+ghost use Rattle.mvd_server.specs.Lines.{IsOnlyTold, TellsEachLine};
 
 use crate::feeding::hand_on;
 use crate::replies::next_reply;
@@ -61,7 +61,7 @@ impl Batch {
     pub fn take(&mut self, alloc: Global, host: &mut Host, number: u64) -> Result<bool, Refusal>
         ensures taken { TakenFrom number host.old host.new }
         // The line of each write is of the reply to it. Nothing else of the writes changes.
-        ensures lines { OnOk result (TellsEach number self.old host.old self.new host.new) }
+        ensures lines { OnOk result (TellsEachLine number self.old host.old self.new host.new) }
         ensures same { IsOnlyTold self.old self.new }
         // All lines are there only where each write has one.
         ensures all { IfOk result (λ all. all ≡ true → length self.new.refused.items ≤ self.new.told) }

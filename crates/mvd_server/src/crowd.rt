@@ -4,7 +4,7 @@ mod admitting;
 ghost use Rattle.std.specs.Prelude.{◌≡◌, IfOk, IsTrue, option_copied};
 ghost use Rattle.mvd_server.specs.Closing.{IsDeserted};
 ghost use Rattle.mvd_server.specs.Rounds.{BeginsServing, HasRound};
-ghost use Rattle.mvd_server.specs.Talking.{MayGo, TalksDeeds, talking_of};
+ghost use Rattle.mvd_server.specs.Talking.{MayPart, TalksDeeds, talking_of};
 ghost use Rattle.mvd_server.specs.Wires.{Carries, wired_of};
 
 use crate::client::{Client, PIECE, Piece, Stage};
@@ -238,7 +238,7 @@ impl Crowd {
 
     /// Lets a connection go that is done. Its client has a while to take the last replies, unless those failed.
     fn finish(&mut self, number: u64) -> Result<(), AllocError>
-        ensures { MayGo number (talking_of self.old.talks) → TalksDeeds self.old.talks self.new.talks }
+        ensures { MayPart number (talking_of self.old.talks) → TalksDeeds self.old.talks self.new.talks }
     {
         let ending = self.talks.ending(number).unwrap_or(Ending::End);
         self.talks.dismiss(number);

@@ -1,6 +1,6 @@
 //! The peers that this server meets while it serves.
 ghost use Rattle.std.specs.Prelude.{◌≡◌, ◌≢◌, ◌≤◌, ◌+◌, ◌-◌, length};
-ghost use Rattle.mvd_server.specs.Peerings.{HaveNews, LooksInTime, running};
+ghost use Rattle.mvd_server.specs.Peerings.{HaveNews, LooksInTime, places_taken};
 ghost use Rattle.mvd_server.specs.Talking.{TalksDeeds};
 
 use crate::crowd::Crowd;
@@ -31,7 +31,7 @@ pub(crate) struct Peers {
     /// The commits of this server's site until the last round.
     commits: u64,
     // Few sessions go on at a time.
-    ghost few: { running list.items ≤ 4 },
+    ghost few: { places_taken list.items ≤ 4 },
 }
 
 impl Peers {
@@ -62,7 +62,7 @@ impl Peers {
 
     /// The number of sessions more that may go on.
     fn free(&self) -> usize
-        ensures { result ≡ 4 - running self.now.list.items }
+        ensures { result ≡ 4 - places_taken self.now.list.items }
     {
         let mut free = SESSIONS_MAX;
         for peering in &self.list {
@@ -127,8 +127,8 @@ impl Peers {
         crowd: &mut Crowd,
         free: &mut usize,
     )
-        requires { running self.old.list.items + free.old ≤ 4 }
-        ensures few { running self.new.list.items + free.new ≤ 4 }
+        requires { places_taken self.old.list.items + free.old ≤ 4 }
+        ensures few { places_taken self.new.list.items + free.new ≤ 4 }
         ensures all { length self.new.list.items ≡ length self.old.list.items }
         ensures deeds { TalksDeeds crowd.old.talks crowd.new.talks }
     {

@@ -3,7 +3,7 @@ ghost use Rattle.std.specs.Prelude.{◌≡◌, Err, IfOk, IsTrue, Ok, string_byt
 ghost use Rattle.mvd_http.specs.declared.fields.Content.TheVariants.{Json};
 ghost use Rattle.mvd_server.specs.Errands.{AwaitsChange};
 ghost use Rattle.mvd_server.specs.Plans.{plain_answer};
-ghost use Rattle.mvd_server.specs.Responding.{AnswersReply, AnswersWeb, ChangesNothing, content_of as content_for};
+ghost use Rattle.mvd_server.specs.Responding.{AnswersReply, AnswersWeb, AsksNoChange, content_of as content_for};
 ghost use Rattle.mvd_server.specs.Responding.{RefusesWeb, TellsBody, is_web_change, json_answer, status_or_500};
 ghost use Rattle.mvd_web.specs.Inside.{web_of};
 ghost use Rattle.mvd_web.specs.Web.{RespondsTo};
@@ -157,7 +157,7 @@ pub(crate) fn tell_unread(
 
 /// Whether a question is one to the site, and no change.
 fn changes_nothing(question: &Result<Question, Refusal>) -> bool
-    ensures { IsTrue result → ChangesNothing question.now }
+    ensures { IsTrue result → AsksNoChange question.now }
 {
     match question {
         Ok(Question::Ask(request) | Question::Live(request)) => !is_change(request),

@@ -4,7 +4,7 @@ mod talk_bytes;
 
 ghost use Rattle.std.specs.Prelude.{◌≡◌, IfOk, IsTrue, OnErr, OnOk};
 ghost use Rattle.mvd_server.specs.Rounds.{HasRound};
-ghost use Rattle.mvd_server.specs.Talking.{IsWaiting, KeepsBatch, LacksMemory, MayBegin};
+ghost use Rattle.mvd_server.specs.Talking.{IsWaiting, KeepsBatch, LacksMemory, MayBeginWrites};
 ghost use Rattle.mvd_server.specs.Talking.{TalksDeeds, new_talking, talking_of, web_in};
 
 use crate::batch::Batch;
@@ -163,7 +163,7 @@ impl Talks {
     /// Hands on the first writes of a client, which its request asks for. Where memory is refused to keep them, none
     /// is.
     fn begin_writes(&mut self, batch: Batch, number: u64, counts: &mut Counts)
-        ensures { MayBegin number batch (talking_of self.old) → TalksDeeds self.old self.new }
+        ensures { MayBeginWrites number batch (talking_of self.old) → TalksDeeds self.old self.new }
     {
         match self.keep_writes(batch, number) {
             Ok(()) => self.hand_on_writes(number),

@@ -15,7 +15,7 @@ use Rattle.mvd_wire.specs.declared.reply.Reply.{Reply}
 use Rattle.mvd_wire.specs.declared.request.Request.{Request}
 use Rattle.mvd_wire.specs.declared.request.Request.TheVariants.{Get}
 use Rattle.mvd_shell.specs.Asked.{Exchange, IsRequestOf, IsWriteOfLine, Sees, delete_request, next_asked, put_request, question, shown_context}
-use Rattle.mvd_shell.specs.Talk.{is_taken, AnswersExchanges, AsksInTurn, AsksFirst, EndsWith, IsMadeOf, MayHaveAsked, Prints_line, ShowsText, ShowsPage, Speaks, SpeaksPages, TellsPage, TellsAllPages, Turns, shell_text, text_onto}
+use Rattle.mvd_shell.specs.Talk.{is_taken, AnswersExchanges, AsksInTurn, AsksFirst, EndsWith, IsMadeOf, MayHaveAsked, Prints_line, ShowsText, ShowsPage, Speaks, SpeaksPages, TellsPage, TellsAllPages, TurnsPage, shell_text, text_onto}
 use Rattle.mvd_shell.specs.Told.{answer_text}
 
 no_memory : {T : Type 0} (answer : Result T Refusal) → IsAnswer (Err Memory) answer
@@ -112,7 +112,7 @@ module _ {A : Type 0} (Answers : A → A → Request → Reply → Type 0) where
   stays_shown asked asked' ask first request old mid new same so_far = subst (SoFar asked asked' ask first request old) (sym same) so_far
 
   -- a page more, behind which more is left
-  pub onward : (asked asked' asked'' : A) (ask : Ask) (first request next : Request) (old mid new : List ℕ) → SoFar asked asked' ask first request old mid → Turns Answers asked' asked'' ask request mid new (Ok (Some next)) → SoFar asked asked'' ask first next old new
+  pub onward : (asked asked' asked'' : A) (ask : Ask) (first request next : Request) (old mid new : List ℕ) → SoFar asked asked' ask first request old mid → TurnsPage Answers asked' asked'' ask request mid new (Ok (Some next)) → SoFar asked asked'' ask first next old new
   unfolding TellsAllPages
   onward asked asked' asked'' ask first request next old mid new so_far turns = on turns.tells.page turns.tells.told turns.tells.shows
     where
@@ -131,7 +131,7 @@ module _ {A : Type 0} (Answers : A → A → Request → Reply → Type 0) where
       }
 
   -- the last page
-  pub ends : (asked asked' asked'' : A) (ask : Ask) (first request : Request) (old mid new : List ℕ) (done : Unit {0}) → SoFar asked asked' ask first request old mid → Turns Answers asked' asked'' ask request mid new (Ok None) → SpeaksPages Answers asked asked'' ask first old new (Ok done)
+  pub ends : (asked asked' asked'' : A) (ask : Ask) (first request : Request) (old mid new : List ℕ) (done : Unit {0}) → SoFar asked asked' ask first request old mid → TurnsPage Answers asked' asked'' ask request mid new (Ok None) → SpeaksPages Answers asked asked'' ask first old new (Ok done)
   unfolding TellsAllPages
   ends asked asked' asked'' ask first request old mid new done so_far turns = on turns.tells.page turns.tells.told turns.tells.shows
     where
@@ -151,7 +151,7 @@ module _ {A : Type 0} (Answers : A → A → Request → Reply → Type 0) where
       }
 
   -- a page that is refused
-  pub refused : (asked asked' asked'' : A) (ask : Ask) (first request : Request) (old mid new : List ℕ) (refusal : Refusal) → SoFar asked asked' ask first request old mid → Turns Answers asked' asked'' ask request mid new (Err refusal) → SpeaksPages Answers asked asked'' ask first old new (Err refusal)
+  pub refused : (asked asked' asked'' : A) (ask : Ask) (first request : Request) (old mid new : List ℕ) (refusal : Refusal) → SoFar asked asked' ask first request old mid → TurnsPage Answers asked' asked'' ask request mid new (Err refusal) → SpeaksPages Answers asked asked'' ask first old new (Err refusal)
   unfolding TellsAllPages
   refused asked asked' asked'' ask first request old mid new refusal so_far turns = on turns.tells.page turns.tells.told turns.tells.shows
     where

@@ -148,7 +148,7 @@ pub record SpeaksPages {A : Type 0} (Answers : A → A → Request → Reply →
   pub shows : ShowsText told old new result
 
 -- a page was asked for and told
-pub record Turns {A : Type 0} (Answers : A → A → Request → Reply → Type 0) (asked asked' : A) (ask : Ask)
+pub record TurnsPage {A : Type 0} (Answers : A → A → Request → Reply → Type 0) (asked asked' : A) (ask : Ask)
     (request : Request) (old new : List ℕ) (result : Result (Option Request) Refusal) : Type 0 where
   pub reply : Reply
   pub answers : Answers asked asked' request reply

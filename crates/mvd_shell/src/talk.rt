@@ -3,7 +3,7 @@ ghost use Rattle.std.specs.Prelude.{◌≡◌, ◌≤◌, ◌+◌, ◌++◌, ℕ
 ghost use Rattle.std.specs.Prelude.{string_capacity, string_len};
 ghost use Rattle.mvd_print.specs.Text.{written_text};
 ghost use Rattle.mvd_shell.specs.Talk.{AsksInTurn, MayHaveAsked, Prints_line, ShowsText, Speaks, SpeaksPages, TellsPage};
-ghost use Rattle.mvd_shell.specs.Talk.{Turns, is_taken, shell_text, told_text};
+ghost use Rattle.mvd_shell.specs.Talk.{TurnsPage, is_taken, shell_text, told_text};
 ghost use Rattle.mvd_shell.specs.Told.{tells_terms, unknown_text};
 
 use crate::losses::Losses;
@@ -152,7 +152,7 @@ fn turn<A: Endpoint>(
     out: &mut String,
 ) -> Result<Option<Request>, Refusal>
     requires { string_len out.old + 64 ≤ string_capacity out.old }
-    ensures { Turns A.answers asked.old asked.new ask.entry request (string_bytes out.old)
+    ensures { TurnsPage A.answers asked.old asked.new ask.entry request (string_bytes out.old)
         (string_bytes out.new) result }
 {
     let reply = asked.ask(request);

@@ -14,7 +14,7 @@ use Rattle.mvd_web.specs.Asked.{KeepsAsked}
 use Rattle.mvd_web.specs.Ends.{fault_in}
 use Rattle.mvd_web.specs.Response.{fault_bytes, response_bytes}
 use Rattle.mvd_web.specs.Steps.{Drops, StepsOn, PassesAll, PassesOn, Quiet, ReadsOn, ReadsNone, ReadsOne, Settles}
-use Rattle.mvd_web.specs.Web.{LooksIf, MayRest, Queues, RespondsTo, NothingCame, TakesRequest, TellsAll, WebValue, first_cause, is_closed, is_free, manner_of, said_of, stopped_by, unasked, with_waits}
+use Rattle.mvd_web.specs.Web.{LooksIf, MayRest, Queues, RespondsTo, NothingCame, TakesRequest, SaysAll, WebValue, first_cause, is_closed, is_free, manner_asked, said_of, stopped_by, unasked, with_waits}
 use Rattle.mvd_web.specs.declared.taken.Asked.{Asked}
 use Rattle.mvd_web.specs.declared.desk.Desk.{Desk}
 use Rattle.mvd_web.specs.declared.response.Manner.{Manner}
@@ -73,7 +73,7 @@ may_rest : (told : List ℕ) (b c : WebValue) → Rests b.config b.heard → c.c
 may_rest [] b c rests same (true_now, heard) = (true_now, subst (λ h. Rests c.config h) (sym heard) (subst (λ f. Rests f b.heard) (sym same) rests))
 may_rest (x ∷ xs) b c rests same settles = settles
 
-tells : (told queued : List ℕ) (a b c : WebValue) → b.stopped ≡ a.stopped → Rests b.config b.heard → c.config ≡ b.config → PassesAll b told queued c → TellsAll a told queued c
+tells : (told queued : List ℕ) (a b c : WebValue) → b.stopped ≡ a.stopped → Rests b.config b.heard → c.config ≡ b.config → PassesAll b told queued c → SaysAll a told queued c
 tells told queued a b c was rests same (inl (s, none, settles, whole)) = inl (s ∙ was, none, may_rest told b c rests same settles, whole)
 tells told queued a b c was rests same (inr (s, part)) = inr (s ∙ ap (λ o. first_cause o Memory) was, part)
 
@@ -265,8 +265,8 @@ responds old mid new answer body is_head manner h e k q None none = absurd (cc (
 responds old mid new answer body is_head manner h e k q (Some asked) some =
     let both : Some is_head ≡ Some asked.is_head = h ∙ ap (option_map (λ (a : Asked). a.is_head)) some in
     let same : is_head ≡ asked.is_head = cc in
-    let now : manner ≡ manner_of old asked = k ∙ (λ i. record { is_last = is_closed (e i).heard.state; is_head = same i }) in
-    subst (λ w. Queues w (response_bytes answer body (manner_of old asked)) new) e (subst (λ m. Queues mid (response_bytes answer body m) new) now q)
+    let now : manner ≡ manner_asked old asked = k ∙ (λ i. record { is_last = is_closed (e i).heard.state; is_head = same i }) in
+    subst (λ w. Queues w (response_bytes answer body (manner_asked old asked)) new) e (subst (λ m. Queues mid (response_bytes answer body m) new) now q)
 
 pub nobody : (old mid : WebValue) (answer : Answer) (body : List ℕ) (asked : Option Asked) → None ≡ option_map (λ (a : Asked). a.is_head) old.asked → mid ≡ unasked old → old.asked ≡ asked
     → RespondsTo asked old answer body mid

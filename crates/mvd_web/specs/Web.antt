@@ -141,8 +141,8 @@ web_said w told = said_of (fault_in w.heard.state) told
 
 -- all that was to be said is queued; or the connection is stopped for want of memory, and what was handed out is
 -- queued, or nothing
-abbrev pub TellsAll : WebValue → List ℕ → List ℕ → WebValue → Type 0
-TellsAll old told queued new =
+abbrev pub SaysAll : WebValue → List ℕ → List ℕ → WebValue → Type 0
+SaysAll old told queued new =
     ((new.stopped ≡ old.stopped) × (new.heard.pending ≡ []) × MayRest told new × (queued ≡ web_said new told))
     ⊎ ((new.stopped ≡ first_cause old.stopped Memory) × ((queued ≡ told) ⊎ (queued ≡ [])))
 
@@ -154,7 +154,7 @@ pub record TakesNone (old new : WebValue) : Type 0 where
   pub sent : new.heard.sent ≡ old.heard.sent ++ told
   pub queued : List ℕ
   pub waits : new.waits ≡ old.waits ++ queued
-  pub tells : TellsAll old told queued new
+  pub tells : SaysAll old told queued new
   pub stays : NothingCame old new
 
 -- where no request may be taken, nothing is done
@@ -185,14 +185,14 @@ abbrev pub is_closed : State → Bool
 is_closed Open = false
 is_closed _ = true
 
-abbrev pub manner_of : WebValue → Asked → Manner
-manner_of w asked = record { is_last = is_closed w.heard.state; is_head = asked.is_head }
+abbrev pub manner_asked : WebValue → Asked → Manner
+manner_asked w asked = record { is_last = is_closed w.heard.state; is_head = asked.is_head }
 
 -- the request that waited is answered, once; where none waited, nothing is done
 abbrev pub RespondsTo : Option Asked → WebValue → Answer → List ℕ → WebValue → Type 0
 RespondsTo None old answer body new = new ≡ old
 RespondsTo (Some asked) old answer body new =
-    Queues (unasked old) (response_bytes answer body (manner_of old asked)) new
+    Queues (unasked old) (response_bytes answer body (manner_asked old asked)) new
 
 -- so many of the waiting bytes left
 abbrev pub web_sent : WebValue → ℕ → WebValue

@@ -3,7 +3,7 @@ ghost use Rattle.std.specs.Prelude.{◌≡◌, IfSome, OnErr, OnOk, Some};
 ghost use Rattle.mvd_conn.specs.History.{new_history};
 ghost use Rattle.mvd_host.specs.Hosts.{client_of};
 ghost use Rattle.mvd_server.specs.Guarded.{guard_for};
-ghost use Rattle.mvd_server.specs.Talking.{Comes, ComesBy, DoesAct, GoesAtOnce, MayGo, OpensWeb, TalksDeeds, talking_of};
+ghost use Rattle.mvd_server.specs.Talking.{Comes, ComesBy, DoesAct, GoesAtOnce, MayPart, OpensWeb, TalksDeeds, talking_of};
 ghost use Rattle.mvd_server.specs.declared.talks.Kind.TheVariants.{Http};
 
 use crate::talks::{Kind, Talks};
@@ -69,7 +69,7 @@ impl Talks {
     /// Lets a client go for which nothing is left to do.
     pub fn dismiss(&mut self, number: u64)
         ensures own { self.new.own ≡ self.old.own }
-        ensures deeds { MayGo number (talking_of self.old) → TalksDeeds self.old self.new }
+        ensures deeds { MayPart number (talking_of self.old) → TalksDeeds self.old self.new }
     {
         drop(self.webs.remove(&number));
         drop(self.batches.remove(&number));

@@ -3,7 +3,7 @@ ghost use Rattle.std.specs.Prelude.{◌≡◌, ◌≤◌, IsSome, IsTrue, None, 
 ghost use Rattle.std.specs.Option.{option_and_then};
 ghost use Rattle.mvd_conn.specs.History.{ending_of};
 ghost use Rattle.mvd_host.specs.Hosts.{client_of};
-ghost use Rattle.mvd_server.specs.Talking.{MayGo, TalksDeeds, talking_of};
+ghost use Rattle.mvd_server.specs.Talking.{MayPart, TalksDeeds, talking_of};
 ghost use Rattle.mvd_server.specs.Wires.{FeedsTo, IsFedBySocket, MayFeed, SendsOf, waits_for};
 ghost use Rattle.mvd_web.specs.Inside.{web_of};
 
@@ -113,7 +113,7 @@ impl Talks {
     /// Whether nothing is left to do for a client.
     #[tactic(auto, using(crate::proofs::Leaving::spent_frames, crate::proofs::Leaving::spent_over, crate::proofs::Leaving::spent_web))]
     pub fn is_done(&self, number: u64) -> bool
-        ensures { IsTrue result → MayGo number (talking_of self.now) }
+        ensures { IsTrue result → MayPart number (talking_of self.now) }
     {
         match self.webs.get(&number) {
             Some(web) => web.is_done() || (self.is_over(number, web) && web.waiting().is_empty()),

@@ -5,7 +5,7 @@ use Rattle.mvd_replica.specs.Adding.{CountsKeys}
 use Rattle.mvd_replica.specs.Behind.{AreLast, JoinsGroup, noted_at}
 use Rattle.mvd_replica.specs.Groups.{MustWait, StandTogether}
 use Rattle.mvd_replica.proofs.AddedKeys.{counts_none}
-use Rattle.mvd_replica.proofs.SameKey.{last_more, last_none, none_joined, of_joined}
+use Rattle.mvd_replica.proofs.SameKey.{last_more, last_none, none_joined, noted_asked, of_joined}
 use Rattle.mvd_replica.proofs.Grouping.{changes_more, next_waits, together_more, together_none}
 use Rattle.mvd_replica.proofs.groups.prepare_all.Goals as goal
 
@@ -61,7 +61,7 @@ loop-request-preserved c =
       few = grind (arith, length-append, c.push_reserved.ensures.items, c.loop-request.invariant.few, c.changes_of-changes.ensures.few);
       keys = subst (λ l. CountsKeys site l (c.loop-request.added + adds)) (sym c.push_reserved.ensures.items) joins.keys;
       noted = λ low.
-          subst₂ AreLast (sym c.push_reserved.ensures.items) (sym (c.in_ok-note.ensures.noted (omega (arith, low, c.loop-request.invariant.count))))
+          subst₂ AreLast (sym c.push_reserved.ensures.items) (sym (c.in_ok-note.ensures.noted (omega (arith, low, c.loop-request.invariant.count)) ∙ noted_asked c.loop-request.waiting c.len.result request prepared joins.asked))
           (subst (λ n. AreLast (group ++ prepared ∷ []) (noted_at c.loop-request.waiting n prepared)) (sym (c.len.ensures ∙ c.loop-request.group.ok.0)) (last_more group c.loop-request.waiting prepared (c.loop-request.invariant.noted c.loop-request-test.true)));
       together = λ whole.
           subst₂ (StandTogether site) (sym (take_more requests i request c.loop-request-test.true ∙ ap (λ r. take i requests ++ r ∷ []) (sym c.request-item.is))) (sym c.push_reserved.ensures.items)

@@ -2,7 +2,7 @@ use Rattle.std.proofs.Common.{◌≡◌, ◌∙◌, inr, refl, ap}
 use Rattle.mvd_dots.specs.declared.refusals.Refusal.TheVariants.{Memory}
 use Rattle.mvd_wire.specs.declared.reply.Reply.TheVariants.{Refused}
 use Rattle.mvd_wire.specs.Replies.{reply_bytes, reply_frame}
-use Rattle.mvd_site.proofs.Outcomes.{must_be_memory}
+use Rattle.mvd_replica.proofs.Memories.{must_be_memory}
 use Rattle.mvd_replica.proofs.Ending.{goes_out}
 use Rattle.mvd_replica.proofs.turns.send.Goals as goal
 

@@ -1,5 +1,5 @@
 use Rattle.std.proofs.Common.{◌∙◌, refl, sym}
-use Rattle.mvd_site.proofs.Outcomes.{must_be_memory}
+use Rattle.mvd_replica.proofs.Memories.{must_be_memory}
 use Rattle.mvd_replica.proofs.ReplicaLemmas.{push_answered, push_broken, push_unmade}
 use Rattle.mvd_replica.proofs.replica.Replica.push.Goals as goal
 

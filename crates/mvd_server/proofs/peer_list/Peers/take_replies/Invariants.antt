@@ -1,5 +1,5 @@
 use Rattle.std.specs.Prelude.{◌≤◌}
-use Rattle.mvd_server.specs.Peerings.{running}
+use Rattle.mvd_server.specs.Peerings.{places_taken}
 use Rattle.mvd_server.proofs.Hearing.{HeardBelow}
 use Rattle.mvd_server.specs.Talking.{TalksDeeds}
 use Rattle.mvd_server.proofs.peer_list.Peers.take_replies.Given as goal
@@ -7,7 +7,7 @@ use Rattle.mvd_server.proofs.peer_list.Peers.take_replies.Given as goal
 -- no place was taken, and those that had their turn heard of it, if something changed
 abbrev pub invariant-loop-peering : goal.invariant-loop-peering
 invariant-loop-peering l = record {
-  few : running l.peering-items ≤ 4;
+  few : places_taken l.peering-items ≤ 4;
   heard : HeardBelow l.changed l.peering-index l.peering-items;
   deeds : TalksDeeds l.fn.crowd.talks l.crowd.talks;
 }

@@ -1,5 +1,5 @@
 -- What a command is stopped with, and what comes back of its file.
-use Rattle.std.proofs.Common.{◌≡◌, ℕ, Bool, List, Option, Some, None, Result, Ok, Err, false, inl, inr, refl, subst, sym, true, true≢false}
+use Rattle.std.proofs.Common.{◌≡◌, ℕ, Bool, Option, Some, None, Result, Ok, Err, false, subst, sym, true}
 use Rattle.std.specs.Prelude.{IfSome, if◌then◌else◌}
 use Rattle.std.specs.Result.{result_and}
 use Rattle.mvd_app.specs.Stored.{ClosesOrNot, EndsAs, Filed, GivesBack, IsConfigFor, IsWithoutFile}

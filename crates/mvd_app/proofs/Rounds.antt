@@ -1,18 +1,22 @@
--- The turns of a server's rounds are asked by frames, and so push no state but those of some writes.
-use Rattle.std.proofs.Common.{◌≡◌, ◌∙◌, ◌==◌, ℕ, Bool, true, false, cond, List, [], ◌∷◌, ◌++◌, map, Option, Some, None, Result, refl, sym, subst}
+-- The turns of a server's rounds are asked by frames, or at hand, and so push no state but those of some writes.
+use Rattle.std.proofs.Common.{◌≡◌, ◌∙◌, ◌==◌, ◌≤◌, ◌<◌, ◌⊎◌, inl, inr, ℕ, Bool, true, false, cond, List, [], ◌∷◌, ◌++◌, map, Option, Some, None, Ok, Result, refl, sym, subst, true≢false}
+use Rattle.std.proofs.lemmas.Bool.{cases_lt}
 use Rattle.std.specs.List.{AllByRecursion}
 use Rattle.mvd_app.proofs.Reading.{request_fine}
 use Rattle.mvd_conn.specs.History.{History}
 use Rattle.mvd_dots.specs.declared.refusals.Refusal.{Refusal}
 use Rattle.mvd_host.proofs.Own.{same_number}
+use Rattle.mvd_host.specs.AtHand.{AllMayWait, AtHandValue, first_at_hand, pushes}
 use Rattle.mvd_host.specs.Course.{BothClients, asked_by, own}
 use Rattle.mvd_host.specs.Hosts.{client_of}
-use Rattle.mvd_host.specs.Round.{ClientCourse, Round, Side, turns_of}
-use Rattle.mvd_host.specs.Runs.{Calls, Comes, Goes, Happening, HostMoment, Rounds, Runs, after_one, side_at, turns_in}
+use Rattle.mvd_host.specs.Round.{AnswersAtHand, ClientCourse, Round, Side, turns_of}
+use Rattle.mvd_host.specs.Runs.{Calls, Comes, Goes, Hands, Happening, HostMoment, Rounds, Runs, after_one, side_at, turns_in}
 use Rattle.mvd_replica.specs.Turns.{Turn}
+use Rattle.mvd_site.specs.Known.{IsValidRequest}
 use Rattle.mvd_runs.specs.Files.{IsValidTurn}
 use Rattle.mvd_wire.specs.Frames.{FrameValue}
 use Rattle.mvd_wire.specs.declared.request.Request.{Request}
+use Rattle.mvd_wire.specs.declared.request.Request.TheVariants.{Get, Put, Delete, Find, Row, Rows, Node, Bucket, Push, Range, Keys, Conflicts, Hello, Bye}
 use Rattle.sqlite.specs.State.{State}
 
 abbrev AreFine : List Turn → Type 0
@@ -28,6 +32,47 @@ framed_fine [] (turn ∷ turns) is = absurd cc
 framed_fine (f ∷ frames) (turn ∷ turns) is =
     let (one, others) = heads (asked_by f) turn.asked (map asked_by frames) (map (λ t. t.asked) turns) is in
     ((λ request asked. request_fine f.kind f.payload request (one ∙ asked)), framed_fine frames turns others)
+
+-- what waited at hand pushes no state
+unpushed_fine : (request : Request) → pushes request ≡ false → IsValidRequest request
+unpushed_fine (Get key) none = tt
+unpushed_fine (Put key context document) none = tt
+unpushed_fine (Delete key context) none = tt
+unpushed_fine (Find field term after) none = tt
+unpushed_fine (Row view term) none = tt
+unpushed_fine (Rows view after) none = tt
+unpushed_fine (Node path) none = tt
+unpushed_fine (Bucket path after) none = tt
+unpushed_fine (Push key state) none = absurd (true≢false none)
+unpushed_fine (Range field first last after) none = tt
+unpushed_fine (Keys prefix after) none = tt
+unpushed_fine (Conflicts after) none = tt
+unpushed_fine (Hello token) none = tt
+unpushed_fine Bye none = tt
+
+ok_is : (a b : Request) → ◌≡◌ {A = Result Request Refusal} (Ok a) (Ok b) → a ≡ b
+ok_is a b e = cc
+
+abbrev AreUnpushed : List Request → Type 0
+AreUnpushed asks = AllByRecursion (λ request. pushes request ≡ false) asks
+
+waiting_unpushed : (n : ℕ) (asks : List (ℕ × Request)) → AllMayWait asks → AreUnpushed (own n asks)
+waiting_unpushed n [] may = tt
+waiting_unpushed n (ask ∷ asks) (one, may) =
+    elim (ask.0 == n) as (λ b. AreUnpushed (cond b (ask.1 ∷ own n asks) (own n asks))) [
+      | true ↦ (one.1, waiting_unpushed n asks may)
+      | false ↦ waiting_unpushed n asks may
+    ]
+
+asked_fine : (asks : List Request) (turns : List Turn) → AreUnpushed asks → map (λ t. t.asked) turns ≡ map (λ r. Ok r) asks → AreFine turns
+asked_fine asks [] may is = tt
+asked_fine [] (turn ∷ turns) may is = absurd cc
+asked_fine (ask ∷ asks) (turn ∷ turns) (none, may) is =
+    let (one, others) = heads turn.asked (Ok ask) (map (λ t. t.asked) turns) (map (λ r. Ok r) asks) is in
+    ((λ request asked. unpushed_fine request (subst (λ r. pushes r ≡ false) (ok_is ask request (sym one ∙ asked)) none)), asked_fine asks turns may others)
+
+at_hand_fine : (n : ℕ) (turns : List (ℕ × Turn)) (old new : AtHandValue) → first_at_hand ≤ n → AnswersAtHand turns old new → AreFine (own n turns)
+at_hand_fine n turns old new above a = asked_fine (own n old.waits) (own n turns) (waiting_unpushed n old.waits a.may) (a.asked n above)
 
 -- those of each client, and so all of them
 module _ (P : Turn → Type 0) where
@@ -52,7 +97,11 @@ client_fine n turns (Some h) (Some k) none both = framed_fine both.frames turns 
 
 round_fine : (ready : List ℕ) (turns : List (ℕ × Turn)) (old new : Side) → Round ready turns old new → AreFine (turns_of turns)
 round_fine ready turns old new round =
-    each_own IsValidTurn turns (λ n. client_fine n (own n turns) (client_of old.host n) (client_of new.host n) (round.spares.none n) (round.clients n))
+    each_own IsValidTurn turns (λ n. each n (cases_lt n first_at_hand))
+  where
+    each : (n : ℕ) → (n < first_at_hand) ⊎ (first_at_hand ≤ n) → AreFine (own n turns)
+    each n (inl below) = client_fine n (own n turns) (client_of old.host n) (client_of new.host n) (round.spares.none n below) (round.clients n)
+    each n (inr above) = at_hand_fine n turns old.hand new.hand above round.at_hand
 
 turns_both : (first rest : List (ℕ × Turn)) → AreFine (turns_of first) → AreFine (turns_of rest) → AreFine (turns_of (first ++ rest))
 turns_both [] rest fine others = others
@@ -64,4 +113,5 @@ module _ {C : Type 0} (f : C → State) where
   runs_fine side (Comes n host ∷ all) (may, runs) = runs_fine (after_one side (Comes n host)) all runs
   runs_fine side (Goes n host ∷ all) (may, runs) = runs_fine (after_one side (Goes n host)) all runs
   runs_fine side (Calls n call ∷ all) (may, runs) = runs_fine (after_one side (Calls n call)) all runs
+  runs_fine side (Hands hand ∷ all) (may, runs) = runs_fine (after_one side (Hands hand)) all runs
   runs_fine side (Rounds ready turns new ∷ all) (may, runs) = turns_both turns (turns_in all) (round_fine ready turns (side_at f side) (side_at f new) may) (runs_fine new all runs)

@@ -13,7 +13,6 @@ use Rattle.mvd_runs.proofs.Commands.{closed_run, left_run, stopped_run}
 use Rattle.mvd_runs.specs.Files.{Passes, WorksBy, setup_of}
 use Rattle.mvd_site.specs.Config.{ConfigValue}
 use Rattle.sqlite.specs.Effect.{Database}
-use Rattle.sqlite.specs.Files.{image_of}
 use Rattle.sqlite.specs.Recovery.{Image}
 use Rattle.sqlite.specs.State.{HasCleanDisk}
 use Rattle.sqlite_disk.specs.declared.Disk as disk

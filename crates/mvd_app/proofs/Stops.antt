@@ -2,7 +2,6 @@
 use Rattle.std.proofs.Common.{◌≡◌, ◌∙◌, ℕ, Bool, true, false, List, [], ◌∷◌, Option, Some, None, Result, Ok, Err, Bor, ap, cond, inl, inr, length, refl, subst, sym}
 use Rattle.std.specs.Prelude.{◌≢◌, ◌&&◌, IfErr, nat_le}
 use Rattle.mvd_app.specs.Named.{IsDefsFault, IsTokenFault, TellsDefs}
-use Rattle.mvd_dots.specs.Answer.{IsAnswer}
 use Rattle.mvd_dots.specs.declared.refusals.Refusal.{Refusal}
 use Rattle.mvd_dots.specs.declared.refusals.Refusal.TheVariants.{BadBody, FrameTooLong, Memory, ReadFailed}
 use Rattle.mvd_hint.specs.declared.hint.Hint.{Hint}

@@ -35,7 +35,7 @@ use Rattle.mvd_wire.specs.Prefix.{prefix_of_text}
 use Rattle.mvd_wire.specs.declared.reply.Reply.{Reply}
 use Rattle.mvd_wire.specs.declared.reply.Reply.TheVariants as reply
 use Rattle.mvd_wire.specs.declared.request.Request.{Request}
-use Rattle.mvd_wire.specs.declared.request.Request.TheVariants.{Get, Put, Delete, Find, Row, Rows, Node, Range, Keys, Conflicts}
+use Rattle.mvd_wire.specs.declared.request.Request.TheVariants.{Get, Put, Find, Row, Rows, Node, Range, Keys, Conflicts}
 
 -- ---- a request
 

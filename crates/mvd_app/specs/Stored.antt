@@ -1,5 +1,5 @@
 -- What the commands do to a stored site, and what comes back of its file.
-use Rattle.std.specs.Prelude.{◌≡◌, ◌⊎◌, ⊤, true, false, if◌then◌else◌, ℕ, Bool, List, Option, Some, None, Result, Ok, Err, IsErrAnd}
+use Rattle.std.specs.Prelude.{◌≡◌, ◌⊎◌, true, false, if◌then◌else◌, ℕ, Bool, List, Option, Some, None, Result, Ok, Err, IsErrAnd}
 use Rattle.std.specs.Borrow.{Bor}
 use Rattle.std.specs.FinMap.{empty as no_states}
 use Rattle.mvd_app.specs.Named.{StopsAtDefs, StopsAtToken}
@@ -13,7 +13,7 @@ use Rattle.mvd_input.specs.declared.fault.Fault.TheVariants.{Stopped}
 use Rattle.mvd_input.specs.declared.order.Order.{Order}
 use Rattle.mvd_input.specs.declared.order.Order.TheVariants as order
 use Rattle.mvd_input.specs.declared.order.Setup.{Setup}
-use Rattle.mvd_replica.specs.FileCalls.{ClosesInto, FailsClosing, OpensAsSite}
+use Rattle.mvd_replica.specs.FileCalls.{ClosesInto, FailsClosing}
 use Rattle.mvd_replica.specs.Programs.{LeavesFile}
 use Rattle.mvd_replica.specs.Refused.{FailsFile}
 use Rattle.mvd_replica.specs.Replicas.{site_of}

@@ -3,7 +3,7 @@ ghost use Rattle.std.specs.Prelude.{◌≤◌, length};
 ghost use Rattle.mvd_host.specs.Hosts.{IfClient, client_of};
 
 use super::replica_calls::{Bytes, ROOM};
-use mvd_host::{Feed, Host, RoundReplies, Tally};
+use mvd_host::{AtHand, Feed, Host, Tally};
 use mvd_replica::Replica;
 use sqlite::Alter;
 use std::alloc::Global;
@@ -58,15 +58,23 @@ pub fn drop_waiting(host: &mut Host, client: u64) {
     host.sent(client, count);
 }
 
-pub fn round<S: Alter>(alloc: Global, host: &mut Host, replica: &mut Replica<S>, ready: &[u64]) {
+/// A round, where no reply of the one before is left at hand.
+pub fn round_at_hand<S: Alter>(
+    alloc: Global,
+    host: &mut Host,
+    replica: &mut Replica<S>,
+    ready: &[u64],
+    hand: &mut AtHand,
+) {
     let mut changes = Feed::new(alloc);
-    let _ = host.round(
-        replica,
-        ready,
-        &mut Tally::new(),
-        &mut changes,
-        &mut RoundReplies::new(alloc),
-    );
+    if hand.next().is_none() {
+        let _ = host.round(replica, ready, hand, &mut Tally::new(), &mut changes);
+    }
+}
+
+/// A round in which nothing is asked at hand.
+pub fn round<S: Alter>(alloc: Global, host: &mut Host, replica: &mut Replica<S>, ready: &[u64]) {
+    round_at_hand(alloc, host, replica, ready, &mut AtHand::new(alloc));
 }
 
 /// Sends these frames, one of each of the first three clients, which are answered at once. It is done again where

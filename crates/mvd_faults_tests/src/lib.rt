@@ -1,9 +1,11 @@
-//! Tests of a stored site: its connections, one by one and many at once, faults of its streams, its bytes, its records,
-//! its store and its memory, and what the example of its use prints.
+//! Tests of a stored site: its connections, one by one and many at once, and requests at hand; faults of its streams,
+//! its bytes, its records, its store and its memory; and what the example of its use prints.
 #![tactic(auto)]
 
 #[cfg(test)]
 mod asked_sites;
+#[cfg(test)]
+mod at_hand;
 #[cfg(test)]
 mod clients;
 #[cfg(test)]

@@ -1,5 +1,6 @@
 //! One growth that is refused, whichever it is: tools/faults.sh refuses each in turn. With none refused all is as ever.
 use super::asked_sites::ASKED;
+use super::at_hand::told_at_hand;
 use super::damaged::THREE_OLD;
 use super::host_calls::told_by_three;
 use super::replica_calls::{
@@ -217,35 +218,55 @@ fn told_at_once<S: Alter + Drop>(alloc: Global, replica: &mut Replica<S>) -> Byt
     }
 }
 
+/// How the pairs are asked: on one connection, or in rounds: by three connections, or at hand.
+#[derive(Clone, Copy)]
+enum Way {
+    Single,
+    Connections,
+    Hand,
+}
+
+/// What clients are told of all pairs.
+fn told_by<S: Alter + Drop>(alloc: Global, replica: &mut Replica<S>, way: Way) -> Bytes {
+    match way {
+        Way::Single => told_at_once(alloc, replica),
+        Way::Connections => told_by_three(alloc, replica, &IN_ROUNDS),
+        Way::Hand => told_at_hand(alloc, replica, &IN_ROUNDS),
+    }
+}
+
 /// Whether clients of a new replica are told of the pairs what is there; one that is broken then is opened again.
 fn all_is_told<S: Alter + Drop>(
     alloc: Global,
     mut replica: Replica<S>,
-    in_rounds: bool,
+    way: Way,
 ) -> Result<bool, Refusal> {
-    let output = if in_rounds {
-        told_by_three(alloc, &mut replica, &IN_ROUNDS)
-    } else {
-        told_at_once(alloc, &mut replica)
-    };
+    let output = told_by(alloc, &mut replica, way);
     let mut replica = mended(alloc, replica, 1)?;
-    let are_told = pairs_tell(alloc, &mut replica, output.bytes(), in_rounds);
+    let shares = !matches!(way, Way::Single);
+    let are_told = pairs_tell(alloc, &mut replica, output.bytes(), shares);
     end(replica);
     Ok(are_told)
 }
 
-fn pairs_are_told(alloc: Global, in_rounds: bool) -> Result<bool, Refusal> {
-    all_is_told(alloc, new_replica(alloc, 1, &[])?, in_rounds)
+fn pairs_are_told(alloc: Global, way: Way) -> Result<bool, Refusal> {
+    all_is_told(alloc, new_replica(alloc, 1, &[])?, way)
 }
 
 #[test]
 fn a_connection_tells_what_is_there(rt: HostRuntime) -> Result<(), Fail> {
-    assert!(rt; pairs_are_told(rt.alloc(), false)?);
+    assert!(rt; pairs_are_told(rt.alloc(), Way::Single)?);
     Ok(())
 }
 
 #[test]
 fn a_round_tells_what_is_there(rt: HostRuntime) -> Result<(), Fail> {
-    assert!(rt; pairs_are_told(rt.alloc(), true)?);
+    assert!(rt; pairs_are_told(rt.alloc(), Way::Connections)?);
+    Ok(())
+}
+
+#[test]
+fn a_round_tells_at_hand_what_is_there(rt: HostRuntime) -> Result<(), Fail> {
+    assert!(rt; pairs_are_told(rt.alloc(), Way::Hand)?);
     Ok(())
 }

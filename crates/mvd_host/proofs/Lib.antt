@@ -3,11 +3,17 @@ pub mod Hosts
 pub mod Frames
 pub mod Holding
 pub mod Own
+pub mod Numbers
+pub mod Telling
 pub mod TakingAll
 pub mod Orders
+pub mod Asking
 pub mod ToldLemmas
 pub mod Serving
 pub mod RoundLemmas
+pub mod Answering
+pub mod Called
+pub mod MoreAtHand
 pub mod Runs
 pub mod Growths
 pub mod Feeding

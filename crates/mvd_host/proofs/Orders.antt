@@ -114,13 +114,13 @@ zip_next clients yielded request next is low =
     ap (λ l. zip l (yielded ++ request ∷ [])) front
     ∙ zip_push (take (length yielded) clients) yielded (slice_index clients next) request (length-take-le (length yielded) clients (omega (arith, low)))
 
-zip_clients : (cs : List ℕ) (rs : List Request) → length cs ≡ length rs → cs ≡ map (λ r. r.0) (zip cs rs)
+pub zip_clients : (cs : List ℕ) (rs : List Request) → length cs ≡ length rs → cs ≡ map (λ r. r.0) (zip cs rs)
 zip_clients [] [] same = refl
 zip_clients [] (r ∷ rs) same = absurd (omega (arith, same))
 zip_clients (c ∷ cs) [] same = absurd (omega (arith, same))
 zip_clients (c ∷ cs) (r ∷ rs) same = ap (λ l. c ∷ l) (zip_clients cs rs (omega (arith, same)))
 
-zip_requests : (cs : List ℕ) (rs : List Request) → length cs ≡ length rs → rs ≡ map (λ r. r.1) (zip cs rs)
+pub zip_requests : (cs : List ℕ) (rs : List Request) → length cs ≡ length rs → rs ≡ map (λ r. r.1) (zip cs rs)
 zip_requests [] [] same = refl
 zip_requests [] (r ∷ rs) same = absurd (omega (arith, same))
 zip_requests (c ∷ cs) [] same = absurd (omega (arith, same))
@@ -186,7 +186,7 @@ pub same_count : (asked : List (ℕ × Request)) (faults : List (ℕ × FrameVal
 same_count asked faults taken holds =
     ap length holds.clients ∙ length-map asked (λ (x : ℕ × Request). x.0) ∙ sym (ap length holds.requests_are ∙ length-map asked (λ (x : ℕ × Request). x.1))
 
-module _ (ready : List ℕ) (old new : List (ℕ × History)) (before after : Taken) (a : Arranges before after) (t : TakesOnly ready (length ready) old new before) where
+module _ (asks : List (ℕ × Request)) (ready : List ℕ) (old new : List (ℕ × History)) (before after : Taken) (a : Arranges before after) (t : TakesOnly asks ready (length ready) old new before) where
   asked_is : zip before.clients.items before.requests.items ≡ t.all.requests
   asked_is = ap₂ (λ (c : List ℕ) (r : List Request). zip c r) t.all.holds.clients t.all.holds.requests_are ∙ zip_parts t.all.requests
 
@@ -200,7 +200,7 @@ module _ (ready : List ℕ) (old new : List (ℕ × History)) (before after : Ta
     faults = subst (λ l. AreFaults t.all.faulty l) (sym a.faults) t.all.holds.faults;
   }
 
-  abbrev only_still : TakesOnly ready (length ready) old new after
+  abbrev only_still : TakesOnly asks ready (length ready) old new after
   only_still = record {
     all = record {
       requests = a.arranged.ordered;
@@ -217,7 +217,7 @@ module _ (ready : List ℕ) (old new : List (ℕ × History)) (before after : Ta
   frame_still n (inl some) = inl (λ none. some (sym (own_is n) ∙ none))
   frame_still n (inr some) = inr some
 
-  pub fairly_still : (refused : Bool) → (refused ≡ false → IsFair ready (length ready) t.all.requests t.all.faulty new) → TakesFairly refused ready (length ready) old new after
+  pub fairly_still : (refused : Bool) → (refused ≡ false → IsFair ready (length ready) t.all.requests t.all.faulty new) → TakesFairly refused asks ready (length ready) old new after
   fairly_still refused fair = (
     only_still,
     λ no i below. elim (fair no i below) [

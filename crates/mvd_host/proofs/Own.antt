@@ -43,3 +43,9 @@ both_so None None R S so p = tt
 both_so None (Some y) R S so p = absurd p
 both_so (Some x) None R S so p = absurd p
 both_so (Some x) (Some y) R S so p = so x y p
+
+-- a client that was not there is not there
+pub both_none : (a b : Option History) (R : History → History → Type 0) → a ≡ None → BothClients a b R → b ≡ None
+both_none None None R gone both = refl
+both_none None (Some y) R gone both = absurd both
+both_none (Some x) b R gone both = absurd (let no : ◌≡◌ {A = Option History} (Some x) None = gone in cc)

@@ -1,11 +1,8 @@
 -- Rounds, and what comes between them, one after the other.
-use Rattle.std.proofs.Common.{◌≡◌, ℕ, ◌≤◌, ◌<◌, ◌==◌, Bool, true, false, cond, List, [], ◌∷◌, ◌++◌, map, Option, Some, None, refl, sym, ap, ap₂, ◌∙◌, subst, subst₂, append-nil, append_assoc, Result, arith}
+use Rattle.std.proofs.Common.{◌≡◌, ℕ, ◌≤◌, ◌<◌, ◌==◌, Bool, true, false, cond, List, [], ◌∷◌, ◌++◌, map, Option, Some, None, refl, sym, ap, ap₂, ◌∙◌, subst, append-nil, append_assoc, Result, arith}
 use Rattle.std.proofs.lemmas.Bool.Decides.{nat_tests}
 use Rattle.std.proofs.lemmas.List.{map-append}
-use Rattle.std.specs.Ordering.{nat_cmp}
-use Rattle.std.specs.BTreeMap.{is_at}
 use Rattle.std.specs.List.{concat}
-use Rattle.std.specs.Map.{set_value}
 use Rattle.mvd_conn.proofs.Hellos.{hello_asks}
 use Rattle.mvd_conn.specs.Guard.{IsShown}
 use Rattle.mvd_conn.specs.Stands.{IsLast, HistoryStands}
@@ -15,11 +12,13 @@ use Rattle.mvd_dots.specs.declared.refusals.Refusal.{Refusal}
 use Rattle.mvd_wire.specs.Frames.{FrameValue}
 use Rattle.mvd_wire.specs.declared.request.Request.{Request}
 use Rattle.mvd_replica.specs.Turns.{Turn}
-use Rattle.mvd_host.specs.Hosts.{AdmitsOne, HostValue, ClientLeaves, altered, altered_if, client_in, client_of, new_host, with_client}
+use Rattle.mvd_host.specs.AtHand.{AtHandValue, StepsAtHand, first_at_hand, none_at_hand}
+use Rattle.mvd_host.specs.Hosts.{AdmitsOne, HostValue, ClientLeaves, altered, client_of, new_host}
 use Rattle.mvd_host.specs.Course.{AreQueued, BothClients, asked_by, own}
 use Rattle.mvd_host.specs.Round.{ClientCourse, Round, turns_of}
-use Rattle.mvd_host.specs.Runs.{Call, Calls, Closes, Comes, Cuts, Feeds, Goes, Happening, HasShown, May, HostMoment, OneList, Releases, Rounds, Runs, Sends, TellsOwn, after_call, after_one, after_run, side_at, happened_turns, turns_in}
-use Rattle.mvd_host.proofs.Hosts.{at_is}
+use Rattle.mvd_host.specs.Runs.{Call, Calls, Comes, Goes, Hands, Happening, HasShown, May, HostMoment, OneList, Rounds, Runs, TellsOwn, after_call, after_one, after_run, side_at, happened_turns, turns_in}
+use Rattle.mvd_host.proofs.Called.{called, none_called, admitted_called, tells_call}
+use Rattle.mvd_host.proofs.MoreAtHand.{MoreAtHand, none_more, more_on, more_stepped, more_answered, tells_at_hand}
 use Rattle.mvd_host.proofs.Own.{own-append}
 use Rattle.mvd_host.proofs.Positions.{Serves}
 use Rattle.mvd_host.proofs.RoundLemmas.{was}
@@ -27,98 +26,15 @@ use Rattle.mvd_host.proofs.Serving.{serves_none, serves_on}
 use Rattle.mvd_host.proofs.ToldLemmas.{queued_on}
 use Rattle.sqlite.specs.State.{State}
 
--- ---- a call on one client
-
-set_other : (n q : ℕ) → (q == n) ≡ false → (es : List (ℕ × History)) (w : History) → client_in (set_value (is_at (nat_cmp n)) es w) q ≡ client_in es q
-set_other n q apart [] w = refl
-set_other n q apart (e ∷ es) w = on (set_other n q apart es w) (is_at (nat_cmp n) e.0) refl
-  where
-    on : client_in (set_value (is_at (nat_cmp n)) es w) q ≡ client_in es q → (b : Bool) → is_at (nat_cmp n) e.0 ≡ b → client_in (cond b ((e.0, w) ∷ es) (e ∷ set_value (is_at (nat_cmp n)) es w)) q ≡ cond (is_at (nat_cmp q) e.0) (Some e.1) (client_in es q)
-    on rest true is =
-        let hit : (e.0 == n) ≡ true = sym (at_is n e.0) ∙ is in
-        let miss : (e.0 == q) ≡ false = grind (arith, nat_tests, hit, apart) in
-        let off : is_at (nat_cmp q) e.0 ≡ false = at_is q e.0 ∙ miss in
-        ap (λ c. cond c (Some w) (client_in es q)) off ∙ sym (ap (λ c. cond c (Some e.1) (client_in es q)) off)
-    on rest false is = ap (λ (o : Option History). cond (is_at (nat_cmp q) e.0) (Some e.1) o) rest
-
-set_here : (n : ℕ) (es : List (ℕ × History)) (w h : History) → client_in es n ≡ Some h → client_in (set_value (is_at (nat_cmp n)) es w) n ≡ Some w
-set_here n [] w h found = absurd (let no : ◌≡◌ {A = Option History} None (Some h) = found in cc)
-set_here n (e ∷ es) w h found = on (set_here n es w h) (is_at (nat_cmp n) e.0) refl found
-  where
-    on : (client_in es n ≡ Some h → client_in (set_value (is_at (nat_cmp n)) es w) n ≡ Some w) → (b : Bool) → is_at (nat_cmp n) e.0 ≡ b → cond (is_at (nat_cmp n) e.0) (Some e.1) (client_in es n) ≡ Some h → client_in (cond b ((e.0, w) ∷ es) (e ∷ set_value (is_at (nat_cmp n)) es w)) n ≡ Some w
-    on rest true is at = ap (λ c. cond c (Some w) (client_in es n)) is
-    on rest false is at =
-        ap (λ c. cond c (Some e.1) (client_in (set_value (is_at (nat_cmp n)) es w) n)) is
-        ∙ rest (sym (ap (λ c. cond c (Some e.1) (client_in es n)) is) ∙ at)
-
--- what is true of each client before a call and after it
-called_if : (host : HostValue) (n : ℕ) (f : History → History) (P : ℕ → History → Type 0) → ((q : ℕ) (h : History) → P q h → P q (f h)) → (o : Option History) → client_of host n ≡ o
-    → ((q : ℕ) (h : History) → client_of host q ≡ Some h → P q h) → (q : ℕ) (h : History) → client_of (altered_if host n o f) q ≡ Some h → P q h
-called_if host n f P keeps None at each q h found = each q h found
-called_if host n f P keeps (Some x) at each q h found = on (q == n) refl
-  where
-    on : (b : Bool) → (q == n) ≡ b → P q h
-    on true is =
-        let same : q ≡ n = grind (arith, nat_tests, is) in
-        let here : client_of (with_client host n (f x)) n ≡ Some (f x) = set_here n host.clients (f x) x at in
-        let some : ◌≡◌ {A = Option History} (Some (f x)) (Some h) = sym here ∙ ap (client_of (with_client host n (f x))) (sym same) ∙ found in
-        let eq : f x ≡ h = cc in
-        subst (P q) eq (keeps q x (each q x (ap (client_of host) same ∙ at)))
-    on false is = each q h (sym (set_other n q is host.clients (f x)) ∙ found)
-
-called : (host : HostValue) (n : ℕ) (f : History → History) (P : ℕ → History → Type 0) → ((q : ℕ) (h : History) → P q h → P q (f h))
-    → ((q : ℕ) (h : History) → client_of host q ≡ Some h → P q h) → (q : ℕ) (h : History) → client_of (altered host n f) q ≡ Some h → P q h
-called host n f P keeps each = called_if host n f P keeps (client_of host n) refl each
-
-none_called : (host : HostValue) (n : ℕ) (f : History → History) (q : ℕ) → (o : Option History) → client_of host n ≡ o → client_of host q ≡ None → client_of (altered_if host n o f) q ≡ None
-none_called host n f q None at gone = gone
-none_called host n f q (Some x) at gone = on (q == n) refl
-  where
-    on : (b : Bool) → (q == n) ≡ b → client_of (with_client host n (f x)) q ≡ None
-    on true is =
-        let same : q ≡ n = grind (arith, nat_tests, is) in
-        absurd (let no : ◌≡◌ {A = Option History} (Some x) None = sym at ∙ ap (client_of host) (sym same) ∙ gone in cc)
-    on false is = set_other n q is host.clients (f x) ∙ gone
-
-admitted_called : (host : HostValue) (n : ℕ) (f : History → History) (o : Option History) → (altered_if host n o f).admitted ≡ host.admitted
-admitted_called host n f None = refl
-admitted_called host n f (Some x) = refl
-
-call_taken : (call : Call) (h : History) → (after_call call h).taken ≡ h.taken
-call_taken (Feeds bytes) h = refl
-call_taken Releases h = refl
-call_taken (Closes source) h = refl
-call_taken (Sends count) h = refl
-call_taken Cuts h = refl
-
-call_answers : (call : Call) (h : History) → (after_call call h).answers ≡ h.answers
-call_answers (Feeds bytes) h = refl
-call_answers Releases h = refl
-call_answers (Closes source) h = refl
-call_answers (Sends count) h = refl
-call_answers Cuts h = refl
-
-call_guard : (call : Call) (h : History) → (after_call call h).guard ≡ h.guard
-call_guard (Feeds bytes) h = refl
-call_guard Releases h = refl
-call_guard (Closes source) h = refl
-call_guard (Sends count) h = refl
-call_guard Cuts h = refl
-
-tells_call : (turns : List Turn) (call : Call) (h : History) → TellsOwn turns h → TellsOwn turns (after_call call h)
-tells_call turns call h t = record {
-  asked = ap (map asked_by) (call_taken call h) ∙ t.asked;
-  told = subst (AreQueued (map (λ (t : Turn). t.reply) turns)) (sym (call_answers call h)) t.told;
-  shown = subst₂ (λ (g : Option Guard) (fs : List FrameValue). IsShown g fs) (sym (call_guard call h)) (sym (call_taken call h)) t.shown;
-}
-
 -- ---- what holds from round to round
 
 pub record SoFar {C : Type 0} (f : C → State) (old : HostMoment C) (turns : List (ℕ × Turn)) (side : HostMoment C) : Type 0 where
   pub serves : Serves (turns_of turns) old.site side.site (f old.conn) (f side.conn)
   pub tells : (n : ℕ) (h : History) → client_of side.host n ≡ Some h → TellsOwn (own n turns) h
   pub given : (n : ℕ) (h : History) → client_of side.host n ≡ Some h → n < side.host.admitted
-  pub later : (n : ℕ) → side.host.admitted ≤ n → own n turns ≡ []
+  pub below : side.host.admitted ≤ first_at_hand
+  pub later : (n : ℕ) → n < first_at_hand → side.host.admitted ≤ n → own n turns ≡ []
+  at_hand : (n : ℕ) → first_at_hand ≤ n → MoreAtHand (own n turns) n old.hand side.hand
 
 no_client : (n : ℕ) (h : History) → client_of new_host n ≡ Some h → ⊥
 no_client n h found = let no : ◌≡◌ {A = Option History} None (Some h) = found in cc
@@ -128,7 +44,9 @@ begins f side empty = record {
   serves = serves_none side.site (f side.conn);
   tells = λ n h found. absurd (no_client n h (ap (λ host. client_of host n) (sym empty) ∙ found));
   given = λ n h found. absurd (no_client n h (ap (λ host. client_of host n) (sym empty) ∙ found));
-  later = λ n above. refl;
+  below = subst (λ (host : HostValue). host.admitted ≤ first_at_hand) (sym empty) (omega (arith));
+  later = λ n below above. refl;
+  at_hand = λ n above. none_more n side.hand;
 }
 
 tells_new : (guard : Option Guard) → TellsOwn [] (new_history guard)
@@ -143,7 +61,9 @@ came f old turns side n host guard one s = record {
   serves = s.serves;
   tells = λ q h found. on q h (q == n) refl (sym (one.clients q) ∙ found);
   given = λ q h found. given q h (q == n) refl (sym (one.clients q) ∙ found);
-  later = λ q above. let next = one.next in s.later q (omega (arith, above, next));
+  below = let next = one.next in let number = one.number in let below = one.below in omega (arith, next, number, below);
+  later = λ q below above. let next = one.next in s.later q below (omega (arith, above, next));
+  at_hand = s.at_hand;
 }
   where
     on : (q : ℕ) (h : History) (b : Bool) → (q == n) ≡ b → cond (q == n) (Some (new_history guard)) (client_of side.host q) ≡ Some h → TellsOwn (own q turns) h
@@ -152,7 +72,8 @@ came f old turns side n host guard one s = record {
         let eq : new_history guard ≡ h = cc in
         let number = one.number in
         let same : q ≡ n = grind (arith, nat_tests, is) in
-        tells_none guard (own q turns) h (s.later q (omega (arith, number, same))) (sym eq)
+        let below : q < first_at_hand = subst (λ m. m < first_at_hand) (sym same) one.below in
+        tells_none guard (own q turns) h (s.later q below (omega (arith, number, same))) (sym eq)
     on q h false is found = s.tells q h (sym (ap (λ b. cond b (Some (new_history guard)) (client_of side.host q)) is) ∙ found)
 
     given : (q : ℕ) (h : History) (b : Bool) → (q == n) ≡ b → cond (q == n) (Some (new_history guard)) (client_of side.host q) ≡ Some h → q < host.admitted
@@ -175,7 +96,9 @@ left f old turns side n host one s = record {
   serves = s.serves;
   tells = λ q h found. s.tells q h (stayed (q == n) (client_of side.host q) h (sym (one.clients q) ∙ found));
   given = λ q h found. subst (λ a. q < a) (sym one.admitted) (s.given q h (stayed (q == n) (client_of side.host q) h (sym (one.clients q) ∙ found)));
-  later = λ q above. s.later q (subst (λ a. a ≤ q) one.admitted above);
+  below = subst (λ a. a ≤ first_at_hand) (sym one.admitted) s.below;
+  later = λ q below above. s.later q below (subst (λ a. a ≤ q) one.admitted above);
+  at_hand = s.at_hand;
 }
 
 was_called : {C : Type 0} (f : C → State) → (old : HostMoment C) (turns : List (ℕ × Turn)) (side : HostMoment C) (n : ℕ) (call : Call) → SoFar f old turns side → SoFar f old turns (record side { host = altered side.host n (after_call call) })
@@ -185,8 +108,21 @@ was_called f old turns side n call s =
       serves = s.serves;
       tells = called side.host n (after_call call) (λ q h. TellsOwn (own q turns) h) (λ q h t. tells_call (own q turns) call h t) s.tells;
       given = λ q h found. subst (λ a. q < a) (sym same) (called side.host n (after_call call) (λ q h. q < side.host.admitted) (λ q h below. below) s.given q h found);
-      later = λ q above. s.later q (subst (λ a. a ≤ q) same above);
+      below = subst (λ a. a ≤ first_at_hand) (sym same) s.below;
+      later = λ q below above. s.later q below (subst (λ a. a ≤ q) same above);
+      at_hand = s.at_hand;
     }
+
+was_handed : {C : Type 0} (f : C → State) → (old : HostMoment C) (turns : List (ℕ × Turn)) (side : HostMoment C) (hand : AtHandValue) → StepsAtHand side.hand hand → SoFar f old turns side → SoFar f old turns (record side { hand = hand })
+was_handed f old turns side hand steps s = record {
+  serves = s.serves;
+  tells = s.tells;
+  given = s.given;
+  below = s.below;
+  later = s.later;
+  at_hand = λ n above.
+      subst (λ l. MoreAtHand l n old.hand hand) (append-nil (own n turns)) (more_on (own n turns) [] n old.hand side.hand hand (s.at_hand n above) (more_stepped n side.hand hand steps));
+}
 
 tells_on : (first second : List Turn) (h k : History) → TellsOwn first h → ClientCourse second h k → TellsOwn (first ++ second) k
 tells_on first second h k t c = record {
@@ -211,15 +147,20 @@ answered f old turns side ready more new r s = record {
   given = λ n k found.
       let h = was (client_of side.host n) k (ClientCourse (own n more)) (subst (λ o. BothClients (client_of side.host n) o (ClientCourse (own n more))) found (r.clients n)) in
       subst (λ a. n < a) (sym r.admitted) (s.given n h.0 h.1);
-  later = λ n above.
+  below = subst (λ a. a ≤ first_at_hand) (sym r.admitted) s.below;
+  later = λ n below above.
       let before : side.host.admitted ≤ n = subst (λ a. a ≤ n) r.admitted above in
-      own-append n turns more ∙ ap₂ (λ a b. a ++ b) (s.later n before) (r.spares.none n (none_given (client_of side.host n) n side.host.admitted before (s.given n)));
+      own-append n turns more ∙ ap₂ (λ a b. a ++ b) (s.later n below before) (r.spares.none n below (none_given (client_of side.host n) n side.host.admitted before (s.given n)));
+  at_hand = λ n above.
+      subst (λ l. MoreAtHand l n old.hand new.hand) (sym (own-append n turns more))
+      (more_on (own n turns) (own n more) n old.hand side.hand new.hand (s.at_hand n above) (more_answered more n side.hand new.hand above r.at_hand));
 }
 
 one_more : {C : Type 0} (f : C → State) → (old : HostMoment C) (turns : List (ℕ × Turn)) (side : HostMoment C) (x : Happening C) → May f side x → SoFar f old turns side → SoFar f old (turns ++ happened_turns x) (after_one side x)
 one_more f old turns side (Comes n host) may s = subst (λ l. SoFar f old l (record side { host = host })) (sym (append-nil turns)) (came f old turns side n host may.0 may.1 s)
 one_more f old turns side (Goes n host) may s = subst (λ l. SoFar f old l (record side { host = host })) (sym (append-nil turns)) (left f old turns side n host may s)
 one_more f old turns side (Calls n call) may s = subst (λ l. SoFar f old l (record side { host = altered side.host n (after_call call) })) (sym (append-nil turns)) (was_called f old turns side n call s)
+one_more f old turns side (Hands hand) may s = subst (λ l. SoFar f old l (record side { hand = hand })) (sym (append-nil turns)) (was_handed f old turns side hand may s)
 one_more f old turns side (Rounds ready more new) may s = answered f old turns side ready more new may s
 
 pub goes_on : {C : Type 0} (f : C → State) → (old : HostMoment C) (turns : List (ℕ × Turn)) (side : HostMoment C) (xs : List (Happening C)) → Runs f side xs → SoFar f old turns side → SoFar f old (turns ++ turns_in xs) (after_run side xs)
@@ -231,13 +172,20 @@ goes_on f old turns side (x ∷ xs) runs s =
 pub so_far : {C : Type 0} (f : C → State) → (side : HostMoment C) (xs : List (Happening C)) → side.host ≡ new_host → Runs f side xs → SoFar f side (turns_in xs) (after_run side xs)
 so_far f side xs empty runs = goes_on f side [] side xs runs (begins f side empty)
 
-pub one_list : {C : Type 0} (f : C → State) → (side : HostMoment C) (xs : List (Happening C)) → side.host ≡ new_host → Runs f side xs → OneList (turns_in xs) (side_at f side) (side_at f (after_run side xs))
-one_list f side xs empty runs = let s = so_far f side xs empty runs in record { serves = s.serves; clients = s.tells }
+pub one_list : {C : Type 0} (f : C → State) → (side : HostMoment C) (xs : List (Happening C)) → side.host ≡ new_host → side.hand ≡ none_at_hand → Runs f side xs → OneList (turns_in xs) (side_at f side) (side_at f (after_run side xs))
+one_list f side xs empty none runs =
+    let s = so_far f side xs empty runs in
+    record {
+      serves = s.serves;
+      clients = s.tells;
+      at_hand = λ n above. tells_at_hand (own n (turns_in xs)) n side.hand (after_run side xs).hand none (s.at_hand n above);
+    }
 
 -- ---- a client that went
 
--- no client has this number, which no other gets
+-- no client has this number, which no other gets, and it is of none at hand
 record IsGone (n : ℕ) (host : HostValue) : Type 0 where
+  below : n < first_at_hand
   given : n < host.admitted
   none : client_of host n ≡ None
 
@@ -247,9 +195,9 @@ gone_on f n side (Comes m host) (guard, one) gone =
     let next = one.next in
     let given = gone.given in
     let apart : (n == m) ≡ false = grind (arith, nat_tests, number, given) in
-    (refl, record { given = omega (arith, next, given); none = one.clients n ∙ ap (λ b. cond b (Some (new_history guard)) (client_of side.host n)) apart ∙ gone.none })
+    (refl, record { below = gone.below; given = omega (arith, next, given); none = one.clients n ∙ ap (λ b. cond b (Some (new_history guard)) (client_of side.host n)) apart ∙ gone.none })
 gone_on f n side (Goes m host) may gone =
-    (refl, record { given = subst (λ a. n < a) (sym may.admitted) gone.given; none = may.clients n ∙ ap (λ o. cond (n == m) None o) gone.none ∙ either (n == m) })
+    (refl, record { below = gone.below; given = subst (λ a. n < a) (sym may.admitted) gone.given; none = may.clients n ∙ ap (λ o. cond (n == m) None o) gone.none ∙ either (n == m) })
   where
     either : (b : Bool) → ◌≡◌ {A = Option History} (cond b None None) None
     either true = refl
@@ -257,13 +205,16 @@ gone_on f n side (Goes m host) may gone =
 gone_on f n side (Calls m call) may gone = (
   refl,
   record {
+    below = gone.below;
     given = subst (λ a. n < a) (sym (admitted_called side.host m (after_call call) (client_of side.host m))) gone.given;
     none = none_called side.host m (after_call call) n (client_of side.host m) refl gone.none;
   },
 )
+gone_on f n side (Hands hand) may gone = (refl, gone)
 gone_on f n side (Rounds ready more new) may gone = (
-  may.spares.none n gone.none,
+  may.spares.none n gone.below gone.none,
   record {
+    below = gone.below;
     given = subst (λ a. n < a) (sym may.admitted) gone.given;
     none = both_gone (client_of side.host n) (client_of new.host n) (may.clients n) gone.none;
   },
@@ -291,7 +242,9 @@ tells_gone f side before after n host h empty first second found =
     let mid = after_run side before in
     let one : ClientLeaves mid.host n host = second.0 in
     let here : (n == n) ≡ true = grind (arith, nat_tests) in
-    let gone : IsGone n host = record { given = subst (λ a. n < a) (sym one.admitted) (s.given n h found); none = one.clients n ∙ ap (λ b. cond b None (client_of mid.host n)) here } in
+    let given : n < mid.host.admitted = s.given n h found in
+    let below : n < first_at_hand = let most = s.below in omega (arith, given, most) in
+    let gone : IsGone n host = record { below = below; given = subst (λ a. n < a) (sym one.admitted) given; none = one.clients n ∙ ap (λ b. cond b None (client_of mid.host n)) here } in
     let nothing : own n (turns_in after) ≡ [] = gone_for_good f n (record mid { host = host }) after second.1 gone in
     let all : own n (turns_in (before ++ Goes n host ∷ after)) ≡ own n (turns_in before) =
     ap (own n) (turns-append before (Goes n host ∷ after)) ∙ own-append n (turns_in before) (turns_in after) ∙ ap (λ l. own n (turns_in before) ++ l) nothing ∙ append-nil (own n (turns_in before)) in

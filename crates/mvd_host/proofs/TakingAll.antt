@@ -10,24 +10,29 @@ use Rattle.mvd_wire.specs.Frames.{FrameValue}
 use Rattle.mvd_conn.specs.History.{History}
 use Rattle.mvd_host.specs.Hosts.{IfClient, client_in}
 use Rattle.mvd_host.specs.Course.{BothClients, own}
-use Rattle.mvd_host.specs.Taking.{AreFaults, ExtendsTaken, HasTakenFrame, HoldsTaken, IsFair, HasNoNext, IsMore, IsNothingTaken, TakesAllFrames, TakesMore, TakesOf, TakesOn, TakesOnly}
+use Rattle.mvd_host.specs.Taking.{AreApart, AreFaults, ExtendsTaken, HasTakenFrame, HoldsTaken, IsFair, HasNoNext, IsMore, IsNothingTaken, TakesAllFrames, TakesMore, TakesOf, TakesOn, TakesOnly}
 use Rattle.mvd_host.specs.declared.taking.Taken.{Taken}
 use Rattle.mvd_host.proofs.Frames.{none_moved, same, takes_on, then_none}
 use Rattle.mvd_host.proofs.Holding.{holds_same}
 use Rattle.mvd_host.proofs.Hosts.{at_is}
 use Rattle.std.proofs.lemmas.List.{length-append, length-map}
 use Rattle.mvd_host.proofs.ToldLemmas.{no_first, no_second}
-use Rattle.mvd_host.proofs.Own.{both_on, both_self, own-append, own-other, own-same}
+use Rattle.mvd_host.proofs.Own.{both_none, both_on, both_self, own-append, own-other, own-same}
 
 same_there : (n m : ℕ) → (n == m) ≡ true → m ≡ n
 same_there n m is = grind (arith, nat_tests)
 
-pub takes_nothing : (clients : List (ℕ × History)) (taken : Taken) → HoldsTaken [] [] taken → TakesAllFrames clients clients taken
-takes_nothing clients taken holds = record {
-  requests = [];
+own_apart : (o : Option History) (rs : List Request) → ((h : History) → o ≡ Some h → rs ≡ []) → BothClients o o (TakesOn rs [])
+own_apart None rs none = tt
+own_apart (Some h) rs none = subst (λ l. TakesOn l [] h h) (sym (none h refl)) (same h h (record { taken = refl; answers = refl; moved = none_moved h }))
+
+-- what is held before is of none of the clients
+pub takes_nothing : (asks : List (ℕ × Request)) (clients : List (ℕ × History)) (taken : Taken) → HoldsTaken asks [] taken → AreApart asks clients → TakesAllFrames clients clients taken
+takes_nothing asks clients taken holds apart = record {
+  requests = asks;
   faulty = [];
   holds = holds;
-  takes = λ n. both_self (client_in clients n) (TakesOn [] []) (λ x. same x x (record { taken = refl; answers = refl; moved = none_moved x }));
+  takes = λ n. own_apart (client_in clients n) (own n asks) (apart n);
 }
 
 module _ (client : ℕ) (old mid new : List (ℕ × History)) (before after : Taken) (all : TakesAllFrames old mid before) (one : TakesOf client mid new before after) where
@@ -77,26 +82,21 @@ module _ (client : ℕ) (old mid new : List (ℕ × History)) (before after : Ta
   }
 
   -- of a client that is not this one, no more was taken
-  apart_too : (n : ℕ) → (n == client) ≡ false → (own n all.requests ≡ []) × (own n all.faulty ≡ []) → (own n (all.requests ++ more_requests) ≡ []) × (own n (all.faulty ++ more_faulty) ≡ [])
+  apart_too : (n : ℕ) (kept : List Request) → (n == client) ≡ false → (own n all.requests ≡ kept) × (own n all.faulty ≡ []) → (own n (all.requests ++ more_requests) ≡ kept) × (own n (all.faulty ++ more_faulty) ≡ [])
   unfolding more_requests more_faulty
-  apart_too n apart none = (
-    own-append n all.requests more_requests ∙ ap₂ (λ a b. a ++ b) none.0 (own-other client n one.requests apart),
+  apart_too n kept apart none = (
+    own-append n all.requests more_requests ∙ ap₂ (λ a b. a ++ b) none.0 (own-other client n one.requests apart) ∙ append-nil kept,
     own-append n all.faulty more_faulty ∙ ap₂ (λ a b. a ++ b) none.1 (own-other client n one.faulty apart),
   )
 
-  none_too : (n : ℕ) (b : Bool) → (n == client) ≡ b → client_in mid n ≡ None → (own n all.requests ≡ []) × (own n all.faulty ≡ []) → (own n (all.requests ++ more_requests) ≡ []) × (own n (all.faulty ++ more_faulty) ≡ [])
+  none_too : (n : ℕ) (kept : List Request) (b : Bool) → (n == client) ≡ b → client_in mid n ≡ None → (own n all.requests ≡ kept) × (own n all.faulty ≡ []) → (own n (all.requests ++ more_requests) ≡ kept) × (own n (all.faulty ++ more_faulty) ≡ [])
   unfolding more_requests more_faulty
-  none_too n false is gone none = apart_too n is none
-  none_too n true is gone none =
+  none_too n kept false is gone none = apart_too n kept is none
+  none_too n kept true is gone none =
       let nothing = one.none (ap (client_in mid) (same_there n client is) ∙ gone) in (
-        own-append n all.requests more_requests ∙ ap₂ (λ a b. a ++ b) none.0 (ap (λ (l : List Request). own n (map {B = ℕ × Request} (λ r. (client, r)) l)) nothing.0),
+        own-append n all.requests more_requests ∙ ap₂ (λ a b. a ++ b) none.0 (ap (λ (l : List Request). own n (map {B = ℕ × Request} (λ r. (client, r)) l)) nothing.0) ∙ append-nil kept,
         own-append n all.faulty more_faulty ∙ ap₂ (λ a b. a ++ b) none.1 (ap (λ (l : List FrameValue). own n (map {B = ℕ × FrameValue} (λ f. (client, f)) l)) nothing.1),
       )
-
-gone_too : (a b : Option History) (rs : List Request) (fs : List FrameValue) → BothClients a b (TakesOn rs fs) → a ≡ None → b ≡ None
-gone_too None None rs fs both gone = refl
-gone_too None (Some y) rs fs both gone = absurd both
-gone_too (Some x) b rs fs both gone = absurd (let no : ◌≡◌ {A = Option History} (Some x) None = gone in cc)
 
 apart_is : (n m : ℕ) → m ≢ n → (n == m) ≡ false
 apart_is n m other = by_eq (n == m) refl
@@ -105,24 +105,24 @@ apart_is n m other = by_eq (n == m) refl
     by_eq true is = absurd (other (same_there n m is))
     by_eq false is = is
 
-pub only_nothing : (ready : List ℕ) (clients : List (ℕ × History)) (taken : Taken) → HoldsTaken [] [] taken → TakesOnly ready 0 clients clients taken
+pub only_nothing : (asks : List (ℕ × Request)) (ready : List ℕ) (clients : List (ℕ × History)) (taken : Taken) → HoldsTaken asks [] taken → AreApart asks clients → TakesOnly asks ready 0 clients clients taken
 unfolding takes_nothing
-only_nothing ready clients taken holds = record { all = takes_nothing clients taken holds; none = λ n _. (refl, refl); only = λ n _. (refl, refl); same = λ n _. refl }
+only_nothing asks ready clients taken holds apart = record { all = takes_nothing asks clients taken holds apart; none = λ n _. (refl, refl); only = λ n _. (refl, refl); same = λ n _. refl }
 
-abbrev only_at : (ready : List ℕ) (at : ℕ) (old mid new : List (ℕ × History)) (before after : Taken) → TakesOnly ready at old mid before → TakesOf (slice_index ready at) mid new before after → TakesOnly ready (at + 1) old new after
+abbrev only_at : (asks : List (ℕ × Request)) (ready : List ℕ) (at : ℕ) (old mid new : List (ℕ × History)) (before after : Taken) → TakesOnly asks ready at old mid before → TakesOf (slice_index ready at) mid new before after → TakesOnly asks ready (at + 1) old new after
 unfolding takes_of
-only_at ready at old mid new before after so_far one =
+only_at asks ready at old mid new before after so_far one =
     let client = slice_index ready at in
     record {
       all = takes_of client old mid new before after so_far.all one;
-      none = λ n gone. none_too client old mid new before after so_far.all one n (n == client) refl
-          (gone_too (client_in old n) (client_in mid n) (own n so_far.all.requests) (own n so_far.all.faulty) (so_far.all.takes n) gone) (so_far.none n gone);
-      only = λ n out. apart_too client old mid new before after so_far.all one n (apart_is n client (out at (omega arith))) (so_far.only n (λ i below. out i (omega (arith, below))));
+      none = λ n gone. none_too client old mid new before after so_far.all one n (own n asks) (n == client) refl
+          (both_none (client_in old n) (client_in mid n) (TakesOn (own n so_far.all.requests) (own n so_far.all.faulty)) gone (so_far.all.takes n)) (so_far.none n gone);
+      only = λ n out. apart_too client old mid new before after so_far.all one n (own n asks) (apart_is n client (out at (omega arith))) (so_far.only n (λ i below. out i (omega (arith, below))));
       same = λ n out. one.others n (apart_is n client (out at (omega arith))) ∙ so_far.same n (λ i below. out i (omega (arith, below)));
     }
 
-pub only_of : (ready : List ℕ) (at : ℕ) (old mid new : List (ℕ × History)) (before after : Taken) → TakesOnly ready at old mid before → TakesOf (slice_index ready at) mid new before after → TakesOnly ready (at + 1) old new after
-only_of ready at old mid new before after so_far one = only_at ready at old mid new before after so_far one
+pub only_of : (asks : List (ℕ × Request)) (ready : List ℕ) (at : ℕ) (old mid new : List (ℕ × History)) (before after : Taken) → TakesOnly asks ready at old mid before → TakesOf (slice_index ready at) mid new before after → TakesOnly asks ready (at + 1) old new after
+only_of asks ready at old mid new before after so_far one = only_at asks ready at old mid new before after so_far one
 
 -- ---- one of the clients
 
@@ -235,11 +235,11 @@ own_any client (f ∷ fs) (e ∷ es) all any none = by_bool (own_any client fs e
         let apart : (e.0 == client) ≡ false = subst (λ n. (n == client) ≡ false) (sym all.0) is in
         rest (sym (ap (λ b. b || list_any (λ (x : ℕ × Refusal). x.0 == client) es) apart) ∙ any) later
 
-pub fair_of : (ready : List ℕ) (at : ℕ) (old mid new : List (ℕ × History)) (before after : Taken) (so_far : TakesOnly ready at old mid before) (one : TakesOf (slice_index ready at) mid new before after)
+pub fair_of : (asks : List (ℕ × Request)) (ready : List ℕ) (at : ℕ) (old mid new : List (ℕ × History)) (before after : Taken) (so_far : TakesOnly asks ready at old mid before) (one : TakesOf (slice_index ready at) mid new before after)
     → (IsMore before after ⊎ ((list_any (λ (e : ℕ × Refusal). e.0 == slice_index ready at) before.faults.items ≡ true) ⊎ IfClient (client_in new (slice_index ready at)) HasNoNext))
-    → (t : TakesOnly ready (at + 1) old new after) × (IsFair ready at so_far.all.requests so_far.all.faulty mid → IsFair ready (at + 1) t.all.requests t.all.faulty new)
+    → (t : TakesOnly asks ready (at + 1) old new after) × (IsFair ready at so_far.all.requests so_far.all.faulty mid → IsFair ready (at + 1) t.all.requests t.all.faulty new)
 unfolding takes_of more_requests more_faulty
-fair_of ready at old mid new before after so_far one ends =
+fair_of asks ready at old mid new before after so_far one ends =
     let client = slice_index ready at in
     let rs = so_far.all.requests in
     let fs = so_far.all.faulty in
@@ -258,7 +258,7 @@ fair_of ready at old mid new before after so_far one ends =
       | inr (inl any) ↦ inl (inr (λ none. own_any client fs before.faults.items so_far.all.holds.faults any (own_before client fs (map (λ f. (client, f)) one.faulty) none)))
       | inr (inr idle) ↦ inr idle
     ] in (
-      only_at ready at old mid new before after so_far one,
+      only_at asks ready at old mid new before after so_far one,
       λ fair i below. elim (i_cases i at below) [
         | inl same ↦ subst (λ j. HasTakenFrame (slice_index ready j) Rs Fs ⊎ IfClient (client_in new (slice_index ready j)) HasNoNext) (sym same) here
         | inr less ↦ still ready at mid new before after one rs fs here (slice_index ready i) (slice_index ready i == client) refl (fair i less)

@@ -5,6 +5,7 @@ use Rattle.std.specs.BTreeMap.{is_at}
 use Rattle.std.specs.Map.{lookup, set_value, remove_entry}
 use Rattle.mvd_conn.specs.History.{History, new_history}
 use Rattle.mvd_conn.specs.declared.guard.Guard.{Guard}
+use Rattle.mvd_host.specs.AtHand.{first_at_hand}
 
 -- each client's number with its connection, and the next client's number
 pub record HostValue : Type 0 where
@@ -14,10 +15,6 @@ pub record HostValue : Type 0 where
 -- the most clients at once
 abbrev pub clients_most : ℕ
 clients_most = 10000
-
--- the number that no client has
-abbrev pub admitted_most : ℕ
-admitted_most = 18446744073709551615
 
 abbrev pub new_host : HostValue
 new_host = record { clients = []; admitted = 0 }
@@ -58,12 +55,13 @@ without_client host n = record host { clients = remove_entry (is_at (nat_cmp n))
 pub record AdmitsOne (guard : Option Guard) (old new : HostValue) (n : ℕ) : Type 0 where
   pub number : n ≡ old.admitted
   pub next : new.admitted ≡ old.admitted + 1
+  pub below : n < first_at_hand
   pub few : length old.clients < clients_most
   pub more : length new.clients ≡ length old.clients + 1
   pub clients : (q : ℕ) → client_of new q ≡ (if q == n then Some (new_history guard) else client_of old q)
 
 abbrev pub Admits : Option Guard → HostValue → Option ℕ → HostValue → Type 0
-Admits guard old None new = (new ≡ old) × ((clients_most ≤ length old.clients) ⊎ (old.admitted ≡ admitted_most))
+Admits guard old None new = (new ≡ old) × ((clients_most ≤ length old.clients) ⊎ (old.admitted ≡ first_at_hand))
 Admits guard old (Some n) new = AdmitsOne guard old new n
 
 -- a client goes, if there is such a one, and the others stay
@@ -71,7 +69,9 @@ pub record ClientLeaves (old : HostValue) (n : ℕ) (new : HostValue) : Type 0 w
   pub clients : (q : ℕ) → client_of new q ≡ (if q == n then None else client_of old q)
   pub admitted : new.admitted ≡ old.admitted
 
--- The clients' numbers were given, and each frame that was taken of one was answered
+-- The clients' numbers were given, none of them is of a client at hand, and each frame that was taken of one was
+-- answered
 pub record AreKept (clients : List (ℕ × History)) (admitted : ℕ) : Type 0 where
   pub given : (n : ℕ) (h : History) → client_in clients n ≡ Some h → n < admitted
+  pub below : admitted ≤ first_at_hand
   pub answered : (n : ℕ) (h : History) → client_in clients n ≡ Some h → length h.answers ≡ length h.taken

@@ -1,3 +1,5 @@
+pub mod AtHand
+pub mod KeptAtHand
 pub mod Hosts
 pub mod Inside
 pub mod Course

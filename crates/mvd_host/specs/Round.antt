@@ -1,5 +1,5 @@
 -- One round: frames of many clients, as turns of one list.
-use Rattle.std.specs.Prelude.{◌≡◌, ◌≢◌, ◌⊎◌, ◌<◌, Bool, ℕ, List, [], ◌∷◌, ◌++◌, map, length, slice_index, None, Result, IfOk, OnOk, true, false}
+use Rattle.std.specs.Prelude.{◌≡◌, ◌≢◌, ◌⊎◌, ◌<◌, ◌≤◌, Bool, ℕ, List, [], ◌∷◌, ◌++◌, map, length, slice_index, None, Ok, Result, IfOk, OnOk, true, false}
 use Rattle.std.specs.List.{AllByRecursion}
 use Rattle.mvd_dots.specs.declared.refusals.Refusal.{Refusal}
 use Rattle.mvd_dots.specs.declared.refusals.Refusal.TheVariants.{Memory}
@@ -12,20 +12,22 @@ use Rattle.mvd_replica.specs.Turns.{TurnEvent, IsToldElse, Replies, StandsOn, Te
 use Rattle.mvd_replica.specs.Batch.{TakesFrom, TurnsFollow}
 use Rattle.mvd_replica.specs.Replicas.{StoredSite, site_of, store_of}
 use Rattle.mvd_replica.specs.declared.replica.Replica.{Replica}
+use Rattle.mvd_host.specs.AtHand.{AllMayWait, AtHandValue, first_at_hand}
 use Rattle.mvd_host.specs.Hosts.{HostValue, IfClient, client_of}
 use Rattle.mvd_host.specs.Taking.{HasNoNext}
 use Rattle.mvd_host.specs.Course.{AreQueued, BothClients, IsOut, NoneMoved, asked_by, own}
 use Rattle.sqlite.specs.State.{State}
 use Rattle.sqlite_trees.specs.declared.store.Store.{Ghosts}
 
--- a host, and the replica that answers its clients
+-- a host, the requests at hand, and the replica that answers both
 pub record Side : Type 1 where
   pub host : HostValue
+  pub hand : AtHandValue
   pub site : SiteValue
   pub store : State
 
-abbrev pub host_side : {S : Type 0} {g : Ghosts S} → HostValue → Replica S g → Side
-host_side host replica = record { host = host; site = site_of replica; store = store_of replica }
+abbrev pub host_side : {S : Type 0} {g : Ghosts S} → HostValue → AtHandValue → Replica S g → Side
+host_side host hand replica = record { host = host; hand = hand; site = site_of replica; store = store_of replica }
 
 -- its replica
 abbrev pub stored_in : Side → StoredSite
@@ -68,10 +70,10 @@ pub record ClientCourse (turns : List Turn) (old new : History) : Type 0 where
   pub moved : NoneMoved old new
   pub shown : IsShown old.guard old.taken → IsShown new.guard new.taken
 
--- A number that no client has, has no turn; nor has a client that is not ready, and that is as it was
+-- A number of a connection that no client has, has no turn; nor has a client that is not ready, and that is as it was
 pub record Spares (ready : List ℕ) (turns : List (ℕ × Turn)) (old new : HostValue) : Type 0 where
-  pub none : (n : ℕ) → client_of old n ≡ None → own n turns ≡ []
-  pub only : (n : ℕ) → IsOut n ready (length ready) → own n turns ≡ []
+  pub none : (n : ℕ) → n < first_at_hand → client_of old n ≡ None → own n turns ≡ []
+  pub only : (n : ℕ) → n < first_at_hand → IsOut n ready (length ready) → own n turns ≡ []
   pub same : (n : ℕ) → IsOut n ready (length ready) → client_of new n ≡ client_of old n
 
 -- What a round that was not refused memory gives: each client that is ready had a turn, or nothing comes next of it;
@@ -84,10 +86,22 @@ pub record GoesForward (result : Result Bool Refusal) (ready : List ℕ) (turns 
   pub idle : IfOk result (λ more. more ≡ false → (i : ℕ) → i < length ready →
       IfClient (client_of new (slice_index ready i)) HasNoNext)
 
--- The turns, in order, are served by the replica; each client's own are what its connection took, and was answered.
--- Only ready clients have turns, and no client is admitted
+-- ALL THAT WAITED at hand is asked in turns, which for each client are what it asked, in order; and it is told their
+-- replies. No earlier reply was left
+pub record AnswersAtHand (turns : List (ℕ × Turn)) (old new : AtHandValue) : Type 0 where
+  pub none : old.left ≡ []
+  pub may : AllMayWait old.waits
+  pub done : new.done ≡ old.done ++ old.waits
+  pub waits : new.waits ≡ []
+  pub taken : new.taken ≡ old.taken
+  pub asked : (n : ℕ) → first_at_hand ≤ n → map (λ t. t.asked) (own n turns) ≡ map (λ r. Ok r) (own n old.waits)
+  pub told : (n : ℕ) → first_at_hand ≤ n → own n new.left ≡ map (λ t. t.reply) (own n turns)
+
+-- The turns, in order, are served by the replica; each client's own are what its connection took, and was answered, or
+-- what it asked at hand, and is told. Only ready clients have turns, and those at hand, and no client is admitted
 pub record Round (ready : List ℕ) (turns : List (ℕ × Turn)) (old new : Side) : Type 0 where
   pub serves : Serves (turns_of turns) (stored_in old) (stored_in new)
   pub clients : (n : ℕ) → BothClients (client_of old.host n) (client_of new.host n) (ClientCourse (own n turns))
   pub spares : Spares ready turns old.host new.host
+  pub at_hand : AnswersAtHand turns old.hand new.hand
   pub admitted : new.host.admitted ≡ old.host.admitted

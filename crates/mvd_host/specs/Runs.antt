@@ -1,25 +1,27 @@
--- What happens to a host, one thing after the other: rounds, and what comes between them.
-use Rattle.std.specs.Prelude.{◌≡◌, ℕ, List, [], ◌∷◌, ◌++◌, map, Option, Some, None, Ok, ⊤}
+-- What happens to a host and to what is at hand, one thing after the other: rounds, and what comes between them.
+use Rattle.std.specs.Prelude.{◌≡◌, ◌≤◌, ℕ, List, [], ◌∷◌, ◌++◌, map, Option, Some, None, Ok, ⊤}
 use Rattle.mvd_conn.specs.declared.source.Source.{Source}
 use Rattle.mvd_conn.specs.Guard.{IsShown, IsTokenOf}
 use Rattle.mvd_conn.specs.declared.guard.Guard.{Guard}
 use Rattle.mvd_conn.specs.History.{History, closed, cut, fed, released, sent}
 use Rattle.mvd_site.specs.Sites.{SiteValue}
 use Rattle.mvd_replica.specs.Turns.{Turn}
+use Rattle.mvd_host.specs.AtHand.{AtHandValue, StepsAtHand, first_at_hand}
 use Rattle.mvd_host.specs.Hosts.{AdmitsOne, HostValue, ClientLeaves, altered, client_of}
 use Rattle.mvd_host.specs.Course.{AreQueued, asked_by, own}
 use Rattle.mvd_host.specs.Round.{Round, Serves, Side, stored_in, turns_of}
 use Rattle.mvd_wire.specs.declared.request.Request.TheVariants.{Hello}
 use Rattle.sqlite.specs.State.{State}
 
--- a host, and the replica that answers its clients, with its connection
+-- a host, the requests at hand, and the replica that answers both, with its connection
 pub record HostMoment (C : Type 0) : Type 0 where
   pub host : HostValue
+  pub hand : AtHandValue
   pub site : SiteValue
   pub conn : C
 
 abbrev pub side_at : {C : Type 0} → (C → State) → HostMoment C → Side
-side_at f m = record { host = m.host; site = m.site; store = f m.conn }
+side_at f m = record { host = m.host; hand = m.hand; site = m.site; store = f m.conn }
 
 -- What happens to one client's connection between rounds: bytes came, memory was refused for them, no more is read of
 -- it, bytes left, or its writer failed
@@ -37,12 +39,13 @@ after_call (Closes source) h = closed h source
 after_call (Sends count) h = sent h count
 after_call Cuts h = cut h
 
--- A client comes, or a client goes, with the host afterwards; a call on a client; a round of ready clients, with its
--- turns, and all afterwards
+-- A client comes, or a client goes, with the host afterwards; a call on a client; something is asked at hand, or a reply
+-- taken away; a round of ready clients, with its turns, and all afterwards
 pub data Happening (C : Type 0) : Type 0 where
   Comes : ℕ → HostValue → Happening C
   Goes : ℕ → HostValue → Happening C
   Calls : ℕ → Call → Happening C
+  Hands : AtHandValue → Happening C
   Rounds : List ℕ → List (ℕ × Turn) → HostMoment C → Happening C
 
 -- what is there afterwards
@@ -50,6 +53,7 @@ abbrev pub after_one : {C : Type 0} → HostMoment C → Happening C → HostMom
 after_one side (Comes n host) = record side { host = host }
 after_one side (Goes n host) = record side { host = host }
 after_one side (Calls n call) = record side { host = altered side.host n (after_call call) }
+after_one side (Hands hand) = record side { hand = hand }
 after_one side (Rounds ready turns new) = new
 
 -- a client comes and goes as the host lets it, and a round is one
@@ -57,12 +61,14 @@ abbrev pub May : {C : Type 0} → (C → State) → HostMoment C → Happening C
 May f side (Comes n host) = (guard : Option Guard) × AdmitsOne guard side.host host n
 May f side (Goes n host) = ClientLeaves side.host n host
 May f side (Calls n call) = ⊤
+May f side (Hands hand) = StepsAtHand side.hand hand
 May f side (Rounds ready turns new) = Round ready turns (side_at f side) (side_at f new)
 
 abbrev pub happened_turns : {C : Type 0} → Happening C → List (ℕ × Turn)
 happened_turns (Comes n host) = []
 happened_turns (Goes n host) = []
 happened_turns (Calls n call) = []
+happened_turns (Hands hand) = []
 happened_turns (Rounds ready turns new) = turns
 
 -- the turns of all rounds, in order
@@ -93,7 +99,14 @@ HasShown (Some guard) [] = ⊤
 HasShown (Some guard) (first ∷ turns) =
     (token : List ℕ) × (first.asked ≡ Ok (Hello token)) × IsTokenOf guard token
 
+-- What a client at hand asked in rounds are these turns, in order, and what it was told, or what is left to tell it, are
+-- their replies
+pub record TellsAtHand (turns : List Turn) (n : ℕ) (hand : AtHandValue) : Type 0 where
+  pub asked : map (λ r. Ok r) (own n hand.done) ≡ map (λ t. t.asked) turns
+  pub told : own n hand.taken ++ own n hand.left ≡ map (λ t. t.reply) turns
+
 -- The turns of the list are those of one replica, and what each client asked and was told are its own turns
 pub record OneList (turns : List (ℕ × Turn)) (old new : Side) : Type 0 where
   pub serves : Serves (turns_of turns) (stored_in old) (stored_in new)
   pub clients : (n : ℕ) (h : History) → client_of new.host n ≡ Some h → TellsOwn (own n turns) h
+  pub at_hand : (n : ℕ) → first_at_hand ≤ n → TellsAtHand (own n turns) n new.hand

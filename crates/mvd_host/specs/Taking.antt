@@ -1,5 +1,5 @@
 -- The frames that are taken in one round.
-use Rattle.std.specs.Prelude.{◌≡◌, ◌≢◌, ◌==◌, Bool, slice_index, ℕ, ◌+◌, ◌≤◌, ◌<◌, ◌⊎◌, List, [], ◌∷◌, ◌++◌, map, length, Ok, Err, None, ⊤, false, vec_len, vec_capacity}
+use Rattle.std.specs.Prelude.{◌≡◌, ◌≢◌, ◌==◌, Bool, slice_index, ℕ, ◌+◌, ◌≤◌, ◌<◌, ◌⊎◌, List, [], ◌∷◌, ◌++◌, map, length, Ok, Err, None, ⊤, Some, false, vec_len, vec_capacity, zip}
 use Rattle.mvd_dots.specs.declared.refusals.Refusal.{Refusal}
 use Rattle.mvd_dots.specs.Answer.{IsAnswer}
 use Rattle.mvd_wire.specs.declared.request.Request.{Request}
@@ -96,12 +96,21 @@ pub record TakesAllFrames (old new : List (ℕ × History)) (taken : Taken) : Ty
   pub holds : HoldsTaken requests faulty taken
   pub takes : TakesFrames requests faulty old new
 
--- and of the first of these clients alone: where there is no such client, or it is not looked at, no frame of it was
--- taken
-pub record TakesOnly (ready : List ℕ) (count : ℕ) (old new : List (ℕ × History)) (taken : Taken) : Type 0 where
+-- what was held before is of none of the clients
+abbrev pub AreApart : List (ℕ × Request) → List (ℕ × History) → Type 0
+AreApart asks clients = (n : ℕ) (h : History) → client_in clients n ≡ Some h → own n asks ≡ []
+
+-- what is held, as requests with their clients
+abbrev pub held_in : Taken → List (ℕ × Request)
+held_in taken = zip taken.clients.items taken.requests.items
+
+-- and of the first of these clients alone: where there is no such client, or it is not looked at, nothing of it was
+-- taken but what was held before
+pub record TakesOnly (asks : List (ℕ × Request)) (ready : List ℕ) (count : ℕ) (old new : List (ℕ × History))
+    (taken : Taken) : Type 0 where
   pub all : TakesAllFrames old new taken
-  pub none : (n : ℕ) → client_in old n ≡ None → (own n all.requests ≡ []) × (own n all.faulty ≡ [])
-  pub only : (n : ℕ) → IsOut n ready count → (own n all.requests ≡ []) × (own n all.faulty ≡ [])
+  pub none : (n : ℕ) → client_in old n ≡ None → (own n all.requests ≡ own n asks) × (own n all.faulty ≡ [])
+  pub only : (n : ℕ) → IsOut n ready count → (own n all.requests ≡ own n asks) × (own n all.faulty ≡ [])
   pub same : (n : ℕ) → IsOut n ready count → client_in new n ≡ client_in old n
 
 -- a frame of this client was taken
@@ -114,8 +123,9 @@ IsFair ready count requests faulty new = (i : ℕ) → i < count →
     HasTakenFrame (slice_index ready i) requests faulty ⊎ IfClient (client_in new (slice_index ready i)) HasNoNext
 
 -- the clients were gone over, and where memory was not refused to one, that was fair
-abbrev pub TakesFairly : Bool → List ℕ → ℕ → List (ℕ × History) → List (ℕ × History) → Taken → Type 0
-TakesFairly refused ready count old new taken = (t : TakesOnly ready count old new taken)
+abbrev pub TakesFairly : Bool → List (ℕ × Request) → List ℕ → ℕ → List (ℕ × History) → List (ℕ × History) → Taken
+    → Type 0
+TakesFairly refused asks ready count old new taken = (t : TakesOnly asks ready count old new taken)
     × (refused ≡ false → IsFair ready count t.all.requests t.all.faulty new)
 
 -- nothing was taken

@@ -6,6 +6,7 @@ ghost use Rattle.mvd_conn.specs.History.{WantsInput, closed, cut, ending_of, fed
 ghost use Rattle.mvd_conn.specs.Stands.{HistoryStands};
 ghost use Rattle.mvd_conn.specs.declared.source.Source.TheVariants as Source;
 
+use crate::at_hand::FIRST_AT_HAND;
 use mvd_conn::{Connection, Guard};
 use mvd_dots::Refusal;
 use mvd_wire::Ending;
@@ -65,7 +66,7 @@ impl Host {
         ensures ok { IfOk result (λ number. Admits guard self.old number self.new) }
         ensures err { IfErr result (λ e. (e ≡ Refusal.Memory) × (self.new ≡ self.old)) }
     {
-        if self.clients.len() >= CLIENTS_MAX || self.admitted == u64::MAX {
+        if self.clients.len() >= CLIENTS_MAX || self.admitted == FIRST_AT_HAND {
             return Ok(None);
         }
         let number = self.admitted;

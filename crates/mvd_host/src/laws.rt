@@ -2,6 +2,7 @@
 ghost use Rattle.std.specs.Prelude.{◌≡◌, ◌∷◌, ◌++◌, [], ℕ, List, Some};
 ghost use Rattle.mvd_conn.specs.History.{History, last_bytes};
 ghost use Rattle.mvd_conn.specs.Stands.{IsLast, HistoryStands};
+ghost use Rattle.mvd_host.specs.AtHand.{none_at_hand};
 ghost use Rattle.mvd_host.specs.Course.{own};
 ghost use Rattle.mvd_host.specs.Grown.{Grows};
 ghost use Rattle.mvd_host.specs.Hosts.{HostValue, client_of, new_host};
@@ -15,11 +16,11 @@ ghost use Rattle.sqlite.specs.Held.{Held, state};
 use sqlite::Alter;
 
 /// From a new host on, the turns of all rounds are those of one replica, one after the other. What each client asked
-/// and was told are its own turns of that list, in order. That holds whatever comes between the rounds, and of a
-/// client that went it holds as it was when it went.
+/// and was told, in frames or at hand, are its own turns of that list, in order. That holds whatever comes between the
+/// rounds, and of a client of frames that went it holds as it was when it went.
 pub fn rounds_are_one_list<S: Alter>()
-    ensures list { (start : HostMoment (Held S)) (all : List (Happening (Held S))) → start.host ≡ new_host →
-        Runs (state S.Store) start all →
+    ensures list { (start : HostMoment (Held S)) (all : List (Happening (Held S))) →
+        start.host ≡ new_host → start.hand ≡ none_at_hand → Runs (state S.Store) start all →
         OneList (turns_in all) (side_at (state S.Store) start) (side_at (state S.Store) (after_run start all)) }
     ensures gone { (start : HostMoment (Held S)) (before after : List (Happening (Held S)))
         (n : ℕ) (host : HostValue) (h : History) →

@@ -1,8 +1,9 @@
-//! Many connections at once, from one thread and without IO: the frames that are held are answered together, and each
-//! reply is queued on its own connection.
+//! Many connections at once, from one thread and without IO: the frames that are held and the requests at hand are
+//! answered together, and each reply is queued on its own connection, or left at hand.
 #![tactic(auto)]
 
 mod arranging;
+mod at_hand;
 mod feed;
 mod host;
 pub mod laws;
@@ -12,7 +13,7 @@ mod round;
 mod taking;
 mod tally;
 
+pub use at_hand::{AtHand, FIRST_AT_HAND};
 pub use feed::{Feed, TOLD_MAX};
 pub use host::{CLIENTS_MAX, Host};
-pub use round::RoundReplies;
 pub use tally::{KINDS, Tally};

@@ -1,9 +1,10 @@
 //! One round: the frames that are held are answered together.
-ghost use Rattle.std.specs.Prelude.{◌≡◌, ℕ, List, Err, IfErr, Ok, cond};
+ghost use Rattle.std.specs.Prelude.{◌≡◌, ℕ, [], List, Err, IfErr, Ok, cond};
 ghost use Rattle.mvd_replica.specs.Replicas.{site_of};
 ghost use Rattle.mvd_replica.specs.Turns.{Turn};
 ghost use Rattle.mvd_host.specs.Lists.{ListsOn};
 
+use crate::at_hand::{AtHand, Told};
 use crate::feed::Feed;
 use crate::host::Host;
 use crate::queueing::{queue_faults, queue_refused, queue_replies};
@@ -11,49 +12,33 @@ use crate::taking::Taken;
 use crate::tally::Tally;
 use mvd_dots::Refusal;
 use mvd_replica::Replica;
-use mvd_wire::Reply;
 use sqlite::Alter;
-use std::alloc::Global;
-
-/// The replies of a round, each with its client. Who uses one compares its frame with what waits.
-#[derive(Drop)]
-pub struct RoundReplies {
-    pub clients: Vec<u64>,
-    pub replies: Vec<Reply>,
-}
-
-impl RoundReplies {
-    pub fn new(alloc: Global) -> RoundReplies {
-        RoundReplies {
-            clients: Vec::new(alloc),
-            replies: Vec::new(alloc),
-        }
-    }
-}
 
 impl Host {
     ghost use Rattle.mvd_host.specs.Round.{GoesForward, Round, host_side};
 
-    /// Takes at most 1,024 frames of each ready client, answers them together, queues each reply on its own client's
-    /// connection, counts what was done and refused, and notes in the feed which keys may have changed. Gives whether
-    /// there may be more to do at once: after `false` no frame can be taken of a ready client now, and after `true`
-    /// some was. It is refused where memory was for a frame; what else was taken is answered. The replies to requests
-    /// are kept as values, too.
+    /// Takes all that waits at hand, and at most 1,024 frames of each ready client, answers them together, queues each
+    /// reply on its own client's connection or leaves it at hand, counts what was done and refused, and notes in the
+    /// feed which keys may have changed. Gives whether there may be more to do at once: after `false` no frame can be
+    /// taken of a ready client now, and after `true` something was taken. It is refused where memory was for a frame;
+    /// what else was taken is answered.
     pub fn round<S: Alter>(
         &mut self,
         replica: &mut Replica<S>,
         ready: &[u64],
+        at_hand: &mut AtHand,
         tally: &mut Tally,
         feed: &mut Feed,
-        kept: &mut RoundReplies,
     ) -> Result<bool, Refusal>
+        requires { at_hand.old.left ≡ [] }
         ensures round { (turns : List (ℕ × Turn)) × Round ready.now turns
-            (host_side self.old replica.old) (host_side self.new replica.new) ×
+            (host_side self.old at_hand.old replica.old) (host_side self.new at_hand.new replica.new) ×
             GoesForward result ready.now turns self.new }
         ensures memory { IfErr result (λ refusal. refusal ≡ Refusal.Memory) }
         ensures lists { ListsOn feed.old (site_of replica.old).states feed.new (site_of replica.new).states }
     {
-        let mut taken = Taken::new(self.alloc);
+        let (clients, requests) = at_hand.begin();
+        let mut taken = Taken::of(self.alloc, clients, requests);
         let refused = taken.take_all(self.alloc, &mut self.clients, ready);
         if taken.is_none() {
             return told(refused, false);
@@ -66,9 +51,12 @@ impl Host {
         match feed.answer(replica, requests, tally) {
             Ok(replies) => {
                 queue_replies(&mut self.clients, &clients, &replies);
-                *kept = RoundReplies { clients, replies };
+                at_hand.keep(clients, Told::Each(replies));
             }
-            Err(refusal) => queue_refused(&mut self.clients, &clients, refusal),
+            Err(refusal) => {
+                queue_refused(&mut self.clients, &clients, refusal);
+                at_hand.keep(clients, Told::All(refusal));
+            }
         }
         queue_faults(&mut self.clients, &faults);
         told(refused, true)

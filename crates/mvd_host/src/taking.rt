@@ -1,7 +1,7 @@
 //! The frames that are taken in one round.
 ghost use Rattle.std.specs.Prelude.{◌≡◌, ◌≢◌, ◌+◌, ◌≤◌, ◌<◌, ◌==◌, ◌⊎◌, ◌↔◌, List};
 ghost use Rattle.std.specs.Prelude.{ℕ, length, true, false, [], Some};
-ghost use Rattle.std.specs.Prelude.{IsTrue, OnErr, OnOk, IfOk, IfErr, vec_capacity, vec_len, slice_index};
+ghost use Rattle.std.specs.Prelude.{IsTrue, OnErr, OnOk, IfOk, IfErr, vec_capacity, vec_len, slice_index, zip};
 ghost use Rattle.std.specs.List.{Contains, list_any};
 ghost use Rattle.mvd_dots.specs.Answer.{IsAnswer};
 ghost use Rattle.mvd_wire.specs.declared.request.Request.{Request};
@@ -35,20 +35,23 @@ impl Taken {
     ghost use Rattle.mvd_host.specs.Course.{own};
     ghost use Rattle.mvd_host.specs.Hosts.{IfClient, client_in};
     ghost use Rattle.mvd_host.specs.Taking.{EndsTaking, ExtendsTaken, HasRoomToTake, HoldsTaken, HasNoNext, KeepsTaken, IsMore};
-    ghost use Rattle.mvd_host.specs.Taking.{IsNothingTaken};
+    ghost use Rattle.mvd_host.specs.Taking.{AreApart, IsNothingTaken, held_in};
     ghost use Rattle.mvd_host.specs.Taking.{TakesFrames, TakesFairly, TakesMore, TakesOf, TakesRequests};
 
-    pub(crate) fn new(alloc: Global) -> Taken
-        ensures { HoldsTaken [] [] result }
+    /// These requests, each with its client, and no frame.
+    pub(crate) fn of(alloc: Global, clients: Vec<u64>, requests: Vec<Request>) -> Taken
+        requires { length clients.items ≡ length requests.items }
+        ensures holds { HoldsTaken (held_in result) [] result }
+        ensures held { held_in result ≡ zip clients.items requests.items }
     {
         Taken {
-            clients: Vec::new(alloc),
-            requests: Vec::new(alloc),
+            clients,
+            requests,
             faults: Vec::new(alloc),
         }
     }
 
-    /// Whether no frame was taken.
+    /// Whether nothing was taken.
     pub(crate) fn is_none(&self) -> bool
         ensures { IsTrue result ↔ IsNothingTaken self.now }
     {
@@ -160,15 +163,16 @@ impl Taken {
         self.requests = requests;
     }
 
-    /// Takes frames of some clients, and arranges them. Whether memory was refused for one.
+    /// Takes frames of some clients, and arranges all that is held. Whether memory was refused for one.
     pub(crate) fn take_all(
         &mut self,
         alloc: Global,
         clients: &mut BTreeMap<u64, Connection>,
         ready: &[u64],
     ) -> bool
-        requires none { HoldsTaken [] [] self.old }
-        ensures took { TakesFairly result ready.now (length ready.now) clients.old.entries
+        requires holds { HoldsTaken (held_in self.old) [] self.old }
+        requires apart { AreApart (held_in self.old) clients.old.entries }
+        ensures took { TakesFairly result (held_in self.old) ready.now (length ready.now) clients.old.entries
             clients.new.entries self.new }
         ensures idle { result ≡ false → IsNothingTaken self.new → (i : ℕ) → i < length ready.now →
             IfClient (client_in clients.new.entries (slice_index ready.now i)) HasNoNext }
@@ -185,8 +189,9 @@ impl Taken {
         clients: &mut BTreeMap<u64, Connection>,
         ready: &[u64],
     ) -> bool
-        requires none { HoldsTaken [] [] self.old }
-        ensures took { TakesFairly result ready.now (length ready.now) clients.old.entries
+        requires holds { HoldsTaken (held_in self.old) [] self.old }
+        requires apart { AreApart (held_in self.old) clients.old.entries }
+        ensures took { TakesFairly result (held_in self.old) ready.now (length ready.now) clients.old.entries
             clients.new.entries self.new }
         ensures idle { result ≡ false → IsNothingTaken self.new → (i : ℕ) → i < length ready.now →
             IfClient (client_in clients.new.entries (slice_index ready.now i)) HasNoNext }

@@ -1,23 +1,23 @@
 -- Deeds, one after the other, and bytes carried between them.
-use Rattle.std.proofs.Common.{◌≡◌, ◌∙◌, ◌⊎◌, ◌∷◌, [], ℕ, Bool, true, false, true≢false, List, Option, None, Some, Result, is_some, inl, inr, refl, sym, subst, ap}
+use Rattle.std.proofs.Common.{◌≡◌, ◌∙◌, ◌⊎◌, ◌+◌, ℕ, Bool, true, false, true≢false, List, Option, None, Some, is_some, inl, inr, refl, sym, subst, ap}
 use Rattle.std.specs.Option.{IfSome}
 use Rattle.std.specs.BTreeMap.{insert_entry, is_at}
 use Rattle.std.specs.Map.{set_value}
 use Rattle.std.specs.Ordering.{nat_cmp}
 use Rattle.mvd_conn.specs.declared.source.Source.{Source}
 use Rattle.mvd_conn.specs.declared.source.Source.TheVariants as source
-use Rattle.mvd_conn.specs.History.{History, closed, cut, released, sent}
+use Rattle.mvd_conn.specs.History.{closed, cut, released}
 use Rattle.mvd_dots.specs.declared.refusals.Refusal.TheVariants.{Memory}
-use Rattle.mvd_host.specs.Hosts.{Admits, AdmitsOne, ClientLeaves, HostValue, IsClient, altered, client_of}
+use Rattle.mvd_host.specs.AtHand.{AtHandValue}
+use Rattle.mvd_host.specs.Hosts.{Admits, HostValue, altered}
 use Rattle.mvd_host.specs.Runs.{Call, Closes, Cuts, Feeds, Releases, Sends, after_call}
 use Rattle.mvd_dots.specs.declared.refusals.Refusal.{Refusal}
-use Rattle.mvd_server.specs.Errands.{Errand, Forgoes, IsBatchFor, RunsErrand, Stops, batch_in, desk}
-use Rattle.mvd_server.specs.Fronts.{IsFrontReply, TakesFront, TellsNext}
-use Rattle.mvd_server.specs.Handed.{HandsBatch, TakenFrom}
+use Rattle.mvd_server.specs.Batches.{HandsBatch}
+use Rattle.mvd_server.specs.Errands.{Errand, Forgoes, IsBatchFor, KeepsWrites, RunsErrand, Stops, Tells, TellsBatch, TellsMany, batch_in, desk}
 use Rattle.mvd_server.specs.HostBytes.{TakesBytes, sent_of}
 use Rattle.mvd_server.specs.OwnSides.{DismissesIf, DismissesOwn}
-use Rattle.mvd_server.specs.Responding.{RefusesWeb}
-use Rattle.mvd_server.specs.Talking.{Act, Attends, Begins, Calls, Comes, ComesBy, ComesByWeb, Deed, Deeds, DoesAct, GoesOwn, Hands, IsWriting, KeepsBatch, LacksMemory, MayBeginWrites, MayCall, OpensWeb, TalksDeeds, Talking, TurnsBack, is_own_client, talking_of, web_in, with_host, with_web}
+use Rattle.mvd_server.specs.Responding.{AnswersWeb, RefusesWeb}
+use Rattle.mvd_server.specs.Talking.{Act, Attends, Begins, Calls, Comes, ComesBy, ComesByWeb, Deed, Deeds, DoesAct, Drops, GoesOwn, Hands, IsWriting, KeepsBatch, LacksMemory, MayBeginWrites, MayCall, TakesReply, TalksDeeds, Talking, is_own_client, talking_of, web_in, with_host, with_web}
 use Rattle.mvd_server.specs.Wires.{Carries, GivesOut, TakesInput, Wired, WiredStep}
 use Rattle.mvd_server.specs.declared.batch.Batch.{Batch}
 use Rattle.mvd_server.specs.declared.talks.Kind.TheVariants.{Http}
@@ -27,7 +27,7 @@ use Rattle.mvd_server.proofs.Keyed.{found_at, set_here}
 use Rattle.mvd_server.proofs.Paths.{path_map, path_none, path_on, path_one, path_same}
 use Rattle.mvd_wire.specs.declared.reply.Reply.{Reply}
 use Rattle.mvd_web.specs.Inside.{web_of}
-use Rattle.mvd_web.specs.Web.{EndsInput, stopped_by}
+use Rattle.mvd_web.specs.Web.{EndsInput, IsNew, stopped_by}
 use Rattle.mvd_web.specs.declared.web_connection.WebConnection.{WebConnection}
 
 pub deeds_none : (t : Talking) → Deeds t t
@@ -63,24 +63,56 @@ pub deed_sends : (n count : ℕ) (old : Talking) (host : HostValue) → is_own_c
 deed_sends n count old host made is = deed_call n (Sends count) old host made is
 
 -- an errand for a client over HTTP
-pub deed_attends : (n : ℕ) (errand : Errand) (web web' : WebConnection) (old : Talking) (host : HostValue) (batches : List (ℕ × Batch)) (entries : List (ℕ × WebConnection)) → web_in old n ≡ Some web
-    → RunsErrand errand old.guard n (desk old.host (web_of web) old.batches) (desk host (web_of web') batches) → entries ≡ set_value (is_at (nat_cmp n)) old.webs web'
-    → Deeds old (record old { host = host; webs = entries; batches = batches })
-deed_attends n errand web web' old host batches entries has runs is =
-    subst (λ e. Deeds old (record old { host = host; webs = e; batches = batches })) (sym is)
-    (deeds_one (Attends n web web' errand) old (record (with_web old n web') { host = host; batches = batches }) (has, runs, refl))
+pub deed_attends : (n : ℕ) (errand : Errand) (web web' : WebConnection) (old : Talking) (hand : AtHandValue) (batches : List (ℕ × Batch)) (entries : List (ℕ × WebConnection)) → web_in old n ≡ Some web
+    → RunsErrand errand old.guard n (desk old.hand (web_of web) old.batches) (desk hand (web_of web') batches) → entries ≡ set_value (is_at (nat_cmp n)) old.webs web'
+    → Deeds old (record old { hand = hand; webs = entries; batches = batches })
+deed_attends n errand web web' old hand batches entries has runs is =
+    subst (λ e. Deeds old (record old { hand = hand; webs = e; batches = batches })) (sym is)
+    (deeds_one (Attends n web web' errand) old (record (with_web old n web') { hand = hand; batches = batches }) (has, runs, refl))
 
--- one that leaves the host and the writes as they are
+-- one that leaves what is at hand and the writes as they are
 pub deed_stops : (n : ℕ) (web web' : WebConnection) (old : Talking) (entries : List (ℕ × WebConnection)) → web_in old n ≡ Some web → EndsInput (web_of web) (web_of web') ⊎ ((refusal : Refusal) × (web_of web' ≡ stopped_by (web_of web) refusal))
     → entries ≡ set_value (is_at (nat_cmp n)) old.webs web' → Deeds old (record old { webs = entries })
-deed_stops n web web' old entries has ends is = deed_attends n Stops web web' old old.host old.batches entries has (ends, refl) is
+deed_stops n web web' old entries has ends is = deed_attends n Stops web web' old old.hand old.batches entries has (ends, refl) is
 
--- many writes go on
-pub deed_hands : (n : ℕ) (batch batch' : Batch) (old : Talking) (host : HostValue) (entries : List (ℕ × Batch)) → batch_in old.batches n ≡ Some batch → HandsBatch n batch old.host batch' host → entries ≡ set_value (is_at (nat_cmp n)) old.batches batch'
-    → Deeds old (record old { host = host; batches = entries })
-deed_hands n batch batch' old host entries has hands is =
-    subst (λ e. Deeds old (record old { host = host; batches = e })) (sym is)
-    (deeds_one (Hands n batch batch') old (record old { host = host; batches = set_value (is_at (nat_cmp n)) old.batches batch' }) (has, hands, refl))
+-- one after the first reply that was left was taken away
+attends_taken : (n : ℕ) (errand : Errand) (web web' : WebConnection) (before old : Talking) (batches : List (ℕ × Batch)) (entries : List (ℕ × WebConnection)) → old ≡ record before { hand = old.hand } → web_in old n ≡ Some web
+    → RunsErrand errand old.guard n (desk before.hand (web_of web) old.batches) (desk old.hand (web_of web') batches) → entries ≡ set_value (is_at (nat_cmp n)) old.webs web'
+    → Deeds before (record old { webs = entries; batches = batches })
+attends_taken n errand web web' before old batches entries same has runs is =
+    let webs : old.webs ≡ before.webs = ap (λ (t : Talking). t.webs) same in
+    let guard : old.guard ≡ before.guard = ap (λ (t : Talking). t.guard) same in
+    let kept : old.batches ≡ before.batches = ap (λ (t : Talking). t.batches) same in
+    subst (λ (t : Talking). Deeds before (record t { webs = entries; batches = batches })) (sym same)
+    (deed_attends n errand web web' before old.hand batches entries (subst (λ l. found_at n l ≡ Some web) webs has)
+    (subst (λ g. RunsErrand errand g n (desk before.hand (web_of web) before.batches) (desk old.hand (web_of web') batches)) guard
+    (subst (λ b. RunsErrand errand old.guard n (desk before.hand (web_of web) b) (desk old.hand (web_of web') batches)) kept runs))
+    (subst (λ l. entries ≡ set_value (is_at (nat_cmp n)) l web') webs is))
+
+-- it is told
+pub deed_replied : (n : ℕ) (reply : Reply) (web web' : WebConnection) (before old : Talking) (entries : List (ℕ × WebConnection)) → TakesReply n reply before old → web_in old n ≡ Some web → AnswersWeb (web_of web).asked reply (web_of web) (web_of web')
+    → entries ≡ set_value (is_at (nat_cmp n)) old.webs web' → Deeds before (record old { webs = entries })
+deed_replied n reply web web' before old entries (takes, same) has answers is =
+    attends_taken n Tells web web' before old old.batches entries same has ((reply, takes, answers), refl) is
+
+-- or it is one to many writes
+pub deed_lined : (n : ℕ) (reply : Reply) (web web' : WebConnection) (batch batch' : Batch) (before old : Talking) (batches : List (ℕ × Batch)) (entries : List (ℕ × WebConnection)) → TakesReply n reply before old → web_in old n ≡ Some web → batch_in old.batches n ≡ Some batch
+    → TellsBatch n (web_of web) batch before.hand (web_of web') batch' old.hand → KeepsWrites n batch' (desk before.hand (web_of web) old.batches) (desk old.hand (web_of web') batches)
+    → entries ≡ set_value (is_at (nat_cmp n)) old.webs web' → Deeds before (record old { webs = entries; batches = batches })
+deed_lined n reply web web' batch batch' before old batches entries (takes, same) has writes tells keeps is = attends_taken n (TellsMany batch batch') web web' before old batches entries same has (writes, tells, keeps) is
+
+-- or its client has gone
+pub deed_drops : (n : ℕ) (reply : Reply) (before old new : Talking) → TakesReply n reply before old → web_in old n ≡ None → new ≡ old → Deeds before new
+deed_drops n reply before old new takes none same =
+    let webs : old.webs ≡ before.webs = ap (λ (t : Talking). t.webs) takes.1 in
+    subst (λ (t : Talking). Deeds before t) (sym same) (deeds_one (Drops n reply) before old (subst (λ l. ◌≡◌ {A = Option WebConnection} (found_at n l) None) webs none, takes))
+
+-- what many writes ask is asked, or not
+pub deed_hands : (n : ℕ) (batch batch' : Batch) (old : Talking) (hand : AtHandValue) (entries : List (ℕ × Batch)) → batch_in old.batches n ≡ Some batch → HandsBatch n batch old.hand batch' hand → entries ≡ set_value (is_at (nat_cmp n)) old.batches batch'
+    → Deeds old (record old { hand = hand; batches = entries })
+deed_hands n batch batch' old hand entries has hands is =
+    subst (λ e. Deeds old (record old { hand = hand; batches = e })) (sym is)
+    (deeds_one (Hands n batch batch') old (record old { hand = hand; batches = set_value (is_at (nat_cmp n)) old.batches batch' }) (has, hands, refl))
 
 -- they begin
 pub deed_begins : (n : ℕ) (batch : Batch) (old mid : Talking) → MayBeginWrites n batch old → KeepsBatch n batch old mid → Deeds old mid
@@ -95,7 +127,7 @@ writing n web web' webs entries batch has is mine =
 lacking : (n : ℕ) (batch : Batch) (web web' : WebConnection) (old new : Talking) → web_in old n ≡ Some web → IsBatchFor (web_of web).asked batch → batch_in old.batches n ≡ None → RefusesWeb Memory (web_of web) (web_of web') → new ≡ with_web old n web'
     → Deeds old new
 lacking n batch web web' old new has writes none refuses is =
-    subst (λ t. Deeds old t) (sym is) (deed_attends n (Forgoes batch) web web' old old.host old.batches (set_value (is_at (nat_cmp n)) old.webs web') has ((writes, none), refuses, refl) refl)
+    subst (λ t. Deeds old t) (sym is) (deed_attends n (Forgoes batch) web web' old old.hand old.batches (set_value (is_at (nat_cmp n)) old.webs web') has ((writes, none), refuses, refl) refl)
 
 pub deed_lacks : (n : ℕ) (batch : Batch) (old new : Talking) → MayBeginWrites n batch old → LacksMemory n old new → Deeds old new
 deed_lacks n batch old new may (inl same) = deeds_same old new same
@@ -111,55 +143,17 @@ pub deeds_own : (n : ℕ) (bytes : List ℕ) (old : Talking) (host : HostValue) 
 deeds_own n bytes old host own (inl same) = deeds_same old (with_host old host) (ap (with_host old) same)
 deeds_own n bytes old host own (inr takes) = deed_feeds n bytes old host own takes
 
--- none was taken, and one more
-pub taken_none : (n : ℕ) (host : HostValue) → TakenFrom n host host
-taken_none n host = path_none _ host
-
-pub taken_one : (n count : ℕ) (old mid new : HostValue) → TakenFrom n old mid → new ≡ sent_of mid n count → TakenFrom n old new
-taken_one n count old mid new p is = path_on (λ a b. (count : ℕ) × (b ≡ sent_of a n count)) old mid new p (path_one _ mid new (count, is))
-
-front_by : (o : Option History) (n : ℕ) (told : Result Reply Refusal) (old new : HostValue) → IsClient o (λ h. (count : ℕ) × IsFrontReply h.waits told count × (new ≡ altered old n (λ c. sent c count))) → TakenFrom n old new
-front_by None n told old new never = absurd never
-front_by (Some h) n told old new (count, front, is) = taken_one n count old old new (taken_none n old) is
-
--- a reply in front was taken
-pub taken_front : (n : ℕ) (told : Option (Result Reply Refusal)) (old new : HostValue) → TakesFront n old told new → TakenFrom n old new
-taken_front n None old new (same, none) = path_same _ old new same
-taken_front n (Some told) old new front = front_by (client_of old n) n told old new front
-
-taken_else : (n : ℕ) (told : Option (Result Reply Refusal)) (old new : HostValue) (E : Type 0) → TakesFront n old told new ⊎ (TakesFront n old None new × E) → TakenFrom n old new
-taken_else n told old new E (inl front) = taken_front n told old new front
-taken_else n told old new E (inr (front, end)) = taken_front n None old new front
-
-pub taken_next : (own : Option (Option Refusal)) (n : ℕ) (told : Option (Result Reply Refusal)) (old new : HostValue) → TellsNext own n old told new → TakenFrom n old new
-taken_next (Some (Some refusal)) n told old new (is, same) = path_same _ old new same
-taken_next (Some None) n told old new next = taken_else n told old new _ next
-taken_next None n told old new next = taken_else n told old new _ next
-
-pub taken_more : (n : ℕ) (old mid new : HostValue) → TakenFrom n old mid → TakenFrom n mid new → TakenFrom n old new
-taken_more n old mid new p q = path_on (λ a b. (count : ℕ) × (b ≡ sent_of a n count)) old mid new p q
-
 -- a client of frames comes, or nobody
 pub comes_frames : (old : Talking) (o : Option ℕ) (host : HostValue) → Admits old.guard old.host o host → Deeds old (with_host old host)
 comes_frames old None host (same, full) = deeds_same old (with_host old host) (ap (with_host old) same)
 comes_frames old (Some n) host one = deeds_one (Comes n) old (with_host old host) (one, refl)
 
 -- one over HTTP
-pub does_web : (n : ℕ) (old : Talking) (host : HostValue) (new : Talking) → AdmitsOne None old.host host n → OpensWeb n (with_host old host) new → ComesBy Http n old new
-does_web n old host new one (web, fresh, same) =
-    let at : new.host ≡ host = ap (λ (t : Talking). t.host) same in
-    (web, (subst (λ (h : HostValue). AdmitsOne None old.host h n) (sym at) one, fresh, same ∙ ap (λ (h : HostValue). record old { host = h; webs = insert_entry nat_cmp old.webs n web }) (sym at)))
+pub does_web : (n : ℕ) (web : WebConnection) (old new : Talking) → n ≡ old.next → IsNew (web_of web) → new ≡ record old { webs = insert_entry nat_cmp old.webs n web; next = old.next + 1 } → ComesBy Http n old new
+does_web n web old new next fresh same = (web, (next, fresh, same))
 
-pub comes_web : (n : ℕ) (old : Talking) (host : HostValue) (new : Talking) → AdmitsOne None old.host host n → OpensWeb n (with_host old host) new → Deeds old new
-comes_web n old host new one opens =
-    let comes = does_web n old host new one opens in
-    deeds_one (ComesByWeb n comes.0) old new comes.1
-
--- one for whose connection there is no memory
-pub turns_back : (n : ℕ) (old : Talking) (mid host : HostValue) (new : Talking) → AdmitsOne None old.host mid n → ClientLeaves mid n host → new ≡ with_host old host → Deeds old new
-turns_back n old mid host new one leaves same =
-    let at : new.host ≡ host = ap (λ (t : Talking). t.host) same in
-    deeds_one (TurnsBack n mid) old new (None, one, subst (λ (h : HostValue). ClientLeaves mid n h) (sym at) leaves, same ∙ ap (with_host old) (sym at))
+pub comes_web : (n : ℕ) (web : WebConnection) (old new : Talking) → n ≡ old.next → IsNew (web_of web) → new ≡ record old { webs = insert_entry nat_cmp old.webs n web; next = old.next + 1 } → Deeds old new
+comes_web n web old new next fresh same = deeds_one (ComesByWeb n web) old new (next, fresh, same)
 
 -- no connection over HTTP is there
 pub unturned : (old : Talking) (host : HostValue) (entries : List (ℕ × WebConnection)) → entries ≡ old.webs → Deeds old (with_host old host) → Deeds old (record old { host = host; webs = entries })

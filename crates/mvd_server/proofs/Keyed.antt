@@ -5,7 +5,7 @@ use Rattle.std.proofs.lemmas.List.Folds.{list_any-append}
 use Rattle.std.proofs.lemmas.Map.Views.{any-filter_same}
 use Rattle.std.specs.BTreeMap.{insert_entry, is_at}
 use Rattle.std.specs.List.{list_any}
-use Rattle.std.specs.Map.{lookup, remove_entry, set_value}
+use Rattle.std.specs.Map.{lookup, set_value}
 use Rattle.std.specs.Ordering.{is_eq, match_ordering, nat_cmp}
 use Rattle.std.specs.declared.cmp.Ordering.{Ordering}
 use Rattle.std.specs.declared.cmp.Ordering.TheVariants.{Less, Equal, Greater}
@@ -66,19 +66,6 @@ module _ {X : Type 0} where
       on false is = each q v (sym (set_other n q is es w) ∙ found)
 
   -- one comes
-  pub has_insert : (n q : ℕ) (w : X) (es : List (ℕ × X)) → Has q es → Has q (insert_entry nat_cmp es n w)
-  has_insert n q w [] (v, found) = absurd (let no : ◌≡◌ {A = Option X} None (Some v) = found in cc)
-  has_insert n q w (e ∷ es) (v, found) = on (has_insert n q w es) (nat_cmp n e.0) (is_at (nat_cmp q) e.0) refl (is_at (nat_cmp q) n) refl found
-    where
-      on : (Has q es → Has q (insert_entry nat_cmp es n w)) → (o : Ordering) (b : Bool) → is_at (nat_cmp q) e.0 ≡ b → (c : Bool) → is_at (nat_cmp q) n ≡ c → cond b (Some e.1) (found_at q es) ≡ Some v
-          → Has q (match_ordering o ((n, w) ∷ e ∷ es) ((e.0, w) ∷ es) (e ∷ insert_entry nat_cmp es n w))
-      on rest Less b is true first at = (w, ap (λ c. cond c (Some w) (found_at q (e ∷ es))) first)
-      on rest Less b is false first at = (v, ap (λ c. cond c (Some w) (found_at q (e ∷ es))) first ∙ ap (λ c. cond c (Some e.1) (found_at q es)) is ∙ at)
-      on rest Equal true is c first at = (w, ap (λ c. cond c (Some w) (found_at q es)) is)
-      on rest Equal false is c first at = (v, ap (λ c. cond c (Some w) (found_at q es)) is ∙ at)
-      on rest Greater true is c first at = (e.1, ap (λ c. cond c (Some e.1) (found_at q (insert_entry nat_cmp es n w))) is)
-      on rest Greater false is c first at = let r = rest (v, at) in (r.0, ap (λ c. cond c (Some e.1) (found_at q (insert_entry nat_cmp es n w))) is ∙ r.1)
-
   pub found_new : (n : ℕ) (w : X) (es : List (ℕ × X)) → found_at n (insert_entry nat_cmp es n w) ≡ Some w
   found_new n w [] = ap (λ c. cond c (Some w) None) (here n)
     where
@@ -90,21 +77,6 @@ module _ {X : Type 0} where
       on rest Less is = let here : is_at (nat_cmp n) n ≡ true = at_is n n ∙ grind (arith, nat_tests) in ap (λ c. cond c (Some w) (found_at n (e ∷ es))) here
       on rest Equal is = ap (λ (o : Ordering). cond (is_eq o) (Some w) (found_at n es)) is
       on rest Greater is = ap (λ (o : Ordering). cond (is_eq o) (Some e.1) (found_at n (insert_entry nat_cmp es n w))) is ∙ rest
-
-  pub has_new : (n : ℕ) (w : X) (es : List (ℕ × X)) → Has n (insert_entry nat_cmp es n w)
-  has_new n w es = (w, found_new n w es)
-
-  -- one goes
-  pub remove_other : (n q : ℕ) → (q == n) ≡ false → (es : List (ℕ × X)) → found_at q (remove_entry (is_at (nat_cmp n)) es) ≡ found_at q es
-  remove_other n q apart [] = refl
-  remove_other n q apart (e ∷ es) = on (remove_other n q apart es) (is_at (nat_cmp n) e.0) refl
-    where
-      on : found_at q (remove_entry (is_at (nat_cmp n)) es) ≡ found_at q es → (b : Bool) → is_at (nat_cmp n) e.0 ≡ b → found_at q (cond b es (e ∷ remove_entry (is_at (nat_cmp n)) es)) ≡ cond (is_at (nat_cmp q) e.0) (Some e.1) (found_at q es)
-      on rest true is =
-          let hit : (e.0 == n) ≡ true = sym (at_is n e.0) ∙ is in
-          let miss : (e.0 == q) ≡ false = grind (arith, nat_tests, hit, apart) in
-          sym (ap (λ c. cond c (Some e.1) (found_at q es)) (at_is q e.0 ∙ miss))
-      on rest false is = ap (λ (o : Option X). cond (is_at (nat_cmp q) e.0) (Some e.1) o) rest
 
 -- ---- numbers alone
 

@@ -1,16 +1,15 @@
 -- Who goes, and when.
-use Rattle.std.proofs.Common.{◌≡◌, ◌∙◌, Bool, true, false, ℕ, List, [], Option, None, Some, inl, inr, ap, refl, sym, subst, true≢false}
-use Rattle.std.specs.Option.{IsSome, option_and_then}
-use Rattle.mvd_conn.specs.History.{History, ending_of, is_done}
+use Rattle.std.proofs.Common.{◌≡◌, ◌∙◌, Bool, true, false, ℕ, None, Some, inl, inr, ap, sym, subst, true≢false}
+use Rattle.mvd_conn.specs.History.{is_done}
 use Rattle.mvd_host.specs.Hosts.{ClientLeaves, HostValue, IsClient, client_of}
 use Rattle.mvd_server.proofs.Deeds.{deeds_on, deeds_one}
 use Rattle.mvd_server.proofs.Keyed.{found_new}
 use Rattle.mvd_server.specs.OwnSides.{DismissesIf}
-use Rattle.mvd_server.specs.Talking.{ComesByWeb, Deeds, DoesAct, GoesAtOnce, GoesOwn, HasNothingLeft, MayPart, Talking, TurnsBack, talking_of, web_in, with_host}
+use Rattle.mvd_server.specs.Talking.{ComesByWeb, Deeds, DoesAct, GoesAtOnce, GoesOwn, HasNothingLeft, MayPart, Talking, TurnsBack, is_own_client, talking_of, web_in, with_host}
 use Rattle.mvd_server.specs.declared.talks.Kind.TheVariants.{Frames, Http}
 use Rattle.mvd_server.specs.declared.talks.Talks.{Talks}
 use Rattle.mvd_web.specs.Inside.{web_of}
-use Rattle.mvd_web.specs.Web.{IsOver, WebValue}
+use Rattle.mvd_web.specs.Web.{IsOver}
 use Rattle.mvd_web.specs.declared.web_connection.WebConnection.{WebConnection}
 
 -- ---- one of the server's own
@@ -25,14 +24,11 @@ own_leaves false n old new is goes = absurd (true≢false (sym is))
 
 -- ---- one for which nothing is left to do
 
-pub spent_frames : (t : Talking) (n : ℕ) → None ≡ web_in t n → IsClient (client_of t.host n) (λ h. is_done h ≡ true) → MayPart n t
-spent_frames t n none done = subst (λ o. HasNothingLeft o (client_of t.host n)) none done
+pub spent_frames : (t : Talking) (n : ℕ) → None ≡ web_in t n → is_own_client t n ≡ false → IsClient (client_of t.host n) (λ h. is_done h ≡ true) → MayPart n t
+spent_frames t n none apart done = subst (λ o. HasNothingLeft (is_own_client t n) o (client_of t.host n)) none (apart, done)
 
 pub spent_over : (t : Talking) (n : ℕ) (web : WebConnection) → Some web ≡ web_in t n → IsOver (web_of web) → MayPart n t
-spent_over t n web has over = subst (λ o. HasNothingLeft o (client_of t.host n)) has (inl over)
-
-pub spent_web : (t : Talking) (n : ℕ) (web : WebConnection) → Some web ≡ web_in t n → IsSome (option_and_then ending_of (client_of t.host n)) → (web_of web).asked ≡ None → (web_of web).waits ≡ [] → MayPart n t
-spent_web t n web has ended none left = subst (λ o. HasNothingLeft o (client_of t.host n)) has (inr (inl ended, none, left))
+spent_over t n web has over = subst (λ o. HasNothingLeft (is_own_client t n) o (client_of t.host n)) has (inl over)
 
 -- ---- one that has just come
 
@@ -41,10 +37,9 @@ back_frames n old host leaves before (one, same) =
     deeds_one (TurnsBack n old.host) before (with_host old host) (before.guard, one, leaves, ap (λ (t : Talking). with_host t host) same)
 
 fresh_goes : (n : ℕ) (web : WebConnection) (before old : Talking) → DoesAct (ComesByWeb n web) before old → MayPart n old
-fresh_goes n web before old (one, fresh, same) =
+fresh_goes n web before old (number, fresh, same) =
     let has : web_in old n ≡ Some web = ap (λ (t : Talking). web_in t n) same ∙ found_new n web before.webs in
-    subst (λ o. HasNothingLeft o (client_of old.host n)) (sym has)
-    (inr (inr fresh, ap (λ (w : WebValue). w.asked) fresh.1, ap (λ (w : WebValue). w.waits) fresh.1))
+    subst (λ o. HasNothingLeft (is_own_client old n) o (client_of old.host n)) (sym has) (inr fresh)
 
 pub back_web : (n : ℕ) (old new : Talking) → (MayPart n old → Deeds old new) → GoesAtOnce Http n old new
 back_web n old new goes before (web, does) = deeds_on before old new (deeds_one (ComesByWeb n web) before old does) (goes (fresh_goes n web before old does))

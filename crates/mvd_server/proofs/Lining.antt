@@ -1,45 +1,58 @@
 -- The lines of many writes.
-use Rattle.std.proofs.Common.{◌≡◌, ◌∙◌, ◌+◌, ◌<◌, ◌++◌, ℕ, List, length, Option, Some, None, Result, Ok, inl, inr, ap, subst, sym}
+use Rattle.std.proofs.Common.{◌≡◌, ◌∙◌, ◌+◌, ◌<◌, ◌++◌, ℕ, List, length, Option, Some, None, ap, refl, subst, sym}
 use Rattle.std.specs.List.{slice_get}
 use Rattle.std.specs.Prelude.{string_bytes}
 use Rattle.mvd_dots.specs.declared.refusals.Refusal.{Refusal}
-use Rattle.mvd_host.specs.Hosts.{HostValue}
+use Rattle.mvd_host.specs.AtHand.{AtHandValue}
 use Rattle.mvd_http.specs.Json.{line_text}
 use Rattle.mvd_server.proofs.Paths.{path_none, path_on, path_one}
-use Rattle.mvd_server.specs.Fronts.{TellsNext}
-use Rattle.mvd_server.specs.Lines.{IsOnlyTold, Lining, TellsEachLine, TellsWriteLine, TellsSome, lining}
+use Rattle.mvd_server.specs.Errands.{TakesIf}
+use Rattle.mvd_server.specs.Lines.{IsOnlyTold, Lining, TellsEachLine, TellsNext, TellsWriteLine, TellsSome, lining}
 use Rattle.mvd_server.specs.declared.batch.Batch.{Batch}
 use Rattle.mvd_wire.specs.declared.reply.Reply.{Reply}
+use Rattle.mvd_wire.specs.declared.reply.Reply.TheVariants.{Refused}
 
-pub each_none : (n : ℕ) (batch : Batch) (host : HostValue) → TellsEachLine n batch host batch host
-each_none n batch host = path_none (TellsWriteLine batch.refused.items n) (lining host batch)
-
--- nothing was told, and so nothing taken
-pub next_none : (own : Option (Option Refusal)) (n : ℕ) (old new : HostValue) → TellsNext own n old None new → new ≡ old
-next_none (Some (Some refusal)) n old new (is, same) = same
-next_none (Some None) n old new (inl (same, none)) = same
-next_none (Some None) n old new (inr ((same, none), end)) = same
-next_none None n old new (inl (same, none)) = same
-next_none None n old new (inr ((same, none), end)) = same
-
-pub each_same : (n : ℕ) (first mid : Batch) (start host host' : HostValue) → TellsEachLine n first start mid host → host' ≡ host → TellsEachLine n first start mid host'
-each_same n first mid start host host' so same = subst (λ (h : HostValue). TellsEachLine n first start mid h) (sym same) so
+pub each_none : (n : ℕ) (batch : Batch) (hand : AtHandValue) → TellsEachLine n batch hand batch hand
+each_none n batch hand = path_none (TellsWriteLine batch.refused.items n) (lining hand batch)
 
 pub only_on : (old mid new : Batch) → IsOnlyTold old mid → IsOnlyTold mid new → IsOnlyTold old new
 only_on old mid new first second = second ∙ ap (λ (b : Batch). record b { told = new.told; lines = new.lines }) first
 
--- one line more
-pub each_more : (n : ℕ) (first mid : Batch) (start host host' : HostValue) (reply : Reply) (told : ℕ) (lines : List ℕ) → IsOnlyTold first mid → mid.told < length first.refused.items → TellsEachLine n first start mid host
-    → TellsNext (slice_get mid.refused.items mid.told) n host (Some (Ok reply)) host' → told ≡ mid.told + 1 → lines ≡ string_bytes mid.lines ++ line_text reply
-    → TellsSome first.refused.items n (lining start first) (record { host = host'; told = told; lines = lines })
-each_more n first mid start host host' reply told lines only within so next more line =
+-- some lines, and some more
+pub each_on : (n : ℕ) (first mid last : Batch) (start hand end : AtHandValue) → IsOnlyTold first mid → TellsEachLine n first start mid hand → TellsEachLine n mid hand last end → TellsEachLine n first start last end
+each_on n first mid last start hand end only so more =
     let same : mid.refused.items ≡ first.refused.items = ap (λ (b : Batch). b.refused.items) only in
-    let new : Lining = record { host = host'; told = told; lines = lines } in
-    let one : TellsWriteLine first.refused.items n (lining host mid) new = record {
+    path_on (TellsWriteLine first.refused.items n) (lining start first) (lining hand mid) (lining end last) so
+    (subst (λ (l : List (Option Refusal)). TellsSome l n (lining hand mid) (lining end last)) same more)
+
+-- ---- the reply to the next write
+
+-- it was refused at once
+pub next_refused : (own : Option (Option Refusal)) (refusal : Refusal) (n : ℕ) (hand : AtHandValue) → own ≡ Some (Some refusal) → TellsNext own n hand (Refused refusal) hand
+next_refused own refusal n hand is = subst (λ o. TellsNext o n hand (Refused refusal) hand) (sym is) (refl, refl)
+
+-- it was not, and is told the reply that was taken
+pub next_taken : (own : Option (Option Refusal)) (reply : Reply) (n : ℕ) (hand hand' : AtHandValue) → own ≡ Some None → TakesIf n (Some reply) hand hand' → TellsNext own n hand reply hand'
+next_taken own reply n hand hand' is takes = subst (λ o. TellsNext o n hand reply hand') (sym is) takes
+
+-- one line more
+pub each_more : (n : ℕ) (first mid : Batch) (start hand hand' : AtHandValue) (reply : Reply) (told : ℕ) (lines : List ℕ) → IsOnlyTold first mid → mid.told < length first.refused.items → TellsEachLine n first start mid hand
+    → TellsNext (slice_get mid.refused.items mid.told) n hand reply hand' → told ≡ mid.told + 1 → lines ≡ string_bytes mid.lines ++ line_text reply
+    → TellsSome first.refused.items n (lining start first) (record { hand = hand'; told = told; lines = lines })
+each_more n first mid start hand hand' reply told lines only within so next more line =
+    let same : mid.refused.items ≡ first.refused.items = ap (λ (b : Batch). b.refused.items) only in
+    let new : Lining = record { hand = hand'; told = told; lines = lines } in
+    let one : TellsWriteLine first.refused.items n (lining hand mid) new = record {
       within = within;
       reply = reply;
-      next = subst (λ (l : List (Option Refusal)). TellsNext (slice_get l mid.told) n host (Some (Ok reply)) host') same next;
+      next = subst (λ (l : List (Option Refusal)). TellsNext (slice_get l mid.told) n hand reply hand') same next;
       told = more;
       lines = line;
     } in
-    path_on (TellsWriteLine first.refused.items n) (lining start first) (lining host mid) new so (path_one (TellsWriteLine first.refused.items n) (lining host mid) new one)
+    path_on (TellsWriteLine first.refused.items n) (lining start first) (lining hand mid) new so (path_one (TellsWriteLine first.refused.items n) (lining hand mid) new one)
+
+-- the line of the next write is the first
+pub each_one : (n : ℕ) (batch : Batch) (hand hand' : AtHandValue) (reply : Reply) (told : ℕ) (lines : List ℕ) → batch.told < length batch.refused.items
+    → TellsNext (slice_get batch.refused.items batch.told) n hand reply hand' → told ≡ batch.told + 1 → lines ≡ string_bytes batch.lines ++ line_text reply
+    → TellsSome batch.refused.items n (lining hand batch) (record { hand = hand'; told = told; lines = lines })
+each_one n batch hand hand' reply told lines within next more line = each_more n batch batch hand hand hand' reply told lines refl within (each_none n batch hand) next more line

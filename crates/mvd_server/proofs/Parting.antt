@@ -1,5 +1,5 @@
--- Who goes in a step: one for which nothing was left to do, or one whose frames the server made.
-use Rattle.std.proofs.Common.{◌≡◌, ◌<◌, ◌∙◌, ◌⊎◌, ◌==◌, ℕ, Bool, true, false, cond, List, [], ◌∷◌, Option, Some, None, length, min, inl, inr, refl, sym, ap, subst, arith}
+-- Which connection of the host goes in a step: one that was done, or one whose frames the server made.
+use Rattle.std.proofs.Common.{◌≡◌, ◌<◌, ◌∙◌, ◌⊎◌, ◌==◌, ℕ, Bool, true, false, cond, List, Option, Some, None, length, min, inl, inr, refl, sym, ap, subst, arith}
 use Rattle.std.proofs.lemmas.Bool.Decides.{nat_tests}
 use Rattle.mvd_conn.specs.declared.source.Source.TheVariants as source
 use Rattle.mvd_conn.specs.History.{History, closed, fed, is_done, new_history, released, sent}
@@ -7,11 +7,9 @@ use Rattle.mvd_dots.specs.declared.refusals.Refusal.TheVariants.{Memory}
 use Rattle.mvd_host.specs.Hosts.{AdmitsOne, ClientLeaves, HostValue, IsClient, altered, altered_if, client_of}
 use Rattle.mvd_host.specs.Runs.{after_call}
 use Rattle.mvd_conn.specs.declared.guard.Guard.{Guard}
-use Rattle.mvd_server.proofs.Errands.{CallsOne, calls_batch, calls_errand}
 use Rattle.mvd_server.proofs.Keyed.{has_set}
 use Rattle.mvd_server.specs.HostBytes.{TakesBytes, waits_of}
-use Rattle.mvd_server.specs.Paths.{IsWay}
-use Rattle.mvd_server.specs.Talking.{Attends, Begins, Calls, Comes, ComesByWeb, ComesOwn, Deed, Goes, GoesOwn, Hands, IsMadeFor, HasNothingLeft, Talking, TurnsBack, is_own_client, web_in}
+use Rattle.mvd_server.specs.Talking.{Attends, Begins, Calls, Comes, ComesByWeb, ComesOwn, Deed, Drops, Goes, GoesOwn, Hands, IsMadeFor, HasNothingLeft, Talking, TurnsBack, is_own_client, web_in}
 use Rattle.mvd_server.specs.Wires.{GivesOut, SendsBy, TakesBy, TakesInput}
 use Rattle.mvd_web.specs.declared.web_connection.WebConnection.{WebConnection}
 
@@ -32,10 +30,6 @@ here_altered host m n f here = on (client_of host m)
     on : (o : Option History) → Here (altered_if host m o f) n
     on None = here
     on (Some x) = has_set m n (f x) host.clients here
-
-here_calls : (m n : ℕ) (old new : HostValue) (mids : List HostValue) → IsWay (CallsOne m) old mids new → Here old n → Here new n
-here_calls m n old new [] same here = here_same old new n same here
-here_calls m n old new (mid ∷ mids) ((call, is), more) here = here_calls m n mid new mids more (here_same (altered old m (after_call call)) mid n is (here_altered old m n (after_call call) here))
 
 here_bytes : (m n : ℕ) (bytes : List ℕ) (old new : HostValue) → TakesBytes old m bytes new → Here old n → Here new n
 here_bytes m n bytes old new (inl is) here = here_same (altered old m (λ h. fed h bytes)) new n is (here_altered old m n (λ h. fed h bytes) here)
@@ -63,9 +57,10 @@ gone_is old new m n leaves (h, found) gone = on (n == m) refl
 abbrev Parts : Talking → ℕ → History → Type 0
 Parts t n h = (is_done h ≡ true) ⊎ IsMadeFor t n
 
-parts_spent : (t : Talking) (n : ℕ) (h : History) → client_of t.host n ≡ Some h → (o : Option WebConnection) → web_in t n ≡ o → HasNothingLeft o (client_of t.host n) → Parts t n h
-parts_spent t n h found None has done = inl (subst (λ o. IsClient o (λ c. is_done c ≡ true)) found done)
-parts_spent t n h found (Some web) has spent = inr (inl (web, has))
+parts_spent : (t : Talking) (n : ℕ) (h : History) → client_of t.host n ≡ Some h → web_in t n ≡ None → HasNothingLeft (is_own_client t n) (web_in t n) (client_of t.host n) → Parts t n h
+parts_spent t n h found apart spent =
+    let (foreign, done) = subst (λ o. HasNothingLeft (is_own_client t n) o (client_of t.host n)) apart spent in
+    inl (subst (λ o. IsClient o (λ c. is_done c ≡ true)) found done)
 
 module _ (old new : Talking) (n : ℕ) (h : History) (found : client_of old.host n ≡ Some h) (gone : client_of new.host n ≡ None) where
   here : Here old.host n
@@ -74,43 +69,44 @@ module _ (old new : Talking) (n : ℕ) (h : History) (found : client_of old.host
   never : {P : Type 0} → Here new.host n → P
   never stays = absurd (no_longer new.host n stays gone)
 
-  pub parts_deed : n < old.host.admitted → Deed old new → Parts old n h
-  parts_deed given (Comes m, does) = never (here_came old.guard old.host new.host m n does.0 here)
-  parts_deed given (ComesByWeb m web, does) = never (here_came None old.host new.host m n does.0 here)
-  parts_deed given (ComesOwn m, does) = never (here_came None old.host new.host m n does.0 here)
-  parts_deed given (TurnsBack m mid, does) =
+  -- the host is the same
+  still : {P : Type 0} → new.host ≡ old.host → P
+  still same = never (here_same old.host new.host n same here)
+
+  pub parts_deed : n < old.host.admitted → web_in old n ≡ None → Deed old new → Parts old n h
+  parts_deed given apart (Comes m, does) = never (here_came old.guard old.host new.host m n does.0 here)
+  parts_deed given apart (ComesByWeb m web, does) = still (ap (λ (t : Talking). t.host) does.2)
+  parts_deed given apart (ComesOwn m, does) = never (here_came None old.host new.host m n does.0 here)
+  parts_deed given apart (TurnsBack m mid, does) =
       let is : n ≡ m = gone_is mid new.host m n does.2 (here_came does.0 old.host mid m n does.1 here) gone in
       let number = does.1.number in
       absurd (let no : ⊥ = omega (arith, is, number, given) in no)
-  parts_deed given (Goes m, does) =
+  parts_deed given apart (Goes m, does) =
       let is : n ≡ m = gone_is old.host new.host m n does.1 here gone in
-      parts_spent old n h found (web_in old n) refl (subst (λ i. HasNothingLeft (web_in old i) (client_of old.host i)) (sym is) does.0)
-  parts_deed given (GoesOwn m, does) =
+      parts_spent old n h found apart (subst (λ i. HasNothingLeft (is_own_client old i) (web_in old i) (client_of old.host i)) (sym is) does.0)
+  parts_deed given apart (GoesOwn m, does) =
       let is : n ≡ m = gone_is old.host new.host m n does.1 here gone in
-      inr (inr (subst (λ i. is_own_client old i ≡ true) (sym is) does.0))
-  parts_deed given (Calls m call, does) = never (here_same (altered old.host m (after_call call)) new.host n (ap (λ (t : Talking). t.host) does.1) (here_altered old.host m n (after_call call) here))
-  parts_deed given (Attends m web web' errand, does) =
-      let p = calls_errand errand old.guard m _ _ does.1 in
-      never (here_calls m n old.host new.host p.mids p.steps here)
-  parts_deed given (Begins m batch, does) = never (here_same old.host new.host n (ap (λ (t : Talking). t.host) does.1) here)
-  parts_deed given (Hands m batch batch', does) =
-      let p = calls_batch m batch old.host batch' new.host does.1 in
-      never (here_calls m n old.host new.host p.mids p.steps here)
+      inr (subst (λ i. is_own_client old i ≡ true) (sym is) does.0)
+  parts_deed given apart (Calls m call, does) = never (here_same (altered old.host m (after_call call)) new.host n (ap (λ (t : Talking). t.host) does.1) (here_altered old.host m n (after_call call) here))
+  parts_deed given apart (Attends m web web' errand, does) = still (ap (λ (t : Talking). t.host) does.2)
+  parts_deed given apart (Begins m batch, does) = still (ap (λ (t : Talking). t.host) does.1)
+  parts_deed given apart (Hands m batch batch', does) = still (ap (λ (t : Talking). t.host) does.2)
+  parts_deed given apart (Drops m reply, does) = still (ap (λ (t : Talking). t.host) does.1.1)
 
   parts_by : (web : Option WebConnection) (m : ℕ) (bytes : List ℕ) → TakesBy web m bytes old new → Parts old n h
   parts_by None m bytes (apart, takes, same) = never (here_bytes m n bytes old.host new.host takes here)
-  parts_by (Some web) m bytes (web', feeds, same) = never (here_same old.host new.host n (ap (λ (t : Talking). t.host) same) here)
+  parts_by (Some web) m bytes (web', feeds, same) = still (ap (λ (t : Talking). t.host) same)
 
   pub parts_in : (m : ℕ) (bytes : List ℕ) → TakesInput m bytes old new → Parts old n h
   parts_in m bytes (inl takes) = parts_by (web_in old m) m bytes takes
-  parts_in m bytes (inr (same, none)) = never (here_same old.host new.host n (ap (λ (t : Talking). t.host) same) here)
+  parts_in m bytes (inr (same, none)) = still (ap (λ (t : Talking). t.host) same)
 
   parts_sends : (web : Option WebConnection) (m count : ℕ) → SendsBy web m count old new → Parts old n h
-  parts_sends None m count same =
+  parts_sends None m count (apart, same) =
       let count' = min count (length (waits_of old.host m)) in
       never (here_same (altered old.host m (λ c. sent c count')) new.host n (ap (λ (t : Talking). t.host) same) (here_altered old.host m n (λ c. sent c count') here))
-  parts_sends (Some web) m count (web', is, same) = never (here_same old.host new.host n (ap (λ (t : Talking). t.host) same) here)
+  parts_sends (Some web) m count (web', is, same) = still (ap (λ (t : Talking). t.host) same)
 
   pub parts_out : (m : ℕ) (bytes : List ℕ) → GivesOut m bytes old new → Parts old n h
   parts_out m bytes (inl (first, sends)) = parts_sends (web_in old m) m (length bytes) sends
-  parts_out m bytes (inr (same, none)) = never (here_same old.host new.host n (ap (λ (t : Talking). t.host) same) here)
+  parts_out m bytes (inr (same, none)) = still (ap (λ (t : Talking). t.host) same)

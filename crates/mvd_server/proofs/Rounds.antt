@@ -1,30 +1,29 @@
 -- One host, from its first client on.
-use Rattle.std.proofs.Common.{◌≡◌, ◌∙◌, ◌⊎◌, ◌<◌, true, ℕ, List, [], ◌∷◌, ◌++◌, Option, None, Some, length, min, inl, inr, ap, refl, sym, subst, append-nil, append_assoc, true≢false}
-use Rattle.mvd_conn.specs.declared.source.Source.TheVariants as source
+use Rattle.std.proofs.Common.{◌≡◌, ◌∙◌, ◌⊎◌, ◌<◌, true, ℕ, List, [], ◌∷◌, ◌++◌, Option, None, Some, inl, inr, ap, refl, sym, subst, append-nil, append_assoc, true≢false}
 use Rattle.mvd_conn.specs.declared.guard.Guard.{Guard}
 use Rattle.mvd_conn.specs.History.{History, is_done}
-use Rattle.mvd_dots.specs.declared.refusals.Refusal.TheVariants.{Memory}
 use Rattle.mvd_host.proofs.Own.{own-append}
 use Rattle.mvd_host.proofs.Runs.{SoFar, begins, goes_on as runs_on, has_shown, one_list}
-use Rattle.mvd_host.specs.Hosts.{HostValue, IsClient, client_of}
+use Rattle.mvd_host.specs.AtHand.{first_at_hand}
+use Rattle.mvd_host.specs.Hosts.{IsClient, client_of}
 use Rattle.mvd_host.specs.Course.{BothClients, own}
 use Rattle.mvd_host.specs.Round.{ClientCourse}
-use Rattle.mvd_host.specs.Runs.{Calls as Called, Closes, Comes as Came, Feeds, Goes as Gone, Happening, HasShown, HostMoment, OneList, Releases, Rounds, Runs, Sends, TellsOwn, after_one, after_run, happened_turns, side_at, turns_in}
+use Rattle.mvd_host.specs.Runs.{Happening, HasShown, HostMoment, OneList, Rounds, Runs, TellsOwn, after_one, after_run, happened_turns, side_at, turns_in}
 use Rattle.mvd_replica.specs.Replicas.{conn_of, site_of}
 use Rattle.mvd_replica.specs.Turns.{Turn}
 use Rattle.mvd_replica.specs.declared.replica.Replica.{Replica}
-use Rattle.mvd_server.proofs.Errands.{CallsOne, HostCalls, calls_batch, calls_errand}
+use Rattle.mvd_server.proofs.Calming.{Calm, moment, of_deed, of_in, of_out}
+use Rattle.mvd_server.proofs.Numbering.{AreNumbered, numbered_apart, numbered_deed, numbered_in, numbered_new, numbered_out, numbered_round}
 use Rattle.mvd_server.proofs.Parting.{parts_deed, parts_in, parts_out}
 use Rattle.mvd_server.proofs.Paths.{path_map, path_none, path_on, path_one}
 use Rattle.mvd_server.proofs.Deeds.{carries_deeds}
 use Rattle.mvd_server.proofs.Showing.{AreGuarded, guarded_deed, guarded_in, guarded_new, guarded_out, guarded_round, kept_deed, kept_in, kept_out}
 use Rattle.mvd_server.specs.Guarded.{IsGuardOf}
 use Rattle.mvd_server.specs.Closing.{EndsServed, IsDeserted}
-use Rattle.mvd_server.specs.HostBytes.{TakesBytes, sent_of, waits_of}
 use Rattle.mvd_server.specs.Paths.{IsWay}
-use Rattle.mvd_server.specs.Rounds.{AnswersClients, BeginsServing, GoesOnServing, HasRound, IsServed, ServeStep, Serving, ServingStep, WasMadeFor, WasThere, World, begun, host_in, moment_of, world_of}
-use Rattle.mvd_server.specs.Talking.{Attends, Begins, Calls, Comes, ComesByWeb, ComesOwn, Deed, Deeds, Goes, GoesOwn, Hands, IsMadeFor, TalksDeeds, Talking, TurnsBack, new_talking, talking_of, web_in, with_host}
-use Rattle.mvd_server.specs.Wires.{Carries, GivesOut, SendsBy, TakesBy, TakesInput, Wired, WiredStep, wired_of}
+use Rattle.mvd_server.specs.Rounds.{AnswersClients, BeginsServing, GoesOnServing, HasRound, IsServed, ServeStep, Serving, ServingStep, WasMadeFor, WasThere, World, begun, hand_in, host_in, moment_of, with_round, world_of}
+use Rattle.mvd_server.specs.Talking.{Deeds, IsMadeFor, TalksDeeds, Talking, new_talking, talking_of, web_in}
+use Rattle.mvd_server.specs.Wires.{Carries, Wired, WiredStep, wired_of}
 use Rattle.mvd_server.specs.declared.sockets.Sockets.{Ghosts as SocketGhosts}
 use Rattle.mvd_server.specs.declared.talks.Talks.{Talks}
 use Rattle.mvd_site.specs.Sites.{SiteValue}
@@ -32,7 +31,6 @@ use Rattle.sha2.specs.Sha256.{sha256}
 use Rattle.sqlite.specs.Held.{state}
 use Rattle.sqlite.specs.State.{State}
 use Rattle.sqlite_trees.specs.declared.store.Store.{Ghosts}
-use Rattle.mvd_web.specs.declared.web_connection.WebConnection.{WebConnection}
 
 -- ---- what happened, as the host's own list
 
@@ -60,71 +58,13 @@ happened_on f old mid new p q = record {
   ends = after_append old p.all q.all ∙ ap (λ m. after_run m q.all) p.ends ∙ q.ends;
 }
 
--- between two rounds, without a turn
-record Calm {C : Type 0} (f : C → State) (old new : HostMoment C) : Type 0 where
-  all : List (Happening C)
-  runs : Runs f old all
-  ends : after_run old all ≡ new
-  none : turns_in all ≡ []
-
-module _ {C : Type 0} (f : C → State) (site : SiteValue) (conn : C) where
-  abbrev moment : HostValue → HostMoment C
-  moment host = record { host = host; site = site; conn = conn }
-
-  of_none : (old new : HostValue) → new ≡ old → Calm f (moment old) (moment new)
-  of_none old new same = record { all = []; runs = tt; ends = ap moment (sym same); none = refl }
-
-  of_path : (n : ℕ) (old new : HostValue) (mids : List HostValue) → IsWay (CallsOne n) old mids new → Calm f (moment old) (moment new)
-  of_path n old new [] same = of_none old new same
-  of_path n old new (mid ∷ mids) ((call, is), more) =
-      let rest = subst (λ (h : HostValue). Calm f (moment h) (moment new)) is (of_path n mid new mids more) in
-      record { all = Called n call ∷ rest.all; runs = (tt, rest.runs); ends = rest.ends; none = rest.none }
-
-  of_calls : (n : ℕ) (old new : HostValue) → HostCalls n old new → Calm f (moment old) (moment new)
-  of_calls n old new p = of_path n old new p.mids p.steps
-
-  of_deed : (old new : Talking) → Deed old new → Calm f (moment old.host) (moment new.host)
-  of_deed old new (Comes n, does) = record { all = Came n new.host ∷ []; runs = ((old.guard, does.0), tt); ends = refl; none = refl }
-  of_deed old new (ComesByWeb n web, does) = record { all = Came n new.host ∷ []; runs = ((None, does.0), tt); ends = refl; none = refl }
-  of_deed old new (ComesOwn n, does) = record { all = Came n new.host ∷ []; runs = ((None, does.0), tt); ends = refl; none = refl }
-  of_deed old new (TurnsBack n mid, does) = record { all = Came n mid ∷ Gone n new.host ∷ []; runs = ((does.0, does.1), (does.2, tt)); ends = refl; none = refl }
-  of_deed old new (Goes n, does) = record { all = Gone n new.host ∷ []; runs = (does.1, tt); ends = refl; none = refl }
-  of_deed old new (GoesOwn n, does) = record { all = Gone n new.host ∷ []; runs = (does.1, tt); ends = refl; none = refl }
-  of_deed old new (Calls n call, does) = record { all = Called n call ∷ []; runs = (tt, tt); ends = ap (λ (t : Talking). moment t.host) (sym does.1); none = refl }
-  of_deed old new (Attends n web web' errand, does) = of_calls n old.host new.host (calls_errand errand old.guard n _ _ does.1)
-  of_deed old new (Begins n batch, does) = of_none old.host new.host (ap (λ (t : Talking). t.host) does.1)
-  of_deed old new (Hands n batch batch', does) = of_calls n old.host new.host (calls_batch n batch old.host batch' new.host does.1)
-
-  of_bytes : (n : ℕ) (bytes : List ℕ) (old new : HostValue) → TakesBytes old n bytes new → Calm f (moment old) (moment new)
-  of_bytes n bytes old new (inl is) = record { all = Called n (Feeds bytes) ∷ []; runs = (tt, tt); ends = ap moment (sym is); none = refl }
-  of_bytes n bytes old new (inr is) = record { all = Called n Releases ∷ Called n (Closes (source.Failed Memory)) ∷ []; runs = (tt, (tt, tt)); ends = ap moment (sym is); none = refl }
-
-  of_by : (web : Option WebConnection) (n : ℕ) (bytes : List ℕ) (old new : Talking) → TakesBy web n bytes old new → Calm f (moment old.host) (moment new.host)
-  of_by None n bytes old new (apart, takes, same) = of_bytes n bytes old.host new.host takes
-  of_by (Some web) n bytes old new (web', feeds, same) = of_none old.host new.host (ap (λ (t : Talking). t.host) same)
-
-  of_in : (n : ℕ) (bytes : List ℕ) (old new : Talking) → TakesInput n bytes old new → Calm f (moment old.host) (moment new.host)
-  of_in n bytes old new (inl takes) = of_by (web_in old n) n bytes old new takes
-  of_in n bytes old new (inr (same, none)) = of_none old.host new.host (ap (λ (t : Talking). t.host) same)
-
-  of_sent : (n count : ℕ) (old new : HostValue) → new ≡ sent_of old n count → Calm f (moment old) (moment new)
-  of_sent n count old new is = record { all = Called n (Sends count) ∷ []; runs = (tt, tt); ends = ap moment (sym is); none = refl }
-
-  of_sends : (web : Option WebConnection) (n count : ℕ) (old new : Talking) → SendsBy web n count old new → Calm f (moment old.host) (moment new.host)
-  of_sends None n count old new same = of_sent n (min count (length (waits_of old.host n))) old.host new.host (ap (λ (t : Talking). t.host) same)
-  of_sends (Some web) n count old new (web', is, same) = of_none old.host new.host (ap (λ (t : Talking). t.host) same)
-
-  of_out : (n : ℕ) (bytes : List ℕ) (old new : Talking) → GivesOut n bytes old new → Calm f (moment old.host) (moment new.host)
-  of_out n bytes old new (inl (first, sends)) = of_sends (web_in old n) n (length bytes) old new sends
-  of_out n bytes old new (inr (same, none)) = of_none old.host new.host (ap (λ (t : Talking). t.host) same)
-
 -- a client has shown the token before its turns, and these are what it asked and was told
 record Each (guard : Option Guard) (Made : ℕ → Type 0) (Told : ℕ → List Turn → Type 0) (n : ℕ) (turns : List Turn) : Type 0 where
   shown : HasShown guard turns ⊎ Made n
   told : (turns ≡ []) ⊎ Told n turns
 
 module _ {K C : Type 0} (f : C → State) (k : SocketGhosts K) where
-  of_wired : (site : SiteValue) (conn : C) (old new : Wired K) → WiredStep k old new → Calm f (moment f site conn old.talking.host) (moment f site conn new.talking.host)
+  of_wired : (site : SiteValue) (conn : C) (old new : Wired K) → WiredStep k old new → Calm f (moment f site conn old.talking) (moment f site conn new.talking)
   of_wired site conn old new (inl (deed, same)) = of_deed f site conn old.talking new.talking deed
   of_wired site conn old new (inr (inl (n, bytes, gives, takes))) = of_in f site conn n bytes old.talking new.talking takes
   of_wired site conn old new (inr (inr (n, bytes, takes, gives))) = of_out f site conn n bytes old.talking new.talking gives
@@ -135,7 +75,7 @@ module _ {K C : Type 0} (f : C → State) (k : SocketGhosts K) where
       record {
         all = calm.all;
         runs = calm.runs;
-        ends = calm.ends ∙ sym (ap (λ s. moment f s old.conn (host_in new)) b.site) ∙ sym (ap (λ c. moment f new.site c (host_in new)) b.conn);
+        ends = calm.ends ∙ sym (ap (λ s. moment f s old.conn new.wired.talking) b.site) ∙ sym (ap (λ c. moment f new.site c new.wired.talking) b.conn);
       }
   of_step old new (inr r) = record { all = Rounds r.ready r.turns (moment_of new) ∷ []; runs = (r.round, tt); ends = refl }
 
@@ -143,24 +83,39 @@ module _ {K C : Type 0} (f : C → State) (k : SocketGhosts K) where
   of_steps old new [] same = record { all = []; runs = tt; ends = ap moment_of (sym same) }
   of_steps old new (mid ∷ mids) (one, more) = happened_on f (moment_of old) (moment_of mid) (moment_of new) (of_step old mid one) (of_steps mid new mids more)
 
-  -- each client has the server's guard
-  record Guards (guard : Option Guard) (w : World K C) : Type 0 where
-    kept : w.wired.talking.guard ≡ guard
-    each : AreGuarded w.wired.talking
+  -- each client has the server's guard, and a connection of the host is of none over HTTP
+  record Guards (guard : Option Guard) (t : Talking) : Type 0 where
+    kept : t.guard ≡ guard
+    each : AreGuarded t
+    apart : AreNumbered t
 
-  guards_wired : (guard : Option Guard) (old new : Wired K) → WiredStep k old new → old.talking.guard ≡ guard → AreGuarded old.talking → (new.talking.guard ≡ guard) × AreGuarded new.talking
-  guards_wired guard old new (inl (deed, same)) is each = (kept_deed old.talking new.talking deed ∙ is, guarded_deed old.talking new.talking deed each)
-  guards_wired guard old new (inr (inl (n, bytes, gives, takes))) is each = (kept_in n bytes old.talking new.talking takes ∙ is, guarded_in n bytes old.talking new.talking takes each)
-  guards_wired guard old new (inr (inr (n, bytes, takes, gives))) is each = (kept_out n bytes old.talking new.talking gives ∙ is, guarded_out n bytes old.talking new.talking gives each)
+  guards_wired : (guard : Option Guard) (old new : Wired K) → WiredStep k old new → Guards guard old.talking → Guards guard new.talking
+  guards_wired guard old new (inl (deed, same)) s = record {
+    kept = kept_deed old.talking new.talking deed ∙ s.kept;
+    each = guarded_deed old.talking new.talking deed s.each;
+    apart = numbered_deed old.talking new.talking deed s.apart;
+  }
+  guards_wired guard old new (inr (inl (n, bytes, gives, takes))) s = record {
+    kept = kept_in n bytes old.talking new.talking takes ∙ s.kept;
+    each = guarded_in n bytes old.talking new.talking takes s.each;
+    apart = numbered_in n bytes old.talking new.talking takes s.apart;
+  }
+  guards_wired guard old new (inr (inr (n, bytes, takes, gives))) s = record {
+    kept = kept_out n bytes old.talking new.talking gives ∙ s.kept;
+    each = guarded_out n bytes old.talking new.talking gives s.each;
+    apart = numbered_out n bytes old.talking new.talking gives s.apart;
+  }
 
-  guards_step : (guard : Option Guard) (old new : World K C) → ServeStep f k old new → Guards guard old → Guards guard new
-  guards_step guard old new (inl b) g = let both = guards_wired guard old.wired new.wired b.wired g.kept g.each in record { kept = both.0; each = both.1 }
-  guards_step guard old new (inr r) g =
-      let same = ap (λ (w : Wired K). w.talking) r.wired in
-      record {
-        kept = ap (λ (t : Talking). t.guard) same ∙ g.kept;
-        each = subst AreGuarded (sym same) (guarded_round old.wired.talking (host_in new) r.turns r.round.clients g.each);
-      }
+  guards_step : (guard : Option Guard) (old new : World K C) → ServeStep f k old new → Guards guard old.wired.talking → Guards guard new.wired.talking
+  guards_step guard old new (inl b) s = guards_wired guard old.wired new.wired b.wired s
+  guards_step guard old new (inr r) s =
+      let t = old.wired.talking in
+      subst (Guards guard) (sym (ap (λ (w : Wired K). w.talking) r.wired))
+      (record {
+        kept = s.kept;
+        each = guarded_round t (host_in new) (hand_in new) r.turns r.round.clients s.each;
+        apart = numbered_round t (host_in new) (hand_in new) s.apart;
+      })
 
   -- whoever has gone has no turn in a step
   none_before : (a b : Option History) (R : History → History → Type 0) → BothClients a b R → b ≡ None → a ≡ None
@@ -168,33 +123,34 @@ module _ {K C : Type 0} (f : C → State) (k : SocketGhosts K) where
   none_before (Some x) None R both is = absurd both
   none_before (Some x) (Some y) R both is = absurd (let no : ◌≡◌ {A = Option History} (Some y) None = is in cc)
 
-  none_gone : (old new : World K C) (step : ServeStep f k old new) (n : ℕ) → client_of (host_in new) n ≡ None → own n (turns_in (of_step old new step).all) ≡ []
+  none_gone : (old new : World K C) (step : ServeStep f k old new) (n : ℕ) → n < first_at_hand → client_of (host_in new) n ≡ None → own n (turns_in (of_step old new step).all) ≡ []
   unfolding of_step of_wired
-  none_gone old new (inl b) n gone = ap (own n) (of_wired old.site old.conn old.wired new.wired b.wired).none
-  none_gone old new (inr r) n gone =
-      ap (own n) (append-nil r.turns) ∙ r.round.spares.none n (none_before (client_of (host_in old) n) (client_of (host_in new) n) (ClientCourse (own n r.turns)) (r.round.clients n) gone)
+  none_gone old new (inl b) n below gone = ap (own n) (of_wired old.site old.conn old.wired new.wired b.wired).none
+  none_gone old new (inr r) n below gone =
+      ap (own n) (append-nil r.turns) ∙ r.round.spares.none n below (none_before (client_of (host_in old) n) (client_of (host_in new) n) (ClientCourse (own n r.turns)) (r.round.clients n) gone)
 
   -- and for whoever goes in one, nothing was left to do, or the server made its frames
-  parts_wired : (old new : Wired K) (n : ℕ) (h : History) → client_of old.talking.host n ≡ Some h → client_of new.talking.host n ≡ None → n < old.talking.host.admitted → WiredStep k old new → (is_done h ≡ true) ⊎ IsMadeFor old.talking n
-  parts_wired old new n h found gone given (inl (deed, same)) = parts_deed old.talking new.talking n h found gone given deed
-  parts_wired old new n h found gone given (inr (inl (m, bytes, gives, takes))) = parts_in old.talking new.talking n h found gone m bytes takes
-  parts_wired old new n h found gone given (inr (inr (m, bytes, takes, gives))) = parts_out old.talking new.talking n h found gone m bytes gives
+  parts_wired : (old new : Wired K) (n : ℕ) (h : History) → client_of old.talking.host n ≡ Some h → client_of new.talking.host n ≡ None → n < old.talking.host.admitted → web_in old.talking n ≡ None → WiredStep k old new
+      → (is_done h ≡ true) ⊎ IsMadeFor old.talking n
+  parts_wired old new n h found gone given apart (inl (deed, same)) = parts_deed old.talking new.talking n h found gone given apart deed
+  parts_wired old new n h found gone given apart (inr (inl (m, bytes, gives, takes))) = parts_in old.talking new.talking n h found gone m bytes takes
+  parts_wired old new n h found gone given apart (inr (inr (m, bytes, takes, gives))) = parts_out old.talking new.talking n h found gone m bytes gives
 
-  parts_step : (old new : World K C) (n : ℕ) (h : History) → client_of (host_in old) n ≡ Some h → client_of (host_in new) n ≡ None → n < (host_in old).admitted → ServeStep f k old new → (is_done h ≡ true) ⊎ IsMadeFor old.wired.talking n
-  parts_step old new n h found gone given (inl b) = parts_wired old.wired new.wired n h found gone given b.wired
-  parts_step old new n h found gone given (inr r) =
+  parts_step : (old new : World K C) (n : ℕ) (h : History) → client_of (host_in old) n ≡ Some h → client_of (host_in new) n ≡ None → n < (host_in old).admitted → web_in old.wired.talking n ≡ None → ServeStep f k old new → (is_done h ≡ true) ⊎ IsMadeFor old.wired.talking n
+  parts_step old new n h found gone given apart (inl b) = parts_wired old.wired new.wired n h found gone given apart b.wired
+  parts_step old new n h found gone given apart (inr r) =
       let none = none_before (client_of (host_in old) n) (client_of (host_in new) n) (ClientCourse (own n r.turns)) (r.round.clients n) gone in
       absurd (let no : ◌≡◌ {A = Option History} (Some h) None = sym found ∙ none in cc)
 
-  -- so each of them, also one that has gone
+  -- so each connection, also one that has gone
   record Shows (guard : Option Guard) (start : HostMoment C) (Made : ℕ → Type 0) (Told : ℕ → List Turn → Type 0) (Done : ℕ → Type 0) (turns : List (ℕ × Turn)) (w : World K C) : Type 0 where
-    guards : Guards guard w
+    guards : Guards guard w.wired.talking
     done : (n : ℕ) → IsClient (client_of (host_in w) n) (λ h. is_done h ≡ true) → Done n
-    parted : (n : ℕ) → client_of (host_in w) n ≡ None → (own n turns ≡ []) ⊎ (Done n ⊎ Made n)
+    parted : (n : ℕ) → n < first_at_hand → client_of (host_in w) n ≡ None → (own n turns ≡ []) ⊎ (Done n ⊎ Made n)
     far : SoFar f start turns (moment_of w)
     made : (n : ℕ) → IsMadeFor w.wired.talking n → Made n
     there : (n : ℕ) (own : List Turn) → IsClient (client_of (host_in w) n) (TellsOwn own) → Told n own
-    gone : (n : ℕ) → client_of (host_in w) n ≡ None → Each guard Made Told n (own n turns)
+    gone : (n : ℕ) → n < first_at_hand → client_of (host_in w) n ≡ None → Each guard Made Told n (own n turns)
 
   module _ (guard : Option Guard) (start : HostMoment C) (Made : ℕ → Type 0) (Told : ℕ → List Turn → Type 0) (Done : ℕ → Type 0) where
     shows_here : (turns : List (ℕ × Turn)) (w : World K C) → Shows guard start Made Told Done turns w → (n : ℕ) (h : History) → client_of (host_in w) n ≡ Some h → Each guard Made Told n (own n turns)
@@ -206,27 +162,27 @@ module _ {K C : Type 0} (f : C → State) (k : SocketGhosts K) where
         on tells (inl same) = inl (subst (λ g. HasShown g (own n turns)) (same ∙ s.guards.kept) (has_shown (own n turns) h tells))
         on tells (inr made) = inr (s.made n made)
 
-    shows_each : (turns : List (ℕ × Turn)) (w : World K C) → Shows guard start Made Told Done turns w → (n : ℕ) → Each guard Made Told n (own n turns)
-    shows_each turns w s n = on (client_of (host_in w) n) refl
+    shows_each : (turns : List (ℕ × Turn)) (w : World K C) → Shows guard start Made Told Done turns w → (n : ℕ) → n < first_at_hand → Each guard Made Told n (own n turns)
+    shows_each turns w s n below = on (client_of (host_in w) n) refl
       where
         on : (o : Option History) → client_of (host_in w) n ≡ o → Each guard Made Told n (own n turns)
-        on None gone = s.gone n gone
+        on None gone = s.gone n below gone
         on (Some h) found = shows_here turns w s n h found
 
-    parts_on : (turns : List (ℕ × Turn)) (old new : World K C) (step : ServeStep f k old new) → Shows guard start Made Told Done turns old → (n : ℕ) → client_of (host_in new) n ≡ None
+    parts_on : (turns : List (ℕ × Turn)) (old new : World K C) (step : ServeStep f k old new) → Shows guard start Made Told Done turns old → (n : ℕ) → n < first_at_hand → client_of (host_in new) n ≡ None
         → (own n (turns ++ turns_in (of_step old new step).all) ≡ []) ⊎ (Done n ⊎ Made n)
-    parts_on turns old new step s n gone = on (client_of (host_in old) n) refl
+    parts_on turns old new step s n below gone = on (client_of (host_in old) n) refl
       where
         same : own n (turns ++ turns_in (of_step old new step).all) ≡ own n turns
-        same = own-append n turns (turns_in (of_step old new step).all) ∙ ap (λ l. own n turns ++ l) (none_gone old new step n gone) ∙ append-nil (own n turns)
+        same = own-append n turns (turns_in (of_step old new step).all) ∙ ap (λ l. own n turns ++ l) (none_gone old new step n below gone) ∙ append-nil (own n turns)
 
         whose : (h : History) → client_of (host_in old) n ≡ Some h → (is_done h ≡ true) ⊎ IsMadeFor old.wired.talking n → Done n ⊎ Made n
         whose h found (inl is) = inl (s.done n (subst (λ o. IsClient o (λ c. is_done c ≡ true)) (sym found) is))
         whose h found (inr made) = inr (s.made n made)
 
         on : (o : Option History) → client_of (host_in old) n ≡ o → (own n (turns ++ turns_in (of_step old new step).all) ≡ []) ⊎ (Done n ⊎ Made n)
-        on None was = subst (λ l. (l ≡ []) ⊎ (Done n ⊎ Made n)) (sym same) (s.parted n was)
-        on (Some h) found = inr (whose h found (parts_step old new n h found gone (s.far.given n h found) step))
+        on None was = subst (λ l. (l ≡ []) ⊎ (Done n ⊎ Made n)) (sym same) (s.parted n below was)
+        on (Some h) found = inr (whose h found (parts_step old new n h found gone (s.far.given n h found) (numbered_apart old.wired.talking n below s.guards.apart) step))
 
     shows_step : (turns : List (ℕ × Turn)) (old new : World K C) (step : ServeStep f k old new) → ((n : ℕ) → IsMadeFor new.wired.talking n → Made n)
         → ((n : ℕ) (own : List Turn) → IsClient (client_of (host_in new) n) (TellsOwn own) → Told n own) → ((n : ℕ) → IsClient (client_of (host_in new) n) (λ h. is_done h ≡ true) → Done n) → Shows guard start Made Told Done turns old
@@ -240,9 +196,9 @@ module _ {K C : Type 0} (f : C → State) (k : SocketGhosts K) where
           far = subst (λ m. SoFar f start (turns ++ turns_in h.all) m) h.ends (runs_on f start turns (moment_of old) h.all h.runs s.far);
           made = made;
           there = there;
-          gone = λ n gone.
-              subst (λ l. Each guard Made Told n l) (sym (own-append n turns (turns_in h.all) ∙ ap (λ l. own n turns ++ l) (none_gone old new step n gone) ∙ append-nil (own n turns)))
-              (shows_each turns old s n);
+          gone = λ n below gone.
+              subst (λ l. Each guard Made Told n l) (sym (own-append n turns (turns_in h.all) ∙ ap (λ l. own n turns ++ l) (none_gone old new step n below gone) ∙ append-nil (own n turns)))
+              (shows_each turns old s n below);
         }
 
     shows_steps : (turns : List (ℕ × Turn)) (old new : World K C) (mids : List (World K C)) (steps : IsWay (ServeStep f k) old mids new) → ((n : ℕ) → WasMadeFor n mids → Made n)
@@ -261,8 +217,7 @@ module _ {K C : Type 0} (f : C → State) (k : SocketGhosts K) where
 -- ---- what a server does
 
 none_made : (guard : Option Guard) (n : ℕ) → IsMadeFor (new_talking guard) n → ⊥
-none_made guard n (inl (web, has)) = absurd (let no : ◌≡◌ {A = Option WebConnection} None (Some web) = has in cc)
-none_made guard n (inr is) = absurd (true≢false (sym is))
+none_made guard n is = absurd (true≢false (sym is))
 
 none_shown : (guard : Option Guard) → HasShown guard []
 none_shown None = tt
@@ -278,18 +233,18 @@ module _ {S : Type 0} {g : Ghosts S} {K : Type 0} (k : SocketGhosts K) where
       let Told : ℕ → List Turn → Type 0 = λ n own. WasThere n (TellsOwn own) p.mids in
       let Done : ℕ → Type 0 = λ n. WasThere n (λ h. is_done h ≡ true) p.mids in
       let first : Shows (state g) k guard start Made Told Done [] (world_of (begun guard sockets) old) = record {
-        guards = record { kept = refl; each = guarded_new guard };
+        guards = record { kept = refl; each = guarded_new guard; apart = numbered_new guard };
         done = λ n is. absurd is;
-        parted = λ n gone. inl refl;
+        parted = λ n below gone. inl refl;
         far = begins (state g) start refl;
         made = λ n made. absurd (none_made guard n made);
         there = λ n own is. absurd is;
-        gone = λ n gone. record { shown = inl (none_shown guard); told = inl refl };
+        gone = λ n below gone. record { shown = inl (none_shown guard); told = inl refl };
       } in
       let end = world_of (record { talking = last; sockets = sockets' }) new in
       let shows = shows_steps (state g) k guard start Made Told Done [] (world_of (begun guard sockets) old) end p.mids p.steps (λ n was. was) (λ n own was. was) (λ n was. was) first in
       let each = shows_each (state g) k guard start Made Told Done (turns_in h.all) end shows in
-      let one = subst (λ m. OneList (turns_in h.all) (side_at (state g) start) (side_at (state g) m)) h.ends (one_list (state g) start h.all refl h.runs) in
+      let one = subst (λ m. OneList (turns_in h.all) (side_at (state g) start) (side_at (state g) m)) h.ends (one_list (state g) start h.all refl refl h.runs) in
       record {
         guard = guard;
         guarded = guarded;
@@ -299,8 +254,8 @@ module _ {S : Type 0} {g : Ghosts S} {K : Type 0} (k : SocketGhosts K) where
         runs = h.runs;
         ends = h.ends;
         list = one;
-        told = λ n. (each n).told;
-        shown = λ n. (each n).shown;
+        told = λ n below. (each n below).told;
+        shown = λ n below. (each n below).shown;
         parted = shows.parted;
       }
 
@@ -321,7 +276,7 @@ module _ {S : Type 0} {g : Ghosts S} {K : Type 0} (k : SocketGhosts K) where
   pub goes_round : (old new : Talking) (sockets : K) (replica replica' : Replica S g) → HasRound old new replica replica' → GoesOnServing k (record { talking = old; sockets = sockets }) replica (record { talking = new; sockets = sockets }) replica'
   goes_round old new sockets replica replica' r =
       let at : Talking → Wired K = λ t. record { talking = t; sockets = sockets } in
-      let after = with_host r.before r.host in
+      let after = with_round r.before r.host r.hand in
       path_on _ _ (world_of (at r.before) replica) _ (goes_deeds old r.before sockets replica r.first)
       (path_on _ _ (world_of (at after) replica') _ (path_one _ _ _ (inr (record { ready = r.ready; turns = r.turns; round = r.round; wired = refl }))) (goes_deeds after new sockets replica' r.last))
 

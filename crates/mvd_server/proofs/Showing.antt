@@ -1,5 +1,5 @@
 -- A client of frames has the server's guard, all the while.
-use Rattle.std.proofs.Common.{◌≡◌, ◌∙◌, ◌⊎◌, ◌==◌, ◌++◌, ℕ, Bool, true, false, cond, List, [], ◌∷◌, Option, Some, None, inl, inr, refl, sym, ap, subst, arith, length, min}
+use Rattle.std.proofs.Common.{◌≡◌, ◌∙◌, ◌⊎◌, ◌==◌, ◌+◌, ◌++◌, ℕ, Bool, true, false, cond, List, [], ◌∷◌, Option, Some, None, inl, inr, refl, sym, ap, subst, arith, length, min}
 use Rattle.std.proofs.lemmas.Bool.Decides.{nat_tests}
 use Rattle.std.specs.BTreeMap.{insert_entry, is_at}
 use Rattle.std.specs.List.{list_any}
@@ -10,16 +10,16 @@ use Rattle.mvd_conn.specs.History.{History, closed, fed, new_history, released, 
 use Rattle.mvd_conn.specs.declared.source.Source.TheVariants as source
 use Rattle.mvd_dots.specs.declared.refusals.Refusal.TheVariants.{Memory}
 use Rattle.mvd_host.proofs.RoundLemmas.{was}
+use Rattle.mvd_host.specs.AtHand.{AtHandValue}
 use Rattle.mvd_host.specs.Course.{BothClients, own}
 use Rattle.mvd_host.specs.Hosts.{AdmitsOne, ClientLeaves, HostValue, altered, altered_if, client_of}
 use Rattle.mvd_host.specs.Round.{ClientCourse}
 use Rattle.mvd_host.specs.Runs.{Call, Closes, Cuts, Feeds, Releases, Sends, after_call}
 use Rattle.mvd_replica.specs.Turns.{Turn}
-use Rattle.mvd_server.proofs.Errands.{CallsOne, calls_batch, calls_errand}
-use Rattle.mvd_server.proofs.Keyed.{Has, any_last, any_more, any_without, each_set, has_insert, has_new, has_set, remove_other}
+use Rattle.mvd_server.proofs.Keyed.{any_last, any_more, any_without, each_set}
 use Rattle.mvd_server.specs.HostBytes.{TakesBytes, waits_of}
-use Rattle.mvd_server.specs.Paths.{IsWay}
-use Rattle.mvd_server.specs.Talking.{Attends, Begins, Calls, Comes, ComesByWeb, ComesOwn, Deed, Goes, GoesOwn, Hands, IsMadeFor, Talking, TurnsBack, new_talking, web_in, with_host, with_web, left_without}
+use Rattle.mvd_server.specs.Talking.{Attends, Begins, Calls, Comes, ComesByWeb, ComesOwn, Deed, Drops, Goes, GoesOwn, Hands, IsMadeFor, Talking, TurnsBack, new_talking, web_in, with_host, with_web, left_without}
+use Rattle.mvd_server.specs.Rounds.{with_round}
 use Rattle.mvd_server.specs.Wires.{GivesOut, SendsBy, TakesBy, TakesInput}
 use Rattle.mvd_web.specs.declared.web_connection.WebConnection.{WebConnection}
 
@@ -70,20 +70,6 @@ altered_by t n f same (Some x) at each = each_set n t.host.clients (f x) x (λ q
 pub guarded_altered : (t : Talking) (n : ℕ) (f : History → History) → ((h : History) → (f h).guard ≡ h.guard) → AreGuarded t → AreGuarded (with_host t (altered t.host n f))
 guarded_altered t n f same each = altered_by t n f same (client_of t.host n) refl each
 
-guarded_calls : (t : Talking) (n : ℕ) (host : HostValue) (mids : List HostValue) → IsWay (CallsOne n) t.host mids host → AreGuarded t → AreGuarded (with_host t host)
-guarded_calls t n host [] same each = subst (λ (x : HostValue). AreGuarded (with_host t x)) (sym same) each
-guarded_calls t n host (mid ∷ mids) ((call, is), more) each =
-    guarded_calls (with_host t mid) n host mids more (subst (λ (x : HostValue). AreGuarded (with_host t x)) (sym is) (guarded_altered t n (after_call call) (call_guard call) each))
-
--- its connection over HTTP is
-guarded_web : (t : Talking) (n : ℕ) (web : WebConnection) → AreGuarded t → AreGuarded (with_web t n web)
-guarded_web t n web each q h found = on (each q h found)
-  where
-    on : (h.guard ≡ t.guard) ⊎ IsMadeFor t q → (h.guard ≡ t.guard) ⊎ IsMadeFor (with_web t n web) q
-    on (inl is) = inl is
-    on (inr (inl has)) = inr (inl (has_set n q web t.webs has))
-    on (inr (inr is)) = inr (inr is)
-
 -- ---- deeds
 
 to : (old new : Talking) → new ≡ old → AreGuarded old → AreGuarded new
@@ -95,52 +81,34 @@ guarded_deed old new (Comes n, does) each = to (with_host old new.host) new does
     on : (q : ℕ) (h : History) → ((q ≡ n) × (h.guard ≡ old.guard)) ⊎ (client_of old.host q ≡ Some h) → (h.guard ≡ old.guard) ⊎ IsMadeFor old q
     on q h (inl (at, is)) = inl is
     on q h (inr at) = each q h at
-guarded_deed old new (ComesByWeb n web, does) each = to (record old { host = new.host; webs = insert_entry nat_cmp old.webs n web }) new does.2 (λ q h found. on q h (came None old.host new.host n q h does.0 found))
-  where
-    more : (q : ℕ) (h : History) → (h.guard ≡ old.guard) ⊎ IsMadeFor old q → (h.guard ≡ old.guard) ⊎ IsMadeFor (record old { host = new.host; webs = insert_entry nat_cmp old.webs n web }) q
-    more q h (inl is) = inl is
-    more q h (inr (inl has)) = inr (inl (has_insert n q web old.webs has))
-    more q h (inr (inr is)) = inr (inr is)
-
-    on : (q : ℕ) (h : History) → ((q ≡ n) × (h.guard ≡ None)) ⊎ (client_of old.host q ≡ Some h) → (h.guard ≡ old.guard) ⊎ IsMadeFor (record old { host = new.host; webs = insert_entry nat_cmp old.webs n web }) q
-    on q h (inl (at, is)) = inr (inl (subst (λ i. Has i (insert_entry nat_cmp old.webs n web)) (sym at) (has_new n web old.webs)))
-    on q h (inr at) = more q h (each q h at)
+guarded_deed old new (ComesByWeb n web, does) each = to (record old { webs = insert_entry nat_cmp old.webs n web; next = old.next + 1 }) new does.2 each
 guarded_deed old new (ComesOwn n, does) each = to (record old { host = new.host; own = old.own ++ n ∷ [] }) new does.1 (λ q h found. on q h (came None old.host new.host n q h does.0 found))
   where
     more : (q : ℕ) (h : History) → (h.guard ≡ old.guard) ⊎ IsMadeFor old q → (h.guard ≡ old.guard) ⊎ IsMadeFor (record old { host = new.host; own = old.own ++ n ∷ [] }) q
     more q h (inl is) = inl is
-    more q h (inr (inl has)) = inr (inl has)
-    more q h (inr (inr is)) = inr (inr (any_more q old.own (n ∷ []) is))
+    more q h (inr is) = inr (any_more q old.own (n ∷ []) is)
 
     on : (q : ℕ) (h : History) → ((q ≡ n) × (h.guard ≡ None)) ⊎ (client_of old.host q ≡ Some h) → (h.guard ≡ old.guard) ⊎ IsMadeFor (record old { host = new.host; own = old.own ++ n ∷ [] }) q
-    on q h (inl (at, is)) = inr (inr (subst (λ i. list_any (λ x. x == i) (old.own ++ n ∷ []) ≡ true) (sym at) (any_last n old.own)))
+    on q h (inl (at, is)) = inr (subst (λ i. list_any (λ x. x == i) (old.own ++ n ∷ []) ≡ true) (sym at) (any_last n old.own))
     on q h (inr at) = more q h (each q h at)
 guarded_deed old new (TurnsBack n mid, does) each = to (with_host old new.host) new does.3 (λ q h found. let at = stayed mid new.host n q h does.2 found in on q h at.0 (came does.0 old.host mid n q h does.1 at.1))
   where
     on : (q : ℕ) (h : History) → (q == n) ≡ false → ((q ≡ n) × (h.guard ≡ does.0)) ⊎ (client_of old.host q ≡ Some h) → (h.guard ≡ old.guard) ⊎ IsMadeFor old q
     on q h apart (inl (at, is)) = absurd (let no : ⊥ = grind (arith, nat_tests, apart, at) in no)
     on q h apart (inr at) = each q h at
-guarded_deed old new (Goes n, does) each = to (record old { host = new.host; webs = remove_entry (is_at (nat_cmp n)) old.webs; batches = remove_entry (is_at (nat_cmp n)) old.batches }) new does.2 (λ q h found. let at = stayed old.host new.host n q h does.1 found in on q h at.0 (each q h at.1))
-  where
-    on : (q : ℕ) (h : History) → (q == n) ≡ false → (h.guard ≡ old.guard) ⊎ IsMadeFor old q → (h.guard ≡ old.guard) ⊎ IsMadeFor (record old { host = new.host; webs = remove_entry (is_at (nat_cmp n)) old.webs }) q
-    on q h apart (inl is) = inl is
-    on q h apart (inr (inl (web, has))) = inr (inl (web, remove_other n q apart old.webs ∙ has))
-    on q h apart (inr (inr is)) = inr (inr is)
+guarded_deed old new (Goes n, does) each =
+    to (record old { host = new.host; webs = remove_entry (is_at (nat_cmp n)) old.webs; batches = remove_entry (is_at (nat_cmp n)) old.batches }) new does.2
+    (λ q h found. each q h (stayed old.host new.host n q h does.1 found).1)
 guarded_deed old new (GoesOwn n, does) each = to (record old { host = new.host; own = left_without n old.own }) new does.2 (λ q h found. let at = stayed old.host new.host n q h does.1 found in on q h at.0 (each q h at.1))
   where
     on : (q : ℕ) (h : History) → (q == n) ≡ false → (h.guard ≡ old.guard) ⊎ IsMadeFor old q → (h.guard ≡ old.guard) ⊎ IsMadeFor (record old { host = new.host; own = left_without n old.own }) q
     on q h apart (inl is) = inl is
-    on q h apart (inr (inl has)) = inr (inl has)
-    on q h apart (inr (inr is)) = inr (inr (any_without n q old.own apart is))
+    on q h apart (inr is) = inr (any_without n q old.own apart is)
 guarded_deed old new (Calls n call, does) each = to (with_host old (altered old.host n (after_call call))) new does.1 (guarded_altered old n (after_call call) (call_guard call) each)
-guarded_deed old new (Attends n web web' errand, does) each =
-    let p = calls_errand errand old.guard n _ _ does.1 in
-    to (record (with_web old n web') { host = new.host; batches = new.batches }) new does.2
-    (guarded_web (record old { host = new.host; batches = new.batches }) n web' (guarded_calls old n new.host p.mids p.steps each))
+guarded_deed old new (Attends n web web' errand, does) each = to (record (with_web old n web') { hand = new.hand; batches = new.batches }) new does.2 each
 guarded_deed old new (Begins n batch, does) each = to (record old { batches = insert_entry nat_cmp old.batches n batch }) new does.1 each
-guarded_deed old new (Hands n batch batch', does) each =
-    let p = calls_batch n batch old.host batch' new.host does.1 in
-    to (record old { host = new.host; batches = set_value (is_at (nat_cmp n)) old.batches batch' }) new does.2 (guarded_calls old n new.host p.mids p.steps each)
+guarded_deed old new (Hands n batch batch', does) each = to (record old { hand = new.hand; batches = set_value (is_at (nat_cmp n)) old.batches batch' }) new does.2 each
+guarded_deed old new (Drops n reply, does) each = to (record old { hand = new.hand }) new does.1.1 each
 
 -- ---- bytes
 
@@ -152,15 +120,15 @@ guarded_bytes n bytes t host (inr is) each =
 
 guarded_by : (web : Option WebConnection) (n : ℕ) (bytes : List ℕ) (old new : Talking) → TakesBy web n bytes old new → AreGuarded old → AreGuarded new
 guarded_by None n bytes old new (apart, takes, same) each = to (with_host old new.host) new same (guarded_bytes n bytes old new.host takes each)
-guarded_by (Some web) n bytes old new (web', feeds, same) each = to (with_web old n web') new same (guarded_web old n web' each)
+guarded_by (Some web) n bytes old new (web', feeds, same) each = to (with_web old n web') new same each
 
 pub guarded_in : (n : ℕ) (bytes : List ℕ) (old new : Talking) → TakesInput n bytes old new → AreGuarded old → AreGuarded new
 guarded_in n bytes old new (inl takes) each = guarded_by (web_in old n) n bytes old new takes each
 guarded_in n bytes old new (inr (same, none)) each = to old new same each
 
 guarded_sends : (web : Option WebConnection) (n count : ℕ) (old new : Talking) → SendsBy web n count old new → AreGuarded old → AreGuarded new
-guarded_sends None n count old new same each = to _ new same (guarded_altered old n (λ h. sent h (min count (length (waits_of old.host n)))) (λ h. refl) each)
-guarded_sends (Some web) n count old new (web', is, same) each = to (with_web old n web') new same (guarded_web old n web' each)
+guarded_sends None n count old new (apart, same) each = to _ new same (guarded_altered old n (λ h. sent h (min count (length (waits_of old.host n)))) (λ h. refl) each)
+guarded_sends (Some web) n count old new (web', is, same) each = to (with_web old n web') new same each
 
 pub guarded_out : (n : ℕ) (bytes : List ℕ) (old new : Talking) → GivesOut n bytes old new → AreGuarded old → AreGuarded new
 guarded_out n bytes old new (inl (first, sends)) each = guarded_sends (web_in old n) n (length bytes) old new sends each
@@ -168,8 +136,8 @@ guarded_out n bytes old new (inr (same, none)) each = to old new same each
 
 -- ---- a round
 
-pub guarded_round : (t : Talking) (host : HostValue) (turns : List (ℕ × Turn)) → ((q : ℕ) → BothClients (client_of t.host q) (client_of host q) (ClientCourse (own q turns))) → AreGuarded t → AreGuarded (with_host t host)
-guarded_round t host turns both each q h found =
+pub guarded_round : (t : Talking) (host : HostValue) (hand : AtHandValue) (turns : List (ℕ × Turn)) → ((q : ℕ) → BothClients (client_of t.host q) (client_of host q) (ClientCourse (own q turns))) → AreGuarded t → AreGuarded (with_round t host hand)
+guarded_round t host hand turns both each q h found =
     let k = was (client_of t.host q) h (ClientCourse (own q turns)) (subst (λ o. BothClients (client_of t.host q) o (ClientCourse (own q turns))) found (both q)) in
     on k.0 k.2 (each q k.0 k.1)
   where
@@ -193,6 +161,7 @@ kept_deed old new (Calls n call, does) = kept old new _ refl does.1
 kept_deed old new (Attends n web web' errand, does) = kept old new _ refl does.2
 kept_deed old new (Begins n batch, does) = kept old new _ refl does.1
 kept_deed old new (Hands n batch batch', does) = kept old new _ refl does.2
+kept_deed old new (Drops n reply, does) = kept old new _ refl does.1.1
 
 kept_by : (web : Option WebConnection) (n : ℕ) (bytes : List ℕ) (old new : Talking) → TakesBy web n bytes old new → new.guard ≡ old.guard
 kept_by None n bytes old new (apart, takes, same) = kept old new _ refl same
@@ -203,7 +172,7 @@ kept_in n bytes old new (inl takes) = kept_by (web_in old n) n bytes old new tak
 kept_in n bytes old new (inr (same, none)) = kept old new old refl same
 
 kept_sends : (web : Option WebConnection) (n count : ℕ) (old new : Talking) → SendsBy web n count old new → new.guard ≡ old.guard
-kept_sends None n count old new same = kept old new _ refl same
+kept_sends None n count old new (apart, same) = kept old new _ refl same
 kept_sends (Some web) n count old new (web', is, same) = kept old new _ refl same
 
 pub kept_out : (n : ℕ) (bytes : List ℕ) (old new : Talking) → GivesOut n bytes old new → new.guard ≡ old.guard

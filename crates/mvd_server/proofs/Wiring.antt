@@ -1,14 +1,12 @@
 -- Bytes between sockets and connections.
-use Rattle.std.proofs.Common.{◌≡◌, ◌≤◌, ◌⊎◌, ◌∙◌, ℕ, false, is_some, true≢false, List, [], Option, None, Some, inl, inr, length, take, refl, sym, subst, ap}
+use Rattle.std.proofs.Common.{◌≡◌, ◌≤◌, ◌⊎◌, ◌∙◌, ℕ, List, [], Option, None, Some, inl, inr, length, take, refl, sym, subst, ap}
 use Rattle.std.proofs.lemmas.List.{length-take-le}
-use Rattle.mvd_host.specs.Hosts.{client_of}
 use Rattle.mvd_server.specs.Moves.{ReadsOnce, MovesOne}
 use Rattle.mvd_server.specs.declared.client.Moved.{Moved}
 use Rattle.mvd_server.specs.declared.client.Moved.TheVariants.{Bytes, Nothing, End, Failed}
 use Rattle.mvd_wire.specs.Replies.{reply_bytes}
 use Rattle.mvd_wire.specs.declared.reply.Reply.TheVariants.{Refused}
 use Rattle.mvd_dots.specs.declared.refusals.Refusal.TheVariants.{TooManyRequests}
-use Rattle.mvd_conn.specs.History.{History}
 use Rattle.mvd_server.specs.Talking.{Talking, web_in}
 use Rattle.mvd_server.specs.Wires.{Carries, FeedsBy, FeedsTo, GivesOut, IsNoClient, IsNoPlace, MayFeed, MayFeedBy, SendsOf, TakesBy, TakesInput, TellsNoPlace, Wired, no_place_web, waits_for}
 use Rattle.mvd_server.specs.declared.sockets.Sockets.{Ghosts}
@@ -48,18 +46,8 @@ module _ {K : Type 0} (k : Ghosts K) where
   carries_dropped n t sockets sockets' none (inl same) = carries_still t sockets sockets' same
   carries_dropped n t sockets sockets' none (inr (bytes, gives)) = carries_in k n bytes t t sockets sockets' gives (inr (refl, inl none))
 
-  no_client : (t : Talking) (n : ℕ) → is_some (client_of t.host n) ≡ false → IsNoClient t n
-  no_client t n gone = on (client_of t.host n) gone
-    where
-      on : (o : Option History) → is_some o ≡ false → o ≡ None
-      on None none = refl
-      on (Some h) none = absurd (true≢false none)
-
-  pub dropped_unless : (n : ℕ) (t : Talking) (sockets sockets' : K) → is_some (client_of t.host n) ≡ false → ReadsOnce k.gave n sockets sockets' → Carries k (at t sockets) (at t sockets')
-  dropped_unless n t sockets sockets' gone reads = carries_dropped n t sockets sockets' (no_client t n gone) reads
-
   -- it is told that there is no place
-  pub carries_away : (n : ℕ) (t : Talking) (sockets sockets' : K) → IsNoClient t n → TellsNoPlace k.took n sockets sockets' → Carries k (at t sockets) (at t sockets')
+  carries_away : (n : ℕ) (t : Talking) (sockets sockets' : K) → IsNoClient t n → TellsNoPlace k.took n sockets sockets' → Carries k (at t sockets) (at t sockets')
   carries_away n t sockets sockets' none (inl same) = carries_still t sockets sockets' same
   carries_away n t sockets sockets' none (inr (bytes, takes, told)) = carries_out k n bytes t t sockets sockets' takes (inr (refl, inl (none, told)))
 
@@ -79,6 +67,6 @@ module _ {K : Type 0} (k : Ghosts K) where
   tells n End bytes sockets sockets' text takes = inr ([], takes, inl refl)
   tells n Failed bytes sockets sockets' text same = inl same
 
-  pub away_unless : (n : ℕ) (moved : Moved) (bytes : List ℕ) (t : Talking) (sockets sockets' : K) → is_some (client_of t.host n) ≡ false → IsText bytes → MovesOne k.took n moved bytes sockets sockets'
+  pub away_unless : (n : ℕ) (moved : Moved) (bytes : List ℕ) (t : Talking) (sockets sockets' : K) → IsNoClient t n → IsText bytes → MovesOne k.took n moved bytes sockets sockets'
       → Carries k (at t sockets) (at t sockets')
-  away_unless n moved bytes t sockets sockets' gone text takes = carries_away n t sockets sockets' (no_client t n gone) (tells n moved bytes sockets sockets' text takes)
+  away_unless n moved bytes t sockets sockets' none text takes = carries_away n t sockets sockets' none (tells n moved bytes sockets sockets' text takes)

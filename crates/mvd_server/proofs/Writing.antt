@@ -6,7 +6,7 @@ use Rattle.mvd_dots.specs.declared.refusals.Refusal.{Refusal}
 use Rattle.mvd_http.specs.declared.fields.Answer.{Answer}
 use Rattle.mvd_server.specs.Errands.{TellsAllLines}
 use Rattle.mvd_server.specs.declared.batch.Batch.{Batch}
-use Rattle.mvd_web.specs.Web.{Queues, RespondsTo, WebValue}
+use Rattle.mvd_web.specs.Web.{RespondsTo, WebValue}
 use Rattle.mvd_web.specs.declared.taken.Asked.{Asked}
 
 -- a response ends the request that waited

@@ -39,9 +39,9 @@ pub record IsOwnPage (asked : Asked) : Type 0 where
   pub host : IsTrue asked.names_host
   pub own : IsTrue asked.is_own
 
--- the host is asked, or what the server keeps of the site is told
+-- the site is asked, or what the server keeps of the site is told
 abbrev pub AsksSite : Plan → Type 0
-AsksSite (plan.Frame frame) = ⊤
+AsksSite (plan.Ask request) = ⊤
 AsksSite (plan.Writes batch) = ⊤
 AsksSite (plan.Changes since wait) = ⊤
 AsksSite plan.Root = ⊤

@@ -1,37 +1,59 @@
--- The writes of one request: their frames, and those that are refused at once.
-use Rattle.std.specs.Prelude.{◌≡◌, ℕ, List, [], ◌∷◌, ◌++◌, Option, Some, None, Result, Ok, Err, string_bytes}
+-- The writes of one request: those that are asked, and those that are refused at once.
+use Rattle.std.specs.Prelude.{◌≡◌, ◌⊎◌, ℕ, Bool, true, false, if◌then◌else◌, List, [], ◌∷◌, ◌++◌, Option, Some, None, Result, Ok, Err, string_bytes}
 use Rattle.mvd_dots.specs.declared.refusals.Refusal.{Refusal}
+use Rattle.mvd_dots.specs.declared.refusals.Refusal.TheVariants.{BadKind}
+use Rattle.mvd_host.specs.AtHand.{AllMayWait, AtHandValue, asked_by_one, asks_of}
 use Rattle.mvd_server.specs.declared.batch.Batch.{Batch}
-use Rattle.mvd_wire.specs.Requests.{request_frame}
 use Rattle.mvd_wire.specs.declared.request.Request.{Request}
+use Rattle.mvd_wire.specs.declared.request.Request.TheVariants.{Get, Put, Delete, Find, Row, Rows, Node, Bucket, Range, Keys, Conflicts}
 
--- the frame of a write, or why there is none
-abbrev pub frame_of_write : Result Request Refusal → Result (List ℕ) Refusal
-frame_of_write (Ok request) = request_frame request
-frame_of_write (Err refusal) = Err refusal
+-- what may be asked of the site over HTTP
+abbrev pub is_web_request : Request → Bool
+is_web_request (Get key) = true
+is_web_request (Put key seen document) = true
+is_web_request (Delete key seen) = true
+is_web_request (Find field term after) = true
+is_web_request (Row view term) = true
+is_web_request (Rows view after) = true
+is_web_request (Node path) = true
+is_web_request (Bucket path after) = true
+is_web_request (Range field from to after) = true
+is_web_request (Keys prefix after) = true
+is_web_request (Conflicts after) = true
+is_web_request _ = false
 
-abbrev pub bytes_if : Result (List ℕ) Refusal → List ℕ
-bytes_if (Ok bytes) = bytes
-bytes_if (Err refusal) = []
+-- what a write asks of the site, and why it is refused at once, if it is
+abbrev pub asked_if : Result Request Refusal → List Request
+asked_if (Ok request) = if is_web_request request then request ∷ [] else []
+asked_if (Err refusal) = []
 
-abbrev pub refusal_if : Result (List ℕ) Refusal → Option Refusal
-refusal_if (Ok bytes) = None
-refusal_if (Err refusal) = Some refusal
+abbrev pub refused_if : Result Request Refusal → Option Refusal
+refused_if (Ok request) = if is_web_request request then None else Some BadKind
+refused_if (Err refusal) = Some refusal
 
--- the frames of all writes that have one, in order
-abbrev pub frames_written : List (Result Request Refusal) → List ℕ
-frames_written [] = []
-frames_written (write ∷ writes) = bytes_if (frame_of_write write) ++ frames_written writes
+-- what all writes ask, in order
+abbrev pub asked_in : List (Result Request Refusal) → List Request
+asked_in [] = []
+asked_in (write ∷ writes) = asked_if write ++ asked_in writes
 
 -- of each write why it is refused at once, if it is
 abbrev pub refusals_of : List (Result Request Refusal) → List (Option Refusal)
 refusals_of [] = []
-refusals_of (write ∷ writes) = refusal_if (frame_of_write write) ∷ refusals_of writes
+refusals_of (write ∷ writes) = refused_if write ∷ refusals_of writes
 
--- the batch is of these writes, of which none was handed on or told
+-- the batch is of these writes, of which none was asked or told
 pub record BeginsBatch (writes : List (Result Request Refusal)) (batch : Batch) : Type 0 where
-  pub frames : batch.frames.items ≡ frames_written writes
+  pub requests : batch.requests.items ≡ asked_in writes
   pub refused : batch.refused.items ≡ refusals_of writes
-  pub handed : batch.handed ≡ 0
   pub told : batch.told ≡ 0
   pub lines : string_bytes batch.lines ≡ []
+
+-- all that the writes ask is asked at hand, once; or there is no memory for that, and nothing is
+pub record AsksWrites (n : ℕ) (old : Batch) (hand : AtHandValue) (new : Batch) (hand' : AtHandValue) : Type 0 where
+  pub may : AllMayWait (asks_of n old.requests.items)
+  pub asks : hand' ≡ asked_by_one hand n old.requests.items
+  pub gone : new.requests.items ≡ []
+  pub same : new ≡ record old { requests = new.requests }
+
+abbrev pub HandsBatch : ℕ → Batch → AtHandValue → Batch → AtHandValue → Type 0
+HandsBatch n old hand new hand' = AsksWrites n old hand new hand' ⊎ ((new ≡ old) × (hand' ≡ hand))

@@ -1,12 +1,11 @@
 -- How a server ends.
 use Rattle.std.specs.Io.KnownBytes.{Appends}
-use Rattle.std.specs.Prelude.{◌≡◌, ◌≢◌, ◌⊎◌, ℕ, ◌-◌, true, List, length, Option, Ok}
+use Rattle.std.specs.Prelude.{◌≡◌, ◌≢◌, ◌⊎◌, ℕ, ◌+◌, ◌-◌, true, List, length, Option, Ok}
 use Rattle.mvd_dots.specs.declared.refusals.Refusal.TheVariants.{Broken, Memory, ReadFailed, WriteFailed}
 use Rattle.mvd_input.specs.declared.fault.Fault.{Fault}
 use Rattle.mvd_input.specs.declared.fault.Fault.TheVariants.{Stopped, Line}
 use Rattle.mvd_print.specs.Text.{root_text}
 use Rattle.mvd_replica.specs.ReplicaCalls.{root_answer}
-use Rattle.mvd_replica.specs.Replicas.{site_of}
 use Rattle.mvd_replica.specs.declared.replica.Replica.{Replica}
 use Rattle.mvd_server.specs.Rounds.{IsServed}
 use Rattle.mvd_server.specs.Talking.{Talking}
@@ -14,9 +13,13 @@ use Rattle.mvd_server.specs.declared.sockets.Sockets.{Ghosts as SocketGhosts}
 use Rattle.mvd_site.specs.Sites.{SiteValue}
 use Rattle.sqlite_trees.specs.declared.store.Store.{Ghosts}
 
+-- how many clients are not the server's own
+abbrev pub client_count : Talking → ℕ
+client_count t = (length t.host.clients - length t.own) + length t.webs
+
 -- no client is left but the server's own
 abbrev pub IsDeserted : Talking → Type 0
-IsDeserted t = length t.host.clients - length t.own ≡ 0
+IsDeserted t = client_count t ≡ 0
 
 -- why it ends at fault: it cannot listen or wait, a line cannot be written, memory is refused, or the site is broken
 abbrev pub EndsAtFault : SiteValue → Fault → Type 0

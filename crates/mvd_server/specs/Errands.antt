@@ -1,18 +1,16 @@
 -- What a server does for a client over HTTP, between two rounds.
-use Rattle.std.specs.Prelude.{◌≡◌, ◌≤◌, ◌⊎◌, ℕ, Bool, true, false, IsTrue, List, length, Option, Some, None, Result, Ok, OnOk, Err, string_bytes}
+use Rattle.std.specs.Prelude.{◌≡◌, ◌≤◌, ◌⊎◌, ℕ, Bool, true, false, List, [], ◌∷◌, length, Option, Some, None, Result, Ok, OnOk, OnErr, Err, string_bytes}
 use Rattle.std.specs.BTreeMap.{is_at}
 use Rattle.std.specs.Map.{lookup, remove_entry, set_value}
 use Rattle.std.specs.Ordering.{nat_cmp}
 use Rattle.mvd_conn.specs.declared.guard.Guard.{Guard}
 use Rattle.mvd_dots.specs.declared.refusals.Refusal.{Refusal}
 use Rattle.mvd_dots.specs.declared.refusals.Refusal.TheVariants.{Memory}
-use Rattle.mvd_host.specs.Hosts.{HostValue}
+use Rattle.mvd_host.specs.AtHand.{AtHandValue, MayWait, TakesFirst, asked_by_one}
 use Rattle.mvd_http.specs.declared.fields.Content.TheVariants as content
 use Rattle.mvd_http.specs.declared.question.Question.TheVariants.{Changes, Many}
 use Rattle.mvd_server.specs.Admitted.{AsksSite, IsOwnPage, KeepsOut, MayAsk, is_welcome}
 use Rattle.mvd_server.specs.Batches.{BeginsBatch}
-use Rattle.mvd_server.specs.Fronts.{TakesFront}
-use Rattle.mvd_server.specs.Handed.{HandsWhole, TakenFrom}
 use Rattle.mvd_server.specs.Lines.{IsOnlyTold, TellsEachLine}
 use Rattle.mvd_server.specs.Plans.{IsPlanOf, plain_answer}
 use Rattle.mvd_server.specs.Responding.{AnswersWeb, RefusesWeb, TellsBody, token_answer, not_admitted}
@@ -36,8 +34,8 @@ pub record Decides (guard : Option Guard) (asked : Asked) (p : Plan) : Type 0 wh
   pub done : is_welcome guard asked ≡ true → IsPlanOf asked.question p
   pub out : is_welcome guard asked ≡ false → KeepsOut asked p
 
--- the host is asked nothing, and nothing is left to do
-abbrev pub IsToldRest : HostValue → HostValue → Rest → Type 0
+-- the site is asked nothing, and nothing is left to do
+abbrev pub IsToldRest : AtHandValue → AtHandValue → Rest → Type 0
 IsToldRest old new left = (new ≡ old) × (left ≡ rest.Nothing)
 
 -- what changed is told, or the request waits for that
@@ -46,23 +44,28 @@ TellsOrWaits since wait old new left =
     ((left ≡ rest.Nothing) × TellsBody content.Json old new)
     ⊎ ((root : List ℕ) × (since ≡ Some root) × (left ≡ rest.Waits root wait) × (new ≡ old))
 
--- it is done, once: the host is asked, or a response is queued, or it is told what is left to do
-abbrev pub DoesPlan : ℕ → Plan → WebValue → HostValue → WebValue → HostValue → Rest → Type 0
-DoesPlan n (plan.Frame frame) old host new host' left =
-    HandsWhole n frame.items host host' × (new ≡ old) × (left ≡ rest.Nothing)
-DoesPlan n (plan.Writes batch) old host new host' left = (host' ≡ host) × (new ≡ old) × (left ≡ rest.Writes batch)
-DoesPlan n (plan.Changes since wait) old host new host' left = (host' ≡ host) × TellsOrWaits since wait old new left
-DoesPlan n plan.Root old host new host' left = IsToldRest host host' left × TellsBody content.Json old new
-DoesPlan n plan.Metrics old host new host' left = IsToldRest host host' left × TellsBody content.Plain old new
-DoesPlan n (plan.Told answer body) old host new host' left =
-    IsToldRest host host' left × RespondsTo old.asked old answer body.now new
-DoesPlan n plan.NotAdmitted old host new host' left =
-    IsToldRest host host' left × RespondsTo old.asked old token_answer not_admitted new
-DoesPlan n (plan.Refused refusal) old host new host' left = IsToldRest host host' left × RefusesWeb refusal old new
+-- the request is asked at hand, once; or it is refused, for want of memory, or since it is none that may wait
+abbrev pub AsksAtHand : ℕ → Request → WebValue → AtHandValue → WebValue → AtHandValue → Type 0
+AsksAtHand n request old hand new hand' =
+    (MayWait (n, request) × (hand' ≡ asked_by_one hand n (request ∷ [])) × (new ≡ old))
+    ⊎ ((hand' ≡ hand) × ((refusal : Refusal) × (MayWait (n, request) → refusal ≡ Memory) × RefusesWeb refusal old new))
+
+-- it is done, once: the site is asked, or a response is queued, or it is told what is left to do
+abbrev pub DoesPlan : ℕ → Plan → WebValue → AtHandValue → WebValue → AtHandValue → Rest → Type 0
+DoesPlan n (plan.Ask request) old hand new hand' left = AsksAtHand n request old hand new hand' × (left ≡ rest.Nothing)
+DoesPlan n (plan.Writes batch) old hand new hand' left = (hand' ≡ hand) × (new ≡ old) × (left ≡ rest.Writes batch)
+DoesPlan n (plan.Changes since wait) old hand new hand' left = (hand' ≡ hand) × TellsOrWaits since wait old new left
+DoesPlan n plan.Root old hand new hand' left = IsToldRest hand hand' left × TellsBody content.Json old new
+DoesPlan n plan.Metrics old hand new hand' left = IsToldRest hand hand' left × TellsBody content.Plain old new
+DoesPlan n (plan.Told answer body) old hand new hand' left =
+    IsToldRest hand hand' left × RespondsTo old.asked old answer body.now new
+DoesPlan n plan.NotAdmitted old hand new hand' left =
+    IsToldRest hand hand' left × RespondsTo old.asked old token_answer not_admitted new
+DoesPlan n (plan.Refused refusal) old hand new hand' left = IsToldRest hand hand' left × RefusesWeb refusal old new
 
 -- ONE REQUEST is taken of what came, and that is done about it which may be
-pub record AsksOne (guard : Option Guard) (n : ℕ) (old : WebValue) (host : HostValue) (new : WebValue)
-    (host' : HostValue)
+pub record AsksOne (guard : Option Guard) (n : ℕ) (old : WebValue) (hand : AtHandValue) (new : WebValue)
+    (hand' : AtHandValue)
     (left : Rest) : Type 0 where
   pub mid : WebValue
   pub takes : TakesRequest old true mid
@@ -70,12 +73,12 @@ pub record AsksOne (guard : Option Guard) (n : ℕ) (old : WebValue) (host : Hos
   pub kept : mid.asked ≡ Some asked
   pub plan : Plan
   pub decides : Decides guard asked plan
-  pub does : DoesPlan n plan mid host new host' left
+  pub does : DoesPlan n plan mid hand new hand' left
 
 -- or there is none
-abbrev pub AsksNextOf : Option Guard → ℕ → WebValue → HostValue → WebValue → HostValue → Rest → Type 0
-AsksNextOf guard n old host new host' left =
-    (IsToldRest host host' left × TakesRequest old false new) ⊎ AsksOne guard n old host new host' left
+abbrev pub AsksNextOf : Option Guard → ℕ → WebValue → AtHandValue → WebValue → AtHandValue → Rest → Type 0
+AsksNextOf guard n old hand new hand' left =
+    (IsToldRest hand hand' left × TakesRequest old false new) ⊎ AsksOne guard n old hand new hand' left
 
 -- ---- many writes
 
@@ -92,20 +95,30 @@ TellsAllLines (Ok true) old batch new = (length batch.refused.items ≤ batch.to
 TellsAllLines (Ok false) old batch new = new ≡ old
 TellsAllLines (Err refusal) old batch new = new ≡ stopped_by old refusal
 
--- the line of each is of the reply to it, and nothing else of the writes changes
-abbrev pub TellsBatch : ℕ → WebValue → Batch → HostValue → WebValue → Batch → HostValue → Type 0
-TellsBatch n old batch host new batch' host' =
-    IsOnlyTold batch batch' × TakenFrom n host host'
+-- the first reply that is left is this one, if there is one, and it is to this client
+abbrev pub TakesIf : ℕ → Option Reply → AtHandValue → AtHandValue → Type 0
+TakesIf n None old new = new ≡ old
+TakesIf n (Some reply) old new = TakesFirst old (Some (n, reply)) new
+
+-- no line is there; since a reply was taken, there will not be one of each write
+abbrev pub IsUntold : Batch → Type 0
+IsUntold batch = (batch.told ≡ 0) × (string_bytes batch.lines ≡ [])
+
+-- At most one reply is taken; the line of each is of the reply to it, and nothing else of the writes changes. Where a
+-- line cannot be put down, all are gone
+abbrev pub TellsBatch : ℕ → WebValue → Batch → AtHandValue → WebValue → Batch → AtHandValue → Type 0
+TellsBatch n old batch hand new batch' hand' =
+    IsOnlyTold batch batch' × ((reply : Option Reply) × TakesIf n reply hand hand')
     × ((told : Result Bool Refusal)
-    × OnOk told (TellsEachLine n batch host batch' host') × TellsAllLines told old batch' new)
+    × OnOk told (TellsEachLine n batch hand batch' hand') × OnErr told (IsUntold batch')
+    × TellsAllLines told old batch' new)
 
 -- ---- responses
 
--- the next reply of the host is told, if there is one
-abbrev pub TellsClient : ℕ → WebValue → HostValue → WebValue → HostValue → Type 0
-TellsClient n old host new host' =
-    ((host' ≡ host) × (new ≡ old))
-    ⊎ ((reply : Result Reply Refusal) × TakesFront n host (Some reply) host' × AnswersWeb old.asked reply old new)
+-- the first reply that is left is taken away, and told
+abbrev pub TellsClient : ℕ → WebValue → AtHandValue → WebValue → AtHandValue → Type 0
+TellsClient n old hand new hand' =
+    (reply : Reply) × TakesFirst hand (Some (n, reply)) hand' × AnswersWeb old.asked reply old new
 
 -- the request that waits asks what changed
 abbrev pub AwaitsChange : Option Asked → Type 0
@@ -114,14 +127,14 @@ AwaitsChange (Some asked) = (since : Option (List ℕ)) × (wait : ℕ) × (aske
 
 -- ---- errands
 
--- the host, the client's connection, and the writes of those of whose request some are not answered
+-- what is at hand, the client's connection, and the writes of those of whose request some are not answered
 pub record Desk : Type 0 where
-  pub host : HostValue
+  pub hand : AtHandValue
   pub web : WebValue
   pub batches : List (ℕ × Batch)
 
-abbrev pub desk : HostValue → WebValue → List (ℕ × Batch) → Desk
-desk host web batches = record { host = host; web = web; batches = batches }
+abbrev pub desk : AtHandValue → WebValue → List (ℕ × Batch) → Desk
+desk hand web batches = record { hand = hand; web = web; batches = batches }
 
 abbrev pub batch_in : List (ℕ × Batch) → ℕ → Option Batch
 batch_in batches n = lookup (is_at (nat_cmp n)) batches
@@ -145,13 +158,13 @@ KeepsWrites n batch old new =
 
 abbrev pub RunsErrand : Errand → Option Guard → ℕ → Desk → Desk → Type 0
 RunsErrand (Asks left) guard n old new =
-    AsksNextOf guard n old.web old.host new.web new.host left × (new.batches ≡ old.batches)
+    AsksNextOf guard n old.web old.hand new.web new.hand left × (new.batches ≡ old.batches)
 RunsErrand (Forgoes batch) guard n old new =
     (IsBatchFor old.web.asked batch × (batch_in old.batches n ≡ None))
     × RefusesWeb Memory old.web new.web × (new ≡ record old { web = new.web })
-RunsErrand Tells guard n old new = TellsClient n old.web old.host new.web new.host × (new.batches ≡ old.batches)
+RunsErrand Tells guard n old new = TellsClient n old.web old.hand new.web new.hand × (new.batches ≡ old.batches)
 RunsErrand (TellsMany batch batch') guard n old new =
-    (batch_in old.batches n ≡ Some batch) × TellsBatch n old.web batch old.host new.web batch' new.host
+    (batch_in old.batches n ≡ Some batch) × TellsBatch n old.web batch old.hand new.web batch' new.hand
     × KeepsWrites n batch' old new
 RunsErrand TellsChange guard n old new =
     AwaitsChange old.web.asked × TellsBody content.Json old.web new.web × (new ≡ record old { web = new.web })

@@ -3,9 +3,7 @@ pub mod Batches
 pub mod Closing
 pub mod Dues
 pub mod Errands
-pub mod Fronts
 pub mod Guarded
-pub mod Handed
 pub mod HostBytes
 pub mod Lines
 pub mod Moves

@@ -1,28 +1,34 @@
 -- The lines of many writes: each is of the reply to its own write.
-use Rattle.std.specs.Prelude.{◌≡◌, ◌+◌, ◌<◌, ◌++◌, ℕ, List, length, Option, Some, Ok, string_bytes}
+use Rattle.std.specs.Prelude.{◌≡◌, ◌+◌, ◌<◌, ◌++◌, ℕ, List, length, Option, Some, string_bytes}
 use Rattle.std.specs.List.{slice_get}
 use Rattle.mvd_dots.specs.declared.refusals.Refusal.{Refusal}
-use Rattle.mvd_host.specs.Hosts.{HostValue}
+use Rattle.mvd_host.specs.AtHand.{AtHandValue, TakesFirst}
 use Rattle.mvd_http.specs.Json.{line_text}
-use Rattle.mvd_server.specs.Fronts.{TellsNext}
 use Rattle.mvd_server.specs.Paths.{Path}
 use Rattle.mvd_server.specs.declared.batch.Batch.{Batch}
 use Rattle.mvd_wire.specs.declared.reply.Reply.{Reply}
+use Rattle.mvd_wire.specs.declared.reply.Reply.TheVariants.{Refused}
 
--- the host, and the lines of so many writes
+-- what is at hand, and the lines of so many writes
 pub record Lining : Type 0 where
-  pub host : HostValue
+  pub hand : AtHandValue
   pub told : ℕ
   pub lines : List ℕ
 
-abbrev pub lining : HostValue → Batch → Lining
-lining host batch = record { host = host; told = batch.told; lines = string_bytes batch.lines }
+abbrev pub lining : AtHandValue → Batch → Lining
+lining hand batch = record { hand = hand; told = batch.told; lines = string_bytes batch.lines }
+
+-- The reply to a write. One that is refused at once is told so, and no reply is taken for it; each other is told the
+-- first reply that is left, which is to this client
+abbrev pub TellsNext : Option (Option Refusal) → ℕ → AtHandValue → Reply → AtHandValue → Type 0
+TellsNext (Some (Some refusal)) n old told new = (told ≡ Refused refusal) × (new ≡ old)
+TellsNext _ n old told new = TakesFirst old (Some (n, told)) new
 
 -- there is a next write, and the line of the reply to it is put behind the others
 pub record TellsWriteLine (refused : List (Option Refusal)) (n : ℕ) (old new : Lining) : Type 0 where
   pub within : old.told < length refused
   pub reply : Reply
-  pub next : TellsNext (slice_get refused old.told) n old.host (Some (Ok reply)) new.host
+  pub next : TellsNext (slice_get refused old.told) n old.hand reply new.hand
   pub told : new.told ≡ old.told + 1
   pub lines : new.lines ≡ old.lines ++ line_text reply
 
@@ -30,8 +36,8 @@ pub record TellsWriteLine (refused : List (Option Refusal)) (n : ℕ) (old new :
 abbrev pub TellsSome : List (Option Refusal) → ℕ → Lining → Lining → Type 0
 TellsSome refused n old new = Path (TellsWriteLine refused n) old new
 
-abbrev pub TellsEachLine : ℕ → Batch → HostValue → Batch → HostValue → Type 0
-TellsEachLine n batch host batch' host' = TellsSome batch.refused.items n (lining host batch) (lining host' batch')
+abbrev pub TellsEachLine : ℕ → Batch → AtHandValue → Batch → AtHandValue → Type 0
+TellsEachLine n batch hand batch' hand' = TellsSome batch.refused.items n (lining hand batch) (lining hand' batch')
 
 -- nothing of the writes changes but which are told
 abbrev pub IsOnlyTold : Batch → Batch → Type 0

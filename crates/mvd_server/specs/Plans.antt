@@ -1,5 +1,5 @@
 -- What is done about what a request of HTTP asks, for whoever may ask.
-use Rattle.std.specs.Prelude.{◌≡◌, ◌≢◌, ℕ, false, List, Option, Some, None, Result, Ok, Err}
+use Rattle.std.specs.Prelude.{◌≡◌, ℕ, true, false, List, Option, Some, None, Result, Ok, Err}
 use Rattle.mvd_dots.specs.declared.refusals.Refusal.{Refusal}
 use Rattle.mvd_dots.specs.declared.refusals.Refusal.TheVariants.{Memory}
 use Rattle.mvd_http.specs.Faults.{answer_of, fault_text}
@@ -11,17 +11,16 @@ use Rattle.mvd_http.specs.declared.http_fault.Fault.TheVariants.{ContentTooLarge
 use Rattle.mvd_http.specs.declared.question.Methods.{Methods}
 use Rattle.mvd_http.specs.declared.question.Question.{Question}
 use Rattle.mvd_http.specs.declared.question.Question.TheVariants.{Page, Root, Metrics, Ask, Live, Changes, Many, TooManyLines, Nowhere, NotAllowed}
-use Rattle.mvd_server.specs.Batches.{BeginsBatch}
+use Rattle.mvd_server.specs.Batches.{BeginsBatch, is_web_request}
 use Rattle.mvd_server.specs.declared.gate.Plan.{Plan}
 use Rattle.mvd_server.specs.declared.gate.Plan.TheVariants as plan
-use Rattle.mvd_wire.specs.Requests.{request_frame}
 use Rattle.mvd_wire.specs.declared.request.Request.{Request}
 
--- this frame is handed on, or its refusal is told; want of memory may be
-abbrev pub HandsOn : Result (List ℕ) Refusal → Plan → Type 0
-HandsOn frame (plan.Frame bytes) = frame ≡ Ok bytes.items
-HandsOn frame (plan.Refused refusal) = refusal ≢ Memory → frame ≡ Err refusal
-HandsOn frame _ = ⊥
+-- this is asked, or want of memory is told
+abbrev pub HandsOn : Request → Plan → Type 0
+HandsOn request (plan.Ask asked) = asked ≡ request
+HandsOn request (plan.Refused refusal) = is_web_request request ≡ true → refusal ≡ Memory
+HandsOn request _ = ⊥
 
 -- these writes are, or want of memory is told
 abbrev pub HandsOnAll : List (Result Request Refusal) → Plan → Type 0
@@ -46,8 +45,8 @@ TellsWebPage _ = ⊥
 
 -- what is done about a question
 abbrev pub IsPlanFor : Question → Plan → Type 0
-IsPlanFor (Ask request) p = HandsOn (request_frame request) p
-IsPlanFor (Live request) p = HandsOn (request_frame request) p
+IsPlanFor (Ask request) p = HandsOn request p
+IsPlanFor (Live request) p = HandsOn request p
 IsPlanFor (Many writes) p = HandsOnAll writes p
 IsPlanFor (Changes since wait) p = p ≡ plan.Changes since wait
 IsPlanFor Page p = TellsWebPage p

@@ -1,5 +1,5 @@
 -- What a client over HTTP is told of the reply to its request.
-use Rattle.std.specs.Prelude.{◌≡◌, ◌⊎◌, ◌&&◌, if◌then◌else◌, nat_le, codes, ℕ, Bool, true, false, List, [], ◌∷◌, Option, Some, None, Result, Ok, Err}
+use Rattle.std.specs.Prelude.{◌≡◌, ◌⊎◌, ◌&&◌, if◌then◌else◌, nat_le, codes, ℕ, Bool, true, false, List, [], ◌∷◌, Option, Some, None, Result, Ok}
 use Rattle.mvd_dots.specs.declared.refusals.Refusal.{Refusal}
 use Rattle.mvd_http.specs.Answers.{Responds, IsToldAs, Told, is_stored, live_told, refused_told, reply_told}
 use Rattle.mvd_http.specs.declared.fields.Answer.{Answer}
@@ -12,7 +12,6 @@ use Rattle.mvd_web.specs.Web.{RespondsTo, WebValue, stopped_by}
 use Rattle.mvd_web.specs.declared.taken.Asked.{Asked}
 use Rattle.mvd_wire.specs.declared.reply.Reply.{Reply}
 use Rattle.mvd_wire.specs.declared.request.Request.{Request}
-use Rattle.mvd_wire.specs.declared.request.Request.TheVariants.{Put, Delete}
 
 -- ---- the head of a response
 
@@ -29,44 +28,30 @@ json_answer status body = plain_answer (status_or_500 status) (content_of body)
 
 -- ---- what is told of a reply
 
--- a request over HTTP that may change the site
-abbrev pub is_web_change : Request → Bool
-is_web_change (Put key seen document) = true
-is_web_change (Delete key seen) = true
-is_web_change request = false
-
 -- keys without a sibling may be left out
 abbrev pub told_with : Bool → Request → Reply → Result Told Refusal
 told_with true request reply = live_told request reply
 told_with false request reply = reply_told request reply
 
--- The reply is told; or why it cannot be read, but of a change, which may be stored
-abbrev pub AnswersAsked : Bool → Request → Result Reply Refusal → ℕ → List ℕ → Type 0
-AnswersAsked is_live request (Ok reply) status body =
+-- the reply is told
+abbrev pub AnswersAsked : Bool → Request → Reply → ℕ → List ℕ → Type 0
+AnswersAsked is_live request reply status body =
     Responds (is_stored reply) (told_with is_live request reply) status body
-AnswersAsked is_live request (Err refusal) status body =
-    (is_web_change request ≡ false) × IsToldAs (refused_told refusal) status body
 
-abbrev pub AnswersReply : Result Question Refusal → Result Reply Refusal → ℕ → List ℕ → Type 0
+abbrev pub AnswersReply : Result Question Refusal → Reply → ℕ → List ℕ → Type 0
 AnswersReply (Ok (Ask request)) reply status body = AnswersAsked false request reply status body
 AnswersReply (Ok (Live request)) reply status body = AnswersAsked true request reply status body
 AnswersReply _ reply status body = ⊥
 
--- the site is asked, and nothing of it changes
-abbrev pub AsksNoChange : Result Question Refusal → Type 0
-AsksNoChange (Ok (Ask request)) = is_web_change request ≡ false
-AsksNoChange (Ok (Live request)) = is_web_change request ≡ false
-AsksNoChange _ = ⊥
-
 -- a response to the request that waits
-pub record AnswersBy (asked : Asked) (reply : Result Reply Refusal) (old new : WebValue) : Type 0 where
+pub record AnswersBy (asked : Asked) (reply : Reply) (old new : WebValue) : Type 0 where
   pub status : ℕ
   pub body : List ℕ
   pub answers : AnswersReply asked.question reply status body
   pub responds : RespondsTo (Some asked) old (json_answer status body) body new
 
 -- The request that waits is answered by this reply, or the connection is stopped. Where none waits, nothing is done
-abbrev pub AnswersWeb : Option Asked → Result Reply Refusal → WebValue → WebValue → Type 0
+abbrev pub AnswersWeb : Option Asked → Reply → WebValue → WebValue → Type 0
 AnswersWeb None reply old new = new ≡ old
 AnswersWeb (Some asked) reply old new =
     AnswersBy asked reply old new ⊎ ((refusal : Refusal) × (new ≡ stopped_by old refusal))

@@ -1,7 +1,8 @@
 -- What a server does to a stored site.
-use Rattle.std.specs.Prelude.{◌≡◌, ◌⊎◌, ℕ, true, List, [], ◌∷◌, Option, None}
+use Rattle.std.specs.Prelude.{◌≡◌, ◌<◌, ◌⊎◌, ℕ, true, List, [], ◌∷◌, Option, None}
 use Rattle.mvd_conn.specs.declared.guard.Guard.{Guard}
 use Rattle.mvd_conn.specs.History.{History, is_done}
+use Rattle.mvd_host.specs.AtHand.{AtHandValue, first_at_hand, none_at_hand}
 use Rattle.mvd_host.specs.Course.{own}
 use Rattle.mvd_host.specs.Hosts.{HostValue, IsClient, client_of, new_host}
 use Rattle.mvd_host.specs.Round.{Round, Side, host_side}
@@ -11,7 +12,7 @@ use Rattle.mvd_replica.specs.Turns.{Turn}
 use Rattle.mvd_replica.specs.declared.replica.Replica.{Replica}
 use Rattle.mvd_server.specs.Guarded.{IsGuardOf}
 use Rattle.mvd_server.specs.Paths.{Path}
-use Rattle.mvd_server.specs.Talking.{Deeds, IsMadeFor, Talking, new_talking, talking_of, with_host}
+use Rattle.mvd_server.specs.Talking.{Deeds, IsMadeFor, Talking, new_talking, talking_of}
 use Rattle.mvd_server.specs.Wires.{Wired, WiredStep}
 use Rattle.mvd_server.specs.declared.sockets.Sockets.{Ghosts as SocketGhosts}
 use Rattle.mvd_server.specs.declared.talks.Talks.{Talks}
@@ -36,11 +37,18 @@ pub record World (K C : Type 0) : Type 0 where
 abbrev pub host_in : {K C : Type 0} → World K C → HostValue
 host_in w = w.wired.talking.host
 
+abbrev pub hand_in : {K C : Type 0} → World K C → AtHandValue
+hand_in w = w.wired.talking.hand
+
 abbrev pub moment_of : {K C : Type 0} → World K C → HostMoment C
-moment_of w = record { host = host_in w; site = w.site; conn = w.conn }
+moment_of w = record { host = host_in w; hand = hand_in w; site = w.site; conn = w.conn }
 
 abbrev pub side_in : {K C : Type 0} → (C → State) → World K C → Side
-side_in f w = record { host = host_in w; site = w.site; store = f w.conn }
+side_in f w = record { host = host_in w; hand = hand_in w; site = w.site; store = f w.conn }
+
+-- what a round leaves of the host, and at hand
+abbrev pub with_round : Talking → HostValue → AtHandValue → Talking
+with_round t host hand = record t { host = host; hand = hand }
 
 -- at one of these moments the server made the frames of a client
 abbrev pub WasMadeFor : {K C : Type 0} → ℕ → List (World K C) → Type 0
@@ -64,7 +72,7 @@ module _ {K C : Type 0} (f : C → State) (k : SocketGhosts K) where
     pub ready : List ℕ
     pub turns : List (ℕ × Turn)
     pub round : Round ready turns (side_in f old) (side_in f new)
-    pub wired : new.wired ≡ record (old.wired) { talking = with_host old.wired.talking (host_in new) }
+    pub wired : new.wired ≡ record (old.wired) { talking = with_round old.wired.talking (host_in new) (hand_in new) }
 
   abbrev pub ServeStep : World K C → World K C → Type 0
   ServeStep old new = Between old new ⊎ InRound old new
@@ -79,11 +87,12 @@ module _ {S : Type 0} {g : Ghosts S} where
   pub record HasRound (old new : Talking) (replica replica' : Replica S g) : Type 0 where
     pub before : Talking
     pub host : HostValue
+    pub hand : AtHandValue
     pub first : Deeds old before
     pub ready : List ℕ
     pub turns : List (ℕ × Turn)
-    pub round : Round ready turns (host_side before.host replica) (host_side host replica')
-    pub last : Deeds (with_host before host) new
+    pub round : Round ready turns (host_side before.host before.hand replica) (host_side host hand replica')
+    pub last : Deeds (with_round before host hand) new
 
   -- rounds, with deeds between them
   abbrev pub ServingStep : Serving (Replica S g) → Serving (Replica S g) → Type 0
@@ -100,7 +109,7 @@ module _ {S : Type 0} {g : Ghosts S} where
   world_of wired replica = record { wired = wired; site = site_of replica; conn = conn_of replica }
 
   -- ONE HOST served all the while: by reads and writes of the sockets, by rounds, and by deeds, which feed it frames for
-  -- requests over HTTP and for its own sessions alone
+  -- its own sessions alone, and ask at hand what requests over HTTP ask
   abbrev pub GoesOnServing : {K : Type 0} → SocketGhosts K → Wired K → Replica S g → Wired K → Replica S g → Type 0
   GoesOnServing k wired old wired' new = Path (ServeStep (state g) k) (world_of wired old) (world_of wired' new)
 
@@ -117,11 +126,12 @@ module _ {S : Type 0} {g : Ghosts S} where
     pub runs : Runs (state g) (moment_of (world_of (begun guard sockets) old)) all
     pub ends : after_run (moment_of (world_of (begun guard sockets) old)) all
         ≡ moment_of (world_of (record { talking = last; sockets = sockets' }) new)
-    pub list : OneList (turns_in all) (host_side new_host old) (host_side last.host new)
-    -- also of a client that has gone: its own turns are what it asked and was told
-    pub told : (n : ℕ) → (own n (turns_in all) ≡ []) ⊎ WasThere n (TellsOwn (own n (turns_in all))) goes.mids
+    pub list : OneList (turns_in all) (host_side new_host none_at_hand old) (host_side last.host last.hand new)
+    -- also of a client of frames that has gone: its own turns are what it asked and was told
+    pub told : (n : ℕ) → n < first_at_hand
+        → (own n (turns_in all) ≡ []) ⊎ WasThere n (TellsOwn (own n (turns_in all))) goes.mids
     -- one of frames has no turn before it has shown the token
-    pub shown : (n : ℕ) → HasShown guard (own n (turns_in all)) ⊎ WasMadeFor n goes.mids
+    pub shown : (n : ℕ) → n < first_at_hand → HasShown guard (own n (turns_in all)) ⊎ WasMadeFor n goes.mids
     -- one of frames that was told anything has gone only after all of it had left, or its connection broke
-    pub parted : (n : ℕ) → client_of last.host n ≡ None
+    pub parted : (n : ℕ) → n < first_at_hand → client_of last.host n ≡ None
         → (own n (turns_in all) ≡ []) ⊎ (WasThere n (λ h. is_done h ≡ true) goes.mids ⊎ WasMadeFor n goes.mids)

@@ -1,17 +1,17 @@
 -- The clients of a server, and what it does with them between two rounds.
-use Rattle.std.specs.Prelude.{◌≡◌, ◌⊎◌, ◌==◌, ℕ, Bool, true, not, List, [], ◌∷◌, ◌++◌, IsSome, Option, None, Some, ⊤}
+use Rattle.std.specs.Prelude.{◌≡◌, ◌⊎◌, ◌+◌, ◌==◌, ℕ, Bool, true, false, not, List, [], ◌∷◌, ◌++◌, Option, None, Some, ⊤}
 use Rattle.std.specs.BTreeMap.{insert_entry, is_at}
 use Rattle.std.specs.List.{filter, list_any}
 use Rattle.std.specs.Map.{lookup, remove_entry, set_value}
-use Rattle.std.specs.Option.{option_and_then}
 use Rattle.std.specs.Ordering.{nat_cmp}
-use Rattle.mvd_conn.specs.History.{History, ending_of, is_done}
+use Rattle.mvd_conn.specs.History.{History, is_done}
 use Rattle.mvd_conn.specs.declared.guard.Guard.{Guard}
 use Rattle.mvd_dots.specs.declared.refusals.Refusal.TheVariants.{Memory}
+use Rattle.mvd_host.specs.AtHand.{AtHandValue, TakesFirst, first_at_hand, none_at_hand}
 use Rattle.mvd_host.specs.Hosts.{AdmitsOne, ClientLeaves, HostValue, IsClient, altered, client_of, new_host}
 use Rattle.mvd_host.specs.Runs.{Call, Closes, Cuts, Feeds, Releases, Sends, after_call}
+use Rattle.mvd_server.specs.Batches.{HandsBatch}
 use Rattle.mvd_server.specs.Errands.{AwaitsChange, Errand, IsBatchFor, RunsErrand, batch_in, desk}
-use Rattle.mvd_server.specs.Handed.{HandsBatch}
 use Rattle.mvd_server.specs.Paths.{Path}
 use Rattle.mvd_server.specs.Responding.{RefusesWeb}
 use Rattle.mvd_server.specs.declared.batch.Batch.{Batch}
@@ -21,13 +21,17 @@ use Rattle.mvd_server.specs.declared.talks.Talks.{Talks}
 use Rattle.mvd_web.specs.Inside.{web_of}
 use Rattle.mvd_web.specs.Web.{IsNew, IsOver}
 use Rattle.mvd_web.specs.declared.web_connection.WebConnection.{WebConnection}
+use Rattle.mvd_wire.specs.declared.reply.Reply.{Reply}
 
--- who may come in; the host, in which each client has a connection of frames; the connections of those over HTTP; the
--- writes of those of whose request some are not answered; and the numbers of the server's own, for its sessions
+-- who may come in; the host, with the connections of frames; what those over HTTP ask and are told; their connections,
+-- and the number of the next one; the writes of those of whose request some are not answered; and the numbers of the
+-- server's own, for its sessions
 pub record Talking : Type 0 where
   pub guard : Option Guard
   pub host : HostValue
+  pub hand : AtHandValue
   pub webs : List (ℕ × WebConnection)
+  pub next : ℕ
   pub batches : List (ℕ × Batch)
   pub own : List ℕ
 
@@ -35,13 +39,23 @@ abbrev pub talking_of : Talks → Talking
 talking_of t = record {
   guard = t.guard;
   host = t.host;
+  hand = t.hand;
   webs = t.webs.entries;
+  next = t.next;
   batches = t.batches.entries;
   own = t.own.items;
 }
 
 abbrev pub new_talking : Option Guard → Talking
-new_talking guard = record { guard = guard; host = new_host; webs = []; batches = []; own = [] }
+new_talking guard = record {
+  guard = guard;
+  host = new_host;
+  hand = none_at_hand;
+  webs = [];
+  next = first_at_hand;
+  batches = [];
+  own = [];
+}
 
 -- the connection of a client over HTTP, if this one is
 abbrev pub web_in : Talking → ℕ → Option WebConnection
@@ -75,11 +89,6 @@ LacksMemory n old new =
     ⊎ ((web : WebConnection) × (web' : WebConnection) × (web_in old n ≡ Some web)
     × RefusesWeb Memory (web_of web) (web_of web') × (new ≡ with_web old n web'))
 
--- a connection over HTTP is opened
-abbrev pub OpensWeb : ℕ → Talking → Talking → Type 0
-OpensWeb n old new =
-    (web : WebConnection) × IsNew (web_of web) × (new ≡ record old { webs = insert_entry nat_cmp old.webs n web })
-
 abbrev pub with_host : Talking → HostValue → Talking
 with_host t host = record t { host = host }
 
@@ -90,28 +99,27 @@ is_own_client t n = list_any (λ q. q == n) t.own
 abbrev pub left_without : ℕ → List ℕ → List ℕ
 left_without n own = filter (λ q. not (q == n)) own
 
+-- the first reply that is left, to this client, is taken away
+abbrev pub TakesReply : ℕ → Reply → Talking → Talking → Type 0
+TakesReply n reply old new = TakesFirst old.hand (Some (n, reply)) new.hand × (new ≡ record old { hand = new.hand })
+
 -- ---- deeds
 
--- the frames of a client are made by the server: it speaks HTTP, or is the server's own
+-- the frames of a client are made by the server: it is the server's own
 abbrev pub IsMadeFor : Talking → ℕ → Type 0
-IsMadeFor t n = ((web : WebConnection) × (web_in t n ≡ Some web)) ⊎ (is_own_client t n ≡ true)
+IsMadeFor t n = is_own_client t n ≡ true
 
--- The host takes no more of a client, and no request of it waits; or nothing came of it
-abbrev pub TakesNoMore : Option History → WebConnection → Type 0
-TakesNoMore client web = IsSome (option_and_then ending_of client) ⊎ IsNew (web_of web)
-
--- NOTHING IS LEFT TO DO for a client. One of frames has ended, and all that it was told has left; or its connection
--- broke. One over HTTP has no request that waits, and all that it was told has left; or it was stopped
-abbrev pub HasNothingLeft : Option WebConnection → Option History → Type 0
-HasNothingLeft None client = IsClient client (λ h. is_done h ≡ true)
-HasNothingLeft (Some web) client =
-    IsOver (web_of web)
-    ⊎ (TakesNoMore client web × ((web_of web).asked ≡ None) × ((web_of web).waits ≡ []))
+-- NOTHING IS LEFT TO DO for a client. One of frames, which is not the server's own, has ended, and all that it was told
+-- has left; or its connection broke. One over HTTP has ended, no request of it waits, and all that it was told has left;
+-- or it was stopped, or nothing came of it
+abbrev pub HasNothingLeft : Bool → Option WebConnection → Option History → Type 0
+HasNothingLeft own None client = (own ≡ false) × IsClient client (λ h. is_done h ≡ true)
+HasNothingLeft own (Some web) client = IsOver (web_of web) ⊎ IsNew (web_of web)
 
 abbrev pub MayPart : ℕ → Talking → Type 0
-MayPart n t = HasNothingLeft (web_in t n) (client_of t.host n)
+MayPart n t = HasNothingLeft (is_own_client t n) (web_in t n) (client_of t.host n)
 
--- but by its socket, or for a request over HTTP, no byte comes of another client, and none leaves
+-- but by its socket no byte comes of a client that is not the server's own, and none leaves
 abbrev pub MayCall : Talking → ℕ → Call → Type 0
 MayCall t n (Feeds bytes) = is_own_client t n ≡ true
 MayCall t n (Sends count) = is_own_client t n ≡ true
@@ -121,7 +129,7 @@ MayCall t n Cuts = ⊤
 
 -- A client of frames comes, one over HTTP, or one of the server's own; one comes and goes at once; one goes, or one of
 -- the server's own; there is a call on the connection of one, or an errand for one over HTTP; its many writes begin, or
--- go on
+-- are asked; or a reply is dropped whose client has gone
 pub data Act : Type 0 where
   Comes : ℕ → Act
   ComesByWeb : ℕ → WebConnection → Act
@@ -133,13 +141,14 @@ pub data Act : Type 0 where
   Attends : ℕ → WebConnection → WebConnection → Errand → Act
   Begins : ℕ → Batch → Act
   Hands : ℕ → Batch → Batch → Act
+  Drops : ℕ → Reply → Act
 
 -- a client of frames has to show the token in its first frame; over HTTP each request has to
 abbrev pub DoesAct : Act → Talking → Talking → Type 0
 DoesAct (Comes n) old new = AdmitsOne old.guard old.host new.host n × (new ≡ with_host old new.host)
 DoesAct (ComesByWeb n web) old new =
-    AdmitsOne None old.host new.host n × IsNew (web_of web)
-    × (new ≡ record old { host = new.host; webs = insert_entry nat_cmp old.webs n web })
+    (n ≡ old.next) × IsNew (web_of web)
+    × (new ≡ record old { webs = insert_entry nat_cmp old.webs n web; next = old.next + 1 })
 DoesAct (ComesOwn n) old new =
     AdmitsOne None old.host new.host n × (new ≡ record old { host = new.host; own = old.own ++ n ∷ [] })
 DoesAct (TurnsBack n mid) old new =
@@ -158,13 +167,14 @@ DoesAct (GoesOwn n) old new =
 DoesAct (Calls n call) old new = MayCall old n call × (new ≡ with_host old (altered old.host n (after_call call)))
 DoesAct (Attends n web web' errand) old new =
     (web_in old n ≡ Some web)
-    × RunsErrand errand old.guard n (desk old.host (web_of web) old.batches) (desk new.host (web_of web') new.batches)
-    × (new ≡ record (with_web old n web') { host = new.host; batches = new.batches })
+    × RunsErrand errand old.guard n (desk old.hand (web_of web) old.batches) (desk new.hand (web_of web') new.batches)
+    × (new ≡ record (with_web old n web') { hand = new.hand; batches = new.batches })
 DoesAct (Begins n batch) old new =
     MayBeginWrites n batch old × (new ≡ record old { batches = insert_entry nat_cmp old.batches n batch })
 DoesAct (Hands n batch batch') old new =
-    (batch_in old.batches n ≡ Some batch) × HandsBatch n batch old.host batch' new.host
-    × (new ≡ record old { host = new.host; batches = set_value (is_at (nat_cmp n)) old.batches batch' })
+    (batch_in old.batches n ≡ Some batch) × HandsBatch n batch old.hand batch' new.hand
+    × (new ≡ record old { hand = new.hand; batches = set_value (is_at (nat_cmp n)) old.batches batch' })
+DoesAct (Drops n reply) old new = (web_in old n ≡ None) × TakesReply n reply old new
 
 abbrev pub Deed : Talking → Talking → Type 0
 Deed old new = (act : Act) × DoesAct act old new

@@ -1,6 +1,6 @@
 -- What comes by the clients' sockets, and what leaves by them.
 use Rattle.std.specs.Prelude.{◌≡◌, ◌⊎◌, ◌++◌, ℕ, false, List, [], codes, length, min, take, Option, None, Some, ⊤}
-use Rattle.mvd_conn.specs.History.{History, WantsInput}
+use Rattle.mvd_conn.specs.History.{WantsInput}
 use Rattle.mvd_dots.specs.declared.refusals.Refusal.TheVariants.{TooManyRequests}
 use Rattle.mvd_host.specs.Hosts.{IsClient, client_of}
 use Rattle.mvd_server.specs.HostBytes.{TakesBytes, sent_of, waits_of}
@@ -24,9 +24,9 @@ TakesBy None n bytes old new =
 TakesBy (Some web) n bytes old new =
     (web' : WebConnection) × Feeds (web_of web) bytes (web_of web') × (new ≡ with_web old n web')
 
--- the host has no such client: it has left, or it was turned away
+-- there is no such client: it has left, or it was turned away
 abbrev pub IsNoClient : Talking → ℕ → Type 0
-IsNoClient t n = client_of t.host n ≡ None
+IsNoClient t n = (client_of t.host n ≡ None) × (web_in t n ≡ None)
 
 -- ALL BYTES THAT CAME of a client are fed to its connection. Those of one that is no client any more are dropped
 abbrev pub TakesInput : ℕ → List ℕ → Talking → Talking → Type 0
@@ -63,10 +63,11 @@ waits_by (Some web) waits = (web_of web).waits
 abbrev pub waits_for : ℕ → Talking → List ℕ
 waits_for n t = waits_by (web_in t n) (waits_of t.host n)
 
--- so many of them left, or all
+-- so many of them left, or all; none of what waits for one of the server's own leaves by a socket
 abbrev pub SendsBy : Option WebConnection → ℕ → ℕ → Talking → Talking → Type 0
 SendsBy None n count old new =
-    new ≡ with_host old (sent_of old.host n (min count (length (waits_of old.host n))))
+    (is_own_client old n ≡ false)
+    × (new ≡ with_host old (sent_of old.host n (min count (length (waits_of old.host n)))))
 SendsBy (Some web) n count old new =
     (web' : WebConnection) × (web_of web' ≡ web_sent (web_of web) (min count (length (web_of web).waits)))
     × (new ≡ with_web old n web')

@@ -1,27 +1,23 @@
-//! Many writes of one request: their frames, as the host takes them, and a line for each, as its replies come.
-ghost use Rattle.std.specs.Prelude.{◌≡◌, ◌≤◌, ◌++◌, IfErr, IfOk, OnOk, length, string_bytes, true};
-ghost use Rattle.std.specs.List.{slice_get};
-ghost use Rattle.mvd_server.specs.Fronts.{TellsNext, end_refusal};
-ghost use Rattle.mvd_server.specs.Handed.{HandsBatch, TakenFrom};
-ghost use Rattle.mvd_server.specs.Batches.{BeginsBatch, bytes_if, frame_of_write, refusal_if};
+//! Many writes of one request: what they ask, which is asked at hand all at once, and a line for each, as the replies come.
+ghost use Rattle.std.specs.Prelude.{◌≡◌, ◌≤◌, ◌++◌, IfErr, IfOk, OnErr, OnOk, Some, ℕ, length, option_copied, string_bytes, true};
+ghost use Rattle.mvd_host.specs.AtHand.{AtHandValue};
+ghost use Rattle.mvd_server.specs.Batches.{BeginsBatch, HandsBatch, asked_if, refused_if};
+ghost use Rattle.mvd_server.specs.Errands.{IsUntold, TakesIf};
 ghost use Rattle.mvd_server.specs.Lines.{IsOnlyTold, TellsEachLine};
 
-use crate::feeding::hand_on;
-use crate::replies::next_reply;
+use crate::copying::copy_request;
 use mvd_dots::Refusal;
-use mvd_frames::encode_request;
-use mvd_host::Host;
+use mvd_host::AtHand;
 use mvd_http::{LINE_ROOM, push_line};
-use mvd_wire::{Ending, Reply, Request};
+use mvd_wire::{Reply, Request};
 use std::alloc::Global;
 
 /// The writes of one request, and what is told of them. All memory that it takes is taken before the first of them is
-/// handed on.
+/// asked.
 #[derive(Drop)]
 pub(crate) struct Batch {
-    /// The frames of all that are asked of the host, and how many of their bytes were handed on.
-    frames: Vec<u8>,
-    handed: usize,
+    /// What is to be asked, until it is.
+    requests: Vec<Request>,
     /// For each write why it is refused at once, if it is.
     refused: Vec<Option<Refusal>>,
     /// The lines of so many of them.
@@ -35,68 +31,103 @@ impl Batch {
         ensures begins { IfOk result (BeginsBatch writes.now) }
         ensures memory { IfErr result (λ refusal. refusal ≡ Refusal.Memory) }
     {
-        let mut frames = Vec::new(alloc);
+        let mut requests = Vec::new(alloc);
         let mut refused = Vec::with_capacity(alloc, writes.len())?;
         for write in writes {
-            refused.push(add_frame(alloc, write, &mut frames)?)?;
+            refused.push(add_request(alloc, write, &mut requests)?)?;
         }
         let lines = String::with_capacity(alloc, writes.len().saturating_mul(LINE_ROOM))?;
         Ok(Batch {
-            frames,
-            handed: 0,
+            requests,
             refused,
             told: 0,
             lines,
         })
     }
 
-    /// Hands on as many frames as the host takes.
-    pub fn hand_on(&mut self, host: &mut Host, number: u64)
-        ensures { HandsBatch number self.old host.old self.new host.new }
+    /// Asks all of them, once. Where there is no memory for that, none is asked yet.
+    pub fn hand_on(&mut self, hand: &mut AtHand, number: u64)
+        ensures { HandsBatch number self.old hand.old self.new hand.new }
     {
-        self.handed = hand_on(host, number, &self.frames, self.handed);
+        let _ = hand.ask_all(number, &mut self.requests);
     }
 
-    /// Puts down the lines of the replies that the host has. Whether all lines are there.
-    pub fn take(&mut self, alloc: Global, host: &mut Host, number: u64) -> Result<bool, Refusal>
-        ensures taken { TakenFrom number host.old host.new }
+    /// Puts down the line of a reply, if there is one, and those of the writes beside it that were refused at once.
+    /// Whether all lines are there.
+    pub fn tell(&mut self, reply: Option<&Reply>) -> Result<bool, Refusal>
         // The line of each write is of the reply to it. Nothing else of the writes changes.
-        ensures lines { OnOk result (TellsEachLine number self.old host.old self.new host.new) }
+        ensures lines { (n : ℕ) (hand hand' : AtHandValue) → TakesIf n (option_copied reply.entry) hand hand' →
+            OnOk result (TellsEachLine n self.old hand self.new hand') }
         ensures same { IsOnlyTold self.old self.new }
         // All lines are there only where each write has one.
         ensures all { IfOk result (λ all. all ≡ true → length self.new.refused.items ≤ self.new.told) }
+        // Where a line cannot be put down, all are gone: with a reply less there is no response any more.
+        ensures gone { OnErr result (IsUntold self.new) }
     {
-        for _left in self.told..self.refused.len() {
-            let Some(reply) = self.next_told(alloc, host, number) else {
-                return Ok(false);
-            };
-            let reply = reply?;
-            push_line(&mut self.lines, &reply)?;
-            self.told = self.told.saturating_add(1);
+        match self.tell_lines(reply) {
+            Ok(()) => Ok(self.told >= self.refused.len()),
+            Err(refusal) => {
+                self.told = 0;
+                self.lines.clear();
+                Err(refusal)
+            }
         }
-        Ok(self.told >= self.refused.len())
     }
 
-    /// The reply to the write whose line comes next, if it is there. What the host takes no more was not done, and is
-    /// told as refused.
-    fn next_told(
-        &self,
-        alloc: Global,
-        host: &mut Host,
-        number: u64,
-    ) -> Option<Result<Reply, Refusal>>
-        ensures { TellsNext (slice_get self.now.refused.items self.now.told) number host.old result host.new }
+    /// Puts down the line of a reply, if there is one, and those of the writes beside it that were refused at once.
+    fn tell_lines(&mut self, reply: Option<&Reply>) -> Result<(), Refusal>
+        ensures lines { (n : ℕ) (hand hand' : AtHandValue) → TakesIf n (option_copied reply.entry) hand hand' →
+            OnOk result (TellsEachLine n self.old hand self.new hand') }
+        ensures same { IsOnlyTold self.old self.new }
     {
-        if let Some(Some(refusal)) = self.refused.get(self.told) {
-            return Some(Ok(Reply::Refused(*refusal)));
+        self.tell_refused()?;
+        self.tell_next(reply)?;
+        Ok(())
+    }
+
+    /// Puts down the line of a reply, if there is one, and those of the writes behind it that were refused at once.
+    fn tell_next(&mut self, reply: Option<&Reply>) -> Result<(), Refusal>
+        ensures lines { (n : ℕ) (hand hand' : AtHandValue) → TakesIf n (option_copied reply.entry) hand hand' →
+            OnOk result (TellsEachLine n self.old hand self.new hand') }
+        ensures same { IsOnlyTold self.old self.new }
+    {
+        match reply {
+            Some(reply) => {
+                self.tell_one(reply)?;
+                self.tell_refused()
+            }
+            None => Ok(()),
         }
-        if let Some(reply) = next_reply(alloc, host, number) {
-            return Some(reply);
+    }
+
+    /// Puts down the lines of the next writes that were refused at once.
+    fn tell_refused(&mut self) -> Result<(), Refusal>
+        ensures lines { (n : ℕ) (hand : AtHandValue) → OnOk result (TellsEachLine n self.old hand self.new hand) }
+        ensures same { IsOnlyTold self.old self.new }
+    {
+        for _left in self.told..self.refused.len() {
+            let Some(Some(refusal)) = self.refused.get(self.told) else {
+                return Ok(());
+            };
+            push_line(&mut self.lines, &Reply::Refused(*refusal))?;
+            self.told = self.told.saturating_add(1);
         }
-        match host.ending(number) {
-            Some(ending) => Some(Ok(Reply::Refused(refusal_of(ending)))),
-            None => None,
+        Ok(())
+    }
+
+    /// Puts down the line of the next write, which is of this reply. There is a write that was not refused at once.
+    fn tell_one(&mut self, reply: &Reply) -> Result<(), Refusal>
+        ensures lines { (n : ℕ) (hand hand' : AtHandValue) → TakesIf n (Some reply.now) hand hand' →
+            OnOk result (TellsEachLine n self.old hand self.new hand') }
+        ensures same { IsOnlyTold self.old self.new }
+    {
+        match self.refused.get(self.told) {
+            Some(None) => {}
+            _ => return Err(Refusal::BadKind),
         }
+        push_line(&mut self.lines, reply)?;
+        self.told = self.told.saturating_add(1);
+        Ok(())
     }
 
     pub fn lines(&self) -> &str
@@ -106,36 +137,26 @@ impl Batch {
     }
 }
 
-/// Puts the frame of a write behind the others. It gives why there is none.
-fn add_frame(
+/// Puts what a write asks behind the others. It gives why it asks nothing.
+fn add_request(
     alloc: Global,
     write: &Result<Request, Refusal>,
-    frames: &mut Vec<u8>,
+    requests: &mut Vec<Request>,
 ) -> Result<Option<Refusal>, Refusal>
-    ensures refused { IfOk result (λ refused. refused ≡ refusal_if (frame_of_write write.now)) }
-    ensures bytes { OnOk result (frames.new.items ≡ frames.old.items ++ bytes_if (frame_of_write write.now)) }
+    ensures refused { IfOk result (λ refused. refused ≡ refused_if write.now) }
+    ensures asked { OnOk result (requests.new.items ≡ requests.old.items ++ asked_if write.now) }
     ensures memory { IfErr result (λ refusal. refusal ≡ Refusal.Memory) }
 {
     let request = match write {
         Ok(request) => request,
         Err(refusal) => return Ok(Some(*refusal)),
     };
-    match encode_request(alloc, request) {
-        Ok(frame) => {
-            frames.extend_from_slice(&frame)?;
+    match copy_request(alloc, request) {
+        Ok(copy) => {
+            requests.push(copy)?;
             Ok(None)
         }
         Err(Refusal::Memory) => Err(Refusal::Memory),
         Err(refusal) => Ok(Some(refusal)),
-    }
-}
-
-/// Why the host takes nothing more.
-fn refusal_of(ending: Ending) -> Refusal
-    ensures { result ≡ end_refusal ending }
-{
-    match ending {
-        Ending::Stopped(refusal) => refusal,
-        Ending::Bye | Ending::End => Refusal::ReadFailed,
     }
 }

@@ -40,7 +40,7 @@ pub(crate) enum Stage {
 #[derive(Drop)]
 pub(crate) struct Client {
     stream: TcpStream,
-    /// Its number in the host, or another that no client of the host has.
+    /// Its number among those that are served, or another that none of these has.
     pub number: u64,
     /// Its number as it was accepted, counted from 1.
     pub ordinal: u64,

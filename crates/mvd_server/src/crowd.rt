@@ -30,8 +30,8 @@ use std::mem;
 /// place, and of those that take their last reply. Further ones wait in the listener's queue.
 pub(crate) const SPARE: usize = 64;
 
-/// The numbers from this one on are of clients that are turned away. The host's are below it.
-const AWAY: u64 = 1 << 62;
+/// The numbers from this one on are of clients that are turned away.
+const AWAY: u64 = 1 << 63;
 
 /// The most milliseconds that a client has to take its last frame, and then to end.
 const LINGER: u64 = 2_000;

@@ -2,7 +2,6 @@
 ghost use Rattle.std.specs.Prelude.{◌≡◌, ◌≤◌, ◌⊎◌, length, min};
 ghost use Rattle.mvd_conn.specs.History.{WantsInput};
 ghost use Rattle.mvd_host.specs.Hosts.{IfClient, IsClient, client_of};
-ghost use Rattle.mvd_server.specs.Handed.{HandsFrom, IsUnwanted, handing};
 ghost use Rattle.mvd_server.specs.HostBytes.{TakesBytes, sent_of, waits_of};
 
 use mvd_dots::Refusal;
@@ -21,30 +20,6 @@ pub(crate) fn feed(host: &mut Host, number: u64, bytes: &[u8])
     if host.feed(number, bytes).is_err() {
         host.fail_input(number, Refusal::Memory);
     }
-}
-
-/// The most bytes that are handed on at once.
-const PIECE: usize = 65_536;
-
-/// Hands on the bytes of frames from a place on, piece by piece, while the host wants more of them. It gives how far
-/// it came.
-pub(crate) fn hand_on(host: &mut Host, number: u64, frames: &[u8], from: usize) -> usize
-    ensures hands { HandsFrom number frames.now (handing host.old from) (handing host.new result) }
-    ensures whole { (length frames.now ≤ result) ⊎ IsUnwanted host.new number }
-{
-    let mut handed = from;
-    for _piece in from..frames.len() {
-        if handed >= frames.len() {
-            return handed;
-        }
-        if !host.wants_input(number) {
-            return handed;
-        }
-        let end = handed.saturating_add(PIECE).min(frames.len());
-        feed(host, number, &frames[handed..end]);
-        handed = end;
-    }
-    handed
 }
 
 /// So many bytes that the host has for a client left.

@@ -1,8 +1,9 @@
-//! From a request of HTTP to the frame that the host answers, and from its reply to the response.
-ghost use Rattle.std.specs.Prelude.{◌≡◌, IsTrue, false, option_copied, true};
+//! From a request of HTTP to what is asked of the site, and from the reply to the response.
+ghost use Rattle.std.specs.Prelude.{◌≡◌, ℕ, IsTrue, false, option_copied, true};
 ghost use Rattle.mvd_http.specs.declared.fields.Content.TheVariants.{Json, Plain};
 ghost use Rattle.mvd_server.specs.Admitted.{AsksSite, AsksToken, IsOwnPage, KeepsOut, MayAsk, is_let_in, is_welcome};
-ghost use Rattle.mvd_server.specs.Errands.{AsksNextOf, DoesPlan, TellsBatch, TellsOrWaits, TellsClient};
+ghost use Rattle.mvd_host.specs.AtHand.{AtHandValue};
+ghost use Rattle.mvd_server.specs.Errands.{AsksAtHand, AsksNextOf, DoesPlan, TakesIf, TellsBatch, TellsOrWaits};
 ghost use Rattle.mvd_server.specs.Plans.{IsPlanFor, IsPlanOf, TellsFault};
 ghost use Rattle.mvd_server.specs.Responding.{TellsBody, not_admitted, token_answer};
 ghost use Rattle.mvd_web.specs.Inside.{web_of};
@@ -10,19 +11,17 @@ ghost use Rattle.mvd_web.specs.Web.{RespondsTo};
 
 use crate::batch::Batch;
 use crate::changes::push_since;
-use crate::feeding::hand_on;
+use crate::copying::copy_request;
 use crate::metrics::{Counts, Now};
-use crate::replies::{next_reply, take_at_hand};
-use crate::responding::{answer_of, refuse, respond, tell_pushed, tell_reply, tell_unread};
+use crate::responding::{answer_of, refuse, respond, tell_pushed};
 use http::StatusCode;
 use mvd_conn::Guard;
 use mvd_dots::Refusal;
-use mvd_frames::encode_request;
-use mvd_host::{Feed, Host};
+use mvd_host::{AtHand, Feed};
 use mvd_http::{Answer, Content, Fault, Methods, PAGE, Question, push_root};
 use mvd_replica::Replica;
 use mvd_web::{Asked, WebConnection};
-use mvd_wire::Reply;
+use mvd_wire::{Reply, Request};
 use sqlite::Alter;
 use std::alloc::Global;
 
@@ -31,9 +30,9 @@ const NOT_ADMITTED: &str = "{\"refused\":38,\"name\":\"NotAdmitted\"}";
 /// What is done about a request.
 #[derive(Drop)]
 enum Plan {
-    /// This frame is answered by the host.
-    Frame(Vec<u8>),
-    /// These writes are, one after the other.
+    /// This is asked of the site.
+    Ask(Request),
+    /// These writes are.
     Writes(Batch),
     /// It is answered by what the server keeps, maybe after so many seconds.
     Changes(Option<[u8; 32]>, u32),
@@ -50,9 +49,9 @@ enum Plan {
 /// What is left of a request that was taken.
 #[derive(Drop)]
 pub(crate) enum Rest {
-    /// Its response was queued, or the host is asked.
+    /// Its response was queued, or the site is asked.
     Nothing,
-    /// The host is to be asked for these writes.
+    /// The site is to be asked for these writes.
     Writes(Batch),
     /// It waits for a change of this root, for so many seconds.
     Waits([u8; 32], u32),
@@ -110,8 +109,8 @@ fn plan_for(alloc: Global, question: &Question) -> Plan
     ensures { IsPlanFor question.now result }
 {
     match question {
-        Question::Ask(request) | Question::Live(request) => match encode_request(alloc, request) {
-            Ok(frame) => Plan::Frame(frame),
+        Question::Ask(request) | Question::Live(request) => match copy_request(alloc, request) {
+            Ok(request) => Plan::Ask(request),
             Err(refusal) => Plan::Refused(refusal),
         },
         Question::Many(writes) => match Batch::new(alloc, writes.as_slice()) {
@@ -140,19 +139,19 @@ fn fault(cause: Fault, allow: Option<Methods>) -> Plan
     Plan::Told(answer, cause.body())
 }
 
-/// Takes the next request of a client, where none waits for its answer. One that the site is asked goes to the host
-/// as a frame, and others are answered at once, or it is told what is left to do.
+/// Takes the next request of a client, where none waits for its answer. What the site is asked waits at hand for the
+/// next round, and others are answered at once, or it is told what is left to do.
 pub(crate) fn ask<S: Alter + Drop>(
     alloc: Global,
     guard: Option<&Guard>,
-    host: &mut Host,
+    hand: &mut AtHand,
     web: &mut WebConnection,
     number: u64,
     replica: &Replica<S>,
     changes: &Feed,
     counts: &mut Counts,
 ) -> Rest
-    ensures { AsksNextOf (option_copied guard.entry) number (web_of web.old) host.old (web_of web.new) host.new result }
+    ensures { AsksNextOf (option_copied guard.entry) number (web_of web.old) hand.old (web_of web.new) hand.new result }
 {
     if !web.next() {
         return Rest::Nothing;
@@ -161,25 +160,25 @@ pub(crate) fn ask<S: Alter + Drop>(
         Some(asked) => plan_of(alloc, guard, asked),
         None => return Rest::Nothing,
     };
-    carry_out(alloc, plan, host, web, number, replica, changes, counts)
+    carry_out(alloc, plan, hand, web, number, replica, changes, counts)
 }
 
 /// Does what is to be done about the request that waits.
 fn carry_out<S: Alter + Drop>(
     alloc: Global,
     plan: Plan,
-    host: &mut Host,
+    hand: &mut AtHand,
     web: &mut WebConnection,
     number: u64,
     replica: &Replica<S>,
     changes: &Feed,
     counts: &mut Counts,
 ) -> Rest
-    ensures { DoesPlan number plan (web_of web.old) host.old (web_of web.new) host.new result }
+    ensures { DoesPlan number plan (web_of web.old) hand.old (web_of web.new) hand.new result }
 {
     match plan {
-        Plan::Frame(frame) => {
-            hand_on(host, number, &frame, 0);
+        Plan::Ask(request) => {
+            ask_site(alloc, request, hand, web, number, counts);
             Rest::Nothing
         }
         Plan::Writes(batch) => Rest::Writes(batch),
@@ -206,6 +205,22 @@ fn carry_out<S: Alter + Drop>(
             refuse(alloc, web, counts, refusal);
             Rest::Nothing
         }
+    }
+}
+
+/// Asks the site at hand, or tells why not.
+fn ask_site(
+    alloc: Global,
+    request: Request,
+    hand: &mut AtHand,
+    web: &mut WebConnection,
+    number: u64,
+    counts: &mut Counts,
+)
+    ensures { AsksAtHand number request (web_of web.old) hand.old (web_of web.new) hand.new }
+{
+    if let Err(refusal) = hand.ask(number, request) {
+        refuse(alloc, web, counts, refusal);
     }
 }
 
@@ -314,57 +329,19 @@ fn tell_metrics<S: Alter + Drop>(
     }
 }
 
-/// Queues the response to the request of a client that the host has answered, maybe by the reply at hand. Where there
-/// is no memory for the response to a change, which may be stored, the connection ends without one.
-pub(crate) fn answer(
-    alloc: Global,
-    host: &mut Host,
-    web: &mut WebConnection,
-    number: u64,
-    at_hand: Option<&Reply>,
-    counts: &mut Counts,
-)
-    ensures { TellsClient number (web_of web.old) host.old (web_of web.new) host.new }
-{
-    let Some(reply) = at_hand else {
-        return answer_next(alloc, host, web, number, counts);
-    };
-    if take_at_hand(alloc, host, number, reply) {
-        return tell_reply(alloc, web, reply, counts);
-    }
-    answer_next(alloc, host, web, number, counts);
-}
-
-/// Queues the response that the next reply of the host is, if there is one.
-fn answer_next(
-    alloc: Global,
-    host: &mut Host,
-    web: &mut WebConnection,
-    number: u64,
-    counts: &mut Counts,
-)
-    ensures { TellsClient number (web_of web.old) host.old (web_of web.new) host.new }
-{
-    match next_reply(alloc, host, number) {
-        Some(Ok(reply)) => tell_reply(alloc, web, &reply, counts),
-        Some(Err(refusal)) => tell_unread(alloc, web, refusal, counts),
-        None => {}
-    }
-}
-
-/// Queues the response to the writes of a client, once the host has answered all that it takes of them.
+/// Puts down the line of a reply to one of the writes of a client, if there is a reply, and queues the response once all
+/// lines are there.
 #[tactic(auto, using(crate::proofs::Errands::tells_all, crate::proofs::Errands::tells_none, crate::proofs::Errands::tells_stop))]
 pub(crate) fn answer_writes(
-    alloc: Global,
-    host: &mut Host,
     web: &mut WebConnection,
     batch: &mut Batch,
-    number: u64,
+    reply: Option<&Reply>,
     counts: &mut Counts,
 )
-    ensures { TellsBatch number (web_of web.old) batch.old host.old (web_of web.new) batch.new host.new }
+    ensures { (n : ℕ) (hand hand' : AtHandValue) → TakesIf n (option_copied reply.entry) hand hand' →
+        TellsBatch n (web_of web.old) batch.old hand (web_of web.new) batch.new hand' }
 {
-    match batch.take(alloc, host, number) {
+    match batch.tell(reply) {
         Ok(true) => respond(
             web,
             counts,

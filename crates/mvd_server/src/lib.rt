@@ -4,6 +4,7 @@
 mod batch;
 mod changes;
 mod client;
+mod copying;
 mod crowd;
 mod door;
 mod endings;
@@ -19,7 +20,6 @@ mod peer_list;
 mod peer_news;
 mod peer_steps;
 mod peering;
-mod replies;
 mod responding;
 mod server;
 mod sockets;

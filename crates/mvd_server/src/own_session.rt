@@ -52,13 +52,6 @@ impl Talks {
     {
         self.own.contains(&number)
     }
-
-    /// The number of clients that are not its own.
-    pub fn clients(&self) -> usize
-        ensures { result ≡ length self.now.host.clients - length self.now.own.items }
-    {
-        self.host.len().saturating_sub(self.own.len())
-    }
 }
 
 fn forget(own: &mut Vec<u64>, number: u64)

@@ -32,8 +32,8 @@ pub(crate) fn receive<K: Sockets>(
     }
 }
 
-/// Reads once of one that is no client of the host any more, and drops what came, which may be so many bytes. It is
-/// `false` where nothing more is read.
+/// Reads once of one that is no client any more, and drops what came, which may be so many bytes. It is `false` where
+/// nothing more is read.
 pub(crate) fn drop_left<K: Sockets>(
     talks: &Talks,
     sockets: &mut K,
@@ -54,6 +54,9 @@ pub(crate) fn send<K: Sockets>(talks: &mut Talks, sockets: &mut K, client: &mut 
     ensures { Carries K.Sockets (wired_of talks.old sockets.old) (wired_of talks.new sockets.new) }
 {
     let number = client.number;
+    if talks.is_own(number) {
+        return;
+    }
     let bytes = talks.waiting(number);
     if bytes.is_empty() {
         return;

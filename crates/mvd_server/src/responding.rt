@@ -1,10 +1,10 @@
 //! The responses to requests of HTTP, as they are queued.
-ghost use Rattle.std.specs.Prelude.{◌≡◌, Err, IfOk, IsTrue, Ok, string_bytes};
+ghost use Rattle.std.specs.Prelude.{◌≡◌, IfOk, IsTrue, string_bytes};
 ghost use Rattle.mvd_http.specs.declared.fields.Content.TheVariants.{Json};
 ghost use Rattle.mvd_server.specs.Errands.{AwaitsChange};
 ghost use Rattle.mvd_server.specs.Plans.{plain_answer};
-ghost use Rattle.mvd_server.specs.Responding.{AnswersReply, AnswersWeb, AsksNoChange, content_of as content_for};
-ghost use Rattle.mvd_server.specs.Responding.{RefusesWeb, TellsBody, is_web_change, json_answer, status_or_500};
+ghost use Rattle.mvd_server.specs.Responding.{AnswersReply, AnswersWeb, RefusesWeb, TellsBody, content_of as content_for};
+ghost use Rattle.mvd_server.specs.Responding.{json_answer, status_or_500};
 ghost use Rattle.mvd_web.specs.Inside.{web_of};
 ghost use Rattle.mvd_web.specs.Web.{RespondsTo};
 
@@ -13,7 +13,7 @@ use http::StatusCode;
 use mvd_dots::Refusal;
 use mvd_http::{Answer, Content, Question, live_response_of, refused_response, response_of};
 use mvd_web::WebConnection;
-use mvd_wire::{Reply, Request};
+use mvd_wire::Reply;
 use std::alloc::Global;
 
 pub(crate) fn answer_of(status: StatusCode, content: Content) -> Answer
@@ -104,7 +104,7 @@ pub(crate) fn tell_pushed(
 /// response to a change, which may be stored, the connection ends without one.
 #[tactic(auto, using(crate::proofs::Answering::answered))]
 pub(crate) fn tell_reply(alloc: Global, web: &mut WebConnection, reply: &Reply, counts: &mut Counts)
-    ensures { AnswersWeb (web_of web.old).asked (Ok reply.now) (web_of web.old) (web_of web.new) }
+    ensures { AnswersWeb (web_of web.old).asked reply.now (web_of web.old) (web_of web.new) }
 {
     let mut body = String::new(alloc);
     let status = match web.asked() {
@@ -124,49 +124,11 @@ fn put_body(
     reply: &Reply,
     body: &mut String,
 ) -> Result<u16, Refusal>
-    ensures { IfOk result (λ status. AnswersReply question.now (Ok reply.now) status (string_bytes body.new)) }
+    ensures { IfOk result (λ status. AnswersReply question.now reply.now status (string_bytes body.new)) }
 {
     match question {
         Ok(Question::Ask(request)) => Ok(response_of(alloc, request, reply, body)?),
         Ok(Question::Live(request)) => Ok(live_response_of(alloc, request, reply, body)?),
         _ => Err(Refusal::BadKind),
     }
-}
-
-/// Tells the request that waits that its reply cannot be read. Of a change, which may be stored, nothing is told: the
-/// connection ends.
-#[tactic(auto, using(crate::proofs::Answering::unread))]
-pub(crate) fn tell_unread(
-    alloc: Global,
-    web: &mut WebConnection,
-    refusal: Refusal,
-    counts: &mut Counts,
-)
-    ensures { AnswersWeb (web_of web.old).asked (Err refusal) (web_of web.old) (web_of web.new) }
-{
-    let is_told = match web.asked() {
-        Some(asked) => changes_nothing(&asked.question),
-        None => return,
-    };
-    if is_told {
-        refuse(alloc, web, counts, refusal);
-    } else {
-        web.stop(refusal);
-    }
-}
-
-/// Whether a question is one to the site, and no change.
-fn changes_nothing(question: &Result<Question, Refusal>) -> bool
-    ensures { IsTrue result → AsksNoChange question.now }
-{
-    match question {
-        Ok(Question::Ask(request) | Question::Live(request)) => !is_change(request),
-        _ => false,
-    }
-}
-
-fn is_change(request: &Request) -> bool
-    ensures { result ≡ is_web_change request.now }
-{
-    matches!(request, Request::Put(..) | Request::Delete(..))
 }

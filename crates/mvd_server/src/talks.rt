@@ -2,20 +2,20 @@
 mod comings;
 mod talk_bytes;
 
-ghost use Rattle.std.specs.Prelude.{◌≡◌, IfOk, IsTrue, OnErr, OnOk};
+ghost use Rattle.std.specs.Prelude.{◌≡◌, ◌<◌, [], IfOk, IsTrue, OnErr, OnOk, false, length, true};
 ghost use Rattle.mvd_server.specs.Rounds.{HasRound};
-ghost use Rattle.mvd_server.specs.Talking.{IsWaiting, KeepsBatch, LacksMemory, MayBeginWrites};
+ghost use Rattle.mvd_server.specs.Talking.{Deeds, IsWaiting, KeepsBatch, LacksMemory, MayBeginWrites, TakesReply, Talking};
 ghost use Rattle.mvd_server.specs.Talking.{TalksDeeds, new_talking, talking_of, web_in};
 
 use crate::batch::Batch;
 use crate::changes::push_since;
-use crate::gate::{Rest, answer, answer_writes, ask};
+use crate::gate::{Rest, answer_writes, ask};
 use crate::metrics::Counts;
 use crate::parked::Parked;
-use crate::responding::{asks_changes, refuse, tell_pushed};
+use crate::responding::{asks_changes, refuse, tell_pushed, tell_reply};
 use mvd_conn::Guard;
 use mvd_dots::Refusal;
-use mvd_host::{Feed, Host, RoundReplies};
+use mvd_host::{AtHand, FIRST_AT_HAND, Feed, Host};
 use mvd_http::push_changes;
 use mvd_replica::Replica;
 use mvd_web::WebConnection;
@@ -32,14 +32,17 @@ pub(crate) enum Kind {
     Http,
 }
 
-/// The clients' connections. Each client has one in the host. That of a client over HTTP carries the frames of its
-/// requests, and what the client itself sends and is sent stands in `webs`.
+/// The clients' connections: those of frames in the host, and those over HTTP in `webs`. What these ask of the site, and
+/// are told, is at hand.
 #[derive(Drop)]
 pub(crate) struct Talks {
     pub host: Host,
     /// Who may come in: whoever shows its token, or everybody.
     guard: Option<Guard>,
+    hand: AtHand,
     webs: BTreeMap<u64, WebConnection>,
+    /// The number of the next client over HTTP.
+    next: u64,
     /// The writes of those of whose request some are not answered.
     batches: BTreeMap<u64, Batch>,
     changes: Feed,
@@ -65,7 +68,9 @@ impl Talks {
         Ok(Talks {
             host: Host::new(alloc),
             guard,
+            hand: AtHand::new(alloc),
             webs: BTreeMap::new(alloc),
+            next: FIRST_AT_HAND,
             batches: BTreeMap::new(alloc),
             changes: Feed::new(alloc),
             parked: Parked::new(alloc),
@@ -93,26 +98,27 @@ impl Talks {
         for number in ready {
             self.take_in(replica, *number, counts, now);
         }
+        // The round before has left nothing to tell.
+        self.tell_all(counts);
         // Where memory was refused for a frame, there may be more, but not at once.
         let commits = replica.commits();
-        let mut replies = RoundReplies::new(self.alloc);
         let round = self.host.round(
             replica,
             ready,
+            &mut self.hand,
             &mut counts.tally,
             &mut self.changes,
-            &mut replies,
         );
         let more = matches!(round, Ok(true));
         if more || round.is_err() {
             counts.rounds = counts.rounds.saturating_add(1);
         }
-        self.tell_all(&replies, ready, counts);
+        self.tell_all(counts);
         self.wake(replica, counts);
         more & (replica.commits() == commits)
     }
 
-    /// Hands on writes of a client over HTTP, or takes its next request, where the host takes its frame.
+    /// Takes the next request of a client over HTTP, or asks what its writes ask, where that was not done.
     fn take_in<S: Alter + Drop>(
         &mut self,
         replica: &Replica<S>,
@@ -122,9 +128,6 @@ impl Talks {
     )
         ensures { TalksDeeds self.old self.new }
     {
-        if !self.host.wants_input(number) {
-            return;
-        }
         if self.batches.contains_key(&number) {
             return self.hand_on_writes(number);
         }
@@ -134,7 +137,7 @@ impl Talks {
         let rest = ask(
             self.alloc,
             self.guard.as_ref(),
-            &mut self.host,
+            &mut self.hand,
             web,
             number,
             replica,
@@ -151,22 +154,24 @@ impl Talks {
         }
     }
 
-    /// Hands on more of the writes of a client.
+    /// Asks what the writes of a client ask, where that was not done.
     fn hand_on_writes(&mut self, number: u64)
         ensures { TalksDeeds self.old self.new }
     {
         if let Some(batch) = self.batches.get_mut(&number) {
-            batch.hand_on(&mut self.host, number);
+            batch.hand_on(&mut self.hand, number);
         }
     }
 
-    /// Hands on the first writes of a client, which its request asks for. Where memory is refused to keep them, none
-    /// is.
+    /// Begins with the writes that a client's request asks for. Where memory is refused to keep them, none is asked.
     fn begin_writes(&mut self, batch: Batch, number: u64, counts: &mut Counts)
         ensures { MayBeginWrites number batch (talking_of self.old) → TalksDeeds self.old self.new }
     {
         match self.keep_writes(batch, number) {
-            Ok(()) => self.hand_on_writes(number),
+            Ok(()) => {
+                self.hand_on_writes(number);
+                self.tell_writes(number, counts);
+            }
             Err(_) => self.lack_memory(number, counts),
         }
     }
@@ -234,30 +239,56 @@ impl Talks {
         }
     }
 
-    /// Queues what clients over HTTP are told: first those whose replies are at hand.
-    fn tell_all(&mut self, at_hand: &RoundReplies, ready: &[u64], counts: &mut Counts)
-        ensures { TalksDeeds self.old self.new }
+    /// Queues what clients over HTTP are told of the replies that are left.
+    fn tell_all(&mut self, counts: &mut Counts)
+        ensures deeds { TalksDeeds self.old self.new }
+        ensures none { self.new.hand.left ≡ [] }
     {
-        for (number, reply) in at_hand.clients.iter().zip(&at_hand.replies) {
-            self.tell(*number, Some(reply), counts);
-        }
-        for number in ready {
-            self.tell(*number, None, counts);
+        'telling: while self.tell_next(counts) {}
+    }
+
+    /// Tells the first reply that is left. It is `false` where there is none.
+    fn tell_next(&mut self, counts: &mut Counts) -> bool
+        ensures deeds { TalksDeeds self.old self.new }
+        ensures fewer { result ≡ true → length self.new.hand.left < length self.old.hand.left }
+        ensures none { result ≡ false → self.new.hand.left ≡ [] }
+    {
+        let Some((number, reply)) = self.hand.next() else {
+            return false;
+        };
+        self.tell(number, &reply, counts);
+        true
+    }
+
+    /// Tells a client over HTTP the reply to what it asked. Where the client has gone, nobody is told.
+    fn tell(&mut self, number: u64, reply: &Reply, counts: &mut Counts)
+        ensures deeds { (before : Talking) → TakesReply number reply.now before (talking_of self.old) →
+            Deeds before (talking_of self.new) }
+        ensures hand { self.new.hand ≡ self.old.hand }
+    {
+        let Some(web) = self.webs.get_mut(&number) else {
+            return;
+        };
+        let Some(batch) = self.batches.get_mut(&number) else {
+            return tell_reply(self.alloc, web, reply, counts);
+        };
+        answer_writes(web, batch, Some(reply), counts);
+        if web.asked().is_none() {
+            drop(self.batches.remove(&number));
         }
     }
 
-    /// Queues what a client over HTTP is told, maybe by the reply at hand.
-    fn tell(&mut self, number: u64, at_hand: Option<&Reply>, counts: &mut Counts)
+    /// Tells a client the lines of its first writes, where these were refused at once.
+    fn tell_writes(&mut self, number: u64, counts: &mut Counts)
         ensures { TalksDeeds self.old self.new }
     {
         let Some(web) = self.webs.get_mut(&number) else {
             return;
         };
-        let host = &mut self.host;
         let Some(batch) = self.batches.get_mut(&number) else {
-            return answer(self.alloc, host, web, number, at_hand, counts);
+            return;
         };
-        answer_writes(self.alloc, host, web, batch, number, counts);
+        answer_writes(web, batch, None, counts);
         if web.asked().is_none() {
             drop(self.batches.remove(&number));
         }

@@ -1,10 +1,16 @@
 //! Who comes in, and who goes.
-ghost use Rattle.std.specs.Prelude.{◌≡◌, IfSome, OnErr, OnOk, Some};
+ghost use Rattle.std.specs.Prelude.{◌≡◌, ◌-◌, ◌^◌, IfSome, OnErr, OnOk, Some, min};
+ghost use Rattle.std.specs.BTreeMap.{insert_entry};
+ghost use Rattle.std.specs.Ordering.{nat_cmp};
 ghost use Rattle.mvd_conn.specs.History.{new_history};
 ghost use Rattle.mvd_host.specs.Hosts.{client_of};
-ghost use Rattle.mvd_server.specs.Guarded.{guard_for};
-ghost use Rattle.mvd_server.specs.Talking.{Comes, ComesBy, DoesAct, GoesAtOnce, MayPart, OpensWeb, TalksDeeds, talking_of};
+ghost use Rattle.mvd_server.specs.Closing.{IsDeserted, client_count};
+ghost use Rattle.mvd_server.specs.Guarded.{IsGuardedBy};
+ghost use Rattle.mvd_server.specs.Talking.{Comes, ComesBy, DoesAct, GoesAtOnce, MayPart, TalksDeeds, talking_of};
 ghost use Rattle.mvd_server.specs.declared.talks.Kind.TheVariants.{Http};
+ghost use Rattle.mvd_web.specs.Inside.{web_of};
+ghost use Rattle.mvd_web.specs.Web.{IsNew};
+ghost use Rattle.mvd_web.specs.declared.web_connection.WebConnection.{WebConnection};
 
 use crate::talks::{Kind, Talks};
 use mvd_web::WebConnection;
@@ -14,8 +20,7 @@ impl Talks {
     /// Takes a client in, and gives its number. It is `None` where there is no place, or memory was refused. One that
     /// speaks frames has to show the token in its first frame; over HTTP each request has to.
     pub fn admit(&mut self, kind: Kind) -> Option<u64>
-        ensures guarded { IfSome result (λ number.
-            client_of self.new.host number ≡ Some (new_history (guard_for kind self.old.guard))) }
+        ensures guarded { IfSome result (λ number. IsGuardedBy kind self.old.guard (client_of self.new.host number)) }
         ensures comes { IfSome result (λ number. ComesBy kind number (talking_of self.old) (talking_of self.new)) }
         ensures own { self.new.own ≡ self.old.own }
         ensures deeds { TalksDeeds self.old self.new }
@@ -40,30 +45,41 @@ impl Talks {
     }
 
     fn admit_web(&mut self) -> Option<u64>
-        ensures guarded { IfSome result (λ number.
-            client_of self.new.host number ≡ Some (new_history None)) }
         ensures comes { IfSome result (λ number. ComesBy Http number (talking_of self.old) (talking_of self.new)) }
         ensures own { self.new.own ≡ self.old.own }
         ensures deeds { TalksDeeds self.old self.new }
     {
-        let Ok(Some(number)) = self.host.admit(None) else {
-            return None;
-        };
-        if self.open_web(number).is_err() {
-            self.host.dismiss(number);
+        let number = self.next;
+        if number == u64::MAX {
             return None;
         }
-        Some(number)
+        match self.open_web(number) {
+            Ok(()) => {
+                self.next = number + 1;
+                Some(number)
+            }
+            Err(_) => None,
+        }
     }
 
     fn open_web(&mut self, number: u64) -> Result<(), AllocError>
-        ensures opens { OnOk result (OpensWeb number (talking_of self.old) (talking_of self.new)) }
+        ensures opens { OnOk result ((web : WebConnection) × IsNew (web_of web) × (talking_of self.new ≡
+            record (talking_of self.old) { webs = insert_entry nat_cmp (talking_of self.old).webs number web })) }
         ensures same { OnErr result (talking_of self.new ≡ talking_of self.old) }
         ensures own { self.new.own ≡ self.old.own }
     {
         let web = WebConnection::new(self.alloc, self.keys);
         drop(self.webs.insert(number, web)?);
         Ok(())
+    }
+
+    /// The number of clients that are not the server's own.
+    pub fn clients(&self) -> usize
+        ensures count { result ≡ min (client_count (talking_of self.now)) (2 ^ 64 - 1) }
+        ensures none { result ≡ 0 → IsDeserted (talking_of self.now) }
+    {
+        let connections = self.host.len().saturating_sub(self.own.len());
+        connections.saturating_add(self.webs.len())
     }
 
     /// Lets a client go for which nothing is left to do.

@@ -1,34 +1,29 @@
 //! The bytes of a client, and how far its connection is.
-ghost use Rattle.std.specs.Prelude.{◌≡◌, ◌≤◌, IsSome, IsTrue, None, is_some, length};
-ghost use Rattle.std.specs.Option.{option_and_then};
-ghost use Rattle.mvd_conn.specs.History.{ending_of};
-ghost use Rattle.mvd_host.specs.Hosts.{client_of};
-ghost use Rattle.mvd_server.specs.Talking.{MayPart, TalksDeeds, talking_of};
-ghost use Rattle.mvd_server.specs.Wires.{FeedsTo, IsFedBySocket, MayFeed, SendsOf, waits_for};
-ghost use Rattle.mvd_web.specs.Inside.{web_of};
+ghost use Rattle.std.specs.Prelude.{◌≡◌, ◌≤◌, IsTrue, false, length};
+ghost use Rattle.mvd_server.specs.Talking.{MayPart, TalksDeeds, is_own_client, talking_of};
+ghost use Rattle.mvd_server.specs.Wires.{FeedsTo, IsFedBySocket, IsNoClient, MayFeed, SendsOf, waits_for};
 
 use crate::feeding::{feed, sent};
 use crate::talks::Talks;
 use mvd_dots::Refusal;
-use mvd_web::WebConnection;
 use mvd_wire::Ending;
 
 /// The most bytes that wait to leave to a client: from there on none of its frames is answered.
 const WAITS_MAX: usize = 262_144;
 
 impl Talks {
-    /// Whether the host has this client.
+    /// Whether there is this client.
     pub fn has(&self, number: u64) -> bool
-        ensures { result ≡ is_some (client_of self.now.host number) }
+        ensures { result ≡ false → IsNoClient (talking_of self.now) number }
     {
-        self.host.waiting(number).is_some()
+        self.host.waiting(number).is_some() || self.webs.contains_key(&number)
     }
 
     pub fn wants_input(&self, number: u64) -> bool
         ensures { IsTrue result → MayFeed number (talking_of self.now) }
     {
         match self.webs.get(&number) {
-            Some(web) => web.wants_input() && self.host.ending(number).is_none(),
+            Some(web) => web.wants_input(),
             None => self.wants_frames(number),
         }
     }
@@ -92,7 +87,8 @@ impl Talks {
 
     /// So many of the bytes that wait left.
     pub fn sent(&mut self, number: u64, count: usize)
-        ensures { SendsOf number count (talking_of self.old) (talking_of self.new) }
+        ensures { is_own_client (talking_of self.old) number ≡ false →
+            SendsOf number count (talking_of self.old) (talking_of self.new) }
     {
         match self.webs.get_mut(&number) {
             Some(web) => {
@@ -105,19 +101,19 @@ impl Talks {
 
     pub fn ending(&self, number: u64) -> Option<Ending> {
         match self.webs.get(&number) {
-            Some(web) => web.ending().or(self.host.ending(number)),
+            Some(web) => web.ending(),
             None => self.host.ending(number),
         }
     }
 
     /// Whether nothing is left to do for a client.
-    #[tactic(auto, using(crate::proofs::Leaving::spent_frames, crate::proofs::Leaving::spent_over, crate::proofs::Leaving::spent_web))]
+    #[tactic(auto, using(crate::proofs::Leaving::spent_frames, crate::proofs::Leaving::spent_over))]
     pub fn is_done(&self, number: u64) -> bool
         ensures { IsTrue result → MayPart number (talking_of self.now) }
     {
         match self.webs.get(&number) {
-            Some(web) => web.is_done() || (self.is_over(number, web) && web.waiting().is_empty()),
-            None => self.host.is_done(number),
+            Some(web) => web.is_done(),
+            None => !self.is_own(number) && self.host.is_done(number),
         }
     }
 
@@ -125,17 +121,8 @@ impl Talks {
     pub fn is_busy(&self, number: u64) -> bool {
         match self.webs.get(&number) {
             Some(_) if self.parked.has(number) => false,
-            Some(web) => !self.is_over(number, web) && (web.is_busy() || web.asked().is_some()),
+            Some(web) => web.is_busy() || web.asked().is_some(),
             None => self.waiting(number).len() < WAITS_MAX && self.host.ending(number).is_none(),
         }
-    }
-
-    /// Whether no further request of a client over HTTP is taken, since the host ended its connection. The responses
-    /// that wait leave.
-    fn is_over(&self, number: u64, web: &WebConnection) -> bool
-        ensures ended { IsTrue result → IsSome (option_and_then ending_of (client_of self.now.host number)) }
-        ensures answered { IsTrue result → (web_of web.now).asked ≡ None }
-    {
-        web.asked().is_none() && self.host.ending(number).is_some()
     }
 }

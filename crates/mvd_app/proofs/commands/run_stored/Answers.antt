@@ -1,7 +1,7 @@
 use Rattle.std.proofs.Common.{inl, inr, option_copied, refl}
 use Rattle.sqlite.specs.WalFiles.{image_at}
 use Rattle.mvd_app.specs.Stored.{filed}
-use Rattle.mvd_app.specs.Tasks.{outside, task_of}
+use Rattle.mvd_app.specs.Tasks.{task_of}
 use Rattle.mvd_app.proofs.Ending.{file_back}
 use Rattle.mvd_app.proofs.Running.{runs_of}
 use Rattle.mvd_app.proofs.Working.{does_by, does_work}

@@ -1,4 +1,4 @@
-use Rattle.std.proofs.Common.{refl, subst, take, ◌≤◌, length, List, ℕ}
+use Rattle.std.proofs.Common.{refl, subst, sym, take, ◌∙◌, ◌≤◌, length, List, ℕ}
 use Rattle.mvd_server.specs.Talking.{talking_of}
 use Rattle.mvd_server.specs.Wires.{wired_of}
 use Rattle.mvd_server.proofs.Deeds.{carries_deeds, carries_on, carries_out}
@@ -13,7 +13,7 @@ returns-in-Bytes g c =
     let count = c.in-Bytes.count in
     let within = subst (λ (l : List ℕ). count ≤ length l) c.waiting-bytes.ensures c.in-Bytes.ensures.takes.0 in
     let took = subst (λ (l : List ℕ). g.K.Sockets.took c.args.sockets.now n (take count l) c.write.new.sockets) c.waiting-bytes.ensures c.in-Bytes.ensures.takes.1 in
-    carries_out g.K.Sockets n _ old new c.args.sockets.now c.write.new.sockets took (gives_out n count old new within c.sent.ensures)
+    carries_out g.K.Sockets n _ old new c.args.sockets.now c.write.new.sockets took (gives_out n count old new within (c.sent.ensures (sym c.is_own.ensures ∙ c.if-is_own.false)))
 
 pub returns-in-Nothing : goal.returns-in-Nothing
 returns-in-Nothing g c = carries_still g.K.Sockets (talking_of c.args.talks.now) c.args.sockets.now c.write.new.sockets c.in-Nothing.ensures.takes

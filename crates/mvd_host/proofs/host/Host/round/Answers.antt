@@ -1,23 +1,37 @@
-use Rattle.std.proofs.Common.{◌≡◌, ◌+◌, [], length, true≢false, Ok, ◌∙◌, ℕ, List, map, zip, sym, ap, subst, subst₂}
+use Rattle.std.proofs.Common.{◌≡◌, ◌+◌, ◌++◌, [], length, refl, true≢false, Ok, ◌∙◌, ℕ, List, map, zip, sym, ap, subst, subst₂}
 use Rattle.mvd_wire.specs.declared.request.Request.{Request}
 use Rattle.mvd_wire.specs.declared.reply.Reply.{Reply}
 use Rattle.mvd_host.specs.Queueing.{AreDue, QueuesReplies, refused_all, refused_faults}
-use Rattle.mvd_host.proofs.RoundLemmas.{Answered, answered_err, answered_none, answered_ok, due, due_front, memory_asks, memory_tells, memory_turns, no_faults, ok_tells, round_kept, round_none, round_of, tells, zip_asks, zip_fits}
+use Rattle.mvd_host.proofs.Answering.{Answered, answered_err, answered_none, answered_ok, kept_left, no_faults, ok_tells, round_kept, round_none, round_of}
+use Rattle.mvd_host.proofs.Numbers.{are_apart}
+use Rattle.mvd_host.proofs.RoundLemmas.{due, due_front, memory_asks, memory_tells, memory_turns, tells, zip_asks, zip_fits}
+use Rattle.mvd_host.specs.AtHand.{AllMayWait, AtHandValue}
 use Rattle.std.specs.List.{AllByRecursion}
 use Rattle.mvd_dots.specs.declared.refusals.Refusal.{Refusal}
 use Rattle.mvd_wire.specs.Replies.{CanBeSent}
 use Rattle.mvd_replica.proofs.Commits.{answers_all}
-use Rattle.mvd_replica.proofs.Positions.{AnswersAll}
 use Rattle.sqlite.specs.Held.{state}
 use Rattle.mvd_host.specs.declared.host.Host.TheInside.{Inside}
 use Rattle.mvd_replica.specs.Turns.{Turn}
 use Rattle.mvd_host.specs.Hosts.{AreKept, HostValue}
 use Rattle.mvd_host.specs.Round.{GoesForward, Round}
-use Rattle.mvd_host.specs.Taking.{IsNothingTaken}
+use Rattle.mvd_host.specs.Taking.{IsNothingTaken, held_in}
 use Rattle.mvd_host.proofs.Listing.{lists_still}
 use Rattle.mvd_host.proofs.ToldLemmas.{due_later, later_items, no_items}
-use Rattle.mvd_host.proofs.host.Host.round.Goals.{in-Ok, in-Err}
+use Rattle.mvd_host.proofs.host.Host.round.Given.{Over}
+use Rattle.mvd_host.proofs.host.Host.round.Goals.{After-deref-2, in-Ok, in-Err}
 use Rattle.mvd_host.proofs.host.Host.round.Goals as goal
+
+pub take_all-refused-requires-clause-apart : goal.take_all-refused-requires-clause-apart
+take_all-refused-requires-clause-apart g c =
+    let waits = c.of-taken.ensures.held ∙ c.begin-clients.ensures.waits in
+    are_apart (held_in c.of-taken.result) c.self.inside.clients.entries c.self.inside.admitted (subst AllMayWait (sym waits) c.begin-clients.ensures.may) c.self.invariant
+
+pub keep-requires : goal.keep-requires
+keep-requires g c = ap (λ (h : AtHandValue). h.left) c.begin-clients.ensures.begun ∙ c.requires
+
+pub keep-requires-in-Err : goal.keep-requires-in-Err
+keep-requires-in-Err g c = ap (λ (h : AtHandValue). h.left) c.begin-clients.ensures.begun ∙ c.requires
 
 pub queue_replies-requires-clause-due : goal.queue_replies-requires-clause-due
 queue_replies-requires-clause-due g c =
@@ -50,6 +64,32 @@ queue_replies-requires-clause-fits g c =
     let a = answers_all _ _ _ _ c.in-Ok.ensures.answers.answers in
     subst (λ (b : List Reply). AllByRecursion (λ (r : ℕ × Reply). CanBeSent r.1) (zip c.deref.result.now b)) (a.told ∙ sym c.deref-in-Ok.ensures.value) (zip_fits c.deref.result.now a.turns a.takes.fits)
 
+-- the requests were answered, in either way
+answered_here : (g : Over) (c : After-deref-2 g) → Answered c.take_all-refused.ensures.took.0.all.requests c.match-answer.at_hand.left c.take_all-refused.new.clients.entries c.match-answer.self-inside.clients.entries
+    c.args.replica.now.site c.answer.new.replica.site (state g.S.Store c.args.replica.now.records.conn) (state g.S.Store c.answer.new.replica.records.conn)
+answered_here g c =
+    let all = c.take_all-refused.ensures.took.0.all in
+    let taken = c.take_all-refused.new.self in
+    let mid = c.take_all-refused.new.clients.entries in
+    elim c.match-answer.branch [
+      | in-Ok w ↦ subst (λ (s : Inside). Answered all.requests c.match-answer.at_hand.left mid s.clients.entries c.args.replica.now.site c.answer.new.replica.site (state g.S.Store c.args.replica.now.records.conn) (state g.S.Store c.answer.new.replica.records.conn)) (sym w.self-inside-is)
+          (answered_ok all.requests taken.requests.items taken.clients.items w.in-Ok.replies.items c.match-answer.at_hand.left mid w.queue_replies.new.clients.entries _ _ _ _ all.holds.requests_are all.holds.clients
+          (answers_all _ _ _ _ w.in-Ok.ensures.answers.answers)
+          (subst₂ (λ (ns : List ℕ) (rs : List Reply). QueuesReplies (zip ns rs) mid w.queue_replies.new.clients.entries) w.deref.ensures.value w.deref-in-Ok.ensures.value w.queue_replies.ensures.queues)
+          (ap (λ (h : AtHandValue). h.left) (w.at_hand-is ∙ w.keep.ensures)))
+      | in-Err w ↦ subst (λ (s : Inside). Answered all.requests c.match-answer.at_hand.left mid s.clients.entries c.args.replica.now.site c.answer.new.replica.site (state g.S.Store c.args.replica.now.records.conn) (state g.S.Store c.answer.new.replica.records.conn)) (sym w.self-inside-is)
+          (subst (λ r. Answered all.requests c.match-answer.at_hand.left mid w.queue_refused.new.clients.entries c.args.replica.now.site r.site (state g.S.Store c.args.replica.now.records.conn) (state g.S.Store r.records.conn)) (sym w.in-Err.ensures.answers.memory.1)
+          (answered_err all.requests taken.clients.items w.in-Err.refusal c.match-answer.at_hand.left mid w.queue_refused.new.clients.entries c.args.replica.now.site (state g.S.Store c.args.replica.now.records.conn) all.holds.clients w.in-Err.ensures.answers.memory.0
+          (subst (λ (ns : List ℕ). QueuesReplies (refused_all ns w.in-Err.refusal) mid w.queue_refused.new.clients.entries) w.deref-in-Err.ensures.value w.queue_refused.ensures.queues)
+          (ap (λ (h : AtHandValue). h.left) (w.at_hand-is ∙ w.keep-in-Err.ensures))))
+    ]
+
+admitted_here : (g : Over) (c : After-deref-2 g) → c.match-answer.self-inside.admitted ≡ c.self.inside.admitted
+admitted_here g c = elim c.match-answer.branch [
+  | in-Ok w ↦ ap (λ (s : Inside). s.admitted) w.self-inside-is
+  | in-Err w ↦ ap (λ (s : Inside). s.admitted) w.self-inside-is
+]
+
 pub queue_faults-requires : goal.queue_faults-requires
 queue_faults-requires g c =
     let took = c.take_all-refused.ensures.took.0 in
@@ -58,15 +98,7 @@ queue_faults-requires g c =
     let old = c.self.inside.clients.entries in
     let mid = c.take_all-refused.new.clients.entries in
     let between = c.match-answer.self-inside.clients.entries in
-    let a : Answered all.requests mid between c.args.replica.now.site c.answer.new.replica.site (state g.S.Store c.args.replica.now.records.conn) (state g.S.Store c.answer.new.replica.records.conn) =
-    elim c.match-answer.branch [
-      | in-Ok w ↦ subst (λ (s : Inside). Answered all.requests mid s.clients.entries c.args.replica.now.site c.answer.new.replica.site (state g.S.Store c.args.replica.now.records.conn) (state g.S.Store c.answer.new.replica.records.conn)) (sym w.self-inside-is)
-          (answered_ok all.requests taken.requests.items w.deref.result.now w.deref-in-Ok.result.now mid w.queue_replies.new.clients.entries _ _ _ _ all.holds.requests_are (w.deref.ensures.value ∙ all.holds.clients)
-          (subst (λ (l : List Reply). AnswersAll taken.requests.items l _ _ _ _) (sym w.deref-in-Ok.ensures.value) (answers_all _ _ _ _ w.in-Ok.ensures.answers.answers)) w.queue_replies.ensures.queues)
-      | in-Err w ↦ subst (λ (s : Inside). Answered all.requests mid s.clients.entries c.args.replica.now.site c.answer.new.replica.site (state g.S.Store c.args.replica.now.records.conn) (state g.S.Store c.answer.new.replica.records.conn)) (sym w.self-inside-is)
-          (subst (λ r. Answered all.requests mid w.queue_refused.new.clients.entries c.args.replica.now.site r.site (state g.S.Store c.args.replica.now.records.conn) (state g.S.Store r.records.conn)) (sym w.in-Err.ensures.answers.memory.1)
-          (answered_err all.requests w.deref-in-Err.result.now w.in-Err.refusal mid w.queue_refused.new.clients.entries c.args.replica.now.site (state g.S.Store c.args.replica.now.records.conn) (w.deref-in-Err.ensures.value ∙ all.holds.clients) w.in-Err.ensures.answers.memory.0 w.queue_refused.ensures.queues))
-    ] in
+    let a = answered_here g (goal.at.queue_faults-requires g c).After-deref-2 in
     record {
       due = subst (λ (l : List (ℕ × Refusal)). AreDue (refused_faults l) between) (sym c.deref-2.ensures.value)
           (due_later (tells a.ts) (refused_faults taken.faults.items) mid between (due old mid between between taken all a.ts a.asked c.self.inside.admitted c.self.invariant) a.queued);
@@ -85,9 +117,9 @@ invariant_of-self g c =
     let zero : length taken.clients.items + length taken.faults.items ≡ 0 = c.is_none.ensures.0 c.if-is_none.true in
     let none : taken.clients.items ≡ [] = no_items taken.clients.items (length taken.faults.items) zero in
     let sound : taken.faults.items ≡ [] = later_items (length taken.clients.items) taken.faults.items zero in
-    let a = answered_none all.requests taken.clients.items mid site store all.holds.clients none in
+    let a = answered_none all.requests taken.clients.items [] mid site store all.holds.clients none refl in
     let faults = no_faults taken.faults.items mid sound in
-    round_kept c.args.ready.now old mid mid mid taken took c.self.inside.admitted site site store store a faults c.self.invariant
+    round_kept (held_in c.of-taken.result) c.args.ready.now old mid mid mid taken took c.self.inside.admitted site site store store [] a faults c.self.invariant
 
 pub returns-then-is_none-clause-round : goal.returns-then-is_none-clause-round
 returns-then-is_none-clause-round g c =
@@ -101,11 +133,16 @@ returns-then-is_none-clause-round g c =
     let zero : length taken.clients.items + length taken.faults.items ≡ 0 = c.is_none.ensures.0 c.if-is_none.true in
     let none : taken.clients.items ≡ [] = no_items taken.clients.items (length taken.faults.items) zero in
     let sound : taken.faults.items ≡ [] = later_items (length taken.clients.items) taken.faults.items zero in
-    let a = answered_none all.requests taken.clients.items mid site store all.holds.clients none in
+    let a = answered_none all.requests taken.clients.items [] mid site store all.holds.clients none refl in
     let faults = no_faults taken.faults.items mid sound in
+    let asks = held_in c.of-taken.result in
+    let hand = c.args.at_hand.now in
+    let waits = c.of-taken.ensures.held ∙ c.begin-clients.ensures.waits in
+    let may = subst AllMayWait (sym waits) c.begin-clients.ensures.may in
     let new : HostValue = record { clients = mid; admitted = c.self.inside.admitted } in
-    subst (λ (h : HostValue). (turns : List (ℕ × Turn)) × Round c.args.ready.now turns (record { host = h; site = site; store = store }) (record { host = new; site = site; store = store }) × GoesForward c.told.result c.args.ready.now turns new)
-    c.self.view_is (round_none c.args.ready.now old mid mid mid taken took c.self.inside.admitted site site store store a faults zero c.take_all-refused.result c.take_all-refused.ensures.took.1 c.told.result c.told.ensures.is)
+    let same : c.begin-clients.new.self ≡ record { done = hand.done ++ hand.waits; waits = []; taken = hand.taken; left = [] } = c.begin-clients.ensures.begun ∙ ap (λ (l : List (ℕ × Reply)). record { done = hand.done ++ hand.waits; waits = []; taken = hand.taken; left = l }) c.requires in
+    subst₂ (λ (h : HostValue) (k : AtHandValue). (turns : List (ℕ × Turn)) × Round c.args.ready.now turns (record { host = h; hand = hand; site = site; store = store }) (record { host = new; hand = k; site = site; store = store }) × GoesForward c.told.result c.args.ready.now turns new)
+    c.self.view_is (sym same) (round_none asks c.args.ready.now old mid mid mid taken took c.self.inside.admitted site site store store [] a faults hand c.requires waits may c.self.invariant zero c.take_all-refused.result c.take_all-refused.ensures.took.1 c.told.result c.told.ensures.is)
 
 -- something was
 pub invariant_of-self-2 : goal.invariant_of-self-2
@@ -116,27 +153,15 @@ invariant_of-self-2 g c =
     let old = c.self.inside.clients.entries in
     let mid = c.take_all-refused.new.clients.entries in
     let between = c.match-answer.self-inside.clients.entries in
-    let a : Answered all.requests mid between c.args.replica.now.site c.answer.new.replica.site (state g.S.Store c.args.replica.now.records.conn) (state g.S.Store c.answer.new.replica.records.conn) =
-    elim c.match-answer.branch [
-      | in-Ok w ↦ subst (λ (s : Inside). Answered all.requests mid s.clients.entries c.args.replica.now.site c.answer.new.replica.site (state g.S.Store c.args.replica.now.records.conn) (state g.S.Store c.answer.new.replica.records.conn)) (sym w.self-inside-is)
-          (answered_ok all.requests taken.requests.items w.deref.result.now w.deref-in-Ok.result.now mid w.queue_replies.new.clients.entries _ _ _ _ all.holds.requests_are (w.deref.ensures.value ∙ all.holds.clients)
-          (subst (λ (l : List Reply). AnswersAll taken.requests.items l _ _ _ _) (sym w.deref-in-Ok.ensures.value) (answers_all _ _ _ _ w.in-Ok.ensures.answers.answers)) w.queue_replies.ensures.queues)
-      | in-Err w ↦ subst (λ (s : Inside). Answered all.requests mid s.clients.entries c.args.replica.now.site c.answer.new.replica.site (state g.S.Store c.args.replica.now.records.conn) (state g.S.Store c.answer.new.replica.records.conn)) (sym w.self-inside-is)
-          (subst (λ r. Answered all.requests mid w.queue_refused.new.clients.entries c.args.replica.now.site r.site (state g.S.Store c.args.replica.now.records.conn) (state g.S.Store r.records.conn)) (sym w.in-Err.ensures.answers.memory.1)
-          (answered_err all.requests w.deref-in-Err.result.now w.in-Err.refusal mid w.queue_refused.new.clients.entries c.args.replica.now.site (state g.S.Store c.args.replica.now.records.conn) (w.deref-in-Err.ensures.value ∙ all.holds.clients) w.in-Err.ensures.answers.memory.0 w.queue_refused.ensures.queues))
-    ] in
-    let admitted : c.match-answer.self-inside.admitted ≡ c.self.inside.admitted =
-    elim c.match-answer.branch [
-      | in-Ok w ↦ ap (λ (s : Inside). s.admitted) w.self-inside-is
-      | in-Err w ↦ ap (λ (s : Inside). s.admitted) w.self-inside-is
-    ] in
+    let a = answered_here g (goal.at.invariant_of-self-2 g c).After-deref-2 in
+    let admitted = admitted_here g (goal.at.invariant_of-self-2 g c).After-deref-2 in
     let new = c.queue_faults.new.clients.entries in
     let site = c.args.replica.now.site in
     let later = c.answer.new.replica.site in
     let store = state g.S.Store c.args.replica.now.records.conn in
     let after = state g.S.Store c.answer.new.replica.records.conn in
     let faults = subst (λ (l : List (ℕ × Refusal)). QueuesReplies (refused_faults l) between new) c.deref-2.ensures.value c.queue_faults.ensures.queues in
-    subst (λ n. AreKept new n) (sym admitted) (round_kept c.args.ready.now old mid between new taken took c.self.inside.admitted site later store after a faults c.self.invariant)
+    subst (λ n. AreKept new n) (sym admitted) (round_kept (held_in c.of-taken.result) c.args.ready.now old mid between new taken took c.self.inside.admitted site later store after c.match-answer.at_hand.left a faults c.self.invariant)
 
 pub returns-clause-round : goal.returns-clause-round
 returns-clause-round g c =
@@ -146,20 +171,8 @@ returns-clause-round g c =
     let old = c.self.inside.clients.entries in
     let mid = c.take_all-refused.new.clients.entries in
     let between = c.match-answer.self-inside.clients.entries in
-    let a : Answered all.requests mid between c.args.replica.now.site c.answer.new.replica.site (state g.S.Store c.args.replica.now.records.conn) (state g.S.Store c.answer.new.replica.records.conn) =
-    elim c.match-answer.branch [
-      | in-Ok w ↦ subst (λ (s : Inside). Answered all.requests mid s.clients.entries c.args.replica.now.site c.answer.new.replica.site (state g.S.Store c.args.replica.now.records.conn) (state g.S.Store c.answer.new.replica.records.conn)) (sym w.self-inside-is)
-          (answered_ok all.requests taken.requests.items w.deref.result.now w.deref-in-Ok.result.now mid w.queue_replies.new.clients.entries _ _ _ _ all.holds.requests_are (w.deref.ensures.value ∙ all.holds.clients)
-          (subst (λ (l : List Reply). AnswersAll taken.requests.items l _ _ _ _) (sym w.deref-in-Ok.ensures.value) (answers_all _ _ _ _ w.in-Ok.ensures.answers.answers)) w.queue_replies.ensures.queues)
-      | in-Err w ↦ subst (λ (s : Inside). Answered all.requests mid s.clients.entries c.args.replica.now.site c.answer.new.replica.site (state g.S.Store c.args.replica.now.records.conn) (state g.S.Store c.answer.new.replica.records.conn)) (sym w.self-inside-is)
-          (subst (λ r. Answered all.requests mid w.queue_refused.new.clients.entries c.args.replica.now.site r.site (state g.S.Store c.args.replica.now.records.conn) (state g.S.Store r.records.conn)) (sym w.in-Err.ensures.answers.memory.1)
-          (answered_err all.requests w.deref-in-Err.result.now w.in-Err.refusal mid w.queue_refused.new.clients.entries c.args.replica.now.site (state g.S.Store c.args.replica.now.records.conn) (w.deref-in-Err.ensures.value ∙ all.holds.clients) w.in-Err.ensures.answers.memory.0 w.queue_refused.ensures.queues))
-    ] in
-    let admitted : c.match-answer.self-inside.admitted ≡ c.self.inside.admitted =
-    elim c.match-answer.branch [
-      | in-Ok w ↦ ap (λ (s : Inside). s.admitted) w.self-inside-is
-      | in-Err w ↦ ap (λ (s : Inside). s.admitted) w.self-inside-is
-    ] in
+    let a = answered_here g (goal.at.returns-clause-round g c).After-deref-2 in
+    let admitted = admitted_here g (goal.at.returns-clause-round g c).After-deref-2 in
     let new = c.queue_faults.new.clients.entries in
     let site = c.args.replica.now.site in
     let later = c.answer.new.replica.site in
@@ -167,8 +180,22 @@ returns-clause-round g c =
     let after = state g.S.Store c.answer.new.replica.records.conn in
     let faults = subst (λ (l : List (ℕ × Refusal)). QueuesReplies (refused_faults l) between new) c.deref-2.ensures.value c.queue_faults.ensures.queues in
     let some : ¬ IsNothingTaken taken = λ none. true≢false (sym (c.is_none.ensures.1 none) ∙ c.if-is_none.false) in
-    subst₂ (λ (h : HostValue) (n : ℕ). (turns : List (ℕ × Turn)) × Round c.args.ready.now turns (record { host = h; site = site; store = store }) (record { host = record { clients = new; admitted = n }; site = later; store = after }) × GoesForward c.told-2.result c.args.ready.now turns (record { clients = new; admitted = n }))
-    c.self.view_is (sym admitted) (round_of c.args.ready.now old mid between new taken took c.self.inside.admitted site later store after a faults some c.take_all-refused.result c.take_all-refused.ensures.took.1 c.told-2.result c.told-2.ensures.is)
+    let asks = held_in c.of-taken.result in
+    let hand = c.args.at_hand.now in
+    let waits = c.of-taken.ensures.held ∙ c.begin-clients.ensures.waits in
+    let may = subst AllMayWait (sym waits) c.begin-clients.ensures.may in
+    let left = c.match-answer.at_hand.left in
+    let hand_is : c.match-answer.at_hand ≡ record { done = hand.done ++ hand.waits; waits = []; taken = hand.taken; left = left } =
+    elim c.match-answer.branch [
+      | in-Ok w ↦ w.at_hand-is ∙ w.keep.ensures ∙ kept_left hand c.begin-clients.new.self _ left c.begin-clients.ensures.begun (sym (ap (λ (h : AtHandValue). h.left) (w.at_hand-is ∙ w.keep.ensures)))
+      | in-Err w ↦ w.at_hand-is ∙ w.keep-in-Err.ensures ∙ kept_left hand c.begin-clients.new.self _ left c.begin-clients.ensures.begun (sym (ap (λ (h : AtHandValue). h.left) (w.at_hand-is ∙ w.keep-in-Err.ensures)))
+    ] in
+    subst (λ (k : AtHandValue). (turns : List (ℕ × Turn)) × Round c.args.ready.now turns (record { host = c.args.self.now; hand = hand; site = site; store = store }) (record { host = record { clients = new; admitted = c.match-answer.self-inside.admitted }; hand = k; site = later; store = after })
+    × GoesForward c.told-2.result c.args.ready.now turns (record { clients = new; admitted = c.match-answer.self-inside.admitted }))
+    (sym hand_is)
+    (subst₂ (λ (h : HostValue) (n : ℕ). (turns : List (ℕ × Turn)) × Round c.args.ready.now turns (record { host = h; hand = hand; site = site; store = store }) (record { host = record { clients = new; admitted = n }; hand = record { done = hand.done ++ hand.waits; waits = []; taken = hand.taken; left = left }; site = later; store = after })
+    × GoesForward c.told-2.result c.args.ready.now turns (record { clients = new; admitted = n }))
+    c.self.view_is (sym admitted) (round_of asks c.args.ready.now old mid between new taken took c.self.inside.admitted site later store after left a faults hand c.requires waits may c.self.invariant some c.take_all-refused.result c.take_all-refused.ensures.took.1 c.told-2.result c.told-2.ensures.is))
 
 pub returns-then-is_none-clause-lists : goal.returns-then-is_none-clause-lists
 returns-then-is_none-clause-lists g c = lists_still c.args.feed.now c.args.replica.now.site.states

@@ -1,3 +1,4 @@
+use Rattle.mvd_host.specs.Taking.{held_in}
 use Rattle.mvd_host.proofs.Orders.{fairly_still, none_still, same_count}
 use Rattle.mvd_host.proofs.taking.Taken.take_all.Goals as goal
 
@@ -8,7 +9,7 @@ arrange-requires c =
 
 pub returns-clause-took : goal.returns-clause-took
 returns-clause-took c =
-    fairly_still c.args.ready.now c.args.clients.now.entries c.take_each-refused.new.clients.entries c.take_each-refused.new.self c.arrange.new.self c.arrange.ensures c.take_each-refused.ensures.took.0
+    fairly_still (held_in c.args.self.now) c.args.ready.now c.args.clients.now.entries c.take_each-refused.new.clients.entries c.take_each-refused.new.self c.arrange.new.self c.arrange.ensures c.take_each-refused.ensures.took.0
     c.take_each-refused.result c.take_each-refused.ensures.took.1
 
 pub returns-clause-idle : goal.returns-clause-idle

@@ -1,8 +1,8 @@
 use Rattle.std.proofs.Common.{◌≡◌, ◌++◌, drop}
-use Rattle.mvd_server.specs.Batches.{frames_written, refusals_of}
+use Rattle.mvd_server.specs.Batches.{asked_in, refusals_of}
 use Rattle.mvd_server.proofs.batch.Batch.new.Given as goal
 
 abbrev pub invariant-loop-write : goal.invariant-loop-write
 invariant-loop-write l =
-    (l.frames.items ++ frames_written (drop l.write-index l.writes) ≡ frames_written l.writes)
+    (l.requests.items ++ asked_in (drop l.write-index l.writes) ≡ asked_in l.writes)
     × (l.refused.items ++ refusals_of (drop l.write-index l.writes) ≡ refusals_of l.writes)

@@ -1,6 +1,6 @@
-use Rattle.std.proofs.Common.{subst, sym}
+use Rattle.std.proofs.Common.{subst}
 use Rattle.mvd_server.specs.declared.talks.Talks.{Talks}
-use Rattle.mvd_server.specs.Talking.{ComesBy, GoesAtOnce, TalksDeeds, talking_of}
+use Rattle.mvd_server.specs.Talking.{GoesAtOnce, talking_of}
 use Rattle.mvd_server.proofs.crowd.Crowd.let_in.Goals as goal
 
 pub returns-in-Err-clause-deeds : goal.returns-in-Err-clause-deeds

@@ -7,7 +7,10 @@ pub returns-in-Ok : goal.returns-in-Ok
 returns-in-Ok c = λ writes.
     let old = talking_of c.args.self.now in
     let mid = talking_of c.keep_writes.new.self in
-    deeds_on old mid (talking_of c.hand_on_writes.new.self) (deed_begins c.args.number c.args.batch old mid writes c.in-Ok.ensures.keeps) c.hand_on_writes.ensures
+    let asked = talking_of c.hand_on_writes.new.self in
+    let told = talking_of c.tell_writes.new.self in
+    deeds_on old mid told (deed_begins c.args.number c.args.batch old mid writes c.in-Ok.ensures.keeps)
+    (deeds_on mid asked told c.hand_on_writes.ensures c.tell_writes.ensures)
 
 pub returns-in-Err : goal.returns-in-Err
 returns-in-Err c = λ writes.

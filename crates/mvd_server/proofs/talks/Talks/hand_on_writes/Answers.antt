@@ -6,4 +6,4 @@ use Rattle.mvd_server.proofs.talks.Talks.hand_on_writes.Goals as goal
 pub returns-in-Some : goal.returns-in-Some
 returns-in-Some c =
     let batch = c.hand_on.new.self in
-    deed_hands c.args.number c.in-Some.batch.now batch (talking_of c.args.self.now) c.hand_on.new.host (c.get_mut.follows.lender batch).entries (sym c.in-Some.ensures.value) c.hand_on.ensures (c.get_mut.follows.holds batch).0
+    deed_hands c.args.number c.in-Some.batch.now batch (talking_of c.args.self.now) c.hand_on.new.hand (c.get_mut.follows.lender batch).entries (sym c.in-Some.ensures.value) c.hand_on.ensures (c.get_mut.follows.holds batch).0

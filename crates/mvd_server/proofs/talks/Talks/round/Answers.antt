@@ -1,4 +1,5 @@
-use Rattle.mvd_server.specs.Talking.{talking_of, with_host}
+use Rattle.mvd_server.specs.Rounds.{with_round}
+use Rattle.mvd_server.specs.Talking.{talking_of}
 use Rattle.mvd_server.proofs.Deeds.{deeds_on}
 use Rattle.mvd_server.proofs.talks.Talks.round.Goals as goal
 
@@ -7,16 +8,18 @@ loop-number-preserved g c = deeds_on (talking_of c.args.self.now) (talking_of c.
 
 pub returns : goal.returns
 returns g c =
-    let before = talking_of c.loop-number.self in
+    let before = talking_of c.tell_all.new.self in
     let host = c.round-round.new.self in
+    let hand = c.round-round.new.at_hand in
     record {
       round = record {
         before = before;
         host = host;
-        first = c.loop-number.invariant;
+        hand = hand;
+        first = deeds_on (talking_of c.args.self.now) (talking_of c.loop-number.self) before c.loop-number.invariant c.tell_all.ensures.deeds;
         ready = c.args.ready.now;
         turns = c.round-round.ensures.round.0;
         round = c.round-round.ensures.round.1;
-        last = deeds_on (with_host before host) (talking_of c.tell_all.new.self) (talking_of c.wake.new.self) c.tell_all.ensures c.wake.ensures;
+        last = deeds_on (with_round before host hand) (talking_of c.tell_all-2.new.self) (talking_of c.wake.new.self) c.tell_all-2.ensures.deeds c.wake.ensures;
       };
     }

@@ -11,8 +11,8 @@ pub returns-in-Nothing : goal.returns-in-Nothing
 returns-in-Nothing g c =
     let old = talking_of c.args.self.now in
     let web = c.ask-rest.new.web in
-    let asks = subst (λ guard. AsksNextOf guard c.args.number (web_of c.in-Some.web.now) old.host (web_of web) c.ask-rest.new.host c.ask-rest.result) c.as_ref.ensures.value c.ask-rest.ensures in
-    deed_attends c.args.number (Asks c.ask-rest.result) c.in-Some.web.now web old c.ask-rest.new.host old.batches (c.get_mut.follows.lender web).entries (sym c.in-Some.ensures.value) (asks, refl) (c.get_mut.follows.holds web).0
+    let asks = subst (λ guard. AsksNextOf guard c.args.number (web_of c.in-Some.web.now) old.hand (web_of web) c.ask-rest.new.hand c.ask-rest.result) c.as_ref.ensures.value c.ask-rest.ensures in
+    deed_attends c.args.number (Asks c.ask-rest.result) c.in-Some.web.now web old c.ask-rest.new.hand old.batches (c.get_mut.follows.lender web).entries (sym c.in-Some.ensures.value) (asks, refl) (c.get_mut.follows.holds web).0
 
 pub returns-in-Writes : goal.returns-in-Writes
 returns-in-Writes g c =
@@ -20,12 +20,12 @@ returns-in-Writes g c =
     let web = c.ask-rest.new.web in
     let n = c.args.number in
     let entries = (c.get_mut.follows.lender web).entries in
-    let mid = record old { host = c.ask-rest.new.host; webs = entries } in
+    let mid = record old { hand = c.ask-rest.new.hand; webs = entries } in
     let batch = c.in-Writes.batch in
-    let asks = subst (λ guard. AsksNextOf guard n (web_of c.in-Some.web.now) old.host (web_of web) c.ask-rest.new.host (rest.Writes batch)) c.as_ref.ensures.value c.in-Writes.ensures in
-    let mine = batch_of old.guard n (web_of c.in-Some.web.now) old.host (web_of web) c.ask-rest.new.host batch asks in
+    let asks = subst (λ guard. AsksNextOf guard n (web_of c.in-Some.web.now) old.hand (web_of web) c.ask-rest.new.hand (rest.Writes batch)) c.as_ref.ensures.value c.in-Writes.ensures in
+    let mine = batch_of old.guard n (web_of c.in-Some.web.now) old.hand (web_of web) c.ask-rest.new.hand batch asks in
     deeds_on old mid (talking_of c.begin_writes.new.self)
-    (deed_attends n (Asks (rest.Writes batch)) c.in-Some.web.now web old c.ask-rest.new.host old.batches entries (sym c.in-Some.ensures.value) (asks, refl) (c.get_mut.follows.holds web).0)
+    (deed_attends n (Asks (rest.Writes batch)) c.in-Some.web.now web old c.ask-rest.new.hand old.batches entries (sym c.in-Some.ensures.value) (asks, refl) (c.get_mut.follows.holds web).0)
     (c.begin_writes.ensures (writing n c.in-Some.web.now web old.webs entries batch (sym c.in-Some.ensures.value) (c.get_mut.follows.holds web).0 mine, no_batch _ _ c.contains_key.ensures c.if-contains_key.false))
 
 pub returns-in-Waits : goal.returns-in-Waits
@@ -33,8 +33,8 @@ returns-in-Waits g c =
     let old = talking_of c.args.self.now in
     let web = c.ask-rest.new.web in
     let entries = (c.get_mut.follows.lender web).entries in
-    let mid = record old { host = c.ask-rest.new.host; webs = entries } in
-    let asks = subst (λ guard. AsksNextOf guard c.args.number (web_of c.in-Some.web.now) old.host (web_of web) c.ask-rest.new.host c.ask-rest.result) c.as_ref.ensures.value c.ask-rest.ensures in
+    let mid = record old { hand = c.ask-rest.new.hand; webs = entries } in
+    let asks = subst (λ guard. AsksNextOf guard c.args.number (web_of c.in-Some.web.now) old.hand (web_of web) c.ask-rest.new.hand c.ask-rest.result) c.as_ref.ensures.value c.ask-rest.ensures in
     deeds_on old mid (talking_of c.park.new.self)
-    (deed_attends c.args.number (Asks c.ask-rest.result) c.in-Some.web.now web old c.ask-rest.new.host old.batches entries (sym c.in-Some.ensures.value) (asks, refl) (c.get_mut.follows.holds web).0)
+    (deed_attends c.args.number (Asks c.ask-rest.result) c.in-Some.web.now web old c.ask-rest.new.hand old.batches entries (sym c.in-Some.ensures.value) (asks, refl) (c.get_mut.follows.holds web).0)
     c.park.ensures

@@ -1,8 +1,9 @@
+use Rattle.std.proofs.Common.{length}
 use Rattle.mvd_server.specs.Talking.{TalksDeeds}
 use Rattle.mvd_server.proofs.talks.Talks.tell_all.Given as goal
 
-abbrev pub invariant-loop-number : goal.invariant-loop-number
-invariant-loop-number l = TalksDeeds l.initial.self l.self
+abbrev pub invariant-telling : goal.invariant-telling
+invariant-telling l = TalksDeeds l.initial.self l.self
 
-abbrev pub invariant-loop-number-2 : goal.invariant-loop-number-2
-invariant-loop-number-2 l = TalksDeeds l.initial.self l.self
+abbrev pub decreases-telling : goal.decreases-telling
+decreases-telling l = length l.self.hand.left

@@ -1,0 +1,18 @@
+-- What is asked at hand.
+use Rattle.std.proofs.Common.{◌≡◌, ℕ, [], Result, Ok, Err, inl, inr, ap, refl}
+use Rattle.std.specs.Prelude.{⊤}
+use Rattle.std.specs.Result.{OnErr, OnOk}
+use Rattle.std.specs.declared.alloc.Global.{Global}
+use Rattle.std.specs.declared.vec.Vec.{Vec}
+use Rattle.mvd_dots.specs.declared.refusals.Refusal.{Refusal}
+use Rattle.mvd_host.specs.AtHand.{AllMayWait, AtHandValue, asked_by_one, asks_of}
+use Rattle.mvd_server.specs.Batches.{HandsBatch}
+use Rattle.mvd_server.specs.declared.batch.Batch.{Batch}
+use Rattle.mvd_wire.specs.declared.request.Request.{Request}
+
+-- all that the writes ask is asked, or nothing is
+pub asks_or_not : (n : ℕ) (old : Batch) (hand hand' : AtHandValue) (left : Vec Request Global) (result : Result ⊤ Refusal)
+    → OnOk result (AllMayWait (asks_of n old.requests.items) × (left.items ≡ []) × (hand' ≡ asked_by_one hand n old.requests.items))
+    → OnErr result ((hand' ≡ hand) × (left ≡ old.requests)) → HandsBatch n old hand (record old { requests = left }) hand'
+asks_or_not n old hand hand' left (Ok done) (may, gone, is) none = inl (record { may = may; asks = is; gone = gone; same = refl })
+asks_or_not n old hand hand' left (Err e) none (same, kept) = inr (ap (λ (r : Vec Request Global). record old { requests = r }) kept, same)

@@ -77,7 +77,7 @@ sweep() { # CRATE TEST [STEP]: refuses growth 1, 1 + STEP and so on, each by its
 
 sweep_all() { # STEP: that of all tests but the cheapest
     local test
-    for test in a_replica_is_asked_again a_connection_tells_what_is_there a_round_tells_what_is_there; do
+    for test in a_replica_is_asked_again a_connection_tells_what_is_there a_round_tells_what_is_there a_round_tells_at_hand_what_is_there; do
         sweep mvd_faults_tests memory::$test "$1"
     done
     sweep mvd_script_tests script_memory::a_script_tells_what_it_did

@@ -301,10 +301,17 @@ def check_places(folder):
 
 
 def check_busy(folder):
-    """Who waits for an answer is not idle, however long the server takes."""
+    """Who waits for an answer is not idle, however long the server takes, and nor is who asked while it stood still."""
     server = Server(folder, "--idle", "1", name="busy.db")
     line = json.dumps({"key": "k", "document": {"n": "x" * 900}}) + "\n"
     server.is_told("1,000 writes of one key, which take long", 200, '{"dot":"1:1000"}', "POST", "/keys", line * 1000)
+    with socket.create_connection(("127.0.0.1", server.http), PATIENCE) as peer:
+        server.is_told("another client is answered", 200, "root", "GET", "/root")
+        server.process.send_signal(signal.SIGSTOP)
+        peer.sendall(b"GET /root HTTP/1.1\r\nHost: localhost\r\n\r\n")
+        time.sleep(2)
+        server.process.send_signal(signal.SIGCONT)
+        wanted("what came while the server stood still is answered", peer.recv(65536).startswith(b"HTTP/1.1 200"))
     server.close()
 
 
@@ -323,36 +330,22 @@ def check_no_room(folder):
 
 
 def check_most(folder):
-    """One connection asks more than is answered on one, and another just as often and then waits: no response is lost."""
-    server = Server(folder, "--conns", "3", name="most.db")
-    one = b"GET /keys/k HTTP/1.1\r\nHost: localhost\r\n\r\n"
-    found = {}
+    """One connection may ask as often as it likes: each request is answered, also more than frames of a connection would be."""
+    server = Server(folder, "--conns", "1", name="most.db")
+    one, most = b"GET /keys/k HTTP/1.1\r\nHost: localhost\r\n\r\n", MOST + 1_000
+    with socket.create_connection(("127.0.0.1", server.http), 10 * PATIENCE) as peer:
+        def send():
+            for _ in range(most // 1_000):
+                peer.sendall(one * 1_000)
+            peer.shutdown(socket.SHUT_WR)
 
-    def run(name, more):
-        with socket.create_connection(("127.0.0.1", server.http), 10 * PATIENCE) as peer:
-            def send():
-                with contextlib.suppress(OSError):
-                    for _ in range(MOST // 1_000):
-                        peer.sendall(one * 1_000)
-                    peer.sendall(one * more)
-
-            sender = threading.Thread(target=send)
-            sender.start()
-            stream, count = peer.makefile("rb"), 0
-            with contextlib.suppress(OSError):
-                count = sum(line.endswith(b"HTTP/1.1 404 Not Found\r\n") for line in stream)
-            sender.join()
-        found[name] = count
-
-    threads = [threading.Thread(target=run, args=each) for each in (("just as often", 0), ("more often", 1_000))]
-    for thread in threads:
-        thread.start()
-    for thread in threads:
-        thread.join()
-    wanted(f"{MOST:,} requests of a connection are answered, also the last, and then it is ended", set(found.values()) == {MOST}, found)
-    server.is_told("another connection goes on", 404, '"siblings":[]', "GET", "/keys/k")
+        sender = threading.Thread(target=send)
+        sender.start()
+        count = sum(line.endswith(b"HTTP/1.1 404 Not Found\r\n") for line in peer.makefile("rb"))
+        sender.join()
+    wanted(f"{most:,} requests of a connection are answered", count == most, count)
     endings = server.ended()
-    wanted("which is told as 36", [end[2:] for end in endings] == ["36 TooManyRequests"] * 2 + ["end"], endings)
+    wanted("and it ends well", [end[2:] for end in endings] == ["end"], endings)
 
 
 def putting(server, number):

@@ -14,6 +14,14 @@ import struct
 import sys
 
 
+WORDS = {
+    1: "a key is 1 to 128 letters of ASCII without a space", 2: "the context is none", 3: "the document is no JSON", 4: "the document is no object",
+    5: "a number of the document is not whole, or is too great", 6: "the document is too long", 8: "no counter is left", 9: "the key has too much",
+    10: "the site is full", 12: "there is no such index", 15: "that is no term", 20: "memory was refused", 21: "the server's file was refused",
+    22: "the server has to be started again", 36: "the server has no place", 38: "the server asks for a token, or for another one: set MVD_TOKEN",
+}
+
+
 class Refused(Exception):
     """The server refused a request, with this number."""
 
@@ -152,4 +160,7 @@ if __name__ == "__main__":
     try:
         main(*sys.argv[1:])
     except Refused as refusal:
-        sys.exit(f"refused {refusal}")
+        (number,) = refusal.args
+        sys.exit(f"refused {number}: {WORDS[number]}" if number in WORDS else f"refused {number}")
+    except (OSError, EOFError) as fault:
+        sys.exit(f"the server does not answer: {fault}")

@@ -3,12 +3,14 @@
 
 usage: follow.py URL [URL..]       where `mvd serve --http` listens, as http://127.0.0.1:7080; several sites that meet
 
+Where MVD_TOKEN is set it is shown with each request.
 It begins with the keys that are there. Where a site no longer answers, it goes on with the next one from the same root: two sites that
 agree have one root. So where a site has no place or no memory. A site that does not know the root says so, and then all keys are read
 again.
 """
 import http.client
 import json
+import os
 import sys
 import time
 import urllib.error
@@ -16,16 +18,20 @@ import urllib.parse
 import urllib.request
 
 WAIT = 30
+TOKEN = os.environ.get("MVD_TOKEN")
+FIELDS = {"Authorization": f"Bearer {TOKEN}"} if TOKEN else {}
 
 
 def ask(server, path, **given):
-    query = urllib.parse.urlencode(given)
+    request = urllib.request.Request(f"{server}{path}?{urllib.parse.urlencode(given)}", headers=FIELDS)
     try:
-        with urllib.request.urlopen(f"{server}{path}?{query}", timeout=WAIT + 10) as response:
+        with urllib.request.urlopen(request, timeout=WAIT + 10) as response:
             return json.load(response)
     except urllib.error.HTTPError as fault:
         if fault.code == 404:
             return json.load(fault)
+        if fault.code == 401:
+            sys.exit(f"follow: {server} asks for a token, or for another one: set MVD_TOKEN")
         if fault.code < 500:
             sys.exit(f"follow: {server} refuses it: {fault.read().decode()}")
         raise

@@ -9,8 +9,9 @@ a word of the code outside comments and texts; behind `Type::` a member of that 
 other word has to stand somewhere in the code, the specs, the proofs, the tools or the examples, or in the list below.
 
 CONTRIBUTING.md has to name each file that tools/places.py prints, and each file of its lists under its crate. The floors of
-docs/ARCHITECTURE.md have to be those of crates.txt, and the lines of docs/GATE.md those of tools/lanes.py. What looks like a name in a
-picture is looked up too. Each page keeps its length. Prints a line for each fault, and ends with 1 if there is one.
+docs/ARCHITECTURE.md have to be those of crates.txt, and the lines of docs/GATE.md those of tools/lanes.py. No call of the table of
+docs/THEOREM.md has more definitions behind it than its bound (tools/closure.py). What looks like a name in a picture is looked up too.
+Each page keeps its length. Prints a line for each fault, and ends with 1 if there is one.
 
 Without a file it first breaks each rule in a copy of a page, and ends with 1 where that is not refused.
 """
@@ -20,6 +21,7 @@ import subprocess
 import sys
 
 sys.dont_write_bytecode = True
+import closure
 import places
 
 TOP = pathlib.Path(__file__).resolve().parent.parent
@@ -30,13 +32,13 @@ SENTENCE = 45
 # The most lines of a page, of a crate's page, and of all pages of docs/ together.
 LINES = {"README.md": 150, "docs/THEOREM.md": 120, "docs/PROOFS.md": 150}
 CRATE_LINES = 30
-DOCS_LINES = 3200
+DOCS_LINES = 3400
 # Words of other projects, of the toolchain, of HTTP and of the command line that no file of ours has as a name.
 FOREIGN = {
     "rt", "cargo", "valgrind", "perf", "top", "du", "sqlite3", "taskset", "sha256sum", "curl", "chromium", "python3", "Wait",
     "Allow", "chunked", "Wary", "core.hooksPath", "NAME", "Retry-After",
 }
-CODE = (".rt", ".antt", ".py", ".sh", ".txt", ".edit", ".mvd", ".toml", ".rs", ".html")
+CODE = (".rt", ".antt", ".py", ".sh", ".txt", ".edit", ".mvd", ".toml", ".rs", ".html", ".js", ".mjs", ".ts")
 NAME = r"[A-Za-z_][A-Za-z0-9_]*"
 
 
@@ -287,6 +289,8 @@ def faults_of(documents, names, code):
         faults += misdrawn()
     if "docs/GATE.md" in documents:
         faults += miscounted()
+    if "docs/THEOREM.md" in documents:
+        faults += [f"docs/THEOREM.md: {fault}" for fault in closure.faults(page("docs/THEOREM.md"))]
     return faults
 
 
@@ -309,6 +313,9 @@ BROKEN = [
     ("docs/ARCHITECTURE.md", "· tree ·", "· trees ·", "draws mvd_trees, which is no crate"),
     ("CONTRIBUTING.md", "`mvd_wire/src/request.rt`", "`mvd_docs/src/request.rt`", "no file mvd_docs/request.rt in that crate"),
     ("CONTRIBUTING.md", "`Clashes.antt`, ", "", "no mvd_kept/proofs/Clashes.antt"),
+    ("docs/THEOREM.md", "sites.rt:answer` | 2", "sites.rt:answer` | ", "definitions, and at most"),
+    ("docs/THEOREM.md", "sites.rt:answer` | 2", "sites.rt:no_such_" "call` | 2", "no function no_such_" "call"),
+    ("docs/THEOREM.md", "| `sync_run` | ", "| ", "fewer than ten calls"),
     ("docs/GATE.md", "| `mvd_dots` | ", "| `mvd_dots` | 9", "other lines than tools/lanes.py"),
 ]
 # What no rule is against: a table's row, and a sentence of 45 words, as long as they like.

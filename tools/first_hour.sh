@@ -5,7 +5,7 @@
 #   look, build   are run at the top, and print what crates/mvd/stdout says; where a PROGRAM is given, it stands for `rt try` and `rt run`
 #   hex      is the state that the file of docs/FORMATS.md holds, or the frame that examples/client.py sends, which reads the other
 #   sql      is what a file's tables are made by
-#   rust, rattle   stand in the code, and edit in a file of wrong-bodies/ or must-fail/
+#   rust, rattle   stand in the code, js and py in clients/, and edit in a file of wrong-bodies/ or must-fail/
 #   mermaid, floors   are read by tools/check_docs.py
 # It needs bash, python3 and curl, and the ports 7007 to 7009 and 7080.
 # usage: tools/first_hour.sh [--short] [PROGRAM]
@@ -25,7 +25,7 @@ room=$(mktemp -d)
 trap 'rm -rf "$room"' EXIT
 trap 'exit 1' HUP INT TERM
 mkdir "$room/bin" "$room/files"
-ln -s "$top/examples" "$top/tools" "$room/files/"
+ln -s "$top/clients" "$top/examples" "$top/tools" "$room/files/"
 if [ $# -gt 0 ]; then
   printf '#!/bin/sh\nexec "%s" "$@"\n' "$(realpath "$1")" >"$room/bin/mvd"
   chmod +x "$room/bin/mvd"
@@ -187,9 +187,11 @@ def runs(file):
             tables(what, text)
         elif word in ("rust", "rattle") and not stands(text, r"crates/.*\.rt"):
             miss(f"{what}: this stands in no file of code:\n{text}")
+        elif word in ("js", "py") and not stands(text, r"clients/.*\.(mjs|py)"):
+            miss(f"{what}: this stands in no file of clients/:\n{text}")
         elif word == "edit" and not stands(text, r"crates/.*\.edit"):
             miss(f"{what}: this is no edit:\n{text}")
-        elif word not in ("rust", "rattle", "edit", "mermaid", "floors") and not (word == "text" and before == "sh"):
+        elif word not in ("rust", "rattle", "js", "py", "edit", "mermaid", "floors") and not (word == "text" and before == "sh"):
             miss(f"{what}: no word says how this block is tried")
         if word not in ("sh", "text", "mermaid", "floors"):
             print("done:", what)
@@ -223,7 +225,8 @@ def long_session():
     wants("1,001 puts", "mvd shell --db many.db --site 1 > puts.txt", "mvd: many.db is new: the file of site 1\n", 0, puts)
     started = server("many.db")
     out, status = run(at_ports("mvd sync --db less.db --site 2 --port 7007 --verbose"))
-    if status != 0 or sorted(line.split()[0] for line in out.splitlines()) != ["1000", "keys", "mvd:", "root"] or "keys 1001\n" not in out:
+    words = sorted(line.split()[0] for line in out.splitlines())
+    if status != 0 or words[1:] != ["keys", "mvd:", "root"] or not 1000 <= int(words[0]) <= 1001 or "keys 1001\n" not in out:
         miss(f"a long session: {out}")
     kill(started)
     print("done: a long session")
@@ -263,7 +266,7 @@ def interrupted():
     second = server("killed.db")
     wants("a client, after a kill", 'python3 examples/client.py 7007 get k', 'context 0000000100000001000000000000000100000000\n1:1 {"a":1}\n')
     wants("a client's delete", 'python3 examples/client.py 7007 del k 0000000100000001000000000000000100000000', "ok\n")
-    wants("a refusal", 'python3 examples/client.py 7007 find city 1', "refused 12\n", 1)
+    wants("a refusal", 'python3 examples/client.py 7007 find city 1', "refused 12: there is no such index\n", 1)
     kill(second)
     wants("no server", "mvd shell --port 7007", "mvd: fault 34 ReadFailed\nmvd: 127.0.0.1:7007: Connection refused (os error 111); "
           "start `mvd serve` there, or name another --address and --port\n", 1)

@@ -201,6 +201,74 @@ refused "a lost file" 1 "fault 21 Store" "lost.db is missing, but its log is the
 mv kept.db lost.db
 same "the file, put back" "context 8:1 8:1 {}" "$(echo 'get k' | "$program" shell --db lost.db --site 8 | tr '\n' ' ' | sed 's/ $//')"
 
+# A file that is changed while it is open, or whose log is: told once as 21 with what became of it, and never a good end.
+# harmed WHAT HINT: the server ends by itself within seconds of a write, told so.
+harmed() {
+  for _ in $(seq 60); do
+    kill -0 "$server" 2>/dev/null || break
+    sleep 0.1
+  done
+  status=0
+  wait "$server" || status=$?
+  server=
+  same "$1" "1 mvd: fault 21 Store" "$status $(head -n 1 fault)"
+  same "$1, hint" "mvd: harm.db $2: docs/USING.md, Backups, tells what is left of it" "$(tail -n +2 fault)"
+}
+# harm COMMAND: a server of a new file with a key, then this command, and a write behind it.
+harm() {
+  rm -f harm.db harm.db-wal gone.db
+  echo 'put k - {}' | "$program" shell --db harm.db --site 9 >out 2>fault
+  serve --db harm.db --site 9
+  eval "$1"
+  python3 client.py "$port" 'put l {}' bye >out
+}
+keys_of() { echo keys | "$program" shell --db "$1" --site 9 | tr '\n' ' ' | sed 's/ $//'; }
+
+harm 'mv harm.db gone.db'
+harmed "a renamed file" "was removed or renamed while it was open"
+refused "a renamed file, opened again" 1 "fault 21 Store" "harm.db is missing, but its log is there: put the file back, docs/USING.md tells how" \
+  harm.db-wal shell --db harm.db --site 9
+mv gone.db harm.db
+same "the file, put back" "k 1 l 1" "$(keys_of harm.db)"
+harm 'mv harm.db gone.db; echo "put m - {}" | "$program" shell --db other9.db --site 10 >out 2>&1; mv other9.db harm.db'
+harmed "a replaced file" "was replaced by another file while it was open"
+same "the file that was opened" "k 1 l 1" "$(keys_of gone.db)"
+harm 'truncate -s 0 harm.db'
+harmed "a file that was cut" "was cut while it was open"
+harm 'rm harm.db-wal'
+harmed "a log that was removed" "had its log removed while it was open"
+same "its file" "k 1 l 1" "$(keys_of harm.db)"
+harm 'echo other >log; mv log harm.db-wal'
+harmed "a log that was replaced" "had its log replaced by another file while it was open"
+rm harm.db-wal
+same "its file" "k 1 l 1" "$(keys_of harm.db)"
+harm 'truncate -s 0 harm.db-wal'
+harmed "a log that was cut" "had its log cut while it was open"
+rm -f harm.db harm.db-wal
+mkfifo lines
+"$program" shell --db harm.db --site 9 </dev/null >out 2>fault
+"$program" shell --db harm.db --site 9 <lines >out 2>fault &
+server=$!
+exec 9>lines
+echo 'put k - {}' >&9
+for _ in $(seq 100); do grep -q dot out && break; sleep 0.1; done
+rm harm.db
+exec 9>&-
+harmed "a shell whose file is removed" "was removed or renamed while it was open"
+rm -f harm.db-wal
+
+# A second name of a file; and too few descriptors.
+echo 'put k - {}' | "$program" shell --db linked.db --site 9 >out 2>fault
+ln linked.db second.db
+refused "a file with a second name" 1 "fault 21 Store" "linked.db has a second name, a hard link, or its log has: remove that name, or copy the file" \
+  linked.db shell --db linked.db --site 9
+rm second.db
+for limit in 5 8; do
+  status=0
+  (ulimit -n "$limit" && exec "$program" serve --db linked.db --site 9 --port "$port") </dev/null >out 2>fault || status=$?
+  same "a limit of $limit descriptors" "1 mvd: no more files can be open: raise the limit of descriptors (\`ulimit -n\`)" "$status $(tail -n +2 fault)"
+done
+
 serve --db a.db --site 1
 at="127.0.0.1:$port"
 refused "a port in use" 1 "fault 34 ReadFailed" "$at is in use: end the program that listens there, or name another port" \
@@ -248,7 +316,7 @@ refused "another program's database, with pages in its log" 1 "fault 17 Damaged"
   "killed.db is the file of another program: name another file" killed.db-wal shell --db killed.db --site 2
 same "its bytes" "$other" "$(cksum <killed.db)"
 seq 2000 >none.db
-refused "no database" 1 "fault 21 Store" "none.db is no database of mvd, or damaged: name another file, or make a new site from a copy (docs/USING.md, Backups)" \
+refused "no database" 1 "fault 21 Store" "none.db is no database of mvd, or damaged, or was left half made, as on a full disk: make room and try again, name another file, or make a new site from a copy (docs/USING.md, Backups)" \
   none.db serve --db none.db --site 2 --port "$port"
 refused "no folder" 1 "fault 21 Store" "no/b.db: unable to open database file; check its folder, its permissions and the disk" \
   b.db shell --db no/b.db --site 2

@@ -5,6 +5,7 @@ use Rattle.mvd_app.specs.Looped.{IsLooped}
 use Rattle.mvd_app.specs.Stored.{CannotOpen, ClosesOrNot, EndsAs, Filed, IsConfigFor, StopsBefore, file_in}
 use Rattle.mvd_app.specs.Tasks.{DoesTask, IsMet, IsSimulated, IsTokenOfOrder, IsTypedAt, Outside}
 use Rattle.mvd_app.specs.declared.closing.Ran.{Ran}
+use Rattle.mvd_hint.specs.declared.harm.Harm.{Harm}
 use Rattle.mvd_hint.specs.declared.hint.Stop.{Stop}
 use Rattle.mvd_input.specs.declared.order.Order.{Order}
 use Rattle.mvd_input.specs.declared.order.Order.TheVariants as order
@@ -55,8 +56,8 @@ module _ {D : Type 0} {g : disk.Ghosts D} (f : Ghosts (FileStore D g)) {K : Type
 
 module _ {D : Type 0} {g : disk.Ghosts D} (f : Ghosts (FileStore D g)) {K L : Type 0} (k : SocketGhosts K)
     (line : LineGhosts L) (gives : SocketAddr → L → Type 0) where
-  -- The site that is set up so was opened, its task was done and nothing else, and it was closed, or is broken or
-  -- cannot be closed
+  -- The site that is set up so was opened, its task was done and nothing else, and it was closed, or is broken, cannot
+  -- be closed, or came to harm that bars it
   pub record HasDone (image : Image) (filed : Filed) (was now : Outside K) (ran : Ran D) : Type 0 where
     pub config : ConfigValue
     pub set_up : IsConfigFor filed.setup config
@@ -69,8 +70,9 @@ module _ {D : Type 0} {g : disk.Ghosts D} (f : Ghosts (FileStore D g)) {K L : Ty
     pub worked : Result (Unit {0}) Stop
     pub does : DoesTask k line gives filed.task token was old now new turns worked
     pub runs : IsRunOf image filed.setup.site config turns new ran.files
-    pub closed : ClosesOrNot new ran.files
-    pub ends : EndsAs worked ran.files (site_of new).broken ran.ended
+    pub harm : Option Harm
+    pub closed : ClosesOrNot new harm ran.files
+    pub ends : EndsAs filed.db harm worked ran.files (site_of new).broken ran.ended
 
   abbrev pub DoesFile : Image → Filed → Outside K → Outside K → Ran D → Type 0
   DoesFile image filed was now ran = IsUnopened f image filed was now ran ⊎ HasDone image filed was now ran

@@ -1,5 +1,5 @@
 -- What the commands do to a stored site, and what comes back of its file.
-use Rattle.std.specs.Prelude.{◌≡◌, ◌⊎◌, true, false, if◌then◌else◌, ℕ, Bool, List, Option, Some, None, Result, Ok, Err, IsErrAnd}
+use Rattle.std.specs.Prelude.{◌≡◌, ◌⊎◌, true, false, if◌then◌else◌, ℕ, Bool, IsTrue, List, Option, Some, None, Result, Ok, Err, IsErrAnd}
 use Rattle.std.specs.Borrow.{Bor}
 use Rattle.std.specs.FinMap.{empty as no_states}
 use Rattle.mvd_app.specs.Named.{StopsAtDefs, StopsAtToken}
@@ -7,6 +7,9 @@ use Rattle.mvd_app.specs.Refused.{TellsFileFault}
 use Rattle.mvd_app.specs.Tasks.{Serving, Syncing, Task, Typing}
 use Rattle.mvd_app.specs.declared.closing.Ran.{Ran}
 use Rattle.mvd_dots.specs.declared.refusals.Refusal.TheVariants.{Broken, Store}
+use Rattle.mvd_hint.specs.Harm.{bars_closing}
+use Rattle.mvd_hint.specs.Stops.{stop_at_harm}
+use Rattle.mvd_hint.specs.declared.harm.Harm.{Harm}
 use Rattle.mvd_hint.specs.declared.hint.Hint.TheVariants as Hint
 use Rattle.mvd_hint.specs.declared.hint.Stop.{Stop}
 use Rattle.mvd_input.specs.declared.fault.Fault.TheVariants.{Stopped}
@@ -66,21 +69,35 @@ pub record IsConfigFor (setup : Setup) (config : ConfigValue) : Type 0 where
 
 -- a command is stopped with what its work was stopped with; else, where no file comes back, since the site is broken or
 -- its file cannot be closed
-abbrev pub EndsAs : {D : Type 0} → Result (Unit {0}) Stop → Option (Files D) → Bool → Result (Unit {0}) Stop → Type 0
-EndsAs (Err stop) files broken ended = ended ≡ Err stop
-EndsAs (Ok done) (Some files) broken ended = ended ≡ Ok tt
-EndsAs (Ok done) None broken ended = IsErrAnd ended (λ stop. stop.fault ≡ Stopped (if broken then Broken else Store))
+abbrev pub EndsAsWorked : {D : Type 0} → Result (Unit {0}) Stop → Option (Files D) → Bool → Result (Unit {0}) Stop
+    → Type 0
+EndsAsWorked (Err stop) files broken ended = ended ≡ Err stop
+EndsAsWorked (Ok done) (Some files) broken ended = ended ≡ Ok tt
+EndsAsWorked (Ok done) None broken ended =
+    IsErrAnd ended (λ stop. stop.fault ≡ Stopped (if broken then Broken else Store))
+
+-- the harm that came to its file goes first: no command ends well then
+abbrev pub EndsAs : {D : Type 0} → Bor (List ℕ) → Option Harm → Result (Unit {0}) Stop → Option (Files D) → Bool
+    → Result (Unit {0}) Stop → Type 0
+EndsAs db (Some harm) worked files broken ended = ended ≡ Err (stop_at_harm db harm)
+EndsAs db None worked files broken ended = EndsAsWorked worked files broken ended
+
+-- its harm bars a close
+abbrev pub BarsClosing : Option Harm → Type 0
+BarsClosing None = ⊥
+BarsClosing (Some harm) = IsTrue (bars_closing harm)
 
 module _ {D : Type 0} {g : disk.Ghosts D} {f : Ghosts (FileStore D g)} where
   -- a site that is not broken, whose file cannot be closed
   abbrev pub CannotClose : Replica (FileStore D g) f → Type 0
   CannotClose replica = (failed : Error × FileStore D g) × FailsClosing replica failed
 
-  -- the site is whole and its file closed; or there is no such file, since the site is broken or the file cannot be
-  -- closed
-  abbrev pub ClosesOrNot : Replica (FileStore D g) f → Option (Files D) → Type 0
-  ClosesOrNot replica (Some files) = ((site_of replica).broken ≡ false) × ClosesInto replica files
-  ClosesOrNot replica None = ((site_of replica).broken ≡ true) ⊎ CannotClose replica
+  -- the site is whole, no harm bars a close, and its file is closed; or there is no such file, since the site is broken,
+  -- its harm bars that, or the file cannot be closed
+  abbrev pub ClosesOrNot : Replica (FileStore D g) f → Option Harm → Option (Files D) → Type 0
+  ClosesOrNot replica harm (Some files) =
+      ((site_of replica).broken ≡ false) × ((¬ BarsClosing harm) × ClosesInto replica files)
+  ClosesOrNot replica harm None = ((site_of replica).broken ≡ true) ⊎ (BarsClosing harm ⊎ CannotClose replica)
 
 -- ---- what comes back
 

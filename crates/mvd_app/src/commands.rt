@@ -21,7 +21,7 @@ use crate::tokens::token_in;
 use crate::typed_lines::typed;
 use mvd_client::{Dial, MeetingTerms, meet_run, remote_shell_run, sync_told};
 use mvd_dots::Refusal;
-use mvd_hint::{Hint, Stop};
+use mvd_hint::{Hint, Stop, Watch};
 use mvd_input::{Fault, Order, Peers, Setup};
 use mvd_replica::Replica;
 use mvd_script::sim;
@@ -199,7 +199,7 @@ fn unlooped<'a>(fault: Fault) -> Stop<'a>
 }
 
 /// Opens the site that a file holds, which is made where it is missing, works on it, and closes it: what the log holds
-/// is copied into the file, and both are given back. It is proved for whatever stands in the file. The definitions and
+/// is copied into the file, and both are given back. Before that it looks whether they still are what was opened. It is proved for whatever stands in the file. The definitions and
 /// the token are read first.
 fn run_stored<'a, S: Start, D: Dial, K: Sockets, R: BufRead, W: Write>(
     rt: &HostRuntime,
@@ -234,18 +234,22 @@ fn run_stored<'a, S: Start, D: Dial, K: Sockets, R: BufRead, W: Write>(
     };
     match opened(rt, db, config, start) {
         Ok(mut replica) => {
+            let mut watch = Watch::new(rt, db);
             let worked = work_on(
                 rt,
                 &mut replica,
                 work,
                 token.as_ref(),
+                &mut watch,
                 dial,
                 sockets,
                 reader,
                 writer,
             );
             drop(token);
-            finish(db, replica, worked)
+            let harm = watch.look(rt);
+            drop(watch);
+            finish(db, replica, worked, harm)
         }
         Err(stop) => {
             drop(token);
@@ -284,6 +288,7 @@ fn work_on<'a, S: Alter + Drop, D: Dial, K: Sockets, R: BufRead, W: Write>(
     replica: &mut Replica<S>,
     work: Work<'_>,
     token: Option<&Token>,
+    watch: &mut Watch,
     dial: &D,
     sockets: &mut K,
     reader: &mut R,
@@ -298,7 +303,7 @@ fn work_on<'a, S: Alter + Drop, D: Dial, K: Sockets, R: BufRead, W: Write>(
     match work {
         Work::Serve(address, terms, peers) => {
             let terms = Terms { token, ..terms };
-            serve_stored(rt, sockets, replica, address, terms, peers, writer)
+            serve_stored(rt, sockets, replica, address, terms, peers, watch, writer)
         }
         Work::Shell => typed(rt.alloc(), replica, reader, writer),
         Work::Sync(address, idle, verbose) => synced(

@@ -1,6 +1,8 @@
 //! A site opened from its file, which is made where it is missing; or why it was not.
 ghost use Rattle.std.specs.Prelude.{◌≡◌, ◌++◌, IfErr, IfOk, IsErrAnd, IsTrue, Ok, codes, false, string_bytes, true};
 ghost use Rattle.mvd_app.specs.Found.{is_lost, is_missing};
+ghost use Rattle.mvd_dots.specs.declared.refusals.Refusal.TheVariants.{Store as RefusedStore};
+ghost use Rattle.mvd_input.specs.declared.fault.Fault.TheVariants.{Stopped};
 ghost use Rattle.mvd_app.specs.Refused.{TellsEither, TellsFileFault, TellsForeign, TellsOurs, TellsUnusable};
 ghost use Rattle.mvd_app.specs.Stored.{CannotOpen, RefusesFile, TellsLost};
 ghost use Rattle.mvd_records.specs.Foreign.{HoldsForeign};
@@ -10,7 +12,7 @@ ghost use Rattle.sqlite.specs.Held.{state};
 ghost use Rattle.sqlite.specs.WalFiles.{image_at};
 
 use mvd_dots::Refusal;
-use mvd_hint::Stop;
+use mvd_hint::{Stop, lacks_descriptors};
 use mvd_records::{is_foreign, owner_in};
 use mvd_replica::{FileFault, Replica, open_file};
 use mvd_site::Config;
@@ -18,7 +20,8 @@ use sqlite::{Alter, Connection, ErrorCode, FileFrom, FileStore, Start};
 use sqlite_disk::Disk;
 use sqlite_trees::store::Store;
 use std::alloc::AllocError;
-use std::fs::OpenOptions;
+use std::fs::{File, OpenOptions};
+use std::os::unix::fs::MetadataExt;
 use std::{fs, io};
 
 /// Fewer bytes than a log with a page takes: 32 for its head, 24 for that of the page, and 512 for the page.
@@ -137,7 +140,7 @@ fn unopened<'a, D: Disk + Drop>(
                 let _ = leave_log(rt, file, log);
             }
             drop(left);
-            unusable(file, error)
+            unusable(rt, file, error)
         }
         FileFault::Records(refusal, mut conn) => {
             let stop = refused_in(file, refusal, &mut conn);
@@ -149,13 +152,51 @@ fn unopened<'a, D: Disk + Drop>(
 }
 
 /// What a command is stopped with where no database could be opened. Want of memory is told as such.
-fn unusable<'a>(file: &'a str, error: sqlite::Error) -> Stop<'a>
+fn unusable<'a>(rt: &HostRuntime, file: &'a str, error: sqlite::Error) -> Stop<'a>
     ensures { TellsUnusable error result }
 {
     match error {
         sqlite::Error::SqliteFailure(ErrorCode::OutOfMemory) => Stop::from(Refusal::Memory),
+        sqlite::Error::SqliteFailure(ErrorCode::CannotOpen) => unopenable(rt, file, error),
         error => Stop::in_file(file, error),
     }
+}
+
+/// Why a file cannot be opened at all, as far as that can be told: no more can be open, or it has a second name, by
+/// which another program might write it.
+fn unopenable<'a>(rt: &HostRuntime, file: &'a str, error: sqlite::Error) -> Stop<'a>
+    ensures { result.fault ≡ Stopped RefusedStore }
+{
+    if are_too_many(rt, file) {
+        return Stop::without_descriptors();
+    }
+    if has_second_name(rt, file).unwrap_or(false) {
+        return Stop::in_linked(file);
+    }
+    Stop::in_file(file, error)
+}
+
+/// Whether as many files as a database needs, with its log and its folder, cannot be open at once.
+fn are_too_many(rt: &HostRuntime, file: &str) -> bool {
+    let (first, second, third) = (fs::open(rt, file), fs::open(rt, file), fs::open(rt, file));
+    lacks(&first) || lacks(&second) || lacks(&third)
+}
+
+fn lacks(opened: &io::Result<File>) -> bool {
+    match opened {
+        Ok(_) => false,
+        Err(error) => lacks_descriptors(*error),
+    }
+}
+
+/// Whether the file or the log beside it has a hard link.
+fn has_second_name(rt: &HostRuntime, file: &str) -> io::Result<bool> {
+    let log = log_beside(rt, file)?;
+    let has_log_two = match fs::metadata(rt, log.as_str()) {
+        Ok(told) => told.nlink() > 1,
+        Err(_) => false,
+    };
+    Ok(has_log_two || fs::metadata(rt, file)?.nlink() > 1)
 }
 
 /// Removes the log beside a file, where it holds no page. Where the open added to it, and nobody else did, it has as

@@ -7,7 +7,7 @@ ghost use Rattle.mvd_input.specs.Orders.{ArePeers};
 
 use crate::outlet::{Outlet, STANDARD_ERROR, STANDARD_OUTPUT};
 use mvd_dots::Refusal;
-use mvd_hint::Stop;
+use mvd_hint::{Stop, Watch};
 use mvd_input::{Peers, addresses_of};
 use mvd_replica::Replica;
 use mvd_server::{Sockets, Terms, serve_run};
@@ -26,6 +26,7 @@ pub(crate) fn serve_stored<'a, K: Sockets, S: Alter + Drop, W: Write>(
     address: SocketAddr,
     terms: Terms<'_>,
     peers: Option<Peers<'_>>,
+    watch: &mut Watch,
     writer: &mut W,
 ) -> Result<(), Stop<'a>>
     requires { ForSome peers ArePeers }
@@ -36,7 +37,16 @@ pub(crate) fn serve_stored<'a, K: Sockets, S: Alter + Drop, W: Write>(
         Ok(outlet) => outlet,
         Err(error) => return Err(Stop::unheard(address, error)),
     };
-    serve_met(rt, sockets, replica, address, terms, peers, &mut outlet)
+    serve_met(
+        rt,
+        sockets,
+        replica,
+        address,
+        terms,
+        peers,
+        watch,
+        &mut outlet,
+    )
 }
 
 /// The same, where nobody waits for the writer. Nor does anybody for standard error.
@@ -48,6 +58,7 @@ fn serve_met<'a, K: Sockets, S: Alter + Drop, W: Write>(
     address: SocketAddr,
     terms: Terms<'_>,
     peers: Option<Peers<'_>>,
+    watch: &mut Watch,
     writer: &mut W,
 ) -> Result<(), Stop<'a>>
     requires { ForSome peers ArePeers }
@@ -68,6 +79,7 @@ fn serve_met<'a, K: Sockets, S: Alter + Drop, W: Write>(
             replica,
             address,
             terms,
+            watch,
             writer,
             &mut errors,
         );
@@ -87,6 +99,7 @@ fn serve_met<'a, K: Sockets, S: Alter + Drop, W: Write>(
         replica,
         address,
         terms,
+        watch,
         writer,
         &mut errors,
     )

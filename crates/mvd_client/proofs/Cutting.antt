@@ -13,17 +13,6 @@ use Rattle.mvd_site.proofs.Outcomes.{memory_or_not}
 use Rattle.mvd_wire.specs.Frames.{AppendsFront}
 use Rattle.mvd_wire.specs.declared.reply.Digests.{Digests}
 
--- where there is an answer, only memory is refused
-pub memory_only : {T : Type 0} (refusal : Refusal) (x : T) (answer : Result T Refusal) → answer ≡ Ok x → IsAnswer {T = T} (Err refusal) answer → (broken : Bool) → HasNoLines broken refusal
-memory_only {T} refusal x answer is answers broken = elim (memory_or_not refusal) [
-  | inl memory ↦ inl memory
-  | inr other ↦ absurd (let bad : ◌≡◌ {A = Result T Refusal} (Err refusal) (Ok x) = sym (answers other) ∙ is in cc)
-]
-
-pub node_by : (broken : Bool) (digests : Digests) (refusal : Refusal) → ◌≡◌ {A = Result Digests Refusal} (Err refusal) (if broken then Err Broken else Ok digests) → HasNoLines broken refusal
-node_by true digests refusal is = let same : refusal ≡ Broken = cc in inr (same, refl)
-node_by false digests refusal is = absurd (cc)
-
 module _ (text : List ℕ) (broken : Bool) (out out' : Option (List ℕ)) where
   pub no_lines : (fault : Fault) (refusal : Refusal) → fault ≡ Stopped refusal → HasNoLines broken refusal → CutReport text broken out out fault
   no_lines fault refusal is why = inl ((refusal, is, why), refl)

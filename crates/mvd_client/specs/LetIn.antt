@@ -1,7 +1,9 @@
 -- How a line comes to be one over which its far side serves: by a Hello that shows the token, where there is one.
 use Rattle.std.specs.Prelude.{◌≡◌, ℕ, List, Option, Some, None, Result, Ok, Err}
 use Rattle.mvd_dots.specs.declared.refusals.Refusal.{Refusal}
-use Rattle.mvd_remote.specs.Lines.{line_of, refused_of}
+use Rattle.mvd_wire.specs.declared.request.Request.TheVariants.{Hello}
+use Rattle.mvd_remote.specs.Lines.{as_done, line_of, refused_of}
+use Rattle.mvd_remote.specs.LiveRemotes.{AsksLive}
 use Rattle.mvd_remote.specs.Remotes.{AsksOver, AsksTruly, hello_query}
 use Rattle.mvd_remote.specs.declared.line.Line.{Ghosts}
 use Rattle.mvd_remote.specs.declared.remote.Remote.{Remote}
@@ -21,6 +23,7 @@ module _ {L : Type 0} (line : Ghosts L) where
     pub told : Result (Unit {0}) Refusal
     pub asked : AsksOver line (hello_query token) before after told
     pub truth : AsksTruly line (hello_query token) before after told
+    pub live : AsksLive line (Hello token) as_done before after told
     pub ends : EndsShown told (line_of after) result
 
   -- a line over which the token was shown, if there is one, and nothing else went

@@ -1,9 +1,10 @@
 //! One connection: from the bytes that came to the bytes that leave.
 ghost use Rattle.std.specs.Prelude.{◌≡◌, ◌≤◌, ◌<◌, ◌==◌, ◌↔◌, ◌⊎◌, if◌then◌else◌, []};
 ghost use Rattle.std.specs.Prelude.{length, take, drop, true, false, None};
-ghost use Rattle.std.specs.Prelude.{IsTrue, IfOk, IfErr, OnOk, option_map};
+ghost use Rattle.std.specs.Prelude.{IsTrue, IfOk, IfErr, IfSome, List, Ok, OnOk, Some, option_map, ℕ};
 ghost use Rattle.mvd_dots.specs.declared.refusals.Refusal.TheVariants as Refusal;
 ghost use Rattle.mvd_wire.specs.declared.reply.Reply.{Reply};
+ghost use Rattle.mvd_wire.specs.Frames.{frame_at};
 ghost use Rattle.mvd_wire.specs.Replies.{CanBeSent, reply_bytes};
 
 use crate::guard::Guard;
@@ -186,6 +187,21 @@ impl Connection {
         }
         let bytes = &self.input.as_slice()[..self.hand];
         Some((bytes[4], &bytes[5..]))
+    }
+
+    /// The kind byte and the payload of the whole frame behind the one in hand, if it came.
+    pub fn coming(&self) -> Option<(u8, &[u8])>
+        ensures { IfSome result (λ p. (rest : List ℕ) ×
+            (frame_at self.now.held ≡ Ok (Some (record { kind = p.0; payload = p.1.now }), rest))) }
+    {
+        let held = &self.input.as_slice()[self.hand..];
+        match front_of(held) {
+            Front::Whole(size) => {
+                let frame = &held[..size];
+                Some((frame[4], &frame[5..]))
+            }
+            _ => None,
+        }
     }
 
     /// Queues the reply to the first frame that has none. A Written, a Done and a Refused need no memory. Where it is

@@ -1,5 +1,5 @@
-//! What one client may fill: how many of its pushes share a commit, and how many bytes wait for it where it asks for
-//! much and reads nothing.
+//! What one client may fill: how many of its pushes share a commit, how many of its changes of a long state a round takes,
+//! and how many bytes wait for it where it asks for much and reads nothing.
 use super::host_calls::{admit_all, drop_waiting, feed, round};
 use super::replica_calls::{Bytes, counted, end, new_replica, push};
 use mvd_dots::Refusal;
@@ -17,6 +17,14 @@ const PUSH: [&str; 2] = [
 
 /// The bytes of a put before its document, which is of 60,008 bytes, and the ends of the document.
 const PUT: [&str; 3] = ["0000ea7322016b000000000000ea68", "7b227a223a22", "227d"];
+
+/// A put of the shortest document.
+const SHORT: &str = "0000000d22016b00000000000000027b7d";
+
+/// The number of puts that leave a state of over a million bytes, and of those that come to it at once.
+const LONG: u32 = 17;
+
+const SHORTS: usize = 8;
 
 const GET: &str = "0000000321016b";
 
@@ -79,6 +87,36 @@ fn filled<S: Alter>(alloc: Global, replica: &mut Replica<S>, bytes: &[u8]) -> (u
     (told.0, replica.commits())
 }
 
+/// Of puts to a state of 1,020,000 bytes that come at once: how many replies wait after one round, and how many commits
+/// that made.
+fn weighed<S: Alter>(alloc: Global, replica: &mut Replica<S>) -> (usize, u64) {
+    let mut host = Host::new(alloc);
+    admit_all(&mut host, 1);
+    let put = put(alloc);
+    for _ in 0..LONG {
+        feed(&mut host, 0, put.as_slice());
+        round(alloc, &mut host, replica, &[0]);
+        drop_waiting(&mut host, 0);
+    }
+    drop(put);
+    let before = replica.commits();
+    let shorts = shorts(alloc);
+    feed(&mut host, 0, shorts.as_slice());
+    drop(shorts);
+    round(alloc, &mut host, replica, &[0]);
+    let told = waiting(&host);
+    drop(host);
+    (told.0, replica.commits().saturating_sub(before))
+}
+
+fn shorts(alloc: Global) -> Vec<u8> {
+    let mut bytes = Vec::new(alloc);
+    for _ in 0..SHORTS {
+        push(&mut bytes, Bytes::of(&[SHORT]).bytes());
+    }
+    bytes
+}
+
 /// How many replies to the gets of the long state wait at most, how many bytes, and how many replies there are when all
 /// of them were read.
 fn pressed<S: Alter>(alloc: Global, replica: &mut Replica<S>) -> (usize, usize, usize) {
@@ -119,6 +157,21 @@ fn pushes_share_a_commit(rt: HostRuntime) -> Result<(), Fail> {
 fn filled_of(alloc: Global, bytes: &[u8]) -> Result<(usize, u64), Refusal> {
     let mut replica = new_replica(alloc, 1, &[])?;
     let told = filled(alloc, &mut replica, bytes);
+    end(replica);
+    Ok(told)
+}
+
+/// Four states have 4,080,000 bytes, and five are more than a round and a commit may have: the others wait.
+#[test]
+fn long_states_wait_for_a_round(rt: HostRuntime) -> Result<(), Fail> {
+    let told = weighed_of(rt.alloc())?;
+    assert_eq!(rt; told, (5, 1));
+    Ok(())
+}
+
+fn weighed_of(alloc: Global) -> Result<(usize, u64), Refusal> {
+    let mut replica = new_replica(alloc, 1, &[])?;
+    let told = weighed(alloc, &mut replica);
     end(replica);
     Ok(told)
 }

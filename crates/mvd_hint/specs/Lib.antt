@@ -1,1 +1,3 @@
+pub mod Harm
 pub mod Named
+pub mod Stops

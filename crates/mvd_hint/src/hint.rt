@@ -1,6 +1,7 @@
 //! A fault, and what there is to do about it.
 ghost use Rattle.std.specs.Prelude.{◌≡◌, ◌≢◌, ◌<◌, ◌≤◌, ℕ, IsSomeAnd, None, Some};
 ghost use Rattle.mvd_hint.specs.Named.{NamesServer};
+ghost use Rattle.mvd_hint.specs.Stops.{stop_at_harm};
 ghost use Rattle.mvd_dots.specs.Refusal.{number_of};
 ghost use Rattle.mvd_dots.specs.declared.refusals.Refusal.TheVariants.{BadBody, BadKind, Damaged, DotClash, FrameTooLong};
 ghost use Rattle.mvd_dots.specs.declared.refusals.Refusal.TheVariants.{Full, Memory, NotAdmitted, ReadFailed, SiteMismatch};
@@ -8,6 +9,7 @@ ghost use Rattle.mvd_dots.specs.declared.refusals.Refusal.TheVariants.{Store, To
 ghost use Rattle.mvd_input.specs.declared.fault.Fault.TheVariants.{Stopped};
 ghost use Rattle.mvd_input.specs.declared.fault.Fault.TheVariants as faults;
 
+use crate::harm::Harm;
 use mvd_dots::Refusal;
 use mvd_input::Fault;
 use sqlite::ErrorCode;
@@ -37,10 +39,16 @@ pub enum Hint<'a> {
     BadToken(&'a str),
     #[error("{0} is in use: end the program that has it open, or ask that one through its port")]
     InUse(&'a str),
-    #[error("{0} is no database of mvd, or damaged: name another file, or make a new site from a copy (docs/USING.md, Backups)")]
+    #[error("{0} is no database of mvd, or damaged, or was left half made, as on a full disk: make room and try again, name another file, or make a new site from a copy (docs/USING.md, Backups)")]
     NoDatabase(&'a str),
     #[error("{0} is missing, but its log is there: put the file back, docs/USING.md tells how")]
     Lost(&'a str),
+    #[error("{0} {1}: docs/USING.md, Backups, tells what is left of it")]
+    Harmed(&'a str, Harm),
+    #[error("{0} has a second name, a hard link, or its log has: remove that name, or copy the file")]
+    Linked(&'a str),
+    #[error("no more files can be open: raise the limit of descriptors (`ulimit -n`)")]
+    NoDescriptors,
     #[error("{0}: {1}; check its folder, its permissions and the disk")]
     Unusable(&'a str, sqlite::Error),
     #[error("{0} is the file of site {1}: give that number as --site, or name another file")]
@@ -61,7 +69,7 @@ pub enum Hint<'a> {
     NoServer(SocketAddr, io::Error),
     #[error("the connection with {0} broke: what was done before stays; run a sync again, and read a key before you write it again")]
     Broken(SocketAddr),
-    #[error("the server at {0} refused it: what was done before stays")]
+    #[error("the server at {0} refused it, or what it told was refused here: what was done before stays")]
     Refused(SocketAddr),
     #[error("the server at {0} has no place, or takes no more of this connection: try again, or give it more --clients; what was done before stays")]
     NoPlace(SocketAddr),
@@ -79,6 +87,17 @@ pub enum Hint<'a> {
 #[derive(Debug, Clone, Copy, Error)]
 #[error("the file was older than what the server saw of it, keys {0}: it looks like an old copy (docs/USING.md, Backups)")]
 pub struct Older(pub u64);
+
+/// What the system tells where this process, or all together, can open no more.
+const FULL: [i32; 2] = [24, 23];
+
+/// Whether the system told that no more can be open.
+pub fn lacks_descriptors(error: io::Error) -> bool {
+    match error.raw_os_error() {
+        Some(code) => FULL.contains(&code),
+        None => false,
+    }
+}
 
 /// Why a command was stopped, and what there is to do about it where something is known.
 #[derive(Clone, Copy)]
@@ -206,6 +225,29 @@ impl<'a> Stop<'a> {
         Stop::new(Refusal::Store, Hint::Lost(file))
     }
 
+    /// A file was removed, replaced or cut while it was open, or its log was.
+    pub fn in_harmed(file: &'a str, harm: Harm) -> Stop<'a>
+        ensures { result ≡ stop_at_harm file.entry harm }
+    {
+        Stop::new(Refusal::Store, Hint::Harmed(file, harm))
+    }
+
+    /// A file is refused since it has a second name.
+    pub fn in_linked(file: &'a str) -> Stop<'a>
+        ensures fault { result.fault ≡ Stopped Store }
+        ensures hint { result.hint ≡ Some (Hint.Linked file.entry) }
+    {
+        Stop::new(Refusal::Store, Hint::Linked(file))
+    }
+
+    /// A file cannot be opened since no more can be.
+    pub fn without_descriptors() -> Stop<'a>
+        ensures fault { result.fault ≡ Stopped Store }
+        ensures hint { result.hint ≡ Some Hint.NoDescriptors }
+    {
+        Stop::new(Refusal::Store, Hint::NoDescriptors)
+    }
+
     /// The records of a file are refused. Their marks name this site, where they can be read.
     pub fn in_records(file: &'a str, refusal: Refusal, owner: Option<u32>) -> Stop<'a>
         ensures fault { result.fault ≡ Stopped refusal }
@@ -237,6 +279,7 @@ impl<'a> Stop<'a> {
         ensures { result.fault ≡ Stopped ReadFailed }
     {
         let hint = match error.kind() {
+            _ if lacks_descriptors(error) => Hint::NoDescriptors,
             ErrorKind::AddrInUse => Hint::PortInUse(address),
             ErrorKind::PermissionDenied => Hint::NoRight(address),
             _ => Hint::NoListener(address, error),

@@ -17,6 +17,7 @@ use Rattle.mvd_host.specs.Course.{BothClients, IsOut, asked_by, own}
 use Rattle.mvd_host.specs.Taking.{AreFaults, IsFair, HasNoNext, IsNothingTaken, TakesOnly}
 use Rattle.mvd_host.specs.Queueing.{QueuesReplies, refused_all, refused_faults}
 use Rattle.mvd_host.specs.Round.{AnswersAtHand, ClientCourse, GoesForward, Round, Side, Spares, turns_of}
+use Rattle.mvd_host.specs.Weights.{AreHeavy, AreHeavyTurns}
 use Rattle.mvd_host.specs.declared.taking.Taken.{Taken}
 use Rattle.mvd_host.proofs.Numbers.{low_or_high, none_at_hand_there, own_at_hand, own_below}
 use Rattle.mvd_host.proofs.Own.{both_none, own-append}
@@ -24,6 +25,8 @@ use Rattle.mvd_host.proofs.Positions.{Serves}
 use Rattle.mvd_host.proofs.RoundLemmas.{asks, courses, fault_asks, fault_still, fault_tells, fault_turns, kept_after, memory_asks, memory_still, memory_tells, memory_turns, own_mapped, requested, tells, zip_asks, zip_tells, zip_turns}
 use Rattle.mvd_host.proofs.Serving.{serves_none, serves_on, serves_still, serves_turns}
 use Rattle.mvd_host.proofs.ToldLemmas.{later_items, no_first, no_items, no_second, queues_none, untouched}
+use Rattle.mvd_host.proofs.TurnWeights.{heavy_turns}
+use Rattle.mvd_host.proofs.Weights.{not_heavy}
 
 -- the requests were answered, and the replies queued, and left at hand
 pub record Answered (requests : List (ℕ × Request)) (left : List (ℕ × Reply)) (mid between : List (ℕ × History)) (old new : SiteValue) (before after : State) : Type 0 where
@@ -158,17 +161,22 @@ module _ (asks_at_hand : List (ℕ × Request)) (ready : List ℕ) (old mid betw
       untouched (own n (refused_faults taken.faults.items)) (client_in between n) (client_in new n) second (queued n)
       ∙ untouched (own n (tells a.ts)) (client_in mid n) (client_in between n) first (a.queued n)
 
-  fair_turns : IsFair ready (length ready) took.all.requests took.all.faulty mid → (i : ℕ) → i < length ready → (own (slice_index ready i) all_turns ≢ []) ⊎ IfClient (client_in new (slice_index ready i)) HasNoNext
+  heavy_all : AreHeavy site.states took.all.requests → AreHeavyTurns site.states all_turns
+  unfolding all_turns
+  heavy_all heavy = heavy_turns site.states a.ts (fault_turns took.all.faulty taken.faults.items) took.all.requests a.asked heavy
+
+  fair_turns : IsFair site.states ready (length ready) took.all.requests took.all.faulty mid → (i : ℕ) → i < length ready → (own (slice_index ready i) all_turns ≢ []) ⊎ IfClient (client_in new (slice_index ready i)) HasNoNext ⊎ AreHeavyTurns site.states all_turns
   fair_turns fair i below = decide (own (slice_index ready i) all_turns) refl
     where
-      decide : (l : List Turn) → own (slice_index ready i) all_turns ≡ l → (own (slice_index ready i) all_turns ≢ []) ⊎ IfClient (client_in new (slice_index ready i)) HasNoNext
+      decide : (l : List Turn) → own (slice_index ready i) all_turns ≡ l → (own (slice_index ready i) all_turns ≢ []) ⊎ IfClient (client_in new (slice_index ready i)) HasNoNext ⊎ AreHeavyTurns site.states all_turns
       decide (t ∷ ts) is = inl (λ none. let no : ◌≡◌ {A = List Turn} (t ∷ ts) [] = sym is ∙ none in absurd (cc))
       decide [] is =
           let none = no_frames (slice_index ready i) is in
           elim (fair i below) [
             | inl (inl some) ↦ absurd (some none.0)
             | inl (inr some) ↦ absurd (some none.1)
-            | inr idle ↦ inr (subst (λ o. IfClient o HasNoNext) (sym (same_later (slice_index ready i) none)) idle)
+            | inr (inl idle) ↦ inr (inl (subst (λ o. IfClient o HasNoNext) (sym (same_later (slice_index ready i) none)) idle))
+            | inr (inr heavy) ↦ inr (inr (heavy_all heavy))
           ]
 
   some_turns : ¬ IsNothingTaken taken → all_turns ≢ []
@@ -183,7 +191,7 @@ module _ (asks_at_hand : List (ℕ × Request)) (ready : List ℕ) (old mid betw
       let others : length taken.faults.items ≡ 0 = ap length (no_fault_left taken.faults.items (subst (λ l. AreFaults l taken.faults.items) faulty took.all.holds.faults)) in
       some (omega (arith, clients, others))
 
-  all_idle : IsNothingTaken taken → IsFair ready (length ready) took.all.requests took.all.faulty mid → (i : ℕ) → i < length ready → IfClient (client_in new (slice_index ready i)) HasNoNext
+  all_idle : IsNothingTaken taken → IsFair site.states ready (length ready) took.all.requests took.all.faulty mid → (i : ℕ) → i < length ready → IfClient (client_in new (slice_index ready i)) HasNoNext
   all_idle nothing fair i below =
       let requests : took.all.requests ≡ [] = nothing_mapped (λ (r : ℕ × Request). r.0) took.all.requests (sym took.all.holds.clients ∙ no_items taken.clients.items (length taken.faults.items) nothing) in
       let faulty : took.all.faulty ≡ [] = no_faulty_left took.all.faulty (subst (AreFaults took.all.faulty) (later_items (length taken.clients.items) taken.faults.items nothing) took.all.holds.faults) in
@@ -191,7 +199,8 @@ module _ (asks_at_hand : List (ℕ × Request)) (ready : List ℕ) (old mid betw
       elim (fair i below) [
         | inl (inl some) ↦ absurd (some none.0)
         | inl (inr some) ↦ absurd (some none.1)
-        | inr idle ↦ subst (λ o. IfClient o HasNoNext) (sym (same_later (slice_index ready i) none)) idle
+        | inr (inl idle) ↦ subst (λ o. IfClient o HasNoNext) (sym (same_later (slice_index ready i) none)) idle
+        | inr (inr heavy) ↦ absurd (not_heavy site.states took.all.requests requests heavy)
       ]
 
   module _ (hand : AtHandValue) (none : hand.left ≡ []) (waits : asks_at_hand ≡ hand.waits) (may : AllMayWait asks_at_hand) (kept : AreKept old admitted) where
@@ -249,21 +258,21 @@ module _ (asks_at_hand : List (ℕ × Request)) (ready : List ℕ) (old mid betw
     is_round = record { serves = round_serves; clients = round_clients; spares = round_spares; at_hand = answers_at_hand; admitted = refl }
 
     -- frames were taken
-    pub round_of : ¬ IsNothingTaken taken → (refused : Bool) → (refused ≡ false → IsFair ready (length ready) took.all.requests took.all.faulty mid) → (result : Result Bool Refusal) → result ≡ cond refused (Err Memory) (Ok true)
-        → (turns : List (ℕ × Turn)) × Round ready turns old_side new_side × GoesForward result ready turns new_side.host
-    round_of some true fair result is = (all_turns, is_round, subst (λ r. GoesForward r ready all_turns new_side.host) (sym is) (record { fair = tt; some = tt; idle = tt }))
+    pub round_of : ¬ IsNothingTaken taken → (refused : Bool) → (refused ≡ false → IsFair site.states ready (length ready) took.all.requests took.all.faulty mid) → (result : Result Bool Refusal) → result ≡ cond refused (Err Memory) (Ok true)
+        → (turns : List (ℕ × Turn)) × Round ready turns old_side new_side × GoesForward result ready turns site.states new_side.host
+    round_of some true fair result is = (all_turns, is_round, subst (λ r. GoesForward r ready all_turns site.states new_side.host) (sym is) (record { fair = tt; some = tt; idle = tt }))
     round_of some false fair result is =
-        (all_turns, is_round, subst (λ r. GoesForward r ready all_turns new_side.host) (sym is) (record { fair = fair_turns (fair refl); some = λ _. some_turns some; idle = λ no. absurd (true≢false no) }))
+        (all_turns, is_round, subst (λ r. GoesForward r ready all_turns site.states new_side.host) (sym is) (record { fair = fair_turns (fair refl); some = λ _. some_turns some; idle = λ no. absurd (true≢false no) }))
 
     -- none was
-    pub round_none : IsNothingTaken taken → (refused : Bool) → (refused ≡ false → IsFair ready (length ready) took.all.requests took.all.faulty mid) → (result : Result Bool Refusal) → result ≡ cond refused (Err Memory) (Ok false)
-        → (turns : List (ℕ × Turn)) × Round ready turns old_side new_side × GoesForward result ready turns new_side.host
-    round_none none true fair result is = (all_turns, is_round, subst (λ r. GoesForward r ready all_turns new_side.host) (sym is) (record { fair = tt; some = tt; idle = tt }))
+    pub round_none : IsNothingTaken taken → (refused : Bool) → (refused ≡ false → IsFair site.states ready (length ready) took.all.requests took.all.faulty mid) → (result : Result Bool Refusal) → result ≡ cond refused (Err Memory) (Ok false)
+        → (turns : List (ℕ × Turn)) × Round ready turns old_side new_side × GoesForward result ready turns site.states new_side.host
+    round_none none true fair result is = (all_turns, is_round, subst (λ r. GoesForward r ready all_turns site.states new_side.host) (sym is) (record { fair = tt; some = tt; idle = tt }))
     round_none none false fair result is = (
       all_turns,
       is_round,
-      subst (λ r. GoesForward r ready all_turns new_side.host) (sym is) (record {
-        fair = λ i below. inr (all_idle none (fair refl) i below);
+      subst (λ r. GoesForward r ready all_turns site.states new_side.host) (sym is) (record {
+        fair = λ i below. inr (inl (all_idle none (fair refl) i below));
         some = λ yes. absurd (true≢false (sym yes));
         idle = λ _. all_idle none (fair refl);
       }),

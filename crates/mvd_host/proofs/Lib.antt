@@ -9,6 +9,8 @@ pub mod TakingAll
 pub mod Orders
 pub mod Asking
 pub mod ToldLemmas
+pub mod TurnWeights
+pub mod Weights
 pub mod Serving
 pub mod RoundLemmas
 pub mod Answering

@@ -11,16 +11,19 @@ use Rattle.mvd_conn.specs.History.{History}
 use Rattle.mvd_host.specs.Hosts.{client_in}
 use Rattle.mvd_host.specs.Course.{BothClients, own}
 use Rattle.mvd_host.specs.Taking.{AreFaults, HasTakenFrame, HoldsTaken, IsFair, IsNothingTaken, TakesFairly, TakesOn, TakesOnly}
+use Rattle.mvd_site.specs.Held.{States}
 use Rattle.mvd_host.specs.Arranging.{Arranged, Arranges, Lays}
+use Rattle.mvd_host.specs.Weights.{AreHeavy, weight_of, weights_in}
 use Rattle.mvd_host.specs.declared.arranging.Lanes.{Lanes}
 use Rattle.mvd_host.specs.declared.taking.Taken.{Taken}
 use Rattle.mvd_host.proofs.Hosts.{at_is}
 use Rattle.mvd_host.proofs.Own.{own-append, own-other}
+use Rattle.mvd_host.proofs.Weights.{weights_append, weights_push}
 
 -- ---- one more
 
 pub lays_none : (lanes : Lanes) → lanes.leading_clients.items ≡ [] → lanes.leading.items ≡ [] → lanes.later_clients.items ≡ [] → lanes.later.items ≡ [] → Lays [] lanes
-lays_none lanes a b c d = record { first = []; second = []; first_clients = a; first_requests = b; second_clients = c; second_requests = d; count = refl; own_are = λ n. refl; noted = λ _ n _. refl }
+lays_none lanes a b c d = record { first = []; second = []; first_clients = a; first_requests = b; second_clients = c; second_requests = d; count = refl; weight = λ states. ap₂ (λ x y. weights_in states x + weights_in states y) b d; own_are = λ n. refl; noted = λ _ n _. refl }
 
 past : {X : Type 0} (b : Bool) (x : X) (first second : List X) → (b ≡ true → second ≡ []) → (first ++ cond b (x ∷ []) []) ++ second ≡ (first ++ second) ++ cond b (x ∷ []) []
 past true x first second none =
@@ -47,6 +50,26 @@ count_more first second asked one count = omega (arith, count, length-append fir
 count_behind : (first second asked one : List (ℕ × Request)) → length first + length second ≡ length asked → length first + length (second ++ one) ≡ length (asked ++ one)
 count_behind first second asked one count = omega (arith, count, length-append second one, length-append asked one)
 
+-- what one more weighs
+weight_more : (states : States) (asked : List (ℕ × Request)) (client : ℕ) (r : Request) → weights_in states (map (λ x. x.1) (asked ++ (client, r) ∷ [])) ≡ weights_in states (map (λ x. x.1) asked) + weight_of states r
+weight_more states asked client r = ap (weights_in states) (map-append (λ (x : ℕ × Request). x.1) asked ((client, r) ∷ [])) ∙ weights_push states (map (λ x. x.1) asked) r
+
+weight_first : (states : States) (leading later all_leading all_later : List Request) (asked : List (ℕ × Request)) (client : ℕ) (r : Request) → all_leading ≡ leading ++ r ∷ [] → all_later ≡ later →
+    weights_in states leading + weights_in states later ≡ weights_in states (map (λ x. x.1) asked) → weights_in states all_leading + weights_in states all_later ≡ weights_in states (map (λ x. x.1) (asked ++ (client, r) ∷ []))
+weight_first states leading later all_leading all_later asked client r front behind so_far =
+    let a = ap (weights_in states) front ∙ weights_push states leading r in
+    let b = ap (weights_in states) behind in
+    let c = weight_more states asked client r in
+    omega (arith, a, b, c, so_far)
+
+weight_second : (states : States) (leading later all_leading all_later : List Request) (asked : List (ℕ × Request)) (client : ℕ) (r : Request) → all_leading ≡ leading → all_later ≡ later ++ r ∷ [] →
+    weights_in states leading + weights_in states later ≡ weights_in states (map (λ x. x.1) asked) → weights_in states all_leading + weights_in states all_later ≡ weights_in states (map (λ x. x.1) (asked ++ (client, r) ∷ []))
+weight_second states leading later all_leading all_later asked client r front behind so_far =
+    let a = ap (weights_in states) front in
+    let b = ap (weights_in states) behind ∙ weights_push states later r in
+    let c = weight_more states asked client r in
+    omega (arith, a, b, c, so_far)
+
 -- a question leads
 pub lays_first : (asked : List (ℕ × Request)) (old new : Lanes) (client : ℕ) (r : Request) → old.is_shut ≡ false → contains nat_cmp old.behind client ≡ false →
     new.leading_clients.items ≡ old.leading_clients.items ++ client ∷ [] → new.leading.items ≡ old.leading.items ++ r ∷ [] → new.later_clients.items ≡ old.later_clients.items → new.later.items ≡ old.later.items →
@@ -59,6 +82,7 @@ lays_first asked old new client r unshut none clients requests later_clients lat
   second_clients = later_clients ∙ lays.second_clients;
   second_requests = later ∙ lays.second_requests;
   count = count_more lays.first lays.second asked ((client, r) ∷ []) lays.count;
+  weight = λ states. weight_first states old.leading.items old.later.items new.leading.items new.later.items asked client r requests later (lays.weight states);
   own_are = λ n. own_past n client r lays.first lays.second asked (lays.own_are n) (λ is. lays.noted unshut n (subst (λ m. contains nat_cmp old.behind m ≡ false) (there n client is) none));
   noted = λ is n not. lays.noted (sym shut ∙ is) n (sym (ap (λ b. contains nat_cmp b n) behind) ∙ not);
 }
@@ -84,6 +108,7 @@ lays_second asked old new client r stays updates clients requests later_clients 
   second_clients = later_clients ∙ ap (λ l. l ++ client ∷ []) lays.second_clients ∙ sym (map-append (λ (x : ℕ × Request). x.0) lays.second ((client, r) ∷ []));
   second_requests = later ∙ ap (λ l. l ++ r ∷ []) lays.second_requests ∙ sym (map-append (λ (x : ℕ × Request). x.1) lays.second ((client, r) ∷ []));
   count = count_behind lays.first lays.second asked ((client, r) ∷ []) lays.count;
+  weight = λ states. weight_second states old.leading.items old.later.items new.leading.items new.later.items asked client r requests later (lays.weight states);
   own_are = λ n. own_behind n client r lays.first lays.second asked (lays.own_are n);
   noted = λ is n not. (
       let apart = not_noted old.behind new.behind client n (updates is) not in
@@ -134,6 +159,7 @@ arranged_same cs rs same = record {
   requests_are = zip_requests cs rs same;
   count = refl;
   own_are = λ n. refl;
+  weight = λ states. ap (weights_in states) (zip_requests cs rs same);
 }
 
 -- of what is arranged there are as many clients as requests
@@ -155,6 +181,7 @@ arranged_twice asked cs ds rs qs one other =
       requests_are = other.requests_are;
       count = other.count ∙ ap length same ∙ one.count;
       own_are = λ n. other.own_are n ∙ ap (own n) same ∙ one.own_are n;
+      weight = λ states. other.weight states ∙ ap (λ (l : List (ℕ × Request)). weights_in states (map (λ r. r.1) l)) same ∙ ap (weights_in states) (sym one.requests_are) ∙ one.weight states;
     }
 
 pub ok_is : {A E X : Type 0} (result : Result A E) (a b : X) → IsOk result → cond (is_ok result) a b ≡ a
@@ -178,6 +205,7 @@ lays_joined asked lanes clients requests clients_are requests_are lays = record 
   requests_are = requests_are ∙ ap₂ (λ a b. a ++ b) lays.first_requests lays.second_requests ∙ sym (map-append (λ (x : ℕ × Request). x.1) lays.first lays.second);
   count = length-append lays.first lays.second ∙ lays.count;
   own_are = λ n. own-append n lays.first lays.second ∙ lays.own_are n;
+  weight = λ states. ap (weights_in states) requests_are ∙ weights_append states lanes.leading.items lanes.later.items ∙ lays.weight states;
 }
 
 -- ---- what was taken
@@ -217,12 +245,18 @@ module _ (asks : List (ℕ × Request)) (ready : List ℕ) (old new : List (ℕ 
   frame_still n (inl some) = inl (λ none. some (sym (own_is n) ∙ none))
   frame_still n (inr some) = inr some
 
-  pub fairly_still : (refused : Bool) → (refused ≡ false → IsFair ready (length ready) t.all.requests t.all.faulty new) → TakesFairly refused asks ready (length ready) old new after
-  fairly_still refused fair = (
+  heavy_still : (states : States) → AreHeavy states t.all.requests → AreHeavy states a.arranged.ordered
+  heavy_still states heavy =
+      let same = ap (weights_in states) (sym a.arranged.requests_are) ∙ a.arranged.weight states ∙ ap (λ (l : List (ℕ × Request)). weights_in states (map (λ r. r.1) l)) asked_is in
+      omega (arith, same, heavy)
+
+  pub fairly_still : (states : States) (refused : Bool) → (refused ≡ false → IsFair states ready (length ready) t.all.requests t.all.faulty new) → TakesFairly states refused asks ready (length ready) old new after
+  fairly_still states refused fair = (
     only_still,
     λ no i below. elim (fair no i below) [
       | inl frame ↦ inl (frame_still (slice_index ready i) frame)
-      | inr idle ↦ inr idle
+      | inr (inl idle) ↦ inr (inl idle)
+      | inr (inr heavy) ↦ inr (inr (heavy_still states heavy))
     ],
   )
 

@@ -1,5 +1,5 @@
 -- The frames of clients, one client after the other.
-use Rattle.std.proofs.Common.{◌≡◌, ◌⊎◌, inl, inr, ℕ, ◌+◌, ◌==◌, Bool, true, false, cond, List, [], ◌∷◌, ◌++◌, map, length, slice_index, ◌<◌, ◌||◌, true≢false, Option, Some, None, refl, sym, ap, ap₂, ◌≢◌, ◌∙◌, subst, subst₂, append-nil, arith}
+use Rattle.std.proofs.Common.{◌≡◌, ◌⊎◌, inl, inr, ℕ, ◌+◌, ◌≤◌, ◌==◌, Bool, true, false, cond, List, [], ◌∷◌, ◌++◌, map, length, slice_index, ◌<◌, ◌||◌, true≢false, Option, Some, None, refl, sym, ap, ap₂, ◌≢◌, ◌∙◌, subst, subst₂, append-nil, arith}
 use Rattle.std.proofs.lemmas.Bool.Decides.{nat_tests}
 use Rattle.std.specs.Ordering.{nat_cmp}
 use Rattle.std.specs.BTreeMap.{is_at}
@@ -10,13 +10,16 @@ use Rattle.mvd_wire.specs.Frames.{FrameValue}
 use Rattle.mvd_conn.specs.History.{History}
 use Rattle.mvd_host.specs.Hosts.{IfClient, client_in}
 use Rattle.mvd_host.specs.Course.{BothClients, own}
-use Rattle.mvd_host.specs.Taking.{AreApart, AreFaults, ExtendsTaken, HasTakenFrame, HoldsTaken, IsFair, HasNoNext, IsMore, IsNothingTaken, TakesAllFrames, TakesMore, TakesOf, TakesOn, TakesOnly}
+use Rattle.mvd_host.specs.Taking.{AreApart, AreFaults, ExtendsTaken, HasTakenFrame, HoldsTaken, IsFair, HasNoNext, IsMore, EndsTurn, IsNothingTaken, TakesAllFrames, TakesMore, TakesOf, TakesOn, TakesOnly}
+use Rattle.mvd_site.specs.Held.{States}
+use Rattle.mvd_host.specs.Weights.{AreHeavy, IsWeighed}
 use Rattle.mvd_host.specs.declared.taking.Taken.{Taken}
 use Rattle.mvd_host.proofs.Frames.{none_moved, same, takes_on, then_none}
 use Rattle.mvd_host.proofs.Holding.{holds_same}
 use Rattle.mvd_host.proofs.Hosts.{at_is}
 use Rattle.std.proofs.lemmas.List.{length-append, length-map}
 use Rattle.mvd_host.proofs.ToldLemmas.{no_first, no_second}
+use Rattle.mvd_host.proofs.Weights.{heavy_more, heavy_of, not_heavy}
 use Rattle.mvd_host.proofs.Own.{both_none, both_on, both_self, own-append, own-other, own-same}
 
 same_there : (n m : ℕ) → (n == m) ≡ true → m ≡ n
@@ -180,17 +183,17 @@ none_any : (es : List (ℕ × Refusal)) (client : ℕ) → length es ≡ 0 → l
 none_any [] client none any = true≢false (sym any)
 none_any (e ∷ es) client none any = omega arith
 
-idle_here : (client : ℕ) (new : List (ℕ × History)) (before after : Taken) → IsNothingTaken after → ExtendsTaken before after
-    → (IsMore before after ⊎ ((list_any (λ (e : ℕ × Refusal). e.0 == client) before.faults.items ≡ true) ⊎ IfClient (client_in new client) HasNoNext)) → IfClient (client_in new client) HasNoNext
-idle_here client new before after none grows (inl more) = absurd (omega (arith, none, more))
-idle_here client new before after none grows (inr (inl any)) = absurd (none_any before.faults.items client (let f = grows.faults in omega (arith, none, f)) any)
-idle_here client new before after none grows (inr (inr idle)) = idle
+idle_here : (client : ℕ) (new : List (ℕ × History)) (before after : Taken) (Heavy : Type 0) → ¬ Heavy → IsNothingTaken after → ExtendsTaken before after → EndsTurn client new before after Heavy → IfClient (client_in new client) HasNoNext
+idle_here client new before after Heavy light none grows (inl more) = absurd (omega (arith, none, more))
+idle_here client new before after Heavy light none grows (inr (inl any)) = absurd (none_any before.faults.items client (let f = grows.faults in omega (arith, none, f)) any)
+idle_here client new before after Heavy light none grows (inr (inr (inl idle))) = idle
+idle_here client new before after Heavy light none grows (inr (inr (inr heavy))) = absurd (light heavy)
 
-pub idle_all : (ready : List ℕ) (at : ℕ) (mid new : List (ℕ × History)) (before after : Taken) → TakesOf (slice_index ready at) mid new before after → ExtendsTaken before after → IsNothingTaken after
-    → (IsMore before after ⊎ ((list_any (λ (e : ℕ × Refusal). e.0 == slice_index ready at) before.faults.items ≡ true) ⊎ IfClient (client_in new (slice_index ready at)) HasNoNext))
+pub idle_all : (ready : List ℕ) (at : ℕ) (mid new : List (ℕ × History)) (before after : Taken) (Heavy : Type 0) → ¬ Heavy → TakesOf (slice_index ready at) mid new before after → ExtendsTaken before after → IsNothingTaken after
+    → EndsTurn (slice_index ready at) new before after Heavy
     → (IsNothingTaken before → (i : ℕ) → i < at → IfClient (client_in mid (slice_index ready i)) HasNoNext) → (i : ℕ) → i < at + 1 → IfClient (client_in new (slice_index ready i)) HasNoNext
-idle_all ready at mid new before after took grows none ends so_far i below =
-    let here : IfClient (client_in new (slice_index ready at)) HasNoNext = idle_here (slice_index ready at) new before after none grows ends in
+idle_all ready at mid new before after Heavy light took grows none ends so_far i below =
+    let here : IfClient (client_in new (slice_index ready at)) HasNoNext = idle_here (slice_index ready at) new before after Heavy light none grows ends in
     let before_none : IsNothingTaken before = let a = grows.clients in let b = grows.faults in omega (arith, none, a, b) in
     elim (i_cases i at below) [
       | inl same ↦ subst (λ j. IfClient (client_in new (slice_index ready j)) HasNoNext) (sym same) here
@@ -235,18 +238,18 @@ own_any client (f ∷ fs) (e ∷ es) all any none = by_bool (own_any client fs e
         let apart : (e.0 == client) ≡ false = subst (λ n. (n == client) ≡ false) (sym all.0) is in
         rest (sym (ap (λ b. b || list_any (λ (x : ℕ × Refusal). x.0 == client) es) apart) ∙ any) later
 
-pub fair_of : (asks : List (ℕ × Request)) (ready : List ℕ) (at : ℕ) (old mid new : List (ℕ × History)) (before after : Taken) (so_far : TakesOnly asks ready at old mid before) (one : TakesOf (slice_index ready at) mid new before after)
-    → (IsMore before after ⊎ ((list_any (λ (e : ℕ × Refusal). e.0 == slice_index ready at) before.faults.items ≡ true) ⊎ IfClient (client_in new (slice_index ready at)) HasNoNext))
-    → (t : TakesOnly asks ready (at + 1) old new after) × (IsFair ready at so_far.all.requests so_far.all.faulty mid → IsFair ready (at + 1) t.all.requests t.all.faulty new)
+pub fair_of : (states : States) (asks : List (ℕ × Request)) (ready : List ℕ) (at : ℕ) (old mid new : List (ℕ × History)) (before after : Taken) (counted : ℕ) (so_far : TakesOnly asks ready at old mid before) (one : TakesOf (slice_index ready at) mid new before after)
+    → IsWeighed states after.requests.items counted → EndsTurn (slice_index ready at) new before after (4194304 ≤ counted)
+    → (t : TakesOnly asks ready (at + 1) old new after) × (IsFair states ready at so_far.all.requests so_far.all.faulty mid → IsFair states ready (at + 1) t.all.requests t.all.faulty new)
 unfolding takes_of more_requests more_faulty
-fair_of asks ready at old mid new before after so_far one ends =
+fair_of states asks ready at old mid new before after counted so_far one weighed ends =
     let client = slice_index ready at in
     let rs = so_far.all.requests in
     let fs = so_far.all.faulty in
     let Rs : List (ℕ × Request) = rs ++ map (λ r. (client, r)) one.requests in
     let Fs : List (ℕ × FrameValue) = fs ++ map (λ f. (client, f)) one.faulty in
     let held = one.holds rs fs so_far.all.holds in
-    let here : HasTakenFrame client Rs Fs ⊎ IfClient (client_in new client) HasNoNext = elim ends [
+    let here : HasTakenFrame client Rs Fs ⊎ IfClient (client_in new client) HasNoNext ⊎ AreHeavy states Rs = elim ends [
       | inl more ↦
           let a : length before.clients.items ≡ length rs = ap length so_far.all.holds.clients ∙ length-map rs (λ (r : ℕ × Request). r.0) in
           let b : length before.faults.items ≡ length fs = faults_long fs before.faults.items so_far.all.holds.faults in
@@ -256,21 +259,36 @@ fair_of asks ready at old mid new before after so_far one ends =
           let y : length Fs ≡ length fs + length one.faulty = length-append fs (map (λ f. (client, f)) one.faulty) ∙ ap (λ k. length fs + k) (length-map one.faulty (λ (f : FrameValue). (client, f))) in
           inl (some_frame client rs fs one.requests one.faulty (omega (arith, more, a, b, c, d, x, y)))
       | inr (inl any) ↦ inl (inr (λ none. own_any client fs before.faults.items so_far.all.holds.faults any (own_before client fs (map (λ f. (client, f)) one.faulty) none)))
-      | inr (inr idle) ↦ inr idle
+      | inr (inr (inl idle)) ↦ inr (inl idle)
+      | inr (inr (inr much)) ↦ inr (inr (heavy_of states after.requests.items Rs counted held.requests_are weighed much))
     ] in (
       only_at asks ready at old mid new before after so_far one,
       λ fair i below. elim (i_cases i at below) [
-        | inl same ↦ subst (λ j. HasTakenFrame (slice_index ready j) Rs Fs ⊎ IfClient (client_in new (slice_index ready j)) HasNoNext) (sym same) here
-        | inr less ↦ still ready at mid new before after one rs fs here (slice_index ready i) (slice_index ready i == client) refl (fair i less)
+        | inl same ↦ subst (λ j. HasTakenFrame (slice_index ready j) Rs Fs ⊎ IfClient (client_in new (slice_index ready j)) HasNoNext ⊎ AreHeavy states Rs) (sym same) here
+        | inr less ↦ still states ready at mid new before after one rs fs here (slice_index ready i) (slice_index ready i == client) refl (fair i less)
       ],
     )
   where
-    still : (ready : List ℕ) (at : ℕ) (mid new : List (ℕ × History)) (before after : Taken) (one : TakesOf (slice_index ready at) mid new before after) (rs : List (ℕ × Request)) (fs : List (ℕ × FrameValue))
-        → (HasTakenFrame (slice_index ready at) (rs ++ map (λ r. (slice_index ready at, r)) one.requests) (fs ++ map (λ f. (slice_index ready at, f)) one.faulty) ⊎ IfClient (client_in new (slice_index ready at)) HasNoNext)
-        → (n : ℕ) (b : Bool) → (n == slice_index ready at) ≡ b → (HasTakenFrame n rs fs ⊎ IfClient (client_in mid n) HasNoNext)
-        → HasTakenFrame n (rs ++ map (λ r. (slice_index ready at, r)) one.requests) (fs ++ map (λ f. (slice_index ready at, f)) one.faulty) ⊎ IfClient (client_in new n) HasNoNext
-    still ready at mid new before after one rs fs here n true is was =
-        subst (λ m. HasTakenFrame m (rs ++ map (λ r. (slice_index ready at, r)) one.requests) (fs ++ map (λ f. (slice_index ready at, f)) one.faulty) ⊎ IfClient (client_in new m) HasNoNext) (same_there n (slice_index ready at) is) here
-    still ready at mid new before after one rs fs here n false is (inl (inl some)) = inl (inl (λ none. some (own_before n rs (map (λ r. (slice_index ready at, r)) one.requests) none)))
-    still ready at mid new before after one rs fs here n false is (inl (inr some)) = inl (inr (λ none. some (own_before n fs (map (λ f. (slice_index ready at, f)) one.faulty) none)))
-    still ready at mid new before after one rs fs here n false is (inr idle) = inr (subst (λ o. IfClient o HasNoNext) (sym (one.others n is)) idle)
+    still : (states : States) (ready : List ℕ) (at : ℕ) (mid new : List (ℕ × History)) (before after : Taken) (one : TakesOf (slice_index ready at) mid new before after) (rs : List (ℕ × Request)) (fs : List (ℕ × FrameValue))
+        → (HasTakenFrame (slice_index ready at) (rs ++ map (λ r. (slice_index ready at, r)) one.requests) (fs ++ map (λ f. (slice_index ready at, f)) one.faulty) ⊎ IfClient (client_in new (slice_index ready at)) HasNoNext ⊎ AreHeavy states (rs ++ map (λ r. (slice_index ready at, r)) one.requests))
+        → (n : ℕ) (b : Bool) → (n == slice_index ready at) ≡ b → (HasTakenFrame n rs fs ⊎ IfClient (client_in mid n) HasNoNext ⊎ AreHeavy states rs)
+        → HasTakenFrame n (rs ++ map (λ r. (slice_index ready at, r)) one.requests) (fs ++ map (λ f. (slice_index ready at, f)) one.faulty) ⊎ IfClient (client_in new n) HasNoNext ⊎ AreHeavy states (rs ++ map (λ r. (slice_index ready at, r)) one.requests)
+    still states ready at mid new before after one rs fs here n true is was =
+        subst (λ m. HasTakenFrame m (rs ++ map (λ r. (slice_index ready at, r)) one.requests) (fs ++ map (λ f. (slice_index ready at, f)) one.faulty) ⊎ IfClient (client_in new m) HasNoNext ⊎ AreHeavy states (rs ++ map (λ r. (slice_index ready at, r)) one.requests)) (same_there n (slice_index ready at) is) here
+    still states ready at mid new before after one rs fs here n false is (inl (inl some)) = inl (inl (λ none. some (own_before n rs (map (λ r. (slice_index ready at, r)) one.requests) none)))
+    still states ready at mid new before after one rs fs here n false is (inl (inr some)) = inl (inr (λ none. some (own_before n fs (map (λ f. (slice_index ready at, f)) one.faulty) none)))
+    still states ready at mid new before after one rs fs here n false is (inr (inl idle)) = inr (inl (subst (λ o. IfClient o HasNoNext) (sym (one.others n is)) idle))
+    still states ready at mid new before after one rs fs here n false is (inr (inr heavy)) = inr (inr (heavy_more states rs (map (λ r. (slice_index ready at, r)) one.requests) heavy))
+
+-- where nothing was taken, nothing is heavy
+pub nothing_heavy : (asks : List (ℕ × Request)) (ready : List ℕ) (at : ℕ) (old mid new : List (ℕ × History)) (before after : Taken) (states : States) (counted : ℕ) → TakesOnly asks ready at old mid before → TakesOf (slice_index ready at) mid new before after
+    → IsNothingTaken after → IsWeighed states after.requests.items counted → 4194304 ≤ counted → ⊥
+nothing_heavy asks ready at old mid new before after states counted so_far one none weighed much =
+    let t = only_of asks ready at old mid new before after so_far one in
+    let rs = t.all.requests in
+    let clients : length after.clients.items ≡ length rs = ap length t.all.holds.clients ∙ length-map rs (λ (r : ℕ × Request). r.0) in
+    not_heavy states rs (empty_of rs (omega (arith, none, clients))) (heavy_of states after.requests.items rs counted t.all.holds.requests_are weighed much)
+  where
+    empty_of : (rs : List (ℕ × Request)) → length rs ≡ 0 → rs ≡ []
+    empty_of [] none = refl
+    empty_of (r ∷ rs) none = absurd (omega (arith, none))

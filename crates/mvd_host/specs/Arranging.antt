@@ -5,7 +5,9 @@ use Rattle.std.specs.Ordering.{nat_cmp}
 use Rattle.mvd_wire.specs.declared.request.Request.{Request}
 use Rattle.mvd_host.specs.declared.arranging.Lanes.{Lanes}
 use Rattle.mvd_host.specs.declared.taking.Taken.{Taken}
+use Rattle.mvd_site.specs.Held.{States}
 use Rattle.mvd_host.specs.Course.{own}
+use Rattle.mvd_host.specs.Weights.{weights_in}
 
 -- these clients and requests are those that were asked, in an order in which each client's own are as they were
 pub record Arranged (asked : List (ℕ × Request)) (clients : List ℕ) (requests : List Request) : Type 0 where
@@ -14,6 +16,7 @@ pub record Arranged (asked : List (ℕ × Request)) (clients : List ℕ) (reques
   pub requests_are : requests ≡ map (λ r. r.1) ordered
   pub count : length ordered ≡ length asked
   pub own_are : (n : ℕ) → own n ordered ≡ own n asked
+  pub weight : (states : States) → weights_in states requests ≡ weights_in states (map (λ r. r.1) asked)
 
 -- The requests that were asked lie in two parts. What leads of a client came before what stands behind of it; a client
 -- that is not noted has nothing behind
@@ -25,6 +28,8 @@ pub record Lays (asked : List (ℕ × Request)) (lanes : Lanes) : Type 0 where
   pub second_clients : lanes.later_clients.items ≡ map (λ r. r.0) second
   pub second_requests : lanes.later.items ≡ map (λ r. r.1) second
   pub count : length first + length second ≡ length asked
+  pub weight : (states : States) → weights_in states lanes.leading.items + weights_in states lanes.later.items
+      ≡ weights_in states (map (λ r. r.1) asked)
   pub own_are : (n : ℕ) → own n first ++ own n second ≡ own n asked
   pub noted : lanes.is_shut ≡ false → (n : ℕ) → contains nat_cmp lanes.behind n ≡ false → own n second ≡ []
 

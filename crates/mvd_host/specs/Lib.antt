@@ -14,3 +14,4 @@ pub mod Lists
 pub mod Remembered
 pub mod Gathered
 pub mod Noting
+pub mod Weights

@@ -7,6 +7,7 @@ use Rattle.mvd_wire.specs.declared.reply.Reply.TheVariants.{Refused}
 use Rattle.mvd_wire.specs.Frames.{FrameValue}
 use Rattle.mvd_conn.specs.Guard.{IsShown}
 use Rattle.mvd_conn.specs.History.{History}
+use Rattle.mvd_site.specs.Held.{States}
 use Rattle.mvd_site.specs.Sites.{SiteValue}
 use Rattle.mvd_replica.specs.Turns.{TurnEvent, IsToldElse, Replies, StandsOn, TellsTurns, Turn}
 use Rattle.mvd_replica.specs.Batch.{TakesFrom, TurnsFollow}
@@ -15,6 +16,7 @@ use Rattle.mvd_replica.specs.declared.replica.Replica.{Replica}
 use Rattle.mvd_host.specs.AtHand.{AllMayWait, AtHandValue, first_at_hand}
 use Rattle.mvd_host.specs.Hosts.{HostValue, IfClient, client_of}
 use Rattle.mvd_host.specs.Taking.{HasNoNext}
+use Rattle.mvd_host.specs.Weights.{AreHeavyTurns}
 use Rattle.mvd_host.specs.Course.{AreQueued, BothClients, IsOut, NoneMoved, asked_by, own}
 use Rattle.sqlite.specs.State.{State}
 use Rattle.sqlite_trees.specs.declared.store.Store.{Ghosts}
@@ -76,12 +78,14 @@ pub record Spares (ready : List ℕ) (turns : List (ℕ × Turn)) (old new : Hos
   pub only : (n : ℕ) → n < first_at_hand → IsOut n ready (length ready) → own n turns ≡ []
   pub same : (n : ℕ) → IsOut n ready (length ready) → client_of new n ≡ client_of old n
 
--- What a round that was not refused memory gives: each client that is ready had a turn, or nothing comes next of it;
+-- What a round that was not refused memory gives: each client that is ready had a turn, or nothing comes next of it, or
+-- the states of the keys that the turns change, as they were before, have 4,194,304 bytes with what is put and pushed;
 -- there may be more only where there was a turn, and where there is no more nothing comes next of any ready client
-pub record GoesForward (result : Result Bool Refusal) (ready : List ℕ) (turns : List (ℕ × Turn))
+pub record GoesForward (result : Result Bool Refusal) (ready : List ℕ) (turns : List (ℕ × Turn)) (states : States)
     (new : HostValue) : Type 0 where
   pub fair : OnOk result ((i : ℕ) → i < length ready →
-      (own (slice_index ready i) turns ≢ []) ⊎ IfClient (client_of new (slice_index ready i)) HasNoNext)
+      (own (slice_index ready i) turns ≢ []) ⊎ IfClient (client_of new (slice_index ready i)) HasNoNext
+      ⊎ AreHeavyTurns states turns)
   pub some : IfOk result (λ more. more ≡ true → turns ≢ [])
   pub idle : IfOk result (λ more. more ≡ false → (i : ℕ) → i < length ready →
       IfClient (client_of new (slice_index ready i)) HasNoNext)

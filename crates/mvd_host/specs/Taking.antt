@@ -1,12 +1,15 @@
 -- The frames that are taken in one round.
-use Rattle.std.specs.Prelude.{◌≡◌, ◌≢◌, ◌==◌, Bool, slice_index, ℕ, ◌+◌, ◌≤◌, ◌<◌, ◌⊎◌, List, [], ◌∷◌, ◌++◌, map, length, Ok, Err, None, ⊤, Some, false, vec_len, vec_capacity, zip}
+use Rattle.std.specs.Prelude.{◌≡◌, ◌≢◌, ◌==◌, Bool, true, slice_index, ℕ, ◌+◌, ◌≤◌, ◌<◌, ◌⊎◌, List, [], ◌∷◌, ◌++◌, map, length, Ok, Err, None, ⊤, Some, false, vec_len, vec_capacity, zip}
+use Rattle.std.specs.List.{list_any}
 use Rattle.mvd_dots.specs.declared.refusals.Refusal.{Refusal}
 use Rattle.mvd_dots.specs.Answer.{IsAnswer}
 use Rattle.mvd_wire.specs.declared.request.Request.{Request}
 use Rattle.mvd_wire.specs.Frames.{FrameValue}
 use Rattle.mvd_conn.specs.Guard.{IsShown}
 use Rattle.mvd_conn.specs.History.{History, after_next}
+use Rattle.mvd_site.specs.Held.{States}
 use Rattle.mvd_host.specs.Hosts.{IfClient, client_in}
+use Rattle.mvd_host.specs.Weights.{AreHeavy}
 use Rattle.mvd_host.specs.Course.{BothClients, IsOut, NoneMoved, asked_by, own}
 use Rattle.mvd_host.specs.declared.taking.Taken.{Taken}
 
@@ -70,6 +73,13 @@ IsMore before after =
 abbrev pub EndsTaking : History → Taken → Taken → Type 0
 EndsTaking new before after = IsMore before after ⊎ HasNoNext new
 
+-- the turn of one client ends: a frame of it was taken, or one of it that is no request had been, or nothing comes next,
+-- or the requests are heavy
+abbrev pub EndsTurn : ℕ → List (ℕ × History) → Taken → Taken → Type 0 → Type 0
+EndsTurn client new before after Heavy = IsMore before after
+    ⊎ (list_any (λ fault. fault.0 == client) before.faults.items ≡ true)
+    ⊎ IfClient (client_in new client) HasNoNext ⊎ Heavy
+
 -- only requests of one client were taken
 pub record TakesRequests (client : ℕ) (old new : History) (before after : Taken) : Type 0 where
   pub took : TakesMore client old new before after
@@ -117,16 +127,17 @@ pub record TakesOnly (asks : List (ℕ × Request)) (ready : List ℕ) (count : 
 abbrev pub HasTakenFrame : ℕ → List (ℕ × Request) → List (ℕ × FrameValue) → Type 0
 HasTakenFrame n requests faulty = (own n requests ≢ []) ⊎ (own n faulty ≢ [])
 
--- of each of the first of these clients a frame was taken, or nothing comes next of it
-abbrev pub IsFair : List ℕ → ℕ → List (ℕ × Request) → List (ℕ × FrameValue) → List (ℕ × History) → Type 0
-IsFair ready count requests faulty new = (i : ℕ) → i < count →
+-- of each of the first of these clients a frame was taken, or nothing comes next of it, or what was taken is heavy
+abbrev pub IsFair : States → List ℕ → ℕ → List (ℕ × Request) → List (ℕ × FrameValue) → List (ℕ × History) → Type 0
+IsFair states ready count requests faulty new = (i : ℕ) → i < count →
     HasTakenFrame (slice_index ready i) requests faulty ⊎ IfClient (client_in new (slice_index ready i)) HasNoNext
+    ⊎ AreHeavy states requests
 
 -- the clients were gone over, and where memory was not refused to one, that was fair
-abbrev pub TakesFairly : Bool → List (ℕ × Request) → List ℕ → ℕ → List (ℕ × History) → List (ℕ × History) → Taken
-    → Type 0
-TakesFairly refused asks ready count old new taken = (t : TakesOnly asks ready count old new taken)
-    × (refused ≡ false → IsFair ready count t.all.requests t.all.faulty new)
+abbrev pub TakesFairly : States → Bool → List (ℕ × Request) → List ℕ → ℕ → List (ℕ × History) → List (ℕ × History)
+    → Taken → Type 0
+TakesFairly states refused asks ready count old new taken = (t : TakesOnly asks ready count old new taken)
+    × (refused ≡ false → IsFair states ready count t.all.requests t.all.faulty new)
 
 -- nothing was taken
 abbrev pub IsNothingTaken : Taken → Type 0

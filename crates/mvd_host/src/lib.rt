@@ -12,6 +12,7 @@ mod queueing;
 mod round;
 mod taking;
 mod tally;
+mod weighing;
 
 pub use at_hand::{AtHand, FIRST_AT_HAND};
 pub use feed::{Feed, TOLD_MAX};

@@ -10,9 +10,11 @@ ghost use Rattle.mvd_conn.specs.History.{History, after_next, released};
 ghost use Rattle.mvd_host.specs.Course.{asked_by};
 
 use crate::arranging::arranged;
+use crate::weighing::{waits, weight, weights};
 use mvd_conn::Connection;
 use mvd_dots::Refusal;
 use mvd_frames::decode_request;
+use mvd_site::Site;
 use mvd_wire::Request;
 use std::alloc::{AllocError, Global};
 use std::collections::BTreeMap;
@@ -37,6 +39,8 @@ impl Taken {
     ghost use Rattle.mvd_host.specs.Taking.{EndsTaking, ExtendsTaken, HasRoomToTake, HoldsTaken, HasNoNext, KeepsTaken, IsMore};
     ghost use Rattle.mvd_host.specs.Taking.{AreApart, IsNothingTaken, held_in};
     ghost use Rattle.mvd_host.specs.Taking.{TakesFrames, TakesFairly, TakesMore, TakesOf, TakesRequests};
+    ghost use Rattle.mvd_host.specs.Taking.{EndsTurn};
+    ghost use Rattle.mvd_host.specs.Weights.{IsWeighed};
 
     /// These requests, each with its client, and no frame.
     pub(crate) fn of(alloc: Global, clients: Vec<u64>, requests: Vec<Request>) -> Taken
@@ -75,15 +79,19 @@ impl Taken {
         self.faults.reserve(1)
     }
 
-    /// Takes the next frame of a client, where there is one. Whether another may follow: not after one that is no
-    /// request.
+    /// Takes the next frame of a client, where there is one, and counts what it weighs. Whether another may follow: not
+    /// after one that is no request.
     fn take_one(
         &mut self,
         alloc: Global,
+        site: &Site,
+        weighed: &mut u64,
         client: u64,
         connection: &mut Connection,
     ) -> Result<bool, Refusal>
         requires room { HasRoomToTake self.old }
+        ensures weighed { IsWeighed site.now.states self.old.requests.items weighed.old →
+            IsWeighed site.now.states self.new.requests.items weighed.new }
         ensures took { TakesMore client connection.old connection.new self.old self.new }
         ensures grows { ExtendsTaken self.old self.new }
         ensures more { IfOk result (λ more. more ≡ true →
@@ -97,6 +105,7 @@ impl Taken {
         }
         match request_in(alloc, connection) {
             Ok(request) => {
+                *weighed = weighed.saturating_add(weight(site, &request));
                 self.clients.push_reserved(client);
                 self.requests.push_reserved(request);
                 Ok(true)
@@ -108,21 +117,29 @@ impl Taken {
         }
     }
 
-    /// Takes frames of a client, until there is none, or one that is no request, or as many were taken as may be. Its
-    /// connection gives none once the replies to those that were taken may fill what it lets wait.
+    /// Takes frames of a client, until there is none, or one that is no request or has to wait for another round, or as
+    /// many were taken as may be. Its connection gives none once the replies to those that were taken may fill what it
+    /// lets wait.
     fn take(
         &mut self,
         alloc: Global,
+        site: &Site,
+        weighed: &mut u64,
         client: u64,
         connection: &mut Connection,
     ) -> Result<(), Refusal>
+        requires weighed { IsWeighed site.now.states self.old.requests.items weighed.old }
         ensures took { TakesMore client connection.old connection.new self.old self.new }
         ensures grows { ExtendsTaken self.old self.new }
-        ensures end { OnOk result (EndsTaking connection.new self.old self.new) }
+        ensures end { OnOk result (EndsTaking connection.new self.old self.new ⊎ (4194304 ≤ weighed.new)) }
+        ensures weighed { IsWeighed site.now.states self.new.requests.items weighed.new }
     {
         for _frame in 0..FRAMES_MAX {
+            if waits(alloc, site, *weighed, connection) {
+                return Ok(());
+            }
             self.make_room()?;
-            if !self.take_one(alloc, client, connection)? {
+            if !self.take_one(alloc, site, weighed, client, connection)? {
                 return Ok(());
             }
         }
@@ -133,20 +150,23 @@ impl Taken {
     fn take_of(
         &mut self,
         alloc: Global,
+        site: &Site,
+        weighed: &mut u64,
         clients: &mut BTreeMap<u64, Connection>,
         client: u64,
     ) -> bool
+        requires weighed { IsWeighed site.now.states self.old.requests.items weighed.old }
         ensures took { TakesOf client clients.old.entries clients.new.entries self.old self.new }
         ensures grows { ExtendsTaken self.old self.new }
-        ensures idle { result ≡ false → IsMore self.old self.new
-            ⊎ ((list_any (λ fault. fault.0 == client) self.old.faults.items ≡ true)
-            ⊎ IfClient (client_in clients.new.entries client) HasNoNext) }
+        ensures idle { result ≡ false →
+            EndsTurn client clients.new.entries self.old self.new (4194304 ≤ weighed.new) }
+        ensures weighed { IsWeighed site.now.states self.new.requests.items weighed.new }
     {
         if self.has_fault(client) {
             return false;
         }
         match clients.get_mut(&client) {
-            Some(connection) => self.take(alloc, client, connection).is_err(),
+            Some(connection) => self.take(alloc, site, weighed, client, connection).is_err(),
             None => false,
         }
     }
@@ -167,17 +187,18 @@ impl Taken {
     pub(crate) fn take_all(
         &mut self,
         alloc: Global,
+        site: &Site,
         clients: &mut BTreeMap<u64, Connection>,
         ready: &[u64],
     ) -> bool
         requires holds { HoldsTaken (held_in self.old) [] self.old }
         requires apart { AreApart (held_in self.old) clients.old.entries }
-        ensures took { TakesFairly result (held_in self.old) ready.now (length ready.now) clients.old.entries
-            clients.new.entries self.new }
+        ensures took { TakesFairly site.now.states result (held_in self.old) ready.now (length ready.now)
+            clients.old.entries clients.new.entries self.new }
         ensures idle { result ≡ false → IsNothingTaken self.new → (i : ℕ) → i < length ready.now →
             IfClient (client_in clients.new.entries (slice_index ready.now i)) HasNoNext }
     {
-        let refused = self.take_each(alloc, clients, ready);
+        let refused = self.take_each(alloc, site, clients, ready);
         self.arrange(alloc);
         refused
     }
@@ -186,19 +207,21 @@ impl Taken {
     fn take_each(
         &mut self,
         alloc: Global,
+        site: &Site,
         clients: &mut BTreeMap<u64, Connection>,
         ready: &[u64],
     ) -> bool
         requires holds { HoldsTaken (held_in self.old) [] self.old }
         requires apart { AreApart (held_in self.old) clients.old.entries }
-        ensures took { TakesFairly result (held_in self.old) ready.now (length ready.now) clients.old.entries
-            clients.new.entries self.new }
+        ensures took { TakesFairly site.now.states result (held_in self.old) ready.now (length ready.now)
+            clients.old.entries clients.new.entries self.new }
         ensures idle { result ≡ false → IsNothingTaken self.new → (i : ℕ) → i < length ready.now →
             IfClient (client_in clients.new.entries (slice_index ready.now i)) HasNoNext }
     {
+        let mut weighed = weights(site, &self.requests);
         let mut refused = false;
         for client in ready {
-            if self.take_of(alloc, clients, *client) {
+            if self.take_of(alloc, site, &mut weighed, clients, *client) {
                 refused = true;
             }
         }

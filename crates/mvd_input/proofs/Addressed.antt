@@ -63,11 +63,6 @@ one_port text a b p q =
 pub one_number : (text : List ℕ) (m n : ℕ) → IsNumber m text → IsNumber n text → m ≡ n
 one_number text m n p q = decimal_injective m n p.1 q.1 (sym p.0 ∙ q.0)
 
-pub no_item : (text : List ℕ) → ((a : SocketAddr) → IsSocketText text a → 1 ≤ socket_port a → ⊥) → ((n : ℕ) → IsNumber n text → 1 ≤ n → n ≤ 65535 → ⊥)
-    → (item : Item) → IsItem text item → ⊥
-no_item text no_address no_port (Port port) h = no_port port h.0 h.1 h.2
-no_item text no_address no_port (At address) h = no_address address h.0 h.1
-
 -- ---- the items of a list
 
 pub too_many : (most : ℕ) (texts left : List (List ℕ)) (text : List ℕ) → texts ≡ text ∷ left → most ≡ 0 → AreItems most texts → ⊥
@@ -89,11 +84,6 @@ Finding ip list left found = AllByRecursion HasItem (items_left left)
 
 pub begins_finding : (ip : IpAddr) (list : List ℕ) → AllByRecursion HasItem (items_of list) → Finding ip list (Some list) []
 begins_finding ip list have = (have, λ later h. h)
-
--- the text before the next comma is an item
-pub next_item : (ip : IpAddr) (list left text : List ℕ) (after : Option (List ℕ)) (found : List SocketAddr)
-    → items_of left ≡ text ∷ items_left after → Finding ip list (Some left) found → HasItem text
-next_item ip list left text after found split (have, finds) = (subst (AllByRecursion HasItem) split have).0
 
 pub finds_more : (ip : IpAddr) (list left text : List ℕ) (after : Option (List ℕ)) (found : List SocketAddr) (a : SocketAddr)
     → items_of left ≡ text ∷ items_left after → IsAddress ip text a → Finding ip list (Some left) found → Finding ip list after (found ++ a ∷ [])

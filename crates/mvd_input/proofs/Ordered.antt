@@ -126,67 +126,10 @@ remote_meets rows e (RemoteShell address idle _) h = ((address, h.2), (idle, h.3
 remote_meets rows e (Sync _ _ _ _ _ _) h = differ _ _ h.0 refl
 remote_meets rows e (Meet _ _ _ _ _ _) h = differ _ _ h.0 refl
 
--- nor is a shell that names both a database and a server, or a server and how a site is set up
-pub no_server_beside : (rows : List Row) (db : Text) → first_of (codes "db") rows ≡ Some db → names_server rows ≡ true → (order : Order) → IsOrderOf (codes "shell") rows order → ⊥
-no_server_beside rows db e named Sim h = differ _ _ h refl
-no_server_beside rows db e named (Loop _) h = differ _ _ h.0 refl
-no_server_beside rows db e named (Serve _ _ _ _ _ _ _ _ _) h = differ _ _ h.0 refl
-no_server_beside rows db e named (Shell _ _) h = cc (h.3, named)
-no_server_beside rows db e named (RemoteShell _ _ _) h = cc (h.1, e)
-no_server_beside rows db e named (Sync _ _ _ _ _ _) h = differ _ _ h.0 refl
-no_server_beside rows db e named (Meet _ _ _ _ _ _) h = differ _ _ h.0 refl
-
-pub no_setup_beside : (rows : List Row) → first_of (codes "db") rows ≡ None → sets_up rows ≡ true → (order : Order) → IsOrderOf (codes "shell") rows order → ⊥
-no_setup_beside rows e set Sim h = differ _ _ h refl
-no_setup_beside rows e set (Loop _) h = differ _ _ h.0 refl
-no_setup_beside rows e set (Serve _ _ _ _ _ _ _ _ _) h = differ _ _ h.0 refl
-no_setup_beside rows e set (Shell _ _) h = cc (h.1, e)
-no_setup_beside rows e set (RemoteShell _ _ _) h = cc (h.4, set)
-no_setup_beside rows e set (Sync _ _ _ _ _ _) h = differ _ _ h.0 refl
-no_setup_beside rows e set (Meet _ _ _ _ _ _) h = differ _ _ h.0 refl
-
--- nor is a session that names both a database and servers, or more than one round without them
-pub no_file_beside : (rows : List Row) (list : Text) → first_of (codes "with") rows ≡ Some list → has_file rows ≡ true → (order : Order) → IsOrderOf (codes "sync") rows order → ⊥
-no_file_beside rows list e named Sim h = differ _ _ h refl
-no_file_beside rows list e named (Loop _) h = differ _ _ h.0 refl
-no_file_beside rows list e named (Serve _ _ _ _ _ _ _ _ _) h = differ _ _ h.0 refl
-no_file_beside rows list e named (Shell _ _) h = differ _ _ h.0 refl
-no_file_beside rows list e named (RemoteShell _ _ _) h = differ _ _ h.0 refl
-no_file_beside rows list e named (Sync _ _ _ _ _ _) h = cc (h.6, e)
-no_file_beside rows list e named (Meet _ _ _ _ _ _) h = cc (h.7, named)
-
-pub no_rounds_beside : (rows : List Row) → first_of (codes "with") rows ≡ None → is_repeated rows ≡ true → (order : Order) → IsOrderOf (codes "sync") rows order → ⊥
-no_rounds_beside rows e named Sim h = differ _ _ h refl
-no_rounds_beside rows e named (Loop _) h = differ _ _ h.0 refl
-no_rounds_beside rows e named (Serve _ _ _ _ _ _ _ _ _) h = differ _ _ h.0 refl
-no_rounds_beside rows e named (Shell _ _) h = differ _ _ h.0 refl
-no_rounds_beside rows e named (RemoteShell _ _ _) h = differ _ _ h.0 refl
-no_rounds_beside rows e named (Sync _ _ _ _ _ _) h = cc (h.7, named)
-no_rounds_beside rows e named (Meet _ _ _ _ _ _) h = cc (h.1, e)
-
--- nor one with what is no list
-pub no_list : (rows : List Row) (list : Text) → first_of (codes "with") rows ≡ Some list → (IsAddressList list → ⊥) → (order : Order) → IsOrderOf (codes "sync") rows order → ⊥
-no_list rows list e none Sim h = differ _ _ h refl
-no_list rows list e none (Loop _) h = differ _ _ h.0 refl
-no_list rows list e none (Serve _ _ _ _ _ _ _ _ _) h = differ _ _ h.0 refl
-no_list rows list e none (Shell _ _) h = differ _ _ h.0 refl
-no_list rows list e none (RemoteShell _ _ _) h = differ _ _ h.0 refl
-no_list rows list e none (Sync _ _ _ _ _ _) h = cc (h.6, e)
-no_list rows list e none (Meet _ with _ _ _ _) h = let same : with.now ≡ list = cc (h.1, e) in none (subst IsAddressList same h.2)
-
 -- where peers are told it is told how often they are met, and what they are is a list
 pub peers_every : (rows : List Row) (list : Text) → first_of (codes "peer") rows ≡ Some list → (peers : Option Peers) → IsPeersOf rows peers → (n : ℕ) × GivesNumber rows (codes "every") n
 peers_every rows list e None h = absurd (cc (h.0, e))
 peers_every rows list e (Some peers) h = (peers.every, h.2)
-
-pub no_peers : (rows : List Row) (list : Text) → first_of (codes "peer") rows ≡ Some list → (IsAddressList list → ⊥) → (peers : Option Peers) → IsPeersOf rows peers → ⊥
-no_peers rows list e none None h = cc (h.0, e)
-no_peers rows list e none (Some peers) h = let same : peers.list.now ≡ list = cc (h.0, e) in none (subst IsAddressList same h.1)
-
--- and only there
-pub only_peers : (rows : List Row) → first_of (codes "peer") rows ≡ None → is_given_option rows (codes "every") ≡ true → (peers : Option Peers) → IsPeersOf rows peers → ⊥
-only_peers rows e given None h = cc (h.1, given)
-only_peers rows e given (Some peers) h = cc (h.0, e)
 
 -- how often servers meet again tells how many rounds there are
 pub repeat_times : (rows : List Row) (repeat : Option Repeat) → IsRepeatOf rows repeat → (times : Option ℕ) × IsTimes rows times
@@ -202,16 +145,6 @@ meet_repeats rows list e (Shell _ _) h = differ _ _ h.0 refl
 meet_repeats rows list e (RemoteShell _ _ _) h = differ _ _ h.0 refl
 meet_repeats rows list e (Sync _ _ _ _ _ _) h = absurd (cc (h.6, e))
 meet_repeats rows list e (Meet _ _ repeat _ _ _) h = (repeat, h.4)
-
-pub sync_sets_up : (rows : List Row) → first_of (codes "with") rows ≡ None → (order : Order) → IsOrderOf (codes "sync") rows order
-    → ((db : Bor (List ℕ)) × IsDbOf rows db) × ((setup : Setup) × IsSetupOf rows setup)
-sync_sets_up rows e Sim h = differ _ _ h refl
-sync_sets_up rows e (Loop _) h = differ _ _ h.0 refl
-sync_sets_up rows e (Serve _ _ _ _ _ _ _ _ _) h = differ _ _ h.0 refl
-sync_sets_up rows e (Shell _ _) h = differ _ _ h.0 refl
-sync_sets_up rows e (RemoteShell _ _ _) h = differ _ _ h.0 refl
-sync_sets_up rows e (Sync db setup _ _ _ _) h = ((db, h.1), (setup, h.2))
-sync_sets_up rows e (Meet _ _ _ _ _ _) h = absurd (cc (h.1, e))
 
 -- ---- where a value came from
 

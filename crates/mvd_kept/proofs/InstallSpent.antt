@@ -1,8 +1,7 @@
 -- What it takes to put in a group.
-use Rattle.std.proofs.Common.{◌≡◌, ℕ, zero, suc, ◌+◌, ◌*◌, ◌≤◌, ◌<◌, Bool, true, false, cond, List, [], ◌∷◌, ◌++◌, length, take, get_or, refl, sym, ap, ap₂, subst, append-nil, Option, ◌∙◌, arith, Some, Ok, Err, Result}
+use Rattle.std.proofs.Common.{◌≡◌, ℕ, zero, suc, ◌+◌, ◌*◌, ◌≤◌, Bool, true, false, cond, List, [], ◌∷◌, ◌++◌, length, take, refl, sym, ap, subst, Option, ◌∙◌, arith, Some, Ok, Err, Result}
 use Rattle.std.proofs.Math.Seq.{take-nil}
-use Rattle.std.proofs.lemmas.List.{take_more}
-use Rattle.std.proofs.lemmas.List.Sums.{sum_by-cons, sum_by_push}
+use Rattle.std.proofs.lemmas.List.Sums.{sum_by-cons}
 use Rattle.std.specs.Prelude.{⊤, nat_eq}
 use Rattle.std.specs.Set.{is_member}
 use Rattle.std.specs.declared.cmp.Ordering.TheVariants.{Less, Equal, Greater}
@@ -24,18 +23,18 @@ use Rattle.mvd_tree.specs.States.{key_digest}
 use Rattle.mvd_tree.specs.Touched.{Changes, ChangesAll, changed_bytes, count_touched, inner_touched, keys_touched, touched}
 use Rattle.mvd_tree.proofs.Counts.{hashes_then}
 use Rattle.mvd_tree.proofs.Entries.{Entry, entries-retain_keys, order}
-use Rattle.mvd_wire.specs.declared.reply.Reply.{Reply}
 use Rattle.mvd_kept.specs.Answer.{digests, spelled}
 use Rattle.mvd_kept.specs.Change.{ChangeValue}
 use Rattle.mvd_kept.specs.Config.{ConfigValue}
 use Rattle.mvd_kept.specs.Costs.{Costs}
 use Rattle.mvd_kept.specs.Held.{States}
-use Rattle.mvd_kept.specs.Installs.{InstallCosts, TreeCosts, byte_count_in, byte_count_of, changes_in, digests_in, is_change, moved_in, moved_of, with_group, with_prepared}
+use Rattle.mvd_kept.specs.Installs.{HashesChanges, InstallCosts, TreeCosts, byte_count_in, changes_in, digests_in, is_change, last_changes, moved_in, moved_of, with_group, with_prepared}
 use Rattle.mvd_kept.specs.Sites.{SiteValue}
 use Rattle.mvd_kept.specs.declared.prepared.Prepared.{Prepared}
 use Rattle.mvd_kept.specs.declared.prepared.Prepared.TheVariants.{Answer, Change}
 use Rattle.mvd_kept.specs.declared.work.Work.{Work}
 use Rattle.mvd_kept.proofs.Installed.{digests_with, no_digests}
+use Rattle.mvd_kept.proofs.LastChanges.{lasts_leave}
 use Rattle.mvd_kept.proofs.OpenCosted.{one_more_each}
 use Rattle.mvd_kept.proofs.Spent.{free}
 
@@ -51,81 +50,9 @@ pub changes_more : (group : List Prepared) (prepared : Prepared) → changes_in 
 changes_more [] prepared = omega arith
 changes_more (p ∷ group) prepared = let rest = changes_more group prepared in omega (arith, rest)
 
-bytes_more : (group : List Prepared) (prepared : Prepared) → byte_count_in (group ++ prepared ∷ []) ≡ byte_count_in group + byte_count_of prepared
-bytes_more [] prepared = omega arith
-bytes_more (p ∷ group) prepared = let rest = bytes_more group prepared in omega (arith, rest)
-
-digests_more : (group : List Prepared) (prepared : Prepared) → digests_in (group ++ prepared ∷ []) ≡ digests_in group ++ digests_in (prepared ∷ [])
-digests_more [] prepared = refl
-digests_more (Answer reply ∷ group) prepared = digests_more group prepared
-digests_more (Change change ∷ group) prepared = ap (λ l. (change.key, Some (digest_of change)) ∷ l) (digests_more group prepared)
-
 moved_more : (states : States) (group : List Prepared) (prepared : Prepared) → moved_in states (group ++ prepared ∷ []) ≡ moved_in states group + moved_of (with_group states group) prepared
 moved_more states [] prepared = omega arith
 moved_more states (p ∷ group) prepared = let rest = moved_more (with_prepared states p) group prepared in omega (arith, rest)
-
-module _ (group : List Prepared) (i : ℕ) (item : Prepared) (low : i < length group) (is : item ≡ get_or group i item) where
-  next : take (i + 1) group ≡ take i group ++ item ∷ []
-  next = take_more group i item low ∙ ap (λ p. take i group ++ p ∷ []) (sym is)
-
-  -- a change, or a reply, of the group is the next one
-  pub digests_next : (change : ChangeValue) (pairs : List (Key × Option (List ℕ))) (pair : Key × Option (List ℕ)) → item ≡ Change change → pair.0 ≡ change.key → pair.1 ≡ Some (digest_of change)
-      → pairs ≡ digests_in (take i group) → pairs ++ pair ∷ [] ≡ digests_in (take (i + 1) group)
-  digests_next change pairs pair change-is key digest so_far =
-      let last : pair ∷ [] ≡ digests_in (item ∷ []) = ap₂ (λ k d. (k, d) ∷ []) key digest ∙ sym (ap (λ p. digests_in (p ∷ [])) change-is) in
-      ap₂ (λ a b. a ++ b) so_far last ∙ sym (digests_more (take i group) item) ∙ ap digests_in (sym next)
-
-  pub digests_skip : (reply : Reply) (pairs : List (Key × Option (List ℕ))) → item ≡ Answer reply → pairs ≡ digests_in (take i group) → pairs ≡ digests_in (take (i + 1) group)
-  digests_skip reply pairs reply-is so_far =
-      so_far ∙ sym (append-nil (digests_in (take i group))) ∙ ap (λ l. digests_in (take i group) ++ l) (sym (ap (λ p. digests_in (p ∷ [])) reply-is))
-      ∙ sym (digests_more (take i group) item) ∙ ap digests_in (sym next)
-
-  pub counts_next : (change : ChangeValue) (a b c : Hashed) → item ≡ Change change → Hashes (2 * changes_in (take i group)) (byte_count_in (take i group) + changed_bytes (digests_in (take i group))) a b
-      → Hashes 2 (length (spelled change.key change.state) + length change.key) b c
-      → Hashes (2 * changes_in (take (i + 1) group)) (byte_count_in (take (i + 1) group) + changed_bytes (digests_in (take (i + 1) group))) a c
-  counts_next change a b c change-is so_far one =
-      let changes = ap changes_in next ∙ changes_more (take i group) item ∙ ap (λ p. changes_in (take i group) + is_change p) change-is in
-      let bytes = ap byte_count_in next ∙ bytes_more (take i group) item ∙ ap (λ p. byte_count_in (take i group) + byte_count_of p) change-is in
-      let keys = ap changed_bytes (ap digests_in next ∙ digests_more (take i group) item ∙ ap (λ p. digests_in (take i group) ++ digests_in (p ∷ [])) change-is)
-      ∙ sum_by_push (λ (e : Key × Option (List ℕ)). length e.0) (digests_in (take i group)) (change.key, Some (digest_of change)) in
-      hashes_then (2 * changes_in (take i group)) (byte_count_in (take i group) + changed_bytes (digests_in (take i group))) 2 (length (spelled change.key change.state) + length change.key) _ _ a b c
-      (omega (arith, changes)) (omega (arith, bytes, keys)) so_far one
-
-  pub counts_skip : (reply : Reply) (a b : Hashed) → item ≡ Answer reply → Hashes (2 * changes_in (take i group)) (byte_count_in (take i group) + changed_bytes (digests_in (take i group))) a b
-      → Hashes (2 * changes_in (take (i + 1) group)) (byte_count_in (take (i + 1) group) + changed_bytes (digests_in (take (i + 1) group))) a b
-  counts_skip reply a b reply-is so_far =
-      let changes = ap changes_in next ∙ changes_more (take i group) item ∙ ap (λ p. changes_in (take i group) + is_change p) reply-is in
-      let bytes = ap byte_count_in next ∙ bytes_more (take i group) item ∙ ap (λ p. byte_count_in (take i group) + byte_count_of p) reply-is in
-      let keys = ap changed_bytes (sym (digests_skip reply (digests_in (take i group)) reply-is refl)) in
-      hashes_then (2 * changes_in (take i group)) (byte_count_in (take i group) + changed_bytes (digests_in (take i group))) 0 0 _ _ a b b (omega (arith, changes)) (omega (arith, bytes, keys)) so_far (no_hash b)
-
--- the first have no more than all
-few_changes : (n : ℕ) (group : List Prepared) → changes_in (take n group) ≤ changes_in group
-few_changes n [] = subst (λ l. changes_in l ≤ 0) (sym (take-nil n)) (omega arith)
-few_changes zero (p ∷ group) = omega arith
-few_changes (suc n) (p ∷ group) = let rest = few_changes n group in omega (arith, rest)
-
-few_bytes : (n : ℕ) (group : List Prepared) → byte_count_in (take n group) ≤ byte_count_in group
-few_bytes n [] = subst (λ l. byte_count_in l ≤ 0) (sym (take-nil n)) (omega arith)
-few_bytes zero (p ∷ group) = omega arith
-few_bytes (suc n) (p ∷ group) = let rest = few_bytes n group in omega (arith, rest)
-
-few_keys : (n : ℕ) (group : List Prepared) → changed_bytes (digests_in (take n group)) ≤ changed_bytes (digests_in group)
-few_keys n [] = subst (λ l. changed_bytes (digests_in l) ≤ 0) (sym (take-nil n)) (omega arith)
-few_keys zero (p ∷ group) = omega arith
-few_keys (suc n) (Answer reply ∷ group) = few_keys n group
-few_keys (suc n) (Change change ∷ group) =
-    let rest = few_keys n group in
-    let first = sum_by-cons (λ (e : Key × Option (List ℕ)). length e.0) (change.key, Some (digest_of change)) (digests_in (take n group)) in
-    let all = sum_by-cons (λ (e : Key × Option (List ℕ)). length e.0) (change.key, Some (digest_of change)) (digests_in group) in omega (arith, rest, first, all)
-
-pub counts_part : (n : ℕ) (group : List Prepared) (a b : Hashed) → Hashes (2 * changes_in (take n group)) (byte_count_in (take n group) + changed_bytes (digests_in (take n group))) a b
-    → Hashes (2 * changes_in group) (byte_count_in group + changed_bytes (digests_in group)) a b
-counts_part n group a b so_far =
-    let changes = few_changes n group in
-    let bytes = few_bytes n group in
-    let keys = few_keys n group in
-    hashes_then (2 * changes_in (take n group)) (byte_count_in (take n group) + changed_bytes (digests_in (take n group))) 0 0 _ _ a b b (omega (arith, changes)) (omega (arith, bytes, keys)) so_far (no_hash b)
 
 -- ---- keys in buckets, as more are put in
 
@@ -166,7 +93,7 @@ front_grows held p (suc n) (Change change ∷ group) = front_grows (changed held
 
 -- ---- what the hash tree takes
 
-module _ (group : List Prepared) (held grown : KeyDigests) (a b c : Hashed) (digested : Hashes (2 * changes_in group) (byte_count_in group + changed_bytes (digests_in group)) a b) where
+module _ (group : List Prepared) (held grown : KeyDigests) (a b c : Hashed) (digested : HashesChanges group a b) where
   both_take : keys_touched grown (digests_in group) ≤ keys_touched (changed_all held (digests_in group)) (digests_in group)
       → Hashes (count_touched 0 (digests_in group) + inner_touched (digests_in group)) (32 * keys_touched grown (digests_in group) + 512 * inner_touched (digests_in group)) b c
       → TreeCosts held group a c
@@ -265,13 +192,15 @@ module _ (defs : Definitions) (states now : States) (group : List Prepared) (pre
 
 -- the hash tree first, and then states and rows
 pub installs_take : (site : SiteValue) (group : List Prepared) (held : KeyDigests) (a b c : Work) → held ≡ digests site.states → b.looks ≡ a.looks → b.rows ≡ a.rows
-    → TreeCosts held group a.hashed b.hashed → PartCosts site.config.defs (changes_in group) (moved_in site.states group) b c → InstallCosts site group a c
+    → TreeCosts held (last_changes group) a.hashed b.hashed → PartCosts site.config.defs (changes_in group) (moved_in site.states group) b c → InstallCosts site group a c
 installs_take site group held a b c is same_looks same_rows tree rest = record {
   on_states = subst (λ n. RoseBy (changes_in group) n c.looks) same_looks rest.on_states;
   on_rows = subst (λ m. Within (moved_in site.states group * updates_each site.config.defs + changes_in group) (moved_in site.states group * looks_each site.config.defs) m c.rows) same_rows rest.on_rows;
   hashes =
-      let all : changed_all held (digests_in group) ≡ digests (with_group site.states group) = ap (λ m. changed_all m (digests_in group)) is ∙ digests_with site.states group in
-      let keys = ap (λ m. keys_touched m (digests_in group)) all in
+      let lasts = last_changes group in
+      let all : changed_all held (digests_in lasts) ≡ digests (with_group site.states group) =
+      ap (λ m. changed_all m (digests_in lasts)) is ∙ digests_with site.states lasts ∙ ap digests (lasts_leave site.states group) in
+      let keys = ap (λ m. keys_touched m (digests_in lasts)) all in
       hashes_then _ _ 0 0 _ _ a.hashed b.hashed c.hashed (omega arith) (omega (arith, keys)) tree rest.hashes;
 }
 
@@ -281,7 +210,7 @@ no_tree held group h = hashes_then 0 0 0 0 _ _ h h h (omega arith) (omega arith)
 
 -- a broken site does nothing
 pub all_take : (config : ConfigValue) (states : States) (was : Bool) (tree : KeyDigests) (group : List Prepared) (a c : Work) (hashed : Hashed) → (was ≡ false → tree ≡ digests states)
-    → TreeCosts tree group a.hashed hashed → PartCosts config.defs (changes_in group) (moved_in states group) (record { looks = a.looks; rows = a.rows; hashed = hashed }) c → (was ≡ true → c ≡ a)
+    → TreeCosts tree (last_changes group) a.hashed hashed → PartCosts config.defs (changes_in group) (moved_in states group) (record { looks = a.looks; rows = a.rows; hashed = hashed }) c → (was ≡ true → c ≡ a)
     → InstallCosts (record { config = config; states = states; broken = was }) group a c
 all_take config states true tree group a c hashed is first rest idle = subst (InstallCosts (record { config = config; states = states; broken = true }) group a) (sym (idle refl)) (free _ _ _ _ _ a)
 all_take config states false tree group a c hashed is first rest idle =

@@ -16,11 +16,12 @@ use Rattle.mvd_wire.specs.declared.reply.Reply.{Reply}
 use Rattle.mvd_kept.specs.Answer.{digests, spelled}
 use Rattle.mvd_kept.specs.Config.{ConfigValue}
 use Rattle.mvd_kept.specs.Held.{States}
-use Rattle.mvd_kept.specs.Installs.{MayAllBeIn, PutsAll, PutsIfWhole, PutsOne, changes_in, digests_in, is_change, with_group, with_one, with_prepared}
+use Rattle.mvd_kept.specs.Installs.{MayAllBeIn, PutsAll, PutsIfWhole, PutsOne, changes_in, digests_in, is_change, last_changes, with_group, with_one, with_prepared}
 use Rattle.mvd_kept.specs.Sites.{KeepsKeys, SiteValue, has_no_room}
 use Rattle.mvd_kept.specs.declared.prepared.Prepared.{Prepared}
 use Rattle.mvd_kept.specs.declared.prepared.Prepared.TheVariants.{Answer, Change}
 use Rattle.mvd_kept.proofs.HeldMaps.{room_left}
+use Rattle.mvd_kept.proofs.LastChanges.{lasts_leave}
 
 -- ---- one
 
@@ -135,7 +136,7 @@ pub keeps_installed : (config : ConfigValue) (states after : States) (tree grown
     → len after ≤ config.max_keys
     → PutsAll (record { config = config; states = states; broken = was }) (record { config = config; states = after; broken = is }) group told
     → (is ≡ false → IsRowsOf listed config.defs after) → (is ≡ false → (digested ≡ true) ⊎ (changes_in group ≡ 0))
-    → (digested ≡ true → grown ≡ changed_all tree (digests_in group)) → (changes_in group ≡ 0 → grown ≡ tree)
+    → (digested ≡ true → grown ≡ changed_all tree (digests_in (last_changes group))) → (changes_in group ≡ 0 → grown ≡ tree)
     → KeepsKeys config after grown listed is
 keeps_installed config states after tree grown rows listed was is digested group told keeps few puts stand digests_follow follows still = record {
   room = few;
@@ -149,5 +150,6 @@ keeps_installed config states after tree grown rows listed was is digested group
 }
   where
     either : is ≡ false → tree ≡ digests states → after ≡ with_group states group → (digested ≡ true) ⊎ (changes_in group ≡ 0) → grown ≡ digests after
-    either whole before end (inl did) = follows did ∙ ap (λ t. changed_all t (digests_in group)) before ∙ digests_with states group ∙ ap digests (sym end)
+    either whole before end (inl did) =
+        follows did ∙ ap (λ t. changed_all t (digests_in (last_changes group))) before ∙ digests_with states (last_changes group) ∙ ap digests (lasts_leave states group ∙ sym end)
     either whole before end (inr none) = still none ∙ before ∙ ap digests (sym (end ∙ none_in states group none))

@@ -21,5 +21,12 @@ is_short s counted is small = short_if state_limit (length (spell_state s)) coun
 pub is_long : (s : State) (counted : ℕ) → counted ≡ min (length (spell_state s)) (2 ^ 64 - 1) → state_limit < counted → is_too_large s ≡ true
 is_long s counted is large = long_if state_limit (length (spell_state s)) counted is large
 
+whole_if : (limit n counted : ℕ) → limit < 2 ^ 64 - 1 → counted ≡ min n (2 ^ 64 - 1) → nat_lt limit n ≡ false → counted ≡ n
+whole_if limit n counted low is short = grind arith
+
+-- a state that is not too long is counted whole
+pub counted_whole : (s : State) (counted : ℕ) → counted ≡ min (length (spell_state s)) (2 ^ 64 - 1) → is_too_large s ≡ false → counted ≡ length (spell_state s)
+counted_whole s counted is short = whole_if state_limit (length (spell_state s)) counted (omega arith) is short
+
 pub kept_empty : IsKept empty_state
 kept_empty = record { short = le-ltb state_limit (length (spell_state empty_state)) (omega (arith, length_empty)); valid = IsValid-empty }

@@ -7,6 +7,7 @@ pub mod Installed
 pub mod InstallSpent
 pub mod HeldMaps
 pub mod KnownKeys
+pub mod LastChanges
 pub mod Listed
 pub mod Lengths
 pub mod OfTheSet

@@ -1,8 +1,12 @@
 -- What was prepared of requests side by side, put in one after the other: what a site does with it, and what it takes
 -- at most.
-use Rattle.std.specs.Prelude.{◌≡◌, ◌⊎◌, ⊤, ℕ, ◌+◌, ◌*◌, false, true, List, [], ◌∷◌, ◌++◌, length, Some}
+use Rattle.std.specs.Prelude.{◌≡◌, ◌⊎◌, ⊤, Bool, ℕ, ◌+◌, ◌*◌, false, true, if◌then◌else◌, List, [], ◌∷◌, ◌++◌, length, Some}
 use Rattle.std.specs.FinMap.{insert}
+use Rattle.std.specs.List.{list_any}
+use Rattle.std.specs.Ordering.{eq_by_cmp}
 use Rattle.mvd_dots.specs.declared.refusals.Refusal.TheVariants.{Broken}
+use Rattle.mvd_keys.specs.Key.{key_cmp}
+use Rattle.mvd_keys.specs.Writes.{Key}
 use Rattle.mvd_rows.specs.Changes.{differing, looks_each, updates_each}
 use Rattle.mvd_digest.specs.Counted.{Hashes}
 use Rattle.mvd_digest.specs.declared.digest.Hashed.{Hashed}
@@ -102,6 +106,22 @@ abbrev pub byte_count_in : List Prepared → ℕ
 byte_count_in [] = 0
 byte_count_in (prepared ∷ group) = byte_count_of prepared + byte_count_in group
 
+-- the keys that are changed, each as often as it is
+abbrev pub keys_in : List Prepared → List Key
+keys_in [] = []
+keys_in (Answer reply ∷ group) = keys_in group
+keys_in (Change change ∷ group) = change.key ∷ keys_in group
+
+abbrev pub is_changed : List Prepared → Key → Bool
+is_changed group key = list_any (λ k. eq_by_cmp key_cmp k key) (keys_in group)
+
+-- the last change of each key, in order
+abbrev pub last_changes : List Prepared → List Prepared
+last_changes [] = []
+last_changes (Answer reply ∷ group) = last_changes group
+last_changes (Change change ∷ group) =
+    if is_changed group change.key then last_changes group else Change change ∷ last_changes group
+
 -- the changes of digests
 abbrev pub digests_in : List Prepared → Changes
 digests_in [] = []
@@ -117,6 +137,10 @@ abbrev pub moved_in : States → List Prepared → ℕ
 moved_in states [] = 0
 moved_in states (prepared ∷ group) = moved_of states prepared + moved_in (with_prepared states prepared) group
 
+-- what it takes to hash what is last of each key: of each change the state with the key, and the key
+abbrev pub HashesChanges : List Prepared → Hashed → Hashed → Type 0
+HashesChanges changes = Hashes (2 * changes_in changes) (byte_count_in changes + changed_bytes (digests_in changes))
+
 -- what it takes the hash tree: for each change two computations, and one for each bucket and each node above that they
 -- touch
 abbrev pub TreeCosts : KeyDigests → List Prepared → Hashed → Hashed → Type 0
@@ -126,16 +150,17 @@ TreeCosts held group =
     (byte_count_in group + changed_bytes changes + 32 * keys_touched (changed_all held changes) changes
     + 512 * inner_touched changes)
 
--- What it takes to put in a group: for each change a look at the key's old state, an update of the keys in conflict,
--- and two computations, of the key with its state and of the key's path; for each sibling that comes or goes what each
--- index and view cost; and one computation of each bucket with the path of a changed key, and of each node above one,
--- however many of the keys stand there
+-- What it takes to put in a group: for each change a look at the key's old state, and an update of the keys in
+-- conflict; for each sibling that comes or goes what each index and view cost; for each key, however often it changes,
+-- two computations, of the key with its last state and of the key's path; and one computation of each bucket with the
+-- path of a changed key, and of each node above one, however many of the keys stand there
 abbrev pub InstallCosts : SiteValue → List Prepared → Work → Work → Type 0
 InstallCosts site group =
     let moved = moved_in site.states group in
-    let changes = digests_in group in
+    let lasts = last_changes group in
+    let changes = digests_in lasts in
     Costs (changes_in group) (moved * looks_each site.config.defs)
     (moved * updates_each site.config.defs + changes_in group)
-    (2 * changes_in group + count_touched 0 changes + inner_touched changes)
-    (byte_count_in group + changed_bytes changes + 32 * keys_touched (digests (with_group site.states group)) changes
+    (2 * changes_in lasts + count_touched 0 changes + inner_touched changes)
+    (byte_count_in lasts + changed_bytes changes + 32 * keys_touched (digests (with_group site.states group)) changes
     + 512 * inner_touched changes)

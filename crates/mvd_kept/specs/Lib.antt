@@ -11,3 +11,4 @@ pub mod Over
 pub mod Sites
 pub mod Walk
 pub mod Installs
+pub mod Lasts

@@ -1,5 +1,6 @@
-//! What was prepared, put in: one change, or all of requests side by side, for which the hash tree is made anew once.
-ghost use Rattle.std.specs.Prelude.{◌≡◌, ◌⊎◌, ◌≤◌, ◌+◌, ◌*◌, Some, false, true};
+//! What was prepared, put in: one change, or all of requests side by side, for which the hash tree is made
+//! anew once, and the last state of each key hashed.
+ghost use Rattle.std.specs.Prelude.{◌≡◌, ◌⊎◌, ◌≤◌, ◌+◌, ◌*◌, [], Some, false, true};
 ghost use Rattle.std.specs.Prelude.{IfErr, IfOk, OnErr, OnOk, length, vec_capacity};
 ghost use Rattle.std.specs.FinMap as map;
 ghost use Rattle.mvd_digest.specs.Counted.{Hashes};
@@ -8,12 +9,13 @@ ghost use Rattle.mvd_rows.specs.Changes.{IsRoomy, differing, looks_each, updates
 ghost use Rattle.mvd_rows.specs.Stands.{IsRowsOf};
 ghost use Rattle.mvd_tree.specs.Change.{changed_all};
 ghost use Rattle.mvd_tree.specs.States.{key_digest};
-ghost use Rattle.mvd_tree.specs.Touched.{changed_bytes};
 ghost use Rattle.mvd_kept.specs.Answer.{spelled};
 ghost use Rattle.mvd_kept.specs.Costs.{ChangeCosts, Costs};
 ghost use Rattle.mvd_kept.specs.Held.{IsHeldState, state_at};
-ghost use Rattle.mvd_kept.specs.Installs.{InstallCosts, InstallsAll, MayAllBeIn, MayBeIn, PutsIfWhole, TreeCosts};
-ghost use Rattle.mvd_kept.specs.Installs.{broken_site, byte_count_in, changed_site, changes_in, digests_in, is_change};
+ghost use Rattle.mvd_kept.specs.Installs.{HashesChanges, InstallCosts, InstallsAll, MayAllBeIn, MayBeIn, PutsIfWhole};
+ghost use Rattle.mvd_kept.specs.Installs.{TreeCosts, broken_site, changed_site, changes_in, digests_in, is_change};
+ghost use Rattle.mvd_kept.specs.Installs.{last_changes};
+ghost use Rattle.mvd_kept.specs.Lasts.{Gathers, GathersOne, HashesOne};
 ghost use Rattle.mvd_kept.specs.Installs.{moved_in, moved_of};
 ghost use Rattle.mvd_kept.specs.Prepared.{IsChangeNow};
 ghost use Rattle.mvd_kept.specs.Sites.{has_no_room};
@@ -24,10 +26,12 @@ use crate::kept::Kept;
 use crate::prepared::{Change, Prepared};
 use crate::work::Work;
 use mvd_dots::Refusal;
+use mvd_keys::Key;
 use mvd_rows::Rows;
 use mvd_tree::{Hashed, KeyChange, Tree};
 use mvd_wire::Reply;
 use std::alloc::Global;
+use std::collections::BTreeSet;
 use std::slice;
 
 /// A key with its digest once the change is made.
@@ -42,23 +46,56 @@ fn moved_key(alloc: Global, change: &Change, hashed: &mut Hashed) -> Result<KeyC
     Ok(KeyChange::new(key, Some(digest), hashed))
 }
 
-/// The keys that change, with their digests then.
+/// What was gone over of a group, from its end: the keys that it changes, and each with its last digest.
+#[derive(Drop)]
+struct Lasts<'a> {
+    seen: BTreeSet<&'a Key>,
+    changes: Vec<KeyChange>,
+}
+
+impl<'a> Lasts<'a> {
+    fn new(alloc: Global) -> Lasts<'a>
+        ensures { Gathers result [] }
+    {
+        Lasts {
+            seen: BTreeSet::new(alloc),
+            changes: Vec::new(alloc),
+        }
+    }
+
+    /// Goes over a change before those. It is hashed where none of them is of its key.
+    fn add(&mut self, alloc: Global, change: &'a Change, hashed: &mut Hashed) -> Result<(), Refusal>
+        ensures gathers { OnOk result (GathersOne self.old change.now self.new) }
+        ensures counts { HashesOne self.old change.now hashed.old hashed.new }
+    {
+        if !self.seen.insert(change.key())? {
+            return Ok(());
+        }
+        let moved = moved_key(alloc, change, hashed)?;
+        self.changes.push(moved)?;
+        Ok(())
+    }
+}
+
+/// The keys that change, with their digests in the end. Of several changes of one key the last alone is hashed.
 fn digests_of(
     alloc: Global,
     group: &[Prepared],
     hashed: &mut Hashed,
 ) -> Result<Vec<KeyChange>, Refusal>
-    ensures digests { IfOk result (λ changes. changes.items ≡ digests_in group.now) }
-    ensures counts { Hashes (2 * changes_in group.now) (byte_count_in group.now + changed_bytes (digests_in group.now))
-        hashed.old hashed.new }
+    ensures digests { IfOk result (λ changes. changes.items ≡ digests_in (last_changes group.now)) }
+    ensures counts { HashesChanges (last_changes group.now) hashed.old hashed.new }
 {
-    let mut changes = Vec::new(alloc);
-    for prepared in group {
-        if let Prepared::Change(change) = prepared {
-            let pair = moved_key(alloc, change, hashed)?;
-            changes.push(pair)?;
+    let mut lasts = Lasts::new(alloc);
+    let mut left = group.len();
+    'going: while left > 0 {
+        left -= 1;
+        if let Prepared::Change(change) = &group[left] {
+            lasts.add(alloc, change, hashed)?;
         }
     }
+    let Lasts { mut changes, .. } = lasts;
+    changes.reverse();
     Ok(changes)
 }
 
@@ -69,9 +106,9 @@ fn change_tree(
     group: &[Prepared],
     hashed: &mut Hashed,
 ) -> Result<(), Refusal>
-    ensures ok { OnOk result (tree.new ≡ changed_all tree.old (digests_in group.now)) }
+    ensures ok { OnOk result (tree.new ≡ changed_all tree.old (digests_in (last_changes group.now))) }
     ensures still { changes_in group.now ≡ 0 → tree.new ≡ tree.old }
-    ensures counts { TreeCosts tree.old group.now hashed.old hashed.new }
+    ensures counts { TreeCosts tree.old (last_changes group.now) hashed.old hashed.new }
 {
     let changes = digests_of(alloc, group, hashed)?;
     tree.change(&changes, hashed)
@@ -85,9 +122,9 @@ fn follow(
     group: &[Prepared],
     hashed: &mut Hashed,
 ) -> bool
-    ensures follows { result ≡ true → tree.new ≡ changed_all tree.old (digests_in group.now) }
+    ensures follows { result ≡ true → tree.new ≡ changed_all tree.old (digests_in (last_changes group.now)) }
     ensures still { changes_in group.now ≡ 0 → tree.new ≡ tree.old }
-    ensures counts { TreeCosts tree.old group.now hashed.old hashed.new }
+    ensures counts { TreeCosts tree.old (last_changes group.now) hashed.old hashed.new }
     ensures idle { broken ≡ true → hashed.new ≡ hashed.old }
 {
     if broken {
@@ -267,7 +304,8 @@ impl Kept {
     }
 
     /// Puts in what was prepared of requests side by side, as one after the other, and adds the reply of each. The hash
-    /// tree is made anew once. Where memory is refused, what is kept is broken from that change on.
+    /// tree is made anew once, from the last state of each key. Where memory is refused, what is kept is broken from
+    /// that change on.
     pub fn install_all(&mut self, group: Vec<Prepared>, replies: &mut Vec<Reply>, work: &mut Work)
         requires space { length replies.old.items + length group.items ≤ vec_capacity replies.old }
         requires fresh { self.old.broken ≡ false → MayAllBeIn self.old group.items }

@@ -1,10 +1,11 @@
 //! What a site keeps, and the answers to requests from that. The work is added to counts that are handed in.
 ghost use Rattle.std.specs.Prelude.{◌≡◌, ◌≢◌, ◌≤◌, false, true, None, Some, Err, Ok};
-ghost use Rattle.std.specs.Prelude.{is_some, IfOk, IfErr, OnOk};
+ghost use Rattle.std.specs.Prelude.{is_some, length, IfOk, IfErr, OnOk};
 ghost use Rattle.std.specs.FinMap as map;
 ghost use Rattle.mvd_count.specs.Counted.{RoseBy};
 ghost use Rattle.mvd_dots.specs.declared.refusals.Refusal.TheVariants.{Broken, DotClash, Memory};
 ghost use Rattle.mvd_keys.specs.State.{IsValid, clashes, empty_state};
+ghost use Rattle.mvd_wire.specs.Codecs.{spell_state};
 ghost use Rattle.mvd_wire.specs.declared.request.Request.TheVariants.{Get, Put, Delete, Push};
 ghost use Rattle.mvd_wire.specs.declared.reply.Reply.TheVariants.{State as Shown};
 ghost use Rattle.mvd_kept.specs.Costs.{AnswerCosts, Costs, PrepareCosts};
@@ -27,7 +28,7 @@ use mvd_dots::{Context, Refusal};
 use mvd_keys::{Key, KeyState};
 use mvd_rows::Rows;
 use mvd_tree::Tree;
-use mvd_wire::{Reply, Request};
+use mvd_wire::{Reply, Request, state_length};
 use std::alloc::Global;
 use std::marker::Model;
 
@@ -163,6 +164,16 @@ impl Kept {
             return Err(Refusal::Broken);
         }
         self.state_of(key, &mut work.looks)
+    }
+
+    /// How many bytes spell the state of a key, the empty one where it is not held. This is one look.
+    pub fn state_bytes(&self, key: &Key, work: &mut Work) -> u64
+        ensures bytes { result ≡ length (spell_state (state_at self.now.states key.now)) }
+        ensures costs { Costs 1 0 0 0 0 work.old work.new }
+    {
+        let empty = KeyState::empty(self.alloc);
+        let (_, state) = self.look(key, &empty, &mut work.looks);
+        state_length(state)
     }
 
     /// Answers one request. A refusal other than `Broken` leaves the site as it was.

@@ -65,7 +65,7 @@ pub record Holds (f : Frame) (most : Two ℕ ℕ) (done : List DoneKey) (work : 
   pub causes : Each (IsLeftFor most f.locals f.peers) (left_keys done)
   pub each : TellApart f.locals f.peers → (key : Key) → Fate f key done work.waiting stage
 
-still_counts : (done : List DoneKey) (old new : Exchanging) → new.keys ≡ old.keys → new.refused ≡ old.refused → new.older ≡ old.older → new.first_refused ≡ old.first_refused → Counts done old → Counts done new
+pub still_counts : (done : List DoneKey) (old new : Exchanging) → new.keys ≡ old.keys → new.refused ≡ old.refused → new.older ≡ old.older → new.first_refused ≡ old.first_refused → Counts done old → Counts done new
 still_counts done old new keys refused older first c = record {
   keys = keys ∙ c.keys;
   refused = refused ∙ c.refused;

@@ -101,7 +101,7 @@ module _ (f : Frame) (differed : List Key) (all : HasAllThatDiffered f.locals f.
       (told_few f differed side asked asked' work.waiting walk after mine.items theirs.items found (pages_here f most left left' answers shares walk h t mine.items m) (pages_there f most left left' answers shares walk h t theirs.items s) told spent few)
   hears_few work work' (Walks walk) stage' asks h t (of_local refusal m is) spent few = absurd (cc)
   hears_few work work' (Walks walk) stage' asks h t (of_peer mine refusal m s is) spent few = absurd (cc)
-  hears_few work work' (Meets walk entries) stage' asks h t (same, both mine theirs m s (meetings, plans, begins)) spent few =
+  hears_few work work' (Meets walk entries) stage' asks h t (same, both mine theirs m s (meetings, plans, begins, next)) spent few =
       let n : length meetings ≡ length entries.items = same_length meetings entries.items (plan_keys work.number entries.items mine.items theirs.items meetings plans) in
       let k = held_short side entries.items in
       local_begins f differed side asked' work' walk meetings stage' begins

@@ -76,7 +76,7 @@ cut_hears work work' (Descends level) stage' shares answers (same, of_peer mine 
 cut_hears work work' (Walks walk) stage' shares answers (both mine theirs m s (after, found, told, settled)) = cut_settles after found work work' stage' settled
 cut_hears work work' (Walks walk) stage' shares answers (of_local refusal m is) = absurd (cc)
 cut_hears work work' (Walks walk) stage' shares answers (of_peer mine refusal m s is) = absurd (cc)
-cut_hears work work' (Meets walk entries) stage' shares answers (same, both mine theirs m s (meetings, plans, begins)) = cut_begins walk AtLocal meetings stage' begins
+cut_hears work work' (Meets walk entries) stage' shares answers (same, both mine theirs m s (meetings, plans, begins, next)) = cut_begins walk AtLocal meetings stage' begins
 cut_hears work work' (Meets walk entries) stage' shares answers (same, of_local refusal m is) = absurd (cc)
 cut_hears work work' (Meets walk entries) stage' shares answers (same, of_peer mine refusal m s is) = absurd (cc)
 cut_hears work work' (Carries walk turn count) stage' shares answers (same, carried) = cut_carried walk turn (share_of turn.side shares) (told_by_side turn.side answers) (told_by_side (other_of turn.side) answers) stage' carried

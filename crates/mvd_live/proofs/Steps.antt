@@ -35,7 +35,7 @@ use Rattle.mvd_live.specs.Lives.{TellApart}
 use Rattle.mvd_live.specs.Told.{StateTold}
 use Rattle.mvd_live.proofs.Buckets.{PageAt, walk_told}
 use Rattle.mvd_live.proofs.Causes.{AnsweredAt, CausedAt, CausedIn, caused_found, caused_met, caused_more}
-use Rattle.mvd_live.proofs.Fates.{AtStage, Fate, Holds, IsGood, same_counts, settles, settles_counts}
+use Rattle.mvd_live.proofs.Fates.{AtStage, Fate, Holds, IsGood, same_counts, settles, settles_counts, still_counts}
 use Rattle.mvd_live.proofs.Given.{GivenAt, GivenTo, given_met, given_same, given_settles, given_valid}
 use Rattle.mvd_live.proofs.Heard.{Heard, read_nodes, read_pages, read_states, seen_pushes}
 use Rattle.mvd_live.proofs.Levels.{NodeAt, goes_down}
@@ -138,7 +138,7 @@ module _ (f : Frame) (most : Two ℕ ℕ) (left left' : Questions) (answers : An
   given_hears work work' (Walks walk) stage' h t (both mine theirs m s (after, found, told, settled)) given = given_settles f.locals f.peers after found work work' stage' settled
   given_hears work work' (Walks walk) stage' h t (of_local refusal m is) given = absurd (cc)
   given_hears work work' (Walks walk) stage' h t (of_peer mine refusal m s is) given = absurd (cc)
-  given_hears work work' (Meets walk entries) stage' h t (same, both mine theirs m s (meetings, plans, begins)) given =
+  given_hears work work' (Meets walk entries) stage' h t (same, both mine theirs m s (meetings, plans, begins, next)) given =
       given_met f.locals f.peers work.number walk entries.items mine.items theirs.items meetings stage' f.a f.a' f.b f.b' (states_here walk entries h t mine.items m) (states_there walk entries h t theirs.items s) plans begins
   given_hears work work' (Meets walk entries) stage' h t (same, of_local refusal m is) given = absurd (cc)
   given_hears work work' (Meets walk entries) stage' h t (same, of_peer mine refusal m s is) given = absurd (cc)
@@ -169,7 +169,7 @@ module _ (f : Frame) (most : Two ℕ ℕ) (left left' : Questions) (answers : An
   caused_hears work work' (Walks walk) stage' h t (both mine theirs m s (after, found, told, settled)) c = caused_found most f.locals f.peers after found work work' stage' settled
   caused_hears work work' (Walks walk) stage' h t (of_local refusal m is) c = absurd (cc)
   caused_hears work work' (Walks walk) stage' h t (of_peer mine refusal m s is) c = absurd (cc)
-  caused_hears work work' (Meets walk entries) stage' h t (same, both mine theirs m s (meetings, plans, begins)) c =
+  caused_hears work work' (Meets walk entries) stage' h t (same, both mine theirs m s (meetings, plans, begins, next)) c =
       caused_met most f.locals f.peers f.a f.a' f.b f.b' work.number walk entries.items mine.items theirs.items meetings stage' (states_here walk entries h t mine.items m) (states_there walk entries h t theirs.items s) plans begins
   caused_hears work work' (Meets walk entries) stage' h t (same, of_local refusal m is) c = absurd (cc)
   caused_hears work work' (Meets walk entries) stage' h t (same, of_peer mine refusal m s is) c = absurd (cc)
@@ -252,8 +252,8 @@ module _ (f : Frame) (most : Two ℕ ℕ) (left left' : Questions) (answers : An
         fate_walked work work' walk after mine.items theirs.items found stage' (pages_here walk h t mine.items m) (pages_there walk h t theirs.items s) told settled fate
     fate_hears work work' (Walks walk) stage' asks h t (of_local refusal m is) given fate = absurd (cc)
     fate_hears work work' (Walks walk) stage' asks h t (of_peer mine refusal m s is) given fate = absurd (cc)
-    fate_hears work work' (Meets walk entries) stage' asks h t (same, both mine theirs m s (meetings, plans, begins)) given fate =
-        fate_met work.number work'.waiting walk entries mine.items theirs.items meetings stage' (states_here walk entries h t mine.items m) (states_there walk entries h t theirs.items s) plans begins (same_fate work work' (Meets walk entries) same fate)
+    fate_hears work work' (Meets walk entries) stage' asks h t (same, both mine theirs m s (meetings, plans, begins, next)) given fate =
+        fate_met work.number work'.waiting walk entries mine.items theirs.items meetings stage' (states_here walk entries h t mine.items m) (states_there walk entries h t theirs.items s) plans begins (same_fate (record work { most = work'.most }) work' (Meets walk entries) same fate)
     fate_hears work work' (Meets walk entries) stage' asks h t (same, of_local refusal m is) given fate = absurd (cc)
     fate_hears work work' (Meets walk entries) stage' asks h t (same, of_peer mine refusal m s is) given fate = absurd (cc)
     fate_hears work work' (Carries walk turn count) stage' asks h t (same, carried) given fate = fate_pushed turn.side walk turn count refl h t given stage' carried work'.waiting (same_fate work work' (Carries walk turn count) same fate)
@@ -266,7 +266,7 @@ module _ (f : Frame) (most : Two ℕ ℕ) (left left' : Questions) (answers : An
   counts_hears done work work' (Walks walk) stage' (both mine theirs m s (after, found, told, settled)) c = settles_counts done after found work work' stage' settled c
   counts_hears done work work' (Walks walk) stage' (of_local refusal m is) c = absurd (cc)
   counts_hears done work work' (Walks walk) stage' (of_peer mine refusal m s is) c = absurd (cc)
-  counts_hears done work work' (Meets walk entries) stage' (same, read) c = same_counts done work work' same c
+  counts_hears done work work' (Meets walk entries) stage' (same, read) c = same_counts done (record work { most = work'.most }) work' same (still_counts done work (record work { most = work'.most }) refl refl refl refl c)
   counts_hears done work work' (Carries walk turn count) stage' (same, carried) c = same_counts done work work' same c
   counts_hears done work work' Done stage' never c = absurd never
   counts_hears done work work' (Failed fault) stage' never c = absurd never

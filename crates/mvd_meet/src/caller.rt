@@ -1,6 +1,7 @@
 //! A side of a session that is asked by mail: the frames of a window leave, and later what came is told.
-ghost use Rattle.std.specs.Prelude.{◌≡◌, ◌≤◌, ◌++◌, [], None, Some, IfErr, IfOk, OnErr, OnOk, drop, false, length, true};
-ghost use Rattle.mvd_dots.specs.declared.refusals.Refusal.TheVariants.{Memory};
+ghost use Rattle.std.specs.Prelude.{◌≡◌, ◌≢◌, ◌≤◌, ◌++◌, [], Err, None, Some, IfErr, IfOk, OnErr, OnOk, drop, false, length};
+ghost use Rattle.std.specs.Prelude.{true};
+ghost use Rattle.mvd_dots.specs.declared.refusals.Refusal.TheVariants.{BadBody, Memory};
 ghost use Rattle.mvd_meet.specs.Callers.{CallerAsks, CallerHears, CallerSays, CallerTells, EndsTurns, LeavesTurn, SendsTo};
 ghost use Rattle.mvd_meet.specs.Callers.{TellsBy, asked_in_window, asked_of_caller, came_at, has_all, has_ended, has_turns};
 ghost use Rattle.mvd_meet.specs.Callers.{leaving_at, link_by, only_of, questions_at};
@@ -123,11 +124,16 @@ impl Caller {
         }
     }
 
-    /// The frames of a window are to leave, and what they ask for is due.
+    /// The frames of a window are to leave, and what they ask for is due. Where more came than was asked before, that is
+    /// refused with 33.
     pub fn ask(&mut self, window: &Window) -> Result<(), Refusal>
         ensures asks { OnOk result (CallerAsks window.now self.old self.new) }
         ensures err { OnErr result (asked_of_caller self.new ≡ asked_of_caller self.old) }
+        ensures more { came_at self.old ≢ [] → result ≡ Err BadBody }
     {
+        if !self.remote.came().is_empty() {
+            return Err(Refusal::BadBody);
+        }
         let asked = asked_by(self.alloc, window)?;
         self.send(asked)
     }

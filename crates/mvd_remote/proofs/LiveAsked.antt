@@ -2,7 +2,7 @@
 use Rattle.std.proofs.Common.{◌≡◌, ◌≢◌, inl, inr, ℕ, true, List, [], ◌∷◌, ◌++◌, Option, Some, None, refl, sym, ap, subst, ◌∙◌}
 use Rattle.std.specs.Prelude.{Result, Ok, Err, IfErr, IfOk, OnOk}
 use Rattle.mvd_dots.specs.declared.refusals.Refusal.{Refusal}
-use Rattle.mvd_dots.specs.declared.refusals.Refusal.TheVariants.{Memory, WriteFailed}
+use Rattle.mvd_dots.specs.declared.refusals.Refusal.TheVariants.{Memory}
 use Rattle.mvd_wire.specs.declared.request.Request.{Request}
 use Rattle.mvd_wire.specs.declared.reply.Reply.{Reply}
 use Rattle.mvd_wire.specs.declared.reply.Reply.TheVariants.{Refused}
@@ -13,9 +13,8 @@ use Rattle.mvd_site.specs.Held.{AreHeld, States}
 use Rattle.mvd_peer.specs.Live.{Grows}
 use Rattle.mvd_peer.specs.Windows.{leaves_open}
 use Rattle.mvd_peer.proofs.Telling.{grows_over, grows_same}
-use Rattle.mvd_remote.specs.Lines.{Far, IsReplyTaken, TrueReply, far_of}
+use Rattle.mvd_remote.specs.Lines.{TrueReply}
 use Rattle.mvd_remote.specs.Links.{ReadsReply}
-use Rattle.mvd_remote.specs.LiveLines.{AnswersAt}
 use Rattle.mvd_remote.specs.LiveRemotes.{AnswersLive, AsksLive, IsLiveRemote, LiveTurn, TakesAwaited, TookLive, TookLiveTurns, TookTurn}
 use Rattle.mvd_remote.specs.declared.line.Line.{Ghosts}
 use Rattle.mvd_remote.specs.declared.remote.Remote.{Remote}
@@ -114,9 +113,6 @@ turn_took line none old new reply never took goes = record {
   told = subst (λ n. LiveTurn (line.far old.line).config n (line.awaits old.line) (line.awaits new.line) (line.far old.line).states (line.far new.line).states reply) (sym (no_some none never)) (took.told goes);
   unsure = took.own;
 }
-
-pub turn_broke : {L : Type 0} (line : Ghosts L) (none : Option Refusal) (old new : Remote L) (reply : Result Reply Refusal) (refusal : Refusal) → TookLive line old new reply → TookTurn line none old new (Err refusal)
-turn_broke line none old new reply refusal took = record { live = took.live; grows = took.grows; told = tt; unsure = took.own }
 
 pub turn_none : {L : Type 0} (line : Ghosts L) → ((l : L) → line.is_live l → AreHeld (line.far l).states) → (none : Option Refusal) (old : Remote L) (refusal : Refusal) → none ≡ Some refusal → old.refused ≡ None → line.is_live old.line → TookTurn line none old old (Ok (Err refusal))
 turn_none line form none old refusal is goes live = record {

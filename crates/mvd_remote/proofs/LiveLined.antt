@@ -1,6 +1,6 @@
 -- What goes out and comes in over a live line.
-use Rattle.std.proofs.Common.{◌≡◌, ◌≢◌, ◌⊎◌, inl, inr, ℕ, ◌+◌, ◌<◌, ◌≤◌, arith, true, List, [], ◌∷◌, ◌++◌, length, take, get_or, Option, Some, None, refl, sym, ap, subst, ◌∙◌}
-use Rattle.std.specs.Prelude.{Result, Ok, Err, IfOk, IfErr, IfSome, MatchResult, OnOk}
+use Rattle.std.proofs.Common.{◌≡◌, ◌≢◌, inl, inr, ℕ, ◌+◌, ◌<◌, ◌≤◌, arith, true, List, [], ◌∷◌, ◌++◌, length, take, get_or, Option, Some, None, refl, sym, ap, subst, ◌∙◌}
+use Rattle.std.specs.Prelude.{Result, Ok, Err, IfOk, IfSome}
 use Rattle.std.proofs.lemmas.List.{take_more}
 use Rattle.mvd_dots.specs.declared.refusals.Refusal.{Refusal}
 use Rattle.mvd_dots.specs.Refusal.{number_of}
@@ -17,7 +17,6 @@ use Rattle.mvd_wire.specs.declared.frame.Frame.{Frame}
 use Rattle.mvd_wire.specs.Replies.{reply_of}
 use Rattle.mvd_wire.specs.declared.request.Request.{Request}
 use Rattle.mvd_wire.specs.declared.reply.Reply.{Reply}
-use Rattle.mvd_wire.specs.declared.reply.Reply.TheVariants.{Refused}
 use Rattle.mvd_wire.specs.Requests.{request_frame}
 use Rattle.mvd_site.specs.Config.{ConfigValue}
 use Rattle.mvd_site.specs.Held.{AreHeld, States}
@@ -26,7 +25,7 @@ use Rattle.mvd_peer.specs.Telling.{TellsEach}
 use Rattle.mvd_peer.specs.Windows.{ForEach, leaves_open}
 use Rattle.mvd_peer.proofs.Telling.{each_since, grows_over, grows_same}
 use Rattle.mvd_remote.specs.LinkWindows.{Frames, IsToldBy, frames_of}
-use Rattle.mvd_remote.specs.Lines.{IsNextReply, IsReplyTaken, LeavesNothingOpen, TakesDue, TrueReply, and_framed, framed_requests}
+use Rattle.mvd_remote.specs.Lines.{IsNextReply, IsReplyTaken, LeavesNothingOpen, TakesDue, and_framed, framed_requests}
 use Rattle.mvd_remote.specs.LiveLines.{AnswersAt, IsNextAnswer}
 use Rattle.mvd_remote.specs.LiveRemotes.{LiveTurn, LiveTurns, SettlesLive, TakesAwaited, ToldAt, ToldLive, TookTurn}
 use Rattle.mvd_remote.specs.declared.line.Line.{Ghosts}

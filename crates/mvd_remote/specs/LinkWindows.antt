@@ -1,6 +1,6 @@
 -- Many questions over a connection: all their frames go out, and then a reply comes in for each.
 use Rattle.std.specs.Prelude.{◌≡◌, ◌⊎◌, ◌<◌, ℕ, List, [], ◌∷◌, ◌++◌, take, Option, Some, None, Result, Ok, Err}
-use Rattle.std.specs.Prelude.{Contains, MatchResult}
+use Rattle.std.specs.Prelude.{Contains, MatchResult, length, sum_by}
 use Rattle.std.specs.Io.KnownBytes.{Appends}
 use Rattle.std.specs.declared.alloc.Global.{Global}
 use Rattle.std.specs.declared.vec.Vec.{Vec}
@@ -9,7 +9,8 @@ use Rattle.mvd_dots.specs.declared.refusals.Refusal.{Refusal}
 use Rattle.mvd_dots.specs.declared.refusals.Refusal.TheVariants.{Broken, Memory, WriteFailed}
 use Rattle.mvd_wire.specs.declared.request.Request.{Request}
 use Rattle.mvd_wire.specs.declared.reply.Reply.{Reply}
-use Rattle.mvd_wire.specs.declared.reply.Reply.TheVariants.{Refused}
+use Rattle.mvd_wire.specs.declared.reply.Reply.TheVariants.{Refused, State}
+use Rattle.mvd_wire.specs.Codecs.{spell_state}
 use Rattle.mvd_wire.specs.Frames.{AppendsFront, FrameValue}
 use Rattle.mvd_wire.specs.Replies.{reply_kind}
 use Rattle.mvd_wire.specs.Requests.{request_frame}
@@ -60,6 +61,14 @@ abbrev pub TurnBreaks : ℕ → List (Option Refusal) → Option (List ℕ) → 
 TurnBreaks kind nones old new refusal =
     (n : ℕ) × (replies : List (Result Reply Refusal)) × (mid : Option (List ℕ))
     × TakeTurns kind (take n nones) replies old mid × ReadCause mid new kind refusal
+
+-- how many bytes the states have that replies tell
+abbrev pub state_bytes : Result Reply Refusal → ℕ
+state_bytes (Ok (State state)) = length (spell_state state)
+state_bytes reply = 0
+
+abbrev pub states_bytes : List (Result Reply Refusal) → ℕ
+states_bytes replies = sum_by state_bytes replies
 
 -- ---- a window
 

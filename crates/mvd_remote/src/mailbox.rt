@@ -12,6 +12,9 @@ use mvd_frames::read_frame;
 use mvd_wire::Frame;
 use std::alloc::Global;
 
+/// The most bytes that wait to be taken.
+const MOST: usize = 33_554_432;
+
 /// What is to leave, and what came. What is at the other end is not known.
 #[derive(Drop)]
 pub struct Mailbox {
@@ -106,14 +109,19 @@ impl Remote<Mailbox> {
         self.line.came.as_slice()
     }
 
-    /// Puts bytes that came behind the others. Where memory is refused, none is.
+    /// Puts bytes that came behind the others, 32 MiB in all at most. Where memory is refused, none is.
     pub fn feed(&mut self, bytes: &[u8]) -> Result<(), Refusal>
         ensures ok { OnOk result (came_of self.new ≡ came_of self.old ++ bytes.now) }
         ensures err { OnErr result (came_of self.new ≡ came_of self.old) }
         ensures memory { IfErr result (λ refusal. refusal ≡ Memory) }
+        ensures bounded { OnOk result (length (came_of self.new) ≤ 33554432) }
         ensures leaving { leaving_of self.new ≡ leaving_of self.old }
         ensures refused { refused_of self.new ≡ refused_of self.old }
     {
+        let count = self.line.came.len().saturating_add(bytes.len());
+        if count > MOST {
+            return Err(Refusal::Memory);
+        }
         self.line.came.extend_from_slice(bytes)?;
         Ok(())
     }

@@ -8,8 +8,9 @@ mod window;
 ghost use Rattle.std.specs.Prelude.{◌≡◌, ◌⊎◌, [], IfOk, None, Some, Ok};
 ghost use Rattle.mvd_dots.specs.declared.refusals.Refusal.{Refusal};
 ghost use Rattle.mvd_wire.specs.declared.request.Request.{Request};
+ghost use Rattle.mvd_wire.specs.declared.request.Request.TheVariants.{Hello};
 ghost use Rattle.mvd_wire.specs.declared.reply.Reply.TheVariants.{Refused};
-ghost use Rattle.mvd_remote.specs.Lines.{IsTrueRemote, KeepsConfig, line_of, refused_of};
+ghost use Rattle.mvd_remote.specs.Lines.{IsTrueRemote, KeepsConfig, as_done, line_of, refused_of};
 ghost use Rattle.mvd_remote.specs.LiveRemotes.{AsksLive, IsLiveRemote, TakesLive};
 ghost use Rattle.mvd_remote.specs.Links.{Asks, ReadsReply, SendsAsked, StaysRefused, answered_by};
 ghost use Rattle.mvd_remote.specs.Remotes.{AsksOver, AsksTruly, TakesReply, any_query, bye_query, hello_query, link_of};
@@ -197,6 +198,7 @@ impl<L: Line> Remote<L> {
         ensures stays { StaysRefused self.old self.new result }
         ensures config { KeepsConfig L.far self.old self.new }
         ensures truth { AsksTruly L.Line (hello_query token.now) self.old self.new result }
+        ensures live { AsksLive L.Line (Hello token.now) as_done self.old self.new result }
     {
         self.ask_for(encode_hello(self.alloc, token))
     }

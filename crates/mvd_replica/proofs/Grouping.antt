@@ -1,6 +1,7 @@
 -- Requests of one commit: what each comes to after the others.
 use Rattle.std.proofs.lemmas.Bool.Decides.{nat_tests}
-use Rattle.std.proofs.Common.{◌≡◌, ◌≢◌, ◌∙◌, ℕ, ◌+◌, ◌<◌, ◌≤◌, ◌==◌, arith, zero, suc, Bool, true, false, not, ◌&&◌, cond, if◌then◌else◌, List, [], ◌∷◌, ◌++◌, Option, Some, None, Ok, is_some, unwrap_or, refl, sym, ap, ap₂, subst, inl, inr, length, take, drop, get_or, ◌⊎◌}
+use Rattle.std.proofs.Common.{◌≡◌, ◌≢◌, ◌∙◌, ℕ, ◌+◌, ◌-◌, ◌<◌, ◌≤◌, ◌==◌, arith, length-append, zero, suc, Bool, true, false, not, ◌&&◌, cond, if◌then◌else◌, List, [], ◌∷◌, ◌++◌, Option, Some, None, Ok, is_some, unwrap_or, refl, sym, ap, ap₂, subst, inl, inr, length, take, drop, get_or, ◌⊎◌}
+use Rattle.std.proofs.Math.Seq.{take-append_seam}
 use Rattle.std.proofs.lemmas.List.{drop_more, take_more}
 use Rattle.std.specs.Prelude.{IfSome}
 use Rattle.std.specs.List.{AllByRecursion}
@@ -30,7 +31,7 @@ use Rattle.mvd_site.specs.Sites.{SiteValue, has_no_room}
 use Rattle.mvd_site.proofs.Answered.{with_state-same, with_state-seen}
 use Rattle.mvd_site.specs.Installs.{MayAllBeIn, MayBeIn, changes_in, is_change, with_group, with_one, with_prepared}
 use Rattle.mvd_replica.specs.Adding.{KeepsRoom}
-use Rattle.mvd_replica.specs.Groups.{AllComeAlone, AreSendable, ComeInOrder, ComesAlone, ComesTo, FirstWaits, IsApart, IsElsewhere, IsSendable, ComesInGroup, MustWait, StandTogether, pairs_in}
+use Rattle.mvd_replica.specs.Groups.{AllComeAlone, AreSendable, ComeInOrder, ComesAlone, ComesTo, FirstWaits, IsApart, IsElsewhere, IsSendable, ComesInGroup, IsBounded, MustWait, StandTogether, pairs_in, state_bytes_in, state_bytes_of}
 
 -- ---- a request at one key is untouched by a change of another
 
@@ -271,6 +272,20 @@ together_more site requests group request prepared all one = record {
 pub changes_more : (group : List Prepared) (prepared : Prepared) → changes_in (group ++ prepared ∷ []) ≡ changes_in group + is_change prepared
 changes_more [] prepared = omega arith
 changes_more (p ∷ group) prepared = let later : changes_in (group ++ prepared ∷ []) ≡ changes_in group + is_change prepared = changes_more group prepared in omega (arith, later)
+
+-- ---- the bytes of states
+
+pub bytes_more : (group : List Prepared) (prepared : Prepared) → state_bytes_in (group ++ prepared ∷ []) ≡ state_bytes_in group + state_bytes_of prepared
+bytes_more [] prepared = omega arith
+bytes_more (p ∷ group) prepared = let later = bytes_more group prepared in omega (arith, later)
+
+pub bounded_none : IsBounded []
+bounded_none = omega arith
+
+pub bounded_more : (group : List Prepared) (prepared : Prepared) → state_bytes_in group < 4194304 → IsBounded (group ++ prepared ∷ [])
+bounded_more group prepared light =
+    let count : length (group ++ prepared ∷ []) - 1 ≡ length group = let all = length-append group (prepared ∷ []) in omega (arith, all) in
+    subst (λ l. state_bytes_in l < 4194304) (sym (ap (λ n. take n (group ++ prepared ∷ [])) count ∙ take-append_seam group (prepared ∷ []))) light
 
 -- ---- which request waits
 

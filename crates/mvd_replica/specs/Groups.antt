@@ -1,5 +1,5 @@
 -- What the requests of one commit come to, prepared side by side, before anything is changed.
-use Rattle.std.specs.Prelude.{◌≡◌, ◌≢◌, ◌⊎◌, ⊤, ℕ, ◌≤◌, false, true, List, [], ◌∷◌, length}
+use Rattle.std.specs.Prelude.{◌≡◌, ◌≢◌, ◌⊎◌, ⊤, ℕ, ◌+◌, ◌-◌, ◌<◌, ◌≤◌, false, true, List, [], ◌∷◌, length, take}
 use Rattle.std.specs.List.{AllByRecursion}
 use Rattle.std.specs.FinMap.{insert}
 use Rattle.mvd_dots.specs.declared.refusals.Refusal.TheVariants.{Broken, Memory, Store}
@@ -118,10 +118,24 @@ pub record ComesInGroup (site : SiteValue) (request : Request) (group : List Pre
 abbrev pub SeesAny : Request → List Prepared → Type 0
 SeesAny request group = AllByRecursion (IsApart request) group → ⊥
 
--- A request has to wait until these are put in: they are 1,024, or there may be less room for it then, or it sees a key
--- that one of them changes
+-- how many bytes spell the states that the changes give their keys
+abbrev pub state_bytes_of : Prepared → ℕ
+state_bytes_of (Answer reply) = 0
+state_bytes_of (Change change) = length (spell_state change.state)
+
+abbrev pub state_bytes_in : List Prepared → ℕ
+state_bytes_in [] = 0
+state_bytes_in (prepared ∷ group) = state_bytes_of prepared + state_bytes_in group
+
+-- all states but that of the last are of fewer than 4,194,304 bytes together
+abbrev pub IsBounded : List Prepared → Type 0
+IsBounded group = state_bytes_in (take (length group - 1) group) < 4194304
+
+-- A request has to wait until these are put in: they are 1,024, or their states have 4,194,304 bytes, or there may be
+-- less room for it then, or it sees a key that one of them changes
 abbrev pub MustWait : SiteValue → Request → List Prepared → Type 0
-MustWait site request group = (1024 ≤ length group) ⊎ LacksRoom site request group ⊎ SeesAny request group
+MustWait site request group =
+    (1024 ≤ length group) ⊎ (4194304 ≤ state_bytes_in group) ⊎ LacksRoom site request group ⊎ SeesAny request group
 
 -- of the requests that are left the first, if there is one, has to wait
 abbrev pub FirstWaits : SiteValue → List Prepared → List Request → Type 0

@@ -9,8 +9,8 @@ ghost use Rattle.mvd_wire.specs.declared.reply.Reply.TheVariants.{Refused};
 ghost use Rattle.mvd_site.specs.Installs.{changes_in, is_change};
 ghost use Rattle.mvd_replica.specs.Adding.{CountsKeys};
 ghost use Rattle.mvd_replica.specs.Behind.{AreLast, JoinsGroup};
-ghost use Rattle.mvd_replica.specs.Groups.{ComesTo, FirstWaits, IsSendable, MustWait};
-ghost use Rattle.mvd_replica.specs.Groups.{StandTogether, pairs_in, reply_unstored};
+ghost use Rattle.mvd_replica.specs.Groups.{ComesTo, FirstWaits, IsBounded, IsSendable, MustWait};
+ghost use Rattle.mvd_replica.specs.Groups.{StandTogether, pairs_in, reply_unstored, state_bytes_in, state_bytes_of};
 ghost use Rattle.mvd_replica.specs.Replicas.{next_count};
 ghost use Rattle.mvd_replica.specs.Restored.{WereSound};
 ghost use Rattle.mvd_replica.specs.Shared.{IsUnstored, StoresNone, StoresOpen, StoresPairs, SurvivesPairs};
@@ -26,6 +26,9 @@ use mvd_wire::{Reply, Request};
 use sqlite::Alter;
 use std::alloc::Global;
 
+/// The bytes of states from which on a group is committed.
+const BYTES_MAX: usize = 4_194_304;
+
 /// The number of changes that this is.
 fn changes_of(prepared: &Prepared) -> u32
     ensures count { result ≡ is_change prepared.now }
@@ -33,6 +36,21 @@ fn changes_of(prepared: &Prepared) -> u32
 {
     match prepared {
         Prepared::Change(_) => 1,
+        Prepared::Answer(_) => 0,
+    }
+}
+
+/// How many bytes spell the state that it gives a key.
+fn bytes_of(prepared: &Prepared) -> usize
+    ensures count { result ≡ state_bytes_of prepared.now }
+    ensures few { result ≤ 1150000 }
+{
+    match prepared {
+        Prepared::Change(change) => {
+            // Here it is known that it is not too long.
+            let _state = change.state();
+            change.bytes().len()
+        }
         Prepared::Answer(_) => 0,
     }
 }
@@ -59,25 +77,29 @@ pub fn prepare_one(site: &Site, request: &Request) -> Prepared
 }
 
 /// What a request comes to behind a group, with how many keys it adds; `None` where it has to wait until that is put
-/// in: it could see a change, there may be less room for it then, or they are as many as share a commit.
+/// in: it could see a change, there may be less room for it then, or they are as many as share a commit, or their
+/// states have as many bytes.
 fn join<'a>(
     site: &Site,
     group: &[Prepared],
     waiting: &Waiting<'a>,
+    bytes: usize,
     changes: u32,
     added: u32,
     request: &'a Request,
 ) -> Result<Option<(Prepared, u32)>, Refusal>
+    requires bytes { bytes ≡ state_bytes_in group.now }
     requires count { changes ≡ changes_in group.now }
     requires keys { CountsKeys site.now group.now added }
     requires noted { AreLast group.now waiting.now }
     ensures joins { IfOk result (λ found. IfSome found (λ it.
         JoinsGroup site.now group.now added request.now it.0 it.1)) }
     ensures short { IfOk result (λ found. IfSome found (λ _. length group.now < 1024)) }
+    ensures light { IfOk result (λ found. IfSome found (λ _. bytes < 4194304)) }
     ensures waits { IfOk result (λ found. found ≡ None → MustWait site.now request.now group.now) }
     ensures memory { IfErr result (λ refusal. refusal ≡ Refusal.Memory) }
 {
-    if group.len() >= SHARING_MAX {
+    if group.len() >= SHARING_MAX || bytes >= BYTES_MAX {
         return Ok(None);
     }
     match last_change(group, waiting, request) {
@@ -101,7 +123,8 @@ fn join<'a>(
     Ok(Some((prepared, adds)))
 }
 
-/// What requests come to, from the first on, up to one that has to wait for those before it.
+/// What requests come to, from the first on, up to one that has to wait for those before it. Their states have fewer
+/// than 4,194,304 bytes before the last.
 pub fn prepare_all(
     alloc: Global,
     site: &Site,
@@ -111,6 +134,7 @@ pub fn prepare_all(
     ensures some { IfOk result (λ group. 0 < length requests.now → 0 < length group.items) }
     ensures together { IfOk result (λ group. site.now.broken ≡ false →
         StandTogether site.now (take (length group.items) requests.now) group.items) }
+    ensures bounded { IfOk result (λ group. IsBounded group.items) }
     // The group ends where the requests do, or where the next one has to wait.
     ensures ends { IfOk result (λ group.
         FirstWaits site.now group.items (drop (length group.items) requests.now)) }
@@ -118,16 +142,18 @@ pub fn prepare_all(
 {
     let mut group = Vec::with_capacity(alloc, requests.len().min(SHARING_MAX))?;
     let mut waiting = Waiting::new(alloc);
+    let mut bytes: usize = 0;
     let mut changes: u32 = 0;
     let mut added: u32 = 0;
     for request in requests {
-        let joined = join(site, &group, &waiting, changes, added, request)?;
+        let joined = join(site, &group, &waiting, bytes, changes, added, request)?;
         let Some((prepared, adds)) = joined else {
             return Ok(group);
         };
         waiting.note(request, &prepared, group.len(), requests.len())?;
         added += adds;
         changes += changes_of(&prepared);
+        bytes += bytes_of(&prepared);
         group.push_reserved(prepared);
     }
     Ok(group)

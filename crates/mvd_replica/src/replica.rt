@@ -78,6 +78,13 @@ impl<S: Alter> Replica<S> {
         let _version = self.records.version();
     }
 
+    /// The site, as it is.
+    pub fn site(&self) -> &Site
+        ensures { result.now ≡ site_of self.now }
+    {
+        &self.site
+    }
+
     pub fn config(&self) -> &Config
         ensures { result.now ≡ (site_of self.now).config }
     {

@@ -1,7 +1,7 @@
 -- Why a server ends.
 use Rattle.std.proofs.Common.{◌≡◌, ◌⊎◌, Bool, true, false, List, ℕ, Option, Ok, Err, inl, inr, refl, sym}
 use Rattle.mvd_dots.specs.declared.refusals.Refusal.{Refusal}
-use Rattle.mvd_dots.specs.declared.refusals.Refusal.TheVariants.{Broken, Memory, ReadFailed, WriteFailed}
+use Rattle.mvd_dots.specs.declared.refusals.Refusal.TheVariants.{Broken, Memory, ReadFailed, Store, WriteFailed}
 use Rattle.mvd_input.specs.declared.fault.Fault.{Fault}
 use Rattle.mvd_input.specs.declared.fault.Fault.TheVariants.{Stopped}
 use Rattle.mvd_replica.specs.ReplicaCalls.{TellsRoot, root_answer}
@@ -22,12 +22,16 @@ module _ (site : SiteValue) where
   ends_untold fault (inl is) = ends_memory fault is
   ends_untold fault (inr is) = subst (EndsAtFault site) (sym is) (λ other. inr (inl refl))
 
+  -- its file is no longer what was opened
+  pub ends_harmed : (fault : Fault) → fault ≡ Stopped Store → EndsAtFault site fault
+  ends_harmed fault is = subst (EndsAtFault site) (sym is) (λ other. inr (inr (inl refl)))
+
   -- a site tells its root, unless it is broken
   pub ends_rootless : (e : Refusal) → TellsRoot site (Err e) → EndsAtFault site (Stopped e)
   ends_rootless e (answer, broken) other = on site.broken refl (answer other)
     where
-      on : (b : Bool) → site.broken ≡ b → root_answer (record site { broken = b }) ≡ Err e → (e ≡ ReadFailed) ⊎ ((e ≡ WriteFailed) ⊎ ((e ≡ Broken) × (site.broken ≡ true)))
-      on true is told = inr (inr (sym (let same : Broken ≡ e = cc in same), is))
+      on : (b : Bool) → site.broken ≡ b → root_answer (record site { broken = b }) ≡ Err e → (e ≡ ReadFailed) ⊎ ((e ≡ WriteFailed) ⊎ ((e ≡ Store) ⊎ ((e ≡ Broken) × (site.broken ≡ true))))
+      on true is told = inr (inr (inr (sym (let same : Broken ≡ e = cc in same), is)))
       on false is told = absurd (let no : ⊥ = cc in no)
 
   -- the line of its root is printed

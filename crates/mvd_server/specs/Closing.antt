@@ -1,7 +1,7 @@
 -- How a server ends.
 use Rattle.std.specs.Io.KnownBytes.{Appends}
 use Rattle.std.specs.Prelude.{◌≡◌, ◌≢◌, ◌⊎◌, ℕ, ◌+◌, ◌-◌, true, List, length, Option, Ok}
-use Rattle.mvd_dots.specs.declared.refusals.Refusal.TheVariants.{Broken, Memory, ReadFailed, WriteFailed}
+use Rattle.mvd_dots.specs.declared.refusals.Refusal.TheVariants.{Broken, Memory, ReadFailed, Store, WriteFailed}
 use Rattle.mvd_input.specs.declared.fault.Fault.{Fault}
 use Rattle.mvd_input.specs.declared.fault.Fault.TheVariants.{Stopped, Line}
 use Rattle.mvd_print.specs.Text.{root_text}
@@ -21,10 +21,12 @@ client_count t = (length t.host.clients - length t.own) + length t.webs
 abbrev pub IsDeserted : Talking → Type 0
 IsDeserted t = client_count t ≡ 0
 
--- why it ends at fault: it cannot listen or wait, a line cannot be written, memory is refused, or the site is broken
+-- why it ends at fault: it cannot listen or wait, a line cannot be written, memory is refused, its file is no longer
+-- what was opened, or the site is broken
 abbrev pub EndsAtFault : SiteValue → Fault → Type 0
 EndsAtFault site (Stopped refusal) =
-    refusal ≢ Memory → (refusal ≡ ReadFailed) ⊎ ((refusal ≡ WriteFailed) ⊎ ((refusal ≡ Broken) × (site.broken ≡ true)))
+    refusal ≢ Memory → (refusal ≡ ReadFailed) ⊎ ((refusal ≡ WriteFailed)
+    ⊎ ((refusal ≡ Store) ⊎ ((refusal ≡ Broken) × (site.broken ≡ true))))
 EndsAtFault site (Line number) = ⊥
 
 -- the line of the site's root is printed

@@ -6,6 +6,7 @@ pub mod Errands
 pub mod Guarded
 pub mod HostBytes
 pub mod Lines
+pub mod Looking
 pub mod Moves
 pub mod OwnSides
 pub mod Paths

@@ -10,6 +10,7 @@ mod door;
 mod endings;
 mod feeding;
 mod gate;
+mod look;
 mod metrics;
 mod own_session;
 mod parked;

@@ -13,6 +13,7 @@ ghost use Rattle.mvd_server.specs.Wires.{Carries, wired_of};
 
 use crate::crowd::{Crowd, SPARE};
 use crate::door::{Door, FRAMES, HTTP};
+use crate::look::Look;
 use crate::peer_list::Peers;
 use crate::sockets::Sockets;
 use crate::talks::Kind;
@@ -21,13 +22,14 @@ use crate::timers::{earlier, millis_of};
 use mio::{Events, Poll};
 use mvd_conn::Guard;
 use mvd_dots::Refusal;
-use mvd_hint::Stop;
+use mvd_hint::{Stop, Watch};
 use mvd_host::CLIENTS_MAX;
 use mvd_input::{Fault, tell};
 use mvd_replica::Replica;
 use mvd_wire::Token;
 use sqlite::Alter;
 use std::alloc::{AllocError, Global};
+use std::fs::Files;
 use std::hash::RandomState;
 use std::io::{self, Write};
 use std::mem;
@@ -81,6 +83,7 @@ struct Server {
     ready: Vec<u64>,
     next: Vec<u64>,
     start: Instant,
+    look: Look,
 }
 
 /// Serves so many connections at an address, or without end, many at once, and tells where it listens, how each
@@ -92,7 +95,7 @@ struct Server {
 /// `WriteFailed` where a line cannot be written.
 pub fn serve_run<
     'a,
-    N: Net + Clock + RandomSource,
+    N: Net + Clock + RandomSource + Files,
     K: Sockets,
     S: Alter + Drop,
     W: Write,
@@ -104,6 +107,7 @@ pub fn serve_run<
     replica: &mut Replica<S>,
     address: SocketAddr,
     terms: Terms<'_>,
+    watch: &mut Watch,
     writer: &mut W,
     errors: &mut E,
 ) -> Result<(), Stop<'a>>
@@ -124,7 +128,7 @@ pub fn serve_run<
     let number = replica.config().site();
     let mut server = listening(rt, alloc, address, number, terms)?;
     let served = server.serve_at::<N, K, S, W, E>(
-        rt, alloc, sockets, replica, address, terms, writer, errors,
+        rt, alloc, sockets, replica, address, terms, watch, writer, errors,
     );
     drop(server);
     Ok(served?)
@@ -199,6 +203,7 @@ impl Server {
             ready,
             next,
             start,
+            look: Look::new(),
         })
     }
 
@@ -212,7 +217,7 @@ impl Server {
     }
 
     /// Serves, and tells the address before and the root digest after that.
-    fn serve_at<N: Net + Clock, K: Sockets, S: Alter + Drop, W: Write, E: Write>(
+    fn serve_at<N: Net + Clock + Files, K: Sockets, S: Alter + Drop, W: Write, E: Write>(
         &mut self,
         rt: &N,
         alloc: Global,
@@ -220,6 +225,7 @@ impl Server {
         replica: &mut Replica<S>,
         address: SocketAddr,
         terms: Terms<'_>,
+        watch: &mut Watch,
         writer: &mut W,
         errors: &mut E,
     ) -> Result<(), Fault>
@@ -230,16 +236,17 @@ impl Server {
         ensures cause { IfErr result (EndsAtFault (site_of replica.new)) }
     {
         tell_listening(alloc, address, terms, writer)?;
-        self.serve(rt, sockets, replica, writer, errors)?;
+        self.serve(rt, sockets, replica, watch, writer, errors)?;
         tell_root(alloc, replica, writer)
     }
 
     /// Serves until all connections have ended.
-    fn serve<N: Net + Clock, K: Sockets, S: Alter + Drop, W: Write, E: Write>(
+    fn serve<N: Net + Clock + Files, K: Sockets, S: Alter + Drop, W: Write, E: Write>(
         &mut self,
         rt: &N,
         sockets: &mut K,
         replica: &mut Replica<S>,
+        watch: &mut Watch,
         writer: &mut W,
         errors: &mut E,
     ) -> Result<(), Fault>
@@ -253,6 +260,8 @@ impl Server {
                 return Ok(());
             }
             self.serve_once(rt, sockets, replica, writer, errors)?;
+            self.look
+                .look(rt, watch, self.crowd.now, replica.commits())?;
         }
         // No server lives so long.
         Err(Fault::Stopped(Refusal::ReadFailed))
@@ -331,7 +340,8 @@ impl Server {
             return Some(Duration::ZERO);
         }
         let due = earlier(self.crowd.next_due(), self.peers.next_due());
-        let first = earlier(due, self.next_in())?;
+        let looks = earlier(self.next_in(), self.look.due);
+        let first = earlier(due, looks)?;
         Some(Duration::from_millis(first.saturating_sub(self.crowd.now)))
     }
 

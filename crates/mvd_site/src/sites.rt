@@ -11,6 +11,7 @@ ghost use Rattle.mvd_keys.specs.State.{IsValid, clashes};
 ghost use Rattle.mvd_keys.specs.Writes.{Write, Stands};
 ghost use Rattle.mvd_rows.specs.Siblings.{conflicts_in};
 ghost use Rattle.mvd_tree.specs.Page.{is_more_after_page, bucket_page};
+ghost use Rattle.mvd_wire.specs.Codecs.{spell_state};
 ghost use Rattle.mvd_wire.specs.declared.request.Request.TheVariants.{Push};
 ghost use Rattle.mvd_kept.specs.Answer.{digests, node_digests};
 ghost use Rattle.mvd_kept.specs.AtOnce.{AnswersRequest};
@@ -184,6 +185,13 @@ impl Site {
         ensures refused { IfErr result (λ refusal. refusal ≡ unless_broken self.now.broken Broken Memory) }
     {
         self.kept.get(key, &mut begun())
+    }
+
+    /// How many bytes spell the state of a key, the empty one where it is not held.
+    pub fn state_bytes(&self, key: &Key) -> u64
+        ensures { result ≡ length (spell_state (state_at self.now.states key.now)) }
+    {
+        self.kept.state_bytes(key, &mut begun())
     }
 
     /// Puts in the change of one key, and changes no other. Where memory is refused the site is broken from then on.

@@ -38,6 +38,7 @@ pub adds_none : (e : Exchanging) → CountsDone [] e e
 adds_none e = record {
   number = refl;
   waiting = refl;
+  most = refl;
   keys = omega arith;
   refused = omega arith;
   first_refused = λ short. sym (take_all 100 e.first_refused short) ∙ ap (take 100) (sym (append-nil e.first_refused));
@@ -48,6 +49,7 @@ pub adds_on : (xs ys : List Done) (e f g : Exchanging) → CountsDone xs e f →
 adds_on xs ys e f g p q = record {
   number = q.number ∙ p.number;
   waiting = q.waiting ∙ p.waiting;
+  most = q.most ∙ p.most;
   keys = let n = ap length (given_append xs ys) ∙ length-append (given_keys xs) (given_keys ys) in omega (arith, n, p.keys, q.keys);
   refused = let n = ap length (filter_map-append left_of xs ys) ∙ length-append (left_keys xs) (left_keys ys) in omega (arith, n, p.refused, q.refused);
   first_refused = λ short.
@@ -70,13 +72,14 @@ old_one : (d : Done) → length (filter (λ (d : Done). d.is_old) (d ∷ [])) �
 old_one d = elim d.is_old as (λ b. length (cond b (d ∷ []) []) ≡ count_if b) [ true ↦ refl | false ↦ refl ]
 
 -- a key that was given to both sides
-pub adds_given : (d : Done) (e f : Exchanging) → d.refused ≡ None → f.number ≡ e.number → f.waiting ≡ e.waiting → f.keys ≡ e.keys + 1 → f.refused ≡ e.refused → f.first_refused ≡ e.first_refused → f.older ≡ e.older + count_if d.is_old → CountsDone (d ∷ []) e f
-adds_given d e f none number waiting keys refused first old =
+pub adds_given : (d : Done) (e f : Exchanging) → d.refused ≡ None → f.number ≡ e.number → f.waiting ≡ e.waiting → f.most ≡ e.most → f.keys ≡ e.keys + 1 → f.refused ≡ e.refused → f.first_refused ≡ e.first_refused → f.older ≡ e.older + count_if d.is_old → CountsDone (d ∷ []) e f
+adds_given d e f none number waiting most keys refused first old =
     let lefts : left_keys (d ∷ []) ≡ [] = ap (λ o. cons_option (option_map (left_as d.key) o) []) none in
     let given : is_given d.refused ≡ true = ap is_given none in
     record {
       number = number;
       waiting = waiting;
+      most = most;
       keys = let n = given_one d ∙ ap count_if given in omega (arith, n, keys);
       refused = let n = ap length lefts in omega (arith, n, refused);
       first_refused = λ short. first ∙ sym (take_all 100 e.first_refused short) ∙ ap (take 100) (sym (append-nil e.first_refused) ∙ ap (λ v. e.first_refused ++ v) (sym lefts));
@@ -84,13 +87,14 @@ adds_given d e f none number waiting keys refused first old =
     }
 
 -- a key that was refused
-pub adds_left : (d : Done) (r : Side × Refusal) (e f : Exchanging) → d.refused ≡ Some r → f.number ≡ e.number → f.waiting ≡ e.waiting → f.keys ≡ e.keys → f.refused ≡ e.refused + 1 → (length e.first_refused < 100 → f.first_refused ≡ e.first_refused ++ left_as d.key r ∷ []) → (100 ≤ length e.first_refused → f.first_refused ≡ e.first_refused) → f.older ≡ e.older + count_if d.is_old → CountsDone (d ∷ []) e f
-adds_left d r e f some number waiting keys refused named full old =
+pub adds_left : (d : Done) (r : Side × Refusal) (e f : Exchanging) → d.refused ≡ Some r → f.number ≡ e.number → f.waiting ≡ e.waiting → f.most ≡ e.most → f.keys ≡ e.keys → f.refused ≡ e.refused + 1 → (length e.first_refused < 100 → f.first_refused ≡ e.first_refused ++ left_as d.key r ∷ []) → (100 ≤ length e.first_refused → f.first_refused ≡ e.first_refused) → f.older ≡ e.older + count_if d.is_old → CountsDone (d ∷ []) e f
+adds_left d r e f some number waiting most keys refused named full old =
     let lefts : left_keys (d ∷ []) ≡ left_as d.key r ∷ [] = ap (λ o. cons_option (option_map (left_as d.key) o) []) some in
     let given : is_given d.refused ≡ false = ap is_given some in
     record {
       number = number;
       waiting = waiting;
+      most = most;
       keys = let n = given_one d ∙ ap count_if given in omega (arith, n, keys);
       refused = let n = ap length lefts in omega (arith, n, refused);
       first_refused = λ short. elim (Rattle.std.proofs.lemmas.Bool.cases_lt (length e.first_refused) 100) [

@@ -1,6 +1,6 @@
 -- The keys that wait are exchanged, or one more waits.
 use Rattle.std.proofs.Common.{◌≡◌, ℕ, ◌+◌, ◌<◌, ◌≤◌, List, [], ◌∷◌, ◌++◌, length, map, refl, sym, ap, subst, ◌∙◌, arith, Option, length-append, ◌↔◌, Bool, true, false, true≢false, inl, inr}
-use Rattle.std.specs.Prelude.{Result, Ok, Err, Vec, is_some}
+use Rattle.std.specs.Prelude.{◌⊎◌, Result, Ok, Err, Vec, is_some}
 use Rattle.std.proofs.lemmas.List.{append-nil, length-map}
 use Rattle.mvd_dots.specs.declared.refusals.Refusal.{Refusal}
 use Rattle.mvd_dots.specs.declared.refusals.Refusal.TheVariants.{Broken, Memory}
@@ -28,8 +28,8 @@ window_at l p n m es fs left left' local local' peer peer' result e f h =
     subst (λ o. ExchangesAllBy l p o fs left left' local local' peer peer' result) e (subst (λ es. ExchangesAllBy l p n es left left' local local' peer peer' result) f h)
 
 -- and then none waits
-pub none_waits : (inside before : Exchanging) (waiting : List Entry) → inside ≡ before → waiting ≡ [] → record inside { waiting = waiting } ≡ record before { waiting = [] }
-none_waits inside before waiting e f = λ i. record (e i) { waiting = f i }
+pub none_waits : (inside before : Exchanging) (waiting : List Entry) (most : ℕ) → inside ≡ before → waiting ≡ [] → record inside { waiting = waiting; most = most } ≡ record before { waiting = []; most = most }
+none_waits inside before waiting most e f = λ i. record (e i) { waiting = f i; most = most }
 
 -- each key counts once
 pub all_count : (ds : List Done) → length (given_keys ds) + length (left_keys ds) ≡ length ds
@@ -100,8 +100,8 @@ module _ {L P : Type 0} (l : SideOf L) (p : SideOf P) {A B : Type 0} (next : Lis
     }
 
     -- all are exchanged, and counted
-    pub exchanges_all : (x : B) → CountsDone (map done_of made.items) (record before { waiting = [] }) after → ExchangesBy {A = B} l p next left left' local local' peer peer' before after (Ok x)
-    exchanges_all x adds =
+    pub exchanges_all : (x : B) (most : ℕ) → CountsDone (map done_of made.items) (record before { waiting = []; most = most }) after → ExchangesBy {A = B} l p next left left' local local' peer peer' before after (Ok x)
+    exchanges_all x most adds =
         let now = map done_of made.items in
         let count = all_count now in
         let long = length-map made.items done_of in
@@ -137,7 +137,7 @@ module _ {L P : Type 0} (l : SideOf L) (p : SideOf P) {A B : Type 0} (next : Lis
                 now = now;
                 is = sym e.same ∙ sym (append-nil (keys_done now)) ∙ ap (λ v. keys_done now ++ keys_next v) (sym adds.waiting);
                 so_far = met.0;
-                counts = counts_on done now (record before { waiting = [] }) after (record { keys = counts.keys; refused = counts.refused; first_refused = counts.first_refused; older = counts.older }) adds;
+                counts = counts_on done now (record before { waiting = []; most = most }) after (record { keys = counts.keys; refused = counts.refused; first_refused = counts.first_refused; older = counts.older }) adds;
                 waits = subst (AreNext a b (done ++ now)) (sym adds.waiting) (record { distinct = subst AreDistinct (sym (append-nil (keys_done (done ++ now)))) met.0.distinct; each = tt });
                 still = (met.1, met.2);
               };
@@ -229,8 +229,12 @@ module _ {L P : Type 0} (l : SideOf L) (p : SideOf P) {B : Type 0} (self : (s : 
       }
 
 -- a window that is not full
-pub low_of : (full : Bool) (n m : ℕ) → ((full ≡ true) ↔ (1000 ≤ n)) → full ≡ false → n ≡ m → m < 1000
-low_of full n m h no_room e = elim (Rattle.std.proofs.lemmas.Bool.cases_lt m 1000) [
+pub low_of : (full : Bool) (most n m : ℕ) → ((full ≡ true) ↔ (most ≤ n)) → full ≡ false → n ≡ m → m < most
+low_of full most n m h no_room e = elim (Rattle.std.proofs.lemmas.Bool.cases_lt m most) [
   | inl less ↦ less
   | inr more ↦ absurd (true≢false (sym (h.1 (omega (arith, more, e))) ∙ no_room))
 ]
+
+pub short_of : (full : Bool) (n m : ℕ) → (full ≡ true) ⊎ (n < 1000) → full ≡ false → n ≡ m → m < 1000
+short_of full n m (inl is) no_room e = absurd (true≢false (sym is ∙ no_room))
+short_of full n m (inr low) no_room e = omega (arith, low, e)

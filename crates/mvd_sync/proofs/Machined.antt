@@ -195,7 +195,7 @@ settles_fit : (walk : Walking) (found : Option Entry) (old new : Exchanging) (st
 settles_fit walk found old new stage (none_found none same is) w f held = (same_waits old new (ap (λ (w : Exchanging). w.waiting) same) w, subst StageStands (sym is) held)
 settles_fit walk found old new stage (equal e some differs same is) w f held = (same_waits old new (ap (λ (w : Exchanging). w.waiting) same) w, subst StageStands (sym is) held)
 settles_fit walk found old new stage (waits e some differs same low is) w f held = (
-  (low, subst (Each IsHeldByEither) (sym (ap (λ (w : Exchanging). w.waiting) same)) (Each-append IsHeldByEither old.waiting (e ∷ []) w.1 (subst IsHeld some f, tt))),
+  (low.0, subst (Each IsHeldByEither) (sym (ap (λ (w : Exchanging). w.waiting) same)) (Each-append IsHeldByEither old.waiting (e ∷ []) w.1 (subst IsHeld some f, tt))),
   subst StageStands (sym is) held,
 )
 settles_fit walk found old new stage (fills e entries some differs list long same is) w f held =

@@ -1,5 +1,5 @@
 -- What a session asks and takes is a run of the machine.
-use Rattle.std.proofs.Common.{◌≡◌, ◌≢◌, ℕ, zero, suc, ◌+◌, ◌<◌, ◌≤◌, true, false, cond, List, [], ◌∷◌, ◌++◌, length, take, map, refl, sym, ap, subst, ◌∙◌, arith, Option, Some, None, length-drop}
+use Rattle.std.proofs.Common.{◌≡◌, ◌≢◌, ℕ, zero, suc, ◌+◌, ◌<◌, ◌≤◌, true, false, cond, List, [], ◌∷◌, ◌++◌, length, max, take, map, refl, sym, ap, subst, ◌∙◌, arith, Option, Some, None, length-append, length-drop}
 use Rattle.std.specs.Prelude.{IfOk, OnOk, Result, Ok, Err, Vec}
 use Rattle.std.specs.declared.alloc.Global.{Global}
 use Rattle.std.proofs.lemmas.List.{take_all}
@@ -38,6 +38,7 @@ use Rattle.mvd_sync.specs.declared.telling.Shares.{Shares}
 use Rattle.mvd_sync.specs.declared.telling.Told.{Told}
 use Rattle.mvd_sync.specs.declared.telling.Told.TheVariants.{Pushes}
 use Rattle.mvd_sync.specs.declared.turn.Turn.{Turn}
+use Rattle.mvd_sync.specs.Weights.{next_most, weight}
 use Rattle.mvd_sync.proofs.Pushing.{as_many}
 
 -- ---- the answers of a window
@@ -126,17 +127,17 @@ module _ {L P : Type 0} (s : Sides L P) (begin : Running L P) where
       alone (running left work (Walks walk) local peer) (running left work' stage local peer) run quiet (goes_on after found step settles) refl refl
 
   -- both gave their states, and the local side begins
-  pub runs_plans : (left left' : Questions) (work : Exchanging) (walk : Walking) (number : Option ℕ) (entries : Vec Entry Global) (meetings : List Meeting) (stage : Stage) (local local' : L) (peer peer' : P) → work.number ≡ number
-      → HearsPlans s number entries.items (asking local peer left) (asking local' peer' left') meetings → TurnBegins walk AtLocal meetings stage → RunsTo s begin (running left work (Meets walk entries) local peer)
-      → RunsTo s begin (running left' work stage local' peer')
-  runs_plans left left' work walk number entries meetings stage local local' peer peer' same h turn run =
-      told (running left work (Meets walk entries) local peer) (running left' work stage local' peer') h.local_side.told h.peer_side.told run
+  pub runs_plans : (left left' : Questions) (work : Exchanging) (walk : Walking) (number : Option ℕ) (entries : Vec Entry Global) (meetings : List Meeting) (most most' : ℕ) (stage : Stage) (local local' : L) (peer peer' : P) → work.number ≡ number → work.most ≡ most
+      → HearsPlans s number entries.items (asking local peer left) (asking local' peer' left') meetings most most' → TurnBegins walk AtLocal meetings stage → RunsTo s begin (running left work (Meets walk entries) local peer)
+      → RunsTo s begin (running left' (record work { most = most' }) stage local' peer')
+  runs_plans left left' work walk number entries meetings most most' stage local local' peer peer' same same' h turn run =
+      told (running left work (Meets walk entries) local peer) (running left' (record work { most = most' }) stage local' peer') h.local_side.told h.peer_side.told run
       (record { asks = tt; local = h.local_side.tells; peer = h.peer_side.tells })
       (record {
         after = Ok stage;
         hears = hears (record { local = h.local_side.share; peer = h.peer_side.share }) tt
             (record { local = h.local_side.takes; peer = h.peer_side.takes; wanted = (h.local_side.wanted, h.peer_side.wanted) })
-            (refl, both h.mine h.theirs h.local_side.is h.peer_side.is (meetings, subst (λ n. Rattle.mvd_sync.specs.Meetings.ArePlans n entries.items h.mine.items h.theirs.items meetings) (sym same) h.plans, turn));
+            (refl, both h.mine h.theirs h.local_side.is h.peer_side.is (meetings, subst (λ n. Rattle.mvd_sync.specs.Meetings.ArePlans n entries.items h.mine.items h.theirs.items meetings) (sym same) h.plans, turn, h.next ∙ ap (λ n. next_most n (length entries.items) (max (weight h.mine.items) (weight h.theirs.items))) (sym same')));
         stage = refl;
         is = refl;
       })
@@ -220,20 +221,21 @@ module _ {L P : Type 0} (s : Sides L P) (begin : Running L P) where
       })
 
 -- a window, of which both sides gave their states and took their turns
-pub runs_window : {L P : Type 0} (s : Sides L P) (number : Option ℕ) (entries : Vec Entry Global) (left mid left' : Questions) (local local1 local' : L) (peer peer1 peer' : P) (meetings middle after : List Meeting) (walk : Walking) (work : Exchanging)
-    → HearsPlans s number entries.items (asking local peer left) (asking local1 peer1 mid) meetings → WholeTurn s.local AtLocal meetings middle (with_left local1 mid.local) (with_left local' left'.local) → WholeTurn s.peer AtPeer middle after (with_left peer1 mid.peer) (with_left peer' left'.peer)
-    → RunsWindow s number entries (asking local peer left) (asking local' peer' left') after walk work
-runs_window {L} {P} s number entries left mid left' local local1 local' peer peer1 peer' meetings middle after walk work plans here there =
+pub runs_window : {L P : Type 0} (s : Sides L P) (number : Option ℕ) (entries : Vec Entry Global) (left mid left' : Questions) (local local1 local' : L) (peer peer1 peer' : P) (meetings middle after : List Meeting) (walk : Walking) (work : Exchanging) (most most' : ℕ)
+    → HearsPlans s number entries.items (asking local peer left) (asking local1 peer1 mid) meetings most most' → WholeTurn s.local AtLocal meetings middle (with_left local1 mid.local) (with_left local' left'.local) → WholeTurn s.peer AtPeer middle after (with_left peer1 mid.peer) (with_left peer' left'.peer)
+    → RunsWindow s number entries (asking local peer left) (asking local' peer' left') after walk work most most'
+runs_window {L} {P} s number entries left mid left' local local1 local' peer peer1 peer' meetings middle after walk work most most' plans here there =
     let start : Running L P = running left work (Meets walk entries) local peer in
     let half : Questions = record { local = left'.local; peer = mid.peer } in
+    let now : Exchanging = record work { most = most' } in
     record {
       turn = there.turn;
       count = there.count;
-      runs = λ same.
-          let first = runs_local s start mid work walk local1 peer1 meetings here.turns
-          (λ turn0 count0 begun window. runs_plans s start left mid work walk number entries meetings (Carries walk turn0 count0) local local1 peer peer1 same plans (record { turn = turn0; count = count0; begun = begun; window = window; is = refl }) (begins start refl)) in
-          runs_peer s start half work walk local' peer1 middle there.turns
-          (λ turn0 count0 begun window. alone (running half work (Carries walk here.turn here.count) local' peer1) (running half work (Carries walk turn0 count0) local' peer1) first here.all
+      runs = λ same same'.
+          let first = runs_local s start mid now walk local1 peer1 meetings here.turns
+          (λ turn0 count0 begun window. runs_plans s start left mid work walk number entries meetings most most' (Carries walk turn0 count0) local local1 peer peer1 same same' plans (record { turn = turn0; count = count0; begun = begun; window = window; is = refl }) (begins start refl)) in
+          runs_peer s start half now walk local' peer1 middle there.turns
+          (λ turn0 count0 begun window. alone (running half now (Carries walk here.turn here.count) local' peer1) (running half now (Carries walk turn0 count0) local' peer1) first here.all
           (turns_on (turn_side s.local AtLocal meetings (with_left local1 mid.local) here.turns) refl
           (record { turn = turn0; count = count0; begun = subst (λ ms. BeginsTurn AtPeer ms turn0) here.is begun; window = window; is = refl }))
           refl refl);
@@ -243,12 +245,13 @@ runs_window {L} {P} s number entries left mid left' local local1 local' peer pee
     }
 
 -- and is counted
-pub runs_counted : {L P : Type 0} (s : Sides L P) (number : Option ℕ) (entries : Vec Entry Global) (left left' : Questions) (local local' : L) (peer peer' : P) (after : List Meeting) (walk : Walking) (work work' : Exchanging) → work.number ≡ number
-    → RunsWindow s number entries (asking local peer left) (asking local' peer' left') after walk work → CountsDone (map done_of after) work work'
+pub runs_counted : {L P : Type 0} (s : Sides L P) (number : Option ℕ) (entries : Vec Entry Global) (left left' : Questions) (local local' : L) (peer peer' : P) (after : List Meeting) (walk : Walking) (work work' : Exchanging) (most most' : ℕ) → work.number ≡ number → work.most ≡ most
+    → RunsWindow s number entries (asking local peer left) (asking local' peer' left') after walk work most most' → CountsDone (map done_of after) (record work { most = most' }) work'
     → RunsTo s (running left work (Meets walk entries) local peer) (running left' work' (Walks walk) local' peer')
-runs_counted s number entries left left' local local' peer peer' after walk work work' same window adds =
-    alone (running left' work (Carries walk window.turn window.count) local' peer') (running left' work' (Walks walk) local' peer') (window.runs same) window.all
-    (counts window.side (subst (λ ms. CountsDone (map done_of ms) work work') window.is adds) refl) refl refl
+runs_counted s number entries left left' local local' peer peer' after walk work work' most most' same same' window adds =
+    let now : Exchanging = record work { most = most' } in
+    alone (running left' now (Carries walk window.turn window.count) local' peer') (running left' work' (Walks walk) local' peer') (window.runs same same') window.all
+    (counts window.side (subst (λ ms. CountsDone (map done_of ms) now work') window.is adds) refl) refl refl
 
 -- the pages of both sides
 pub hears_both : {L P : Type 0} (s : Sides L P) (before after : Walking) (mine theirs : Vec ListingValue Global) (left left' : Questions) (local local' : L) (peer peer' : P) (result : Result (Option Entry) SyncFault)
@@ -274,7 +277,7 @@ pub settled_equal : {L P : Type 0} (s : Sides L P) (e : Entry) (m : Moment L P) 
 settled_equal s e m walk same = record { work = m.work; stage = Walks walk; settles = equal e refl same refl refl; runs = begins _ refl }
 
 -- one that waits
-pub settled_waits : {L P : Type 0} (s : Sides L P) (e : Entry) (old new : Moment L P) (walk : Walking) → e.differs ≡ true → new.now ≡ old.now → new.work ≡ record old.work { waiting = old.work.waiting ++ e ∷ [] } → length new.work.waiting < 1000 → RunsSettled s (Some e) old new walk
+pub settled_waits : {L P : Type 0} (s : Sides L P) (e : Entry) (old new : Moment L P) (walk : Walking) → e.differs ≡ true → new.now ≡ old.now → new.work ≡ record old.work { waiting = old.work.waiting ++ e ∷ [] } → (length new.work.waiting < 1000) × (length new.work.waiting < old.work.most) → RunsSettled s (Some e) old new walk
 settled_waits {L} {P} s e old new walk differs now is low = record {
   work = new.work;
   stage = Walks walk;
@@ -283,8 +286,10 @@ settled_waits {L} {P} s e old new walk differs now is low = record {
 }
 
 -- one that fills a window
-pub settled_fills : {L P : Type 0} (s : Sides L P) (e : Entry) (old mid new : Moment L P) (walk : Walking) → e.differs ≡ true → mid.now ≡ old.now → mid.work ≡ record old.work { waiting = old.work.waiting ++ e ∷ [] } → 1000 ≤ length mid.work.waiting → RunsExchange s mid new walk → RunsSettled s (Some e) old new walk
-settled_fills {L} {P} s e old mid new walk differs now is full (idle empty same) = let n = ap length empty in absurd (omega (arith, n, full))
+pub settled_fills : {L P : Type 0} (s : Sides L P) (e : Entry) (old mid new : Moment L P) (walk : Walking) → e.differs ≡ true → mid.now ≡ old.now → mid.work ≡ record old.work { waiting = old.work.waiting ++ e ∷ [] } → old.work.most ≤ length mid.work.waiting → RunsExchange s mid new walk → RunsSettled s (Some e) old new walk
+settled_fills {L} {P} s e old mid new walk differs now is full (idle empty same) =
+    let n = ap length (sym empty ∙ ap (λ (w : Exchanging). w.waiting) is) ∙ length-append old.work.waiting (e ∷ []) in
+    absurd (omega (arith, n))
 settled_fills {L} {P} s e old mid new walk differs now is full (exchanged entries more list runs) =
     let n = ap length list in
     record {
@@ -294,7 +299,7 @@ settled_fills {L} {P} s e old mid new walk differs now is full (exchanged entrie
       runs = subst (λ (n : Asking L P). RunsTo s (running n.left (record mid.work { waiting = [] }) (Meets walk entries) n.at.local n.at.peer) (running new.now.left new.work (Walks walk) new.now.at.local new.now.at.peer)) now runs;
     }
 
-pub settled_full : {L P A : Type 0} (s : Sides L P) (e : Entry) (old mid new : Moment L P) → mid.now ≡ old.now → mid.work ≡ record old.work { waiting = old.work.waiting ++ e ∷ [] } → 1000 ≤ length mid.work.waiting
+pub settled_full : {L P A : Type 0} (s : Sides L P) (e : Entry) (old mid new : Moment L P) → mid.now ≡ old.now → mid.work ≡ record old.work { waiting = old.work.waiting ++ e ∷ [] } → old.work.most ≤ length mid.work.waiting
     → (result : Result A SyncFault) → OnOk result ((walk : Walking) → RunsExchange s mid new walk) → OnOk result ((walk : Walking) → e.differs ≡ true → RunsSettled s (Some e) old new walk)
 settled_full s e old mid new now is full (Ok x) runs = λ walk differs. settled_fills s e old mid new walk differs now is full (runs walk)
 settled_full s e old mid new now is full (Err fault) runs = tt

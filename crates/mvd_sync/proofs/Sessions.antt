@@ -115,7 +115,7 @@ so_none : (ml mp : ℕ) (number : Option ℕ) (a b x y : States) → x ≡ a →
 so_none ml mp number a b x y e f = record { distinct = tt; each = tt; rest = λ k _. (ap (λ m. get m k) e, ap (λ m. get m k) f) }
 
 abbrev pub begins_with : Option ℕ → Exchanging
-begins_with number = record { number = number; waiting = []; keys = 0; refused = 0; older = 0; first_refused = [] }
+begins_with number = record { number = number; waiting = []; most = 16; keys = 0; refused = 0; older = 0; first_refused = [] }
 
 -- the walk came to an end
 module _ {L P : Type 0} (l : SideOf L) (p : SideOf P) (most : ℕ) (local local1 : L) (peer peer1 : P) where

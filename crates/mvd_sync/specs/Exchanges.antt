@@ -20,10 +20,11 @@ use Rattle.mvd_sync.specs.declared.report.SyncFault.{SyncFault}
 
 -- ---- what waits, and what was done
 
--- the keys that wait, the counts so far, and the first of the keys that were refused
+-- the keys that wait, how many are exchanged at once, the counts so far, and the first of the keys that were refused
 pub record Exchanging : Type 0 where
   pub number : Option ℕ
   pub waiting : List Entry
+  pub most : ℕ
   pub keys : ℕ
   pub refused : ℕ
   pub older : ℕ
@@ -106,6 +107,7 @@ pub record Counts (done : List Done) (e : Exchanging) : Type 0 where
 pub record CountsDone (now : List Done) (before after : Exchanging) : Type 0 where
   pub number : after.number ≡ before.number
   pub waiting : after.waiting ≡ before.waiting
+  pub most : after.most ≡ before.most
   pub keys : after.keys ≡ before.keys + length (given_keys now)
   pub refused : after.refused ≡ before.refused + length (left_keys now)
   pub first_refused : length before.first_refused ≤ 100

@@ -9,6 +9,7 @@ pub mod Made
 pub mod Exchanges
 pub mod Buckets
 pub mod Walking
+pub mod Weights
 pub mod Meetings
 pub mod Carries
 pub mod OneTurn

@@ -1,6 +1,6 @@
 -- A session between two windows of questions, which knows no side.
 use Rattle.std.specs.Prelude.{◌≡◌, ◌≢◌, ◌⊎◌, ◌≤◌, ◌<◌, ◌+◌, ◌^◌, ℕ, Bool, true, false, cond, List, [], ◌∷◌, ◌++◌, All}
-use Rattle.std.specs.Prelude.{Contains, length, map, take, Option, Some, None, IfSome, Result, Ok, Err, MatchResult, Vec}
+use Rattle.std.specs.Prelude.{Contains, length, map, max, take, Option, Some, None, IfSome, Result, Ok, Err, MatchResult, Vec}
 use Rattle.std.specs.declared.alloc.Global.{Global}
 use Rattle.mvd_dots.specs.declared.refusals.Refusal.{Refusal}
 use Rattle.mvd_dots.specs.declared.refusals.Refusal.TheVariants.{BadBody, Memory, TooManyRequests}
@@ -16,6 +16,7 @@ use Rattle.mvd_sync.specs.Questions.{IsOfKey, IsWindow, TakesBudget}
 use Rattle.mvd_sync.specs.Steps.{IsBoundedWindow, Wanted, asked, cut_wanted, no_question, only_gets, only_nodes, only_pages, only_pushes}
 use Rattle.mvd_sync.specs.Tellings.{IsNoNode, IsNoPage, IsNodeOf, IsListingOf, IsRead, IsStateOf, never}
 use Rattle.mvd_sync.specs.Tellings.{nodes_told, pages_told, pushes_told, states_told, unasked_told}
+use Rattle.mvd_sync.specs.Weights.{next_most, weight}
 use Rattle.mvd_sync.specs.Walking.{EndsTelling, GoesTo, IsTold, IsWalked, Walking, pages_next, pages_of}
 use Rattle.mvd_sync.specs.declared.asked.Step.{Step}
 use Rattle.mvd_sync.specs.declared.asking.Node.{Node}
@@ -95,15 +96,16 @@ StageAsks (Carries walk turn count) = length turn.told.items < length turn.pairs
 StageAsks Done = ⊥
 StageAsks (Failed fault) = ⊥
 
--- The walk has told a key, or none: one that differs waits, and a thousand are exchanged
+-- The walk has told a key, or none: one that differs waits, and as many as are exchanged at once are
 pub data SettlesFound (walk : Walking) (found : Option Entry) (old new : Exchanging) (stage : Stage) : Type 0 where
   none_found : found ≡ None → new ≡ old → stage ≡ Walks walk → SettlesFound walk found old new stage
   equal : (e : Entry) → found ≡ Some e → e.differs ≡ false → new ≡ old → stage ≡ Walks walk
       → SettlesFound walk found old new stage
   waits : (e : Entry) → found ≡ Some e → e.differs ≡ true → new ≡ record old { waiting = old.waiting ++ e ∷ [] }
-      → length new.waiting < 1000 → stage ≡ Walks walk → SettlesFound walk found old new stage
+      → (length new.waiting < 1000) × (length new.waiting < old.most) → stage ≡ Walks walk
+      → SettlesFound walk found old new stage
   fills : (e : Entry) (entries : Vec Entry Global) → found ≡ Some e → e.differs ≡ true
-      → entries.items ≡ old.waiting ++ e ∷ [] → 1000 ≤ length entries.items → new ≡ record old { waiting = [] }
+      → entries.items ≡ old.waiting ++ e ∷ [] → old.most ≤ length entries.items → new ≡ record old { waiting = [] }
       → stage ≡ Meets walk entries → SettlesFound walk found old new stage
 
 -- a side's turn begins
@@ -171,10 +173,14 @@ Walked work walk work' mine theirs result = MatchResult result
     × SettlesFound after found work work' stage) (EndsTelling walk mine theirs)
 
 -- it is planned what each side is to take, and the local one begins
-abbrev pub Met : Option ℕ → Walking → List Entry → List State → List State → Result Stage SyncFault → Type 0
-Met number walk entries mine theirs result = MatchResult result
-    (λ stage. (meetings : List Meeting) × ArePlans number entries mine theirs meetings
-    × TurnBegins walk AtLocal meetings stage) (λ fault. fault ≡ Local Memory)
+-- (and by what their states weigh, how many keys are exchanged at once next)
+abbrev pub Met : Exchanging → Walking → List Entry → Exchanging → List State → List State → Result Stage SyncFault
+    → Type 0
+Met work walk entries work' mine theirs result = MatchResult result
+    (λ stage. (meetings : List Meeting) × ArePlans work.number entries mine theirs meetings
+    × TurnBegins walk AtLocal meetings stage
+    × (work'.most ≡ next_most work.most (length entries) (max (weight mine) (weight theirs))))
+    (λ fault. fault ≡ Local Memory)
 
 -- the side told of its pushes
 pub record Pushed (walk : Walking) (turn : Turn) (told : Result (List (Result (Unit {0}) Refusal)) Refusal)
@@ -239,9 +245,9 @@ HearsAt work (Descends level) shares answers work' result = (work' ≡ work)
 HearsAt work (Walks walk) shares answers work' result =
     ReadBoth (IsRead IsListingOf IsNoPage (pages_told answers.mine) shares.local)
     (IsRead IsListingOf IsNoPage (pages_told answers.theirs) shares.peer) (Walked work walk work') result
-HearsAt work (Meets walk entries) shares answers work' result = (work' ≡ work)
+HearsAt work (Meets walk entries) shares answers work' result = (work' ≡ record work { most = work'.most })
     × ReadBoth (IsRead IsStateOf never (states_told answers.mine) shares.local)
-    (IsRead IsStateOf never (states_told answers.theirs) shares.peer) (Met work.number walk entries.items) result
+    (IsRead IsStateOf never (states_told answers.theirs) shares.peer) (Met work walk entries.items work') result
 HearsAt work (Carries walk turn count) shares answers work' result = (work' ≡ work)
     × CarriedOn walk turn (share_of turn.side shares) (told_by_side turn.side answers)
     (told_by_side (other_of turn.side) answers) result
@@ -311,7 +317,15 @@ IsFit left work stage = IsFitting left work stage
 -- a session of a site of this number, of which nothing was asked
 pub record Starts (number : Option ℕ) (questions : ℕ) (now : Machining) : Type 0 where
   pub left : now.left ≡ record { local = questions; peer = questions }
-  pub work : now.work ≡ record { number = number; waiting = []; keys = 0; refused = 0; older = 0; first_refused = [] }
+  pub work : now.work ≡ record {
+    number = number;
+    waiting = [];
+    most = 16;
+    keys = 0;
+    refused = 0;
+    older = 0;
+    first_refused = [];
+  }
   pub stage : now.stage ≡ Descends (record { depth = 0; rest = [] ∷ []; below = [] })
 
 -- what is asked now, or nothing where the session is done

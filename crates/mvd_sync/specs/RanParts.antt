@@ -1,5 +1,5 @@
 -- The parts of a session as parts of a run of the machine.
-use Rattle.std.specs.Prelude.{◌≡◌, ◌≢◌, ◌≤◌, ◌<◌, ◌++◌, ℕ, List, [], ◌∷◌, length, take, All, Option, Some, None}
+use Rattle.std.specs.Prelude.{◌≡◌, ◌≢◌, ◌≤◌, ◌<◌, ◌++◌, ℕ, List, [], ◌∷◌, length, max, take, All, Option, Some, None}
 use Rattle.std.specs.Prelude.{Result, Vec}
 use Rattle.std.specs.declared.alloc.Global.{Global}
 use Rattle.mvd_dots.specs.declared.refusals.Refusal.{Refusal}
@@ -19,6 +19,7 @@ use Rattle.mvd_sync.specs.Steps.{Wanted, cut_wanted, only_gets, only_nodes, only
 use Rattle.mvd_sync.specs.Tellings.{AllRead, IsListingOf, IsNodeOf, IsStateOf, nodes_told, pages_told, states_told}
 use Rattle.mvd_sync.specs.Walk.{local_of, peer_of}
 use Rattle.mvd_sync.specs.Walking.{IsTold, IsWalked, PageQuestion, Walking, pages_of}
+use Rattle.mvd_sync.specs.Weights.{next_most, weight}
 use Rattle.mvd_sync.specs.declared.asking.Node.{Node}
 use Rattle.mvd_sync.specs.declared.cursor.Entry.{Entry}
 use Rattle.mvd_sync.specs.declared.meetings.Meeting.{Meeting}
@@ -61,14 +62,15 @@ pub record HearsBoth {L P : Type 0} (s : Sides L P) (before : Walking) (found : 
   pub peer_side : HearsPages s.peer (pages_of AtPeer before) theirs.items (peer_of old) (peer_of new)
   pub is : IsTold before mine.items theirs.items found after
 
--- both gave the states that they hold, and this is to be done
+-- both gave the states that they hold, and this is to be done, and so many keys are exchanged at once next
 pub record HearsPlans {L P : Type 0} (s : Sides L P) (number : Option ℕ) (entries : List Entry) (old new : Asking L P)
-    (meetings : List Meeting) : Type 0 where
+    (meetings : List Meeting) (most most' : ℕ) : Type 0 where
   pub mine : Vec State Global
   pub theirs : Vec State Global
   pub local_side : HearsStates s.local (held_keys AtLocal entries) mine.items (local_of old) (local_of new)
   pub peer_side : HearsStates s.peer (held_keys AtPeer entries) theirs.items (peer_of old) (peer_of new)
   pub plans : ArePlans number entries mine.items theirs.items meetings
+  pub next : most' ≡ next_most most (length entries) (max (weight mine.items) (weight theirs.items))
 
 -- a side was asked to take the next pushes, and told of each
 pub record HearsPushes {S : Type 0} (s : SideOf S) (turn : Turn) (count : ℕ) (old : OneAsking S) (turn' : Turn)
@@ -104,11 +106,12 @@ pub record WholeTurn {S : Type 0} (s : SideOf S) (side : Side) (before after : L
 
 -- the keys of a window are asked for, and both sides take their turns
 pub record RunsWindow {L P : Type 0} (s : Sides L P) (number : Option ℕ) (entries : Vec Entry Global)
-    (old new : Asking L P) (after : List Meeting) (walk : Walking) (work : Exchanging) : Type 0 where
+    (old new : Asking L P) (after : List Meeting) (walk : Walking) (work : Exchanging) (most most' : ℕ) : Type 0 where
   pub turn : Turn
   pub count : ℕ
-  pub runs : work.number ≡ number → RunsTo s (running old.left work (Meets walk entries) old.at.local old.at.peer)
-      (running new.left work (Carries walk turn count) new.at.local new.at.peer)
+  pub runs : work.number ≡ number → work.most ≡ most
+      → RunsTo s (running old.left work (Meets walk entries) old.at.local old.at.peer)
+      (running new.left (record work { most = most' }) (Carries walk turn count) new.at.local new.at.peer)
   pub side : turn.side ≡ AtPeer
   pub all : length turn.pairs.items ≤ length turn.told.items
   pub is : after ≡ noted AtPeer turn.meetings.items turn.told.items

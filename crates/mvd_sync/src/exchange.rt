@@ -1,6 +1,7 @@
 //! The exchange of keys, one window after another.
 ghost use Rattle.std.specs.Prelude.{◌≡◌, ◌<◌, ◌+◌, ◌^◌, ◌++◌, ◌∷◌, [], length, map, filter_map, IfOk, IfErr, OnOk};
-ghost use Rattle.std.specs.Prelude.{cond, ◌≤◌, ◌↔◌, IsTrue, Some, true};
+ghost use Rattle.std.specs.Prelude.{cond, ◌≤◌, ◌↔◌, ◌⊎◌, IsTrue, Some, true, max};
+ghost use Rattle.mvd_sync.specs.Weights.{next_most, weight};
 ghost use Rattle.mvd_sync.specs.Exchanges.{CountsDone, Exchanges, Exchanging, IsHeldByEither, moment};
 ghost use Rattle.mvd_sync.specs.Meetings.{done_of, held_keys, pushed_pair};
 ghost use Rattle.mvd_sync.specs.Questions.{ComesToEnd, Keeps, TakesInFirst, with_left};
@@ -18,15 +19,13 @@ use crate::cursor::Entry;
 use crate::meetings::{Meeting, keys_held, plan_all};
 use crate::report::{Left, Report, Side, SyncFault};
 use crate::turn::Turn;
+use crate::weights::{FIRST, next_most};
 use mvd_dots::Refusal;
 use mvd_keys::{Key, KeyState};
 use mvd_peer::Peer;
 use mvd_wire::Items;
 use std::alloc::Global;
 use std::marker::Model;
-
-/// The most keys that are exchanged at once.
-const WINDOW: usize = 1_000;
 
 /// The most refused keys that are named.
 const NAMED: usize = 100;
@@ -38,6 +37,8 @@ pub struct Exchange {
     /// The number of the local site, where it is known.
     number: Option<u32>,
     waiting: Vec<Entry>,
+    /// How many keys are exchanged at once.
+    most: usize,
     keys: u64,
     refused: u64,
     /// Of how many keys the local state was older than what the peer saw of it.
@@ -55,13 +56,15 @@ impl Model for Exchange {
     ghost view = { λ e. record {
       number = e.number;
       waiting = e.waiting.items;
+      most = e.most;
       keys = e.keys;
       refused = e.refused;
       older = e.older;
       first_refused = e.first_refused.items;
     } };
 
-    ghost invariant = { λ e. (e.older ≤ e.keys + e.refused) × Each IsHeldByEither e.waiting.items };
+    ghost invariant = { λ e. (e.older ≤ e.keys + e.refused) × Each IsHeldByEither e.waiting.items
+        × (1 ≤ e.most) × (e.most ≤ 1000) };
 }
 
 /// Asks a side for the states of the keys of a window that it holds.
@@ -94,11 +97,14 @@ fn gives<S: Peer>(
 fn plans<L: Peer, P: Peer>(
     alloc: Global,
     number: Option<u32>,
+    most: &mut usize,
     local: &mut L,
     peer: &mut P,
     left: &mut Questions,
     entries: Vec<Entry>,
 ) -> Result<Vec<Meeting>, SyncFault>
+    requires few { most.old ≤ 1000 }
+    ensures range { OnOk result ((1 ≤ most.new) × (most.new ≤ 1000)) }
     ensures plans { let s = sides_of L.Peer P.Peer in
         IfOk result (λ meetings. Planned s number entries.items (asking local.old peer.old left.old)
         (asking local.new peer.new left.new) meetings.items) }
@@ -107,7 +113,7 @@ fn plans<L: Peer, P: Peer>(
         (two local.new peer.new)) }
     ensures heard { let s = sides_of L.Peer P.Peer in
         IfOk result (λ meetings. HearsPlans s number entries.items (asking local.old peer.old left.old)
-        (asking local.new peer.new left.new) meetings.items) }
+        (asking local.new peer.new left.new) meetings.items most.old most.new) }
 {
     let mine = match gives(alloc, local, &mut left.local, &entries, Side::Local) {
         Ok(states) => states,
@@ -117,6 +123,7 @@ fn plans<L: Peer, P: Peer>(
         Ok(states) => states,
         Err(refusal) => return Err(SyncFault::Peer(refusal)),
     };
+    *most = next_most(*most, entries.len(), &mine, &theirs);
     match plan_all(alloc, number, entries, mine, theirs) {
         Ok(meetings) => Ok(meetings),
         Err(refusal) => Err(SyncFault::Local(refusal)),
@@ -163,20 +170,24 @@ fn carry<S: Peer>(
 fn exchange_all<L: Peer, P: Peer>(
     alloc: Global,
     number: Option<u32>,
+    most: &mut usize,
     local: &mut L,
     peer: &mut P,
     left: &mut Questions,
     entries: Vec<Entry>,
 ) -> Result<Vec<Meeting>, SyncFault>
-    requires { Each IsHeldByEither entries.items }
+    requires held { Each IsHeldByEither entries.items }
+    requires few { most.old ≤ 1000 }
+    ensures range { OnOk result ((1 ≤ most.new) × (most.new ≤ 1000)) }
     ensures exchanges { let s = sides_of L.Peer P.Peer in
         ExchangesAll s number entries.items (asking local.old peer.old left.old) (asking local.new peer.new left.new)
         result }
     ensures ran { let s = sides_of L.Peer P.Peer in
         IfOk result (λ meetings. (walk : Walking) (work : Exchanging) → RunsWindow s number entries
-        (asking local.old peer.old left.old) (asking local.new peer.new left.new) meetings.items walk work) }
+        (asking local.old peer.old left.old) (asking local.new peer.new left.new) meetings.items walk work
+        most.old most.new) }
 {
-    let meetings = match plans(alloc, number, local, peer, left, entries) {
+    let meetings = match plans(alloc, number, most, local, peer, left, entries) {
         Ok(meetings) => meetings,
         Err(fault) => return Err(fault),
     };
@@ -196,6 +207,7 @@ impl Exchange {
         ensures { result ≡ record {
           number = number;
           waiting = [];
+          most = 16;
           keys = 0;
           refused = 0;
           older = 0;
@@ -206,6 +218,7 @@ impl Exchange {
             alloc,
             number,
             waiting: Vec::new(alloc),
+            most: FIRST,
             keys: 0,
             refused: 0,
             older: 0,
@@ -285,9 +298,19 @@ impl Exchange {
 
     /// Whether as many keys wait as are exchanged at once.
     pub fn is_full(&self) -> bool
-        ensures { IsTrue result ↔ (1000 ≤ length self.now.waiting) }
+        ensures full { IsTrue result ↔ (self.now.most ≤ length self.now.waiting) }
+        ensures short { IsTrue result ⊎ (length self.now.waiting < 1000) }
     {
-        self.waiting.len() >= WINDOW
+        self.waiting.len() >= self.most
+    }
+
+    /// How many are exchanged at once after a window of so many, of which the sides told these states.
+    pub fn weigh(&mut self, keys: usize, mine: &[KeyState], theirs: &[KeyState])
+        ensures { self.new ≡ record self.old {
+          most = next_most self.old.most keys (max (weight mine.now) (weight theirs.now));
+        } }
+    {
+        self.most = next_most(self.most, keys, mine, theirs);
     }
 
     /// Exchanges the keys that wait. Where none waits, nothing is asked.
@@ -311,10 +334,20 @@ impl Exchange {
             return Ok(());
         }
         let entries = std::mem::replace(&mut self.waiting, Vec::new(self.alloc));
-        let meetings = match exchange_all(self.alloc, self.number, local, peer, left, entries) {
+        let mut most = self.most;
+        let meetings = match exchange_all(
+            self.alloc,
+            self.number,
+            &mut most,
+            local,
+            peer,
+            left,
+            entries,
+        ) {
             Ok(meetings) => meetings,
             Err(fault) => return Err(fault),
         };
+        self.most = most;
         match self.tell(meetings) {
             Ok(()) => Ok(()),
             Err(refusal) => Err(SyncFault::Local(refusal)),
@@ -366,6 +399,7 @@ impl Exchange {
         requires room { self.old.keys + self.old.refused + 1 < 2 ^ 64 }
         ensures number { self.new.number ≡ self.old.number }
         ensures waiting { OnOk result (self.new.waiting ≡ self.old.waiting) }
+        ensures most { OnOk result (self.new.most ≡ self.old.most) }
         ensures keys { OnOk result (self.new.keys ≡ self.old.keys) }
         ensures refused { OnOk result (self.new.refused ≡ self.old.refused + 1) }
         ensures older { OnOk result (self.new.older ≡ self.old.older) }

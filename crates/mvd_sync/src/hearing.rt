@@ -141,14 +141,16 @@ fn go_on_with(
 /// It is planned what each side is to take of these keys, and the local side begins.
 fn hear_states(
     alloc: Global,
-    number: Option<u32>,
+    exchange: &mut Exchange,
     walk: BucketWalk,
     entries: Vec<Entry>,
     shares: Shares,
     answers: Answers,
 ) -> Result<Stage, SyncFault>
-    ensures { ReadBoth (IsRead IsStateOf never (states_told answers.mine) shares.local)
-        (IsRead IsStateOf never (states_told answers.theirs) shares.peer) (Met number walk entries.items) result }
+    ensures same { exchange.new ≡ record exchange.old { most = exchange.new.most } }
+    ensures read { ReadBoth (IsRead IsStateOf never (states_told answers.mine) shares.local)
+        (IsRead IsStateOf never (states_told answers.theirs) shares.peer)
+        (Met exchange.old walk entries.items exchange.new) result }
 {
     let mine = match read_states(alloc, answers.mine, shares.local) {
         Ok(states) => states,
@@ -158,7 +160,8 @@ fn hear_states(
         Ok(states) => states,
         Err(refusal) => return Err(SyncFault::Peer(refusal)),
     };
-    match meet(alloc, number, walk, entries, mine, theirs) {
+    exchange.weigh(entries.len(), &mine, &theirs);
+    match meet(alloc, exchange.number(), walk, entries, mine, theirs) {
         Ok(stage) => Ok(stage),
         Err(refusal) => Err(SyncFault::Local(refusal)),
     }
@@ -333,7 +336,7 @@ fn hear_at(
         Stage::Descends(descent) => hear_nodes(alloc, descent, shares, answers),
         Stage::Walks(walk) => hear_pages(alloc, walk, exchange, shares, answers),
         Stage::Meets(walk, entries) => {
-            hear_states(alloc, exchange.number(), walk, entries, shares, answers)
+            hear_states(alloc, exchange, walk, entries, shares, answers)
         }
         Stage::Carries(walk, turn, _) => hear_pushes(alloc, walk, turn, shares, answers),
         Stage::Done | Stage::Failed(_) => Ok(Stage::Done),

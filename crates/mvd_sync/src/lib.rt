@@ -18,6 +18,7 @@ mod stage;
 pub mod telling;
 mod turn;
 mod walking;
+mod weights;
 
 pub use asked::{Step, Window};
 pub use machine::Machine;

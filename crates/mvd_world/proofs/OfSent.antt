@@ -250,7 +250,7 @@ module _ (setting : Setting) (local peer : ℕ) (before : Knowledge) (asking : M
   heard (Walks walk) stage' left' work' shares at t (both mine theirs m s (next_walk, found, told, settled)) given = settles after.messages next_walk found asking.work work' stage' settled
   heard (Walks walk) stage' left' work' shares at t (of_local refusal m is) given = absurd (cc)
   heard (Walks walk) stage' left' work' shares at t (of_peer mine refusal m s is) given = absurd (cc)
-  heard (Meets walk entries) stage' left' work' shares at t (same, both mine theirs m s (meetings, plans, begins)) given =
+  heard (Meets walk entries) stage' left' work' shares at t (same, both mine theirs m s (meetings, plans, begins, next)) given =
       planned after.messages asking.work.number walk entries.items mine.items theirs.items meetings stage'
       (for_each_may (SentAs window.between.messages) (SentAs after.messages) more_after (held_keys AtLocal entries.items) mine.items
       (read_sent setting local before step.local window.mine window.between (held_keys AtLocal entries.items) asking.left.local left'.local shares.local mine.items window.local_side ((λ i. (asks.local i).gets) ∙ ap (λ g. take asking.left.local (wanted_at AtLocal g).gets) at) t.local t.wanted.0 m))

@@ -1,11 +1,11 @@
 //! Many questions over a link: all frames out, then all replies in.
 ghost use Rattle.std.specs.Prelude.{◌≡◌, ◌≢◌, Err, List, ℕ, Result as Spelled, [], None, Some, OnOk, IfOk};
-ghost use Rattle.std.specs.Prelude.{IfErr, MatchResult, All};
+ghost use Rattle.std.specs.Prelude.{IfErr, MatchResult, All, ◌≤◌, ◌+◌, ◌-◌, ◌^◌, ◌++◌, ◌∷◌, min};
 ghost use Rattle.mvd_dots.specs.declared.refusals.Refusal.TheVariants.{Memory};
 ghost use Rattle.mvd_wire.specs.Codec.{Gives};
 ghost use Rattle.mvd_remote.specs.LinkWindows.{AnswersInTurn, AsksAll, IsOfKind, RefusesAll, AnswersTurn, TakeTurns};
 ghost use Rattle.mvd_remote.specs.LinkWindows.{TurnBreaks};
-ghost use Rattle.mvd_remote.specs.LinkWindows.{and_frame, frames_of};
+ghost use Rattle.mvd_remote.specs.LinkWindows.{and_frame, frames_of, state_bytes, states_bytes};
 ghost use Rattle.mvd_remote.specs.Lines.{HaveFrames, DueTurn, DueTurns, KeepsConfig};
 ghost use Rattle.mvd_remote.specs.Lines.{TellsAllTruly, TookTurns, line_of, refused_of};
 ghost use Rattle.mvd_remote.specs.LiveRemotes.{EndsLive, SettlesLive, ToldLive, TookLiveTurns, TookTurn};
@@ -19,9 +19,42 @@ use super::answer::{Answer, answers};
 use crate::line::Line;
 use mvd_dots::Refusal;
 use mvd_peer::room_for;
-use mvd_wire::Reply;
+use mvd_wire::{Reply, state_length};
 use std::alloc::Global;
 use std::marker::Model;
+
+/// The most bytes of states that the replies of a window bring together.
+const WINDOW_BYTES: u64 = 33_554_432;
+
+/// How many bytes the state has that a reply tells, if it tells one.
+fn state_bytes(reply: &Result<Reply, Refusal>) -> u64
+    ensures { result ≡ min (state_bytes reply.now) (2 ^ 64 - 1) }
+{
+    match reply {
+        Ok(Reply::State(state)) => state_length(state),
+        _ => 0,
+    }
+}
+
+/// Keeps a reply, if there is room for its state, and memory.
+fn keep(
+    replies: &mut Vec<Result<Reply, Refusal>>,
+    room: &mut u64,
+    reply: Result<Reply, Refusal>,
+) -> Result<(), Refusal>
+    requires { room.old ≤ 33554432 }
+    ensures kept { OnOk result (replies.new.items ≡ replies.old.items ++ reply ∷ []) }
+    ensures room { OnOk result (room.new + state_bytes reply ≡ room.old) }
+    ensures memory { IfErr result (λ refusal. refusal ≡ Memory) }
+{
+    let bytes = state_bytes(&reply);
+    if bytes > *room {
+        return Err(Refusal::Memory);
+    }
+    replies.push(reply)?;
+    *room -= bytes;
+    Ok(())
+}
 
 /// The frames of a window.
 #[derive(Drop)]
@@ -104,7 +137,7 @@ impl<L: Line> Remote<L> {
         }
     }
 
-    /// Answers each request in its turn, also after one was refused.
+    /// Answers each request in its turn, also after one was refused. The states that come have 32 MiB together at most.
     pub(super) fn take_turns(
         &mut self,
         nones: &[Option<Refusal>],
@@ -117,6 +150,7 @@ impl<L: Line> Remote<L> {
             (TakeTurns kind nones.now replies.new.items
             (L.remaining (line_of self.old)) (L.remaining (line_of self.new))) }
         ensures of_kind { OnOk result (All (IsOfKind kind) replies.new.items) }
+        ensures bounded { OnOk result (states_bytes replies.new.items ≤ 33554432) }
         ensures goes_on { OnOk result (refused_of self.new ≡ None) }
         ensures broke { IfErr result
             (λ refusal. TurnBreaks kind nones.now
@@ -129,9 +163,10 @@ impl<L: Line> Remote<L> {
         ensures live { L.is_live (line_of self.old) →
             TookLiveTurns L.Line nones.now replies.new.items self.old self.new result }
     {
+        let mut room = WINDOW_BYTES;
         for none in nones {
             let reply = self.turn(*none, kind)?;
-            if replies.push(reply).is_err() {
+            if keep(replies, &mut room, reply).is_err() {
                 return Err(self.breaks(Refusal::Memory));
             }
         }

@@ -1,4 +1,5 @@
 //! The order of a pass: who asks is answered before the changes of others are committed.
+ghost use Rattle.std.specs.Prelude.{◌≡◌, ◌++◌, drop, take};
 ghost use Rattle.mvd_server.specs.Rounds.{AnswersClients, GoesOnServing};
 ghost use Rattle.mvd_server.specs.Wires.{wired_of};
 
@@ -9,6 +10,16 @@ use sqlite::Alter;
 
 /// The most rounds that follow each other before replies leave.
 const ROUNDS_MAX: usize = 64;
+
+/// Lists the first client last: each time another comes first, for a change of a long state may have to wait for the
+/// next round.
+fn take_turns(ready: &mut Vec<u64>)
+    ensures { ready.new.items ≡ drop 1 ready.old.items ++ take 1 ready.old.items }
+{
+    if !ready.is_empty() {
+        ready.rotate_left(1);
+    }
+}
 
 impl Server {
     /// Answers the clients of which a question came, and writes to them, before the changes of others are committed.
@@ -35,6 +46,7 @@ impl Server {
         ensures { AnswersClients self.old.crowd.talks replica.old self.new.crowd.talks replica.new }
     {
         let clients = self.ready.len();
+        take_turns(&mut self.ready);
         self.peers.list(&mut self.crowd, &mut self.ready);
         self.answer_all(replica);
         self.ready.truncate(clients);

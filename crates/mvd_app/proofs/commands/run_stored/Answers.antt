@@ -29,7 +29,7 @@ returns-in-Ok-opened g c =
     let token = option_copied c.as_ref.result in
     let does = c.work_on-worked.ensures in
     record {
-      kept = file_back image (filed c.args.db c.args.setup c.args.token_file (task_of c.args.work)) c.in-Ok.read.0 set_up old new opened c.finish.result.files
+      kept = file_back image (filed c.args.db c.args.setup c.args.token_file (task_of c.args.work)) c.in-Ok.read.0 set_up old new opened c.look-harm.result c.finish.result.files
           (does_work _ _ _ _ _ _ old new does.0 c.work_on-worked.result (task_of c.args.work) does.1) c.finish.ensures.files;
       done = inr (record {
         config = c.in-Ok.read.0;
@@ -43,7 +43,8 @@ returns-in-Ok-opened g c =
         worked = c.work_on-worked.result;
         does = does.1;
         runs = runs_of image c.args.setup.site c.in-Ok.read.0 set_up.site old new opened opened.rests does.0
-            (does_by _ _ _ _ _ _ old new does.0 c.work_on-worked.result (task_of c.args.work) does.1 opened.stands) c.finish.result.files c.finish.ensures.files;
+            (does_by _ _ _ _ _ _ old new does.0 c.work_on-worked.result (task_of c.args.work) does.1 opened.stands) c.look-harm.result c.finish.result.files c.finish.ensures.files;
+        harm = c.look-harm.result;
         closed = c.finish.ensures.files;
         ends = c.finish.ensures.ended;
       });

@@ -3,15 +3,17 @@ use Rattle.std.proofs.lemmas.List.{take_more}
 use Rattle.mvd_site.specs.Installs.{changes_in}
 use Rattle.mvd_replica.specs.Adding.{CountsKeys}
 use Rattle.mvd_replica.specs.Behind.{AreLast, JoinsGroup, noted_at}
-use Rattle.mvd_replica.specs.Groups.{MustWait, StandTogether}
+use Rattle.mvd_replica.specs.Groups.{IsBounded, MustWait, StandTogether, state_bytes_in}
 use Rattle.mvd_replica.proofs.AddedKeys.{counts_none}
 use Rattle.mvd_replica.proofs.SameKey.{last_more, last_none, none_joined, noted_asked, of_joined}
-use Rattle.mvd_replica.proofs.Grouping.{changes_more, next_waits, together_more, together_none}
+use Rattle.mvd_replica.proofs.Grouping.{bounded_more, bounded_none, bytes_more, changes_more, next_waits, together_more, together_none}
 use Rattle.mvd_replica.proofs.groups.prepare_all.Goals as goal
 
 pub loop-request-init : goal.loop-request-init
 loop-request-init c = record {
   count = ap length c.in_ok-group.ensures.items;
+  bytes = sym (ap state_bytes_in c.in_ok-group.ensures.items);
+  bounded = subst IsBounded (sym c.in_ok-group.ensures.items) bounded_none;
   changes = sym (ap changes_in c.in_ok-group.ensures.items);
   room = omega (arith, c.in_ok-group.ensures.capacity, c.min.ensures);
   few = omega arith;
@@ -22,6 +24,14 @@ loop-request-init c = record {
 
 pub join-requires-clause-keys : goal.join-requires-clause-keys
 join-requires-clause-keys c = subst (λ l. CountsKeys c.args.site.now l c.loop-request.added) (sym c.deref.ensures.value) c.loop-request.invariant.keys
+
+pub join-requires-clause-bytes : goal.join-requires-clause-bytes
+join-requires-clause-bytes c = c.loop-request.invariant.bytes ∙ ap state_bytes_in (sym c.deref.ensures.value)
+
+pub overflow_add-bytes : goal.overflow_add-bytes
+overflow_add-bytes c =
+    let light = of_joined (λ _ _. c.loop-request.bytes < 4194304) c.in_ok-joined.joined c.in-Some.prepared c.in-Some.adds c.in-Some.is c.in_ok-joined.ensures.light in
+    omega (arith, light, c.bytes_of-bytes.ensures.few)
 
 pub overflow_add-added : goal.overflow_add-added
 overflow_add-added c =
@@ -54,8 +64,11 @@ loop-request-preserved c =
     let joins : JoinsGroup site group c.loop-request.added request prepared adds =
     subst (λ l. JoinsGroup site l c.loop-request.added request prepared adds) c.deref.ensures.value
     (of_joined (JoinsGroup site c.deref.result.now c.loop-request.added request) c.in_ok-joined.joined prepared adds c.in-Some.is c.in_ok-joined.ensures.joins) in
+    let light = of_joined (λ _ _. c.loop-request.bytes < 4194304) c.in_ok-joined.joined prepared adds c.in-Some.is c.in_ok-joined.ensures.light in
     record {
       count = grind (arith, length-append, c.push_reserved.ensures.items, c.loop-request.invariant.count);
+      bytes = ap₂ (λ a b. a + b) c.loop-request.invariant.bytes c.bytes_of-bytes.ensures.count ∙ sym (ap state_bytes_in c.push_reserved.ensures.items ∙ bytes_more group prepared);
+      bounded = subst IsBounded (sym c.push_reserved.ensures.items) (bounded_more group prepared (subst (λ n. n < 4194304) c.loop-request.invariant.bytes light));
       changes = ap₂ (λ a b. a + b) c.loop-request.invariant.changes c.changes_of-changes.ensures.count ∙ sym (ap changes_in c.push_reserved.ensures.items ∙ changes_more group prepared);
       room = omega (arith, c.push_reserved.ensures.capacity, c.loop-request.invariant.room);
       few = grind (arith, length-append, c.push_reserved.ensures.items, c.loop-request.invariant.few, c.changes_of-changes.ensures.few);

@@ -2,13 +2,15 @@ use Rattle.std.proofs.Common.{◌≡◌, ◌<◌, ◌≤◌, false, length, min,
 use Rattle.mvd_site.specs.Installs.{changes_in}
 use Rattle.mvd_replica.specs.Adding.{CountsKeys}
 use Rattle.mvd_replica.specs.Behind.{AreLast}
-use Rattle.mvd_replica.specs.Groups.{StandTogether}
+use Rattle.mvd_replica.specs.Groups.{IsBounded, StandTogether, state_bytes_in}
 use Rattle.mvd_replica.proofs.groups.prepare_all.Given as goal
 
 -- what the requests so far came to
 abbrev pub invariant-loop-request : goal.invariant-loop-request
 invariant-loop-request l = record {
   count : length l.group.items ≡ l.request-index;
+  bytes : l.bytes ≡ state_bytes_in l.group.items;
+  bounded : IsBounded l.group.items;
   changes : l.changes ≡ changes_in l.group.items;
   room : min (length l.requests) 1024 ≤ vec_capacity l.group;
   few : l.changes ≤ length l.group.items;

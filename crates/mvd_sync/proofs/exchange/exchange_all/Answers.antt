@@ -34,7 +34,7 @@ returns-in-Ok-carry-2-clause-exchanges g c =
     let p = side_of g.P.Peer in
     all_done l p c.args.number c.args.entries.items g.met.L.Peer.follows_on g.met.P.Peer.follows_on g.met.L.Peer.most_stays g.met.P.Peer.most_stays g.met.L.Peer.in_form g.met.P.Peer.in_form
     c.args.left.now c.plans.new.left c.args.local.now c.plans.new.local c.args.peer.now c.plans.new.peer c.in-Ok.meetings.items c.in-Ok.ensures.plans
-    c.in-Ok-carry.meetings.items c.carry.new.left c.carry.new.side c.in-Ok-carry.ensures.told c.requires _ c.carry-2.new.side c.in-Ok-carry-2.meetings refl c.in-Ok-carry-2.ensures.told
+    c.in-Ok-carry.meetings.items c.carry.new.left c.carry.new.side c.in-Ok-carry.ensures.told c.requires.held _ c.carry-2.new.side c.in-Ok-carry-2.meetings refl c.in-Ok-carry-2.ensures.told
 
 pub returns-in-Ok-carry-2-clause-ran : goal.returns-in-Ok-carry-2-clause-ran
 returns-in-Ok-carry-2-clause-ran g c =
@@ -42,4 +42,4 @@ returns-in-Ok-carry-2-clause-ran g c =
     let p = side_of g.P.Peer in
     let after : Questions = record { local = c.carry.new.left; peer = c.carry-2.new.left } in
     λ walk work. runs_window (sides l p) c.args.number c.args.entries c.args.left.now c.plans.new.left after c.args.local.now c.plans.new.local c.carry.new.side c.args.peer.now c.plans.new.peer c.carry-2.new.side
-    c.in-Ok.meetings.items c.in-Ok-carry.meetings.items c.in-Ok-carry-2.meetings.items walk work c.in-Ok.ensures.heard c.in-Ok-carry.ensures.turn c.in-Ok-carry-2.ensures.turn
+    c.in-Ok.meetings.items c.in-Ok-carry.meetings.items c.in-Ok-carry-2.meetings.items walk work c.args.most.now c.plans.new.most c.in-Ok.ensures.heard c.in-Ok-carry.ensures.turn c.in-Ok-carry-2.ensures.turn

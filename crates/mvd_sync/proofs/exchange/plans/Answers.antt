@@ -1,4 +1,5 @@
-use Rattle.std.proofs.Common.{◌≤◌, length, subst}
+use Rattle.std.proofs.Common.{◌≡◌, ◌≤◌, ◌∙◌, arith, length, max, subst}
+use Rattle.mvd_sync.specs.Weights.{next_most, weight}
 use Rattle.mvd_sync.specs.Meetings.{held_keys}
 use Rattle.mvd_sync.specs.Questions.{ComesToEnd, Keeps, with_left}
 use Rattle.mvd_sync.specs.declared.report.Side.TheVariants.{Local as AtLocal, Peer as AtPeer}
@@ -37,10 +38,14 @@ pub returns-in-Ok-plan_all-clause-heard : goal.returns-in-Ok-plan_all-clause-hea
 returns-in-Ok-plan_all-clause-heard g c =
     let l = side_of g.L.Peer in
     let p = side_of g.P.Peer in
+    let o = c.args.entries.ok.0 in
+    let n = c.len.ensures in
+    let many : c.len.result ≡ length c.args.entries.items = omega (arith, o, n) in
     record {
       mine = c.in-Ok.states;
       theirs = c.in-Ok-gives.states;
       local_side = subst (λ es. HearsStates l (held_keys AtLocal es) c.in-Ok.states.items (with_left c.args.local.now c.args.left.now.local) (with_left c.gives.new.side c.gives.new.left)) c.deref.ensures.value c.in-Ok.ensures.heard;
       peer_side = subst (λ es. HearsStates p (held_keys AtPeer es) c.in-Ok-gives.states.items (with_left c.args.peer.now c.args.left.now.peer) (with_left c.gives-2.new.side c.gives-2.new.left)) c.deref-2.ensures.value c.in-Ok-gives.ensures.heard;
       plans = c.in-Ok-plan_all.ensures.plans;
+      next = c.next_most.ensures.next ∙ (λ i. next_most c.args.most.now (many i) (max (weight (c.deref-3.ensures.value i)) (weight (c.deref-4.ensures.value i))));
     }

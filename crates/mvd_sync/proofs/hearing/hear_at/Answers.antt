@@ -1,6 +1,5 @@
-use Rattle.std.proofs.Common.{ℕ, Option, refl, subst, sym}
-use Rattle.mvd_sync.specs.Machines.{StageAsks, HearsAt, Met, ReadBoth, StageStands}
-use Rattle.mvd_sync.specs.Tellings.{IsRead, IsStateOf, never, states_told}
+use Rattle.std.proofs.Common.{refl, subst, sym}
+use Rattle.mvd_sync.specs.Machines.{StageAsks, HearsAt, StageStands}
 use Rattle.mvd_sync.specs.declared.stage.Stage.{Stage}
 use Rattle.mvd_sync.proofs.Machined.{asks_short}
 use Rattle.mvd_sync.proofs.hearing.hear_at.Goals as goal
@@ -15,9 +14,7 @@ pub returns-in-Walks : goal.returns-in-Walks
 returns-in-Walks c = subst (λ (s : Stage). HearsAt c.args.exchange.now s c.args.shares c.args.answers c.hear_pages.new.exchange c.hear_pages.result) (sym c.in-Walks.is) c.hear_pages.ensures
 
 pub returns-in-Meets : goal.returns-in-Meets
-returns-in-Meets c =
-    let h = subst (λ (n : Option ℕ). ReadBoth (IsRead IsStateOf never (states_told c.args.answers.mine) c.args.shares.local) (IsRead IsStateOf never (states_told c.args.answers.theirs) c.args.shares.peer) (Met n c.in-Meets.walk c.in-Meets.entries.items) c.hear_states.result) c.number.ensures c.hear_states.ensures in
-    subst (λ (s : Stage). HearsAt c.args.exchange.now s c.args.shares c.args.answers c.args.exchange.now c.hear_states.result) (sym c.in-Meets.is) (refl, h)
+returns-in-Meets c = subst (λ (s : Stage). HearsAt c.args.exchange.now s c.args.shares c.args.answers c.hear_states.new.exchange c.hear_states.result) (sym c.in-Meets.is) (c.hear_states.ensures.same, c.hear_states.ensures.read)
 
 pub returns-in-Carries : goal.returns-in-Carries
 returns-in-Carries c = subst (λ (s : Stage). HearsAt c.args.exchange.now s c.args.shares c.args.answers c.args.exchange.now c.hear_pushes.result) (sym c.in-Carries.is) (refl, c.hear_pushes.ensures)

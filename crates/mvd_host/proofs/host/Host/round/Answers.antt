@@ -1,4 +1,4 @@
-use Rattle.std.proofs.Common.{◌≡◌, ◌+◌, ◌++◌, [], length, refl, true≢false, Ok, ◌∙◌, ℕ, List, map, zip, sym, ap, subst, subst₂}
+use Rattle.std.proofs.Common.{◌≡◌, ◌+◌, ◌++◌, [], false, length, refl, true≢false, Ok, ◌∙◌, ℕ, List, map, zip, sym, ap, subst, subst₂}
 use Rattle.mvd_wire.specs.declared.request.Request.{Request}
 use Rattle.mvd_wire.specs.declared.reply.Reply.{Reply}
 use Rattle.mvd_host.specs.Queueing.{AreDue, QueuesReplies, refused_all, refused_faults}
@@ -13,9 +13,10 @@ use Rattle.mvd_replica.proofs.Commits.{answers_all}
 use Rattle.sqlite.specs.Held.{state}
 use Rattle.mvd_host.specs.declared.host.Host.TheInside.{Inside}
 use Rattle.mvd_replica.specs.Turns.{Turn}
+use Rattle.mvd_site.specs.Sites.{SiteValue}
 use Rattle.mvd_host.specs.Hosts.{AreKept, HostValue}
 use Rattle.mvd_host.specs.Round.{GoesForward, Round}
-use Rattle.mvd_host.specs.Taking.{IsNothingTaken, held_in}
+use Rattle.mvd_host.specs.Taking.{IsFair, IsNothingTaken, held_in}
 use Rattle.mvd_host.proofs.Listing.{lists_still}
 use Rattle.mvd_host.proofs.ToldLemmas.{due_later, later_items, no_items}
 use Rattle.mvd_host.proofs.host.Host.round.Given.{Over}
@@ -139,10 +140,12 @@ returns-then-is_none-clause-round g c =
     let hand = c.args.at_hand.now in
     let waits = c.of-taken.ensures.held ∙ c.begin-clients.ensures.waits in
     let may = subst AllMayWait (sym waits) c.begin-clients.ensures.may in
+    let fair : c.take_all-refused.result ≡ false → IsFair site.states c.args.ready.now (length c.args.ready.now) all.requests all.faulty mid =
+    λ no. subst (λ (s : SiteValue). IsFair s.states c.args.ready.now (length c.args.ready.now) all.requests all.faulty mid) c.site.ensures (c.take_all-refused.ensures.took.1 no) in
     let new : HostValue = record { clients = mid; admitted = c.self.inside.admitted } in
     let same : c.begin-clients.new.self ≡ record { done = hand.done ++ hand.waits; waits = []; taken = hand.taken; left = [] } = c.begin-clients.ensures.begun ∙ ap (λ (l : List (ℕ × Reply)). record { done = hand.done ++ hand.waits; waits = []; taken = hand.taken; left = l }) c.requires in
-    subst₂ (λ (h : HostValue) (k : AtHandValue). (turns : List (ℕ × Turn)) × Round c.args.ready.now turns (record { host = h; hand = hand; site = site; store = store }) (record { host = new; hand = k; site = site; store = store }) × GoesForward c.told.result c.args.ready.now turns new)
-    c.self.view_is (sym same) (round_none asks c.args.ready.now old mid mid mid taken took c.self.inside.admitted site site store store [] a faults hand c.requires waits may c.self.invariant zero c.take_all-refused.result c.take_all-refused.ensures.took.1 c.told.result c.told.ensures.is)
+    subst₂ (λ (h : HostValue) (k : AtHandValue). (turns : List (ℕ × Turn)) × Round c.args.ready.now turns (record { host = h; hand = hand; site = site; store = store }) (record { host = new; hand = k; site = site; store = store }) × GoesForward c.told.result c.args.ready.now turns site.states new)
+    c.self.view_is (sym same) (round_none asks c.args.ready.now old mid mid mid taken took c.self.inside.admitted site site store store [] a faults hand c.requires waits may c.self.invariant zero c.take_all-refused.result fair c.told.result c.told.ensures.is)
 
 -- something was
 pub invariant_of-self-2 : goal.invariant_of-self-2
@@ -184,6 +187,8 @@ returns-clause-round g c =
     let hand = c.args.at_hand.now in
     let waits = c.of-taken.ensures.held ∙ c.begin-clients.ensures.waits in
     let may = subst AllMayWait (sym waits) c.begin-clients.ensures.may in
+    let fair : c.take_all-refused.result ≡ false → IsFair site.states c.args.ready.now (length c.args.ready.now) all.requests all.faulty mid =
+    λ no. subst (λ (s : SiteValue). IsFair s.states c.args.ready.now (length c.args.ready.now) all.requests all.faulty mid) c.site.ensures (c.take_all-refused.ensures.took.1 no) in
     let left = c.match-answer.at_hand.left in
     let hand_is : c.match-answer.at_hand ≡ record { done = hand.done ++ hand.waits; waits = []; taken = hand.taken; left = left } =
     elim c.match-answer.branch [
@@ -191,11 +196,11 @@ returns-clause-round g c =
       | in-Err w ↦ w.at_hand-is ∙ w.keep-in-Err.ensures ∙ kept_left hand c.begin-clients.new.self _ left c.begin-clients.ensures.begun (sym (ap (λ (h : AtHandValue). h.left) (w.at_hand-is ∙ w.keep-in-Err.ensures)))
     ] in
     subst (λ (k : AtHandValue). (turns : List (ℕ × Turn)) × Round c.args.ready.now turns (record { host = c.args.self.now; hand = hand; site = site; store = store }) (record { host = record { clients = new; admitted = c.match-answer.self-inside.admitted }; hand = k; site = later; store = after })
-    × GoesForward c.told-2.result c.args.ready.now turns (record { clients = new; admitted = c.match-answer.self-inside.admitted }))
+    × GoesForward c.told-2.result c.args.ready.now turns site.states (record { clients = new; admitted = c.match-answer.self-inside.admitted }))
     (sym hand_is)
     (subst₂ (λ (h : HostValue) (n : ℕ). (turns : List (ℕ × Turn)) × Round c.args.ready.now turns (record { host = h; hand = hand; site = site; store = store }) (record { host = record { clients = new; admitted = n }; hand = record { done = hand.done ++ hand.waits; waits = []; taken = hand.taken; left = left }; site = later; store = after })
-    × GoesForward c.told-2.result c.args.ready.now turns (record { clients = new; admitted = n }))
-    c.self.view_is (sym admitted) (round_of asks c.args.ready.now old mid between new taken took c.self.inside.admitted site later store after left a faults hand c.requires waits may c.self.invariant some c.take_all-refused.result c.take_all-refused.ensures.took.1 c.told-2.result c.told-2.ensures.is))
+    × GoesForward c.told-2.result c.args.ready.now turns site.states (record { clients = new; admitted = n }))
+    c.self.view_is (sym admitted) (round_of asks c.args.ready.now old mid between new taken took c.self.inside.admitted site later store after left a faults hand c.requires waits may c.self.invariant some c.take_all-refused.result fair c.told-2.result c.told-2.ensures.is))
 
 pub returns-then-is_none-clause-lists : goal.returns-then-is_none-clause-lists
 returns-then-is_none-clause-lists g c = lists_still c.args.feed.now c.args.replica.now.site.states

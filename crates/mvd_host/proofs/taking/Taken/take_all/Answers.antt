@@ -10,7 +10,7 @@ arrange-requires c =
 pub returns-clause-took : goal.returns-clause-took
 returns-clause-took c =
     fairly_still (held_in c.args.self.now) c.args.ready.now c.args.clients.now.entries c.take_each-refused.new.clients.entries c.take_each-refused.new.self c.arrange.new.self c.arrange.ensures c.take_each-refused.ensures.took.0
-    c.take_each-refused.result c.take_each-refused.ensures.took.1
+    c.args.site.now.states c.take_each-refused.result c.take_each-refused.ensures.took.1
 
 pub returns-clause-idle : goal.returns-clause-idle
 returns-clause-idle c refused none =

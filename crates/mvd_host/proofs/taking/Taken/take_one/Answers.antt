@@ -3,6 +3,7 @@ use Rattle.mvd_conn.specs.History.{History, after_next}
 use Rattle.mvd_host.specs.Taking.{TakesOn}
 use Rattle.mvd_host.proofs.Frames.{TookOne, idle_after, took_fault, took_none, took_nothing, took_one, took_request}
 use Rattle.mvd_host.proofs.Holding.{holds_fault, holds_request, holds_same, kept_nothing}
+use Rattle.mvd_host.proofs.Weights.{weighed_more}
 use Rattle.mvd_host.proofs.taking.Taken.take_one.Goals as goal
 
 pub returns-then-not-branch-clause-took : goal.returns-then-not-branch-clause-took
@@ -64,3 +65,7 @@ pub returns-in_err-next-clause-took : goal.returns-in_err-next-clause-took
 returns-in_err-next-clause-took c =
     kept_nothing c.args.client c.args.connection.now c.next.new.self c.args.self.now c.args.self.now (record { clients = refl; requests = refl; faults = refl })
     (subst (TakesOn [] [] c.args.connection.now) (sym c.in_err-next.ensures.err.2) (took_nothing c.args.connection.now))
+
+pub returns-in-Ok-clause-weighed : goal.returns-in-Ok-clause-weighed
+returns-in-Ok-clause-weighed c so_far =
+    weighed_more c.args.site.now.states c.args.self.now.requests.items c.push_reserved-in-Ok.new.self.items c.in-Ok.request c.args.weighed.now c.weight.result c.saturating_add.result so_far c.weight.ensures c.saturating_add.ensures c.push_reserved-in-Ok.ensures.items

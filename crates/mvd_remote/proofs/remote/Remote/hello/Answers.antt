@@ -3,3 +3,6 @@ use Rattle.mvd_remote.proofs.remote.Remote.hello.Goals as goal
 
 pub returns-clause-truth : goal.returns-clause-truth
 returns-clause-truth g c = c.ask_for.ensures.truth (Hello c.args.token.now) c.encode_hello.ensures.fits c.encode_hello.ensures.exact
+
+pub returns-clause-live : goal.returns-clause-live
+returns-clause-live g c = c.ask_for.ensures.live (Hello c.args.token.now) c.encode_hello.ensures.fits c.encode_hello.ensures.exact

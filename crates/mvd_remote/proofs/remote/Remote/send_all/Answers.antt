@@ -1,6 +1,7 @@
 use Rattle.std.proofs.Common.{List, Option, sym, subst, ◌∙◌, ap}
 use Rattle.mvd_dots.specs.declared.refusals.Refusal.{Refusal}
-use Rattle.mvd_remote.specs.LinkWindows.{Frames}
+use Rattle.std.specs.Io.KnownBytes.{Appends}
+use Rattle.mvd_remote.specs.LinkWindows.{Frames, TurnBreaks, of_read}
 use Rattle.mvd_remote.specs.Lines.{AreRequestFrames, DueTurns, framed_requests}
 use Rattle.mvd_remote.proofs.Lined.{send_broke, still_goes, turns_broke, window_frames, window_told}
 use Rattle.mvd_peer.specs.Windows.{leaves_open}
@@ -65,3 +66,18 @@ returns-in-Err-take_turns-clause-live g c requests is spelled was =
     let turns = c.in-Err-take_turns.ensures.live sent.0 in
     let refusal = c.in-Err-take_turns.refusal in
     (live_refuses g.L.Line.is_live g.L.Line.awaits c.take_turns.new.self refusal turns.live c.in-Err-take_turns.ensures.broke.1 (turns.unsure refusal c.in-Err-take_turns.ensures.broke.1), tt)
+
+pub returns-in-Err-take_turns-clause-sent : goal.returns-in-Err-take_turns-clause-sent
+returns-in-Err-take_turns-clause-sent g c =
+    let bytes = c.deref.ensures.value ∙ ap (λ (w : Frames). w.0) c.window.view_is in
+    let nones = c.deref-2.ensures.value ∙ ap (λ (w : Frames). w.1) c.window.view_is in
+    let took = g.L.Line.contents c.args.self.now.line in
+    let mid = g.L.Line.remaining c.send.new.self in
+    let new = g.L.Line.remaining c.take_turns.new.self.line in
+    let refusal = c.in-Err-take_turns.refusal in
+    let broke = c.in-Err-take_turns.ensures.broke in
+    of_read
+    (subst (λ o. Appends took o c.args.window.now.0) (sym c.take_turns.ensures.unsent) (subst (Appends took (g.L.Line.contents c.send.new.self)) bytes c.in_default.ensures.ok))
+    (subst (λ i. TurnBreaks c.args.kind c.args.window.now.1 i new refusal) c.send.ensures.unread
+    (subst (λ (ns : List (Option Refusal)). TurnBreaks c.args.kind ns mid new refusal) nones broke.0))
+    broke.1

@@ -1,10 +1,11 @@
-use Rattle.std.proofs.Common.{◌≡◌, rules, ◌∷◌, ◌++◌, [], List, arith, refl, sym, subst, ◌∙◌}
+use Rattle.std.proofs.Common.{◌≡◌, rules, ◌∷◌, ◌++◌, ◌+◌, [], List, ap, arith, refl, sym, subst, ◌∙◌}
 use Rattle.std.specs.Prelude.{All, Err, Result}
 use Rattle.std.proofs.lemmas.Result.{err_from_is_err_and}
 use Rattle.std.proofs.lemmas.List.Elements.{All-push}
 use Rattle.mvd_dots.specs.declared.refusals.Refusal.{Refusal}
 use Rattle.mvd_wire.specs.declared.reply.Reply.{Reply}
-use Rattle.mvd_remote.specs.LinkWindows.{IsOfKind}
+use Rattle.mvd_remote.specs.LinkWindows.{IsOfKind, state_bytes, states_bytes}
+use Rattle.std.proofs.lemmas.List.Sums.{sum_by-append}
 use Rattle.std.proofs.lemmas.List.{take_all}
 use Rattle.std.proofs.Common.{take}
 use Rattle.mvd_remote.specs.LiveRemotes.{LiveTurns}
@@ -17,27 +18,33 @@ use Rattle.mvd_remote.proofs.remote.Remote.take_turns.Goals as goal
 pub loop-none-preserved : goal.loop-none-preserved
 loop-none-preserved g c =
     let before = c.loop-none.invariant in
-    let items : c.push.new.self.items ≡ c.loop-none.replies.items ++ c.in_ok-reply.reply ∷ [] = grind arith in
+    let items : c.keep.new.replies.items ≡ c.loop-none.replies.items ++ c.in_ok-reply.reply ∷ [] = grind arith in
+    let room : c.keep.new.room + state_bytes c.in_ok-reply.reply ≡ c.loop-none.room = grind arith in
+    let more = ap states_bytes items ∙ sum_by-append state_bytes c.loop-none.replies.items (c.in_ok-reply.reply ∷ []) in
     record {
-      read = turns_more_at c.args.kind c.args.nones.now c.loop-none.none-index _ _ c.loop-none.replies.items c.push.new.self.items c.in_ok-reply.reply (g.L.Line.remaining c.args.self.now.line) (g.L.Line.remaining c.loop-none.self.line) (g.L.Line.remaining c.turn.new.self.line) c.loop-none-test.true refl items before.read c.in_ok-reply.ensures.told;
+      read = turns_more_at c.args.kind c.args.nones.now c.loop-none.none-index _ _ c.loop-none.replies.items c.keep.new.replies.items c.in_ok-reply.reply (g.L.Line.remaining c.args.self.now.line) (g.L.Line.remaining c.loop-none.self.line) (g.L.Line.remaining c.turn.new.self.line) c.loop-none-test.true refl items before.read c.in_ok-reply.ensures.told;
       of_kind = subst (λ (us : List (Result Reply Refusal)). All (IsOfKind c.args.kind) us) (sym items) (All-push (IsOfKind c.args.kind) c.loop-none.replies.items c.in_ok-reply.reply before.of_kind c.in_ok-reply.ensures.of_kind);
+      bounded = omega (arith, room, more, before.bounded);
+      room = omega (arith, room, before.room);
       goes_on = c.in_ok-reply.ensures.goes_on;
       unsent = c.turn.ensures.unsent ∙ before.unsent;
       config = c.turn.ensures.config ∙ before.config;
       line = λ t. (c.turn.ensures.truth (before.line t)).line;
       states = λ t. (c.turn.ensures.truth (before.line t)).states ∙ before.states t;
       due = λ t.
-          due_more_at c.args.nones.now c.loop-none.none-index _ _ c.loop-none.replies.items c.push.new.self.items c.in_ok-reply.reply (g.L.Line.far c.args.self.now.line).due (g.L.Line.far c.loop-none.self.line).due (g.L.Line.far c.turn.new.self.line).due c.loop-none-test.true refl items (before.due t)
+          due_more_at c.args.nones.now c.loop-none.none-index _ _ c.loop-none.replies.items c.keep.new.replies.items c.in_ok-reply.reply (g.L.Line.far c.args.self.now.line).due (g.L.Line.far c.loop-none.self.line).due (g.L.Line.far c.turn.new.self.line).due c.loop-none-test.true refl items (before.due t)
           (c.in_ok-reply.ensures.truth (before.line t)).due;
       live = λ t.
           let was = before.live t in
-          took_more g.L.Line g.met.L.Line.live_form c.args.self.now c.loop-none.self c.turn.new.self c.args.nones.now c.loop-none.none-index _ _ c.loop-none.replies.items c.push.new.self.items c.in_ok-reply.reply c.loop-none-test.true refl items t was.0 before.config was.1 was.2 was.3 (c.in_ok-reply.ensures.live was.0);
+          took_more g.L.Line g.met.L.Line.live_form c.args.self.now c.loop-none.self c.turn.new.self c.args.nones.now c.loop-none.none-index _ _ c.loop-none.replies.items c.keep.new.replies.items c.in_ok-reply.reply c.loop-none-test.true refl items t was.0 before.config was.1 was.2 was.3 (c.in_ok-reply.ensures.live was.0);
     }
 
 pub loop-none-init : goal.loop-none-init
 loop-none-init g c = record {
   read = search rules;
   of_kind = search rules;
+  bounded = search rules;
+  room = search rules;
   goes_on = search rules;
   unsent = search rules;
   config = search rules;

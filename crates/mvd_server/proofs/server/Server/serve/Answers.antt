@@ -12,3 +12,7 @@ loop-round-preserved g c =
 pub returns-in_err-serve_once-clause-goes : goal.returns-in_err-serve_once-clause-goes
 returns-in_err-serve_once-clause-goes g c =
     goes_on g.K.Sockets (wired_of c.args.self.now.crowd.talks c.args.sockets.now) (wired_of c.loop-round.self.crowd.talks c.loop-round.sockets) (wired_of c.serve_once.new.self.crowd.talks c.serve_once.new.sockets) c.args.replica.now c.loop-round.replica c.serve_once.new.replica c.loop-round.invariant c.serve_once.ensures.goes
+
+pub returns-in_err-look-clause-goes : goal.returns-in_err-look-clause-goes
+returns-in_err-look-clause-goes g c =
+    goes_on g.K.Sockets (wired_of c.args.self.now.crowd.talks c.args.sockets.now) (wired_of c.loop-round.self.crowd.talks c.loop-round.sockets) (wired_of c.serve_once.new.self.crowd.talks c.serve_once.new.sockets) c.args.replica.now c.loop-round.replica c.serve_once.new.replica c.loop-round.invariant c.serve_once.ensures.goes

@@ -10,6 +10,7 @@ returns-in-None-clause-adds c =
     adds_given (record { key = c.args.key; is_old = c.args.is_old; refused = c.args.refused }) c.args.self.now c.count_old.new.self c.in-None.is
     (ap (λ (v : Exchanging). v.number) at ∙ ap (λ (v : Exchanging). v.number) view)
     (ap (λ (v : Exchanging). v.waiting) at ∙ ap (λ (v : Exchanging). v.waiting) view)
+    (ap (λ (v : Exchanging). v.most) at ∙ ap (λ (v : Exchanging). v.most) view)
     (ap (λ (v : Exchanging). v.keys) at ∙ ap (λ (v : Exchanging). v.keys + 1) view)
     (ap (λ (v : Exchanging). v.refused) at ∙ ap (λ (v : Exchanging). v.refused) view)
     (ap (λ (v : Exchanging). v.first_refused) at ∙ ap (λ (v : Exchanging). v.first_refused) view)
@@ -22,6 +23,7 @@ returns-in_ok-leave-in-Some-clause-adds c =
     adds_left (record { key = c.args.key; is_old = c.args.is_old; refused = c.args.refused }) (c.in-Some.side, c.in-Some.refusal) c.args.self.now c.count_old-in-Some.new.self c.in-Some.is
     (ap (λ (v : Exchanging). v.number) at ∙ left.number)
     (ap (λ (v : Exchanging). v.waiting) at ∙ left.waiting)
+    (ap (λ (v : Exchanging). v.most) at ∙ left.most)
     (ap (λ (v : Exchanging). v.keys) at ∙ left.keys)
     (ap (λ (v : Exchanging). v.refused) at ∙ left.refused)
     (λ less. ap (λ (v : Exchanging). v.first_refused) at ∙ left.named less)

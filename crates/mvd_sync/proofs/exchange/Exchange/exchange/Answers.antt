@@ -26,8 +26,8 @@ returns-in-Ok-tell-clause-exchanges g c =
     let number = ap (λ (v : Exchanging). v.number) c.self.view_is in
     let none = ap (λ v. v.items) c.replace-entries.ensures.after ∙ c.new.ensures.items in
     exchanges_all l p c.args.self.now.waiting c.args.left.now c.exchange_all.new.left c.args.local.now c.exchange_all.new.local c.args.peer.now c.exchange_all.new.peer c.args.self.now c.tell.new.self c.in-Ok.meetings
-    (window_at l p c.self.inside.number c.args.self.now.number c.replace-entries.result.items c.args.self.now.waiting c.args.left.now c.exchange_all.new.left c.args.local.now c.exchange_all.new.local c.args.peer.now c.exchange_all.new.peer _ number entries c.in-Ok.ensures.exchanges) _
-    (subst (λ b. CountsDone (map done_of c.in-Ok.meetings.items) b c.tell.new.self) (none_waits _ c.args.self.now c.replace-entries.new.dest.items c.self.view_is none) c.in-Ok-tell.ensures.adds)
+    (window_at l p c.self.inside.number c.args.self.now.number c.replace-entries.result.items c.args.self.now.waiting c.args.left.now c.exchange_all.new.left c.args.local.now c.exchange_all.new.local c.args.peer.now c.exchange_all.new.peer _ number entries c.in-Ok.ensures.exchanges) _ c.exchange_all.new.most
+    (subst (λ b. CountsDone (map done_of c.in-Ok.meetings.items) b c.tell.new.self) (none_waits _ c.args.self.now c.replace-entries.new.dest.items c.exchange_all.new.most c.self.view_is none) c.in-Ok-tell.ensures.adds)
 
 pub returns-in-Err-tell-clause-exchanges : goal.returns-in-Err-tell-clause-exchanges
 returns-in-Err-tell-clause-exchanges g c =
@@ -62,12 +62,13 @@ returns-in-Ok-tell-clause-ran g c =
     let p = side_of g.P.Peer in
     let entries = ap (λ v. v.items) c.replace-entries.ensures.value ∙ ap (λ (v : Exchanging). v.waiting) c.self.view_is in
     let number = ap (λ (v : Exchanging). v.number) c.self.view_is in
+    let most = ap (λ (v : Exchanging). v.most) c.self.view_is in
     let empty = ap (λ v. v.items) c.replace-entries.ensures.after ∙ c.new.ensures.items in
-    let adds = subst (λ b. CountsDone (map done_of c.in-Ok.meetings.items) b c.tell.new.self) (none_waits _ c.args.self.now c.replace-entries.new.dest.items c.self.view_is empty) c.in-Ok-tell.ensures.adds in
+    let adds = subst (λ b. CountsDone (map done_of c.in-Ok.meetings.items) b c.tell.new.self) (none_waits _ c.args.self.now c.replace-entries.new.dest.items c.exchange_all.new.most c.self.view_is empty) c.in-Ok-tell.ensures.adds in
     let work = record c.args.self.now { waiting = [] } in
     let held = c.self.inside.waiting in
     let o = held.ok.0 in
     let n = ap (λ (v : Exchanging). length v.waiting) c.self.view_is in
     let some = λ (is : c.args.self.now.waiting ≡ []). let m = ap length is in eqb-false held.len 0 (sym c.is_empty.ensures ∙ c.if-is_empty.false) (omega (arith, o, n, m)) in
     λ walk. exchanged c.replace-entries.result some entries
-    (runs_counted (sides l p) c.self.inside.number c.replace-entries.result c.args.left.now c.exchange_all.new.left c.args.local.now c.exchange_all.new.local c.args.peer.now c.exchange_all.new.peer c.in-Ok.meetings.items walk work c.tell.new.self (sym number) (c.in-Ok.ensures.ran walk work) adds)
+    (runs_counted (sides l p) c.self.inside.number c.replace-entries.result c.args.left.now c.exchange_all.new.left c.args.local.now c.exchange_all.new.local c.args.peer.now c.exchange_all.new.peer c.in-Ok.meetings.items walk work c.tell.new.self c.self.inside.most c.exchange_all.new.most (sym number) (sym most) (c.in-Ok.ensures.ran walk work) adds)

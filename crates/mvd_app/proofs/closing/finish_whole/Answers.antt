@@ -2,7 +2,7 @@ use Rattle.std.proofs.Common.{◌∙◌, ap, inl, inr, refl, sym}
 use Rattle.mvd_app.proofs.Ending.{stops_broken, stops_same, stops_unclosed}
 use Rattle.mvd_hint.specs.declared.hint.Stop.{Stop}
 use Rattle.mvd_replica.specs.Replicas.{site_of}
-use Rattle.mvd_app.proofs.closing.finish.Goals as goal
+use Rattle.mvd_app.proofs.closing.finish_whole.Goals as goal
 
 pub returns-then-is_broken : goal.returns-then-is_broken
 returns-then-is_broken g c =
@@ -15,7 +15,7 @@ returns-then-is_broken g c =
 
 pub returns-in-Ok : goal.returns-in-Ok
 returns-in-Ok g c = record {
-  files = (sym c.is_broken.ensures ∙ c.if-is_broken.false, c.in-Ok.ensures.closed);
+  files = (sym c.is_broken.ensures ∙ c.if-is_broken.false, (λ bars. bars, c.in-Ok.ensures.closed));
   ended = stops_same _ (site_of c.args.replica).broken c.args.worked c.args.worked c.in-Ok.files refl;
 }
 
@@ -23,6 +23,6 @@ pub returns-in-Err : goal.returns-in-Err
 returns-in-Err g c =
     let whole = sym c.is_broken.ensures ∙ c.if-is_broken.false in
     record {
-      files = inr ((c.in-Err.error, c.in-Err.store), c.in-Err.ensures.failed);
+      files = inr (inr ((c.in-Err.error, c.in-Err.store), c.in-Err.ensures.failed));
       ended = stops_unclosed _ (site_of c.args.replica).broken c.and-ended-in-Err.result c.args.worked c.in_file.result c.and-ended-in-Err.ensures whole c.in_file.ensures;
     }

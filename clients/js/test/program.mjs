@@ -1,0 +1,31 @@
+// Servers of the built program, for tests.
+import { spawn } from "node:child_process";
+
+/** Starts a server and waits until it listens. `stop` kills it, as a machine does that goes off. */
+export async function serve(program, file, site, port, words = []) {
+  const child = spawn(program, ["serve", "--db", file, "--site", site, "--port", port, "--http", port + 100, ...words].map(String), { stdio: ["ignore", "pipe", "ignore"] });
+  const ended = new Promise((done) => { child.on("exit", done); });
+  await Promise.race([new Promise((done) => { child.stdout.once("data", done); }), ended.then(() => { throw new Error("the server ended"); })]);
+  child.stdout.resume();
+  return { url: `http://127.0.0.1:${port + 100}`, stop: () => { child.kill("SIGKILL"); return ended; } };
+}
+
+/** A fetch that loses one of so many: before it leaves, before its response comes, or in the midst of the response. */
+export const lossy = (random, every) => async (url, given) => {
+  const kind = random(every) ? 3 : random(3);
+  if (kind === 0) throw new TypeError("lost before");
+  const response = await fetch(url, given);
+  if (kind === 1) throw new TypeError("lost behind");
+  if (kind === 2) return { status: response.status, text: () => Promise.reject(new TypeError("lost within")) };
+  return response;
+};
+
+/** Random numbers from a seed. */
+export const dice = (seed) => (most) => {
+  seed = (seed + 0x6d2b79f5) | 0;
+  let t = Math.imul(seed ^ (seed >>> 15), 1 | seed);
+  t = (t + Math.imul(t ^ (t >>> 7), 61 | t)) ^ t;
+  return ((t ^ (t >>> 14)) >>> 0) % most;
+};
+
+export const sleep = (seconds) => new Promise((done) => { setTimeout(done, 1000 * seconds); });

@@ -1,0 +1,39 @@
+-- What requests weigh in a round.
+use Rattle.std.specs.Prelude.{◌≡◌, ◌≤◌, ℕ, ◌+◌, ◌-◌, ◌^◌, List, [], ◌∷◌, length, map, min, Result, Ok, Err}
+use Rattle.mvd_dots.specs.declared.refusals.Refusal.{Refusal}
+use Rattle.mvd_replica.specs.Turns.{Turn}
+use Rattle.mvd_site.specs.Held.{States, state_at}
+use Rattle.mvd_wire.specs.Codecs.{spell_state}
+use Rattle.mvd_wire.specs.declared.request.Request.{Request}
+use Rattle.mvd_wire.specs.declared.request.Request.TheVariants.{Delete, Push, Put}
+
+-- the bytes of the state of its key, and of what it puts or pushes there
+abbrev pub weight_of : States → Request → ℕ
+weight_of states (Put key seen document) = length (spell_state (state_at states key)) + length document
+weight_of states (Delete key seen) = length (spell_state (state_at states key))
+weight_of states (Push key pushed) = length (spell_state (state_at states key)) + length (spell_state pushed)
+weight_of states request = 0
+
+abbrev pub weights_in : States → List Request → ℕ
+weights_in states [] = 0
+weights_in states (request ∷ requests) = weight_of states request + weights_in states requests
+
+-- so much was counted
+abbrev pub IsWeighed : States → List Request → ℕ → Type 0
+IsWeighed states requests counted = counted ≡ min (weights_in states requests) (2 ^ 64 - 1)
+
+-- requests of clients weigh as much as those of a round may before one that weighs more than 4,096 has to wait
+abbrev pub AreHeavy : States → List (ℕ × Request) → Type 0
+AreHeavy states asks = 4194304 ≤ weights_in states (map (λ ask. ask.1) asks)
+
+-- the same of turns: a frame that is no request weighs nothing
+abbrev pub weight_asked : States → Result Request Refusal → ℕ
+weight_asked states (Ok request) = weight_of states request
+weight_asked states (Err fault) = 0
+
+abbrev pub weights_asked : States → List (ℕ × Turn) → ℕ
+weights_asked states [] = 0
+weights_asked states (turn ∷ turns) = weight_asked states turn.1.asked + weights_asked states turns
+
+abbrev pub AreHeavyTurns : States → List (ℕ × Turn) → Type 0
+AreHeavyTurns states turns = 4194304 ≤ weights_asked states turns

@@ -72,10 +72,10 @@ export class Side {
     });
   }
 
-  deliver(pairs) {
-    return this.#ask(pairs, async (some) => {
-      const out = await this.site.take(some.map(([key, state]) => [key, state]));
-      out.forEach((one, i) => this.log.push(["push", pairs[i][0], pairs[i][1], one.fault]));
+  deliver(window) {
+    return this.#ask(window, async (some) => {
+      const out = await this.site.take(some.map(({ key, state }) => [key, state]));
+      out.forEach((one, i) => this.log.push(["push", window[i].key, window[i].state, one.fault]));
       return out.map((one) => one.fault);
     });
   }

@@ -315,11 +315,25 @@ class Client:
 
     def _held(self, path, documents, **given):
         for page in self._pages("keys", path, documents=documents, **given):
-            yield from map(State.of, page) if documents else ((one["key"], one["siblings"]) for one in page)
+            if not documents:
+                yield from ((one["key"], one["siblings"]) for one in page)
+            elif all(isinstance(one["siblings"], list) for one in page):
+                yield from map(State.of, page)
+            else:
+                yield from self.get_many(one["key"] for one in page)
 
     def _places(self, name, documents, **given):
         for page in self._pages("places", "index", name, documents=documents, **given):
-            yield from page
+            yield from self._with_documents(page) if documents else page
+
+    def _with_documents(self, places):
+        """Places with their documents, but for those whose sibling was replaced meanwhile."""
+        missing = {place["key"] for place in places if "document" not in place}
+        told = {(state.key, one.dot): one.document for state in self.get_many(missing) for one in state.siblings}
+        for place in places:
+            document = place.get("document", told.get((place["key"], place["dot"])))
+            if document is not None:
+                yield {**place, "document": document}
 
     def keys(self, prefix=None, live=False, documents=False, limit=None):
         """The keys held, rising: (key, number of siblings), or with `documents` their States."""

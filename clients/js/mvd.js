@@ -287,8 +287,11 @@ export function readDocument(text) {
 /** A JSON text as a value, in which a whole number past 2^53 is a BigInt. */
 export const parse = (text) => new Reader(text, AS_VALUE).all();
 
-/** A response, which has documents within. */
-const toldIn = (text) => new Reader(text, AS_VALUE).all(DEPTH + 8);
+/** What a response tells, which has documents within. Who else answers, as a network does that wants a password first,
+ *  is no server. */
+function toldIn(text) {
+  try { return new Reader(text, AS_VALUE).all(DEPTH + 8); } catch { throw new Unreachable("the response is no JSON"); }
+}
 
 function valueText(value, path) {
   if (typeof value?.toJSON === "function") value = value.toJSON();
@@ -1433,7 +1436,7 @@ export class Client {
   async #put(path, key, text, context) {
     const told = contextText(context);
     if (told.length < LONG_CONTEXT && !DOTS.test(key)) {
-      return parse(await this.#ask("PUT", path, { body: text, context: told, safe: false }));
+      return toldIn(await this.#ask("PUT", path, { body: text, context: told, safe: false }));
     }
     const [line] = await this.#lines("/keys", [writeLine(key, context, text)], { safe: false });
     if (line.refused !== undefined) throw faultOf(line);

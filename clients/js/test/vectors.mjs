@@ -1,6 +1,6 @@
 // The digests and spellings of docs/FORMATS.md.
 import assert from "node:assert/strict";
-import { Site, sha256, hex, placeOf, spelled, digest, readContext, contextText, readDocument, parse, compact } from "../mvd.js";
+import { Site, Client, Unreachable, sha256, hex, placeOf, spelled, digest, readContext, contextText, readDocument, parse, compact } from "../mvd.js";
 
 const bytes = (text) => new TextEncoder().encode(text);
 const state = (key, context, ...siblings) => ({ key, context, siblings: siblings.map(([dot, text]) => ({ dot, text })) });
@@ -61,4 +61,8 @@ await assert.rejects(site.push("k", await other.get("k")), { number: 11 });
 await assert.rejects(site.push("k", state("k", "1:1", ["2:1", "{}"])), { number: 33 });
 await assert.rejects(site.put("k", { a: 1 }, "1:0"), { number: 2 });
 await assert.rejects(Site.open("two", { site: 0 }), { number: 16 });
+
+// who answers and is no server
+const portal = new Client("http://portal", { fetch: async () => ({ status: 200, text: async () => "<html>" }) });
+for (const asked of [portal.get("a"), portal.put("a", {}), site.sync(portal)]) await assert.rejects(asked, Unreachable);
 console.log("vectors: all well");

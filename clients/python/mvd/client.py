@@ -78,6 +78,14 @@ def _path(*parts, **given):
     return path + ("?" + urllib.parse.urlencode(words, quote_via=urllib.parse.quote, safe="") if words else "")
 
 
+def _told(text):
+    """What a response tells. Who else answers, such as a network that asks for a password first, is no server."""
+    try:
+        return json.loads(text)
+    except ValueError as fault:
+        raise Unknown("the response is no JSON") from fault
+
+
 def _entries(context):
     """A context's text as {site: (base, loose counters)}."""
     out = {}
@@ -195,10 +203,10 @@ class Client:
             return Unreachable(f"{self.servers[self.at]} answers {status}")
 
     def _value(self, path, wait=0):
-        return json.loads(self._ask("GET", path, wait=wait))
+        return _told(self._ask("GET", path, wait=wait))
 
     def _lines(self, path, lines, safe=True):
-        told = [json.loads(line) for line in self._ask("POST", path, "\n".join(lines).encode(), safe=safe).splitlines() if line]
+        told = [_told(line) for line in self._ask("POST", path, "\n".join(lines).encode(), safe=safe).splitlines() if line]
         if len(told) != len(lines):
             raise Unreachable("the response has another number of lines")
         return told
@@ -236,7 +244,7 @@ class Client:
 
     def _put(self, key, text, context):
         if len(context) < LONG_CONTEXT:
-            told = json.loads(self._ask("PUT", _path("keys", key), text.encode(), context, safe=False))
+            told = _told(self._ask("PUT", _path("keys", key), text.encode(), context, safe=False))
             return Written(key, told["dot"], told["context"])
         [told] = self._lines("/keys", [f'{{"key":{json.dumps(key)},"context":"{context}","document":{text}}}'], safe=False)
         if "refused" in told:

@@ -1,7 +1,7 @@
 // The code of docs/OFFLINE.md, run against a server.   usage: node offline.mjs PROGRAM FOLDER PORT
 import assert from "node:assert/strict";
 import path from "node:path";
-import { Site, Client, keepBoth } from "../mvd.js";
+import { Site, Client, keepBoth, addCount, mergeCounts, countOf } from "../mvd.js";
 import { serve } from "./program.mjs";
 
 const [program, folder, port] = process.argv.slice(2), running = await serve(program, path.join(folder, "offline.db"), 1, +port);
@@ -32,6 +32,13 @@ async function claimsApart() {
   assert.deepEqual(sites.map((site) => site.number), [70001, 70002]);
 }
 
+function fillsACart() {
+  const left = addCount({}, "left", "apple", 2), right = addCount({}, "right", "apple", 3);
+  const cart = mergeCounts([left, addCount(right, "right", "apple", -1)]);
+  assert.equal(countOf(cart, "apple"), 4);
+}
+
+fillsACart();
 await holdsACopy();
 await asksAServer();
 await claimsApart();

@@ -1136,7 +1136,7 @@ class Session {
       await this.#pull([...told.items, ...again.map((key) => ({ key }))]);
       root = told.root;
       if (isLast) break;
-      wait = 0;
+      [wait, interrupt] = [0, undefined];
       await this.#note({ ...link, root, left: [...link.left, ...this.#left.keys()] }, false);
     }
     const { seq } = await this.site.clock(), changed = await this.#changedSince(link.seq);

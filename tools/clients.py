@@ -203,7 +203,7 @@ def work(given):
     for i in range(first, first + CHUNK):
         if time.time() > end:
             break
-        lines = bulk(f"{seed} {i}") if i % 100 == 99 else Maker(f"{seed} {i}").script()
+        lines = bulk(f"{seed} {i}") if i % 500 == 99 else Maker(f"{seed} {i}").script()
         seen, printed, sessions = compare(program, NODES[0], lines)
         told[:3] = told[0] + 1, told[1] + printed, told[2] + sessions
         if seen:
@@ -222,7 +222,7 @@ def scripts(program, count, seed, jobs, seconds):
                 print("  " + "\n  ".join(lines[:200]), flush=True)
             if len(faults) > 5:
                 break
-            if done >= last + 10000:
+            if done >= last + 2000:
                 last = done
                 print(f"  {done} scripts so far, in {time.time() - begun:.0f} seconds", flush=True)
     print(f"  {done} scripts, {printed} lines, {sessions} sessions", flush=True)

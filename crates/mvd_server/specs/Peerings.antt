@@ -51,9 +51,13 @@ abbrev pub StaysWithout : Peering → ℕ → Peering → Type 0
 StaysWithout old free new = has_place old.session ≡ false → free ≡ 0 → new.session ≡ old.session
 
 -- nothing is read of the peer until its session has a place again
-abbrev pub is_held_in : Option PeerLink → Bool
+abbrev is_held_in : Option PeerLink → Bool
 is_held_in None = false
 is_held_in (Some link) = link.is_held
+
+-- so where its session gave its place up
+abbrev pub HoldsBack : Peering → Peering → Type 0
+HoldsBack old new = has_place old.session ≡ true → has_place new.session ≡ false → is_held_in new.link ≡ true
 
 abbrev IsLentOver : ℕ → Option PeerLink → Bool → Type 0
 IsLentOver now None has = ⊤

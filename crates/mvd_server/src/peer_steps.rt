@@ -2,8 +2,8 @@
 ghost use Rattle.std.specs.Prelude.{◌≡◌, ◌<◌, IfOk, OnErr, OnOk, false, true};
 ghost use Rattle.mvd_meet.specs.Times.{due_of, ended_of};
 ghost use Rattle.mvd_server.specs.PeerLinks.{LetsIn, ShowsIf};
-ghost use Rattle.mvd_server.specs.Peerings.{BeginsMeeting, EndsMeeting, IsLentAt, StaysWithout, SwapsPlaces, TakesFree};
-ghost use Rattle.mvd_server.specs.Peerings.{TakesNoPlace, has_place, is_held_in};
+ghost use Rattle.mvd_server.specs.Peerings.{BeginsMeeting, EndsMeeting, HoldsBack, IsLentAt, StaysWithout, SwapsPlaces, TakesFree};
+ghost use Rattle.mvd_server.specs.Peerings.{TakesNoPlace, has_place};
 ghost use Rattle.mvd_server.specs.Talking.{TalksDeeds};
 
 use crate::crowd::Crowd;
@@ -150,7 +150,7 @@ impl Peering {
     pub fn give_back(&mut self, waits: bool, now: u64)
         ensures places { TakesNoPlace self.old self.new }
         ensures lends { waits ≡ true → IsLentAt now self.new }
-        ensures held { has_place self.old.session ≡ true → has_place self.new.session ≡ false → is_held_in self.new.link ≡ true }
+        ensures held { HoldsBack self.old self.new }
     {
         let (Some(link), Some(session)) = (&mut self.link, &mut self.session) else {
             return;

@@ -1,7 +1,9 @@
 -- The places of sessions.
-use Rattle.std.proofs.Common.{◌≡◌, ◌≤◌, ◌<◌, ◌+◌, ◌∷◌, [], ◌++◌, ◌∙◌, ℕ, List, Option, Some, arith, ap, get_or, length, set, sym}
+use Rattle.std.proofs.Common.{◌≡◌, ◌≤◌, ◌<◌, ◌+◌, ◌∷◌, [], ◌++◌, ◌∙◌, ℕ, Bool, true, false, List, Option, Some, arith, ap, get_or, length, set, subst, sym, ⊎_elim}
+use Rattle.std.proofs.lemmas.Bool.{cases_eq}
+use Rattle.std.proofs.lemmas.List.{get_or-set_other, get_or-set_same}
 use Rattle.std.proofs.lemmas.List.Sums.{sum_by-set, sum_by_push}
-use Rattle.mvd_server.specs.Peerings.{SwapsPlaces, TakesNoPlace, count_if, has_place, places_of, places_taken}
+use Rattle.mvd_server.specs.Peerings.{IsLentAt, SwapsPlaces, TakesNoPlace, count_if, has_place, places_of, places_taken}
 use Rattle.mvd_server.specs.OwnSides.{IsFreshSession}
 use Rattle.mvd_server.specs.declared.own_session.OwnSession.{OwnSession}
 use Rattle.mvd_server.specs.declared.peering.Peering.{Peering}
@@ -41,3 +43,27 @@ pub fresh_place : (number : ℕ) (old new : Peering) (s : OwnSession) → IsFres
 fresh_place number old new s fresh is =
     let none : places_of new ≡ 0 = ap (λ (o : Option OwnSession). count_if (has_place o)) is ∙ ap count_if fresh.waits in
     omega (arith, none)
+
+-- one that is without stays so
+pub place_rests : (old : Option OwnSession) (a b : OwnSession) (free : ℕ) → old ≡ Some a → (a.runs ≡ false → free ≡ 0 → b ≡ a)
+    → has_place old ≡ false → free ≡ 0 → Some b ≡ old
+place_rests old a b free is rests none full = ap Some (rests (sym (ap has_place is) ∙ none) full) ∙ sym is
+
+-- one that gives its place up has none
+pub gives_up : (old new : Peering) (b : OwnSession) → new.session ≡ Some b → b.runs ≡ false → TakesNoPlace old new
+gives_up old new b is none =
+    let zero : places_of new ≡ 0 = ap (λ (o : Option OwnSession). count_if (has_place o)) is ∙ ap count_if none in
+    omega (arith, zero)
+
+-- so many of them have places that are lent
+abbrev pub LentBelow : Bool → ℕ → ℕ → List Peering → Type 0
+LentBelow waits now n peers = waits ≡ true → (k : ℕ) (d : Peering) → k < n → IsLentAt now (get_or peers k d)
+
+-- one more
+pub lent_more : (waits : Bool) (now : ℕ) (peers : List Peering) (i : ℕ) (new : Peering) → i < length peers
+    → (waits ≡ true → IsLentAt now new) → LentBelow waits now i peers → LentBelow waits now (i + 1) (set peers i new)
+lent_more waits now peers i new at lent below is k d low = ⊎_elim
+    (λ same. subst (λ (n : ℕ). IsLentAt now (get_or (set peers i new) n d)) (sym same)
+    (subst (IsLentAt now) (sym (get_or-set_same peers i new d at)) (lent is)))
+    (λ other. subst (IsLentAt now) (sym (get_or-set_other peers i k new d other)) (below is k d (omega (arith, other))))
+    (cases_eq k i)

@@ -29,5 +29,5 @@ pub use line_told::{LINE_ROOM, push_line};
 pub use live_told::live_response_of;
 pub use page::PAGE;
 pub use question::{Methods, Question, Verb};
-pub use responses::{refused_response, refused_status, response_of};
+pub use responses::{misread_response, refused_response, refused_status, response_of};
 pub use server_told::{push_changes, push_root};

@@ -53,16 +53,6 @@ pub fn term_of(alloc: Global, bytes: &[u8]) -> Result<Term, Refusal>
 }
 
 #[tactic(auto, using(crate::proofs::Texts::is_text, crate::proofs::Texts::is_no_text), unfolding(crate::specs::Paths::read_text))]
-pub fn document_in(alloc: Global, bytes: &[u8]) -> Result<Document, Refusal>
-    ensures { IsAnswer result (read_text document_of BadDocument bytes.now) }
-{
-    match str::from_utf8(bytes) {
-        Ok(text) => Document::read(alloc, text),
-        Err(_) => Err(Refusal::BadDocument),
-    }
-}
-
-#[tactic(auto, using(crate::proofs::Texts::is_text, crate::proofs::Texts::is_no_text), unfolding(crate::specs::Paths::read_text))]
 fn prefix_of(alloc: Global, bytes: &[u8]) -> Result<Prefix, Refusal>
     ensures { IsAnswer result (read_text prefix_of_text BadKey bytes.now) }
 {

@@ -6,7 +6,7 @@ use Rattle.mvd_dots.specs.declared.refusals.Refusal.{Refusal}
 use Rattle.mvd_host.specs.AtHand.{AtHandValue, StepsAtHand}
 use Rattle.mvd_http.specs.declared.fields.Content.TheVariants as content
 use Rattle.mvd_http.specs.declared.question.Question.{Question}
-use Rattle.mvd_http.specs.declared.question.Question.TheVariants.{Page, Root, Metrics, Ask, Live, Changes, Many, TooManyLines, Nowhere, NotAllowed}
+use Rattle.mvd_http.specs.declared.question.Question.TheVariants.{Page, Root, Metrics, Ask, Live, Changes, Many, TooManyLines, Misread, Nowhere, NotAllowed}
 use Rattle.mvd_server.specs.Admitted.{Decides}
 use Rattle.mvd_server.specs.Batches.{BeginsBatch, HandsBatch}
 use Rattle.mvd_server.specs.Errands.{Asks, AsksAtHand, AsksNextOf, Desk, DoesPlan, Errand, Forgoes, IsBatchFor, IsUntold, RunsErrand, Stops, TakesIf, Tells, TellsBatch, TellsChange, TellsMany}
@@ -71,6 +71,7 @@ batch_asked (Ok Page) batch never = absurd never
 batch_asked (Ok Root) batch is = absurd (let no : ⊥ = cc in no)
 batch_asked (Ok Metrics) batch is = absurd (let no : ⊥ = cc in no)
 batch_asked (Ok TooManyLines) batch never = absurd never
+batch_asked (Ok (Misread refusal place)) batch is = absurd (let no : ⊥ = cc in no)
 batch_asked (Ok Nowhere) batch never = absurd never
 batch_asked (Ok (NotAllowed methods)) batch never = absurd never
 batch_asked (Err refusal) batch is = absurd (let no : ⊥ = cc in no)

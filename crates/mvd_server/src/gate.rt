@@ -90,6 +90,7 @@ fn plan_for(alloc: Global, question: &Question) -> Plan
         Question::Root => Plan::Root,
         Question::Metrics => Plan::Metrics,
         Question::TooManyLines => fault(Fault::ContentTooLarge, None),
+        Question::Misread(refusal, _) => Plan::Refused(*refusal),
         Question::Nowhere => fault(Fault::NotFound, None),
         Question::NotAllowed(methods) => fault(Fault::MethodNotAllowed, Some(*methods)),
     }

@@ -98,7 +98,7 @@ def drip(program, folder, short):
 
 class News(Peer):
     """Has a key more at each root that it tells: no session finds it as it was."""
-    met = 0
+    met, document = 0, "{}"
 
     def answer(self, kind, asked):
         if kind == 0x27:
@@ -108,7 +108,7 @@ class News(Peer):
             key = f"new{self.met:07}"
             return frame(0xA8, b"\0\0\1" + counted("B", key) + os.urandom(32))
         if kind == 0x21:
-            return frame(0xA1, state(context((9, 1, [])), (9, 1, "{}")))
+            return frame(0xA1, state(context((9, 1, [])), (9, 1, self.document)))
         return frame(0xA3)
 
 
@@ -193,10 +193,14 @@ def pages(program, folder, short):
     print(f"  {len(LIES)} lists that lie are refused with 33; {len(TRUE)} true ones of several pages are printed", flush=True)
 
 
+class Spaced(News):
+    """Has states of a document that is not compact."""
+    document = "{ }"
+
+
 def forms(program, folder, short):
-    spaced = frame(0xA1, state(context((9, 1, [])), (9, 1, "{ }")))
-    port = Lister(lambda n: spaced).port
-    _, shown, told = run(program, "shell", "--port", port, "--idle", 2, given="get k\n", seconds=5)
-    print(f"  a state whose document has a space: {shown!r} {told[:160]!r}", flush=True)
-    wanted("it is printed", shown.startswith("refused 7 NotCanonical"))
-    wanted(f"the hint blames the server: {told!r}", "the server" not in told or "refused it" not in told)
+    words = program, "sync", "--db", f"{folder}/1.db", "--site", 1, "--port", Spaced().port, "--idle", 2
+    status, shown, told = run(*words)
+    print(f"  a session with states that are in no form: status {status}, {shown!r}, {told!r}", flush=True)
+    wanted("it is 7", status == 1 and "fault 7 NotCanonical" in told)
+    wanted("the server alone is blamed", "refused here" in told)

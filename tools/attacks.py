@@ -44,6 +44,8 @@ from bounds import Other, Server, fill, frame, memory, put_frame  # noqa: E402
 from measure_stored import processor  # noqa: E402
 from peers_fast import free  # noqa: E402
 
+# its servers end with this program, however that ends
+heavy.Server = Server
 # what is wanted: seconds that another client waits, megabytes, seconds of the processor for 60 MiB that are refused
 WAITED, MEMORY, REFUSED_COST = 0.25, 400, 3
 TOKEN = "sesame-sesame-sesame-42"

@@ -9,7 +9,8 @@ ghost use Rattle.mvd_print.specs.Place.{fault_json};
 ghost use Rattle.mvd_http.specs.declared.question.Question.TheVariants.{Ask, Misread};
 ghost use Rattle.mvd_wire.specs.declared.request.Request.TheVariants.{Get};
 ghost use Rattle.mvd_http.specs.Asked.{key_in as key_read, IsQuestionOf, IsQuestionOfKey, IsOfKeys, IsOfServer, IsQuestion};
-ghost use Rattle.mvd_http.specs.Asked.{delete_question as deletes, put_or_place, put_question as puts, read_only as only_read, verb_of as verb_read};
+ghost use Rattle.mvd_http.specs.Asked.{delete_question as deletes, put_or_place, put_question as puts};
+ghost use Rattle.mvd_http.specs.Asked.{read_only as only_read, verb_of as verb_read};
 ghost use Rattle.mvd_http.specs.Seen.{IsContext, IsSeen, IsWrite, then_read};
 
 use crate::lists_asked::{keys_of, list_of};

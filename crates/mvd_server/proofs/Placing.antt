@@ -1,11 +1,13 @@
 -- The places of sessions.
-use Rattle.std.proofs.Common.{◌≡◌, ◌≤◌, ◌<◌, ◌+◌, ◌∷◌, [], ◌++◌, ◌∙◌, ℕ, Bool, true, false, List, Option, Some, arith, ap, get_or, length, set, subst, sym, ⊎_elim}
+use Rattle.std.proofs.Common.{◌≡◌, ◌≤◌, ◌<◌, ◌+◌, ◌∷◌, [], ◌++◌, ◌∙◌, ℕ, Bool, true, false, List, Option, None, Some, arith, ap, get_or, length, set, subst, sym, ⊎_elim}
 use Rattle.std.proofs.lemmas.Bool.{cases_eq}
 use Rattle.std.proofs.lemmas.List.{get_or-set_other, get_or-set_same}
 use Rattle.std.proofs.lemmas.List.Sums.{sum_by-set, sum_by_push}
-use Rattle.mvd_server.specs.Peerings.{IsLentAt, SwapsPlaces, TakesNoPlace, count_if, has_place, places_of, places_taken}
+use Rattle.mvd_server.specs.Peerings.{IsLentAt, IsLentOver, SwapsPlaces, TakesNoPlace, count_if, has_place, places_of, places_taken}
 use Rattle.mvd_server.specs.OwnSides.{IsFreshSession}
+use Rattle.mvd_meet.specs.Loans.{over_at}
 use Rattle.mvd_server.specs.declared.own_session.OwnSession.{OwnSession}
+use Rattle.mvd_server.specs.declared.peer_link.PeerLink.{PeerLink}
 use Rattle.mvd_server.specs.declared.peering.Peering.{Peering}
 
 module _ (list : List Peering) (i : ℕ) (new d : Peering) where
@@ -54,6 +56,23 @@ pub gives_up : (old new : Peering) (b : OwnSession) → new.session ≡ Some b �
 gives_up old new b is none =
     let zero : places_of new ≡ 0 = ap (λ (o : Option OwnSession). count_if (has_place o)) is ∙ ap count_if none in
     omega (arith, zero)
+
+-- who has no connection, no place, or a place that is lent still
+pub lent_unlinked : (now : ℕ) (p : Peering) → p.link ≡ None → IsLentAt now p
+lent_unlinked now p is = subst (λ (o : Option PeerLink). IsLentOver now o (has_place p.session)) (sym is) tt
+
+without_over : (now : ℕ) (link : Option PeerLink) (has : Bool) → has ≡ false → IsLentOver now link has
+without_over now None has none = tt
+without_over now (Some link) has none = λ is.
+    let one : count_if has ≡ 1 = ap count_if is in
+    let zero : count_if has ≡ 0 = ap count_if none in
+    omega (arith, one, zero)
+
+pub lent_without : (now : ℕ) (p : Peering) → has_place p.session ≡ false → IsLentAt now p
+lent_without now p none = without_over now p.link (has_place p.session) none
+
+pub lent_with : (now : ℕ) (p : Peering) (link : PeerLink) → p.link ≡ Some link → now < over_at link.loan → IsLentAt now p
+lent_with now p link is low = subst (λ (o : Option PeerLink). IsLentOver now o (has_place p.session)) (sym is) (λ _. low)
 
 -- so many of them have places that are lent
 abbrev pub LentBelow : Bool → ℕ → ℕ → List Peering → Type 0

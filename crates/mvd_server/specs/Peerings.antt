@@ -59,7 +59,7 @@ is_held_in (Some link) = link.is_held
 abbrev pub HoldsBack : Peering → Peering → Type 0
 HoldsBack old new = has_place old.session ≡ true → has_place new.session ≡ false → is_held_in new.link ≡ true
 
-abbrev IsLentOver : ℕ → Option PeerLink → Bool → Type 0
+abbrev pub IsLentOver : ℕ → Option PeerLink → Bool → Type 0
 IsLentOver now None has = ⊤
 IsLentOver now (Some link) has = has ≡ true → now < over_at link.loan
 

@@ -1,5 +1,5 @@
 //! A connection with a peer, which this server opened.
-ghost use Rattle.std.specs.Prelude.{◌≡◌, ◌≤◌, IfOk, false, true};
+ghost use Rattle.std.specs.Prelude.{◌≡◌, ◌<◌, IfOk, false, true};
 ghost use Rattle.mvd_meet.specs.Callers.{came_at};
 ghost use Rattle.mvd_meet.specs.Loans.{over_at};
 ghost use Rattle.mvd_server.specs.OwnSides.{IsUnasked};
@@ -56,7 +56,7 @@ pub(crate) struct PeerLink {
     pub is_held: bool,
     /// For as many milliseconds no byte need move.
     idle: u64,
-    /// When a byte moved last, or else something was asked.
+    /// When a byte moved last, or else something was asked, or its session got a place.
     pub moved: u64,
 }
 
@@ -125,12 +125,15 @@ impl PeerLink {
         self.is_held && self.socket.readable && !self.far.has_all()
     }
 
-    /// Its session has a place from now on.
+    /// Its session has a place from now on. It is not to blame for the time before.
     pub fn lend(&mut self, now: u64)
-        ensures { self.new ≡ record self.old { loan = record { since = now; mark = now; moved = 0 }; is_held = false } }
+        ensures loan { self.new.loan ≡ record { since = now; mark = now; moved = 0 } }
+        ensures reads { self.new.is_held ≡ false }
+        ensures far { self.new.far ≡ self.old.far }
     {
         self.loan = Loan::new(now);
         self.is_held = false;
+        self.moved = now;
     }
 
     /// Whether something is awaited of the peer, or is to leave to it. A peer whose bytes wait is not waited for.
@@ -184,7 +187,7 @@ impl PeerLink {
     /// loan is over.
     pub fn is_over(&self, waits: bool, now: u64) -> bool
         // Where others wait, none is kept for longer.
-        ensures { waits ≡ true → over_at self.now.loan ≤ now → result ≡ true }
+        ensures { result ≡ false → waits ≡ true → now < over_at self.now.loan }
     {
         (waits && self.loan.due() <= now) || (self.is_open() && self.lull() <= now)
     }

@@ -146,19 +146,23 @@ impl Peering {
 
     /// Its session gives up its place, if it has one, where the loan is over and others wait, or where no byte moved
     /// for a while. Nothing is read of the peer until it has one again.
-    #[tactic(auto, using(crate::proofs::Placing::gives_up))]
+    #[tactic(auto, using(crate::proofs::Placing::gives_up, crate::proofs::Placing::lent_unlinked, crate::proofs::Placing::lent_without, crate::proofs::Placing::lent_with))]
     pub fn give_back(&mut self, waits: bool, now: u64)
         ensures places { TakesNoPlace self.old self.new }
         ensures lends { waits ≡ true → IsLentAt now self.new }
         ensures held { HoldsBack self.old self.new }
     {
-        let (Some(link), Some(session)) = (&mut self.link, &mut self.session) else {
+        let Some(link) = &mut self.link else {
             return;
         };
-        if session.runs && link.is_over(waits, now) {
-            session.leave_place();
-            link.is_held = true;
+        let Some(session) = &mut self.session else {
+            return;
+        };
+        if !session.runs || !link.is_over(waits, now) {
+            return;
         }
+        session.leave_place();
+        link.is_held = true;
     }
 
     /// Asks what is next, or ends the session where it is done.

@@ -217,7 +217,8 @@ def amid_writers(url, units, urls):
 
 def session(url):
     """A first copy of 1,000 keys, and one of nothing, through the proxy."""
-    list(Client(url, TOKEN).write({"key": f"s/{i}", "document": {"i": i}} for i in range(1000)))
+    told = Client(url, TOKEN).write({"key": f"s/{i}", "document": {"i": i}} for i in range(1000))
+    is_so("a list of 1,000 writes", all(refused is None for _, _, refused in told))
     script = """const { Site, Client } = await import(process.argv[1] + '/mvd.js'), [url, token] = process.argv.slice(2);
         const site = await Site.open('', { site: 80000 }), far = new Client(url, { token });
         const first = await site.sync(far, { prefix: 's/' }), second = await site.sync(far, { prefix: 's/' });

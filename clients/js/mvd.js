@@ -548,7 +548,7 @@ class Sibling {
   get document() { return (this.#document ??= parse(this.text)); }
 }
 
-/** The state of an object of HTTP or a `State`; refused as 2, 3 to 6, or 33 where a dot does not rise or is not seen. */
+/** The state of an object of HTTP or a `State`; refused as 2, 3 to 6, 33 where a dot does not rise or is not seen. */
 function stateOf(object) {
   const context = readContext(object.context), siblings = [];
   for (const one of object.siblings) {
@@ -1512,7 +1512,9 @@ export class Client {
 
   async *#held(path, given) {
     for await (const page of this.#pages(path, "keys", given)) {
-      yield* given.documents ? page.map((one) => new State(one.key, stateOf(one))) : page;
+      if (!given.documents) yield* page;
+      else if (page.some((one) => !Array.isArray(one.siblings))) yield* this.getMany(page.map((one) => one.key));
+      else yield* page.map((one) => new State(one.key, stateOf(one)));
     }
   }
 
@@ -1525,8 +1527,18 @@ export class Client {
 
   async *#places(field, given) {
     for await (const page of this.#pages(`/index/${encodeURIComponent(field)}`, "places", given)) {
-      yield* page;
+      yield* given.documents ? await this.#withDocuments(page) : page;
     }
+  }
+
+  /** Places with their documents, but for those whose sibling was replaced meanwhile. */
+  async #withDocuments(places) {
+    const missing = places.filter((place) => place.document === undefined), told = new Map();
+    for await (const { key, siblings } of this.getMany(new Set(missing.map((place) => place.key)))) {
+      for (const { dot, document } of siblings) told.set(`${dot} ${key}`, document);
+    }
+    const documentOf = (place) => place.document ?? told.get(`${place.dot} ${place.key}`);
+    return places.map((place) => ({ ...place, document: documentOf(place) })).filter((place) => place.document);
   }
 
   async *rows(view) {
@@ -1572,11 +1584,12 @@ export class Client {
     return tried < this.#servers.length;
   }
 
-  #item(told) {
+  /** What is told of a key: its state, a fault, that it comes later, or no more than that it changed. */
+  #item(told, key = told.key) {
     if (typeof told === "string") return { key: told };
-    if (told.refused !== undefined) return { key: told.key, fault: faultOf(told) };
-    if (told.later || told.siblings === undefined) return { key: told.key, later: true };
-    try { return { key: told.key, state: stateOf(told) }; } catch (fault) { return { key: told.key, fault }; }
+    if (told.refused !== undefined) return { key, fault: faultOf(told) };
+    if (told.later || told.siblings === undefined) return { key, later: true };
+    try { return { key, state: stateOf(told) }; } catch (fault) { return { key, fault }; }
   }
 
   async changes({ since, prefix, wait = 0, states = false, signal } = {}) {
@@ -1611,7 +1624,8 @@ export class Client {
   }
 
   async states(keys, signal) {
-    return (await this.#lines("/get", keys.map(quoted), { signal })).map((told) => this.#item(told));
+    const told = await this.#lines("/get", keys.map(quoted), { signal });
+    return told.map((line, i) => this.#item(line, keys[i]));
   }
 
   /** Pushes states, { key, state, line }: for each its refusal, or nothing. */

@@ -57,7 +57,8 @@ export class Side {
   digests(prefix, after) {
     return this.#ask([prefix], async () => {
       const rows = await this.site.rows(prefix, after), page = rows.slice(0, this.told);
-      return { keys: page.map(([key, row]) => [key, this.plain ? undefined : row.digest]), next: rows.length > page.length ? page[page.length - 1][0] : undefined };
+      const next = rows.length > page.length ? page[page.length - 1][0] : undefined;
+      return { keys: page.map(([key, row]) => [key, this.plain ? undefined : row.digest]), next };
     });
   }
 

@@ -22,6 +22,10 @@ use Rattle.mvd_web.specs.declared.response.Manner.{Manner}
 
 -- ---- the desk
 
+pub none_kept : (asked : Option Asked) → is_some asked ≡ false → asked ≡ None
+none_kept None e = refl
+none_kept (Some asked) e = absurd (cc e)
+
 -- it was called once, and keeps that request
 pub record CalledOnce (old new : Desk) (calls : List Call) : Type 0 where
   pub call : Call

@@ -1,0 +1,13 @@
+use Rattle.std.proofs.Common.{refl, sym}
+use Rattle.mvd_web.proofs.Calls.{none_kept}
+use Rattle.mvd_web.proofs.desk.DeskService.call.Goals as goal
+
+pub returns-clause-ok : goal.returns-clause-ok
+returns-clause-ok c = record {
+  none = none_kept c.args.self.now.asked (sym c.if-is_some.ensures);
+  asked = c.asked_by.result;
+  kept = refl;
+  asks = c.asked_by.ensures;
+  guard = refl;
+  plain = record { status = refl; headers = c.requires.headers; body = c.requires.body };
+}

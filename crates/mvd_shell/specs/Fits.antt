@@ -1,5 +1,5 @@
--- Whether a page is one that was asked for: its entries strictly rise, from behind the one that was named, and are among
--- those that were asked for.
+-- Whether a page is one that was asked for: its entries strictly rise, from behind the one that was named, and are
+-- among those that were asked for.
 use Rattle.std.specs.Prelude.{ℕ, ◌&&◌, ◌||◌, not, nat_lt, Bool, true, false, List, [], ◌∷◌, length, Option, Some, None, ℤ}
 use Rattle.std.specs.Ordering.{eq_by_cmp, is_lt}
 use Rattle.mvd_dots.specs.Dot.{DotValue}

@@ -6,8 +6,10 @@ usage: tools/admitted.py PROGRAM
 PROGRAM is `mvd` as built. It tells what it tried, and ends with 1 at the first that is not as wanted:
 - frames: a Hello with the token first, and all is answered; with another, with half of it, with more than it, with none, or
   with something else first, one Refused of 38 comes, and the end; the same in pieces of a byte;
+- a length over 259, which no Hello has, is told 38 before a byte behind it came;
 - a server without a token answers Hello whatever it says;
 - HTTP: the page needs no token, and each other path does; a request without it changes nothing, whatever else it asks;
+- a body of 1 MiB of a request without the token costs less than a tenth of the processor's time that it costs with it;
 - sessions and shells say Hello with the token of their own file, also between servers; with another file, or none, they are
   told 38 with a hint;
 - token files that are missing, too short, too long, or hold a space are told with a hint, and no database is made;
@@ -108,6 +110,18 @@ class Server:
                 came += piece
             return came
 
+    def first_told(self, sent):
+        """What a client is told first that sends this, and stays."""
+        with socket.create_connection(("127.0.0.1", self.port), timeout=PATIENCE) as peer:
+            peer.sendall(sent)
+            return peer.recv(65_536)
+
+    def work(self):
+        """The processor's time that it took so far, in seconds."""
+        with open(f"/proc/{self.process.pid}/stat", encoding="ascii") as it:
+            fields = it.read().rsplit(")", 1)[1].split()
+        return (int(fields[11]) + int(fields[12])) / os.sysconf("SC_CLK_TCK")
+
     def keeps_open(self, sent):
         """Whether a client that sends this and stays is told Done, and not the end."""
         with socket.create_connection(("127.0.0.1", self.port), timeout=PATIENCE) as peer:
@@ -155,6 +169,9 @@ def in_frames(server):
             miss(f"{first!r} in front of the Hello is not refused with 38")
     if server.told(b"") != b"":
         miss("a client that sends nothing is told something")
+    for length in 260, 65_536, 1_200_000, 1_200_001, 2**32 - 1:
+        if server.first_told(struct.pack(">I", length)) != REFUSED:
+            miss(f"a first length of {length} is not refused with 38 at once")
 
 
 def over_http(server):
@@ -181,6 +198,21 @@ def over_http(server):
     status, fields, metrics = server.asked("GET", "/metrics", bearer)
     if status != 200 or TOKEN in metrics:
         miss("the metrics are not as wanted")
+
+
+def bodies_unread(server):
+    """What bodies cost that are long to read as documents, with the token and without it."""
+    body = b'{"a":[' + b'{"":{}},' * 131_000 + b"0]}"
+    costs = []
+    for token, wanted in (f"Bearer {TOKEN}", 400), (None, 401), (f"Bearer {OTHER}", 401):
+        before = server.work()
+        for _ in range(8):
+            status = server.asked("PUT", "/keys/long", token, body)[0]
+            if status != wanted:
+                miss(f"a long body with {token!r} was told {status}")
+        costs.append(server.work() - before)
+    if max(costs[1:]) * 10 > costs[0]:
+        miss(f"long bodies without the token took {costs[1:]} seconds of the processor, and {costs[0]} with it")
 
 
 def fails(done, *texts):
@@ -269,6 +301,8 @@ def main(program):
         print("admitted: frames with it, with another, with half of it, and without", flush=True)
         over_http(server)
         print("admitted: HTTP, with it and without", flush=True)
+        bodies_unread(server)
+        print("admitted: bodies without it are not read", flush=True)
         by_commands(place, server, other, right, wrong)
         print("admitted: sessions, servers that meet, and shells", flush=True)
         open_to_all(place, right)

@@ -1,9 +1,10 @@
 -- Who may come in.
 use Rattle.std.proofs.Common.{◌≡◌, ℕ, zero, suc, ◌<◌, ◌&&◌, Bool, true, false, eqb, cond, List, [], ◌∷◌, ◌++◌, length, take, get_or, Option, Some, None, refl, subst, arith}
 use Rattle.std.specs.Str.{bytes_eq}
+use Rattle.mvd_dots.specs.declared.refusals.Refusal.{Refusal}
 use Rattle.mvd_dots.specs.declared.refusals.Refusal.TheVariants.{NotAdmitted, TooManyRequests}
 use Rattle.mvd_wire.specs.Frames.{FrameValue, frame_at}
-use Rattle.mvd_conn.specs.Guard.{IsShown, may_come}
+use Rattle.mvd_conn.specs.Guard.{IsShown, is_barred, may_come}
 use Rattle.mvd_conn.specs.History.{Gives, History, NextTaken, Over, Stops, Waits, frames_most, let_in, next_held, next_of}
 use Rattle.mvd_conn.specs.declared.guard.Guard.{Guard}
 
@@ -54,13 +55,16 @@ shown_more None taken f may shown = tt
 shown_more (Some guard) [] f may shown = may
 shown_more (Some guard) (g ∷ taken) f may shown = shown
 
-not_stopped : (b : Bool) (next : NextTaken) (f : FrameValue) (rest : List ℕ) → cond b (Stops TooManyRequests) next ≡ Gives f rest → next ≡ Gives f rest
-not_stopped true next f rest e = absurd cc
-not_stopped false next f rest e = e
+not_stopped : (b : Bool) (r : Refusal) (next : NextTaken) (f : FrameValue) (rest : List ℕ) → cond b (Stops r) next ≡ Gives f rest → next ≡ Gives f rest
+not_stopped true r next f rest e = absurd cc
+not_stopped false r next f rest e = e
 
 -- a frame that is taken first shows the token, where there is a guard
 pub gives_shown : (h : History) (f : FrameValue) (rest : List ℕ) → next_of h ≡ Gives f rest → IsShown h.guard h.taken → IsShown h.guard (h.taken ++ f ∷ [])
 gives_shown h f rest next shown =
     let y : NextTaken = next_held h.source h.held (frame_at h.held) in
-    let in_ : let_in h.guard h.taken y ≡ Gives f rest = not_stopped (eqb (length h.taken) frames_most) (let_in h.guard h.taken y) f rest next in
+    let barred = is_barred h.guard h.taken h.held in
+    let in_ : let_in h.guard h.taken y ≡ Gives f rest =
+    not_stopped barred NotAdmitted (let_in h.guard h.taken y) f rest
+    (not_stopped (eqb (length h.taken) frames_most) TooManyRequests (cond barred (Stops NotAdmitted) (let_in h.guard h.taken y)) f rest next) in
     shown_more h.guard h.taken f (given_may h.guard h.taken y f rest in_) shown

@@ -14,7 +14,7 @@ use Rattle.mvd_conn.specs.declared.source.Source.{Source}
 use Rattle.mvd_conn.specs.declared.source.Source.TheVariants as source
 use Rattle.mvd_wire.specs.declared.ending.Ending.{Ending}
 use Rattle.mvd_wire.specs.declared.ending.Ending.TheVariants as ending
-use Rattle.mvd_conn.specs.Guard.{may_come}
+use Rattle.mvd_conn.specs.Guard.{is_barred, may_come}
 use Rattle.mvd_conn.specs.declared.guard.Guard.{Guard}
 use Rattle.mvd_conn.proofs.Guarded.{gives_shown, let_in_waits}
 use Rattle.mvd_conn.specs.History.{Gives, History, NextTaken, Over, Stops, Waits, due, fed, frame_most, frames_most, is_bye, is_held_up, last_bytes, let_in, next_held, next_of, next_of_source, over, owed, replied, stopped, taking, waits_most}
@@ -84,31 +84,36 @@ open_over : (guard : Option Guard) (taken : List FrameValue) (t : Bool) → let_
 open_over guard taken true e = absurd cc
 open_over guard taken false e = absurd cc
 
-never_over : (guard : Option Guard) (taken : List FrameValue) (b : Bool) (held : List ℕ) (r : Result (Option FrameValue × List ℕ) Refusal) → cond b (Stops TooManyRequests) (let_in guard taken (next_held source.Open held r)) ≡ Over → ⊥
-never_over guard taken true held r e = absurd cc
-never_over guard taken false held (Ok (Some f, rest)) e = given_over (may_come guard taken f) f rest e
-never_over guard taken false held (Ok (None, rest)) e = absurd cc
-never_over guard taken false held (Err refusal) e = open_over guard taken (eqb (number_of refusal) (number_of FrameTooLong)) e
+never_over : (guard : Option Guard) (taken : List FrameValue) (b c : Bool) (held : List ℕ) (r : Result (Option FrameValue × List ℕ) Refusal) → cond b (Stops TooManyRequests) (cond c (Stops NotAdmitted) (let_in guard taken (next_held source.Open held r))) ≡ Over → ⊥
+never_over guard taken true c held r e = absurd cc
+never_over guard taken false true held r e = absurd cc
+never_over guard taken false false held (Ok (Some f, rest)) e = given_over (may_come guard taken f) f rest e
+never_over guard taken false false held (Ok (None, rest)) e = absurd cc
+never_over guard taken false false held (Err refusal) e = open_over guard taken (eqb (number_of refusal) (number_of FrameTooLong)) e
 
 open_stops : (guard : Option Guard) (taken : List FrameValue) (t : Bool) (y : NextTaken) (x : Refusal) → let_in guard taken (cond t (Stops FrameTooLong) Waits) ≡ Stops x → let_in guard taken (cond t (Stops FrameTooLong) y) ≡ Stops x
 open_stops guard taken true y x e = e
 open_stops guard taken false y x e = absurd cc
 
-still_stops : (guard : Option Guard) (taken : List FrameValue) (b : Bool) (new : Source) (held : List ℕ) (r : Result (Option FrameValue × List ℕ) Refusal) (x : Refusal) → cond b (Stops TooManyRequests) (let_in guard taken (next_held source.Open held r)) ≡ Stops x → cond b (Stops TooManyRequests) (let_in guard taken (next_held new held r)) ≡ Stops x
-still_stops guard taken true new held r x e = e
-still_stops guard taken false new held (Ok (Some f, rest)) x e = e
-still_stops guard taken false new held (Ok (None, rest)) x e = absurd cc
-still_stops guard taken false new held (Err refusal) x e = open_stops guard taken (eqb (number_of refusal) (number_of FrameTooLong)) (next_of_source new held) x e
+still_stops : (guard : Option Guard) (taken : List FrameValue) (b c : Bool) (new : Source) (held : List ℕ) (r : Result (Option FrameValue × List ℕ) Refusal) (x : Refusal) → cond b (Stops TooManyRequests) (cond c (Stops NotAdmitted) (let_in guard taken (next_held source.Open held r))) ≡ Stops x
+    → cond b (Stops TooManyRequests) (cond c (Stops NotAdmitted) (let_in guard taken (next_held new held r))) ≡ Stops x
+still_stops guard taken true c new held r x e = e
+still_stops guard taken false true new held r x e = e
+still_stops guard taken false false new held (Ok (Some f, rest)) x e = e
+still_stops guard taken false false new held (Ok (None, rest)) x e = absurd cc
+still_stops guard taken false false new held (Err refusal) x e = open_stops guard taken (eqb (number_of refusal) (number_of FrameTooLong)) (next_of_source new held) x e
 
 last_closed : (h : History) (new : Source) (l : Option Ending) → h.source ≡ source.Open → IsLast h l → IsLast (record h { source = new }) l
 last_closed h new None opened s = s
 last_closed h new (Some ending.Bye) opened s = s
 last_closed h new (Some ending.End) opened s =
     let all = eqb (length h.taken) frames_most in
-    absurd (never_over h.guard h.taken all h.held (frame_at h.held) (ap (λ (from : Source). cond all (Stops TooManyRequests) (let_in h.guard h.taken (next_held from h.held (frame_at h.held)))) (sym opened) ∙ s.2))
+    let barred = is_barred h.guard h.taken h.held in
+    absurd (never_over h.guard h.taken all barred h.held (frame_at h.held) (ap (λ (from : Source). cond all (Stops TooManyRequests) (cond barred (Stops NotAdmitted) (let_in h.guard h.taken (next_held from h.held (frame_at h.held))))) (sym opened) ∙ s.2))
 last_closed h new (Some (ending.Stopped refusal)) opened s =
     let all = eqb (length h.taken) frames_most in
-    (s.0, s.1, still_stops h.guard h.taken all new h.held (frame_at h.held) refusal (ap (λ (from : Source). cond all (Stops TooManyRequests) (let_in h.guard h.taken (next_held from h.held (frame_at h.held)))) (sym opened) ∙ s.2))
+    let barred = is_barred h.guard h.taken h.held in
+    (s.0, s.1, still_stops h.guard h.taken all barred new h.held (frame_at h.held) refusal (ap (λ (from : Source). cond all (Stops TooManyRequests) (cond barred (Stops NotAdmitted) (let_in h.guard h.taken (next_held from h.held (frame_at h.held))))) (sym opened) ∙ s.2))
 
 pub stands_closed : (h : History) (new : Source) → h.source ≡ source.Open → HistoryStands h → HistoryStands (record h { source = new })
 stands_closed h new opened s = record {
@@ -221,7 +226,10 @@ stops_never r e = absurd cc
 pub waits_few : (h : History) → next_of h ≡ Waits → length h.held < frame_most
 waits_few h e =
     let y : NextTaken = next_held h.source h.held (frame_at h.held) in
-    let next : y ≡ Waits = let_in_waits h.guard h.taken y (awaits (eqb (length h.taken) frames_most) TooManyRequests (let_in h.guard h.taken y) e) in
+    let next : y ≡ Waits =
+    let_in_waits h.guard h.taken y
+    (awaits (is_barred h.guard h.taken h.held) NotAdmitted (let_in h.guard h.taken y)
+    (awaits (eqb (length h.taken) frames_most) TooManyRequests (cond (is_barred h.guard h.taken h.held) (Stops NotAdmitted) (let_in h.guard h.taken y)) e)) in
     elim (cases_lt (length h.held) frame_most) [
       | inl lt ↦ lt
       | inr le ↦

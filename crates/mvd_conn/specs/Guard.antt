@@ -1,5 +1,6 @@
 -- Who may come in: whoever shows the token of a guard, which is known by its SHA-256 (FIPS 180-4).
-use Rattle.std.specs.Prelude.{◌≡◌, ℕ, ◌+◌, ◌*◌, Bool, true, false, ◌==◌, ◌&&◌, nat_le, List, [], ◌∷◌, length, Option, Some, None, ⊤}
+use Rattle.std.specs.Prelude.{◌≡◌, ℕ, ◌+◌, ◌*◌, Bool, true, false, ◌==◌, ◌&&◌, nat_le, nat_lt, List, [], ◌∷◌, length, take, Option, Some, None, ⊤}
+use Rattle.std.specs.Int.{w32, from_be_bytes}
 use Rattle.std.specs.Str.{bytes_eq}
 use Rattle.sha2.specs.Sha256.{sha256}
 use Rattle.mvd_conn.specs.declared.guard.Guard.{Guard}
@@ -29,6 +30,13 @@ abbrev pub may_come : Option Guard → List FrameValue → FrameValue → Bool
 may_come None taken f = true
 may_come (Some guard) [] f = shows guard f
 may_come (Some guard) (g ∷ taken) f = true
+
+-- behind these, no frame that begins so may be taken: it is the first, and its length is none that a Hello has, which
+-- counts a kind, two bytes, and at most 256 of a token
+abbrev pub is_barred : Option Guard → List FrameValue → List ℕ → Bool
+is_barred None taken held = false
+is_barred (Some guard) [] held = nat_le 4 (length held) && nat_lt 259 (from_be_bytes w32 (take 4 held))
+is_barred (Some guard) (g ∷ taken) held = false
 
 -- THE FIRST FRAME THAT WAS TAKEN, where there is a guard, shows the token
 abbrev pub IsShown : Option Guard → List FrameValue → Type 0

@@ -9,7 +9,7 @@ use Rattle.mvd_wire.specs.declared.reply.Reply.TheVariants.{Refused}
 use Rattle.mvd_wire.specs.Frames.{FrameValue, frame_at}
 use Rattle.mvd_wire.specs.Requests as asked
 use Rattle.mvd_wire.specs.Replies.{reply_bytes}
-use Rattle.mvd_conn.specs.Guard.{may_come}
+use Rattle.mvd_conn.specs.Guard.{is_barred, may_come}
 use Rattle.mvd_conn.specs.declared.guard.Guard.{Guard}
 use Rattle.mvd_conn.specs.declared.source.Source.{Source}
 use Rattle.mvd_conn.specs.declared.source.Source.TheVariants as source
@@ -117,12 +117,13 @@ let_in guard taken Over = Over
 let_in guard taken (Stops refusal) = Stops refusal
 let_in guard taken Waits = Waits
 
--- the first cause decides: as many frames as there may be, a whole frame, which may come in or not, a length that no
--- frame has, the source's end
+-- the first cause decides: as many frames as there may be, a length that no Hello has where one is wanted, a whole
+-- frame, which may come in or not, a length that no frame has, the source's end
 abbrev pub next_of : History → NextTaken
 next_of h =
     if length h.taken == frames_most then Stops TooManyRequests
-    else let_in h.guard h.taken (next_held h.source h.held (frame_at h.held))
+    else (if is_barred h.guard h.taken h.held then Stops NotAdmitted
+    else let_in h.guard h.taken (next_held h.source h.held (frame_at h.held)))
 
 -- nothing more is taken, or not before replies are queued or leave
 abbrev pub is_held_up : History → Bool

@@ -9,7 +9,7 @@ ghost use Rattle.mvd_wire.specs.Replies.{CanBeSent, reply_bytes};
 
 use crate::guard::Guard;
 use crate::room::make_room;
-use crate::scan::{Found, Front, front_of, last_after, may_be_long};
+use crate::scan::{Found, Front, front_of, is_over_hello, last_after, may_be_long};
 use crate::source::Source;
 use bytes::BytesMut;
 use http_server::Log;
@@ -85,7 +85,7 @@ impl Connection {
     ghost use Rattle.mvd_conn.specs.History.{NextRefused, Over, Stops, WantsInput, after_next, closed, cut, due, ending_of};
     ghost use Rattle.mvd_conn.specs.History.{ends_long, fed, frame_most, is_done, is_held_up, new_history, next_of, over};
     ghost use Rattle.mvd_conn.specs.History.{owed, piece_most, released, replied, sent, stopped};
-    ghost use Rattle.mvd_conn.specs.Guard.{may_come};
+    ghost use Rattle.mvd_conn.specs.Guard.{is_barred, may_come};
     ghost use Rattle.mvd_conn.specs.Stands.{IsBounded, IsQueued, HistoryStands, frame_of};
     ghost use Rattle.mvd_conn.specs.Front.{IsFound, TakesFrame};
     ghost use Rattle.mvd_conn.specs.declared.scan.Found.TheVariants as Found;
@@ -331,6 +331,9 @@ impl Connection {
             return Found::Stops(Refusal::TooManyRequests);
         }
         let held = &self.input.as_slice()[self.hand..];
+        if self.is_barred(held) {
+            return Found::Stops(Refusal::NotAdmitted);
+        }
         match front_of(held) {
             Front::Whole(size) if self.may_come(&held[..size]) => Found::Frame(size),
             Front::Whole(_) => Found::Stops(Refusal::NotAdmitted),
@@ -353,6 +356,13 @@ impl Connection {
             Some(guard) if self.count == 0 => guard.is_shown(frame[4], &frame[5..]),
             _ => true,
         }
+    }
+
+    /// Whether a Hello is wanted, and bytes begin with the length of a longer frame: its rest is not awaited.
+    fn is_barred(&self, held: &[u8]) -> bool
+        ensures { result ≡ is_barred self.now.guard self.now.taken held.now }
+    {
+        self.guard.is_some() && self.count == 0 && is_over_hello(held)
     }
 
     /// Takes the frame at the front in hand, with room for a short reply to it.

@@ -1,11 +1,15 @@
 //! What stands at the front of the input.
-ghost use Rattle.std.specs.Prelude.{◌≡◌, if◌then◌else◌, Some};
+ghost use Rattle.std.specs.Prelude.{◌≡◌, ◌&&◌, if◌then◌else◌, Some, length, nat_le, nat_lt, take};
+ghost use Rattle.std.specs.Int.{from_be_bytes, w32};
 ghost use Rattle.mvd_wire.specs.declared.ending.Ending.TheVariants as Ending;
 ghost use Rattle.mvd_conn.specs.History.{is_bye, may_be_long};
 ghost use Rattle.mvd_conn.specs.Front.{IsFront};
 
 use mvd_dots::Refusal;
 use mvd_wire::{Ending, FRAME_LIMIT};
+
+/// The most bytes that the length of a Hello counts: its kind, the length of the token, and the token.
+const HELLO_LIMIT: u32 = 259;
 
 /// What bytes begin with.
 #[derive(Clone, Copy)]
@@ -48,6 +52,18 @@ pub fn front_of(bytes: &[u8]) -> Front
         return Front::Part;
     }
     Front::Whole(4 + length)
+}
+
+/// Whether the bytes begin with the length of a frame that is longer than any Hello.
+pub(crate) fn is_over_hello(bytes: &[u8]) -> bool
+    ensures { result ≡ (nat_le 4 (length bytes.now) && nat_lt 259 (from_be_bytes w32 (take 4 bytes.now))) }
+{
+    if bytes.len() < 4 {
+        return false;
+    }
+    let mut head = [0u8; 4];
+    head.copy_from_slice(&bytes[..4]);
+    u32::from_be_bytes(head) > HELLO_LIMIT
 }
 
 /// Why no frame is taken after this one, or what was known of that before.

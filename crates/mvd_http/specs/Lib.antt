@@ -8,3 +8,4 @@ pub mod Faults
 pub mod Guard
 pub mod Fields
 pub mod Room
+pub mod OpenToAll

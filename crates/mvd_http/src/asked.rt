@@ -44,7 +44,7 @@ pub fn question_of(
     }
 }
 
-fn verb_of(method: &[u8]) -> Verb
+pub(crate) fn verb_of(method: &[u8]) -> Verb
     ensures { result ≡ verb_read method.now }
 {
     if method == b"GET".as_slice() || method == b"HEAD".as_slice() {

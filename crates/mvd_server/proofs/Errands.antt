@@ -7,7 +7,7 @@ use Rattle.mvd_host.specs.AtHand.{AtHandValue, StepsAtHand}
 use Rattle.mvd_http.specs.declared.fields.Content.TheVariants as content
 use Rattle.mvd_http.specs.declared.question.Question.{Question}
 use Rattle.mvd_http.specs.declared.question.Question.TheVariants.{Page, Root, Metrics, Ask, Live, Changes, Many, TooManyLines, Misread, Nowhere, NotAllowed}
-use Rattle.mvd_server.specs.Admitted.{AsksSite}
+use Rattle.mvd_server.specs.Admitted.{Decides}
 use Rattle.mvd_server.specs.Batches.{BeginsBatch, HandsBatch}
 use Rattle.mvd_server.specs.Errands.{Asks, AsksAtHand, AsksNextOf, Desk, DoesPlan, Errand, Forgoes, IsBatchFor, IsUntold, RunsErrand, Stops, TakesIf, Tells, TellsBatch, TellsChange, TellsMany}
 use Rattle.mvd_server.specs.Lines.{IsOnlyTold, TellsEachLine}
@@ -19,6 +19,8 @@ use Rattle.mvd_server.specs.declared.gate.Rest.{Rest}
 use Rattle.mvd_server.specs.declared.gate.Rest.TheVariants as rest
 use Rattle.mvd_web.specs.Web.{RespondsTo, TakesRequest, WebValue, stopped_by}
 use Rattle.mvd_web.specs.declared.taken.Asked.{Asked}
+use Rattle.mvd_web.specs.declared.taken.Entry.{Entry}
+use Rattle.mvd_web.specs.declared.taken.Entry.TheVariants.{Open, HostMissing, ForeignPage, NoToken}
 use Rattle.mvd_wire.specs.declared.reply.Reply.{Reply}
 use Rattle.mvd_wire.specs.declared.request.Request.{Request}
 
@@ -74,11 +76,18 @@ batch_asked (Ok Nowhere) batch never = absurd never
 batch_asked (Ok (NotAllowed methods)) batch never = absurd never
 batch_asked (Err refusal) batch is = absurd (let no : ⊥ = cc in no)
 
-batch_left : (guard : Option Guard) (n : ℕ) (p : Plan) (asked : Asked) (old : WebValue) (hand : AtHandValue) (new : WebValue) (hand' : AtHandValue) (batch : Batch) → old.asked ≡ Some asked → (AsksSite p → IsPlanOf asked.question p)
+-- only a request that comes in has its writes asked
+writes_decided : (entry : Entry) (q : Result Question Refusal) (batch : Batch) → Decides entry q (plan.Writes batch) → IsPlanOf q (plan.Writes batch)
+writes_decided Open q batch plans = plans
+writes_decided HostMissing q batch never = absurd never
+writes_decided ForeignPage q batch never = absurd never
+writes_decided NoToken q batch is = absurd (let no : ⊥ = cc in no)
+
+batch_left : (guard : Option Guard) (n : ℕ) (p : Plan) (asked : Asked) (old : WebValue) (hand : AtHandValue) (new : WebValue) (hand' : AtHandValue) (batch : Batch) → old.asked ≡ Some asked → Decides asked.entry asked.question p
     → DoesPlan n p old hand new hand' (rest.Writes batch) → IsBatchFor new.asked batch
 batch_left guard n (plan.Writes batch') asked old hand new hand' batch kept plans (is, same, left) =
     let one : batch ≡ batch' = cc in
-    subst (λ o. IsBatchFor o batch) (sym (ap (λ (w : WebValue). w.asked) same ∙ kept)) (subst (λ b. IsBatchFor (Some asked) b) (sym one) (batch_asked asked.question batch' (plans tt)))
+    subst (λ o. IsBatchFor o batch) (sym (ap (λ (w : WebValue). w.asked) same ∙ kept)) (subst (λ b. IsBatchFor (Some asked) b) (sym one) (batch_asked asked.question batch' (writes_decided asked.entry asked.question batch' plans)))
 batch_left guard n (plan.Ask request) asked old hand new hand' batch kept plans (asks, left) = absurd (let no : ⊥ = cc in no)
 batch_left guard n (plan.Changes since wait) asked old hand new hand' batch kept plans (is, inl (left, body)) = absurd (let no : ⊥ = cc in no)
 batch_left guard n (plan.Changes since wait) asked old hand new hand' batch kept plans (is, inr (root, some, left, same)) = absurd (let no : ⊥ = cc in no)
@@ -90,12 +99,12 @@ batch_left guard n (plan.Refused refusal) asked old hand new hand' batch kept pl
 
 pub batch_of : (guard : Option Guard) (n : ℕ) (old : WebValue) (hand : AtHandValue) (new : WebValue) (hand' : AtHandValue) (batch : Batch) → AsksNextOf guard n old hand new hand' (rest.Writes batch) → IsBatchFor new.asked batch
 batch_of guard n old hand new hand' batch (inl (told, none)) = let left = told.1 in absurd (let no : ⊥ = cc in no)
-batch_of guard n old hand new hand' batch (inr one) = batch_left guard n one.plan one.asked one.mid hand new hand' batch one.kept one.decides.asks one.does
+batch_of guard n old hand new hand' batch (inr one) = batch_left guard n one.plan one.asked one.mid hand new hand' batch one.kept one.decides one.does
 
 -- ---- a request is taken, or none is
 
-pub asks_none : (guard : Option Guard) (n : ℕ) (old new : WebValue) (hand : AtHandValue) (took : Bool) → TakesRequest old took new → took ≡ false → AsksNextOf guard n old hand new hand rest.Nothing
-asks_none guard n old new hand took takes is = inl ((refl, refl), subst (λ b. TakesRequest old b new) is takes)
+pub asks_none : (guard : Option Guard) (n : ℕ) (old new : WebValue) (hand : AtHandValue) (took : Bool) → TakesRequest guard old took new → took ≡ false → AsksNextOf guard n old hand new hand rest.Nothing
+asks_none guard n old new hand took takes is = inl ((refl, refl), subst (λ b. TakesRequest guard old b new) is takes)
 
 -- ---- many writes are told
 

@@ -9,10 +9,10 @@ use Rattle.mvd_dots.specs.declared.refusals.Refusal.TheVariants.{Memory}
 use Rattle.mvd_host.specs.AtHand.{AtHandValue, MayWait, TakesFirst, asked_by_one}
 use Rattle.mvd_http.specs.declared.fields.Content.TheVariants as content
 use Rattle.mvd_http.specs.declared.question.Question.TheVariants.{Changes, Many}
-use Rattle.mvd_server.specs.Admitted.{AsksSite, IsOwnPage, KeepsOut, MayAsk, is_welcome}
+use Rattle.mvd_server.specs.Admitted.{Decides}
 use Rattle.mvd_server.specs.Batches.{BeginsBatch}
 use Rattle.mvd_server.specs.Lines.{IsOnlyTold, TellsEachLine}
-use Rattle.mvd_server.specs.Plans.{IsPlanOf, plain_answer}
+use Rattle.mvd_server.specs.Plans.{plain_answer}
 use Rattle.mvd_server.specs.Responding.{AnswersWeb, RefusesWeb, TellsBody, token_answer, not_admitted}
 use Rattle.mvd_server.specs.declared.batch.Batch.{Batch}
 use Rattle.mvd_server.specs.declared.gate.Plan.{Plan}
@@ -25,14 +25,6 @@ use Rattle.mvd_wire.specs.declared.reply.Reply.{Reply}
 use Rattle.mvd_wire.specs.declared.request.Request.{Request}
 
 -- ---- a request is taken
-
--- What is done about it. What is asked of the site, is what the request asks, of whoever may ask it
-pub record Decides (guard : Option Guard) (asked : Asked) (p : Plan) : Type 0 where
-  pub site : AsksSite p → MayAsk guard asked
-  pub own : AsksSite p → IsOwnPage asked
-  pub asks : AsksSite p → IsPlanOf asked.question p
-  pub done : is_welcome guard asked ≡ true → IsPlanOf asked.question p
-  pub out : is_welcome guard asked ≡ false → KeepsOut asked p
 
 -- the site is asked nothing, and nothing is left to do
 abbrev pub IsToldRest : AtHandValue → AtHandValue → Rest → Type 0
@@ -68,17 +60,17 @@ pub record AsksOne (guard : Option Guard) (n : ℕ) (old : WebValue) (hand : AtH
     (hand' : AtHandValue)
     (left : Rest) : Type 0 where
   pub mid : WebValue
-  pub takes : TakesRequest old true mid
+  pub takes : TakesRequest guard old true mid
   pub asked : Asked
   pub kept : mid.asked ≡ Some asked
   pub plan : Plan
-  pub decides : Decides guard asked plan
+  pub decides : Decides asked.entry asked.question plan
   pub does : DoesPlan n plan mid hand new hand' left
 
 -- or there is none
 abbrev pub AsksNextOf : Option Guard → ℕ → WebValue → AtHandValue → WebValue → AtHandValue → Rest → Type 0
 AsksNextOf guard n old hand new hand' left =
-    (IsToldRest hand hand' left × TakesRequest old false new) ⊎ AsksOne guard n old hand new hand' left
+    (IsToldRest hand hand' left × TakesRequest guard old false new) ⊎ AsksOne guard n old hand new hand' left
 
 -- ---- many writes
 

@@ -1,10 +1,10 @@
 //! From a request of HTTP to what is asked of the site, and from the reply to the response.
-ghost use Rattle.std.specs.Prelude.{◌≡◌, ℕ, IsTrue, false, option_copied, true};
+ghost use Rattle.std.specs.Prelude.{ℕ, option_copied};
 ghost use Rattle.mvd_http.specs.declared.fields.Content.TheVariants.{Json, Plain};
-ghost use Rattle.mvd_server.specs.Admitted.{AsksSite, AsksToken, IsOwnPage, KeepsOut, MayAsk, is_let_in, is_welcome};
+ghost use Rattle.mvd_server.specs.Admitted.{Decides};
 ghost use Rattle.mvd_host.specs.AtHand.{AtHandValue};
 ghost use Rattle.mvd_server.specs.Errands.{AsksAtHand, AsksNextOf, DoesPlan, TakesIf, TellsBatch, TellsOrWaits};
-ghost use Rattle.mvd_server.specs.Plans.{IsPlanFor, IsPlanOf, TellsFault};
+ghost use Rattle.mvd_server.specs.Plans.{IsPlanFor, TellsFault};
 ghost use Rattle.mvd_server.specs.Responding.{TellsBody, not_admitted, token_answer};
 ghost use Rattle.mvd_web.specs.Inside.{web_of};
 ghost use Rattle.mvd_web.specs.Web.{RespondsTo};
@@ -20,7 +20,7 @@ use mvd_dots::Refusal;
 use mvd_host::{AtHand, Feed};
 use mvd_http::{Answer, Content, Fault, Methods, PAGE, Question, push_root};
 use mvd_replica::Replica;
-use mvd_web::{Asked, WebConnection};
+use mvd_web::{Asked, Entry, WebConnection};
 use mvd_wire::{Reply, Request};
 use sqlite::Alter;
 use std::alloc::Global;
@@ -57,50 +57,18 @@ pub(crate) enum Rest {
     Waits([u8; 32], u32),
 }
 
-fn plan_of(alloc: Global, guard: Option<&Guard>, asked: &Asked) -> Plan
-    // Nothing is asked of the site, or told of it, for whoever may not come in, or for another server's page.
-    ensures site { AsksSite result → MayAsk (option_copied guard.entry) asked.now }
-    ensures own { AsksSite result → IsOwnPage asked.now }
-    ensures asks { AsksSite result → IsPlanOf asked.now.question result }
-    // Whoever may is answered, and whoever may not is told so.
-    ensures done { is_welcome (option_copied guard.entry) asked.now ≡ true → IsPlanOf asked.now.question result }
-    ensures out { is_welcome (option_copied guard.entry) asked.now ≡ false → KeepsOut asked.now result }
+/// What is done about a request. Nothing is asked of the site, or told of it, for one that does not come in.
+fn plan_of(alloc: Global, asked: &Asked) -> Plan
+    ensures { Decides asked.now.entry asked.now.question result }
 {
-    if !asked.names_host {
-        return fault(Fault::HostMissing, None);
-    }
-    if !asked.is_own {
-        return fault(Fault::ForeignOrigin, None);
-    }
-    if !may_ask(guard, asked) {
-        return kept_out(asked);
-    }
-    match &asked.question {
-        Ok(question) => plan_for(alloc, question),
-        Err(refusal) => Plan::Refused(*refusal),
-    }
-}
-
-/// What is told to whoever may not come in: that a token is asked for, or that there was no memory for the one it has.
-fn kept_out(asked: &Asked) -> Plan
-    ensures none { AsksSite result → ⊥ }
-    ensures told { AsksToken asked.now.question result }
-{
-    match asked.question {
-        Err(Refusal::Memory) => Plan::Refused(Refusal::Memory),
-        _ => Plan::NotAdmitted,
-    }
-}
-
-/// Whether a request may be asked: where there is a guard, it shows the token, or it asks for the page.
-fn may_ask(guard: Option<&Guard>, asked: &Asked) -> bool
-    ensures exact { result ≡ is_let_in (option_copied guard.entry) asked.now }
-    ensures may { IsTrue result → MayAsk (option_copied guard.entry) asked.now }
-{
-    match (guard, &asked.token) {
-        (None, _) => true,
-        (Some(guard), Some(token)) if guard.admits(token.bytes()) => true,
-        _ => matches!(asked.question, Ok(Question::Page)),
+    match asked.entry {
+        Entry::Open => match &asked.question {
+            Ok(question) => plan_for(alloc, question),
+            Err(refusal) => Plan::Refused(*refusal),
+        },
+        Entry::HostMissing => fault(Fault::HostMissing, None),
+        Entry::ForeignPage => fault(Fault::ForeignOrigin, None),
+        Entry::NoToken => Plan::NotAdmitted,
     }
 }
 
@@ -130,8 +98,7 @@ fn plan_for(alloc: Global, question: &Question) -> Plan
 
 /// What is told of a fault of HTTP's own.
 fn fault(cause: Fault, allow: Option<Methods>) -> Plan
-    ensures none { AsksSite result → ⊥ }
-    ensures told { TellsFault cause allow result }
+    ensures { TellsFault cause allow result }
 {
     let answer = Answer {
         allow,
@@ -154,11 +121,11 @@ pub(crate) fn ask<S: Alter + Drop>(
 ) -> Rest
     ensures { AsksNextOf (option_copied guard.entry) number (web_of web.old) hand.old (web_of web.new) hand.new result }
 {
-    if !web.next() {
+    if !web.next(guard) {
         return Rest::Nothing;
     }
     let plan = match web.asked() {
-        Some(asked) => plan_of(alloc, guard, asked),
+        Some(asked) => plan_of(alloc, asked),
         None => return Rest::Nothing,
     };
     carry_out(alloc, plan, hand, web, number, replica, changes, counts)

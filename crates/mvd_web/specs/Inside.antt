@@ -7,7 +7,7 @@ abbrev pub web_of : WebConnection → WebValue
 web_of w = record {
   config = config_of w.parser;
   heard = history w.parser;
-  asked = w.desk.asked;
+  asked = w.asked;
   waits = w.output.items;
   rests = w.rests;
   stopped = w.stopped;

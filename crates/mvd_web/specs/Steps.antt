@@ -1,9 +1,10 @@
 -- What the steps within a call do. No public clause cites these.
-use Rattle.std.specs.Prelude.{◌≡◌, ◌⊎◌, ℕ, Bool, true, false, List, [], ◌∷◌, ◌++◌, Some, IsTrue}
+use Rattle.std.specs.Prelude.{◌≡◌, ◌⊎◌, ℕ, Bool, true, false, List, [], ◌∷◌, ◌++◌, Option, Some, IsTrue}
 use Rattle.http_server.specs.Exchange.{Call}
 use Rattle.http_server.specs.History.{Rests}
 use Rattle.http_server.specs.Response.{IsResponse}
 use Rattle.mvd_dots.specs.declared.refusals.Refusal.TheVariants.{Memory}
+use Rattle.mvd_conn.specs.declared.guard.Guard.{Guard}
 use Rattle.mvd_web.specs.Asked.{IsAskedBy}
 use Rattle.mvd_web.specs.Web.{NothingCame, WebValue, first_cause, web_said}
 use Rattle.mvd_web.specs.declared.taken.Asked.{Asked}
@@ -15,13 +16,13 @@ pub record Quiet (old new : WebValue) : Type 0 where
   pub waits : new.waits ≡ old.waits
   pub stopped : new.stopped ≡ old.stopped
 
-pub record ReadsOne (old new : WebValue) : Type 0 where
+pub record ReadsOne (guard : Option Guard) (old new : WebValue) : Type 0 where
   pub call : Call
   pub calls : new.heard.calls ≡ old.heard.calls ++ call ∷ []
   pub plain : IsResponse 404 [] [] call.1
   pub asked : Asked
   pub kept : new.asked ≡ Some asked
-  pub asks : IsAskedBy call.0 asked
+  pub asks : IsAskedBy guard call.0 asked
   pub quiet : Quiet old new
 
 pub record ReadsNone (old new : WebValue) : Type 0 where
@@ -30,9 +31,9 @@ pub record ReadsNone (old new : WebValue) : Type 0 where
   pub rests : Rests new.config new.heard
   pub quiet : Quiet old new
 
-abbrev pub ReadsOn : WebValue → Bool → WebValue → Type 0
-ReadsOn old true new = ReadsOne old new
-ReadsOn old false new = ReadsNone old new
+abbrev pub ReadsOn : Option Guard → WebValue → Bool → WebValue → Type 0
+ReadsOn guard old true new = ReadsOne guard old new
+ReadsOn guard old false new = ReadsNone old new
 
 -- what the kit's connection handed out is not queued
 pub record Drops (old new : WebValue) : Type 0 where

@@ -5,16 +5,18 @@ use crate::taken::{Asked, asked_by};
 use bytes::Bytes;
 use http::{Request, StatusCode};
 use http_server::{Response, Service};
+use mvd_conn::Guard;
 use std::alloc::{AllocError, Global};
 
 /// It keeps one request. What it answers is never sent: the response is queued once it is known.
 #[derive(Drop)]
-pub(crate) struct Desk {
+pub(crate) struct Desk<'a> {
     pub(crate) alloc: Global,
+    pub(crate) guard: Option<&'a Guard>,
     pub(crate) asked: Option<Asked>,
 }
 
-impl Service for Desk {
+impl Service for Desk<'_> {
     ghost answers = { KeepsAsked };
 
     fn call(
@@ -25,7 +27,7 @@ impl Service for Desk {
         if self.asked.is_some() {
             return Err(AllocError);
         }
-        self.asked = Some(asked_by(self.alloc, request));
+        self.asked = Some(asked_by(self.alloc, self.guard, request));
         // No request is refused this status.
         response.status = StatusCode::NOT_FOUND;
         Ok(())

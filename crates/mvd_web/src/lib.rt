@@ -8,5 +8,5 @@ mod taken;
 mod web_connection;
 mod web_ending;
 
-pub use taken::Asked;
+pub use taken::{Asked, Entry};
 pub use web_connection::WebConnection;

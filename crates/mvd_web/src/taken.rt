@@ -1,31 +1,37 @@
 //! A request that was taken.
-ghost use Rattle.std.specs.Prelude.{◌≡◌, ◌↔◌, IsTrue, Ok, codes, length, option_copied};
+ghost use Rattle.std.specs.Prelude.{◌≡◌, ◌↔◌, IsTrue, codes, length, option_copied};
 ghost use Rattle.http.specs.Request.{body_of, head_of};
 ghost use Rattle.http_header.specs.HeaderMap.{get_all};
-ghost use Rattle.mvd_dots.specs.Answer.{IsAnswer};
 ghost use Rattle.mvd_http.specs.Asked.{IsQuestion};
-ghost use Rattle.mvd_web.specs.Asked.{IsAskedBy, NamesHost, bearer_of, bearer_text, header_in as field_told};
-ghost use Rattle.mvd_web.specs.Asked.{host_of as host_told, target_of as target_told};
+ghost use Rattle.mvd_web.specs.Asked.{AsksIf, IsAskedBy, IsEntry, IsOwnPage, MayAsk, NamesHost, bearer_text};
+ghost use Rattle.mvd_web.specs.Asked.{header_in as field_told, host_of as host_told, shown_by as token_told};
+ghost use Rattle.mvd_web.specs.Asked.{target_of as target_told};
 
 use bytes::Bytes;
 use http::{HeaderValue, Request, Version};
+use mvd_conn::Guard;
 use mvd_dots::Refusal;
-use mvd_http::{Question, is_own, question_of};
-use mvd_wire::Token;
+use mvd_http::{Question, is_open_to_all, is_own, question_of};
 use std::alloc::Global;
+
+/// Whether a request comes in, by its head alone.
+#[derive(Clone, Copy)]
+pub enum Entry {
+    Open,
+    /// It names no host, or more than one. HTTP has it refused.
+    HostMissing,
+    /// It comes of another server's page.
+    ForeignPage,
+    /// It shows no token, and needs one.
+    NoToken,
+}
 
 /// What a request asks, and how it is answered.
 #[derive(Drop)]
 pub struct Asked {
-    /// Its question, or why it has none.
+    pub entry: Entry,
+    /// Its question, or why it has none. Of a request that does not come in none was read.
     pub question: Result<Question, Refusal>,
-    /// What stands behind `Bearer ` in its field `Authorization`, where it may be a token. Where memory was refused for
-    /// it, it is none, and the question is that refusal.
-    pub token: Option<Token>,
-    /// It names one host. HTTP has each other request refused.
-    pub names_host: bool,
-    /// It comes of this server's own page, or of no page.
-    pub is_own: bool,
     /// Its response is sent without the body.
     pub is_head: bool,
 }
@@ -86,44 +92,80 @@ fn bearer_in(field: Option<&[u8]>) -> Option<&[u8]>
     }
 }
 
-/// The token that a field `Authorization` shows, if any.
-fn token_in(alloc: Global, field: Option<&[u8]>) -> Result<Option<Token>, Refusal>
-    ensures { IsAnswer result (Ok (bearer_of (option_copied field.entry))) }
+/// What stands behind `Bearer ` in the field `Authorization`.
+fn shown_by(request: &Request<Bytes>) -> Option<&[u8]>
+    ensures { option_copied result ≡ token_told (head_of request.now) }
 {
-    let Some(bytes) = bearer_in(field) else {
-        return Ok(None);
-    };
-    match Token::read(alloc, bytes) {
-        Ok(token) => Ok(Some(token)),
-        Err(Refusal::Memory) => Err(Refusal::Memory),
-        Err(_) => Ok(None),
-    }
+    bearer_in(field_in(request, "authorization"))
 }
 
-fn question_in(alloc: Global, method: &[u8], request: &Request<Bytes>) -> Result<Question, Refusal>
-    ensures { IsQuestion method.now (target_told (head_of request.now))
+/// Whether a request may ask: where there is a guard, it shows the token, or it needs none.
+fn may_ask(guard: Option<&Guard>, request: &Request<Bytes>) -> bool
+    ensures { IsTrue result ↔ MayAsk (option_copied guard.entry) (head_of request.now) }
+{
+    let Some(guard) = guard else {
+        return true;
+    };
+    if let Some(token) = shown_by(request)
+        && guard.admits(token)
+    {
+        return true;
+    }
+    is_open_to_all(request.method().as_str().as_bytes(), target_of(request))
+}
+
+/// Whether it comes of this server's own page, or of no page.
+fn is_of_own_page(request: &Request<Bytes>) -> bool
+    ensures { IsTrue result ↔ IsOwnPage (head_of request.now) }
+{
+    is_own(host_of(request), field_in(request, "origin"))
+}
+
+/// Whether a request comes in. Of its body nothing is read.
+fn entry_of(guard: Option<&Guard>, request: &Request<Bytes>) -> Entry
+    ensures { IsEntry (option_copied guard.entry) (head_of request.now) result }
+{
+    if !names_host(request) {
+        return Entry::HostMissing;
+    }
+    if !is_of_own_page(request) {
+        return Entry::ForeignPage;
+    }
+    if !may_ask(guard, request) {
+        return Entry::NoToken;
+    }
+    Entry::Open
+}
+
+/// What a request asks that comes in.
+fn question_in(alloc: Global, request: &Request<Bytes>) -> Result<Question, Refusal>
+    ensures { IsQuestion (head_of request.now).method (target_told (head_of request.now))
         (field_told (codes "mvd-context") (head_of request.now).headers) (body_of request.now) result }
 {
+    let method = request.method().as_str().as_bytes();
     let context = field_in(request, "mvd-context");
     let body = request.body().as_slice();
     question_of(alloc, method, target_of(request), context, body)
 }
 
-/// What a request asks.
-pub(crate) fn asked_by(alloc: Global, request: &Request<Bytes>) -> Asked
-    ensures { IsAskedBy request.now result }
+/// The same, where it comes in: of any other none is read.
+fn question_if(alloc: Global, entry: Entry, request: &Request<Bytes>) -> Result<Question, Refusal>
+    ensures { AsksIf entry request.now result }
 {
-    let method = request.method().as_str().as_bytes();
-    let token = token_in(alloc, field_in(request, "authorization"));
-    let (question, token) = match token {
-        Ok(token) => (question_in(alloc, method, request), token),
-        Err(refusal) => (Err(refusal), None),
-    };
+    match entry {
+        Entry::Open => question_in(alloc, request),
+        _ => Err(Refusal::NotAdmitted),
+    }
+}
+
+/// Whether a request comes in, and what it asks then.
+pub(crate) fn asked_by(alloc: Global, guard: Option<&Guard>, request: &Request<Bytes>) -> Asked
+    ensures { IsAskedBy (option_copied guard.entry) request.now result }
+{
+    let entry = entry_of(guard, request);
     Asked {
-        question,
-        token,
-        names_host: names_host(request),
-        is_own: is_own(host_of(request), field_in(request, "origin")),
-        is_head: method == b"HEAD".as_slice(),
+        entry,
+        question: question_if(alloc, entry, request),
+        is_head: request.method().as_str().as_bytes() == b"HEAD".as_slice(),
     }
 }

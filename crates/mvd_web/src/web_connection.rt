@@ -10,6 +10,7 @@ use crate::taken::Asked;
 use crate::web_ending::{ending_of, fault_in};
 use bytes::BytesMut;
 use http_server::{Config, Connection, State};
+use mvd_conn::Guard;
 use mvd_dots::Refusal;
 use mvd_http::{Answer, Fault};
 use mvd_wire::Ending;
@@ -27,7 +28,8 @@ pub const BODY_MAX: usize = 1_048_576;
 pub struct WebConnection {
     alloc: Global,
     parser: Connection,
-    desk: Desk,
+    /// The request that waits for its answer.
+    asked: Option<Asked>,
     output: BytesMut,
     /// There is nothing to take before more bytes come.
     rests: bool,
@@ -55,7 +57,7 @@ impl WebConnection {
         WebConnection {
             alloc,
             parser: Connection::new(alloc, keys, config),
-            desk: Desk { alloc, asked: None },
+            asked: None,
             output: BytesMut::new(alloc),
             rests: true,
             stopped: None,
@@ -74,7 +76,7 @@ impl WebConnection {
     fn is_free(&self) -> bool
         ensures { result ≡ free_now (web_of self.now) }
     {
-        self.stopped.is_none() && self.desk.asked.is_none() && self.output.len() < WAITS_MAX
+        self.stopped.is_none() && self.asked.is_none() && self.output.len() < WAITS_MAX
     }
 
     /// Whether there may be a request, or an end, in what came.
@@ -120,23 +122,23 @@ impl WebConnection {
         }
     }
 
-    /// Takes the next request, where no other waits for its answer. Whether one was taken. Where none was, what the
-    /// parser answers for itself is queued, and for a request that it refuses the response that names the fault.
-    pub fn next(&mut self) -> bool
-        ensures { TakesRequest (web_of self.old) result (web_of self.new) }
+    /// Takes the next request, where no other waits for its answer. Whether one was taken. Only one that the guard lets
+    /// in is read further than its head. Where none was taken, what the parser answers for itself is queued, and for a request that it refuses the response that names the fault.
+    pub fn next(&mut self, guard: Option<&Guard>) -> bool
+        ensures { TakesRequest (option_copied guard.entry) (web_of self.old) result (web_of self.new) }
     {
         if self.is_free() {
-            return self.look();
+            return self.look(guard);
         }
         false
     }
 
     /// The same, where a request may be taken.
-    fn look(&mut self) -> bool
+    fn look(&mut self, guard: Option<&Guard>) -> bool
         requires { free_now (web_of self.old) ≡ true }
-        ensures { TakesRequest (web_of self.old) result (web_of self.new) }
+        ensures { TakesRequest (option_copied guard.entry) (web_of self.old) result (web_of self.new) }
     {
-        if self.advance() {
+        if self.advance(guard) {
             self.drop_pending();
             return true;
         }
@@ -196,7 +198,7 @@ impl WebConnection {
     pub fn asked(&self) -> Option<&Asked>
         ensures { option_copied result ≡ (web_of self.now).asked }
     {
-        self.desk.asked.as_ref()
+        self.asked.as_ref()
     }
 
     /// Queues the response to the request that waits for it. Where memory is refused, the connection stops.
@@ -215,7 +217,7 @@ impl WebConnection {
         ensures head { result ≡ option_map (λ (asked : Asked). asked.is_head) (web_of self.old).asked }
         ensures gone { web_of self.new ≡ unasked (web_of self.old) }
     {
-        match self.desk.asked.take() {
+        match self.asked.take() {
             Some(asked) => Some(asked.is_head),
             None => None,
         }
@@ -270,16 +272,22 @@ impl WebConnection {
         if self.stopped.is_some() {
             return true;
         }
-        self.parser.is_done() && self.desk.asked.is_none() && self.output.is_empty()
+        self.parser.is_done() && self.asked.is_none() && self.output.is_empty()
     }
 
     /// Reads at most one request. Whether one was read.
-    fn advance(&mut self) -> bool
+    fn advance(&mut self, guard: Option<&Guard>) -> bool
         requires { (web_of self.old).asked ≡ None }
-        ensures { ReadsOn (web_of self.old) result (web_of self.new) }
+        ensures { ReadsOn (option_copied guard.entry) (web_of self.old) result (web_of self.new) }
     {
-        self.parser.advance(&mut self.desk);
-        self.desk.asked.is_some()
+        let mut desk = Desk {
+            alloc: self.alloc,
+            guard,
+            asked: None,
+        };
+        self.parser.advance(&mut desk);
+        self.asked = desk.asked;
+        self.asked.is_some()
     }
 
     /// What the parser answers for itself leaves as it is.

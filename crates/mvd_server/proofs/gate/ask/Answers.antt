@@ -1,4 +1,4 @@
-use Rattle.std.proofs.Common.{inr, subst, sym}
+use Rattle.std.proofs.Common.{inr, option_copied, subst, sym}
 use Rattle.mvd_server.proofs.Errands.{asks_none}
 use Rattle.mvd_server.proofs.gate.ask.Goals as goal
 use Rattle.mvd_web.specs.Inside.{web_of}
@@ -10,10 +10,10 @@ returns-then-not-next g c = asks_none _ c.args.number (web_of c.args.web.now) (w
 pub returns : goal.returns
 returns g c = inr (record {
   mid = web_of c.next.new.self;
-  takes = subst (λ b. TakesRequest (web_of c.args.web.now) b (web_of c.next.new.self)) c.if-not-next.false c.next.ensures;
+  takes = subst (λ b. TakesRequest (option_copied c.args.guard) (web_of c.args.web.now) b (web_of c.next.new.self)) c.if-not-next.false c.next.ensures;
   asked = c.in-Some.asked.now;
   kept = sym c.in-Some.ensures;
   plan = c.plan_of-plan.result;
-  decides = record { site = c.plan_of-plan.ensures.site; own = c.plan_of-plan.ensures.own; asks = c.plan_of-plan.ensures.asks; done = c.plan_of-plan.ensures.done; out = c.plan_of-plan.ensures.out };
+  decides = c.plan_of-plan.ensures;
   does = c.carry_out.ensures;
 })

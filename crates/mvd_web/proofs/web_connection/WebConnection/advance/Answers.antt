@@ -1,16 +1,18 @@
-use Rattle.std.proofs.Common.{refl, subst, sym}
+use Rattle.std.proofs.Common.{None, option_copied, refl, subst, sym}
 use Rattle.mvd_web.specs.Inside.{web_of}
 use Rattle.mvd_web.specs.Steps.{ReadsOn}
+use Rattle.mvd_web.specs.declared.desk.Desk.{Desk}
 use Rattle.mvd_web.proofs.Calls.{reads}
 use Rattle.mvd_web.proofs.web_connection.WebConnection.advance.Goals as goal
 
 pub returns : goal.returns
 returns c =
     let old = web_of c.args.self.now in
-    let new = web_of (record (c.args.self.now) { parser = c.advance.new.self; desk = c.advance.new.service }) in
+    let new = web_of (record (c.args.self.now) { parser = c.advance.new.self; asked = c.advance.new.service.asked }) in
     let kept = c.advance.ensures in
-    subst (λ b. ReadsOn old b new) (sym c.is_some.ensures)
-    (reads c.args.self.now.desk c.advance.new.service old new kept.calls refl refl c.requires (record {
+    let before : Desk = record { alloc = c.args.self.now.alloc; guard = c.args.guard; asked = None } in
+    subst (λ b. ReadsOn (option_copied c.args.guard) old b new) (sym c.is_some.ensures)
+    (reads before c.advance.new.service old new kept.calls c.requires refl refl (record {
       stays = record { config = kept.config; received = kept.quiet.0; ended = kept.quiet.1 };
       sent = kept.quiet.2;
       waits = refl;

@@ -1,0 +1,15 @@
+-- Which requests need no token.
+use Rattle.std.specs.Prelude.{ℕ, Bool, false, List, codes}
+use Rattle.std.specs.Str.{bytes_eq}
+use Rattle.mvd_http.specs.Asked.{verb_of}
+use Rattle.mvd_http.specs.Paths.{text_before}
+use Rattle.mvd_http.specs.declared.question.Verb.{Verb}
+use Rattle.mvd_http.specs.declared.question.Verb.TheVariants.{Read}
+
+abbrev pub reads_page : Verb → List ℕ → Bool
+reads_page Read target = bytes_eq (text_before 63 target) (codes "/")
+reads_page _ target = false
+
+-- it asks for the page
+abbrev pub is_open_to_all : List ℕ → List ℕ → Bool
+is_open_to_all method target = reads_page (verb_of method) target

@@ -35,15 +35,14 @@ abbrev mutual
 
   pub bad_item : ℕ → Items → Option (List ℕ)
   bad_item index no_items = None
-  bad_item index (item d ds) =
-      option_or (option_map (λ at. item_step index ++ at) (bad_number d)) (bad_item (index + 1) ds)
+  bad_item index (item d ds) = option_or (option_map (λ at. item_step index ++ at) (bad_number d)) (bad_item (index + 1) ds)
 
   pub bad_member : Members → Option (List ℕ)
   bad_member no_members = None
   bad_member (member k d ms) = option_or (option_map (λ at. name_step k ++ at) (bad_number d)) (bad_member ms)
 
--- The place of what a refusal finds wrong in a text: of 5 that number, where the text has at most 65,536 bytes; else
--- the whole document.
+-- The place of what a refusal finds wrong in a text: of 5 that number, where the text has at most 65,536 bytes; else the
+-- whole document.
 abbrev pub fault_place : Refusal → List ℕ → List ℕ
 fault_place BadNumber text =
     if nat_le (length text) 65536 then unwrap_or (option_and_then bad_number (read text)) [] else []

@@ -1,4 +1,5 @@
 """Peers and servers that lie, drip, or have something new each time: parts of `attacks.py`."""
+import hashlib
 import os
 import socket
 import struct
@@ -12,8 +13,8 @@ from bounds import EMPTY, Server, frame
 from measure_stored import processor
 from peers_fast import free, until
 
-# seconds until a put is at a peer beside four that drip
-MET = 10
+# seconds until a put is at a peer beside four that drip; how often a second a peer is met that has something new each time
+MET, NEWS = 10, 2
 
 
 def context(*entries):
@@ -97,19 +98,30 @@ def drip(program, folder, short):
 
 
 class News(Peer):
-    """Has a key more at each root that it tells: no session finds it as it was."""
+    """Holds one key, which is another one each time that its root is asked: no session finds it as it was."""
     met, document = 0, "{}"
+
+    def state(self):
+        return state(context((9, 1, [])), (9, 1, self.document))
+
+    def digest(self, path):
+        key = f"new{self.met:07}"
+        if not hashlib.sha256(key.encode()).hexdigest().startswith(path):
+            return bytes(32)
+        if len(path) == 3:
+            return hashlib.sha256(hashlib.sha256(counted("B", key) + self.state()).digest()).digest()
+        return hashlib.sha256(b"".join(self.digest(f"{path}{digit:x}") for digit in range(16))).digest()
 
     def answer(self, kind, asked):
         if kind == 0x27:
-            self.met += asked[:1] == b"\0"
-            return frame(0xA7, os.urandom(32) + (b"\0" if asked[:1] == b"\3" else b"\x10" + os.urandom(512)))
+            path = "".join(f"{digit:x}" for digit in asked[1:])
+            self.met += not path
+            children = [self.digest(f"{path}{digit:x}") for digit in range(16)] if len(path) < 3 else []
+            return frame(0xA7, self.digest(path) + bytes([len(children)]) + b"".join(children))
         if kind == 0x28:
-            key = f"new{self.met:07}"
-            return frame(0xA8, b"\0\0\1" + counted("B", key) + os.urandom(32))
-        if kind == 0x21:
-            return frame(0xA1, state(context((9, 1, [])), (9, 1, self.document)))
-        return frame(0xA3)
+            key = counted("B", f"new{self.met:07}")
+            return frame(0xA8, b"\0\0\1" + key + hashlib.sha256(key + self.state()).digest())
+        return frame(0xA1, self.state()) if kind == 0x21 else frame(0xA3, b"")
 
 
 def news(program, folder, short):
@@ -122,6 +134,7 @@ def news(program, folder, short):
     server.end()
     print(f"  a peer with something new each time was met {(peer.met - met) / seconds:.1f} times a second, "
           f"for {spent / seconds:.2f} of a processor", flush=True)
+    wanted("that is too often", (peer.met - met) / seconds <= NEWS)
 
 
 # ---- what a shell is told by a server that lies
@@ -152,7 +165,7 @@ class Lister(Peer):
         self.lie = lie
 
     def answer(self, kind, asked):
-        return frame(0xA3) if kind == 0x2F else self.lie(self.asked)
+        return frame(0xA3, b"") if kind == 0x2F else self.lie(self.asked)
 
 
 # of each list what is wrong with its pages, whose pages these are

@@ -17,7 +17,7 @@ log        one changed bit in the log of a killed server: what stands behind it 
 pages      a server whose pages of a list repeat, fall, do not end, or have what was not asked: a shell refuses them with 33
 forms      a state that is in no form is told as refused here, and not as a fault of the server
 contexts   a context whose text has more than 1 MiB is read over HTTP, and goes back as a line of `POST /keys`
-news       a peer that has a new key in each session: how often it is met (a figure)
+news       a peer that has a new key in each session is met at most twice a second
 
 It says of each part whether it held, with its figures, and ends with 1 if one did not. With --short there is less of each, and no
 `windows` but `lies`: at most a minute.
@@ -39,7 +39,7 @@ from client import Client, counted  # noqa: E402
 import bounds  # noqa: E402
 import heavy  # noqa: E402
 from attack_files import Broken, files, limits, log, wanted  # noqa: E402
-from attack_peers import context, drip, forms, news, pages, state  # noqa: E402
+from attack_peers import context, delete_frame, drip, forms, news, pages, state  # noqa: E402
 from bounds import Other, Server, fill, frame, memory, put_frame  # noqa: E402
 from measure_stored import processor  # noqa: E402
 from peers_fast import free  # noqa: E402

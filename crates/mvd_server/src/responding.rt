@@ -76,7 +76,7 @@ pub(crate) fn refuse(alloc: Global, web: &mut WebConnection, counts: &mut Counts
     }
 }
 
-/// Puts the body of a refusal into `body`, and gives its status. Of a write whose document is refused it names the place.
+/// Puts the body of a refusal into `body`, and gives its status. Of a document that is refused it names the place.
 fn put_refusal(
     asked: Option<&Asked>,
     refusal: Refusal,

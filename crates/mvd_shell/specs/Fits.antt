@@ -1,9 +1,8 @@
--- Whether a page is one that was asked for: its entries strictly rise, from behind the one that was named, and are among
--- those that were asked for.
+-- Whether a page is one that was asked for: its entries strictly rise, from behind the one that was named, and are
+-- among those that were asked for.
 use Rattle.std.specs.Prelude.{ℕ, ◌&&◌, ◌||◌, not, nat_lt, Bool, true, false, List, [], ◌∷◌, length, Option, Some, None, ℤ}
-use Rattle.std.specs.Ordering.{eq_by_cmp, is_lt}
+use Rattle.std.specs.Ordering.{is_lt}
 use Rattle.mvd_dots.specs.Dot.{DotValue}
-use Rattle.mvd_docs.specs.Term.{term_cmp}
 use Rattle.mvd_docs.specs.declared.term.Term.{Term}
 use Rattle.mvd_keys.specs.Writes.{Key}
 use Rattle.mvd_keys.specs.declared.places.Place.{Place}
@@ -17,18 +16,14 @@ use Rattle.mvd_wire.specs.declared.request.Request.TheVariants.{Find, Range, Row
 
 -- ---- what rises
 
-abbrev pub is_after_spot : Option (Key × DotValue) → Place → Bool
-is_after_spot None place = true
-is_after_spot (Some at) place =
-    is_lt (spot_cmp (record { key = at.0; dot = at.1 }) (record { key = place.key; dot = place.dot }))
+-- the first place, if there is one, comes after a key and a dot
+abbrev pub starts_after : Option (Key × DotValue) → List Place → Bool
+starts_after None places = true
+starts_after (Some at) [] = true
+starts_after (Some at) (p ∷ ps) =
+    is_lt (spot_cmp (record { key = at.0; dot = at.1 }) (record { key = p.key; dot = p.dot }))
 
--- the places of a term, by key and dot
-abbrev pub spots_rise : Term → Option (Key × DotValue) → List Place → Bool
-spots_rise term after [] = true
-spots_rise term after (p ∷ ps) =
-    eq_by_cmp term_cmp term p.term && is_after_spot after p && spots_rise term (Some (p.key, p.dot)) ps
-
--- those of the terms from one to another
+-- places of the terms from one to another, by term, key and dot
 abbrev pub places_rise : Term → Term → Option Place → List Place → Bool
 places_rise from to after [] = true
 places_rise from to after (p ∷ ps) =
@@ -50,7 +45,7 @@ abbrev pub has_end : {X : Type 0} → List X → Bool → Bool
 has_end items more = not more || nat_lt 0 (length items)
 
 abbrev pub places_fit : Request → List Place → Bool
-places_fit (Find field term after) places = spots_rise term after places
+places_fit (Find field term after) places = places_rise term term None places && starts_after after places
 places_fit (Range field from to after) places = places_rise from to after places
 places_fit _ places = true
 

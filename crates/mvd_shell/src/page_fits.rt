@@ -1,9 +1,9 @@
 //! Whether a page that a server tells is one that was asked for.
-ghost use Rattle.std.specs.Prelude.{◌≡◌, option_copied, option_map};
+ghost use Rattle.std.specs.Prelude.{◌≡◌, option_copied};
 ghost use Rattle.mvd_rows.specs.Answers.{is_after_place, is_after_term, is_between};
 ghost use Rattle.mvd_rows.specs.Siblings.{begins_with, is_after_key};
-ghost use Rattle.mvd_shell.specs.Fits.{counts_fit, counts_rise, fits, has_end, is_after_spot, places_fit, places_rise};
-ghost use Rattle.mvd_shell.specs.Fits.{rows_fit, rows_rise, spots_rise};
+ghost use Rattle.mvd_shell.specs.Fits.{counts_fit, counts_rise, fits, has_end, places_fit, places_rise};
+ghost use Rattle.mvd_shell.specs.Fits.{rows_fit, rows_rise, starts_after};
 
 use mvd_docs::Term;
 use mvd_dots::Dot;
@@ -42,10 +42,9 @@ fn places_fit(request: &Request, places: &[Place]) -> bool
     ensures { result ≡ places_fit request.now places.now }
 {
     match request {
-        Request::Find(_, term, after) => match after {
-            Some((key, dot)) => spots_rise(term, Some((key, *dot)), places),
-            None => spots_rise(term, None, places),
-        },
+        Request::Find(_, term, after) => {
+            places_rise(term, term, None, places) && starts_after(after.as_ref(), places)
+        }
         Request::Range(_, from, to, after) => places_rise(from, to, after.as_ref(), places),
         _ => true,
     }
@@ -70,30 +69,21 @@ fn counts_fit(request: &Request, counts: &[(Key, u32)]) -> bool
     }
 }
 
-fn spots_rise(term: &Term, after: Option<(&Key, Dot)>, places: &[Place]) -> bool
-    ensures { result ≡ spots_rise term.now (option_map (λ at. (at.0.now, at.1)) after) places.now }
+/// Whether the first place, if there is one, comes after a key and a dot.
+fn starts_after(after: Option<&(Key, Dot)>, places: &[Place]) -> bool
+    ensures { result ≡ starts_after (option_copied after.entry) places.now }
 {
-    let mut last = after;
-    for place in places {
-        if place.term != *term || !is_after_spot(last, place) {
-            return false;
-        }
-        last = Some((&place.key, place.dot));
-    }
-    true
-}
-
-fn is_after_spot(last: Option<(&Key, Dot)>, place: &Place) -> bool
-    ensures { result ≡ is_after_spot (option_map (λ at. (at.0.now, at.1)) last) place.now }
-{
-    match last {
-        Some((key, dot)) => key.cmp(&place.key).then(dot.cmp(&place.dot)).is_lt(),
+    let Some(at) = after else {
+        return true;
+    };
+    match places.first() {
+        Some(first) => at.0.cmp(&first.key).then(at.1.cmp(&first.dot)).is_lt(),
         None => true,
     }
 }
 
 fn places_rise(from: &Term, to: &Term, after: Option<&Place>, places: &[Place]) -> bool
-    ensures { result ≡ places_rise from.now to.now (option_copied after) places.now }
+    ensures { result ≡ places_rise from.now to.now (option_copied after.entry) places.now }
 {
     let mut last = after;
     for place in places {
@@ -112,7 +102,7 @@ fn is_between(from: &Term, to: &Term, term: &Term) -> bool
 }
 
 fn is_after_place(last: Option<&Place>, place: &Place) -> bool
-    ensures { result ≡ is_after_place (option_copied last) place.now }
+    ensures { result ≡ is_after_place (option_copied last.entry) place.now }
 {
     match last {
         Some(last) => last.cmp(place).is_lt(),
@@ -121,7 +111,7 @@ fn is_after_place(last: Option<&Place>, place: &Place) -> bool
 }
 
 fn rows_rise(after: Option<&Term>, rows: &[Row]) -> bool
-    ensures { result ≡ rows_rise (option_copied after) rows.now }
+    ensures { result ≡ rows_rise (option_copied after.entry) rows.now }
 {
     let mut last = after;
     for row in rows {
@@ -134,7 +124,7 @@ fn rows_rise(after: Option<&Term>, rows: &[Row]) -> bool
 }
 
 fn is_after_term(last: Option<&Term>, term: &Term) -> bool
-    ensures { result ≡ is_after_term (option_copied last) term.now }
+    ensures { result ≡ is_after_term (option_copied last.entry) term.now }
 {
     match last {
         Some(last) => last.cmp(term).is_lt(),
@@ -143,7 +133,7 @@ fn is_after_term(last: Option<&Term>, term: &Term) -> bool
 }
 
 fn counts_rise(prefix: &str, after: Option<&Key>, counts: &[(Key, u32)]) -> bool
-    ensures { result ≡ counts_rise prefix.now (option_copied after) counts.now }
+    ensures { result ≡ counts_rise prefix.now (option_copied after.entry) counts.now }
 {
     let mut last = after;
     for entry in counts {
@@ -162,7 +152,7 @@ fn begins_with(key: &Key, prefix: &str) -> bool
 }
 
 fn is_after_key(last: Option<&Key>, key: &Key) -> bool
-    ensures { result ≡ is_after_key (option_copied last) key.now }
+    ensures { result ≡ is_after_key (option_copied last.entry) key.now }
 {
     match last {
         Some(last) => last.cmp(key).is_lt(),

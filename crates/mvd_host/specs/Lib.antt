@@ -1,5 +1,4 @@
 pub mod AtHand
-pub mod Fronts
 pub mod KeptAtHand
 pub mod Hosts
 pub mod Inside

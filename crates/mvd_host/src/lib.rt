@@ -5,7 +5,6 @@
 mod arranging;
 mod at_hand;
 mod feed;
-mod front;
 mod host;
 pub mod laws;
 mod noting;

@@ -2,8 +2,7 @@
 mod asking;
 
 ghost use Rattle.mvd_server.specs.Peerings.{WakesInTime};
-ghost use Rattle.std.specs.Prelude.{◌≡◌, ◌≢◌, ◌⊎◌, [], IfErr, IfOk, IsSome, IsSomeAnd, OnOk, option_copied};
-ghost use Rattle.std.specs.Duration.{as_nanos};
+ghost use Rattle.std.specs.Prelude.{◌≡◌, ◌⊎◌, IfErr, IfOk, IsSome, OnOk, option_copied};
 ghost use Rattle.mvd_dots.specs.declared.refusals.Refusal.TheVariants.{Memory, ReadFailed, WriteFailed};
 ghost use Rattle.mvd_input.specs.declared.fault.Fault.TheVariants.{Stopped};
 ghost use Rattle.mvd_replica.specs.Replicas.{site_of};
@@ -335,11 +334,9 @@ impl Server {
 
     /// How long nothing needs to be done if the system tells of nothing.
     fn pause(&self) -> Option<Duration>
-        ensures peers { WakesInTime self.now.peers.list.items self.now.crowd.now result }
-        // It does not sleep while something that was asked over HTTP waits for a round.
-        ensures waits { self.now.crowd.talks.hand.waits ≢ [] → IsSomeAnd result (λ time. as_nanos time ≡ 0) }
+        ensures { WakesInTime self.now.peers.list.items self.now.crowd.now result }
     {
-        if !self.ready.is_empty() || self.peers.are_busy() || self.crowd.talks.has_waiting() {
+        if !self.ready.is_empty() || self.peers.are_busy() {
             return Some(Duration::ZERO);
         }
         let due = earlier(self.crowd.next_due(), self.peers.next_due());

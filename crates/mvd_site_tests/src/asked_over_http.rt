@@ -5,7 +5,8 @@ use crate::many_requests::{MANY, OTHER_LINES, REFUSED_LINES};
 use mvd_docs::{Field, ViewName};
 use mvd_dots::Refusal;
 use mvd_http::{
-    Fault, Question, live_response_of, misread_response, push_line, question_of, refused_response, response_of,
+    Fault, Question, live_response_of, misread_response, push_line, question_of, refused_response,
+    response_of,
 };
 use mvd_rows::Defs;
 use mvd_site::{Config, Site};

@@ -3,6 +3,7 @@ pub mod Found
 pub mod Looped
 pub mod Named
 pub mod Noted
+pub mod OnFile
 pub mod Refused
 pub mod Stored
 pub mod Tasks

@@ -12,7 +12,7 @@ mod setups;
 mod tokens;
 mod typed_lines;
 
-pub use closing::Ran;
+pub use closing::{Left, LeftOf, Ran};
 pub use commands::run;
 pub use looping::loop_run;
 pub use mvd_client::Sockets;

@@ -1,3 +1,4 @@
+pub mod Commands
 pub mod Done
 pub mod Found
 pub mod Looped

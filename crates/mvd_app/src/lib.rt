@@ -4,6 +4,7 @@
 mod awaited;
 mod closing;
 mod commands;
+pub mod laws;
 mod looping;
 mod opening;
 mod outlet;

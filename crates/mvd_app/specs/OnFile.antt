@@ -1,5 +1,5 @@
 -- What stands in the file of a command's site afterwards, whatever the command was.
-use Rattle.std.specs.Prelude.{◌≡◌, ◌×◌, ◌⊎◌, ℕ, List, Option, Some, None, Err}
+use Rattle.std.specs.Prelude.{◌≡◌, ◌⊎◌, ℕ, List, Option, Some, None, Err}
 use Rattle.mvd_app.specs.Stored.{SiteLeft}
 use Rattle.mvd_app.specs.declared.closing.Left.TheVariants.{Closed, Open, Unclosed}
 use Rattle.mvd_app.specs.declared.closing.Ran.{Ran}

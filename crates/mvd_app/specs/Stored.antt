@@ -121,10 +121,10 @@ pub record TellsLost (file : Bor (List ℕ)) (stop : Stop) : Type 0 where
 
 module _ {D : Type 0} {g : disk.Ghosts D} (f : Ghosts (FileStore D g)) where
   -- the files refuse the site, for a cause, which is told
-  abbrev pub RefusesFile : Image → ConfigValue → Bor (List ℕ) → Stop → Type 0
-  RefusesFile image config db stop =
+  abbrev pub StopsAtFile : Image → ConfigValue → Bor (List ℕ) → Stop → Type 0
+  StopsAtFile image config db stop =
       (fault : FileFault D g) × FailsFile image config fault × TellsFileFault f db fault stop
 
   -- The site was not opened: its file is lost; or the files refuse it
   abbrev pub CannotOpen : Image → ConfigValue → Bor (List ℕ) → Stop → Type 0
-  CannotOpen image config db stop = TellsLost db stop ⊎ RefusesFile image config db stop
+  CannotOpen image config db stop = TellsLost db stop ⊎ StopsAtFile image config db stop

@@ -121,9 +121,16 @@ impl Peers {
             let place = first.saturating_add(turn) % count;
             let before = free;
             self.go_on_with(place, rt, registry, crowd, &mut free);
-            if free < before {
-                self.first = place + 1;
-            }
+            self.note_turn(place, free < before);
+        }
+    }
+
+    /// Where one took a place, the one behind it comes first from now on.
+    fn note_turn(&mut self, place: usize, is_taken: bool)
+        ensures { self.new ≡ record self.old { first = self.new.first } }
+    {
+        if is_taken {
+            self.first = place.saturating_add(1);
         }
     }
 

@@ -139,7 +139,6 @@ impl Peers {
     fn give_back(&mut self, waits: bool, now: u64)
         // Where others wait, no place is kept past its loan.
         ensures lends { waits ≡ true → All (IsLentAt now) self.new.list.items }
-        ensures peers { self.new ≡ record self.old { list = self.new.list } }
     {
         for peering in self.list.iter_mut() {
             peering.give_back(waits, now);

@@ -119,7 +119,7 @@ def beside(program, folder, count, size, pause, most):
     client, reader = Client(main.port), Client(well.port)
     client.put("mine", EMPTY, {})
     took = until("a put is read beside those that are slow", lambda: is_read(reader, "mine"), most)
-    failed = [line for line in main.out if re.match(r"peer .* \d", line)]
+    failed = [line for line in main.out if re.match(r"peer \S+ \d", line)]
     end_all(other, well, main)
     print(f"beside {count} that give {size} bytes each {pause} s, a put is read at one that is well after {took:.1f} s", flush=True)
     wanted(f"a slow peer is told as failed: {failed}", not failed)

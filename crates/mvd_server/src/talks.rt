@@ -82,7 +82,8 @@ impl Talks {
     }
 
     /// Takes requests of some clients, answers them together, and queues what each is told, and what those are told
-    /// that wait for a change. Whether there may be more of them at once: after a commit the replies leave first.
+    /// that wait for a change. Whether there may be more of them at once: after a commit the replies leave first, and
+    /// where something has to wait for another round.
     pub fn round<S: Alter + Drop>(
         &mut self,
         replica: &mut Replica<S>,
@@ -115,7 +116,7 @@ impl Talks {
         }
         self.tell_all(counts);
         self.wake(replica, counts);
-        more & (replica.commits() == commits)
+        more & (replica.commits() == commits) & !self.hand.has_waiting()
     }
 
     /// Takes the next request of a client over HTTP, or asks what its writes ask, where that was not done.

@@ -138,15 +138,15 @@ module _ (states : States) (done asked waits : List (ℕ × Request)) where
         own-append n asked (asked_in asking) ∙ ap (λ l. l ++ own n (asked_in asking)) (parts.own_are n) ∙ append_assoc (own n parts.first) (own n waits) (own n (asked_in asking))
         ∙ ap (λ l. own n parts.first ++ l) (sym (own-append n waits (asked_in asking)));
     weighed = parts.weighed;
-    held = λ open n free. own-append n waits (asked_in asking) ∙ ap₂ (λ a b. a ++ b) (parts.held open n free) (none_of_other n asking.client asking.requests.items (apart n open free (asking.client == n) refl));
+    held = λ unshut n free. own-append n waits (asked_in asking) ∙ ap₂ (λ a b. a ++ b) (parts.held unshut n free) (none_of_other n asking.client asking.requests.items (apart n unshut free (asking.client == n) refl));
     heavy = parts.heavy;
   }
     where
       apart : (n : ℕ) → front.is_shut ≡ false → contains nat_cmp front.held n ≡ false → (b : Bool) → (asking.client == n) ≡ b → b ≡ false
-      apart n open free false is = refl
-      apart n open free true is = absurd (true≢false (sym (held open) ∙ ap (contains nat_cmp front.held) (turned_number asking.client n is) ∙ free))
+      apart n unshut free false is = refl
+      apart n unshut free true is = absurd (true≢false (sym (held unshut) ∙ ap (contains nat_cmp front.held) (turned_number asking.client n is) ∙ free))
 
-  module _ (client : ℕ) (taken rest : List Request) (old mid : Front) (parts : Parts states done asked waits old) (open : old.is_shut ≡ false) (free : contains nat_cmp old.held client ≡ false) (may : AllMayWait (asks_of client (taken ++ rest)))
+  module _ (client : ℕ) (taken rest : List Request) (old mid : Front) (parts : Parts states done asked waits old) (unshut : old.is_shut ≡ false) (free : contains nat_cmp old.held client ≡ false) (may : AllMayWait (asks_of client (taken ++ rest)))
       (takes : TakesThese states client taken old mid) where
     all_are : asks_of client (taken ++ rest) ≡ asks_of client taken ++ asks_of client rest
     all_are = map-append {B = ℕ × Request} (λ r. (client, r)) taken rest
@@ -159,7 +159,7 @@ module _ (states : States) (done asked waits : List (ℕ × Request)) where
         ∙ sym (ap₂ (λ a b. a ++ b) (own-append n parts.first (asks_of client taken)) (own-append n waits (asks_of client rest)))
       where
         either : (b : Bool) → (client == n) ≡ b → (own n waits ≡ []) ⊎ (own n (asks_of client taken) ≡ [])
-        either true is = inl (parts.held open n (ap (contains nat_cmp old.held) (sym (turned_number client n is)) ∙ free))
+        either true is = inl (parts.held unshut n (ap (contains nat_cmp old.held) (sym (turned_number client n is)) ∙ free))
         either false is = inr (none_of_other n client taken is)
 
     -- what was taken is kept, and who is held
@@ -191,8 +191,8 @@ module _ (states : States) (done asked waits : List (ℕ × Request)) where
         let same : new.held ≡ old.held = held ∙ takes.held in
         let no_more : (n : ℕ) → own n (waits ++ asks_of client rest) ≡ own n waits = λ n. ap (λ l. own n (waits ++ asks_of client l)) none ∙ ap (own n) (append-nil waits) in
         parts_taken new clients requests weighed noted
-        (λ _ n no. no_more n ∙ parts.held open n (ap (λ (h : BTreeSet ℕ). contains nat_cmp h n) (sym same) ∙ no))
-        (λ _. elim (parts.heavy open) [
+        (λ _ n no. no_more n ∙ parts.held unshut n (ap (λ (h : BTreeSet ℕ). contains nat_cmp h n) (sym same) ∙ no))
+        (λ _. elim (parts.heavy unshut) [
           | inl no ↦ inl (λ n. ap (λ (h : BTreeSet ℕ). contains nat_cmp h n) same ∙ no n)
           | inr much ↦ inr (let more = takes.more in omega (arith, much, more, weighed))
         ])
@@ -204,9 +204,9 @@ module _ (states : States) (done asked waits : List (ℕ × Request)) where
     parts_held new clients requests weighed noted updates much =
         parts_taken new clients requests weighed noted
         (λ shut n no. (
-          let apart = not_noted mid.held new.held client n (updates shut) no in
-          own-append n waits (asks_of client rest)
-          ∙ ap₂ (λ a b. a ++ b) (parts.held open n (ap (λ (h : BTreeSet ℕ). contains nat_cmp h n) (sym takes.held) ∙ apart.1)) (own-other client n rest apart.0)))
+        let apart = not_noted mid.held new.held client n (updates shut) no in
+        own-append n waits (asks_of client rest)
+        ∙ ap₂ (λ a b. a ++ b) (parts.held unshut n (ap (λ (h : BTreeSet ℕ). contains nat_cmp h n) (sym takes.held) ∙ apart.1)) (own-other client n rest apart.0)))
         (λ shut. inr (much shut))
 
 -- ---- those that ask, in another order

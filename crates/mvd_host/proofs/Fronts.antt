@@ -1,12 +1,13 @@
 -- What a round asks of what waits at hand, one request after the other.
-use Rattle.std.proofs.Common.{◌≡◌, ◌≤◌, ◌<◌, ◌+◌, ◌==◌, ◌⊎◌, inl, inr, ℕ, zero, suc, get_or, Bool, true, false, true≢false, cond, List, [], ◌∷◌, ◌++◌, map, length, refl, sym, ap, ap₂, ◌∙◌, subst, append-nil, append_assoc, arith}
+use Rattle.std.proofs.Common.{◌≡◌, ◌≤◌, ◌<◌, ◌+◌, ◌==◌, ◌≢◌, ◌⊎◌, inl, inr, ℕ, zero, suc, get_or, Bool, true, false, true≢false, cond, List, [], ◌∷◌, ◌++◌, map, length, refl, sym, ap, ap₂, ◌∙◌, subst, append-nil, append_assoc, arith}
 use Rattle.std.proofs.lemmas.Bool.Decides.{nat_tests}
 use Rattle.std.proofs.lemmas.List.{map-append}
 use Rattle.std.specs.BTreeSet.{BTreeSet, Updates, contains}
 use Rattle.std.specs.Ordering.{nat_cmp}
+use Rattle.mvd_wire.specs.declared.reply.Reply.{Reply}
 use Rattle.mvd_wire.specs.declared.request.Request.{Request}
 use Rattle.mvd_site.specs.Held.{States}
-use Rattle.mvd_host.specs.AtHand.{AllMayWait, MayWait, asks_of}
+use Rattle.mvd_host.specs.AtHand.{AllMayWait, AtHandValue, MayWait, asked_by_one, asks_of}
 use Rattle.mvd_host.specs.Course.{own}
 use Rattle.mvd_host.specs.Fronts.{Parts, StopsTaking, TakesOne, TakesThese, asked_in, waiting_in}
 use Rattle.mvd_host.specs.Weights.{IsWeighed}
@@ -36,12 +37,6 @@ pub may_back : (xs ys : List (ℕ × Request)) → AllMayWait (xs ++ ys) → All
 may_back [] ys all = all
 may_back (x ∷ xs) ys all = may_back xs ys all.1
 
--- one of those that ask
-pub may_one : (before : List Asking) (one : Asking) (after all : List Asking) → all ≡ before ++ one ∷ after → AllMayWait (waiting_in all) → AllMayWait (asked_in one)
-may_one before one after all is may =
-    may_front (asked_in one) (waiting_in after) (may_back (waiting_in before) (asked_in one ++ waiting_in after)
-    (subst AllMayWait (ap waiting_in is ∙ waiting_append before (one ∷ after)) may))
-
 -- ---- requests of one client
 
 -- those taken first, and those taken then
@@ -50,7 +45,7 @@ takes_none states client front = record {
   clients = sym (append-nil front.clients.items);
   requests = sym (append-nil front.requests.items);
   weighed = λ so_far. so_far;
-  more = omega arith;
+  heavy = λ much. much;
   held = refl;
   done = sym (append-nil front.done.items);
 }
@@ -66,7 +61,7 @@ takes_both states client first second old mid new one other =
           ∙ ap (λ l. old.clients.items ++ l) (sym (ap (map (λ r. r.0)) all ∙ map-append (λ (r : ℕ × Request). r.0) (asks_of client first) (asks_of client second)));
       requests = both_parts old.requests.items mid.requests.items new.requests.items first second one.requests other.requests;
       weighed = λ so_far. other.weighed (one.weighed so_far);
-      more = let a = one.more in let b = other.more in omega (arith, a, b);
+      heavy = λ much. other.heavy (one.heavy much);
       held = other.held ∙ one.held;
       done = both_parts old.done.items mid.done.items new.done.items (asks_of client first) (asks_of client second) one.done other.done ∙ ap (λ l. old.done.items ++ l) (sym all);
     }
@@ -191,10 +186,10 @@ module _ (states : States) (done asked waits : List (ℕ × Request)) where
         let same : new.held ≡ old.held = held ∙ takes.held in
         let no_more : (n : ℕ) → own n (waits ++ asks_of client rest) ≡ own n waits = λ n. ap (λ l. own n (waits ++ asks_of client l)) none ∙ ap (own n) (append-nil waits) in
         parts_taken new clients requests weighed noted
-        (λ _ n no. no_more n ∙ parts.held unshut n (ap (λ (h : BTreeSet ℕ). contains nat_cmp h n) (sym same) ∙ no))
+        (λ _ n none_held. no_more n ∙ parts.held unshut n (ap (λ (h : BTreeSet ℕ). contains nat_cmp h n) (sym same) ∙ none_held))
         (λ _. elim (parts.heavy unshut) [
-          | inl no ↦ inl (λ n. ap (λ (h : BTreeSet ℕ). contains nat_cmp h n) same ∙ no n)
-          | inr much ↦ inr (let more = takes.more in omega (arith, much, more, weighed))
+          | inl nobody ↦ inl (λ n. ap (λ (h : BTreeSet ℕ). contains nat_cmp h n) same ∙ nobody n)
+          | inr much ↦ inr (let still = takes.heavy much in omega (arith, still, weighed))
         ])
 
     -- the rest waits
@@ -203,8 +198,8 @@ module _ (states : States) (done asked waits : List (ℕ × Request)) where
         → Parts states done (asked ++ asks_of client (taken ++ rest)) (waits ++ asks_of client rest) new
     parts_held new clients requests weighed noted updates much =
         parts_taken new clients requests weighed noted
-        (λ shut n no. (
-        let apart = not_noted mid.held new.held client n (updates shut) no in
+        (λ shut n none_held. (
+        let apart = not_noted mid.held new.held client n (updates shut) none_held in
         own-append n waits (asks_of client rest)
         ∙ ap₂ (λ a b. a ++ b) (parts.held unshut n (ap (λ (h : BTreeSet ℕ). contains nat_cmp h n) (sym takes.held) ∙ apart.1)) (own-other client n rest apart.0)))
         (λ shut. inr (much shut))
@@ -270,6 +265,10 @@ parted_may client all others last so_far may = let both = so_far.may may in subs
 
 -- ---- several of one client
 
+-- a client asks these, behind what waits
+pub waiting_more : (old new : List Asking) (client : ℕ) (requests : List Request) (one : Asking) → new ≡ old ++ one ∷ [] → one.client ≡ client → one.requests.items ≡ requests → waiting_in new ≡ waiting_in old ++ asks_of client requests
+waiting_more old new client requests one is same items = ap waiting_in is ∙ waiting_push old one ∙ ap₂ (λ n l. waiting_in old ++ asks_of n l) same items
+
 -- one more
 pub may_more : (asks : List (ℕ × Request)) (ask : ℕ × Request) → AllMayWait asks → MayWait ask → AllMayWait (asks ++ ask ∷ [])
 may_more [] ask all one = (one, tt)
@@ -283,3 +282,36 @@ pub may_at : (client : ℕ) (requests : List Request) (i : ℕ) (request : Reque
 may_at client [] i request low is may = absurd (omega arith)
 may_at client (first ∷ requests) zero request low is may = subst (λ (r : Request). MayWait (client, r)) (sym is) may.0
 may_at client (first ∷ requests) (suc i) request low is may = may_at client requests i request (omega arith) is may.1
+
+-- ---- whether something is left
+
+pub empty_items : (count : ℕ) (requests : List Request) → count ≡ length requests → (count == 0) ≡ true → requests ≡ []
+empty_items count [] is zero = refl
+empty_items count (r ∷ requests) is zero = absurd (let none : count ≡ 0 = grind (arith, nat_tests, zero) in omega (arith, none, is))
+
+pub some_items : (count : ℕ) (requests : List Request) → count ≡ length requests → (count == 0) ≡ false → requests ≡ [] → ⊥
+some_items count requests is some none =
+    let zero : count ≡ 0 = is ∙ ap length none in
+    let yes : (count == 0) ≡ true = grind (arith, nat_tests, zero) in
+    true≢false (sym yes ∙ some)
+
+-- one of those that ask
+pub may_in : (all : List Asking) (i : ℕ) (one : Asking) → i < length all → one ≡ get_or all i one → AllMayWait (waiting_in all) → AllMayWait (asked_in one)
+may_in [] i one low is may = absurd (omega arith)
+may_in (first ∷ all) zero one low is may = subst (λ (a : Asking). AllMayWait (asked_in a)) (sym is) (may_front (asked_in first) (waiting_in all) may)
+may_in (first ∷ all) (suc i) one low is may = may_in all i one (omega arith) is (may_back (asked_in first) (waiting_in all) may)
+
+pub apart_of : (n m : ℕ) → n ≢ m → (n == m) ≡ false
+apart_of n m other = by_eq (n == m) refl
+  where
+    by_eq : (b : Bool) → (n == m) ≡ b → (n == m) ≡ false
+    by_eq true is = absurd (other (turned_number n m is))
+    by_eq false is = is
+
+-- a client asks more
+pub asked_then : (done now then : List (ℕ × Request)) (taken left : List (ℕ × Reply)) (hand : AtHandValue) (client : ℕ) (requests : List Request) → ◌≡◌ {A = AtHandValue} (record { done = done; waits = now; taken = taken; left = left }) hand
+    → then ≡ now ++ asks_of client requests → ◌≡◌ {A = AtHandValue} (record { done = done; waits = then; taken = taken; left = left }) (asked_by_one hand client requests)
+asked_then done now then taken left hand client requests is more =
+    let first : ◌≡◌ {A = AtHandValue} (record { done = done; waits = then; taken = taken; left = left }) (asked_by_one (record { done = done; waits = now; taken = taken; left = left }) client requests) =
+    ap (λ (l : List (ℕ × Request)). record { done = done; waits = l; taken = taken; left = left }) more in
+    first ∙ ap (λ (v : AtHandValue). asked_by_one v client requests) is

@@ -91,7 +91,7 @@ neither : (b c : Bool) → cond b true c ≡ false → (b ≡ false) × (c ≡ f
 neither true c is = absurd (true≢false is)
 neither false c is = (refl, is)
 
-not_noted : (old new : BTreeSet ℕ) (client n : ℕ) → Updates nat_cmp old new client true → contains nat_cmp new n ≡ false → ((n == client) ≡ false) × (contains nat_cmp old n ≡ false)
+pub not_noted : (old new : BTreeSet ℕ) (client n : ℕ) → Updates nat_cmp old new client true → contains nat_cmp new n ≡ false → ((n == client) ≡ false) × (contains nat_cmp old n ≡ false)
 not_noted old new client n updates not =
     let both = neither _ _ (sym (updates.0 n) ∙ not) in
     (sym (at_is client n) ∙ both.0, both.1)

@@ -54,7 +54,7 @@ pub record TakesThese (states : States) (client : ℕ) (taken : List Request) (o
   pub clients : new.clients.items ≡ old.clients.items ++ map (λ r. r.0) (asks_of client taken)
   pub requests : new.requests.items ≡ old.requests.items ++ taken
   pub weighed : IsWeighed states old.requests.items old.weighed → IsWeighed states new.requests.items new.weighed
-  pub more : old.weighed ≤ new.weighed
+  pub heavy : 4194304 ≤ old.weighed → 4194304 ≤ new.weighed
   pub held : new.held ≡ old.held
   pub done : new.done.items ≡ old.done.items ++ asks_of client taken
 

@@ -1,5 +1,5 @@
 //! What a round asks of what waits at hand: of each client a front, in order.
-ghost use Rattle.std.specs.Prelude.{◌≡◌, ◌≤◌, ◌++◌, OnOk, List, [], ℕ, if◌then◌else◌, length, vec_capacity};
+ghost use Rattle.std.specs.Prelude.{◌≡◌, ◌≤◌, ◌++◌, OnOk, List, [], ℕ, false, length, true, vec_capacity};
 ghost use Rattle.mvd_wire.specs.declared.request.Request.{Request};
 ghost use Rattle.mvd_host.specs.AtHand.{AllMayWait};
 ghost use Rattle.mvd_host.specs.Course.{own};
@@ -65,8 +65,8 @@ impl Front {
     /// Takes the next request of a client, unless there is none, or it has to wait for another round: what was taken
     /// weighs as much as it may, and this one more than a little. Whether it was taken.
     fn take_one(&mut self, site: &Site, asking: &mut Asking) -> bool
-        ensures { if result then TakesOne site.now.states asking.old asking.new self.old self.new
-            else StopsTaking asking.old asking.new self.old self.new }
+        ensures takes { result ≡ true → TakesOne site.now.states asking.old asking.new self.old self.new }
+        ensures stops { result ≡ false → StopsTaking asking.old asking.new self.old self.new }
     {
         let Some(request) = asking.requests.front() else {
             return false;

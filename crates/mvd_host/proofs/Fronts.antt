@@ -1,5 +1,5 @@
 -- What a round asks of what waits at hand, one request after the other.
-use Rattle.std.proofs.Common.{◌≡◌, ◌≤◌, ◌<◌, ◌+◌, ◌==◌, ◌≢◌, ◌⊎◌, inl, inr, ℕ, zero, suc, get_or, Bool, true, false, true≢false, cond, List, [], ◌∷◌, ◌++◌, map, length, refl, sym, ap, ap₂, ◌∙◌, subst, append-nil, append_assoc, arith}
+use Rattle.std.proofs.Common.{◌≡◌, ◌≤◌, ◌<◌, ◌==◌, ◌≢◌, ◌⊎◌, inl, inr, ℕ, zero, suc, get_or, Bool, true, false, true≢false, cond, List, [], ◌∷◌, ◌++◌, map, length, refl, sym, ap, ap₂, ◌∙◌, subst, append-nil, append_assoc, arith}
 use Rattle.std.proofs.lemmas.Bool.Decides.{nat_tests}
 use Rattle.std.proofs.lemmas.List.{map-append}
 use Rattle.std.specs.BTreeSet.{BTreeSet, Updates, contains}
@@ -9,7 +9,7 @@ use Rattle.mvd_wire.specs.declared.request.Request.{Request}
 use Rattle.mvd_site.specs.Held.{States}
 use Rattle.mvd_host.specs.AtHand.{AllMayWait, AtHandValue, MayWait, asked_by_one, asks_of}
 use Rattle.mvd_host.specs.Course.{own}
-use Rattle.mvd_host.specs.Fronts.{Parts, StopsTaking, TakesOne, TakesThese, asked_in, waiting_in}
+use Rattle.mvd_host.specs.Fronts.{Parts, TakesOne, TakesThese, asked_in, waiting_in}
 use Rattle.mvd_host.specs.Weights.{IsWeighed}
 use Rattle.mvd_host.specs.declared.front.Asking.{Asking}
 use Rattle.mvd_host.specs.declared.front.Front.{Front}
@@ -286,13 +286,13 @@ may_at client (first ∷ requests) (suc i) request low is may = may_at client re
 -- ---- whether something is left
 
 pub empty_items : (count : ℕ) (requests : List Request) → count ≡ length requests → (count == 0) ≡ true → requests ≡ []
-empty_items count [] is zero = refl
-empty_items count (r ∷ requests) is zero = absurd (let none : count ≡ 0 = grind (arith, nat_tests, zero) in omega (arith, none, is))
+empty_items count [] is nothing = refl
+empty_items count (r ∷ requests) is nothing = absurd (let none : count ≡ 0 = grind (arith, nat_tests, nothing) in omega (arith, none, is))
 
 pub some_items : (count : ℕ) (requests : List Request) → count ≡ length requests → (count == 0) ≡ false → requests ≡ [] → ⊥
 some_items count requests is some none =
-    let zero : count ≡ 0 = is ∙ ap length none in
-    let yes : (count == 0) ≡ true = grind (arith, nat_tests, zero) in
+    let nothing : count ≡ 0 = is ∙ ap length none in
+    let yes : (count == 0) ≡ true = grind (arith, nat_tests, nothing) in
     true≢false (sym yes ∙ some)
 
 -- one of those that ask

@@ -8,6 +8,7 @@ pub mod Telling
 pub mod TakingAll
 pub mod Orders
 pub mod Fronts
+pub mod Beginning
 pub mod ToldLemmas
 pub mod TurnWeights
 pub mod Weights

@@ -10,7 +10,7 @@ use Rattle.mvd_wire.specs.Frames.{FrameValue}
 use Rattle.mvd_conn.specs.History.{History}
 use Rattle.mvd_host.specs.Hosts.{IfClient, client_in}
 use Rattle.mvd_host.specs.Course.{BothClients, own}
-use Rattle.mvd_host.specs.Taking.{AreApart, AreFaults, ExtendsTaken, HasTakenFrame, HoldsTaken, IsFair, HasNoNext, IsMore, EndsTurn, IsNothingTaken, TakesAllFrames, TakesMore, TakesOf, TakesOn, TakesOnly}
+use Rattle.mvd_host.specs.Taking.{AreApart, AreFaults, ExtendsTaken, HasTakenFrame, HoldsTaken, IsFair, HasNoNext, EndsTurn, IsNothingTaken, TakesAllFrames, TakesMore, TakesOf, TakesOn, TakesOnly}
 use Rattle.mvd_site.specs.Held.{States}
 use Rattle.mvd_host.specs.Weights.{AreHeavy, IsWeighed}
 use Rattle.mvd_host.specs.declared.taking.Taken.{Taken}

@@ -4,7 +4,7 @@ ghost use Rattle.std.specs.Prelude.{true, zip};
 ghost use Rattle.mvd_host.specs.AtHand.{AllMayWait, MayWait, asks_of};
 ghost use Rattle.mvd_dots.specs.declared.refusals.Refusal.TheVariants as Refusal;
 
-use crate::front::{Asking, Front, turned};
+use crate::front::{Asking, Front};
 use http_server::Log;
 use mvd_dots::Refusal;
 use mvd_site::Site;
@@ -186,14 +186,8 @@ impl AtHand {
         ensures rest { result.is_shut ≡ false → (self.new.waits ≡ []) ⊎ (4194304 ≤ result.weighed) }
     {
         let mut front = Front::new(self.alloc, mem::replace(&mut self.done, Log::new()));
-        match Vec::with_capacity(self.alloc, self.asking.len()) {
-            Ok(rest) => {
-                let asking = mem::replace(&mut self.asking, Vec::new(self.alloc));
-                let rest = front.take_all(site, asking, rest);
-                self.asking = turned(self.alloc, rest);
-            }
-            Err(_) => front.is_shut = true,
-        }
+        let asking = mem::replace(&mut self.asking, Vec::new(self.alloc));
+        self.asking = front.take_waiting(self.alloc, site, asking);
         self.done = mem::replace(&mut front.done, Log::new());
         front
     }

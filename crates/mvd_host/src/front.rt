@@ -104,8 +104,24 @@ impl Front {
             note(&mut self.held, &mut self.is_shut, asking.client);
         }
     }
+
+    /// Takes of what these ask what need not wait, and gives those of which something waits still: what the client of
+    /// the first asks comes last, unless memory is refused for that.
+    pub(crate) fn take_waiting(&mut self, alloc: Global, site: &Site, asking: Vec<Asking>) -> Vec<Asking>
+        requires may { AllMayWait (waiting_in asking.items) }
+        ensures { (done : List (ℕ × Request)) → Parts site.now.states done [] [] self.old →
+            Parts site.now.states done (waiting_in asking.items) (waiting_in result.items) self.new }
+    {
+        let Ok(rest) = Vec::with_capacity(alloc, asking.len()) else {
+            self.is_shut = true;
+            return asking;
+        };
+        let rest = self.take_all(site, asking, rest);
+        turned(alloc, rest)
+    }
+
     /// Takes of what these ask what need not wait, and gives those of which something waits still.
-    pub(crate) fn take_all(
+    fn take_all(
         &mut self,
         site: &Site,
         asking: Vec<Asking>,
@@ -129,7 +145,7 @@ impl Front {
 }
 
 /// The same, but what the client of the first asks comes last. Where memory is refused for that, as they are.
-pub(crate) fn turned(alloc: Global, asking: Vec<Asking>) -> Vec<Asking>
+fn turned(alloc: Global, asking: Vec<Asking>) -> Vec<Asking>
     ensures own { (n : ℕ) → own n (waiting_in result.items) ≡ own n (waiting_in asking.items) }
     ensures may { AllMayWait (waiting_in asking.items) → AllMayWait (waiting_in result.items) }
 {

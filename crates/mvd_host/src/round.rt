@@ -39,10 +39,10 @@ impl Host {
         ensures memory { IfErr result (λ refusal. refusal ≡ Refusal.Memory) }
         ensures lists { ListsOn feed.old (site_of replica.old).states feed.new (site_of replica.new).states }
     {
-        let front = at_hand.begin(replica.site());
+        let site = replica.site();
+        let front = at_hand.begin(site);
         let (is_shut, weighed) = (front.is_shut, front.weighed);
         let mut taken = Taken::of(self.alloc, front.clients, front.requests);
-        let site = replica.site();
         let refused = taken.take_all(self.alloc, site, weighed, &mut self.clients, ready);
         if taken.is_none() {
             return told(refused | is_shut, false);

@@ -1,11 +1,9 @@
-use Rattle.std.proofs.Common.{◌≡◌, ◌∙◌, ◌∷◌, ◌++◌, [], ℕ, List, ap, append-nil, arith, length, length-append, rules, subst, subst₂, sym}
-use Rattle.std.proofs.lemmas.List.{map-id}
+use Rattle.std.proofs.Common.{◌∙◌, ◌∷◌, ◌++◌, [], ℕ, List, ap, append-nil, arith, length, length-append, rules, subst₂, sym}
 use Rattle.std.proofs.lemmas.Iterator.Adapters.{YieldsList-from_vec}
-use Rattle.std.proofs.lemmas.Iterator.Consumers.{YieldsList-end, YieldsList-turn}
+use Rattle.std.proofs.lemmas.Iterator.Consumers.{YieldsList-turn}
 use Rattle.mvd_wire.specs.declared.request.Request.{Request}
 use Rattle.mvd_host.specs.AtHand.{asks_of}
 use Rattle.mvd_host.specs.Fronts.{Parts, waiting_in}
-use Rattle.mvd_host.specs.declared.front.Asking.{Asking}
 use Rattle.mvd_host.proofs.Fronts.{empty_items, may_in, waiting_push}
 use Rattle.mvd_host.proofs.front.Front.take_all.Goals as goal
 

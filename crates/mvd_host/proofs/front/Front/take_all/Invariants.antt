@@ -1,4 +1,4 @@
-use Rattle.std.proofs.Common.{◌≤◌, ◌+◌, [], ℕ, List, length}
+use Rattle.std.proofs.Common.{◌≤◌, [], ℕ, List, length}
 use Rattle.std.specs.Prelude.{vec_capacity, vec_len}
 use Rattle.mvd_wire.specs.declared.request.Request.{Request}
 use Rattle.mvd_host.specs.Fronts.{Parts, waiting_in}

@@ -107,7 +107,12 @@ impl Front {
 
     /// Takes of what these ask what need not wait, and gives those of which something waits still: what the client of
     /// the first asks comes last, unless memory is refused for that.
-    pub(crate) fn take_waiting(&mut self, alloc: Global, site: &Site, asking: Vec<Asking>) -> Vec<Asking>
+    pub(crate) fn take_waiting(
+        &mut self,
+        alloc: Global,
+        site: &Site,
+        asking: Vec<Asking>,
+    ) -> Vec<Asking>
         requires may { AllMayWait (waiting_in asking.items) }
         ensures { (done : List (ℕ × Request)) → Parts site.now.states done [] [] self.old →
             Parts site.now.states done (waiting_in asking.items) (waiting_in result.items) self.new }
@@ -121,12 +126,7 @@ impl Front {
     }
 
     /// Takes of what these ask what need not wait, and gives those of which something waits still.
-    fn take_all(
-        &mut self,
-        site: &Site,
-        asking: Vec<Asking>,
-        mut rest: Vec<Asking>,
-    ) -> Vec<Asking>
+    fn take_all(&mut self, site: &Site, asking: Vec<Asking>, mut rest: Vec<Asking>) -> Vec<Asking>
         requires none { rest.items ≡ [] }
         requires room { length asking.items ≤ vec_capacity rest }
         requires may { AllMayWait (waiting_in asking.items) }

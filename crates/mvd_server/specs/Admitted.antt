@@ -10,8 +10,8 @@ use Rattle.mvd_web.specs.declared.taken.Entry.{Entry}
 use Rattle.mvd_web.specs.declared.taken.Entry.TheVariants.{Open, Preflight, Conditional, HostMissing, Stranger, NoToken}
 
 -- WHAT IS DONE ABOUT A REQUEST: what it asks, where it comes in. Else it is told why not, and the site is asked nothing:
--- it names no host, or more than one; or a host that is not this server, or it comes of a page that may not ask; or it
--- shows no token; or it is a write under a condition. A page of another origin is told by which methods it may ask
+-- it names no host, or more than one; or a host that is not this server, or it comes of a page that may not ask; or
+-- it shows no token; or it is a write under a condition. A page of another origin is told by which methods it may ask
 abbrev pub Decides : Entry → Result Question Refusal → Plan → Type 0
 Decides Open question p = IsPlanOf question p
 Decides HostMissing question p = TellsFault fault.HostMissing None p

@@ -24,9 +24,9 @@ use Rattle.mvd_web.specs.Web.{IsNew, IsOver}
 use Rattle.mvd_web.specs.declared.web_connection.WebConnection.{WebConnection}
 use Rattle.mvd_wire.specs.declared.reply.Reply.{Reply}
 
--- who may come in, by which names and of which pages; the host, with the connections of frames; what those over HTTP ask and are told; their connections,
--- and the number of the next one; the writes of those of whose request some are not answered; and the numbers of the
--- server's own, for its sessions
+-- who may come in, by which names and of which pages; the host, with the connections of frames; what those over HTTP
+-- ask and are told; their connections, and the number of the next one; the writes of those of whose request some are not
+-- answered; and the numbers of the server's own, for its sessions
 pub record Talking : Type 0 where
   pub guard : Option Guard
   pub names : Named
@@ -171,7 +171,8 @@ DoesAct (GoesOwn n) old new =
 DoesAct (Calls n call) old new = MayCall old n call × (new ≡ with_host old (altered old.host n (after_call call)))
 DoesAct (Attends n web web' errand) old new =
     (web_in old n ≡ Some web)
-    × RunsErrand errand old.guard old.names n (desk old.hand (web_of web) old.batches) (desk new.hand (web_of web') new.batches)
+    × RunsErrand errand old.guard old.names n (desk old.hand (web_of web) old.batches)
+    (desk new.hand (web_of web') new.batches)
     × (new ≡ record (with_web old n web') { hand = new.hand; batches = new.batches })
 DoesAct (Begins n batch) old new =
     MayBeginWrites n batch old × (new ≡ record old { batches = insert_entry nat_cmp old.batches n batch })

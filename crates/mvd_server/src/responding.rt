@@ -122,8 +122,8 @@ pub(crate) fn tell_pushed(
     }
 }
 
-/// Queues the response to the request that waits, which is answered by this reply. Where there is no memory for it, it is
-/// told with that which was taken before the site was asked.
+/// Queues the response to the request that waits, which is answered by this reply. Where there is no memory for it, it
+/// is told with that which was taken before the site was asked.
 #[tactic(auto, using(crate::proofs::Answering::answered, crate::proofs::Answering::answered_so))]
 pub(crate) fn tell_reply(alloc: Global, web: &mut WebConnection, reply: &Reply, counts: &mut Counts)
     ensures { AnswersWeb (web_of web.old).asked reply.now (web_of web.old) (web_of web.new) }
@@ -142,7 +142,8 @@ pub(crate) fn tell_reply(alloc: Global, web: &mut WebConnection, reply: &Reply, 
     }
 }
 
-/// The same. Where there is no memory for the response to a change, which may be stored, the connection ends without one.
+/// The same. Where there is no memory for the response to a change, which may be stored, the connection ends without
+/// one.
 #[tactic(auto, using(crate::proofs::Answering::answered))]
 fn tell_last(alloc: Global, web: &mut WebConnection, reply: &Reply, counts: &mut Counts)
     ensures { AnswersWeb (web_of web.old).asked reply.now (web_of web.old) (web_of web.new) }

@@ -111,9 +111,9 @@ pub record NothingCame (old new : WebValue) : Type 0 where
   pub received : new.heard.received ≡ old.heard.received
   pub ended : new.heard.ended ≡ old.heard.ended
 
--- One more request was read, and this is what it asks, where the guard lets it in. Nothing was queued: its response is not known yet. What the
--- kit's connection had to say in its place is a plain response, which closes nothing, and of that no byte is left to be
--- queued.
+-- One more request was read, and this is what it asks, where the guard lets it in. Nothing was queued: its response is
+-- not known yet. What the kit's connection had to say in its place is a plain response, which closes nothing, and of
+-- that no byte is left to be queued.
 pub record TakesOne (guard : Option Guard) (names : Named) (old new : WebValue) : Type 0 where
   pub call : Call
   pub calls : new.heard.calls ≡ old.heard.calls ++ call ∷ []

@@ -1,17 +1,18 @@
-//! Memory for the response to a write. It is taken before the site is asked, and given back where there is no other: so a
-//! write that is stored is told.
+//! Memory for the response to a write. It is taken before the site is asked, and given back where there is no other: so
+//! a write that is stored is told.
 use bytes::Bytes;
 use http::Request;
 use mvd_http::is_write;
 use std::alloc::{AllocError, Global};
 
-/// How many bytes are taken for a head, and how many for each byte of what the body may have: a text is copied as it grows.
+/// How many bytes are taken for a head, and how many for each byte of what the body may have: a text is copied as it
+/// grows.
 const HEAD: usize = 4_096;
 
 const TIMES: usize = 16;
 
-/// How many bytes are taken for the lines of a list of writes: each is some three times as long as its write at most, and
-/// all are as long as a thousand.
+/// How many bytes are taken for the lines of a list of writes: each is some three times as long as its write at most,
+/// and all are as long as a thousand.
 const LINE_TIMES: usize = 4;
 
 const LINES_MAX: usize = 262_144;

@@ -127,9 +127,11 @@ impl WebConnection {
     }
 
     /// Takes the next request, where no other waits for its answer. Whether one was taken. Only one that the guard lets
-    /// in is read further than its head. Where none was taken, what the parser answers for itself is queued, and for a request that it refuses the response that names the fault.
+    /// in is read further than its head. Where none was taken, what the parser answers for itself is queued, and for a
+    /// request that it refuses the response that names the fault.
     pub fn next(&mut self, guard: Option<&Guard>, names: &Names) -> bool
-        ensures { TakesRequest (option_copied guard.entry) (named_by names.now) (web_of self.old) result (web_of self.new) }
+        ensures { TakesRequest (option_copied guard.entry) (named_by names.now)
+            (web_of self.old) result (web_of self.new) }
     {
         if self.is_free() {
             return self.look(guard, names);
@@ -140,7 +142,8 @@ impl WebConnection {
     /// The same, where a request may be taken.
     fn look(&mut self, guard: Option<&Guard>, names: &Names) -> bool
         requires { free_now (web_of self.old) ≡ true }
-        ensures { TakesRequest (option_copied guard.entry) (named_by names.now) (web_of self.old) result (web_of self.new) }
+        ensures { TakesRequest (option_copied guard.entry) (named_by names.now)
+            (web_of self.old) result (web_of self.new) }
     {
         if self.advance(guard, names) {
             self.drop_pending();

@@ -9,5 +9,6 @@ returns-clause-ok c = record {
   kept = refl;
   asks = c.asked_by.ensures;
   guard = refl;
+  names = refl;
   plain = record { status = refl; headers = c.requires.headers; body = c.requires.body };
 }

@@ -52,14 +52,14 @@ pub place_rests : (old : Option OwnSession) (a b : OwnSession) (free : ℕ) → 
 place_rests old a b free is rests none full = ap Some (rests (sym (ap has_place is) ∙ none) full) ∙ sym is
 
 -- one that gives its place up has none
-pub gives_up : (old new : Peering) (b : OwnSession) → new.session ≡ Some b → b.runs ≡ false → TakesNoPlace old new
-gives_up old new b is none =
+pub gone : (old new : Peering) (b : OwnSession) → new.session ≡ Some b → b.runs ≡ false → TakesNoPlace old new
+gone old new b is none =
     let zero : places_of new ≡ 0 = ap (λ (o : Option OwnSession). count_if (has_place o)) is ∙ ap count_if none in
     omega (arith, zero)
 
 -- who has no connection, no place, or a place that is lent still
-pub lent_unlinked : (now : ℕ) (p : Peering) → p.link ≡ None → IsLentAt now p
-lent_unlinked now p is = subst (λ (o : Option PeerLink). IsLentOver now o (has_place p.session)) (sym is) tt
+pub unlinked : (now : ℕ) (p : Peering) → p.link ≡ None → IsLentAt now p
+unlinked now p is = subst (λ (o : Option PeerLink). IsLentOver now o (has_place p.session)) (sym is) tt
 
 without_over : (now : ℕ) (link : Option PeerLink) (has : Bool) → has ≡ false → IsLentOver now link has
 without_over now None has none = tt
@@ -68,11 +68,11 @@ without_over now (Some link) has none = λ is.
     let zero : count_if has ≡ 0 = ap count_if none in
     omega (arith, one, zero)
 
-pub lent_without : (now : ℕ) (p : Peering) → has_place p.session ≡ false → IsLentAt now p
-lent_without now p none = without_over now p.link (has_place p.session) none
+pub without : (now : ℕ) (p : Peering) → has_place p.session ≡ false → IsLentAt now p
+without now p none = without_over now p.link (has_place p.session) none
 
-pub lent_with : (now : ℕ) (p : Peering) (link : PeerLink) → p.link ≡ Some link → now < over_at link.loan → IsLentAt now p
-lent_with now p link is low = subst (λ (o : Option PeerLink). IsLentOver now o (has_place p.session)) (sym is) (λ _. low)
+pub is_lent : (now : ℕ) (p : Peering) (link : PeerLink) → p.link ≡ Some link → now < over_at link.loan → IsLentAt now p
+is_lent now p link is low = subst (λ (o : Option PeerLink). IsLentOver now o (has_place p.session)) (sym is) (λ _. low)
 
 -- so many of them have places that are lent
 abbrev pub LentBelow : Bool → ℕ → ℕ → List Peering → Type 0

@@ -146,7 +146,7 @@ impl Peering {
 
     /// Its session gives up its place, if it has one, where the loan is over and others wait, or where no byte moved
     /// for a while. Nothing is read of the peer until it has one again.
-    #[tactic(auto, using(crate::proofs::Placing::gives_up, crate::proofs::Placing::lent_unlinked, crate::proofs::Placing::lent_without, crate::proofs::Placing::lent_with))]
+    #[tactic(auto, using(crate::proofs::Placing::gone, crate::proofs::Placing::unlinked, crate::proofs::Placing::without, crate::proofs::Placing::is_lent))]
     pub fn give_back(&mut self, waits: bool, now: u64)
         ensures places { TakesNoPlace self.old self.new }
         ensures lends { waits ≡ true → IsLentAt now self.new }

@@ -217,6 +217,10 @@ module _ {K C : Type 0} (f : C → State) (k : SocketGhosts K) where
 
 -- ---- what a server does
 
+-- it begins with who may come in, and with its names
+pub begins_serving : (token : Option (List ℕ)) (guard : Option Guard) (names : Named) (talks : Talks) → IsGuardOf token guard → talking_of talks ≡ new_talking guard names → BeginsServing token talks
+begins_serving token guard names talks guarded is = (guard, names, guarded, is)
+
 none_made : (guard : Option Guard) (names : Named) (n : ℕ) → IsMadeFor (new_talking guard names) n → ⊥
 none_made guard names n is = absurd (true≢false (sym is))
 

@@ -57,6 +57,7 @@ pub(crate) struct Crowd {
 }
 
 impl Crowd {
+    #[tactic(auto, using(crate::proofs::Rounds::begins_serving))]
     pub fn new(alloc: Global, keys: RandomState, terms: Terms<'_>) -> Result<Crowd, AllocError>
         ensures { IfOk result (λ crowd. BeginsServing (option_copied terms.entry.token) crowd.talks) }
     {

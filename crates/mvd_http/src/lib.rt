@@ -11,16 +11,19 @@ mod json_words;
 mod line_told;
 mod lists_asked;
 mod live_told;
+mod members;
 mod open_to_all;
 mod page;
 mod place;
 mod posted;
+mod pushed;
 pub mod question;
 mod responses;
 mod server_told;
 mod since;
 mod target;
 mod target_parts;
+mod told_lines;
 
 pub use asked::question_of;
 pub use fields::{Answer, Content, fill};
@@ -31,5 +34,8 @@ pub use live_told::live_response_of;
 pub use open_to_all::is_open_to_all;
 pub use page::PAGE;
 pub use question::{Methods, Question, Verb};
-pub use responses::{misread_response, refused_response, refused_status, response_of};
+pub use responses::{
+    misread_response, push_refused, refused_response, refused_status, response_of,
+};
 pub use server_told::{push_changes, push_root};
+pub use told_lines::{push_bad_line, push_later, push_told};

@@ -43,6 +43,11 @@ AnswersReply (Ok (Ask request)) reply status body = AnswersAsked false request r
 AnswersReply (Ok (Live request)) reply status body = AnswersAsked true request reply status body
 AnswersReply _ reply status body = ⊥
 
+-- the reply to the request that waits is told so
+abbrev pub AnswersWaiting : Option Asked → Reply → ℕ → List ℕ → Type 0
+AnswersWaiting None reply status body = ⊥
+AnswersWaiting (Some asked) reply status body = AnswersReply asked.question reply status body
+
 -- a response to the request that waits
 pub record AnswersBy (asked : Asked) (reply : Reply) (old new : WebValue) : Type 0 where
   pub status : ℕ
@@ -77,7 +82,7 @@ TellsBody content old new =
 
 -- a token is asked for
 abbrev pub token_answer : Answer
-token_answer = record { status = 401; content = Json; allow = None; asks_token = true }
+token_answer = record { status = 401; content = Json; allow = None; asks_token = true; preflight = None }
 
 abbrev pub not_admitted : List ℕ
 not_admitted = codes "{\"refused\":38,\"name\":\"NotAdmitted\"}"

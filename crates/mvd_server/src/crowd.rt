@@ -63,7 +63,15 @@ impl Crowd {
         let piece = Piece::new(alloc)?;
         let told = String::with_capacity(alloc, PIECE)?;
         let peers = Peers::counts(alloc, terms)?;
-        let talks = Talks::new(alloc, keys, terms.guard(), terms.peers.len())?;
+        let names = terms.names(alloc)?;
+        let talks = Talks::new(
+            alloc,
+            keys,
+            terms.guard(),
+            names,
+            terms.peers.len(),
+            terms.waits_max(),
+        )?;
         Ok(Crowd {
             talks,
             counts: Counts::new(alloc, peers),

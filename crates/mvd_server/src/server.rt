@@ -24,6 +24,7 @@ use mvd_conn::Guard;
 use mvd_dots::Refusal;
 use mvd_hint::{Stop, Watch};
 use mvd_host::CLIENTS_MAX;
+use mvd_http::Names;
 use mvd_input::{Fault, tell};
 use mvd_replica::Replica;
 use mvd_wire::Token;
@@ -39,7 +40,8 @@ use std::time::{Clock, Duration, Instant};
 
 /// What a server is asked for: the port for HTTP, if it serves that too, how many connections it serves in all, for how
 /// many seconds no byte need move on one, and how many clients it serves at once. Where there is a token, who comes in
-/// shows it, and it is shown to peers. Each peer is met again as many seconds after a session.
+/// shows it, and it is shown to peers. Over HTTP it may be asked by the names
+/// of a list, and by pages of the origins of another, each with commas between its items. Each peer is met again as many seconds after a session.
 #[derive(Clone, Copy)]
 pub struct Terms<'a> {
     pub http: Option<u16>,
@@ -47,6 +49,8 @@ pub struct Terms<'a> {
     pub idle: u32,
     pub clients: u32,
     pub token: Option<&'a Token>,
+    pub hosts: &'a str,
+    pub origins: &'a str,
     pub peers: &'a [SocketAddr],
     pub every: u32,
 }
@@ -68,6 +72,20 @@ impl Terms<'_> {
     /// The most clients that are served at once. Beside them the host has a place for a session with each peer.
     pub(crate) fn places(self) -> usize {
         (self.clients as usize).min(CLIENTS_MAX.saturating_sub(self.peers.len()))
+    }
+
+    /// By which names it is asked, and of which origins a page may ask: by any name, where a token is asked for.
+    pub(crate) fn names(self, alloc: Global) -> Result<Names, AllocError> {
+        Ok(Names {
+            hosts: String::from_str(alloc, self.hosts)?,
+            origins: String::from_str(alloc, self.origins)?,
+            any_host: self.token.is_some(),
+        })
+    }
+
+    /// The most clients that may wait for a change at once, so that there are places for those who write.
+    pub(crate) fn waits_max(self) -> usize {
+        self.clients as usize / 2
     }
 }
 

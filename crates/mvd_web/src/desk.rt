@@ -6,6 +6,7 @@ use bytes::Bytes;
 use http::{Request, StatusCode};
 use http_server::{Response, Service};
 use mvd_conn::Guard;
+use mvd_http::Names;
 use std::alloc::{AllocError, Global};
 
 /// It keeps one request. What it answers is never sent: the response is queued once it is known.
@@ -13,6 +14,7 @@ use std::alloc::{AllocError, Global};
 pub(crate) struct Desk<'a> {
     pub(crate) alloc: Global,
     pub(crate) guard: Option<&'a Guard>,
+    pub(crate) names: &'a Names,
     pub(crate) asked: Option<Asked>,
 }
 
@@ -27,7 +29,7 @@ impl Service for Desk<'_> {
         if self.asked.is_some() {
             return Err(AllocError);
         }
-        self.asked = Some(asked_by(self.alloc, self.guard, request));
+        self.asked = Some(asked_by(self.alloc, self.guard, self.names, request)?);
         // No request is refused this status.
         response.status = StatusCode::NOT_FOUND;
         Ok(())

@@ -28,7 +28,7 @@ framing_of status length is_last = framing_fields status (decimal length) is_las
 abbrev pub shares : Option (List ℕ) → List Header
 shares None = []
 shares (Some origin) =
-    (codes "access-control-allow-origin", origin) ∷ (codes "vary", codes "origin") ∷ []
+    (codes "access-control-allow-origin", origin) ∷ (codes "vary", codes "Origin") ∷ []
 
 abbrev pub head_bytes : Answer → ℕ → Bool → Option (List ℕ) → List ℕ
 head_bytes answer length is_last origin =

@@ -88,7 +88,7 @@ fn share<'a>(list: &mut Vec<Header<'a>>, origin: Option<&'a [u8]>) -> Result<(),
     })?;
     list.push(Header {
         name: b"vary",
-        value: b"origin",
+        value: b"Origin",
     })?;
     Ok(())
 }

@@ -39,6 +39,6 @@ TellsSome refused n old new = Path (TellsWriteLine refused n) old new
 abbrev pub TellsEachLine : ℕ → Batch → AtHandValue → Batch → AtHandValue → Type 0
 TellsEachLine n batch hand batch' hand' = TellsSome batch.refused.items n (lining hand batch) (lining hand' batch')
 
--- nothing of the writes changes but which are told, and what memory is kept for the response
+-- nothing of the writes changes but which are told
 abbrev pub IsOnlyTold : Batch → Batch → Type 0
-IsOnlyTold old new = new ≡ record old { told = new.told; lines = new.lines; spare = new.spare }
+IsOnlyTold old new = new ≡ record old { told = new.told; lines = new.lines }

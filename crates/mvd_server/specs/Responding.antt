@@ -43,11 +43,6 @@ AnswersReply (Ok (Ask request)) reply status body = AnswersAsked false request r
 AnswersReply (Ok (Live request)) reply status body = AnswersAsked true request reply status body
 AnswersReply _ reply status body = ⊥
 
--- the reply to the request that waits is told so
-abbrev pub AnswersWaiting : Option Asked → Reply → ℕ → List ℕ → Type 0
-AnswersWaiting None reply status body = ⊥
-AnswersWaiting (Some asked) reply status body = AnswersReply asked.question reply status body
-
 -- a response to the request that waits
 pub record AnswersBy (asked : Asked) (reply : Reply) (old new : WebValue) : Type 0 where
   pub status : ℕ

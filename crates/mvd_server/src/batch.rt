@@ -6,13 +6,11 @@ ghost use Rattle.mvd_server.specs.Errands.{IsUntold, TakesIf};
 ghost use Rattle.mvd_server.specs.Lines.{IsOnlyTold, TellsEachLine};
 
 use crate::copying::copy_request;
-use crate::responding::response_room;
 use mvd_dots::Refusal;
 use mvd_host::AtHand;
 use mvd_http::{LINE_ROOM, push_line};
 use mvd_wire::{Reply, Request};
 use std::alloc::Global;
-use std::mem;
 
 /// The writes of one request, and what is told of them. All memory that it takes is taken before the first of them is
 /// asked.
@@ -25,8 +23,6 @@ pub(crate) struct Batch {
     /// The lines of so many of them.
     told: usize,
     lines: String,
-    /// Memory for the response.
-    spare: Vec<u8>,
 }
 
 impl Batch {
@@ -40,15 +36,12 @@ impl Batch {
         for write in writes {
             refused.push(add_request(alloc, write, &mut requests)?)?;
         }
-        let room = writes.len().saturating_mul(LINE_ROOM);
-        let lines = String::with_capacity(alloc, room)?;
-        let spare = Vec::with_capacity(alloc, response_room(room))?;
+        let lines = String::with_capacity(alloc, writes.len().saturating_mul(LINE_ROOM))?;
         Ok(Batch {
             requests,
             refused,
             told: 0,
             lines,
-            spare,
         })
     }
 
@@ -135,13 +128,6 @@ impl Batch {
         push_line(&mut self.lines, reply)?;
         self.told = self.told.saturating_add(1);
         Ok(())
-    }
-
-    /// Gives away the memory that was taken for the response.
-    pub fn take_spare(&mut self, alloc: Global) -> Vec<u8>
-        ensures { self.new ≡ record self.old { spare = self.new.spare } }
-    {
-        mem::replace(&mut self.spare, Vec::new(alloc))
     }
 
     pub fn lines(&self) -> &str

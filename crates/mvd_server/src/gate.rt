@@ -14,7 +14,7 @@ use crate::batch::Batch;
 use crate::changes::push_since;
 use crate::copying::copy_request;
 use crate::metrics::{Counts, Now};
-use crate::responding::{answer_of, refuse, respond, response_room, tell_pushed};
+use crate::responding::{answer_of, refuse, respond, tell_pushed};
 use http::StatusCode;
 use mvd_conn::Guard;
 use mvd_dots::Refusal;
@@ -24,7 +24,7 @@ use mvd_replica::Replica;
 use mvd_web::{Asked, Entry, WebConnection};
 use mvd_wire::{Reply, Request};
 use sqlite::Alter;
-use std::alloc::{AllocError, Global};
+use std::alloc::Global;
 
 const READY: &str = "{\"ready\":true}";
 
@@ -215,22 +215,8 @@ fn ask_site(
 )
     ensures { AsksAtHand number request (web_of web.old) hand.old (web_of web.new) hand.new }
 {
-    let asked = match keep_room(web, &request) {
-        Ok(()) => hand.ask(number, request),
-        Err(error) => Err(Refusal::from(error)),
-    };
-    if let Err(refusal) = asked {
+    if let Err(refusal) = hand.ask(number, request) {
         refuse(alloc, web, counts, refusal);
-    }
-}
-
-/// Takes memory for the response to a write, which is to be there once that is stored.
-fn keep_room(web: &mut WebConnection, request: &Request) -> Result<(), AllocError>
-    ensures { web_of web.new ≡ web_of web.old }
-{
-    match request {
-        Request::Put(..) | Request::Delete(..) => web.keep_spare(response_room(web.context_len())),
-        _ => Ok(()),
     }
 }
 
@@ -358,7 +344,6 @@ fn tell_metrics<S: Alter + Drop>(
 /// lines are there.
 #[tactic(auto, using(crate::proofs::Errands::tells_all, crate::proofs::Errands::tells_none, crate::proofs::Errands::tells_stop))]
 pub(crate) fn answer_writes(
-    alloc: Global,
     web: &mut WebConnection,
     batch: &mut Batch,
     reply: Option<&Reply>,
@@ -368,11 +353,12 @@ pub(crate) fn answer_writes(
         TellsBatch n (web_of web.old) batch.old hand (web_of web.new) batch.new hand' }
 {
     match batch.tell(reply) {
-        Ok(true) => {
-            web.take_spare(batch.take_spare(alloc));
-            let answer = answer_of(StatusCode::OK, Content::Lines);
-            respond(web, counts, answer, batch.lines());
-        }
+        Ok(true) => respond(
+            web,
+            counts,
+            answer_of(StatusCode::OK, Content::Lines),
+            batch.lines(),
+        ),
         Ok(false) => {}
         Err(refusal) => web.stop(refusal),
     }

@@ -3,8 +3,8 @@ ghost use Rattle.std.specs.Prelude.{◌≡◌, IfOk, IsTrue, string_bytes};
 ghost use Rattle.mvd_http.specs.declared.fields.Content.TheVariants.{Json};
 ghost use Rattle.mvd_server.specs.Errands.{AwaitsChange};
 ghost use Rattle.mvd_server.specs.Plans.{plain_answer};
-ghost use Rattle.mvd_server.specs.Responding.{AnswersReply, AnswersWaiting, AnswersWeb, RefusesWeb, TellsBody};
-ghost use Rattle.mvd_server.specs.Responding.{content_of as content_for, json_answer, status_or_500};
+ghost use Rattle.mvd_server.specs.Responding.{AnswersReply, AnswersWeb, RefusesWeb, TellsBody, content_of as content_for};
+ghost use Rattle.mvd_server.specs.Responding.{json_answer, status_or_500};
 ghost use Rattle.mvd_web.specs.Inside.{web_of};
 ghost use Rattle.mvd_web.specs.Web.{RespondsTo};
 
@@ -15,14 +15,6 @@ use mvd_http::{Answer, Content, Question, live_response_of, refused_response, re
 use mvd_web::WebConnection;
 use mvd_wire::Reply;
 use std::alloc::Global;
-
-/// How many bytes are taken for the response to a write, before it is asked: for its head, and for its body where that
-/// has about so many bytes, with the steps in which that grows.
-pub(crate) fn response_room(body: usize) -> usize {
-    const HEAD: usize = 4_096;
-    const TIMES: usize = 16;
-    body.saturating_mul(TIMES).saturating_add(HEAD)
-}
 
 pub(crate) fn answer_of(status: StatusCode, content: Content) -> Answer
     ensures { result ≡ plain_answer status content }
@@ -109,40 +101,39 @@ pub(crate) fn tell_pushed(
     }
 }
 
-/// Queues the response to the request that waits, which is answered by this reply. Where there is no memory for the
-/// response to a change, which may be stored, that is used which was taken for it before; and where there is none of
-/// that, the connection ends without one.
-#[tactic(auto, using(crate::proofs::Answering::answered))]
+/// Queues the response to the request that waits, which is answered by this reply. Where there is no memory for it, it is
+/// told with that which was taken before the site was asked.
+#[tactic(auto, using(crate::proofs::Answering::answered, crate::proofs::Answering::answered_so))]
 pub(crate) fn tell_reply(alloc: Global, web: &mut WebConnection, reply: &Reply, counts: &mut Counts)
     ensures { AnswersWeb (web_of web.old).asked reply.now (web_of web.old) (web_of web.new) }
 {
-    if web.asked().is_none() {
-        return;
-    }
     let mut body = String::new(alloc);
-    let status = match put_told(alloc, web, reply, &mut body) {
-        // What was taken for it before the site was asked is there now.
-        Err(_) if web.give_spare() => put_told(alloc, web, reply, &mut body),
-        status => status,
+    let status = match web.asked() {
+        Some(asked) => put_body(alloc, &asked.question, reply, &mut body),
+        None => return,
+    };
+    match status {
+        Ok(status) => respond_json(web, counts, status, body.as_str()),
+        Err(_) => {
+            web.give_spare();
+            tell_last(alloc, web, reply, counts);
+        }
+    }
+}
+
+/// The same. Where there is no memory for the response to a change, which may be stored, the connection ends without one.
+#[tactic(auto, using(crate::proofs::Answering::answered))]
+fn tell_last(alloc: Global, web: &mut WebConnection, reply: &Reply, counts: &mut Counts)
+    ensures { AnswersWeb (web_of web.old).asked reply.now (web_of web.old) (web_of web.new) }
+{
+    let mut body = String::new(alloc);
+    let status = match web.asked() {
+        Some(asked) => put_body(alloc, &asked.question, reply, &mut body),
+        None => return,
     };
     match status {
         Ok(status) => respond_json(web, counts, status, body.as_str()),
         Err(refusal) => web.stop(refusal),
-    }
-}
-
-/// Puts the body of the response to the request that waits into `body`, and gives its status.
-fn put_told(
-    alloc: Global,
-    web: &WebConnection,
-    reply: &Reply,
-    body: &mut String,
-) -> Result<u16, Refusal>
-    ensures { IfOk result (λ status. AnswersWaiting (web_of web.now).asked reply.now status (string_bytes body.new)) }
-{
-    match web.asked() {
-        Some(asked) => put_body(alloc, &asked.question, reply, body),
-        None => Err(Refusal::BadKind),
     }
 }
 

@@ -295,7 +295,7 @@ impl Talks {
         let Some(batch) = self.batches.get_mut(&number) else {
             return tell_reply(self.alloc, web, reply, counts);
         };
-        answer_writes(self.alloc, web, batch, Some(reply), counts);
+        answer_writes(web, batch, Some(reply), counts);
         if web.asked().is_none() {
             drop(self.batches.remove(&number));
         }
@@ -311,7 +311,7 @@ impl Talks {
         let Some(batch) = self.batches.get_mut(&number) else {
             return;
         };
-        answer_writes(self.alloc, web, batch, None, counts);
+        answer_writes(web, batch, None, counts);
         if web.asked().is_none() {
             drop(self.batches.remove(&number));
         }

@@ -1,6 +1,7 @@
 //! What keeps a request until it is answered.
 ghost use Rattle.mvd_web.specs.Asked.{KeepsAsked};
 
+use crate::spare::spare_for;
 use crate::taken::{Asked, asked_by};
 use bytes::Bytes;
 use http::{Request, StatusCode};
@@ -16,6 +17,8 @@ pub(crate) struct Desk<'a> {
     pub(crate) guard: Option<&'a Guard>,
     pub(crate) names: &'a Names,
     pub(crate) asked: Option<Asked>,
+    /// Memory that was taken for the response to a write.
+    pub(crate) spare: Option<Vec<u8>>,
 }
 
 impl Service for Desk<'_> {
@@ -29,6 +32,7 @@ impl Service for Desk<'_> {
         if self.asked.is_some() {
             return Err(AllocError);
         }
+        self.spare = spare_for(self.alloc, request)?;
         self.asked = Some(asked_by(self.alloc, self.guard, self.names, request)?);
         // No request is refused this status.
         response.status = StatusCode::NOT_FOUND;

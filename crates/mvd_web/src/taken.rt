@@ -46,8 +46,6 @@ pub struct Asked {
     pub is_head: bool,
     /// The origin of its page, where that is another than the host's own, and may read the response.
     pub origin: Option<Bytes>,
-    /// The bytes of its field `Mvd-Context`.
-    pub context_len: usize,
 }
 
 /// The value of the first field of a name.
@@ -248,6 +246,5 @@ pub(crate) fn asked_by(
         question: question_if(alloc, entry, request),
         is_head: request.method().as_str().as_bytes() == b"HEAD".as_slice(),
         origin,
-        context_len: field_in(request, "mvd-context").map_or(0, <[u8]>::len),
     })
 }

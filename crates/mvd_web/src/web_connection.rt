@@ -31,8 +31,8 @@ pub struct WebConnection {
     /// The request that waits for its answer.
     asked: Option<Asked>,
     output: BytesMut,
-    /// Memory that was taken for the response to a write, before the site was asked for it.
-    spare: Vec<u8>,
+    /// Memory that was taken for the response to a write, before the site is asked for it.
+    spare: Option<Vec<u8>>,
     /// There is nothing to take before more bytes come.
     rests: bool,
     /// Why nothing more is taken and nothing more leaves.
@@ -62,7 +62,7 @@ impl WebConnection {
             parser: Connection::new(alloc, keys, config),
             asked: None,
             output: BytesMut::new(alloc),
-            spare: Vec::new(alloc),
+            spare: None,
             rests: true,
             stopped: None,
         }
@@ -205,14 +205,6 @@ impl WebConnection {
         self.asked.as_ref()
     }
 
-    /// How many bytes its field `Mvd-Context` has.
-    pub fn context_len(&self) -> usize {
-        match &self.asked {
-            Some(asked) => asked.context_len,
-            None => 0,
-        }
-    }
-
     /// Queues the response to the request that waits for it. Where memory is refused, the connection stops.
     pub fn respond(&mut self, answer: Answer, body: &str)
         ensures { RespondsTo (web_of self.old).asked (web_of self.old) answer body.now (web_of self.new) }
@@ -228,29 +220,11 @@ impl WebConnection {
         self.give_spare();
     }
 
-    /// Takes so many bytes for the response to the request that waits. They are given back once it is queued, or where
-    /// there is no other memory for it.
-    pub fn keep_spare(&mut self, count: usize) -> Result<(), AllocError>
+    /// Gives back what was taken for the response to a write. It is there for that response now.
+    pub fn give_spare(&mut self)
         ensures { web_of self.new ≡ web_of self.old }
     {
-        self.spare = Vec::with_capacity(self.alloc, count)?;
-        Ok(())
-    }
-
-    /// Keeps what was taken elsewhere for the response to the request that waits.
-    pub fn take_spare(&mut self, spare: Vec<u8>)
-        ensures { web_of self.new ≡ web_of self.old }
-    {
-        self.spare = spare;
-    }
-
-    /// Gives back what was taken for a response. Whether there was any.
-    pub fn give_spare(&mut self) -> bool
-        ensures { web_of self.new ≡ web_of self.old }
-    {
-        let is_there = self.spare.capacity() > 0;
-        self.spare = Vec::new(self.alloc);
-        is_there
+        self.spare = None;
     }
 
     /// The request no longer waits.
@@ -307,10 +281,8 @@ impl WebConnection {
             pushed (web_of self.old) (response_bytes answer body.now manner (option_copied origin.entry))) }
         ensures err { OnErr result (web_of self.new ≡ web_of self.old) }
     {
-        if self.give_spare() {
-            return self.push(answer, body, manner, origin);
-        }
-        Err(AllocError)
+        self.give_spare();
+        self.push(answer, body, manner, origin)
     }
 
     /// The bytes that wait to leave.
@@ -358,9 +330,11 @@ impl WebConnection {
             guard,
             names,
             asked: None,
+            spare: None,
         };
         self.parser.advance(&mut desk);
         self.asked = desk.asked;
+        self.spare = desk.spare;
         self.asked.is_some()
     }
 

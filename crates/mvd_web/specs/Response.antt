@@ -33,7 +33,7 @@ shares (Some origin) =
 abbrev pub head_bytes : Answer → ℕ → Bool → Option (List ℕ) → List ℕ
 head_bytes answer length is_last origin =
     response_text 1 answer.status (reason_of answer.status)
-    (fields_for answer ++ (shares origin ++ framing_of answer.status length is_last))
+    ((fields_for answer ++ shares origin) ++ framing_of answer.status length is_last)
 
 abbrev pub body_sent : Bool → List ℕ → List ℕ
 body_sent true body = []

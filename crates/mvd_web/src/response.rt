@@ -59,8 +59,8 @@ fn listed<'a>(
     is_last: bool,
     origin: Option<&'a [u8]>,
 ) -> Result<Vec<Header<'a>>, AllocError>
-    ensures { IfOk result (λ list. pairs list.items ≡ fields_of filled.now
-        ++ (shares (option_copied origin.entry) ++ framing_fields filled.now.status digits.now is_last)) }
+    ensures { IfOk result (λ list. pairs list.items ≡ (fields_of filled.now ++ shares (option_copied origin.entry))
+        ++ framing_fields filled.now.status digits.now is_last) }
 {
     let mut list = own_fields(alloc, &filled.headers)?;
     share(&mut list, origin)?;
@@ -154,8 +154,8 @@ fn push_head(
 ) -> Result<(), AllocError>
     ensures ok { OnOk result (out.new.items ≡ out.old.items
         ++ response_text 1 filled.now.status (reason_of filled.now.status)
-        (fields_of filled.now ++ (shares (option_copied origin.entry)
-        ++ framing_of filled.now.status length is_last))) }
+        ((fields_of filled.now ++ shares (option_copied origin.entry))
+        ++ framing_of filled.now.status length is_last)) }
     ensures err { OnErr result (out.new.items ≡ out.old.items) }
 {
     let digits = format!(in alloc; "{length}")?;

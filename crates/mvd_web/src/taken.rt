@@ -1,5 +1,5 @@
 //! A request that was taken.
-ghost use Rattle.std.specs.Prelude.{◌≡◌, ◌↔◌, IfOk, IsTrue, codes, length, option_copied};
+ghost use Rattle.std.specs.Prelude.{◌≡◌, ◌↔◌, IfOk, IsTrue, codes, is_some, length, option_copied};
 ghost use Rattle.http.specs.Request.{body_of, head_of};
 ghost use Rattle.http_header.specs.HeaderMap.{get_all};
 ghost use Rattle.mvd_http.specs.Asked.{IsQuestion};
@@ -150,11 +150,20 @@ fn stranger_in(names: &Names, request: &Request<Bytes>) -> Option<Fault>
     stranger(names, name_of(request), origin_of(request))
 }
 
+fn has_other_origin(request: &Request<Bytes>) -> bool
+    ensures { result ≡ is_some (origin_told (head_of request.now)) }
+{
+    match origin_of(request) {
+        Some(_) => true,
+        None => false,
+    }
+}
+
 /// Whether it asks for a page of another origin by which methods that may ask.
 fn is_preflight(request: &Request<Bytes>) -> bool
     ensures { result ≡ preflight_told (head_of request.now) }
 {
-    request.method().as_str().as_bytes() == b"OPTIONS".as_slice() && origin_of(request).is_some()
+    request.method().as_str().as_bytes() == b"OPTIONS".as_slice() && has_other_origin(request)
 }
 
 /// Whether it is a write under a condition of HTTP's own.
@@ -164,10 +173,19 @@ fn is_conditional(request: &Request<Bytes>) -> bool
     is_write(request.method().as_str().as_bytes(), target_of(request)) && has_condition(request)
 }
 
+fn has_field(request: &Request<Bytes>, name: &str) -> bool
+    ensures { result ≡ is_some (field_told name.now (head_of request.now).headers) }
+{
+    match field_in(request, name) {
+        Some(_) => true,
+        None => false,
+    }
+}
+
 fn has_condition(request: &Request<Bytes>) -> bool
     ensures { result ≡ condition_told (head_of request.now) }
 {
-    field_in(request, "if-match").is_some() || field_in(request, "if-none-match").is_some()
+    has_field(request, "if-match") || has_field(request, "if-none-match")
 }
 
 /// Whether a request comes in. Of its body nothing is read.
@@ -192,6 +210,15 @@ fn entry_of(guard: Option<&Guard>, names: &Names, request: &Request<Bytes>) -> E
     Entry::Open
 }
 
+fn copied(alloc: Global, bytes: Option<&[u8]>) -> Result<Option<Bytes>, AllocError>
+    ensures { IfOk result (λ copy. copy ≡ option_copied bytes.entry) }
+{
+    match bytes {
+        Some(bytes) => Ok(Some(Bytes::copy_from_slice(alloc, bytes)?)),
+        None => Ok(None),
+    }
+}
+
 /// The origin of the page that may read the response, where that is another than the host's own.
 fn shared_with(
     alloc: Global,
@@ -200,12 +227,9 @@ fn shared_with(
 ) -> Result<Option<Bytes>, AllocError>
     ensures { IfOk result (λ origin. origin ≡ shared_told (named_by names.now) (head_of request.now)) }
 {
-    if stranger_in(names, request).is_some() {
-        return Ok(None);
-    }
-    match origin_of(request) {
-        Some(origin) => Ok(Some(Bytes::copy_from_slice(alloc, origin)?)),
-        None => Ok(None),
+    match stranger_in(names, request) {
+        Some(_) => Ok(None),
+        None => copied(alloc, origin_of(request)),
     }
 }
 
@@ -225,7 +249,8 @@ fn question_if(alloc: Global, entry: Entry, request: &Request<Bytes>) -> Result<
     ensures { AsksIf entry request.now result }
 {
     match entry {
-        Entry::Open | Entry::Preflight => question_in(alloc, request),
+        Entry::Open => question_in(alloc, request),
+        Entry::Preflight => question_in(alloc, request),
         _ => Err(Refusal::NotAdmitted),
     }
 }

@@ -14,7 +14,7 @@ use Rattle.mvd_conn.specs.declared.guard.Guard.{Guard}
 use Rattle.mvd_http.specs.Guard.{Named, named_by}
 use Rattle.mvd_web.specs.Asked.{IsAskedBy, KeepsAsked}
 use Rattle.mvd_web.specs.Ends.{fault_in}
-use Rattle.mvd_web.specs.Response.{fault_bytes, response_bytes}
+use Rattle.mvd_web.specs.Response.{fault_bytes, origin_or_none, response_bytes}
 use Rattle.mvd_web.specs.Steps.{Drops, StepsOn, PassesAll, PassesOn, Quiet, ReadsOn, ReadsNone, ReadsOne, Settles}
 use Rattle.mvd_web.specs.Web.{LooksIf, MayRest, Queues, RespondsTo, NothingCame, TakesRequest, SaysAll, WebValue, first_cause, is_closed, is_free, manner_asked, said_of, stopped_by, unasked, with_waits}
 use Rattle.mvd_web.specs.declared.taken.Asked.{Asked}
@@ -260,16 +260,16 @@ falls pending piece h new b same chunk waits more e =
     omega (arith, l, some, f)
 
 -- the response that is queued is the one to the request that waited
-pub responds : (old mid now new : WebValue) (answer : Answer) (body : List ℕ) (waits : Asked) (manner : Manner) (origin : Option (List ℕ)) → Some waits ≡ old.asked
-    → mid ≡ unasked old → manner ≡ record { is_last = is_closed mid.heard.state; is_head = waits.is_head } → origin ≡ waits.origin → Queues mid (response_bytes answer body manner origin) now → new ≡ now
+pub responds : (old mid now new : WebValue) (answer : Answer) (body : List ℕ) (waits : Asked) (manner : Manner) (origin : List ℕ) → Some waits ≡ old.asked
+    → mid ≡ unasked old → manner ≡ record { is_last = is_closed mid.heard.state; is_head = waits.is_head } → origin ≡ origin_or_none waits.origin → Queues mid (response_bytes answer body manner origin) now → new ≡ now
     → (asked : Option Asked) → old.asked ≡ asked → RespondsTo asked old answer body new
 responds old mid now new answer body waits manner origin h e k o q same None none = absurd (cc (h ∙ none))
 responds old mid now new answer body waits manner origin h e k o q same (Some asked) some =
     let one : waits ≡ asked = cc in
     let shown : manner ≡ manner_asked old asked = k ∙ (λ i. record { is_last = is_closed (e i).heard.state; is_head = (one i).is_head }) in
-    let to : origin ≡ asked.origin = o ∙ ap (λ (a : Asked). a.origin) one in
-    subst (λ w. Queues (unasked old) (response_bytes answer body (manner_asked old asked) asked.origin) w) (sym same)
-    (subst (λ w. Queues w (response_bytes answer body (manner_asked old asked) asked.origin) now) e
+    let to : origin ≡ origin_or_none asked.origin = o ∙ ap (λ (a : Asked). origin_or_none a.origin) one in
+    subst (λ w. Queues (unasked old) (response_bytes answer body (manner_asked old asked) (origin_or_none asked.origin)) w) (sym same)
+    (subst (λ w. Queues w (response_bytes answer body (manner_asked old asked) (origin_or_none asked.origin)) now) e
     (subst (λ p. Queues mid (response_bytes answer body (manner_asked old asked) p) now) to
     (subst (λ m. Queues mid (response_bytes answer body m origin) now) shown q)))
 

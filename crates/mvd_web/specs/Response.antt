@@ -24,13 +24,16 @@ abbrev pub framing_of : ℕ → ℕ → Bool → List Header
 framing_of status length is_last = framing_fields status (decimal length) is_last
 
 -- the fields by which a page of another origin may read the response (CORS, of the Fetch standard), which is then one of
--- that origin alone (RFC 9110, 12.5.5)
-abbrev pub shares : Option (List ℕ) → List Header
-shares None = []
-shares (Some origin) =
-    (codes "access-control-allow-origin", origin) ∷ (codes "vary", codes "Origin") ∷ []
+-- that origin alone (RFC 9110, 12.5.5). No origin is empty
+abbrev pub shares : List ℕ → List Header
+shares [] = []
+shares (b ∷ bs) = (codes "access-control-allow-origin", b ∷ bs) ∷ (codes "vary", codes "Origin") ∷ []
 
-abbrev pub head_bytes : Answer → ℕ → Bool → Option (List ℕ) → List ℕ
+abbrev pub origin_or_none : Option (List ℕ) → List ℕ
+origin_or_none None = []
+origin_or_none (Some origin) = origin
+
+abbrev pub head_bytes : Answer → ℕ → Bool → List ℕ → List ℕ
 head_bytes answer length is_last origin =
     response_text 1 answer.status (reason_of answer.status)
     ((fields_for answer ++ shares origin) ++ framing_of answer.status length is_last)
@@ -44,11 +47,11 @@ abbrev pub has_no_body : Answer → Manner → Bool
 has_no_body answer manner = manner.is_head || (answer.status == 204)
 
 -- a response with this body, which pages of this other origin may read
-abbrev pub response_bytes : Answer → List ℕ → Manner → Option (List ℕ) → List ℕ
+abbrev pub response_bytes : Answer → List ℕ → Manner → List ℕ → List ℕ
 response_bytes answer body manner origin =
     head_bytes answer (length body) manner.is_last origin ++ body_sent (has_no_body answer manner) body
 
 -- the response to a request that is refused: no other follows
 abbrev pub fault_bytes : Fault → List ℕ
 fault_bytes fault =
-    response_bytes (answer_of fault) (fault_text fault) (record { is_last = true; is_head = false }) None
+    response_bytes (answer_of fault) (fault_text fault) (record { is_last = true; is_head = false }) []

@@ -16,7 +16,7 @@ use Rattle.mvd_conn.specs.declared.guard.Guard.{Guard}
 use Rattle.mvd_http.specs.Guard.{Named}
 use Rattle.mvd_web.specs.Asked.{IsAskedBy}
 use Rattle.mvd_web.specs.Ends.{ending_of_state, fault_in}
-use Rattle.mvd_web.specs.Response.{fault_bytes, response_bytes}
+use Rattle.mvd_web.specs.Response.{fault_bytes, origin_or_none, response_bytes}
 use Rattle.mvd_web.specs.declared.taken.Asked.{Asked}
 use Rattle.mvd_web.specs.declared.response.Manner.{Manner}
 
@@ -198,7 +198,7 @@ manner_asked w asked = record { is_last = is_closed w.heard.state; is_head = ask
 abbrev pub RespondsTo : Option Asked → WebValue → Answer → List ℕ → WebValue → Type 0
 RespondsTo None old answer body new = new ≡ old
 RespondsTo (Some asked) old answer body new =
-    Queues (unasked old) (response_bytes answer body (manner_asked old asked) asked.origin) new
+    Queues (unasked old) (response_bytes answer body (manner_asked old asked) (origin_or_none asked.origin)) new
 
 -- so many of the waiting bytes left
 abbrev pub web_sent : WebValue → ℕ → WebValue

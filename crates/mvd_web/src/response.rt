@@ -1,5 +1,5 @@
 //! The bytes of a response.
-ghost use Rattle.std.specs.Prelude.{◌≡◌, ◌++◌, OnOk, OnErr, IfOk, option_copied};
+ghost use Rattle.std.specs.Prelude.{◌≡◌, ◌++◌, OnOk, OnErr, IfOk};
 ghost use Rattle.http1.specs.Head.{header_parts, pairs, response_text};
 ghost use Rattle.http1_typed.specs.Parts.{reason_of};
 ghost use Rattle.http_server.specs.Response.{fields as pairs_of, fields_of};
@@ -57,9 +57,9 @@ fn listed<'a>(
     filled: &'a Response,
     digits: &'a [u8],
     is_last: bool,
-    origin: Option<&'a [u8]>,
+    origin: &'a [u8],
 ) -> Result<Vec<Header<'a>>, AllocError>
-    ensures { IfOk result (λ list. pairs list.items ≡ (fields_of filled.now ++ shares (option_copied origin.entry))
+    ensures { IfOk result (λ list. pairs list.items ≡ (fields_of filled.now ++ shares origin.now)
         ++ framing_fields filled.now.status digits.now is_last) }
 {
     let mut list = own_fields(alloc, &filled.headers)?;
@@ -75,16 +75,16 @@ fn listed<'a>(
     Ok(list)
 }
 
-/// The fields by which a page of another origin may read the response.
-fn share<'a>(list: &mut Vec<Header<'a>>, origin: Option<&'a [u8]>) -> Result<(), AllocError>
-    ensures { OnOk result (pairs list.new.items ≡ pairs list.old.items ++ shares (option_copied origin.entry)) }
+/// The fields by which a page of another origin may read the response, if one may.
+fn share<'a>(list: &mut Vec<Header<'a>>, origin: &'a [u8]) -> Result<(), AllocError>
+    ensures { OnOk result (pairs list.new.items ≡ pairs list.old.items ++ shares origin.now) }
 {
-    let Some(value) = origin else {
+    if origin.is_empty() {
         return Ok(());
-    };
+    }
     list.push(Header {
         name: b"access-control-allow-origin",
-        value,
+        value: origin,
     })?;
     list.push(Header {
         name: b"vary",
@@ -113,10 +113,10 @@ pub(crate) fn push_response(
     answer: Answer,
     body: &str,
     manner: Manner,
-    origin: Option<&[u8]>,
+    origin: &[u8],
 ) -> Result<(), AllocError>
     ensures ok { OnOk result (out.new.items ≡
-        out.old.items ++ response_bytes answer body.now manner (option_copied origin.entry)) }
+        out.old.items ++ response_bytes answer body.now manner origin.now) }
     ensures err { OnErr result (out.new.items ≡ out.old.items) }
 {
     let mut filled = Response::new(alloc);
@@ -150,11 +150,11 @@ fn push_head(
     filled: &Response,
     length: usize,
     is_last: bool,
-    origin: Option<&[u8]>,
+    origin: &[u8],
 ) -> Result<(), AllocError>
     ensures ok { OnOk result (out.new.items ≡ out.old.items
         ++ response_text 1 filled.now.status (reason_of filled.now.status)
-        ((fields_of filled.now ++ shares (option_copied origin.entry))
+        ((fields_of filled.now ++ shares origin.now)
         ++ framing_of filled.now.status length is_last)) }
     ensures err { OnErr result (out.new.items ≡ out.old.items) }
 {

@@ -1,7 +1,7 @@
 //! One connection: from the bytes that came to the bytes that leave.
 ghost use Rattle.std.specs.Prelude.{◌≡◌, ◌<◌, ◌≤◌, ◌↔◌, [], length, true, Some, None, IsTrue, OnErr, OnOk, option_copied};
 ghost use Rattle.mvd_http.specs.Guard.{named_by};
-ghost use Rattle.mvd_web.specs.Response.{response_bytes};
+ghost use Rattle.mvd_web.specs.Response.{origin_or_none, response_bytes};
 ghost use Rattle.mvd_web.specs.declared.taken.Asked.{Asked};
 
 use crate::desk::Desk;
@@ -183,7 +183,7 @@ impl WebConnection {
             is_last: true,
             is_head: false,
         };
-        self.queue(fault.answer(), fault.body(), manner, None);
+        self.queue(fault.answer(), fault.body(), manner, &[]);
     }
 
     /// Queues what the parser answers for itself. Where memory is refused, the connection stops.
@@ -243,8 +243,8 @@ impl WebConnection {
     }
 
     /// Queues a response. Where memory is refused, nothing of it leaves.
-    fn queue(&mut self, answer: Answer, body: &str, manner: Manner, origin: Option<&[u8]>)
-        ensures { Queues (web_of self.old) (response_bytes answer body.now manner (option_copied origin.entry)) (web_of self.new) }
+    fn queue(&mut self, answer: Answer, body: &str, manner: Manner, origin: &[u8])
+        ensures { Queues (web_of self.old) (response_bytes answer body.now manner origin.now) (web_of self.new) }
     {
         self.rests = false;
         if self.push(answer, body, manner, origin).is_err()
@@ -260,10 +260,10 @@ impl WebConnection {
         answer: Answer,
         body: &str,
         manner: Manner,
-        origin: Option<&[u8]>,
+        origin: &[u8],
     ) -> Result<(), AllocError>
         ensures ok { OnOk result (web_of self.new ≡
-            pushed (web_of self.old) (response_bytes answer body.now manner (option_copied origin.entry))) }
+            pushed (web_of self.old) (response_bytes answer body.now manner origin.now)) }
         ensures err { OnErr result (web_of self.new ≡ web_of self.old) }
     {
         push_response(self.alloc, &mut self.output, answer, body, manner, origin)
@@ -275,10 +275,10 @@ impl WebConnection {
         answer: Answer,
         body: &str,
         manner: Manner,
-        origin: Option<&[u8]>,
+        origin: &[u8],
     ) -> Result<(), AllocError>
         ensures ok { OnOk result (web_of self.new ≡
-            pushed (web_of self.old) (response_bytes answer body.now manner (option_copied origin.entry))) }
+            pushed (web_of self.old) (response_bytes answer body.now manner origin.now)) }
         ensures err { OnErr result (web_of self.new ≡ web_of self.old) }
     {
         self.give_spare();
@@ -364,12 +364,12 @@ impl WebConnection {
     }
 }
 
-/// The other origin whose page may read the response.
-fn origin_in(asked: &Asked) -> Option<&[u8]>
-    ensures { option_copied result ≡ asked.now.origin }
+/// The other origin whose page may read the response, or nothing.
+fn origin_in(asked: &Asked) -> &[u8]
+    ensures { result.now ≡ origin_or_none asked.now.origin }
 {
     match &asked.origin {
-        Some(origin) => Some(origin.as_slice()),
-        None => None,
+        Some(origin) => origin.as_slice(),
+        None => &[],
     }
 }

@@ -31,7 +31,8 @@ TEST = TOP / "clients" / "js" / "test"
 PACKAGE = TOP / "clients" / "python"
 sys.path.insert(0, str(PACKAGE))
 KEYS = ["k", "a/b", "unot", "z~!", "key0", "key1", "key2", "u1/a", "u1/b", "u1/c", "!", "~" * 128]
-GOOD = ['{"v":1}', '{"v":2}', "{}", '{"b":1,"a":"\\u0001\\n\\"\\\\\\/\\u007f"}', '{"\U0001f600":1,"\uffee":2,"z":[null,true,-5],"\ue000":[],"\\ud83d\\ude01":{}}',
+GOOD = ['{"v":1}', '{"v":2}', "{}", '{"b":1,"a":"\\u0001\\n\\"\\\\\\/\\u007f"}',
+        '{"\U0001f600":1,"\uffee":2,"z":[null,true,-5],"\ue000":[],"\\ud83d\\ude01":{}}',
         '{"é":"é","a":{"b":{"a":0}}}', '{"v":9007199254740993}', '{"n":-9223372036854775808,"m":9223372036854775807}', '{"a":1,"a":2}',
         ' { "b" : 1 ,\t"a" : [ ] } ', '{"__proto__":1,"constructor":2,"10":1,"9":2}', '{"a":[[],[{}],false,null,"\u2028\u2029\x7f"]}',
         '{"a":{"a":1},"a":{"b":2}}', '{"":0,"\\u0000":1}', '{"text":"' + "é" * 90 + '"}']
@@ -94,7 +95,8 @@ class Maker:
 
     def text(self):
         r = self.random
-        return "".join(chr(r.choice((r.randrange(32, 127), r.randrange(32), r.randrange(127, 0xd800), r.randrange(0xe000, 0x110000)))) for _ in range(r.randrange(5)))
+        ranges = ((32, 127), (0, 32), (127, 0xd800), (0xe000, 0x110000))
+        return "".join(chr(r.randrange(*r.choice(ranges))) for _ in range(r.randrange(5)))
 
     def put(self):
         r = self.random
@@ -238,15 +240,18 @@ def rows(program):
         one += [f"put 1 c {context} {{}}", f"del 2 c {context}", "get 1 c", "get 2 c", "root 1", "root 2"]
     for key in BAD_KEYS + ["x" * 128]:
         one += [f"put 1 {key} - {{}}", f"del 1 {key} @", f"get 1 {key}", f"send 1 {key}"]
-    for document in (long, long[:-2] + 'y"}', '{"a":"' + "é" * 32764 + '"}', '{"a":"' + "é" * 32765 + '"}', '{"a":"' + "\\n" * 32765 + '"}', " " * 70000 + "{}"):
+    filled = ['{"a":"' + text + '"}' for text in ("é" * 32764, "é" * 32765, "\\n" * 32765)]
+    for document in (long, long[:-2] + 'y"}', *filled, " " * 70000 + "{}"):
         one += [f"put 2 long @ {document}", "get 2 long", "root 2"]
     one += ["sync 1 2 whole", "root 1", "root 2", "put 1 k 1:0 {", "put 1 \u00e9 x {"]
     tall = ["sites 2"] + [f"put 1 k - {long}"] * 18 + ["root 1", "sync 1 2", "put 2 k - {}", "sync 2 1", "root 1", "root 2"]
     full = ["sites 2", "max 2", "put 1 a - {}", "put 1 c - {}", "put 2 b - {}", "sync 1 2 whole", "get 2 c", "get 1 b", "get 2 a", "del 1 b -", "del 1 b 1:1",
             "put 1 a @ {}", "keys 1", "keys 2"]
-    forged = ["sites 2", "put 1 k 2:0+7 {\"v\":1}", "send 1 k", "recv 2 1", "put 2 k - {\"v\":2}", "get 2 k", "put 1 k 2:8 {\"v\":3}", "send 2 k", "recv 1 2", "get 1 k"]
+    forged = ["sites 2", 'put 1 k 2:0+7 {"v":1}', "send 1 k", "recv 2 1", 'put 2 k - {"v":2}', "get 2 k", 'put 1 k 2:8 {"v":3}', "send 2 k", "recv 1 2",
+              "get 1 k"]
     whole = ["sites 2", 'put 1 k 2:281474976710655 {"a":1}', "send 1 k", "recv 2 1", "put 2 k @ {}", "get 2 k", "put 1 k 1:0+281474976710655 {}"]
-    for name, lines in (("documents, contexts and keys", one), ("a state that is too long", tall), ("a full site", full), ("forged contexts", forged), ("a whole base", whole)):
+    parts = {"documents, contexts and keys": one, "a state that is too long": tall, "a full site": full, "forged contexts": forged, "a whole base": whole}
+    for name, lines in parts.items():
         seen, *_ = compare(program, node, lines)
         is_so(f"rows: {name}", seen is None, (seen or "")[:600])
     told = subprocess.run(["node", str(TEST / "vectors.mjs")], capture_output=True, text=True)
@@ -276,7 +281,8 @@ def merges(count):
     with tempfile.TemporaryDirectory() as folder:
         import backend
         wheel = pathlib.Path(folder) / backend.build_wheel(folder)
-        done("the package is whole", [sys.executable, "-c", f"import sys; sys.path.insert(0, {str(wheel)!r}); import mvd; assert 'whl' in mvd.__file__ and mvd.Client"])
+        script = f"import sys; sys.path.insert(0, {str(wheel)!r}); import mvd; assert 'whl' in mvd.__file__ and mvd.Client"
+        done("the package is whole", [sys.executable, "-c", script])
 
 
 def done(what, words):

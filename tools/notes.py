@@ -25,6 +25,8 @@ from selenium import webdriver
 
 TOP = pathlib.Path(__file__).resolve().parent.parent
 TOKEN = "sixteen-letters!"
+# What a browser says of a server that is not there.
+KNOWN = ("ERR_CONNECTION", "status of 502", "favicon", "ERR_EMPTY_RESPONSE", "Failed to fetch")
 NOTES = "return [...document.querySelectorAll('#notes li')].map((li) => [...li.querySelectorAll('textarea')].map((area) => area.value))"
 
 
@@ -157,7 +159,8 @@ def alone(parts, one):
 
 def stores(one):
     """The store of a browser does what that of memory does."""
-    said = one.later("""const { Memory } = await import('./mvd.js'), a = await Site.open('apart', { site: 9 }), b = await Site.open('', { site: 9, store: new Memory() });
+    said = one.later("""const { Memory } = await import('./mvd.js');
+        const a = await Site.open('apart', { site: 9 }), b = await Site.open('', { site: 9, store: new Memory() });
         const random = (most) => Math.floor(Math.random() * most), rows = (all) => all.map(([key, { digest, seq, siblings }]) => [key, digest, seq, siblings]),
             told = async (one) => JSON.stringify([await one.root(), await one.keys({ prefix: 'k1' }),
             await one.conflicts(), rows(await one.since(40)), rows(await one.rows('k', 'k12', 'k3')), await one.all('k2'), await one.clock()]);
@@ -248,8 +251,8 @@ def main():
             two_browsers(parts, *browsers)
             in_the_middle(parts, *browsers)
             for browser in browsers:
-                said = [entry["message"] for entry in browser.driver.get_log("browser") if "ERR_CONNECTION" not in entry["message"] and "status of 502" not in entry["message"]
-                        and "favicon" not in entry["message"] and "ERR_EMPTY_RESPONSE" not in entry["message"] and "Failed to fetch" not in entry["message"]]
+                told = [entry["message"] for entry in browser.driver.get_log("browser")]
+                said = [message for message in told if not any(known in message for known in KNOWN)]
                 is_so("the browser tells of no fault", not said, said or "")
         finally:
             for browser in browsers:

@@ -167,7 +167,7 @@ made() {
 }
 
 printf 'get k\ndel k -\nput k - []\nroot\n' | "$program" shell --db read.db --site 4 >out 2>fault || miss "a shell that reads"
-same "what a shell says on a new file" "context - ok refused 4 NotObject" "$(head -n 3 out | tr '\n' ' ' | sed 's/ $//')"
+same "what a shell says on a new file" "context - ok refused 4 NotObject at \"\"" "$(head -n 3 out | tr '\n' ' ' | sed 's/ $//')"
 made read.db 4
 empty=$(tail -n 1 out)
 printf 'get k\nput k - {"n":1}\nget k\nput k @ {"n":2}\n' | "$program" shell --db read.db --site 4 >out 2>fault || miss "a shell that writes"

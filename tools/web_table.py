@@ -65,12 +65,14 @@ def by_curl():
     yield "/keys/t", delete(), 400, '"refused":2'
     # 3 to 6: a document
     for body in "", "{", '{"a":}', b'{"a":"\xff"}', "{} {}":
-        yield "/keys/t", put(body), 400, '{"refused":3,"name":"BadDocument"}'
+        yield "/keys/t", put(body), 400, '{"refused":3,"name":"BadDocument","at":""}'
     for body in "[1]", "1", "null", '"a"':
-        yield "/keys/t", put(body), 400, '{"refused":4,"name":"NotObject"}'
-    for body in '{"n":1.5}', '{"n":1e3}', '{"n":[9223372036854775808]}':
-        yield "/keys/t", put(body), 400, '{"refused":5,"name":"BadNumber"}'
-    yield "/keys/t", put('{"n":"' + "x" * 65_536 + '"}'), 400, '{"refused":6,"name":"DocumentTooLong"}'
+        yield "/keys/t", put(body), 400, '{"refused":4,"name":"NotObject","at":""}'
+    for body, place in ('{"n":1.5}', "/n"), ('{"n":1e3}', "/n"), ('{"n":[0,9223372036854775808]}', "/n/1"), \
+            ('{"b":-0,"a/":[{"~":1},{"~":1.5}]}', "/a~1/1/~0"), ('{"a\\"":1.5}', '/a\\"'), ('{"":{"":1.5}}', "//"), \
+            ('{"n":1.5' + " " * 65_536 + "}", ""):
+        yield "/keys/t", put(body), 400, '{"refused":5,"name":"BadNumber","at":"%s"}' % place
+    yield "/keys/t", put('{"n":"' + "x" * 65_536 + '"}'), 400, '{"refused":6,"name":"DocumentTooLong","at":""}'
     # 8 to 10: what the site cannot take
     yield "/keys/full", put("{}", last), 409, '{"refused":8,"name":"Exhausted"}'
     for number in range(1, 19):

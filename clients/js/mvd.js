@@ -6,8 +6,8 @@
 //     await site.put("ada", { city: "Oslo" }, await site.get("ada"));
 //     await site.sync(url, { token });
 //
-// Spellings, digests and refusals are those of docs/FORMATS.md and docs/BEHAVIOUR.md. The parts below stand in this order:
-// refusals, SHA-256, JSON, contexts, states, the hash tree, stores, the site, sessions, the client, merges.
+// Spellings, digests and refusals are those of docs/FORMATS.md and docs/BEHAVIOUR.md. The parts below stand in this
+// order: refusals, SHA-256, JSON, contexts, states, the hash tree, stores, the site, sessions, the client, merges.
 
 // ---------------------------------------------------------------- refusals
 
@@ -16,7 +16,7 @@ const NAMES = {
   9: "StateTooLarge", 10: "Full", 11: "DotClash", 14: "BadPath", 16: "SiteMismatch", 33: "BadBody",
 };
 
-/** What a site or a server refuses: its number and its name; of a document the place as a path, of a response its status. */
+/** What is refused: its number and its name; of a document the place as a path, of a response its status. */
 export class Refused extends Error {
   constructor(number, refusal = NAMES[number], more = {}) {
     super(`refused ${number} ${refusal}${more.at ? ` at ${more.at}` : ""}`);
@@ -52,12 +52,14 @@ const decoder = new TextDecoder();
 // It does not wait, as crypto.subtle does: a transaction of IndexedDB ends where one waits for anything else.
 
 const ROUND = Int32Array.of(
-  0x428a2f98, 0x71374491, 0xb5c0fbcf, 0xe9b5dba5, 0x3956c25b, 0x59f111f1, 0x923f82a4, 0xab1c5ed5, 0xd807aa98, 0x12835b01, 0x243185be,
-  0x550c7dc3, 0x72be5d74, 0x80deb1fe, 0x9bdc06a7, 0xc19bf174, 0xe49b69c1, 0xefbe4786, 0x0fc19dc6, 0x240ca1cc, 0x2de92c6f, 0x4a7484aa,
-  0x5cb0a9dc, 0x76f988da, 0x983e5152, 0xa831c66d, 0xb00327c8, 0xbf597fc7, 0xc6e00bf3, 0xd5a79147, 0x06ca6351, 0x14292967, 0x27b70a85,
-  0x2e1b2138, 0x4d2c6dfc, 0x53380d13, 0x650a7354, 0x766a0abb, 0x81c2c92e, 0x92722c85, 0xa2bfe8a1, 0xa81a664b, 0xc24b8b70, 0xc76c51a3,
-  0xd192e819, 0xd6990624, 0xf40e3585, 0x106aa070, 0x19a4c116, 0x1e376c08, 0x2748774c, 0x34b0bcb5, 0x391c0cb3, 0x4ed8aa4a, 0x5b9cca4f,
-  0x682e6ff3, 0x748f82ee, 0x78a5636f, 0x84c87814, 0x8cc70208, 0x90befffa, 0xa4506ceb, 0xbef9a3f7, 0xc67178f2);
+  0x428a2f98, 0x71374491, 0xb5c0fbcf, 0xe9b5dba5, 0x3956c25b, 0x59f111f1, 0x923f82a4, 0xab1c5ed5,
+  0xd807aa98, 0x12835b01, 0x243185be, 0x550c7dc3, 0x72be5d74, 0x80deb1fe, 0x9bdc06a7, 0xc19bf174,
+  0xe49b69c1, 0xefbe4786, 0x0fc19dc6, 0x240ca1cc, 0x2de92c6f, 0x4a7484aa, 0x5cb0a9dc, 0x76f988da,
+  0x983e5152, 0xa831c66d, 0xb00327c8, 0xbf597fc7, 0xc6e00bf3, 0xd5a79147, 0x06ca6351, 0x14292967,
+  0x27b70a85, 0x2e1b2138, 0x4d2c6dfc, 0x53380d13, 0x650a7354, 0x766a0abb, 0x81c2c92e, 0x92722c85,
+  0xa2bfe8a1, 0xa81a664b, 0xc24b8b70, 0xc76c51a3, 0xd192e819, 0xd6990624, 0xf40e3585, 0x106aa070,
+  0x19a4c116, 0x1e376c08, 0x2748774c, 0x34b0bcb5, 0x391c0cb3, 0x4ed8aa4a, 0x5b9cca4f, 0x682e6ff3,
+  0x748f82ee, 0x78a5636f, 0x84c87814, 0x8cc70208, 0x90befffa, 0xa4506ceb, 0xbef9a3f7, 0xc67178f2);
 const BEGIN = [0x6a09e667, 0xbb67ae85, 0x3c6ef372, 0xa54ff53a, 0x510e527f, 0x9b05688c, 0x1f83d9ab, 0x5be0cd19];
 const words = new Int32Array(64);
 const turned = (x, n) => (x >>> n) | (x << (32 - n));
@@ -66,7 +68,8 @@ function block(sum, view, at) {
   for (let i = 0; i < 16; i++) words[i] = view.getInt32(at + 4 * i);
   for (let i = 16; i < 64; i++) {
     const x = words[i - 15], y = words[i - 2];
-    words[i] = words[i - 16] + (turned(x, 7) ^ turned(x, 18) ^ (x >>> 3)) + words[i - 7] + (turned(y, 17) ^ turned(y, 19) ^ (y >>> 10));
+    const low = turned(x, 7) ^ turned(x, 18) ^ (x >>> 3), high = turned(y, 17) ^ turned(y, 19) ^ (y >>> 10);
+    words[i] = words[i - 16] + low + words[i - 7] + high;
   }
   let [a, b, c, d, e, f, g, h] = sum;
   for (let i = 0; i < 64; i++) {
@@ -103,9 +106,9 @@ export function hex(bytes) {
 }
 
 // ---------------------------------------------------------------- JSON
-// A document is kept as its compact text, so no number of it is rounded. The reader agrees with `serde_json` on what is a value: no more
-// than 127 arrays and objects within one another, a name's last value counts, no half of a surrogate pair, and a number
-// that a double would take for infinity is none.
+// A document is kept as its compact text, so no number of it is rounded. The reader agrees with `serde_json` on what is
+// a value: no more than 127 arrays and objects within one another, a name's last value counts, no half of a surrogate
+// pair, and a number that a double would take for infinity is none.
 
 const HALF = /\p{Surrogate}/u;
 const NUMBER = /-?(?:0|[1-9][0-9]*)(\.[0-9]+)?([eE][+-]?[0-9]+)?/y;
@@ -129,21 +132,26 @@ export function byBytes(a, b) {
 function isWhole(text) {
   const negative = text[0] === "-", digits = negative ? text.slice(1) : text;
   if (digits === "0") return !negative;
-  return digits.length < 19 || (digits.length === 19 && digits <= (negative ? "9223372036854775808" : "9223372036854775807"));
+  const most = negative ? "9223372036854775808" : "9223372036854775807";
+  return digits.length < most.length || (digits.length === most.length && digits <= most);
 }
+
+/** A place in a document, as `/items/0/price`. */
+const pointer = (path) => path.map((name) => "/" + String(name).replace(/~/g, "~0").replace(/\//g, "~1")).join("");
 
 /** Reads a text and makes of it what `make` makes of its parts. */
 class Reader {
+  at = 0;
+  path = [];
+  /** The places of the numbers that are not whole. */
+  fractions = [];
+
   constructor(text, make) {
     this.text = text;
     this.make = make;
-    this.at = 0;
-    this.path = [];
   }
 
-  fail() { refuse(3, { at: this.place(), offset: this.at }); }
-
-  place() { return this.path.map((name) => "/" + String(name).replace(/~/g, "~0").replace(/\//g, "~1")).join(""); }
+  fail() { refuse(3, { at: pointer(this.path), offset: this.at }); }
 
   space() {
     for (;;) {
@@ -248,37 +256,32 @@ const objectText = (members) => {
   if (names.length > 1) names.sort(byBytes);
   return "{" + names.map((name) => quoted(name) + ":" + members.get(name)).join(",") + "}";
 };
-// A number that is not whole leaves its place between two bytes that no text of JSON has: a later member of its name may yet take its place.
 const AS_TEXT = {
-  string: quoted, word: (word) => word, number: (text, whole, reader) => (whole ? text : `\0${reader.place()}\0`), array: (items) => "[" + items.join(",") + "]", object: objectText,
+  string: quoted,
+  word: (word) => word,
+  // One that is not whole leaves a mark that no text of JSON has: a later member of its name may yet take its place.
+  number: (text, whole, reader) => (whole ? text : `\0${reader.fractions.push(pointer(reader.path))}\0`),
+  array: (items) => "[" + items.join(",") + "]",
+  object: objectText,
 };
 const AS_VALUE = {
   string: (text) => text,
   word: (word) => ({ null: null, true: true, false: false })[word],
   number: (text) => /^-?[0-9]+$/.test(text) && !Number.isSafeInteger(+text) ? BigInt(text) : +text,
   array: (items) => items,
-  object: (members) => {
-    const out = {};
-    for (const [name, value] of members) {
-      if (name === "__proto__") Object.defineProperty(out, name, { value, enumerable: true, configurable: true, writable: true });
-      else out[name] = value;
-    }
-    return out;
-  },
+  object: (members) => Object.fromEntries(members),
 };
 
-const withinBytes = (text) => {
-  if (text.length > DOCUMENT_BYTES || (text.length > DOCUMENT_BYTES / 3 && encoder.encode(text).length > DOCUMENT_BYTES)) refuse(6);
-  return text;
-};
+const isLong = (text) => text.length > DOCUMENT_BYTES
+  || (text.length > DOCUMENT_BYTES / 3 && encoder.encode(text).length > DOCUMENT_BYTES);
+const withinBytes = (text) => (isLong(text) ? refuse(6) : text);
 
 /** The compact text of the document that a text spells; else it is refused as 3, 4, 5 or 6. */
 export function readDocument(text) {
   const reader = new Reader(text, AS_TEXT), compact = reader.all();
   if (compact[0] !== "{") refuse(4);
-  const fraction = compact.indexOf("\0");
-  if (fraction >= 0) refuse(5, { at: compact.slice(fraction + 1, compact.indexOf("\0", fraction + 1)) });
-  return withinBytes(compact);
+  const fraction = compact.split("\0", 2)[1];
+  return fraction === undefined ? withinBytes(compact) : refuse(5, { at: reader.fractions[fraction - 1] });
 }
 
 /** A JSON text as a value, in which a whole number past 2^53 is a BigInt. */
@@ -295,7 +298,7 @@ function valueText(value, path) {
     path.pop();
     return text;
   };
-  const bad = (number) => refuse(number, { at: path.map((name) => "/" + name).join("") });
+  const bad = (number) => refuse(number, { at: pointer(path) });
   switch (typeof value) {
     case "string": return HALF.test(value) ? bad(3) : quoted(value);
     case "boolean": return String(value);
@@ -324,7 +327,7 @@ export function compact(document) {
 
 const documentText = (document) => (typeof document === "string" ? readDocument(document) : compact(document));
 
-// ---------------------------------------------------------------- contexts: entries { site, base, loose }, by rising site
+// ------------------------------------------------ contexts: entries { site, base, loose }, by rising site
 
 const EMPTY_CONTEXT = [];
 
@@ -371,7 +374,7 @@ const holds = (context, dot) => {
   return entry !== undefined && (dot.counter <= entry.base || within(entry.loose, dot.counter));
 };
 
-const greatest_ = (context, site) => {
+const greatestCounter = (context, site) => {
   const entry = entryOf(context, site);
   return entry ? entry.loose[entry.loose.length - 1] ?? entry.base : 0;
 };
@@ -379,7 +382,8 @@ const greatest_ = (context, site) => {
 const only = (dot) => [{ site: dot.site, ...unionLoose(0, [dot.counter], []) }];
 
 /** A context's text, as of docs/FORMATS.md. */
-export const contextText = (context) => context.map((e) => [`${e.site}:${e.base}`, ...e.loose].join("+")).join(",") || "-";
+export const contextText = (context) =>
+  context.map(({ site, base, loose }) => [`${site}:${base}`, ...loose].join("+")).join(",") || "-";
 
 const ENTRY = /^[1-9][0-9]*:(?:0|[1-9][0-9]*)(?:\+[1-9][0-9]*)*$/;
 
@@ -390,7 +394,8 @@ function isEntry(site, base, loose, after) {
     if (counter <= last) return false;
     last = counter;
   }
-  return site > after && site <= SITE_MAX && base <= COUNTER_MAX && last <= (loose.length ? COUNTER_MAX : last) && (base > 0 || loose.length > 0);
+  const greatest = loose[loose.length - 1] ?? base;
+  return site > after && site <= SITE_MAX && greatest > 0 && greatest <= COUNTER_MAX;
 }
 
 /** The context that a text spells; else it is refused as 2. */
@@ -408,10 +413,10 @@ export function readContext(text) {
   return out;
 }
 
-/** What an author has seen, by what was got or written: a context's text, or a thing that has one; nothing is the empty context. */
+/** What an author has seen: a context's text, or what was got or written; nothing is the empty context. */
 const seenContext = (seen) => (seen === undefined || seen === null ? EMPTY_CONTEXT : readContext(seen.context ?? seen));
 
-// ---------------------------------------------------------------- keys and states: { context, siblings }, siblings { site, counter, text }
+// -------------------------------- keys and states: { context, siblings }, siblings { site, counter, text }
 
 const KEY = /^[\x21-\x7e]{1,128}$/;
 const PREFIX = /^[\x21-\x7e]{0,128}$/;
@@ -430,7 +435,7 @@ const readDot = (text) => {
 
 /** The state after a put of a site, by an author who has seen a context, and the put's dot. */
 function putState(state, site, seen, text) {
-  const all = union(state.context, seen), counter = greatest_(all, site) + 1;
+  const all = union(state.context, seen), counter = greatestCounter(all, site) + 1;
   if (counter > COUNTER_MAX) refuse(8);
   const made = { site, counter, text }, stay = state.siblings.filter((one) => !holds(seen, one));
   return [{ context: union(all, only(made)), siblings: [...stay, made].sort(byDot) }, made];
@@ -464,8 +469,9 @@ const u64 = (view, at, n) => { view.setUint32(at, Math.floor(n / 2 ** 32)); view
 /** The bytes of a state, after so many that are left free. */
 function spell(state, free = 0) {
   const texts = state.siblings.map((one) => encoder.encode(one.text));
-  const size = state.context.reduce((n, e) => n + 16 + 8 * e.loose.length, 6) + texts.reduce((n, t) => n + 16 + t.length, 0);
-  const out = new Uint8Array(free + size), view = new DataView(out.buffer);
+  const seen = state.context.reduce((size, entry) => size + 16 + 8 * entry.loose.length, 6);
+  const out = new Uint8Array(texts.reduce((size, text) => size + 16 + text.length, free + seen));
+  const view = new DataView(out.buffer);
   let at = free + 4;
   view.setUint32(free, state.context.length);
   for (const { site, base, loose } of state.context) {
@@ -497,7 +503,8 @@ function unspell(bytes) {
   let count = view.getUint16(at);
   for (at += 2; count > 0; count--) {
     const length = view.getUint32(at + 12);
-    siblings.push({ site: view.getUint32(at), counter: wide(at + 4), text: decoder.decode(bytes.subarray(at + 16, at + 16 + length)) });
+    const text = decoder.decode(bytes.subarray(at + 16, at + 16 + length));
+    siblings.push({ site: view.getUint32(at), counter: wide(at + 4), text });
     at += 16 + length;
   }
   return { context, siblings };
@@ -541,7 +548,7 @@ class Sibling {
   get document() { return (this.#document ??= parse(this.text)); }
 }
 
-/** The state that an object of HTTP spells, or a `State`; refused as 2, 3 to 6, or as 33 where a dot does not rise or is not seen. */
+/** The state of an object of HTTP or a `State`; refused as 2, 3 to 6, 33 where a dot does not rise or is not seen. */
 function stateOf(object) {
   const context = readContext(object.context), siblings = [];
   for (const one of object.siblings) {
@@ -582,7 +589,9 @@ export function placeOf(key) {
   return found;
 }
 
-const unhex = (text, out, at) => { for (let i = 0; i < text.length; i += 2) out[at + i / 2] = parseInt(text.slice(i, i + 2), 16); };
+const unhex = (text, out, at) => {
+  for (let i = 0; i < text.length; i += 2) out[at + i / 2] = parseInt(text.slice(i, i + 2), 16);
+};
 
 /** The tree of the keys' digests. A node's digest is made when it is asked, and kept until a key under it changes. */
 class Tree {
@@ -598,7 +607,7 @@ class Tree {
   }
 
   /** The digests under a bucket, by rising key. */
-  bucket(path) { return [...this.buckets.get(path) ?? []].sort((a, b) => (a[0] < b[0] ? -1 : 1)); }
+  bucket(path) { return [...this.buckets.get(path) ?? []].sort(byKey); }
 
   children(path) { return DIGITS.map((digit) => this.node(path + digit)); }
 
@@ -616,10 +625,13 @@ class Tree {
 }
 
 // ---------------------------------------------------------------- stores
-// A store keeps for each key its state and a row { digest, seq, siblings }, where seq tells the changes of the store in their order; and
-// a clock { site, seq, keys }. `update` is one transaction: it reads the states of some keys and the clock, and puts what `make` gives.
+// A store keeps for each key its state and a row { digest, seq, siblings }, where seq tells the changes of the store in
+// their order; and a clock { site, seq, keys }. `update` is one transaction: it reads the states of some keys and the
+// clock, and puts what `make` gives.
 
-const prefixed = (prefix, after = "") => (after >= prefix ? { from: after, open: true } : { from: prefix, open: false });
+/** Where the keys begin that begin with a prefix and stand behind a key; with `open` that one is left out. */
+const begins = (prefix, after = "") => (after >= prefix ? { from: after, open: true } : { from: prefix, open: false });
+const byKey = (a, b) => (a[0] < b[0] ? -1 : 1);
 
 /** A store that ends with the program. */
 export class Memory {
@@ -643,7 +655,9 @@ export class Memory {
       this.#log.push(row.seq, key);
     }
     this.#clock = clock;
-    if (this.#log.length > 1000 + 4 * this.#rows.size) this.#log = this.#log.filter((_, i, all) => this.#rows.get(all[i | 1]).seq === all[i & ~1]);
+    if (this.#log.length > 1000 + 4 * this.#rows.size) {
+      this.#log = this.#log.filter((_, i, all) => this.#rows.get(all[i | 1]).seq === all[i & ~1]);
+    }
   }
 
   /** The rows that came after seq, in their order. */
@@ -665,7 +679,7 @@ export class Memory {
   /** The rows of the keys that begin with a prefix, after one key and up to another. */
   async rows(prefix, after, to) {
     this.#sorted ??= [...this.#rows.keys()].sort();
-    const { from, open } = prefixed(prefix, after), out = [];
+    const { from, open } = begins(prefix, after), out = [];
     for (const key of this.#sorted) {
       if (key < from || (open && key === from)) continue;
       if (!key.startsWith(prefix) || (to !== undefined && key > to)) break;
@@ -674,7 +688,7 @@ export class Memory {
     return out;
   }
 
-  async conflicts() { return [...this.#rows].filter(([, row]) => row.siblings > 1).sort((a, b) => (a[0] < b[0] ? -1 : 1)); }
+  async conflicts() { return [...this.#rows].filter(([, row]) => row.siblings > 1).sort(byKey); }
 
   async note(name, make) {
     if (make) this.#notes.set(name, make(this.#notes.get(name)));
@@ -735,7 +749,7 @@ export class Indexed {
         return request;
       });
       work.oncomplete = () => done(made);
-      work.onabort = work.onerror = () => fail(fault ?? work.error);
+      work.onabort = () => fail(fault ?? work.error);
     });
   }
 
@@ -759,8 +773,9 @@ export class Indexed {
   since(seq) { return this.#pairs(this.#read("rows").index("seq"), IDBKeyRange.lowerBound(seq, true)); }
 
   rows(prefix, after, to = prefix + "\x7f") {
-    const { from, open } = prefixed(prefix, after);
-    return from > to || (open && from === to) ? Promise.resolve([]) : this.#pairs(this.#read("rows"), IDBKeyRange.bound(from, to, open));
+    const { from, open } = begins(prefix, after);
+    if (from > to || (open && from === to)) return Promise.resolve([]);
+    return this.#pairs(this.#read("rows"), IDBKeyRange.bound(from, to, open));
   }
 
   conflicts() { return this.#pairs(this.#read("rows").index("conflict")); }
@@ -787,6 +802,16 @@ export class Indexed {
 // ---------------------------------------------------------------- the site
 
 const drawSite = () => 65536 + Math.floor(Math.random() * (SITE_MAX - 65535));
+const drawMark = () => hex(Uint8Array.from({ length: 8 }, () => Math.random() * 256));
+
+/** Writes what `merge` makes of a key's documents in place of them, where there are several. Where that is nothing, the
+ *  key is deleted. */
+async function resolveAt(where, key, merge) {
+  const state = await where.get(key);
+  if (state.siblings.length < 2) return undefined;
+  const merged = merge(state.documents);
+  return merged ? where.put(key, merged, state) : where.delete(key, state);
+}
 
 /** A site of its own: what it writes stands in its store, and meets servers by `sync`. */
 export class Site {
@@ -796,7 +821,7 @@ export class Site {
   #treeSeq = 0;
   #listeners = new Set();
 
-  /** Opens the store of a name: of IndexedDB where there is one, else of memory. `site` gives a new store its number. */
+  /** Opens the store of a name: IndexedDB where there is one, else memory. `site` gives a new store its number. */
   static async open(name = "mvd", { site, store, maxKeys = MOST_KEYS } = {}) {
     const self = new this();
     self.#store = store ?? (globalThis.indexedDB ? await Indexed.open(name) : new Memory());
@@ -826,8 +851,7 @@ export class Site {
     const client = asClient(url, { token, fetch }).pinned();
     this.number = (await this.#store.clock()).site;
     while (!this.number) {
-      const drawn = draw(), key = `${prefix}site/${drawn}`, mark = hex(Uint8Array.from({ length: 8 }, () => Math.random() * 256));
-      const { dot } = await client.put(key, { claim: mark });
+      const drawn = draw(), key = `${prefix}site/${drawn}`, { dot } = await client.put(key, { claim: drawMark() });
       const dots = (await client.get(key)).siblings.map((one) => readDot(one.dot)).sort(byDot);
       if (dots.length && dotText(dots[0]) === dot) await this.#own(drawn, true);
     }
@@ -851,7 +875,8 @@ export class Site {
 
   /** All states of the keys that begin with a prefix, but of those that are deleted. */
   async all(prefix = "") {
-    const keys = (await this.keys({ prefix, live: true })).map((one) => one.key), states = await this.#store.states(keys);
+    const keys = (await this.keys({ prefix, live: true })).map((one) => one.key);
+    const states = await this.#store.states(keys);
     return keys.map((key, i) => new State(key, states[i]));
   }
 
@@ -872,8 +897,8 @@ export class Site {
 
   // ---- writing
 
-  /** Writes a document in place of what its author has seen (`seen`: what was got or written, or its context). Its dot is minted in the
-   *  transaction that stores it. A document is an object, or its text. */
+  /** Writes a document, an object or its text, in place of what its author has seen: what was got or written, or its
+   *  context. Its dot is minted in the transaction that stores it. */
   async put(key, document, seen) {
     checkKey(key);
     const context = seenContext(seen), text = documentText(document);
@@ -903,13 +928,7 @@ export class Site {
     await this.#one(key, (own) => joinStates(own, given));
   }
 
-  /** Writes what `merge` makes of the documents, in place of them; where it makes nothing the key is deleted. */
-  async resolve(key, merge) {
-    const state = await this.get(key);
-    if (state.siblings.length < 2) return undefined;
-    const merged = merge(state.documents);
-    return merged ? this.put(key, merged, state) : this.delete(key, state);
-  }
+  resolve(key, merge) { return resolveAt(this, key, merge); }
 
   async #one(key, step) {
     const [fault] = await this.#change([key], (state, clock) => step(state, clock));
@@ -957,7 +976,8 @@ export class Site {
 
   // ---- sessions
 
-  /** Brings this site and a server to the join of what they hold, of the keys that begin with a prefix. Cut anywhere, it is run again. */
+  /** Brings this site and a server to the join of what they hold, of the keys that begin with a prefix. Cut anywhere,
+   *  it is run again. */
   async sync(url, { token, prefix = "", fetch, whole = false, wait = 0, interrupt, signal } = {}) {
     // One session is with one server: what it keeps of it would not be true of two.
     const client = asClient(url, { token, fetch });
@@ -970,7 +990,7 @@ export class Site {
     }
   }
 
-  /** Syncs again and again, as soon as something changed here or there, until `signal` ends it. After a fault it waits up to a minute. */
+  /** Syncs whenever something changed here or there, until `signal` ends it. After a fault it waits, up to a minute. */
   async follow(url, { signal, wait = 25, onsync, onfault, ...options } = {}) {
     const client = asClient(url, options);
     let pause = 1, ends, woken, isStirred = false;
@@ -1009,8 +1029,9 @@ export class Site {
 
   // What a session asks of its own side: it knows the store by these alone.
 
-  /** Joins states that a server told. Gives for each its refusal, what the key holds now, whether it was another before, and
-   *  whether the server had seen dots of this site that the store has not. */
+  /** Joins states that a server told. Gives for each its refusal; whether the site held another one (`other`), and now
+   *  holds `more`, or else the digest of both; and whether the server had seen dots of this site that the store has
+   *  not (`older`). */
   async take(pairs) {
     const out = [], own = (context, site) => context.filter((entry) => entry.site === site);
     const faults = await this.#change(pairs.map(([key]) => key), (state, { site }, i) => {
@@ -1031,18 +1052,16 @@ export class Site {
 
   rows(prefix, after, to) { return this.#store.rows(prefix, after, to); }
 
-  /** What was met last: with this server, or else with another one, since a root says what it holds wherever it is. */
+  /** What was met last: with this server, or else what is true of each server that had its root. */
   async link(prefix, server) {
     const links = (await this.#store.note("links"))?.[prefix];
-    return links?.servers[server] ?? links?.servers[links.last];
+    return links?.servers[server] ?? links?.anywhere;
   }
 
-  async relink(prefix, server, link) {
+  async relink(prefix, server, link, isTrueAnywhere) {
     await this.#store.note("links", (all = {}) => {
-      const servers = { ...all[prefix]?.servers };
-      delete servers[server];
-      if (link) servers[server] = link;
-      return { ...all, [prefix]: { last: server, servers } };
+      const { servers, anywhere } = all[prefix] ?? {}, now = isTrueAnywhere && link ? link : anywhere;
+      return { ...all, [prefix]: { servers: { ...servers, [server]: link }, anywhere: now } };
     });
   }
 }
@@ -1054,16 +1073,34 @@ const WINDOW_BYTES = 1000000;
 const WINDOW_PATHS = 64;
 const MOST_NOTED = 500;
 
+/** Things that have a `line` each, in lists that one request takes: by number and by bytes, but for a single line. */
+async function* windows(things) {
+  let window = [], bytes = 0;
+  for await (const one of things) {
+    const size = encoder.encode(one.line).length + 1;
+    if (window.length === WINDOW_LINES || (window.length && bytes + size > WINDOW_BYTES)) {
+      yield window;
+      [window, bytes] = [[], 0];
+    }
+    window.push(one);
+    bytes += size;
+  }
+  if (window.length) yield window;
+}
+
 const byPlace = (a, b) => {
   const x = placeOf(a), y = placeOf(b);
   return x < y ? -1 : x > y ? 1 : a < b ? -1 : a > b ? 1 : 0;
 };
-const cut = (list, most) => Array.from({ length: Math.ceil(list.length / most) }, (_, i) => list.slice(i * most, (i + 1) * most));
+const cut = (list, most) =>
+  Array.from({ length: Math.ceil(list.length / most) }, (_, i) => list.slice(i * most, (i + 1) * most));
 
 /**
- * One meeting of a site and a server. What was met is kept as a link { root, seq, sent, left }: the site holds all that the server held at
- * that root, but for the keys of `left`, which one of the two refused; and all changes of the store up to seq are in that root, but for
- * `left` and for `sent`, which were pushed after the root was told. So a link is true at each server that had its root.
+ * One meeting of a site and a server. What was met is kept as a link { root, seq, sent, left }: the site holds all that
+ * the server held at that root, but for the keys of `left`, which one of the two refused; and all changes of the store
+ * up to seq are in that root, but for `left` and for `sent`, which were pushed after the root was told. So a link is
+ * true at each server that had its root. One made by digests is true at its own server alone: a key that was equal
+ * there may have come to it after the root.
  */
 class Session {
   #counted = new Set();
@@ -1092,26 +1129,36 @@ class Session {
       told = await this.#changes(root, wait, interrupt);
       if (told.resync) return told;
       const listed = new Set(told.items.map((item) => item.key)), isLast = !told.more;
-      await this.#pull([...told.items, ...(isLast ? link.left.filter((key) => !listed.has(key)).map((key) => ({ key })) : [])]);
+      const again = isLast ? link.left.filter((key) => !listed.has(key)) : [];
+      await this.#pull([...told.items, ...again.map((key) => ({ key }))]);
       root = told.root;
       if (isLast) break;
       wait = 0;
-      await this.#note({ ...link, root, left: [...link.left, ...this.#left.keys()] });
+      await this.#note({ ...link, root, left: [...link.left, ...this.#left.keys()] }, false);
     }
-    const { seq } = await this.site.clock(), digests = new Map();
-    for (const [key, row] of await this.site.since(link.seq)) if (key.startsWith(this.prefix)) digests.set(key, row.digest);
-    const keys = [...new Set([...digests.keys(), ...link.sent, ...link.left])];
-    await this.#push(keys.filter((key) => !this.#same.has(key) || (digests.get(key) ?? this.#same.get(key)) !== this.#same.get(key)).sort(byPlace));
-    await this.#met(root, seq);
+    const { seq } = await this.site.clock(), changed = await this.#changedSince(link.seq);
+    const keys = new Set([...changed.keys(), ...link.sent, ...link.left]);
+    await this.#push([...keys].filter((key) => !this.#isSame(key, changed.get(key))).sort(byPlace));
+    await this.#met(root, seq, !told.isCut);
     return told;
   }
 
+  /** The keys of the store that changed, with their digests. */
+  async #changedSince(seq) {
+    const rows = await this.site.since(seq);
+    return new Map(rows.filter(([key]) => key.startsWith(this.prefix)).map(([key, row]) => [key, row.digest]));
+  }
+
+  /** Whether the server told just what the site holds, whose digest is given where the key changed. */
+  #isSame(key, digest = this.#same.get(key)) { return this.#same.has(key) && this.#same.get(key) === digest; }
+
   async #changes(since, wait, interrupt) {
     try {
-      return await this.far.changes({ since, prefix: this.prefix, wait, states: true, signal: interrupt ?? this.signal });
+      const given = { since, prefix: this.prefix, wait, states: true, signal: interrupt ?? this.signal };
+      return await this.far.changes(given);
     } catch (fault) {
       if (!interrupt?.aborted || this.signal?.aborted) throw fault;
-      return { root: since, resync: false, items: [], more: false };
+      return { root: since, resync: false, items: [], more: false, isCut: true };
     }
   }
 
@@ -1120,23 +1167,24 @@ class Session {
   async #compare(root) {
     const { seq, keys } = await this.site.clock();
     root ??= (await this.far.changes({ prefix: this.prefix, signal: this.signal })).root;
-    if (this.prefix !== "") await this.#byDigests();
-    else if (root !== await this.site.root()) {
-      if (keys <= WINDOW_LINES) await this.#byDigests(true) || await this.#byTree();
+    const isEqual = root === await this.site.root();
+    if (isEqual) await this.#met(root, seq, true);
+    else {
+      if (this.prefix !== "") await this.#byDigests();
+      else if (keys <= WINDOW_LINES) await this.#byDigests(true) || await this.#byTree();
       else await this.#byTree(keys) || await this.#byDigests();
+      // What was pulled meanwhile is there too; what else was written meanwhile is looked at the next time.
+      const now = await this.site.clock();
+      for (const [key, digest] of await this.#changedSince(seq)) if (!this.#isSame(key, digest)) this.#sent.add(key);
+      await this.#met(root, now.seq, false);
     }
-    // What was pulled meanwhile is there too; what else was written meanwhile is looked at the next time.
-    const now = await this.site.clock();
-    for (const [key, row] of await this.site.since(seq)) {
-      if (key.startsWith(this.prefix) && this.#same.get(key) !== row.digest) this.#sent.add(key);
-    }
-    await this.#met(root, now.seq);
   }
 
-  /** Page by page. A key whose digest is not told is got. Gives false where none is told, and the tree is asked better. */
+  /** Page by page. A key whose digest is not told is got. Gives false where none is told, and the tree is better. */
   async #byDigests(mayStop = false) {
     for (let after; ;) {
-      const page = await this.far.digests(this.prefix, after, this.signal), own = new Map(await this.site.rows(this.prefix, after, page.next));
+      const page = await this.far.digests(this.prefix, after, this.signal);
+      const own = new Map(await this.site.rows(this.prefix, after, page.next));
       if (mayStop && own.size > WINDOW_PATHS && page.keys.every(([, digest]) => digest === undefined)) return false;
       await this.#settle(new Map(page.keys), own);
       if (page.next === undefined) return true;
@@ -1151,23 +1199,28 @@ class Session {
       const differ = [], tree = await this.site.tree();
       for (const some of cut(paths, WINDOW_PATHS)) {
         const nodes = await this.far.nodes(some, this.signal);
-        some.forEach((path, i) => tree.children(path).forEach((own, d) => { if (own !== nodes[i][d]) differ.push(path + DIGITS[d]); }));
+        some.forEach((path, i) => {
+          const own = tree.children(path);
+          differ.push(...DIGITS.filter((_, d) => own[d] !== nodes[i][d]).map((digit) => path + digit));
+        });
       }
       paths = differ;
       if (Math.ceil(paths.length / WINDOW_PATHS) > Math.ceil(keys / WINDOW_LINES)) return false;
     }
     for (const some of cut(paths, WINDOW_PATHS)) {
       const theirs = new Map((await this.far.buckets(some, this.signal)).flat()), tree = await this.site.tree();
-      await this.#settle(theirs, new Map(some.flatMap((path) => tree.bucket(path)).map(([key, digest]) => [key, { digest }])));
+      const own = some.flatMap((path) => tree.bucket(path));
+      await this.#settle(theirs, new Map(own.map(([key, digest]) => [key, { digest }])));
     }
     return true;
   }
 
   async #settle(theirs, own) {
-    const differ = new Set([...theirs.keys(), ...own.keys()].filter((key) => !theirs.has(key) || !own.has(key) || theirs.get(key) !== own.get(key).digest));
-    for (const keys of cut([...differ].sort(byPlace), WINDOW_LINES)) {
-      await this.#pull(keys.filter((key) => theirs.has(key)).map((key) => ({ key })));
-      await this.#push(keys.filter((key) => !this.#same.has(key)));
+    const keys = new Set([...theirs.keys(), ...own.keys()]);
+    const isEqual = (key) => theirs.has(key) && own.has(key) && theirs.get(key) === own.get(key).digest;
+    for (const some of cut([...keys].filter((key) => !isEqual(key)).sort(byPlace), WINDOW_LINES)) {
+      await this.#pull(some.filter((key) => theirs.has(key)).map((key) => ({ key })));
+      await this.#push(some.filter((key) => !this.#same.has(key)));
     }
   }
 
@@ -1178,7 +1231,8 @@ class Session {
     for (let window of cut([...items].sort((a, b) => byPlace(a.key, b.key)), WINDOW_LINES)) {
       while (window.length) {
         const keys = window.filter((item) => !item.state && !item.fault).map((item) => item.key);
-        const told = new Map((keys.length ? await this.far.states(keys, this.signal) : []).map((item) => [item.key, item]));
+        const asked = keys.length ? await this.far.states(keys, this.signal) : [];
+        const told = new Map(asked.map((item) => [item.key, item]));
         const known = window.map((item) => told.get(item.key) ?? item), end = known.findIndex((item) => item.later);
         if (end === 0) throw new Unreachable("the server tells no state");
         await this.#take(end < 0 ? known : known.slice(0, end));
@@ -1191,7 +1245,8 @@ class Session {
     for (const { key, fault } of items) if (fault) this.#leave(key, "there", fault);
     const good = items.filter((item) => item.state);
     if (!good.length) return;
-    for (const { key, fault, other, more, older, digest } of await this.site.take(good.map(({ key, state }) => [key, state]))) {
+    const taken = await this.site.take(good.map(({ key, state }) => [key, state]));
+    for (const { key, fault, other, more, older, digest } of taken) {
       if (fault) {
         this.#leave(key, "here", fault);
         continue;
@@ -1205,27 +1260,31 @@ class Session {
   }
 
   async #push(keys) {
-    let window = [], bytes = 0;
-    const flush = async () => {
-      const faults = window.length ? await this.far.deliver(window, this.signal) : [];
-      window.forEach(([key], i) => {
+    for await (const window of windows(this.#lines(keys.filter((key) => !this.#left.has(key))))) {
+      const faults = await this.#deliver(window);
+      window.forEach(({ key }, i) => {
         if (faults[i]) return this.#leave(key, "there", faults[i]);
         this.#counted.add(key);
         this.#sent.add(key);
       });
-      window = [];
-      bytes = 0;
-    };
-    for (const some of cut(keys.filter((key) => !this.#left.has(key)), 100)) {
-      const states = await this.site.give(some);
-      for (const [i, key] of some.entries()) {
-        const line = pushLine(key, states[i]), size = encoder.encode(line).length + 1;
-        if (window.length === WINDOW_LINES || bytes + size > WINDOW_BYTES) await flush();
-        window.push([key, states[i], line]);
-        bytes += size;
-      }
     }
-    await flush();
+  }
+
+  async *#lines(keys) {
+    for (const some of cut(keys, 100)) {
+      const states = await this.site.give(some);
+      yield* some.map((key, i) => ({ key, state: states[i], line: pushLine(key, states[i]) }));
+    }
+  }
+
+  async #deliver(window) {
+    try {
+      return await this.far.deliver(window, this.signal);
+    } catch (fault) {
+      // A state that is longer than a body may be is alone in its window.
+      if (fault.status === 413 && window.length === 1) return [fault];
+      throw fault;
+    }
   }
 
   #leave(key, side, fault) {
@@ -1235,11 +1294,14 @@ class Session {
 
   // ---- what is kept for the next time
 
-  #met(root, seq) { return this.#note({ root, seq, sent: [...this.#sent], left: [...this.#left.keys()] }); }
+  #met(root, seq, isTrueAnywhere) {
+    return this.#note({ root, seq, sent: [...this.#sent], left: [...this.#left.keys()] }, isTrueAnywhere);
+  }
 
-  #note(link) {
+  #note(link, isTrueAnywhere) {
     const many = link.sent.length > MOST_NOTED || link.left.length > MOST_NOTED;
-    return this.site.relink(this.prefix, this.far.name, many ? undefined : { ...link, left: [...new Set(link.left)] });
+    const kept = many ? undefined : { ...link, left: [...new Set(link.left)] };
+    return this.site.relink(this.prefix, this.far.name, kept, isTrueAnywhere);
   }
 }
 
@@ -1248,15 +1310,30 @@ class Session {
 const asClient = (url, options) => (typeof url === "string" || Array.isArray(url) ? new Client(url, options) : url);
 const query = (path, given) => {
   const words = Object.entries(given).filter(([, value]) => value !== undefined && value !== "" && value !== false);
-  return path + (words.length ? "?" : "") + words.map(([name, value]) => `${name}=${value === true ? 1 : encodeURIComponent(value)}`).join("&");
+  const parts = words.map(([name, value]) => `${name}=${value === true ? 1 : encodeURIComponent(value)}`);
+  return parts.length ? `${path}?${parts.join("&")}` : path;
 };
 /** Keys that a browser takes out of a path. */
 const DOTS = /^\.\.?$/;
+/** A context that is longer stands in a body, not in a field. */
+const LONG_CONTEXT = 4000;
 const keyPath = (key) => `/keys/${encodeURIComponent(checkKey(key))}`;
 const linesOf = (text) => text.split("\n").filter((line) => line !== "").map(toldIn);
-const faultOf = (told, status) => new Refused(told.refused, told.name, { status, ...(told.at === undefined ? {} : { at: told.at }) });
+const faultOf = ({ refused, name, at }, status) =>
+  new Refused(refused, name, { status, ...(at === undefined ? {} : { at }) });
+/** A line of `POST /keys`. */
+const writeLine = (key, context, text) =>
+  `{"key":${quoted(key)},"context":"${contextText(context)}"${text === undefined ? "" : `,"document":${text}`}}`;
+const withDot = (context, dot) => contextText(union(context, only(readDot(dot))));
 
-/** A server's keys, asked over HTTP, with no copy. Of several servers it asks the next one where one does not answer. */
+async function* writeLines(writes) {
+  for await (const { key, document, seen } of writes) {
+    const text = document === undefined ? undefined : documentText(document);
+    yield { line: writeLine(checkKey(key), seenContext(seen), text) };
+  }
+}
+
+/** A server's keys, asked over HTTP, with no copy. Where one of several servers does not answer it asks the next. */
 export class Client {
   #servers;
   #options;
@@ -1286,7 +1363,8 @@ export class Client {
     signal?.addEventListener("abort", stop);
     this.requests++;
     try {
-      const response = await this.#fetch(this.name + path, { method, headers, body, signal: ends.signal, cache: "no-store" });
+      const given = { method, headers, body, signal: ends.signal, cache: "no-store" };
+      const response = await this.#fetch(this.name + path, given);
       return { status: response.status, text: await response.text() };
     } catch (error) {
       throw signal?.aborted ? error : new Unreachable(`${this.name} does not answer`, error);
@@ -1296,7 +1374,8 @@ export class Client {
     }
   }
 
-  /** A response's text. `safe`: it may be asked again, at the next server or once more at the only one, whose connection may have ended. */
+  /** A response's text. `safe`: it may be asked again, at the next server, or once more at the only one, whose
+   *  connection may have ended. */
   async #ask(method, path, { safe = true, ...request } = {}) {
     const most = Math.max(2, this.#servers.length);
     for (let turn = 1; ; turn++) {
@@ -1337,41 +1416,47 @@ export class Client {
     return new State(key, stateOf(await this.#value(keyPath(key))));
   }
 
-  /** Writes a document in place of what was seen. Where no response came it looks whether the write is there; else it is Unreachable. */
+  /** Writes a document in place of what was seen. Where no response came it looks for the write at each server; where
+   *  none has it, it is Unreachable, and the write may be stored all the same. */
   async put(key, document, seen) {
     const context = seenContext(seen), text = documentText(document), path = keyPath(key);
     try {
       const { dot, context: now } = await this.#put(path, key, text, context);
       return { key, dot, context: now };
     } catch (fault) {
-      if (!(fault instanceof Unreachable)) throw fault;
-      const state = await this.get(key), mine = state.siblings.find((one) => one.text === text && !holds(context, readDot(one.dot)));
-      if (!mine) throw fault;
-      return { key, dot: mine.dot, context: contextText(union(context, only(readDot(mine.dot)))) };
+      const dot = fault instanceof Unreachable ? await this.#find(key, text, context) : undefined;
+      if (dot === undefined) throw fault;
+      return { key, dot, context: withDot(context, dot) };
     }
   }
 
   async #put(path, key, text, context) {
     const told = contextText(context);
-    if (told.length < 4000 && !DOTS.test(key)) return parse(await this.#ask("PUT", path, { body: text, context: told, safe: false }));
-    const [line] = await this.#lines("/keys", [`{"key":${quoted(key)},"context":"${told}","document":${text}}`], { safe: false });
+    if (told.length < LONG_CONTEXT && !DOTS.test(key)) {
+      return parse(await this.#ask("PUT", path, { body: text, context: told, safe: false }));
+    }
+    const [line] = await this.#lines("/keys", [writeLine(key, context, text)], { safe: false });
     if (line.refused !== undefined) throw faultOf(line);
-    return { dot: line.dot, context: contextText(union(context, only(readDot(line.dot)))) };
+    return { dot: line.dot, context: withDot(context, line.dot) };
+  }
+
+  /** The dot of a sibling with this text that the context has not seen, at any server that answers. */
+  async #find(key, text, context) {
+    for (const server of this.#servers) {
+      const state = await this.#only(server).get(key).catch(() => undefined);
+      const found = state?.siblings.find((one) => one.text === text && !holds(context, readDot(one.dot)));
+      if (found) return found.dot;
+    }
+    return undefined;
   }
 
   /** Deletes what was seen. It may be repeated. */
   async delete(key, seen) {
-    const [line] = await this.#lines("/keys", [`{"key":${quoted(checkKey(key))},"context":"${contextText(seenContext(seen))}"}`]);
+    const [line] = await this.#lines("/keys", [writeLine(checkKey(key), seenContext(seen))]);
     if (line.refused !== undefined) throw faultOf(line);
   }
 
-  /** Writes what `merge` makes of the documents, in place of them, where there are several; where it makes nothing the key is deleted. */
-  async resolve(key, merge) {
-    const state = await this.get(key);
-    if (state.siblings.length < 2) return undefined;
-    const merged = merge(state.documents);
-    return merged ? this.put(key, merged, state) : this.delete(key, state);
-  }
+  resolve(key, merge) { return resolveAt(this, key, merge); }
 
   // ---- many keys
 
@@ -1390,31 +1475,20 @@ export class Client {
     }
   }
 
-  /** Many writes, { key, document, seen } or a delete { key, seen }: for each { dot }, {} or { fault }, in order. It is not repeated. */
+  /** Many writes, { key, document, seen } or a delete { key, seen }: for each { dot }, {} or { fault }, in order. None
+   *  is repeated. */
   async *write(writes) {
-    let lines = [], bytes = 0;
-    const flush = async () => {
-      const told = lines.length ? await this.#lines("/keys", lines, { safe: false }) : [];
-      [lines, bytes] = [[], 0];
-      return told.map((line) => (line.refused === undefined ? line : { fault: faultOf(line) }));
-    };
-    for await (const { key, document, seen } of writes) {
-      const rest = document === undefined ? "" : `,"document":${documentText(document)}`;
-      const line = `{"key":${quoted(checkKey(key))},"context":"${contextText(seenContext(seen))}"${rest}}`, size = encoder.encode(line).length + 1;
-      if (lines.length === WINDOW_LINES || bytes + size > WINDOW_BYTES) yield* await flush();
-      lines.push(line);
-      bytes += size;
+    for await (const window of windows(writeLines(writes))) {
+      const told = await this.#lines("/keys", window.map((one) => one.line), { safe: false });
+      yield* told.map((line) => (line.refused === undefined ? line : { fault: faultOf(line) }));
     }
-    yield* await flush();
   }
 
   /** Joins states, as `get` gave them, into the server's: for each {} or { fault }. It may be repeated. */
   async push(states) {
-    const out = [];
-    for (const some of cut([...states].map((state) => [state.key, stateOf(state)]), 10)) {
-      for (const fault of await this.deliver(some)) out.push(fault ? { fault } : {});
-    }
-    return out;
+    const lines = [...states].map((state) => ({ line: pushLine(checkKey(state.key), stateOf(state)) })), out = [];
+    for await (const window of windows(lines)) out.push(...await this.deliver(window));
+    return out.map((fault) => (fault ? { fault } : {}));
   }
 
   // ---- lists, page by page
@@ -1439,8 +1513,8 @@ export class Client {
   async *#held(path, given) {
     for await (const page of this.#pages(path, "keys", given)) {
       if (!given.documents) yield* page;
-      else if (page.every((one) => Array.isArray(one.siblings))) yield* page.map((one) => new State(one.key, stateOf(one)));
-      else yield* this.getMany(page.map((one) => one.key));
+      else if (page.some((one) => !Array.isArray(one.siblings))) yield* this.getMany(page.map((one) => one.key));
+      else yield* page.map((one) => new State(one.key, stateOf(one)));
     }
   }
 
@@ -1453,19 +1527,23 @@ export class Client {
 
   async *#places(field, given) {
     for await (const page of this.#pages(`/index/${encodeURIComponent(field)}`, "places", given)) {
-      const states = new Map();
-      if (given.documents && page.some((place) => place.document === undefined)) {
-        for await (const state of this.getMany(new Set(page.map((place) => place.key)))) states.set(state.key, state);
-      }
-      // A sibling that was replaced meanwhile has no place any more.
-      for (const place of page) {
-        const document = place.document ?? states.get(place.key)?.siblings.find((one) => one.dot === place.dot)?.document;
-        if (!given.documents || document) yield given.documents ? { ...place, document } : place;
-      }
+      yield* given.documents ? await this.#withDocuments(page) : page;
     }
   }
 
-  async *rows(view) { for await (const page of this.#pages(`/views/${encodeURIComponent(view)}/rows`, "rows", {})) yield* page; }
+  /** Places with their documents, but for those whose sibling was replaced meanwhile. */
+  async #withDocuments(places) {
+    const missing = places.filter((place) => place.document === undefined), told = new Map();
+    for await (const { key, siblings } of this.getMany(new Set(missing.map((place) => place.key)))) {
+      for (const { dot, document } of siblings) told.set(`${dot} ${key}`, document);
+    }
+    const documentOf = (place) => place.document ?? told.get(`${place.dot} ${place.key}`);
+    return places.map((place) => ({ ...place, document: documentOf(place) })).filter((place) => place.document);
+  }
+
+  async *rows(view) {
+    for await (const page of this.#pages(`/views/${encodeURIComponent(view)}/rows`, "rows", {})) yield* page;
+  }
 
   row(view, term) { return this.#value(query(`/views/${encodeURIComponent(view)}/row`, { is: valueText(term, []) })); }
 
@@ -1474,21 +1552,31 @@ export class Client {
   /** What changes, for good: { keys, resync, root }, with `states` the states, too. After a `resync` list the keys. */
   async *follow({ since, prefix, wait = 25, states = false, signal } = {}) {
     while (!signal?.aborted) {
-      const told = await this.changes({ since, prefix, wait: since ? wait : 0, states, signal });
+      const told = await this.changes({ since, prefix, wait: since ? wait : 0, states, signal }), server = this.name;
+      const given = states ? await this.#given(told.items) : [];
+      // Another server, which may not have heard of all changes yet, told some of the states: ask anew.
+      if (this.name !== server) continue;
       since = told.root;
-      if (!told.resync && told.items.length === 0) {
-        if (told.busy) await new Promise((done) => { setTimeout(done, 1000); });
-        continue;
-      }
-      const keys = told.items.map((item) => item.key);
-      yield { root: told.root, resync: told.resync, keys, states: told.items.filter((item) => item.state).map((item) => new State(item.key, item.state)) };
+      if (told.busy) await new Promise((done) => { setTimeout(done, 1000); });
+      const { root, resync, items } = told;
+      if (resync || items.length) yield { root, resync, keys: items.map((item) => item.key), states: given };
     }
+  }
+
+  /** The states of what changed; those that were not told with it are got. */
+  async #given(items) {
+    const told = new Map(items.filter((item) => item.state).map((item) => [item.key, new State(item.key, item.state)]));
+    const missing = items.map((item) => item.key).filter((key) => !told.has(key));
+    for await (const state of this.getMany(missing)) told.set(state.key, state);
+    return items.map((item) => told.get(item.key));
   }
 
   // ---- what a session asks
 
   /** A client of the server that is asked now, and of no other. */
-  pinned() { return this.#servers.length === 1 ? this : new Client(this.name, { ...this.#options, fetch: this.#fetch }); }
+  pinned() { return this.#servers.length === 1 ? this : this.#only(this.name); }
+
+  #only(server) { return new Client(server, { ...this.#options, fetch: this.#fetch }); }
 
   /** Goes on to the next server, unless so many were all. */
   pass(tried) {
@@ -1496,17 +1584,20 @@ export class Client {
     return tried < this.#servers.length;
   }
 
-  #item(told) {
+  /** What is told of a key: its state, a fault, that it comes later, or no more than that it changed. */
+  #item(told, key = told.key) {
     if (typeof told === "string") return { key: told };
-    if (told.refused !== undefined) return { key: told.key, fault: faultOf(told) };
-    if (told.later || told.siblings === undefined) return { key: told.key, later: true };
-    try { return { key: told.key, state: stateOf(told) }; } catch (fault) { return { key: told.key, fault }; }
+    if (told.refused !== undefined) return { key, fault: faultOf(told) };
+    if (told.later || told.siblings === undefined) return { key, later: true };
+    try { return { key, state: stateOf(told) }; } catch (fault) { return { key, fault }; }
   }
 
   async changes({ since, prefix, wait = 0, states = false, signal } = {}) {
-    const told = await this.#value(query("/changes", { since, prefix, wait: wait || undefined, states }), { wait, signal });
+    const path = query("/changes", { since, prefix, wait: wait || undefined, states });
+    const told = await this.#value(path, { wait, signal });
     const items = told.keys.map((one) => this.#item(one)).filter((item) => item.key.startsWith(prefix ?? ""));
-    return { root: told.root, resync: told.resync, items, more: told.keys.length >= WINDOW_LINES, busy: told.wait === 0 };
+    const more = told.keys.length >= WINDOW_LINES;
+    return { root: told.root, resync: told.resync, items, more, busy: told.wait === 0 };
   }
 
   async digests(prefix, after, signal) {
@@ -1514,7 +1605,9 @@ export class Client {
     return { keys: page.keys.map((one) => [one.key, one.digest]), next: page.next };
   }
 
-  async #tree(paths, signal) { return linesOf(await this.#ask("GET", query("/tree", { paths: paths.join(",") }), { signal })); }
+  async #tree(paths, signal) {
+    return linesOf(await this.#ask("GET", query("/tree", { paths: paths.join(",") }), { signal }));
+  }
 
   async nodes(paths, signal) { return (await this.#tree(paths, signal)).map((node) => node.children); }
 
@@ -1530,20 +1623,24 @@ export class Client {
     }));
   }
 
-  async states(keys, signal) { return (await this.#lines("/get", keys.map(quoted), { signal })).map((told) => this.#item(told)); }
+  async states(keys, signal) {
+    const told = await this.#lines("/get", keys.map(quoted), { signal });
+    return told.map((line, i) => this.#item(line, keys[i]));
+  }
 
-  /** Pushes states, [key, state, line]: for each its refusal, or nothing. */
-  async deliver(pairs, signal) {
-    const told = await this.#lines("/push", pairs.map(([key, state, line]) => line ?? pushLine(key, state)), { signal });
+  /** Pushes states, { key, state, line }: for each its refusal, or nothing. */
+  async deliver(window, signal) {
+    const told = await this.#lines("/push", window.map((one) => one.line), { signal });
     return told.map((line) => (line.refused === undefined ? undefined : faultOf(line)));
   }
 }
 
 // ---------------------------------------------------------------- merges that work
-// Each gives the same whatever the order of the documents, and however often one of them comes: so whoever resolves, and wherever, comes to
-// the same document. docs/OFFLINE.md says which is for what.
+// Each gives the same whatever the order of the documents, and however often one of them comes: so whoever resolves,
+// and wherever, comes to the same document. docs/OFFLINE.md says which is for what.
 
 const distinct = (texts) => [...new Set(texts)].sort(byBytes);
+const termText = (value) => valueText(value, []);
 const memberTexts = (documents) => {
   const out = new Map();
   for (const document of documents) {
@@ -1555,12 +1652,12 @@ const memberTexts = (documents) => {
   return out;
 };
 
-/** Keeps what each wrote: a member that all have alike stays; where they differ it is the list of all values, and lists are joined. */
+/** Keeps what each wrote: a member that all have alike stays; where they differ it is the list of all values, and lists
+ *  are joined. */
 export function keepBoth(documents) {
   const members = new Map();
   for (const [name, values] of memberTexts(documents)) {
-    const whole = distinct(values.map((value) => valueText(value, [])));
-    const items = distinct(values.flatMap((value) => (Array.isArray(value) ? value : [value])).map((value) => valueText(value, [])));
+    const whole = distinct(values.map(termText)), items = distinct(values.flat().map(termText));
     members.set(name, whole.length === 1 ? whole[0] : `[${items}]`);
   }
   return parse(objectText(members));
@@ -1568,7 +1665,8 @@ export function keepBoth(documents) {
 
 /** The document whose whole number `field` is the greatest; of several the one whose text is. */
 export function greatest(documents, field) {
-  const rank = (document) => (typeof document[field] === "number" || typeof document[field] === "bigint" ? document[field] : undefined);
+  const isNumber = (value) => typeof value === "number" || typeof value === "bigint";
+  const rank = (document) => (isNumber(document[field]) ? document[field] : undefined);
   return [...documents].sort((a, b) => {
     const x = rank(a), y = rank(b);
     if (x !== y) return x === undefined ? 1 : y === undefined ? -1 : x > y ? -1 : 1;
@@ -1576,7 +1674,8 @@ export function greatest(documents, field) {
   })[0];
 }
 
-/** A set in which each thing has a count for each writer: { thing: { writer: [added, taken] } }, whose numbers only grow. */
+/** A set in which each thing has a count for each writer: { thing: { writer: [added, taken] } }, whose numbers only
+ *  grow. */
 export function mergeCounts(documents) {
   const things = new Map();
   for (const document of documents) {
@@ -1595,8 +1694,10 @@ export function mergeCounts(documents) {
 /** The set after its writer added so many of a thing, or, where `count` is negative, took them. */
 export function addCount(document, writer, thing, count) {
   const [added, taken] = document[thing]?.[writer] ?? [0, 0];
-  return { ...document, [thing]: { ...document[thing], [writer]: count > 0 ? [added + count, taken] : [added, taken - count] } };
+  const pair = count > 0 ? [added + count, taken] : [added, taken - count];
+  return { ...document, [thing]: { ...document[thing], [writer]: pair } };
 }
 
 /** How many of a thing there are. */
-export const countOf = (document, thing) => Object.values(document[thing] ?? {}).reduce((sum, [added, taken]) => sum + added - taken, 0);
+export const countOf = (document, thing) =>
+  Object.values(document[thing] ?? {}).reduce((sum, [added, taken]) => sum + added - taken, 0);

@@ -52,7 +52,11 @@ for (let step = 0; step < steps; step++) {
     servers[i] = await start(i);
   }
 }
-const roots = async () => new Set([...await Promise.all(sites.map((site) => site.root())), ...await Promise.all(clients.map(async (one) => (await one.root()).root))]);
+const rootOf = async (where) => {
+  const told = await where.root();
+  return told.root ?? told;
+};
+const roots = async () => new Set(await Promise.all([...sites, ...clients].map(rootOf)));
 for (let turn = 0; (await roots()).size > 1 && turn < 40; turn++) {
   for (const site of sites) for (const url of urls) await site.sync(url);
   await sleep(0.2);
@@ -61,5 +65,6 @@ assert.equal((await roots()).size, 1, "one root");
 const there = new Set((await sites[4].all()).flatMap((state) => state.siblings.map((one) => one.text)));
 assert.deepEqual([...written].filter((text) => !there.has(text) && !replaced.has(text)), [], "gone, and nobody replaced it");
 assert.deepEqual([...there].filter((text) => replaced.has(text)), [], "there, though it was replaced");
-console.log(`seed ${seed}: ${steps} steps, ${told.syncs} sessions, ${told.cut} cut, ${told.refused} refused, ${written.size} documents, ${there.size} of them there`);
+const seen = `${written.size} documents, ${there.size} of them there`;
+console.log(`seed ${seed}: ${steps} steps, ${told.syncs} sessions, ${told.cut} cut, ${told.refused} refused, ${seen}`);
 await Promise.all(servers.map((one) => one.stop()));

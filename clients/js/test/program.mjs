@@ -3,7 +3,8 @@ import { spawn } from "node:child_process";
 
 /** Starts a server and waits until it listens. `stop` kills it, as a machine does that goes off. */
 export async function serve(program, file, site, port, words = []) {
-  const child = spawn(program, ["serve", "--db", file, "--site", site, "--port", port, "--http", port + 100, ...words].map(String), { stdio: ["ignore", "pipe", "ignore"] });
+  const all = ["serve", "--db", file, "--site", site, "--port", port, "--http", port + 100, ...words].map(String);
+  const child = spawn(program, all, { stdio: ["ignore", "pipe", "ignore"] });
   const ended = new Promise((done) => { child.on("exit", done); });
   await Promise.race([new Promise((done) => { child.stdout.once("data", done); }), ended.then(() => { throw new Error("the server ended"); })]);
   child.stdout.resume();

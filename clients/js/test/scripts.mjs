@@ -154,7 +154,8 @@ class Run {
     const site = this.sites[+a], far = this.sides[+b];
     if (!site || !far || a === b) return;
     const report = await this.crossing(site, a, b, { prefix });
-    const [mine, theirs] = await Promise.all([site, far.site].map(async (one) => JSON.stringify((await one.rows(prefix)).map(([key, row]) => [key, row.digest]))));
+    const held = async (one) => JSON.stringify((await one.rows(prefix)).map(([key, row]) => [key, row.digest]));
+    const mine = await held(site), theirs = await held(far.site);
     if (!report.refused.length && mine !== theirs) throw new Error(`the sides differ after part ${prefix}`);
   }
 

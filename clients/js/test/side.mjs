@@ -57,7 +57,8 @@ export class Side {
   digests(prefix, after) {
     return this.#ask([prefix], async () => {
       const rows = await this.site.rows(prefix, after), page = rows.slice(0, this.told);
-      return { keys: page.map(([key, row]) => [key, this.plain ? undefined : row.digest]), next: rows.length > page.length ? page[page.length - 1][0] : undefined };
+      const next = rows.length > page.length ? page[page.length - 1][0] : undefined;
+      return { keys: page.map(([key, row]) => [key, this.plain ? undefined : row.digest]), next };
     });
   }
 
@@ -72,10 +73,10 @@ export class Side {
     });
   }
 
-  deliver(pairs) {
-    return this.#ask(pairs, async (some) => {
-      const out = await this.site.take(some.map(([key, state]) => [key, state]));
-      out.forEach((one, i) => this.log.push(["push", pairs[i][0], pairs[i][1], one.fault]));
+  deliver(window) {
+    return this.#ask(window, async (some) => {
+      const out = await this.site.take(some.map(({ key, state }) => [key, state]));
+      out.forEach((one, i) => this.log.push(["push", window[i].key, window[i].state, one.fault]));
       return out.map((one) => one.fault);
     });
   }

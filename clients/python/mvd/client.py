@@ -216,15 +216,23 @@ class Client:
         text, context = compact(document), _context(seen)
         try:
             return self._put(key, text, context)
-        except Unknown as unknown:
+        except Unknown:
+            dot = self._find(key, text, context)
+            if dot is None:
+                raise
+            return Written(key, dot, _with_dot(context, dot))
+
+    def _find(self, key, text, context):
+        """The dot of a sibling with this text that the context has not seen, at any server that answers."""
+        for server in self.servers:
             try:
-                siblings = self.get(key).siblings
-            except Unreachable:
-                raise unknown from None
+                siblings = Client([server], self.token, self.timeout).get(key).siblings
+            except (Unreachable, Refused):
+                continue
             for one in siblings:
                 if compact(one.document) == text and not _holds(context, one.dot):
-                    return Written(key, one.dot, _with_dot(context, one.dot))
-            raise
+                    return one.dot
+        return None
 
     def _put(self, key, text, context):
         if len(context) < LONG_CONTEXT:
@@ -261,53 +269,38 @@ class Client:
 
     def get_many(self, keys):
         """The states of many keys, in their order, a thousand in a request."""
-        for window in _windows(keys):
-            while window:
-                told = self._lines("/get", [json.dumps(key) for key in window])
+        for window in _windows(keys, str):
+            lines = [text for _, text in window]
+            while lines:
+                told = self._lines("/get", lines)
                 for one in told:
                     if "refused" in one:
                         raise Refused(one)
                     if not one.get("later"):
                         yield State.of(one)
-                window = [one["key"] for one in told if one.get("later")]
+                lines = [compact(one["key"]) for one in told if one.get("later")]
 
     def write(self, writes):
         """Many writes, {"key", "document", "seen"}, or a delete {"key", "seen"}: for each (write, its dot or None, its Refused or None)."""
-        held, lines, size = [], [], 0
-        for write in writes:
-            line = {"key": write["key"], "context": _context(write.get("seen"))}
-            if "document" in write:
-                line["document"] = write["document"]
-            text = compact(line)
-            if len(lines) == LINES or size + len(text.encode()) > BYTES:
-                yield from self._write(held, lines)
-                held, lines, size = [], [], 0
-            held.append(write)
-            lines.append(text)
-            size += len(text.encode()) + 1
-        yield from self._write(held, lines)
+        def line(write):
+            document = {"document": write["document"]} if "document" in write else {}
+            return {"key": write["key"], "context": _context(write.get("seen")), **document}
 
-    def _write(self, writes, lines):
-        for write, told in zip(writes, self._lines("/keys", lines, safe=False) if lines else []):
-            yield write, told.get("dot"), Refused(told) if "refused" in told else None
+        for window in _windows(writes, line):
+            told = self._lines("/keys", [text for _, text in window], safe=False)
+            for (write, _), one in zip(window, told):
+                yield write, one.get("dot"), Refused(one) if "refused" in one else None
 
     def push(self, states):
         """Joins states, as `get` gave them, into the server's: for each (state, its Refused or None). It may be repeated."""
-        held, lines, size = [], [], 0
-        for state in states:
+        def line(state):
             siblings = [{"dot": one.dot, "document": one.document} for one in state.siblings]
-            text = compact({"key": state.key, "context": state.context, "siblings": siblings})
-            if len(lines) == LINES or (lines and size + len(text.encode()) > BYTES):
-                yield from self._push(held, lines)
-                held, lines, size = [], [], 0
-            held.append(state)
-            lines.append(text)
-            size += len(text.encode()) + 1
-        yield from self._push(held, lines)
+            return {"key": state.key, "context": state.context, "siblings": siblings}
 
-    def _push(self, states, lines):
-        for state, told in zip(states, self._lines("/push", lines) if lines else []):
-            yield state, Refused(told) if "refused" in told else None
+        for window in _windows(states, line):
+            told = self._lines("/push", [text for _, text in window])
+            for (state, _), one in zip(window, told):
+                yield state, Refused(one) if "refused" in one else None
 
     # ---- lists, page by page
 
@@ -331,13 +324,16 @@ class Client:
 
     def _places(self, name, documents, **given):
         for page in self._pages("places", "index", name, documents=documents, **given):
-            missing = {place["key"] for place in page if documents and "document" not in place}
-            told = {(state.key, one.dot): one.document for state in self.get_many(missing) for one in state.siblings}
-            for place in page:
-                document = place.get("document", told.get((place["key"], place["dot"])))
-                # A sibling that was replaced meanwhile has no place any more.
-                if document is not None or not documents:
-                    yield {**place, "document": document} if documents else place
+            yield from self._with_documents(page) if documents else page
+
+    def _with_documents(self, places):
+        """Places with their documents, but for those whose sibling was replaced meanwhile."""
+        missing = {place["key"] for place in places if "document" not in place}
+        told = {(state.key, one.dot): one.document for state in self.get_many(missing) for one in state.siblings}
+        for place in places:
+            document = place.get("document", told.get((place["key"], place["dot"])))
+            if document is not None:
+                yield {**place, "document": document}
 
     def keys(self, prefix=None, live=False, documents=False, limit=None):
         """The keys held, rising: (key, number of siblings), or with `documents` their States."""
@@ -387,12 +383,16 @@ class Client:
                 yield Change(since, told["resync"], keys, [given[key] for key in keys] if states else [])
 
 
-def _windows(items):
-    window = []
-    for item in items:
-        window.append(item)
-        if len(window) == LINES:
+def _windows(things, line):
+    """Things with their lines, in lists that one request takes: by number and by bytes, but for a single line."""
+    window, size = [], 0
+    for thing in things:
+        text = compact(line(thing))
+        length = len(text.encode()) + 1
+        if len(window) == LINES or (window and size + length > BYTES):
             yield window
-            window = []
+            window, size = [], 0
+        window.append((thing, text))
+        size += length
     if window:
         yield window

@@ -52,8 +52,8 @@ const LINES: [(&[u8], &str); 4] = [
         "dot 7:1\na 7:1\n\"Oslo\" a 7:1\n1 2 2 2\n\"Oslo\" 1 2 2 2\nnone\n0000000000000000000000000000000000000000000000000000000000000000\n",
     ),
     (
-        b"put a - []\nput a 1:0 {}\nfind n 1\nrow w 1\nfind .. 1\nnode x\nput a - {}\nput b - {}\nput c - {}\n",
-        "refused 4 NotObject\nrefused 2 BadContext\nrefused 12 NoIndex\n\
+        b"put a - []\nput a - {\"b\":[{\"c\":1.5}],\"d\":-0}\nput a 1:0 {}\nfind n 1\nrow w 1\nfind .. 1\nnode x\nput a - {}\nput b - {}\nput c - {}\n",
+        "refused 4 NotObject at \"\"\nrefused 5 BadNumber at \"/b/0/c\"\nrefused 2 BadContext\nrefused 12 NoIndex\n\
         refused 13 NoView\nrefused 37 BadDefs\nrefused 14 BadPath\ndot 7:1\ndot 7:1\nrefused 10 Full\n",
     ),
     (

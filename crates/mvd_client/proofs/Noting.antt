@@ -1,7 +1,7 @@
 -- What is noted of a request that was asked over a line.
 use Rattle.std.proofs.Common.{◌≡◌, ◌≢◌, ◌⊎◌, ◌∙◌, ◌+◌, ◌-◌, ◌^◌, ◌==◌, ◌&&◌, ◌||◌, Bool, Err, None, Ok, Result, ap, false, inl, inr, min, not, refl, subst, sym, true}
 use Rattle.std.specs.Prelude.{if◌then◌else◌, is_ok, ℕ}
-use Rattle.mvd_client.specs.AskedServer.{RepliesNoted, breaks_at, down_after, ended_after, ended_by, has_frame, lost_after, may_be_sent, may_change}
+use Rattle.mvd_client.specs.AskedServer.{RepliesNoted, breaks_at, down_after, ended_after, ended_by, has_frame, lost_after, may_be_sent, may_change, passed_on}
 use Rattle.mvd_client.specs.AskedServer.RepliesNoted.{asks}
 use Rattle.mvd_client.specs.declared.asked_server.AskedServer.{AskedServer}
 use Rattle.mvd_dots.specs.Refusal.{number_of}
@@ -69,10 +69,12 @@ kept_truly config states request refusal none =
     ]
 
 module _ {L : Type 0} (line : Ghosts L) (old new : AskedServer L) (request : Request) where
-  pub replied : (told : Result Reply Refusal) (reply : Reply) → told ≡ Ok reply → Asks (link_of line old.remote) (link_of line new.remote) request told
-      → AsksTruly line (any_query request) old.remote new.remote told → new.is_down ≡ old.is_down → new.lost ≡ old.lost → old.ended ≡ None → new.ended ≡ ended_by reply
+  pub replied : (told : Result Reply Refusal) (came reply : Reply) → told ≡ Ok came → reply ≡ passed_on request came → Asks (link_of line old.remote) (link_of line new.remote) request told
+      → AsksTruly line (any_query request) old.remote new.remote told → new.is_down ≡ old.is_down → new.lost ≡ old.lost → old.ended ≡ None → new.ended ≡ ended_by came
       → RepliesNoted line old new request reply
-  replied told reply is asked truth down lost goes ended = asks goes (record {
+  replied told came reply is passed asked truth down lost goes ended = asks goes (record {
+    came = came;
+    passed = passed;
     replies = record { told = told; shown = sym (ap shown_reply is); asked = asked; truth = truth };
     down = down ∙ sym (ap (down_after old.is_down request) is);
     lost = lost ∙ sym (ap (lost_after old.is_down old.lost request) is);
@@ -85,6 +87,8 @@ module _ {L : Type 0} (line : Ghosts L) (old new : AskedServer L) (request : Req
       → new.lost ≡ LostIf (is_write && (not old.is_down && may_be_sent true refusal)) old.lost → old.ended ≡ None → new.ended ≡ old.ended
       → RepliesNoted line old new request (Refused refusal)
   refused told mid refusal is_write same is write framed asked truth down lost goes ended = asks goes (record {
+    came = Refused refusal;
+    passed = refl;
     replies = record {
       told = told;
       shown = sym (ap shown_reply is);
@@ -102,6 +106,8 @@ module _ {L : Type 0} (line : Ghosts L) (old new : AskedServer L) (request : Req
       → new.lost ≡ LostIf (is_write && (not old.is_down && may_be_sent false refusal)) old.lost → old.ended ≡ None → new.ended ≡ old.ended
       → RepliesNoted line old new request (Refused refusal)
   unframed refusal is_write same write none down lost goes ended = asks goes (record {
+    came = Refused refusal;
+    passed = refl;
     replies = record {
       told = Err refusal;
       shown = refl;

@@ -4,8 +4,10 @@ use Rattle.std.specs.Prelude.{not, is_ok, Option, Some, None, Result, Ok, Err}
 use Rattle.mvd_client.specs.declared.asked_server.AskedServer.{AskedServer}
 use Rattle.mvd_dots.specs.Refusal.{number_of}
 use Rattle.mvd_dots.specs.declared.refusals.Refusal.{Refusal}
+use Rattle.mvd_dots.specs.declared.refusals.Refusal.TheVariants.{BadBody}
 use Rattle.mvd_remote.specs.Remotes.{RepliesFar}
 use Rattle.mvd_remote.specs.declared.line.Line.{Ghosts}
+use Rattle.mvd_shell.specs.Fits.{fits}
 use Rattle.mvd_wire.specs.declared.reply.Reply.{Reply}
 use Rattle.mvd_wire.specs.declared.reply.Reply.TheVariants.{Refused}
 use Rattle.mvd_wire.specs.declared.request.Request.{Request}
@@ -61,13 +63,20 @@ abbrev pub ended_after : Result Reply Refusal → Option Refusal
 ended_after (Ok reply) = ended_by reply
 ended_after (Err refusal) = None
 
+-- a page that is none of those that were asked for is refused in its place
+abbrev pub passed_on : Request → Reply → Reply
+passed_on request came = if fits request came then came else Refused BadBody
+
 -- A request is asked over a line, and replied to, or refused in place of a reply. One more write is lost just where no
 -- reply came to one that may have gone out: the link was not known to be broken, and refuses with 20, or with 30 to 36
 -- a request that has a frame. So 31 is of a write that was answered by no frame, and not of one that is too long to be
 -- sent. What the server itself refuses is not lost.
 pub record AsksNoted {L : Type 0} (line : Ghosts L) (old new : AskedServer L) (request : Request)
     (reply : Reply) : Type 0 where
-  pub replies : RepliesFar line old.remote new.remote request reply
+  -- what came, or the refusal
+  pub came : Reply
+  pub replies : RepliesFar line old.remote new.remote request came
+  pub passed : reply ≡ passed_on request came
   pub down : new.is_down ≡ down_after old.is_down request replies.told
   pub lost : new.lost ≡ lost_after old.is_down old.lost request replies.told
   pub ended : new.ended ≡ ended_after replies.told

@@ -1,7 +1,7 @@
 //! A server as a shell asks it.
 ghost use Rattle.std.specs.Prelude.{◌≡◌, ◌≢◌, ◌+◌, ◌-◌, ◌^◌, ◌||◌, ◌&&◌, Err, IfErr, OnOk, true, false, if◌then◌else◌, min, not, None};
 ghost use Rattle.mvd_client.specs.AskedServer.{RepliesNoted, breaks_at, breaks_link, ended_by, has_frame, lost_of};
-ghost use Rattle.mvd_client.specs.AskedServer.{may_be_sent, may_change};
+ghost use Rattle.mvd_client.specs.AskedServer.{may_be_sent, may_change, passed_on};
 ghost use Rattle.mvd_client.specs.Talked.{SaysBye};
 ghost use Rattle.mvd_dots.specs.declared.refusals.Refusal.TheVariants.{Memory};
 ghost use Rattle.mvd_remote.specs.Lines.{line_of, refused_of};
@@ -11,7 +11,7 @@ use mvd_dots::Refusal;
 use mvd_frames::encode_request;
 use mvd_peer::{Endpoint, Peer};
 use mvd_remote::{Line, Remote};
-use mvd_shell::Losses;
+use mvd_shell::{Losses, fits};
 use mvd_wire::{Reply, Request};
 use std::alloc::Global;
 
@@ -114,18 +114,31 @@ impl<L: Line> Endpoint for AskedServer<L> {
             }
         }
         let told = self.remote.ask(&request);
-        drop(request);
         match told {
             Ok(reply) => {
                 self.ended = ended_by(&reply);
-                reply
+                let passed = passed_on(&request, reply);
+                drop(request);
+                passed
             }
             Err(refusal) => {
+                drop(request);
                 self.note(is_write, true, refusal);
                 Reply::Refused(refusal)
             }
         }
     }
+}
+
+/// What is made of a reply: a page that is none of those asked for is 33.
+fn passed_on(request: &Request, reply: Reply) -> Reply
+    ensures { result ≡ passed_on request.now reply }
+{
+    if fits(request, &reply) {
+        return reply;
+    }
+    drop(reply);
+    Reply::Refused(Refusal::BadBody)
 }
 
 /// Whether a request may change what a site holds.

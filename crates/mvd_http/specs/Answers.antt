@@ -14,7 +14,7 @@ use Rattle.mvd_wire.specs.declared.reply.Reply.{Reply}
 use Rattle.mvd_wire.specs.declared.reply.Reply.TheVariants as reply
 use Rattle.mvd_wire.specs.declared.request.Request.{Request}
 use Rattle.mvd_wire.specs.declared.request.Request.TheVariants.{Get, Put, Row}
-use Rattle.mvd_http.specs.Json.{state_json, written_json, places_json, rows_text, keys_json, counts_text, live_text, row_json, node_text, refused_json}
+use Rattle.mvd_http.specs.Json.{state_json, written_json, places_json, rows_text, keys_json, counts_text, live_text, row_json, node_text, misread_json, refused_json}
 
 -- a status and a body
 pub record Told : Type 0 where
@@ -52,6 +52,10 @@ refused_status _ = 500
 
 abbrev pub refused_told : Refusal → Told
 refused_told refusal = record { status = refused_status refusal; body = refused_json refusal }
+
+-- a document's refusal, with the place of what is wrong
+abbrev pub misread_told : Refusal → List ℕ → Told
+misread_told refusal place = record { status = refused_status refusal; body = misread_json refusal place }
 
 -- ---- replies
 

@@ -22,11 +22,12 @@ use Rattle.mvd_keys.specs.Key.{key_of_text}
 use Rattle.mvd_keys.specs.Path.{path_of}
 use Rattle.mvd_keys.specs.Writes.{Key}
 use Rattle.mvd_keys.specs.declared.places.Place.{Place}
+use Rattle.mvd_print.specs.Place.{fault_json}
 use Rattle.mvd_wire.specs.Prefix.{prefix_of_text}
 use Rattle.mvd_wire.specs.declared.request.Request.{Request}
 use Rattle.mvd_wire.specs.declared.request.Request.TheVariants.{Get, Put, Delete, Row, Rows, Node, Bucket, Range, Keys, Conflicts}
 use Rattle.mvd_http.specs.declared.question.Question.{Question}
-use Rattle.mvd_http.specs.declared.question.Question.TheVariants.{Page, Root, Metrics, Health, Ask, Live, Changes, Nowhere, NotAllowed}
+use Rattle.mvd_http.specs.declared.question.Question.TheVariants.{Page, Root, Metrics, Health, Ask, Live, Changes, Misread, Nowhere, NotAllowed}
 use Rattle.mvd_http.specs.declared.question.Methods.TheVariants.{OfKey, OfKeys, OfList}
 use Rattle.mvd_http.specs.declared.question.Verb.{Verb}
 use Rattle.mvd_http.specs.declared.question.Verb.TheVariants as verb
@@ -214,9 +215,13 @@ list_asked path query =
 
 -- ---- keys
 
+-- a document that is refused is told with the place of what is wrong
+abbrev pub put_or_place : List ℕ → Key → DotSet → Result (List ℕ) Refusal → Result Question Refusal
+put_or_place body key seen (Ok document) = Ok (Ask (Put key seen document))
+put_or_place body key seen (Err refusal) = Ok (Misread refusal (fault_json refusal body))
+
 abbrev pub put_question : List ℕ → Key → DotSet → Result Question Refusal
-put_question body key seen =
-    then_read (read_text document_of BadDocument body) (λ document. Ok (Ask (Put key seen document)))
+put_question body key seen = put_or_place body key seen (read_text document_of BadDocument body)
 
 abbrev pub delete_question : Key → DotSet → Result Question Refusal
 delete_question key seen = Ok (Ask (Delete key seen))

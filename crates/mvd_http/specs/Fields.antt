@@ -10,7 +10,7 @@ use Rattle.mvd_http.specs.declared.question.Methods.TheVariants.{OfKey, OfKeys, 
 -- what a page of the server may load and run: its own script and style, by their digests, and requests to the server
 abbrev pub policy : List ℕ
 policy =
-    codes "default-src 'none'; script-src 'sha256-ppR1IyiDYd2+3Rzf1K4xI7VGB2cvvWWUQYLJvr+KGTk='; style-src 'sha256-GfXVPu/24CyMDZkrHnm/405USX81HQtD5DIfoaMqPsA='; connect-src 'self'; img-src data:; base-uri 'none'; form-action 'none'; frame-ancestors 'none'; require-trusted-types-for 'script'; trusted-types 'none'"
+    codes "default-src 'none'; script-src 'sha256-+G2rsmeBtfcNlT+2Yv/tJfS67U9qMTspi6ul3VNdDWI='; style-src 'sha256-GfXVPu/24CyMDZkrHnm/405USX81HQtD5DIfoaMqPsA='; connect-src 'self'; img-src data:; base-uri 'none'; form-action 'none'; frame-ancestors 'none'; require-trusted-types-for 'script'; trusted-types 'none'"
 
 -- those of each response
 abbrev pub common : List (List ℕ × List ℕ)

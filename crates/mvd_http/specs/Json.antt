@@ -184,6 +184,13 @@ abbrev pub refused_json : Refusal → List ℕ
 refused_json refusal =
     codes "{\"refused\":" ++ (decimal (number_of refusal) ++ (codes ",\"name\":\"" ++ (name_of refusal ++ codes "\"}")))
 
+-- the same of a document, with the place of what is wrong, a JSON text
+abbrev pub misread_json : Refusal → List ℕ → List ℕ
+misread_json refusal place =
+    codes "{\"refused\":"
+    ++ (decimal (number_of refusal)
+    ++ (codes ",\"name\":\"" ++ (name_of refusal ++ (codes "\",\"at\":" ++ (place ++ codes "}")))))
+
 -- ---- the lines that many writes are told in, each with its line feed (10)
 
 abbrev pub written_line : DotValue → List ℕ

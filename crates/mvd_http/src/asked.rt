@@ -4,19 +4,24 @@ ghost use Rattle.std.specs.FinSet as set;
 ghost use Rattle.std.specs.Str.{bytes_eq, is_utf8};
 ghost use Rattle.mvd_dots.specs.Answer.{IsAnswer};
 ghost use Rattle.mvd_dots.specs.declared.refusals.Refusal.TheVariants.{BadContext};
-ghost use Rattle.mvd_http.specs.declared.question.Question.TheVariants.{Ask};
+ghost use Rattle.mvd_docs.specs.Document.{document_of};
+ghost use Rattle.mvd_print.specs.Place.{fault_json};
+ghost use Rattle.mvd_http.specs.declared.question.Question.TheVariants.{Ask, Misread};
 ghost use Rattle.mvd_wire.specs.declared.request.Request.TheVariants.{Get};
 ghost use Rattle.mvd_http.specs.Asked.{key_in as key_read, IsQuestionOf, IsQuestionOfKey, IsOfKeys, IsOfServer, IsQuestion};
-ghost use Rattle.mvd_http.specs.Asked.{delete_question as deletes, put_question as puts, read_only as only_read, verb_of as verb_read};
+ghost use Rattle.mvd_http.specs.Asked.{delete_question as deletes, put_or_place, put_question as puts};
+ghost use Rattle.mvd_http.specs.Asked.{read_only as only_read, verb_of as verb_read};
 ghost use Rattle.mvd_http.specs.Seen.{IsContext, IsSeen, IsWrite, then_read};
 
 use crate::lists_asked::{keys_of, list_of};
 use crate::posted::many_of;
 use crate::question::{Methods, Question, Verb};
 use crate::target::{before, behind, without};
-use crate::target_parts::{document_in, key_in};
+use crate::target_parts::key_in;
+use mvd_docs::Document;
 use mvd_dots::{Context, Refusal};
 use mvd_keys::Key;
+use mvd_print::FaultPlace;
 use mvd_wire::Request;
 use std::alloc::Global;
 
@@ -99,11 +104,32 @@ fn put_in(
     }
 }
 
+#[tactic(auto, using(crate::proofs::Texts::is_text, crate::proofs::Texts::is_no_text), unfolding(crate::specs::Paths::read_text))]
 fn put_of(alloc: Global, key: Key, seen: Context, body: &[u8]) -> Result<Question, Refusal>
     ensures { IsAnswer result (puts body.now key seen) }
 {
-    let document = document_in(alloc, body)?;
-    Ok(Question::Ask(Request::Put(key, seen, document)))
+    match str::from_utf8(body) {
+        Ok(text) => put_text(alloc, key, seen, text),
+        Err(_) => misread(alloc, Refusal::BadDocument, ""),
+    }
+}
+
+fn put_text(alloc: Global, key: Key, seen: Context, text: &str) -> Result<Question, Refusal>
+    ensures { IsAnswer result (put_or_place text.now key seen (document_of text.now)) }
+{
+    match Document::read(alloc, text) {
+        Ok(document) => Ok(Question::Ask(Request::Put(key, seen, document))),
+        Err(Refusal::Memory) => Err(Refusal::Memory),
+        Err(refusal) => misread(alloc, refusal, text),
+    }
+}
+
+/// The question of a document that is refused so.
+fn misread(alloc: Global, refusal: Refusal, text: &str) -> Result<Question, Refusal>
+    ensures { IsAnswer result (Ok (Misread refusal (fault_json refusal text.now))) }
+{
+    let place = FaultPlace::find(alloc, refusal, text)?;
+    Ok(Question::Misread(refusal, place))
 }
 
 fn delete_in(alloc: Global, key: &[u8], context: Option<&[u8]>) -> Result<Question, Refusal>

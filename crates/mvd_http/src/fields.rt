@@ -36,7 +36,7 @@ pub struct Answer {
 }
 
 const POLICY: &str =
-    "default-src 'none'; script-src 'sha256-ppR1IyiDYd2+3Rzf1K4xI7VGB2cvvWWUQYLJvr+KGTk='; style-src 'sha256-GfXVPu/24CyMDZkrHnm/405USX81HQtD5DIfoaMqPsA='; connect-src 'self'; img-src data:; base-uri 'none'; form-action 'none'; frame-ancestors 'none'; require-trusted-types-for 'script'; trusted-types 'none'";
+    "default-src 'none'; script-src 'sha256-+G2rsmeBtfcNlT+2Yv/tJfS67U9qMTspi6ul3VNdDWI='; style-src 'sha256-GfXVPu/24CyMDZkrHnm/405USX81HQtD5DIfoaMqPsA='; connect-src 'self'; img-src data:; base-uri 'none'; form-action 'none'; frame-ancestors 'none'; require-trusted-types-for 'script'; trusted-types 'none'";
 
 /// Fills a response.
 pub fn fill(response: &mut Response, answer: Answer, body: &str) -> Result<(), AllocError>

@@ -34,6 +34,6 @@ pub use not_waited::push_not_waited;
 pub use open_to_all::is_open_to_all;
 pub use page::PAGE;
 pub use question::{Methods, Question, Verb};
-pub use responses::{refused_response, refused_status, response_of};
+pub use responses::{misread_response, refused_response, refused_status, response_of};
 pub use server_told::{push_changes, push_root};
 pub use writing::is_write;

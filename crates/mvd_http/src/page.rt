@@ -5,7 +5,7 @@ pub const PAGE: &str = r##"<!DOCTYPE html>
 <!--
 The page of mvd: keys and their siblings, lists, and writes, over the HTTP interface of one site.
 It is built into the program and loads nothing from elsewhere. The server must send it with this policy:
-Content-Security-Policy: default-src 'none'; script-src 'sha256-ppR1IyiDYd2+3Rzf1K4xI7VGB2cvvWWUQYLJvr+KGTk='; style-src 'sha256-GfXVPu/24CyMDZkrHnm/405USX81HQtD5DIfoaMqPsA='; connect-src 'self'; img-src data:; base-uri 'none'; form-action 'none'; frame-ancestors 'none'; require-trusted-types-for 'script'; trusted-types 'none'
+Content-Security-Policy: default-src 'none'; script-src 'sha256-+G2rsmeBtfcNlT+2Yv/tJfS67U9qMTspi6ul3VNdDWI='; style-src 'sha256-GfXVPu/24CyMDZkrHnm/405USX81HQtD5DIfoaMqPsA='; connect-src 'self'; img-src data:; base-uri 'none'; form-action 'none'; frame-ancestors 'none'; require-trusted-types-for 'script'; trusted-types 'none'
 tools/page.py stamp   writes the policy of this file's style and script into this comment.
 tools/page.py test    drives the page in a browser, under this policy.
 -->
@@ -595,6 +595,9 @@ function tell(place, words, tone = '') {
 function amount(number, one, many = `${one}s`) { return `${Number(number).toLocaleString('en')} ${number === 1 ? one : many}`; }
 function listed(dots) { return dots.length < 2 ? dots.join() : `${dots.slice(0, -1).join(', ')} and ${dots.at(-1)}`; }
 
+// The most siblings that stand side by side.
+const SHOWN_MOST = 200;
+
 // The key that is shown.
 
 let shown = null;
@@ -626,7 +629,7 @@ function show(state, { mine, seen } = {}) {
   shown = { ...state, base: 0, mine, seen };
   $('elsewhere').hidden = true;
   $('state').hidden = false;
-  $('state-title').textContent = `${state.key}: ${state.siblings.length === 0 ? 'no sibling' : amount(state.siblings.length, 'sibling')}`;
+  $('state-title').textContent = `${state.key}: ${describeCount(state.siblings.length)}`;
   $('context').textContent = state.context;
   $('only').checked = false;
   showSiblings();
@@ -634,8 +637,14 @@ function show(state, { mine, seen } = {}) {
   $('delete').disabled = state.siblings.length === 0;
 }
 
+function describeCount(count) {
+  if (count === 0) return 'no sibling';
+  return count > SHOWN_MOST ? `${amount(count, 'sibling')}, of which the first ${SHOWN_MOST} are shown` : amount(count, 'sibling');
+}
+
 function showSiblings() {
-  const { siblings, base } = shown;
+  const { base } = shown;
+  const siblings = shown.siblings.slice(0, SHOWN_MOST);
   const fields = [...fieldsOf(siblings.map((one) => one.document))];
   const different = fields.filter(differs);
   $('only-label').hidden = siblings.length < 2;

@@ -1,5 +1,6 @@
 //! What a request asks.
 use mvd_dots::Refusal;
+use mvd_print::FaultPlace;
 use mvd_wire::{Items, Request};
 
 /// What is asked of the server.
@@ -23,6 +24,8 @@ pub enum Question {
     Many(Items<Result<Request, Refusal>>),
     /// A list of writes with too many lines.
     TooManyLines,
+    /// A write whose document is refused, and where that is wrong.
+    Misread(Refusal, FaultPlace),
     /// There is nothing of that name.
     Nowhere,
     /// There is, and it is asked by these methods alone.

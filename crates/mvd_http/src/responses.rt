@@ -4,7 +4,7 @@ ghost use Rattle.std.specs.List.{flat_map};
 ghost use Rattle.mvd_dots.specs.Text.{text_of};
 ghost use Rattle.mvd_dots.specs.declared.refusals.Refusal.TheVariants.{Memory};
 ghost use Rattle.mvd_http.specs.Answers.{IsToldAs, AppendsBody, Responds, found_status as status_found, is_stored as stored};
-ghost use Rattle.mvd_http.specs.Answers.{key_asked as asked_key, ok_told, refused_status as status_of, refused_told};
+ghost use Rattle.mvd_http.specs.Answers.{key_asked as asked_key, misread_told, ok_told, refused_status as status_of, refused_told};
 ghost use Rattle.mvd_http.specs.Answers.{reply_told, row_response, seen_then as then_seen, state_told, term_asked as asked_term};
 ghost use Rattle.mvd_http.specs.Room.{FillsRoom};
 ghost use Rattle.mvd_wire.specs.declared.reply.Reply.TheVariants.{Done};
@@ -19,6 +19,7 @@ use crate::json_words::{push_digest, push_dot, push_number, push_quoted, push_wo
 use mvd_docs::Term;
 use mvd_dots::{Context, Dot, Refusal};
 use mvd_keys::{Key, KeyState, Place};
+use mvd_print::FaultPlace;
 use mvd_wire::{Digests, Reply, Request, RowValue};
 use std::alloc::{AllocError, Global};
 
@@ -63,6 +64,25 @@ pub fn refused_response(out: &mut String, refusal: Refusal) -> Result<u16, Alloc
 {
     out.clear();
     push_refused(out, refusal)?;
+    Ok(refused_status(refusal))
+}
+
+/// The same of a document's refusal, with the place of what is wrong.
+pub fn misread_response(
+    out: &mut String,
+    refusal: Refusal,
+    place: &FaultPlace,
+) -> Result<u16, AllocError>
+    ensures { IfOk result (λ status. IsToldAs (misread_told refusal place.now) status (string_bytes out.new)) }
+{
+    out.clear();
+    push_word(out, "{\"refused\":")?;
+    push_number(out, u64::from(refusal.number()))?;
+    push_word(out, ",\"name\":\"")?;
+    push_word(out, refusal.name())?;
+    push_word(out, "\",\"at\":")?;
+    push_word(out, place.text())?;
+    push_word(out, "}")?;
     Ok(refused_status(refusal))
 }
 

@@ -2,9 +2,8 @@
 ghost use Rattle.std.specs.Prelude.{◌≡◌, map, IfOk, IsOkUnless};
 ghost use Rattle.percent_encoding.specs.Percent.{percent_decode};
 ghost use Rattle.mvd_dots.specs.Answer.{IsAnswer};
-ghost use Rattle.mvd_dots.specs.declared.refusals.Refusal.TheVariants.{BadBody, BadDocument, BadKey, BadTerm, Memory};
+ghost use Rattle.mvd_dots.specs.declared.refusals.Refusal.TheVariants.{BadBody, BadKey, BadTerm, Memory};
 ghost use Rattle.mvd_dots.specs.declared.refusals.Refusal.TheVariants.{NoIndex, NoView};
-ghost use Rattle.mvd_docs.specs.Document.{document_of};
 ghost use Rattle.mvd_docs.specs.Name.{field_of, view_name_of};
 ghost use Rattle.mvd_docs.specs.Term.{term_of_json};
 ghost use Rattle.mvd_keys.specs.Key.{key_of_text};
@@ -15,7 +14,7 @@ ghost use Rattle.mvd_http.specs.Asked.{digit_in, else_refused, field_named_in as
 ghost use Rattle.mvd_http.specs.Asked.{path_asked as path_read, prefix_in as prefix_read, term_in as term_read};
 ghost use Rattle.mvd_http.specs.Asked.{view_named_in as view_read};
 
-use mvd_docs::{Document, Field, Term, ViewName};
+use mvd_docs::{Field, Term, ViewName};
 use mvd_dots::Refusal;
 use mvd_keys::{Key, Path};
 use mvd_wire::Prefix;
@@ -49,16 +48,6 @@ pub fn term_of(alloc: Global, bytes: &[u8]) -> Result<Term, Refusal>
     match str::from_utf8(bytes) {
         Ok(text) => Term::read(alloc, text),
         Err(_) => Err(Refusal::BadTerm),
-    }
-}
-
-#[tactic(auto, using(crate::proofs::Texts::is_text, crate::proofs::Texts::is_no_text), unfolding(crate::specs::Paths::read_text))]
-pub fn document_in(alloc: Global, bytes: &[u8]) -> Result<Document, Refusal>
-    ensures { IsAnswer result (read_text document_of BadDocument bytes.now) }
-{
-    match str::from_utf8(bytes) {
-        Ok(text) => Document::read(alloc, text),
-        Err(_) => Err(Refusal::BadDocument),
     }
 }
 

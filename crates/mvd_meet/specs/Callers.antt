@@ -35,6 +35,15 @@ came_at caller = came_of caller.remote
 abbrev pub asked_of_caller : Caller → Option Asked
 asked_of_caller caller = caller.asked
 
+abbrev is_sort_of_pushes : Sort → Bool
+is_sort_of_pushes sort.Pushes = true
+is_sort_of_pushes other = false
+
+-- what it was asked may change it: pushes, or what Done answers likewise
+abbrev pub asks_pushes : Option Asked → Bool
+asks_pushes None = false
+asks_pushes (Some asked) = is_sort_of_pushes asked.sort
+
 -- nothing more comes of it
 abbrev pub has_ended : Caller → Bool
 has_ended caller = caller.ended

@@ -1,3 +1,4 @@
 pub mod Callers
+pub mod Loans
 pub mod Meetings
 pub mod Times

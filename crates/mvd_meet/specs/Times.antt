@@ -3,6 +3,8 @@ use Rattle.std.specs.Prelude.{ℕ, ◌+◌, ◌*◌, ◌-◌, ◌^◌, ◌==◌,
 use Rattle.mvd_meet.specs.declared.pace.Met.{Met}
 use Rattle.mvd_meet.specs.declared.pace.Met.TheVariants.{Well, Stuck, Failed}
 use Rattle.mvd_meet.specs.declared.pace.Pace.{Pace}
+use Rattle.mvd_meet.specs.declared.schedule.Author.{Author}
+use Rattle.mvd_meet.specs.declared.schedule.Author.TheVariants.{Others, Session}
 use Rattle.mvd_meet.specs.declared.schedule.Schedule.{Schedule}
 use Rattle.mvd_sync.specs.declared.report.Report.{Report}
 
@@ -27,10 +29,15 @@ pause_by Failed last pause every = 1
 abbrev pub pause_after : Met → Pace → ℕ → ℕ
 pause_after ended pace every = pause_by ended pace.last pace.pause every
 
--- five milliseconds after a change; it stays where there was one before
-abbrev pub news_at : Option ℕ → ℕ → Option ℕ
-news_at (Some news) now = Some news
-news_at None now = Some (min (now + 5) (2 ^ 64 - 1))
+-- five milliseconds after a change; after one that a session with the peer itself made, a second
+abbrev pub settle_of : Author → ℕ
+settle_of Others = 5
+settle_of Session = 1000
+
+-- the first of several counts
+abbrev pub news_at : Author → Option ℕ → ℕ → Option ℕ
+news_at author (Some news) now = Some (min news (min (now + settle_of author) (2 ^ 64 - 1)))
+news_at author None now = Some (min (now + settle_of author) (2 ^ 64 - 1))
 
 -- after a fault a change does not count
 abbrev pub with_news : Met → Option ℕ → ℕ → ℕ

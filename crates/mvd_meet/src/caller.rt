@@ -3,7 +3,7 @@ ghost use Rattle.std.specs.Prelude.{◌≡◌, ◌≢◌, ◌≤◌, ◌++◌, [
 ghost use Rattle.std.specs.Prelude.{true};
 ghost use Rattle.mvd_dots.specs.declared.refusals.Refusal.TheVariants.{BadBody, Memory};
 ghost use Rattle.mvd_meet.specs.Callers.{CallerAsks, CallerHears, CallerSays, CallerTells, EndsTurns, LeavesTurn, SendsTo};
-ghost use Rattle.mvd_meet.specs.Callers.{TellsBy, asked_in_window, asked_of_caller, came_at, has_all, has_ended, has_turns};
+ghost use Rattle.mvd_meet.specs.Callers.{TellsBy, asked_in_window, asked_of_caller, asks_pushes, came_at, has_all, has_ended, has_turns};
 ghost use Rattle.mvd_meet.specs.Callers.{leaving_at, link_by, only_of, questions_at};
 ghost use Rattle.mvd_wire.specs.declared.request.Request.TheVariants.{Bye, Hello};
 
@@ -112,6 +112,16 @@ impl Caller {
         ensures { result ≡ questions_at self.now }
     {
         self.questions
+    }
+
+    /// Whether pushes are asked, which may change it.
+    pub fn is_pushed(&self) -> bool
+        ensures { result ≡ asks_pushes (asked_of_caller self.now) }
+    {
+        match &self.asked {
+            Some(asked) => matches!(asked.sort, Sort::Pushes),
+            None => false,
+        }
     }
 
     /// Whether all came that is due, or nothing more comes.

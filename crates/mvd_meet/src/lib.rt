@@ -2,11 +2,13 @@
 #![tactic(auto)]
 
 pub mod caller;
+pub mod loan;
 pub mod pace;
 pub mod schedule;
 pub mod stepping;
 
 pub use caller::Caller;
+pub use loan::Loan;
 pub use pace::{Met, Pace, are_same, is_among};
-pub use schedule::Schedule;
+pub use schedule::{Author, Schedule};
 pub use stepping::{Course, Meeting};

@@ -4,8 +4,17 @@ ghost use Rattle.mvd_meet.specs.Times.{due_of, news_at, pause_after};
 
 use crate::pace::{Met, Pace};
 
-/// The milliseconds after a change at which a peer is met.
+/// The milliseconds after a change at which a peer is met, and those after one that a session with that peer made.
 const SETTLE: u64 = 5;
+
+const SETTLE_OWN: u64 = 1_000;
+
+/// Who made a change: others than the session with this peer, or perhaps that session alone.
+#[derive(Clone, Copy)]
+pub enum Author {
+    Others,
+    Session,
+}
 
 /// When a peer is met: at once at first, then so many seconds after a session, and soon after a change.
 #[derive(Clone, Copy)]
@@ -44,12 +53,18 @@ impl Schedule {
     }
 
     /// Something changed at this time.
-    pub fn note(&mut self, now: u64)
-        ensures { self.new ≡ record self.old { news = news_at self.old.news now } }
+    pub fn note(&mut self, author: Author, now: u64)
+        ensures { self.new ≡ record self.old { news = news_at author self.old.news now } }
     {
-        if self.news.is_none() {
-            self.news = Some(now.saturating_add(SETTLE));
-        }
+        let settle = match author {
+            Author::Others => SETTLE,
+            Author::Session => SETTLE_OWN,
+        };
+        let due = now.saturating_add(settle);
+        self.news = match self.news {
+            Some(news) => Some(news.min(due)),
+            None => Some(due),
+        };
     }
 
     /// A session begins. It takes what changed before.

@@ -58,6 +58,10 @@ two_words refusal = decimal (number_of refusal) ++ (32 ∷ name_of refusal)
 abbrev pub refused_text : Refusal → List ℕ
 refused_text refusal = line (codes "refused" ∷ decimal (number_of refusal) ∷ name_of refusal ∷ [])
 
+-- the same, and where the document is wrong, as a JSON text
+abbrev pub refused_at_text : Refusal → List ℕ → List ℕ
+refused_at_text refusal place = codes "refused " ++ (two_words refusal ++ (codes " at " ++ (place ++ codes "\n")))
+
 -- the number of a message that was sent
 abbrev pub message_text : ℕ → List ℕ
 message_text number = line (codes "message" ∷ decimal number ∷ [])

@@ -2,8 +2,9 @@
 ghost use Rattle.std.specs.Prelude.{◌≡◌, ◌++◌, OnOk, string_bytes};
 ghost use Rattle.mvd_print.specs.Added.{Extends};
 ghost use Rattle.mvd_print.specs.Text.{done_text, keys_text, left_text, message_text, more_left_text, none_such_text};
-ghost use Rattle.mvd_print.specs.Text.{refused_text, two_words, written_text};
+ghost use Rattle.mvd_print.specs.Text.{refused_at_text, refused_text, two_words, written_text};
 
+use crate::fault_place::FaultPlace;
 use crate::words::{push_dot, push_number, push_word};
 use mvd_dots::{Dot, Refusal};
 use std::alloc::AllocError;
@@ -33,6 +34,23 @@ pub fn print_refusal(refusal: Refusal, out: &mut String) -> Result<(), AllocErro
     push_word(out, "refused ")?;
     push_refusal(out, refusal)?;
     push_word(out, "\n")
+}
+
+/// The number and the name of a refusal, and where the document is wrong.
+pub fn print_refusal_at(
+    refusal: Refusal,
+    place: &FaultPlace,
+    out: &mut String,
+) -> Result<(), AllocError>
+    ensures text { OnOk result (string_bytes out.new ≡ string_bytes out.old ++ refused_at_text refusal place.now) }
+    ensures kept { Extends (string_bytes out.old) (string_bytes out.new) }
+{
+    push_word(out, "refused ")?;
+    push_refusal(out, refusal)?;
+    push_word(out, " at ")?;
+    push_word(out, place.text())?;
+    push_word(out, "\n")?;
+    Ok(())
 }
 
 /// The number of a message that was sent.

@@ -1,10 +1,10 @@
 -- The request that waits is answered.
 use Rattle.std.proofs.Common.{◌≡◌, inl, ℕ, List, Option, Some, None, Ok, subst}
 use Rattle.mvd_dots.specs.declared.refusals.Refusal.{Refusal}
-use Rattle.mvd_http.specs.Answers.{IsToldAs, refused_told}
+use Rattle.mvd_http.specs.Answers.{IsToldAs}
 use Rattle.mvd_http.specs.declared.question.Question.TheVariants.{Changes}
 use Rattle.mvd_server.specs.Errands.{AwaitsChange}
-use Rattle.mvd_server.specs.Responding.{AnswersReply, AnswersWeb, RefusesWeb, json_answer}
+use Rattle.mvd_server.specs.Responding.{AnswersReply, AnswersWeb, RefusesWeb, json_answer, refused_for}
 use Rattle.mvd_web.specs.Web.{RespondsTo, WebValue}
 use Rattle.mvd_web.specs.declared.taken.Asked.{Asked}
 use Rattle.mvd_wire.specs.declared.reply.Reply.{Reply}
@@ -29,7 +29,7 @@ pub answered_so : (reply : Reply) (old mid new : WebValue) → mid ≡ old → A
 answered_so reply old mid new same answers = subst (λ (w : WebValue). AnswersWeb w.asked reply w new) same answers
 
 -- it is told that it is refused
-pub refuses : (refusal : Refusal) (old new : WebValue) (status : ℕ) (body : List ℕ) → IsToldAs (refused_told refusal) status body → RespondsTo old.asked old (json_answer status body) body new → RefusesWeb refusal old new
+pub refuses : (refusal : Refusal) (old new : WebValue) (status : ℕ) (body : List ℕ) → IsToldAs (refused_for old.asked refusal) status body → RespondsTo old.asked old (json_answer status body) body new → RefusesWeb refusal old new
 refuses refusal old new status body told responds = inl (record { status = status; body = body; told = told; responds = responds })
 
 -- it asks what changed

@@ -7,7 +7,7 @@ use Rattle.mvd_dots.specs.declared.refusals.Refusal.{Refusal}
 use Rattle.mvd_host.specs.AtHand.{AtHandValue, StepsAtHand}
 use Rattle.mvd_http.specs.declared.fields.Content.TheVariants as content
 use Rattle.mvd_http.specs.declared.question.Question.{Question}
-use Rattle.mvd_http.specs.declared.question.Question.TheVariants.{Page, Root, Metrics, Health, Ask, Live, Changes, Many, TooManyLines, Nowhere, NotAllowed}
+use Rattle.mvd_http.specs.declared.question.Question.TheVariants.{Page, Root, Metrics, Health, Ask, Live, Changes, Many, TooManyLines, Misread, Nowhere, NotAllowed}
 use Rattle.mvd_server.specs.Admitted.{Decides}
 use Rattle.mvd_server.specs.Batches.{BeginsBatch, HandsBatch}
 use Rattle.mvd_server.specs.Errands.{Asks, AsksAtHand, AsksNextOf, Desk, DoesPlan, Errand, Forgoes, IsBatchFor, IsUntold, RunsErrand, Stops, TakesIf, Tells, TellsBatch, TellsChange, TellsMany}
@@ -74,6 +74,7 @@ batch_asked (Ok Root) batch is = absurd (let no : ⊥ = cc in no)
 batch_asked (Ok Metrics) batch is = absurd (let no : ⊥ = cc in no)
 batch_asked (Ok Health) batch is = absurd (let no : ⊥ = cc in no)
 batch_asked (Ok TooManyLines) batch never = absurd never
+batch_asked (Ok (Misread refusal place)) batch is = absurd (let no : ⊥ = cc in no)
 batch_asked (Ok Nowhere) batch never = absurd never
 batch_asked (Ok (NotAllowed methods)) batch never = absurd never
 batch_asked (Err refusal) batch is = absurd (let no : ⊥ = cc in no)
@@ -89,6 +90,7 @@ permits_none (Ok Root) batch never = never
 permits_none (Ok Metrics) batch never = never
 permits_none (Ok Health) batch never = never
 permits_none (Ok TooManyLines) batch never = never
+permits_none (Ok (Misread refusal place)) batch never = never
 permits_none (Ok Nowhere) batch never = never
 permits_none (Ok (NotAllowed methods)) batch never = never
 permits_none (Err refusal) batch never = never

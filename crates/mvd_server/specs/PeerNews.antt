@@ -1,16 +1,35 @@
 -- What is told of a session with a peer.
-use Rattle.std.specs.Prelude.{ℕ, List, [], ◌++◌, codes, nat_lt, if◌then◌else◌}
+use Rattle.std.specs.Prelude.{ℕ, ◌+◌, ◌-◌, ◌^◌, ◌&&◌, List, [], ◌++◌, codes, min, nat_le, nat_lt, if◌then◌else◌}
 use Rattle.std.specs.Fmt.{decimal}
 use Rattle.std.specs.Net.Text.{socket_text}
 use Rattle.std.specs.declared.net.socket_addr.SocketAddr.{SocketAddr}
+use Rattle.mvd_server.specs.PeerCounted.{raised}
+use Rattle.mvd_server.specs.declared.peer_news.Untold.{Untold}
 use Rattle.mvd_sync.specs.declared.report.Report.{Report}
 
 -- a count behind its name, unless it is none
 abbrev pub some_text : List ℕ → ℕ → List ℕ
 some_text name count = if nat_lt 0 count then codes " " ++ (name ++ (codes " " ++ decimal count)) else []
 
--- how many keys a session exchanged, and how many were refused and how many older, where some were
-abbrev pub peer_text : SocketAddr → Report → List ℕ
-peer_text address report =
-    codes "peer " ++ (socket_text address ++ (codes " keys " ++ (decimal report.keys
-    ++ (some_text (codes "refused") report.refused ++ (some_text (codes "older") report.old ++ codes "\n")))))
+-- how many keys sessions exchanged, and how many were refused and how many older, where some were
+abbrev pub peer_text : SocketAddr → Untold → List ℕ
+peer_text address news =
+    codes "peer " ++ (socket_text address ++ (codes " keys " ++ (decimal news.keys
+    ++ (some_text (codes "refused") news.refused ++ (some_text (codes "older") news.older ++ codes "\n")))))
+
+-- a session is done: its keys are told with those of the sessions before, and what it left in place of what they left
+abbrev pub noted_with : Report → Untold → Untold
+noted_with report old =
+    if nat_lt 0 report.keys then record old {
+      keys = raised old.keys report.keys;
+      refused = report.refused;
+      older = raised old.older report.old;
+    }
+    else old
+
+-- ONCE A SECOND AT MOST something is told, and then forgotten
+abbrev pub told_at : ℕ → Untold → Untold
+told_at now old =
+    if nat_lt 0 old.keys && nat_le old.next now
+    then record { keys = 0; refused = 0; older = 0; next = min (now + 1000) (2 ^ 64 - 1) }
+    else old

@@ -1,12 +1,15 @@
 -- The servers that a server meets.
-use Rattle.std.specs.Prelude.{◌≡◌, ◌≤◌, ◌⊎◌, ◌+◌, ◌*◌, ◌-◌, ◌^◌, ℕ, Bool, true, false, List, min, Option, None, Some, IsSome, IsSomeAnd}
+use Rattle.std.specs.Prelude.{◌≡◌, ◌≤◌, ◌<◌, ◌⊎◌, ⊤, ◌+◌, ◌*◌, ◌-◌, ◌^◌, ℕ, Bool, true, false, List, min, Option, None, Some, IsSome, IsSomeAnd}
 use Rattle.std.specs.List.{All, sum_by}
 use Rattle.std.specs.Duration.{as_nanos}
 use Rattle.std.specs.declared.time.Duration.{Duration}
-use Rattle.mvd_meet.specs.Callers.{questions_at}
+use Rattle.mvd_meet.specs.Callers.{asked_of_caller, asks_pushes, questions_at}
+use Rattle.mvd_meet.specs.Loans.{over_at}
 use Rattle.mvd_meet.specs.Times.{due_of, news_at, pause_after}
 use Rattle.mvd_meet.specs.declared.pace.Met.{Met}
 use Rattle.mvd_meet.specs.declared.pace.Met.TheVariants.{Failed}
+use Rattle.mvd_meet.specs.declared.schedule.Author.{Author}
+use Rattle.mvd_meet.specs.declared.schedule.Author.TheVariants.{Others, Session}
 use Rattle.mvd_meet.specs.declared.schedule.Schedule.{Schedule}
 use Rattle.mvd_server.specs.OwnSides.{IsFreshSession}
 use Rattle.mvd_server.specs.PeerLinks.{is_rest}
@@ -46,6 +49,23 @@ TakesNoPlace old new = places_of new ≤ places_of old
 -- A SESSION GOES ON only where it has a place, or one is free
 abbrev pub StaysWithout : Peering → ℕ → Peering → Type 0
 StaysWithout old free new = has_place old.session ≡ false → free ≡ 0 → new.session ≡ old.session
+
+-- nothing is read of the peer until its session has a place again
+abbrev is_held_in : Option PeerLink → Bool
+is_held_in None = false
+is_held_in (Some link) = link.is_held
+
+-- so where its session gave its place up
+abbrev pub HoldsBack : Peering → Peering → Type 0
+HoldsBack old new = has_place old.session ≡ true → has_place new.session ≡ false → is_held_in new.link ≡ true
+
+abbrev pub IsLentOver : ℕ → Option PeerLink → Bool → Type 0
+IsLentOver now None has = ⊤
+IsLentOver now (Some link) has = has ≡ true → now < over_at link.loan
+
+-- IT HAS A PLACE only as long as that is lent
+abbrev pub IsLentAt : ℕ → Peering → Type 0
+IsLentAt now peering = IsLentOver now peering.link (has_place peering.session)
 
 -- ---- times
 
@@ -94,10 +114,19 @@ abbrev pub FailsMeeting : ℕ → Peering → Schedule → Type 0
 FailsMeeting now old new = EndsMeeting Failed now old.schedule new
     ⊎ (MayTryAgain old.link old.session × (new ≡ record old.schedule { next = 0 }))
 
+-- who made a change of this server's site: where the session pushes into it, perhaps that alone
+abbrev author_if : Bool → Author
+author_if true = Session
+author_if false = Others
+
+abbrev pub author_of : Option OwnSession → Author
+author_of None = Others
+author_of (Some session) = author_if (asks_pushes (asked_of_caller session.near))
+
 -- something changed, or not
-abbrev pub HearsNews : Bool → ℕ → Schedule → Schedule → Type 0
-HearsNews false now old new = new.news ≡ old.news
-HearsNews true now old new = new.news ≡ news_at old.news now
+abbrev pub HearsNews : Bool → Author → ℕ → Schedule → Schedule → Type 0
+HearsNews false author now old new = new.news ≡ old.news
+HearsNews true author now old new = new.news ≡ news_at author old.news now
 
 -- ALL OF THEM are met for a change
 abbrev pub HaveNews : List Peering → Type 0

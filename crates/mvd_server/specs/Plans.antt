@@ -10,7 +10,7 @@ use Rattle.mvd_http.specs.declared.http_fault.Fault.{Fault}
 use Rattle.mvd_http.specs.declared.http_fault.Fault.TheVariants.{ContentTooLarge, MethodNotAllowed, NotFound}
 use Rattle.mvd_http.specs.declared.question.Methods.{Methods}
 use Rattle.mvd_http.specs.declared.question.Question.{Question}
-use Rattle.mvd_http.specs.declared.question.Question.TheVariants.{Page, Root, Metrics, Health, Ask, Live, Changes, Many, TooManyLines, Nowhere, NotAllowed}
+use Rattle.mvd_http.specs.declared.question.Question.TheVariants.{Page, Root, Metrics, Health, Ask, Live, Changes, Many, TooManyLines, Misread, Nowhere, NotAllowed}
 use Rattle.mvd_server.specs.Batches.{BeginsBatch, is_web_request}
 use Rattle.mvd_server.specs.declared.gate.Plan.{Plan}
 use Rattle.mvd_server.specs.declared.gate.Plan.TheVariants as plan
@@ -65,6 +65,7 @@ IsPlanFor Root p = p ≡ plan.Root
 IsPlanFor Metrics p = p ≡ plan.Metrics
 IsPlanFor Health p = p ≡ plan.Health
 IsPlanFor TooManyLines p = TellsFault ContentTooLarge None p
+IsPlanFor (Misread refusal place) p = p ≡ plan.Refused refusal
 IsPlanFor Nowhere p = TellsFault NotFound None p
 IsPlanFor (NotAllowed methods) p = TellsFault MethodNotAllowed (Some methods) p
 

@@ -1,12 +1,12 @@
 -- What a client over HTTP is told of the reply to its request.
 use Rattle.std.specs.Prelude.{◌≡◌, ◌⊎◌, ◌&&◌, if◌then◌else◌, nat_le, codes, ℕ, Bool, true, false, List, [], ◌∷◌, Option, Some, None, Result, Ok}
 use Rattle.mvd_dots.specs.declared.refusals.Refusal.{Refusal}
-use Rattle.mvd_http.specs.Answers.{Responds, IsToldAs, Told, is_stored, live_told, refused_told, reply_told}
+use Rattle.mvd_http.specs.Answers.{Responds, IsToldAs, Told, is_stored, live_told, misread_told, refused_told, reply_told}
 use Rattle.mvd_http.specs.declared.fields.Answer.{Answer}
 use Rattle.mvd_http.specs.declared.fields.Content.{Content}
 use Rattle.mvd_http.specs.declared.fields.Content.TheVariants.{Json, Nothing}
 use Rattle.mvd_http.specs.declared.question.Question.{Question}
-use Rattle.mvd_http.specs.declared.question.Question.TheVariants.{Ask, Live}
+use Rattle.mvd_http.specs.declared.question.Question.TheVariants.{Ask, Live, Misread}
 use Rattle.mvd_server.specs.Plans.{plain_answer}
 use Rattle.mvd_web.specs.Web.{RespondsTo, WebValue, stopped_by}
 use Rattle.mvd_web.specs.declared.taken.Asked.{Asked}
@@ -58,11 +58,20 @@ AnswersWeb (Some asked) reply old new =
 
 -- ---- what is told at once
 
+-- a refusal, for a write whose document is refused with the place of what is wrong
+abbrev pub refused_of : Result Question Refusal → Refusal → Told
+refused_of (Ok (Misread other place)) refusal = misread_told refusal place
+refused_of question refusal = refused_told refusal
+
+abbrev pub refused_for : Option Asked → Refusal → Told
+refused_for None refusal = refused_told refusal
+refused_for (Some asked) refusal = refused_of asked.question refusal
+
 -- a response that tells this refusal
 pub record RefusesBy (refusal : Refusal) (old new : WebValue) : Type 0 where
   pub status : ℕ
   pub body : List ℕ
-  pub told : IsToldAs (refused_told refusal) status body
+  pub told : IsToldAs (refused_for old.asked refusal) status body
   pub responds : RespondsTo old.asked old (json_answer status body) body new
 
 -- it is told to the request that waits, or the connection is stopped

@@ -97,6 +97,7 @@ fn plan_for(alloc: Global, question: &Question) -> Plan
         Question::Metrics => Plan::Metrics,
         Question::Health => Plan::Health,
         Question::TooManyLines => fault(Fault::ContentTooLarge, None),
+        Question::Misread(refusal, _) => Plan::Refused(*refusal),
         Question::Nowhere => fault(Fault::NotFound, None),
         Question::NotAllowed(methods) => fault(Fault::MethodNotAllowed, Some(*methods)),
     }

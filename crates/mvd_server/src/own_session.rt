@@ -1,6 +1,6 @@
 //! A session of this server's own site: the side that is near is a client of the host.
 ghost use Rattle.std.specs.Prelude.{◌≡◌, ◌-◌, ◌&&◌, IfOk, OnOk, false, length, not, true, IfSome};
-ghost use Rattle.mvd_meet.specs.Callers.{has_all, has_ended, questions_at};
+ghost use Rattle.mvd_meet.specs.Callers.{asked_of_caller, asks_pushes, has_all, has_ended, questions_at};
 ghost use Rattle.mvd_meet.specs.Meetings.{MeetingSteps, ReportsOn};
 ghost use Rattle.mvd_server.specs.OwnSides.{AdmitsOwn, BeginsOwn, DismissesOwn, HandsToOwn};
 ghost use Rattle.mvd_server.specs.OwnSides.{HearsWaiting, TakesReplies};
@@ -100,22 +100,19 @@ impl OwnSession {
         self.near.has_all() && far.has_all()
     }
 
-    /// Whether all came of both sides, and it has a place. It takes one where one is free. Where the peer says nothing
-    /// for a while, it gives its place back.
-    #[tactic(auto, using(crate::proofs::Swapping::same_session))]
-    pub fn has_turn(&mut self, far: &Caller, is_lulled: bool, free: &mut usize) -> bool
+    /// Whether it wants a place: all came of both sides, or bytes of the peer wait to be read.
+    pub fn wants_place(&self, far: &Caller, is_unread: bool) -> bool {
+        is_unread || self.can_step(far)
+    }
+
+    /// Whether all came of both sides, and it has a place. It takes one where it wants it and one is free.
+    #[tactic(auto, using(crate::proofs::Swapping::same_without))]
+    pub fn has_turn(&mut self, far: &Caller, is_unread: bool, free: &mut usize) -> bool
         ensures swaps { SwapsPlaces self.old.runs free.old self.new.runs free.new }
         ensures turn { result ≡ true → self.new.runs ≡ true }
-        ensures rests { self.old.runs ≡ false → result ≡ false → self.new ≡ self.old }
+        ensures rests { self.old.runs ≡ false → free.old ≡ 0 → self.new ≡ self.old }
     {
-        if self.can_step(far) {
-            return self.take_place(free);
-        }
-        if !is_lulled {
-            return false;
-        }
-        self.leave_place(free);
-        false
+        self.wants_place(far, is_unread) && self.take_place(free) && self.can_step(far)
     }
 
     /// Takes a place, unless it has one or none is free. Whether it has one.
@@ -137,16 +134,17 @@ impl OwnSession {
     }
 
     /// Gives its place back, if it has one.
-    #[tactic(auto, using(crate::proofs::Swapping::gives_back))]
-    fn leave_place(&mut self, free: &mut usize)
-        ensures swaps { SwapsPlaces self.old.runs free.old self.new.runs free.new }
-        ensures leaves { self.new ≡ record self.old { runs = false } }
+    pub fn leave_place(&mut self)
+        ensures { self.new ≡ record self.old { runs = false } }
     {
-        if !self.runs {
-            return;
-        }
         self.runs = false;
-        *free = free.saturating_add(1);
+    }
+
+    /// Whether its pushes into this server's site are under way, or were the last that it asked of it.
+    pub fn pushes(&self) -> bool
+        ensures { result ≡ asks_pushes (asked_of_caller self.now.near) }
+    {
+        self.near.is_pushed()
     }
 
     /// Takes what came, and asks what is next.

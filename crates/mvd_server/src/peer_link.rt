@@ -1,5 +1,7 @@
 //! A connection with a peer, which this server opened.
-ghost use Rattle.std.specs.Prelude.{◌≡◌, IfOk};
+ghost use Rattle.std.specs.Prelude.{◌≡◌, ◌<◌, IfOk, false, true};
+ghost use Rattle.mvd_meet.specs.Callers.{came_at};
+ghost use Rattle.mvd_meet.specs.Loans.{over_at};
 ghost use Rattle.mvd_server.specs.OwnSides.{IsUnasked};
 ghost use Rattle.mvd_server.specs.PeerLinks.{MovesBytes, is_rest};
 
@@ -9,7 +11,7 @@ use mio::event::Event;
 use mio::net::TcpStream;
 use mio::{Interest, Registry, Token};
 use mvd_dots::Refusal;
-use mvd_meet::Caller;
+use mvd_meet::{Caller, Loan};
 use std::alloc::Global;
 use std::io;
 use std::net::{Net, SocketAddr};
@@ -48,9 +50,13 @@ pub(crate) struct PeerLink {
     pub is_kept: bool,
     /// A byte came since this was unset.
     pub has_heard: bool,
+    /// The place that its session has, or had last.
+    pub loan: Loan,
+    /// The session gave its place up, and nothing is read until it has one again.
+    pub is_held: bool,
     /// For as many milliseconds no byte need move.
     idle: u64,
-    /// When a byte moved last, or else something was asked.
+    /// When a byte moved last, or else something was asked, or its session got a place.
     pub moved: u64,
 }
 
@@ -78,6 +84,8 @@ impl PeerLink {
             far: Caller::new(alloc),
             is_kept: false,
             has_heard: false,
+            loan: Loan::new(now),
+            is_held: false,
             idle,
             moved: now,
         })
@@ -112,13 +120,29 @@ impl PeerLink {
         }
     }
 
-    /// Whether something is awaited of the peer, or is to leave to it.
+    /// Whether bytes may have come that wait until the session has a place again.
+    pub fn is_unread(&self) -> bool {
+        self.is_held && self.socket.readable && !self.far.has_all()
+    }
+
+    /// Its session has a place from now on. It is not to blame for the time before.
+    pub fn lend(&mut self, now: u64)
+        ensures loan { self.new.loan ≡ record { since = now; mark = now; moved = 0 } }
+        ensures reads { self.new.is_held ≡ false }
+        ensures far { self.new.far ≡ self.old.far }
+    {
+        self.loan = Loan::new(now);
+        self.is_held = false;
+        self.moved = now;
+    }
+
+    /// Whether something is awaited of the peer, or is to leave to it. A peer whose bytes wait is not waited for.
     pub fn is_open(&self) -> bool {
         match self.stage {
             Stage::Connects => true,
             Stage::Rests => false,
             Stage::Greets | Stage::Meets | Stage::Parts => {
-                !self.far.has_all() || !self.far.leaving().is_empty()
+                !self.is_unread() && (!self.far.has_all() || !self.far.leaving().is_empty())
             }
         }
     }
@@ -129,14 +153,14 @@ impl PeerLink {
             Stage::Connects => self.socket.writable,
             Stage::Rests => self.socket.readable,
             Stage::Greets | Stage::Meets | Stage::Parts => {
-                (self.socket.readable && !self.far.has_all())
+                (self.socket.readable && !self.is_held && !self.far.has_all())
                     || (self.socket.writable && !self.far.leaving().is_empty())
             }
         }
     }
 
     /// When it ends if no byte moves.
-    pub fn deadline(&self) -> u64 {
+    fn deadline(&self) -> u64 {
         let patience = match self.stage {
             Stage::Parts => self.idle.min(LINGER),
             _ => self.idle,
@@ -145,8 +169,27 @@ impl PeerLink {
     }
 
     /// When it holds no place any more, if no byte moves.
-    pub fn lull(&self) -> u64 {
+    fn lull(&self) -> u64 {
         self.moved.saturating_add(LULL)
+    }
+
+    /// When it is to be looked after, if nothing moves: before it ends, the place of its session is given up, if it has
+    /// one.
+    pub fn due(&self, has_place: bool) -> Option<u64> {
+        if !self.is_open() {
+            return None;
+        }
+        let lull = if has_place { self.lull() } else { u64::MAX };
+        Some(self.deadline().min(lull))
+    }
+
+    /// Whether its session may keep its place no longer: no byte moved for a while, or, where others wait for one, the
+    /// loan is over.
+    pub fn is_over(&self, waits: bool, now: u64) -> bool
+        // Where others wait, none is kept for longer.
+        ensures { result ≡ false → waits ≡ true → now < over_at self.now.loan }
+    {
+        (waits && self.loan.due() <= now) || (self.is_open() && self.lull() <= now)
     }
 
     /// Whether no byte moved for too long, though one should have.
@@ -158,6 +201,8 @@ impl PeerLink {
     #[tactic(auto, using(crate::proofs::Moving::moves_both))]
     pub fn move_bytes(&mut self, piece: &mut Piece, now: u64) -> Result<(), Refusal>
         ensures moves { MovesBytes self.old.far self.new.far }
+        // Of one whose session gave its place up, nothing is read.
+        ensures held { self.old.is_held ≡ true → came_at self.new.far ≡ came_at self.old.far }
         ensures stage { self.new.stage ≡ self.old.stage }
     {
         self.read(piece, now)?;
@@ -171,8 +216,12 @@ impl PeerLink {
     #[tactic(auto, using(crate::proofs::Moving::moves_none, crate::proofs::Moving::moves_both))]
     fn read(&mut self, piece: &mut Piece, now: u64) -> Result<(), Refusal>
         ensures moves { MovesBytes self.old.far self.new.far }
+        ensures held { self.old.is_held ≡ true → self.new.far ≡ self.old.far }
         ensures stage { self.new.stage ≡ self.old.stage }
     {
+        if self.is_held {
+            return Ok(());
+        }
         for _turn in 0..MOVES {
             if !self.read_once(piece, now)? {
                 return Ok(());
@@ -193,6 +242,7 @@ impl PeerLink {
         match self.socket.read(&mut Direct {}, piece) {
             Moved::Bytes(count) => {
                 self.moved = now;
+                self.loan.count(count as u64, now);
                 self.has_heard = true;
                 self.far.feed(piece.first(count))?;
                 Ok(true)
@@ -213,6 +263,7 @@ impl PeerLink {
     #[tactic(auto, using(crate::proofs::Moving::moves_none, crate::proofs::Moving::moves_both))]
     fn write(&mut self, now: u64) -> Result<(), Refusal>
         ensures moves { MovesBytes self.old.far self.new.far }
+        ensures came { came_at self.new.far ≡ came_at self.old.far }
         ensures stage { self.new.stage ≡ self.old.stage }
     {
         for _turn in 0..MOVES {
@@ -227,6 +278,7 @@ impl PeerLink {
     #[tactic(auto, using(crate::proofs::Moving::moves_none, crate::proofs::Moving::moves_left))]
     fn write_once(&mut self, now: u64) -> Result<bool, Refusal>
         ensures moves { MovesBytes self.old.far self.new.far }
+        ensures came { came_at self.new.far ≡ came_at self.old.far }
         ensures stage { self.new.stage ≡ self.old.stage }
     {
         let bytes = self.far.leaving();
@@ -237,6 +289,7 @@ impl PeerLink {
         match self.socket.write(&mut Direct {}, bytes) {
             Moved::Bytes(count) => {
                 self.moved = now;
+                self.loan.count(count as u64, now);
                 self.far.left(count.min(most));
                 Ok(true)
             }

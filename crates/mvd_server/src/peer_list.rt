@@ -1,6 +1,7 @@
 //! The peers that this server meets while it serves.
-ghost use Rattle.std.specs.Prelude.{◌≡◌, ◌≢◌, ◌≤◌, ◌+◌, ◌-◌, length};
-ghost use Rattle.mvd_server.specs.Peerings.{HaveNews, LooksInTime, places_taken};
+ghost use Rattle.std.specs.Prelude.{◌≡◌, ◌≢◌, ◌≤◌, ◌+◌, ◌-◌, length, true};
+ghost use Rattle.std.specs.List.{All};
+ghost use Rattle.mvd_server.specs.Peerings.{HaveNews, IsLentAt, LooksInTime, places_taken};
 ghost use Rattle.mvd_server.specs.Talking.{TalksDeeds};
 
 use crate::crowd::Crowd;
@@ -25,7 +26,7 @@ pub(crate) const SESSIONS_MAX: usize = 4;
 #[derive(Drop)]
 pub(crate) struct Peers {
     list: Vec<Peering>,
-    /// The place of the one that has its turn first.
+    /// The place of the one that has its turn first: the one behind who took a place last.
     first: usize,
     setting: Setting,
     /// The commits of this server's site until the last round.
@@ -78,11 +79,17 @@ impl Peers {
         // A peer of which nothing is asked is looked after once it is due.
         ensures { LooksInTime self.now.list.items result }
     {
+        let waits = self.wait();
         let mut first = None;
         for peering in &self.list {
-            first = earlier(first, peering.next_due());
+            first = earlier(first, peering.next_due(waits));
         }
         first
+    }
+
+    /// Whether sessions wait for a place.
+    fn wait(&self) -> bool {
+        self.list.iter().any(|peering| peering.wants_place())
     }
 
     /// Whether something is to be done at once.
@@ -100,22 +107,36 @@ impl Peers {
         is_one
     }
 
-    /// Connects to those that are due, and goes on with each session as far as can be without waiting. Each time
-    /// another one comes first, so that each gets a place.
+    /// Connects to those that are due, and goes on with each session as far as can be without waiting. Before that,
+    /// places are given up; then the one behind who took a place last comes first, so that each gets one in its turn.
     pub fn go_on<N: Net>(&mut self, rt: &N, registry: &Registry, crowd: &mut Crowd)
         ensures { TalksDeeds crowd.old.talks crowd.new.talks }
     {
+        let waits = self.wait();
+        self.give_back(waits, crowd.now);
         let mut free = self.free();
         let count = self.list.len();
+        let first = self.first;
         for turn in 0..count {
-            let place = self.first.saturating_add(turn) % count;
+            let place = first.saturating_add(turn) % count;
+            let before = free;
             self.go_on_with(place, rt, registry, crowd, &mut free);
+            if free < before {
+                self.first = place + 1;
+            }
         }
-        self.first = if self.first < count {
-            self.first + 1
-        } else {
-            0
-        };
+    }
+
+    /// The sessions give up their places whose loans are over, where others wait, and those of which no byte moved for
+    /// a while.
+    fn give_back(&mut self, waits: bool, now: u64)
+        // Where others wait, no place is kept past its loan.
+        ensures lends { waits ≡ true → All (IsLentAt now) self.new.list.items }
+        ensures peers { self.new ≡ record self.old { list = self.new.list } }
+    {
+        for peering in self.list.iter_mut() {
+            peering.give_back(waits, now);
+        }
     }
 
     /// Goes on with one of them. Where it takes a place for its session, one place less is free.
@@ -136,6 +157,7 @@ impl Peers {
             let peering = &mut self.list[place];
             peering.connect(rt, registry, &self.setting, crowd);
             peering.go_on(&mut self.setting, crowd, free);
+            peering.tell(crowd);
         }
     }
 

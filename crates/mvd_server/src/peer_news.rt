@@ -1,6 +1,6 @@
 //! What all sessions with peers share, and what is told of them.
 ghost use Rattle.std.specs.Prelude.{◌≡◌, ◌++◌, OnOk, string_bytes};
-ghost use Rattle.mvd_server.specs.PeerNews.{peer_text, some_text};
+ghost use Rattle.mvd_server.specs.PeerNews.{noted_with, peer_text, some_text, told_at};
 
 use crate::client::Piece;
 use crate::terms::Terms;
@@ -14,6 +14,9 @@ use std::net::SocketAddr;
 
 /// The least seconds between two sessions at which no connection is kept from one to the next.
 const APART: u32 = 60;
+
+/// The milliseconds between two lines on what sessions with a peer exchanged.
+const APART_TOLD: u64 = 1_000;
 
 /// What all sessions share.
 #[derive(Drop)]
@@ -54,22 +57,67 @@ impl Setting {
     }
 }
 
-/// Tells what a session exchanged, if it did. What memory is refused for is not told.
-pub(crate) fn tell_done(address: SocketAddr, report: &Report, told: &mut String) {
-    if report.keys > 0 {
-        let _ = print_done(address, report, told);
-    }
+/// What the sessions with a peer exchanged since that was told: how many keys in all, how many were older, and how many
+/// the last of them left. Until `next` no more is told.
+#[derive(Clone, Copy)]
+pub(crate) struct Untold {
+    keys: u64,
+    refused: u64,
+    older: u64,
+    next: u64,
 }
 
-/// Prints what a session exchanged, how many keys were refused and how many were older, where some were.
-fn print_done(address: SocketAddr, report: &Report, told: &mut String) -> Result<(), Refusal>
-    ensures { OnOk result (string_bytes told.new ≡ string_bytes told.old ++ peer_text address report.now) }
-{
-    write!(told, "peer {address} keys {}", report.keys)?;
-    print_some("refused", report.refused, told)?;
-    print_some("older", report.old, told)?;
-    told.push('\n')?;
-    Ok(())
+impl Untold {
+    /// Before the first session.
+    pub fn new() -> Untold
+        ensures { result ≡ record { keys = 0; refused = 0; older = 0; next = 0 } }
+    {
+        Untold {
+            keys: 0,
+            refused: 0,
+            older: 0,
+            next: 0,
+        }
+    }
+
+    /// Notes what a session exchanged, if it did.
+    pub fn note(&mut self, report: &Report)
+        ensures { self.new ≡ noted_with report.now self.old }
+    {
+        if report.keys > 0 {
+            self.keys = self.keys.saturating_add(report.keys);
+            self.refused = report.refused;
+            self.older = self.older.saturating_add(report.old);
+        }
+    }
+
+    /// When it is to be told, if something is.
+    pub fn due(&self) -> Option<u64> {
+        if self.keys > 0 { Some(self.next) } else { None }
+    }
+
+    /// Tells it, at most once a second. What memory is refused for is not told.
+    pub fn tell(&mut self, address: SocketAddr, now: u64, told: &mut String)
+        ensures { self.new ≡ told_at now self.old }
+    {
+        if self.keys == 0 || now < self.next {
+            return;
+        }
+        let _ = self.print(address, told);
+        *self = Untold::new();
+        self.next = now.saturating_add(APART_TOLD);
+    }
+
+    /// Prints how many keys were exchanged, how many were refused and how many were older, where some were.
+    fn print(&self, address: SocketAddr, told: &mut String) -> Result<(), Refusal>
+        ensures { OnOk result (string_bytes told.new ≡ string_bytes told.old ++ peer_text address self.now) }
+    {
+        write!(told, "peer {address} keys {}", self.keys)?;
+        print_some("refused", self.refused, told)?;
+        print_some("older", self.older, told)?;
+        told.push('\n')?;
+        Ok(())
+    }
 }
 
 /// Prints a count behind its name, unless it is none.

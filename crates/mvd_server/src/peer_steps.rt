@@ -2,14 +2,14 @@
 ghost use Rattle.std.specs.Prelude.{◌≡◌, ◌<◌, IfOk, OnErr, OnOk, false, true};
 ghost use Rattle.mvd_meet.specs.Times.{due_of, ended_of};
 ghost use Rattle.mvd_server.specs.PeerLinks.{LetsIn, ShowsIf};
-ghost use Rattle.mvd_server.specs.Peerings.{BeginsMeeting, EndsMeeting, StaysWithout, SwapsPlaces, TakesFree, TakesNoPlace};
-ghost use Rattle.mvd_server.specs.Peerings.{has_place};
+ghost use Rattle.mvd_server.specs.Peerings.{BeginsMeeting, EndsMeeting, HoldsBack, IsLentAt, StaysWithout, SwapsPlaces, TakesFree};
+ghost use Rattle.mvd_server.specs.Peerings.{TakesNoPlace, has_place};
 ghost use Rattle.mvd_server.specs.Talking.{TalksDeeds};
 
 use crate::crowd::Crowd;
 use crate::own_session::OwnSession;
 use crate::peer_link::{PeerLink, Stage};
-use crate::peer_news::{Setting, tell_done, tell_left};
+use crate::peer_news::{Setting, tell_left};
 use crate::peering::{MOST_QUESTIONS, Peering};
 use mvd_dots::Refusal;
 use mvd_meet::{Caller, Course, Met};
@@ -123,8 +123,7 @@ impl Peering {
         Ok(())
     }
 
-    /// What came is taken, once all came, and what is next is asked, where there is a place for the session. It gives
-    /// its place back where nothing came for a while.
+    /// What came is taken, once all came, and what is next is asked, where there is a place for the session.
     fn meets(
         &mut self,
         setting: &mut Setting,
@@ -139,11 +138,31 @@ impl Peering {
             return Ok(false);
         };
         link.move_bytes(&mut setting.piece, crowd.now)?;
-        let is_lulled = link.is_open() && link.lull() <= crowd.now;
-        if !has_turn_in(&mut self.session, &link.far, is_lulled, free) {
+        if !has_turn_in(&mut self.session, link, crowd.now, free) {
             return Ok(false);
         }
         self.ask(setting, crowd)
+    }
+
+    /// Its session gives up its place, if it has one, where the loan is over and others wait, or where no byte moved
+    /// for a while. Nothing is read of the peer until it has one again.
+    #[tactic(auto, using(crate::proofs::Placing::gives_up, crate::proofs::Placing::lent_unlinked, crate::proofs::Placing::lent_without, crate::proofs::Placing::lent_with))]
+    pub fn give_back(&mut self, waits: bool, now: u64)
+        ensures places { TakesNoPlace self.old self.new }
+        ensures lends { waits ≡ true → IsLentAt now self.new }
+        ensures held { HoldsBack self.old self.new }
+    {
+        let Some(link) = &mut self.link else {
+            return;
+        };
+        let Some(session) = &mut self.session else {
+            return;
+        };
+        if !session.runs || !link.is_over(waits, now) {
+            return;
+        }
+        session.leave_place();
+        link.is_held = true;
     }
 
     /// Asks what is next, or ends the session where it is done.
@@ -182,7 +201,8 @@ impl Peering {
         let report = session.report();
         self.tell_again(&mut crowd.told);
         self.is_failing = false;
-        tell_done(self.address, &report, &mut crowd.told);
+        self.untold.note(&report);
+        self.tell(crowd);
         self.note_done(setting, crowd, report);
         if let Some(link) = &mut self.link {
             link.is_kept = true;
@@ -192,6 +212,14 @@ impl Peering {
             return Ok(false);
         }
         self.part(crowd.now)
+    }
+
+    /// Tells what the sessions exchanged, once that may be told.
+    pub fn tell(&mut self, crowd: &mut Crowd)
+        ensures peering { self.new ≡ record self.old { untold = self.new.untold } }
+        ensures talks { crowd.new.talks ≡ crowd.old.talks }
+    {
+        self.untold.tell(self.address, crowd.now, &mut crowd.told);
     }
 
     /// Tells that a session is done after one that failed.
@@ -290,21 +318,26 @@ fn greets(link: &mut PeerLink, setting: &mut Setting, now: u64) -> Result<bool, 
 }
 
 /// Whether there is a session that may go on at once, and has a place for that.
-#[tactic(auto, using(crate::proofs::Placing::place_swaps))]
+#[tactic(auto, using(crate::proofs::Placing::place_swaps, crate::proofs::Placing::place_rests))]
 fn has_turn_in(
     session: &mut Option<OwnSession>,
-    far: &Caller,
-    is_lulled: bool,
+    link: &mut PeerLink,
+    now: u64,
     free: &mut usize,
 ) -> bool
     ensures swaps { SwapsPlaces (has_place session.old) free.old (has_place session.new) free.new }
     ensures turn { result ≡ true → has_place session.new ≡ true }
-    ensures rests { has_place session.old ≡ false → result ≡ false → session.new ≡ session.old }
+    ensures rests { has_place session.old ≡ false → free.old ≡ 0 → session.new ≡ session.old }
 {
-    match session {
-        Some(session) => session.has_turn(far, is_lulled, free),
-        None => false,
+    let Some(session) = session else {
+        return false;
+    };
+    let had = session.runs;
+    let is_turn = session.has_turn(&link.far, link.is_unread(), free);
+    if session.runs && !had {
+        link.lend(now);
     }
+    is_turn
 }
 
 /// A step of a session, if there is one.

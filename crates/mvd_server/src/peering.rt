@@ -1,18 +1,20 @@
 //! A peer: when it is met, and the connection and the session with it, if there are any.
-ghost use Rattle.std.specs.Prelude.{◌≡◌, ◌<◌, None, Some, true};
+ghost use Rattle.std.specs.Prelude.{◌≡◌, ◌<◌, ◌≤◌, IsSomeAnd, None, Some, true};
 ghost use Rattle.mvd_meet.specs.Times.{due_of, news_at};
-ghost use Rattle.mvd_server.specs.Peerings.{FailsMeeting, HearsNews, MayGoOn, MayTryAgain, TakesNoPlace, has_place, is_resting};
+ghost use Rattle.mvd_server.specs.Peerings.{FailsMeeting, HearsNews, MayGoOn, MayTryAgain, TakesNoPlace, author_of};
+ghost use Rattle.mvd_server.specs.Peerings.{has_place, is_resting};
 ghost use Rattle.mvd_server.specs.Talking.{TalksDeeds};
 
 use crate::crowd::Crowd;
 use crate::own_session::OwnSession;
 use crate::peer_link::PeerLink;
-use crate::peer_news::Setting;
+use crate::peer_news::{Setting, Untold};
 use crate::talks::Talks;
+use crate::timers::earlier;
 use mio::event::Event;
 use mio::{Registry, Token};
 use mvd_dots::Refusal;
-use mvd_meet::{Met, Schedule};
+use mvd_meet::{Author, Met, Schedule};
 use mvd_sync::Left;
 use mvd_wire::Items;
 use std::fmt::Write as Print;
@@ -35,6 +37,7 @@ pub(crate) struct Peering {
     pub is_failing: bool,
     /// The keys that the last session left which ended.
     pub left: Option<Items<Left>>,
+    pub untold: Untold,
 }
 
 impl Peering {
@@ -52,6 +55,7 @@ impl Peering {
             session: None,
             is_failing: false,
             left: None,
+            untold: Untold::new(),
         }
     }
 
@@ -65,18 +69,35 @@ impl Peering {
         }
     }
 
-    /// When it is to be looked after, if nothing moves: where nothing is asked of it, once it is due.
-    pub fn next_due(&self) -> Option<u64>
+    /// Whether its session wants a place, and has none.
+    pub fn wants_place(&self) -> bool {
+        match (&self.link, &self.session) {
+            (Some(link), Some(session)) => {
+                !session.runs && session.wants_place(&link.far, link.is_unread())
+            }
+            _ => false,
+        }
+    }
+
+    /// When it is to be looked after, if nothing moves: where nothing is asked of it, once it is due. Where others wait
+    /// for a place, its loan counts.
+    #[tactic(auto, using(crate::proofs::Waking::earlier_due))]
+    pub fn next_due(&self, waits: bool) -> Option<u64>
+        ensures { is_resting self.now.link ≡ true → IsSomeAnd result (λ due. due ≤ due_of self.now.schedule) }
+    {
+        earlier(self.due_with(waits), self.untold.due())
+    }
+
+    /// When it is to be looked after, but for what is to be told.
+    fn due_with(&self, waits: bool) -> Option<u64>
         ensures { is_resting self.now.link ≡ true → result ≡ Some (due_of self.now.schedule) }
     {
         match &self.link {
             Some(link) if !link.is_resting() => {
-                if !link.is_open() {
-                    None
-                } else if self.runs() {
-                    Some(link.deadline().min(link.lull()))
+                if self.runs() && waits {
+                    earlier(Some(link.loan.due()), link.due(true))
                 } else {
-                    Some(link.deadline())
+                    link.due(self.runs())
                 }
             }
             _ => Some(self.schedule.due()),
@@ -93,7 +114,8 @@ impl Peering {
         }
         match &self.session {
             Some(session) => {
-                session.is_busy() || (session.can_step(&link.far) && (session.runs || free > 0))
+                let wants = session.wants_place(&link.far, link.is_unread());
+                session.is_busy() || (wants && (session.runs || free > 0))
             }
             None => false,
         }
@@ -113,12 +135,22 @@ impl Peering {
     }
 
     /// Notes that something changed at this time.
-    fn note_change(&mut self, now: u64)
+    fn note_change(&mut self, author: Author, now: u64)
         ensures { self.new ≡ record self.old {
-          schedule = record self.old.schedule { news = news_at self.old.schedule.news now };
+          schedule = record self.old.schedule { news = news_at author self.old.schedule.news now };
         } }
     {
-        self.schedule.note(now);
+        self.schedule.note(author, now);
+    }
+
+    /// Who made a change of this server's site: where its session pushes into that, perhaps it alone.
+    fn author(&self) -> Author
+        ensures { result ≡ author_of self.now.session }
+    {
+        match &self.session {
+            Some(session) if session.pushes() => Author::Session,
+            _ => Author::Others,
+        }
     }
 
     /// Begins to connect, where it is due.
@@ -204,15 +236,16 @@ impl Peering {
     /// Takes what the host told its session, and notes whether something changed.
     pub fn hear(&mut self, crowd: &mut Crowd, changed: bool)
         ensures places { TakesNoPlace self.old self.new }
-        ensures news { HearsNews changed crowd.old.now self.old.schedule self.new.schedule }
+        ensures news { HearsNews changed (author_of self.old.session) crowd.old.now self.old.schedule self.new.schedule }
         ensures deeds { TalksDeeds crowd.old.talks crowd.new.talks }
     {
         let now = crowd.now;
+        let author = self.author();
         self.take_replies(crowd);
         if !changed {
             return;
         }
-        self.note_change(now);
+        self.note_change(author, now);
     }
 
     /// Takes what the host told its session.

@@ -1,20 +1,23 @@
 //! The responses to requests of HTTP, as they are queued.
-ghost use Rattle.std.specs.Prelude.{◌≡◌, IfOk, IsTrue, string_bytes};
+ghost use Rattle.std.specs.Prelude.{◌≡◌, IfOk, IsTrue, option_copied, string_bytes};
+ghost use Rattle.mvd_http.specs.Answers.{IsToldAs};
 ghost use Rattle.mvd_http.specs.declared.fields.Content.TheVariants.{Json};
 ghost use Rattle.mvd_server.specs.Errands.{AwaitsChange};
 ghost use Rattle.mvd_server.specs.Plans.{plain_answer};
 ghost use Rattle.mvd_server.specs.Responding.{AnswersReply, AnswersWeb, RefusesWeb, TellsBody, content_of as content_for};
-ghost use Rattle.mvd_server.specs.Responding.{json_answer, status_or_500};
+ghost use Rattle.mvd_server.specs.Responding.{json_answer, refused_for, status_or_500};
 ghost use Rattle.mvd_web.specs.Inside.{web_of};
 ghost use Rattle.mvd_web.specs.Web.{RespondsTo};
 
 use crate::metrics::Counts;
 use http::StatusCode;
 use mvd_dots::Refusal;
-use mvd_http::{Answer, Content, Question, live_response_of, refused_response, response_of};
-use mvd_web::WebConnection;
+use mvd_http::{
+    Answer, Content, Question, live_response_of, misread_response, refused_response, response_of,
+};
+use mvd_web::{Asked, WebConnection};
 use mvd_wire::Reply;
-use std::alloc::Global;
+use std::alloc::{AllocError, Global};
 
 pub(crate) fn answer_of(status: StatusCode, content: Content) -> Answer
     ensures { result ≡ plain_answer status content }
@@ -68,9 +71,27 @@ pub(crate) fn refuse(alloc: Global, web: &mut WebConnection, counts: &mut Counts
     ensures { RefusesWeb refusal (web_of web.old) (web_of web.new) }
 {
     let mut body = String::new(alloc);
-    match refused_response(&mut body, refusal) {
+    match put_refusal(web.asked(), refusal, &mut body) {
         Ok(status) => respond_json(web, counts, status, body.as_str()),
         Err(_) => web.stop(Refusal::Memory),
+    }
+}
+
+/// Puts the body of a refusal into `body`, and gives its status. Of a write whose document is refused it names the place.
+fn put_refusal(
+    asked: Option<&Asked>,
+    refusal: Refusal,
+    body: &mut String,
+) -> Result<u16, AllocError>
+    ensures { IfOk result (λ status. IsToldAs (refused_for (option_copied asked.entry) refusal) status
+        (string_bytes body.new)) }
+{
+    let Some(asked) = asked else {
+        return refused_response(body, refusal);
+    };
+    match &asked.question {
+        Ok(Question::Misread(_, place)) => misread_response(body, refusal, place),
+        _ => refused_response(body, refusal),
     }
 }
 

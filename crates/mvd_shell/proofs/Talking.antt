@@ -232,12 +232,12 @@ module _ {A : Type 0} (Answers : A → A → Request → Reply → Type 0) where
   speaks_left old new ask text text' said (Err refusal) speaks = inr (speaks.told, speaks.talks)
 
   pub prints_so : (lost : A → ℕ) (old new : A) (ask : Ask) (text text' shown : List ℕ) (said result : Result (Unit {0}) Refusal) (is_known : Bool) → text ≡ [] → is_known ≡ (lost old == lost new) → Speaks Answers old new ask text text' said
-      → ((told : Result (List ℕ) Refusal) → ShowsText told [] text' said → OnOk result (shown ≡ shell_text is_known told)) → OnOk result (Prints_line Answers lost old new ask shown)
+      → ((told : Result (List ℕ) Refusal) → ShowsText told [] text' said → OnOk result (shown ≡ shell_text ask is_known told)) → OnOk result (Prints_line Answers lost old new ask shown)
   prints_so lost old new ask text text' shown said (Err refusal) is_known none known speaks shows = tt
   prints_so lost old new ask text text' shown said (Ok done) is_known none known speaks shows = record {
     told = speaks.told;
     talks = speaks.talks;
-    is = shows speaks.told (subst (λ (t : List ℕ). ShowsText speaks.told t text' said) none speaks.shows) ∙ ap (λ (b : Bool). shell_text b speaks.told) known;
+    is = shows speaks.told (subst (λ (t : List ℕ). ShowsText speaks.told t text' said) none speaks.shows) ∙ ap (λ (b : Bool). shell_text ask b speaks.told) known;
   }
 
   pub sees_shown : (old new : A) (key other : Key) (reply : Reply) (seen : Result DotSet Refusal) → IsAnswer (Ok other) (Ok key) → Answers old new (Get other) reply → IsAnswer seen (shown_context reply)

@@ -48,7 +48,7 @@ module _ {A : Type 0} (Answers : A → A → Request → Reply → Type 0) (lost
   asked_told number line said_of ask old new (Ok done) utf8 same is may = tt
   asked_told number line said_of ask old new (Err fault) utf8 same is (inl none) = inl none
   asked_told number line said_of ask old new (Err fault) utf8 same is (inr (told, talks)) =
-      inr (shell_text (lost old == lost new) told, inl (utf8, inr (Asked ask, subst (IsTyped (Asked ask)) same is, record { told = told; talks = talks; is = refl })))
+      inr (shell_text ask (lost old == lost new) told, inl (utf8, inr (Asked ask, subst (IsTyped (Asked ask)) same is, record { told = told; talks = talks; is = refl })))
 
   -- ---- lines
 

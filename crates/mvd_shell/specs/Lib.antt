@@ -1,4 +1,5 @@
 pub mod Asked
+pub mod Fits
 pub mod ReadLine
 pub mod Shell
 pub mod Talk

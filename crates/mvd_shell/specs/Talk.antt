@@ -1,11 +1,14 @@
 -- What is asked for one line, and what is printed of the replies.
-use Rattle.std.specs.Prelude.{ℕ, ◌≡◌, ◌⊎◌, ◌==◌, Bool, true, false, List, [], ◌∷◌, ◌++◌, Option, Some, None, Result, Ok, Err}
+use Rattle.std.specs.Prelude.{ℕ, ◌≡◌, ◌⊎◌, ◌==◌, ◌&&◌, nat_le, if◌then◌else◌, Bool, true, false, List, [], ◌∷◌, ◌++◌, Option, Some, None, Result, Ok, Err}
 use Rattle.mvd_dots.specs.Answer.{IsAnswer}
+use Rattle.mvd_dots.specs.Refusal.{number_of}
 use Rattle.mvd_dots.specs.declared.refusals.Refusal.{Refusal}
 use Rattle.mvd_dots.specs.declared.refusals.Refusal.TheVariants.{Memory}
 use Rattle.mvd_input.specs.declared.command.Ask.{Ask}
+use Rattle.mvd_input.specs.declared.command.Ask.TheVariants.{Put}
 use Rattle.mvd_print.specs.Added.{Extends}
-use Rattle.mvd_print.specs.Text.{refused_text}
+use Rattle.mvd_print.specs.Place.{fault_json}
+use Rattle.mvd_print.specs.Text.{refused_at_text, refused_text}
 use Rattle.mvd_wire.specs.declared.reply.Reply.{Reply}
 use Rattle.mvd_wire.specs.declared.reply.Reply.TheVariants as reply
 use Rattle.mvd_wire.specs.declared.request.Request.{Request}
@@ -105,15 +108,27 @@ abbrev pub told_text : Result (List ℕ) Refusal → List ℕ
 told_text (Ok text) = text
 told_text (Err refusal) = refused_text refusal
 
+-- the refusal of a line; where it is of the document that a put has (3 to 6), with the place of what is wrong
+abbrev pub refused_of : Ask → Refusal → List ℕ
+refused_of (Put key context document) refusal =
+    if nat_le 3 (number_of refusal) && nat_le (number_of refusal) 6
+    then refused_at_text refusal (fault_json refusal document.now) else refused_text refusal
+refused_of ask refusal = refused_text refusal
+
+-- the same, in place of the text
+abbrev pub answered_text : Ask → Result (List ℕ) Refusal → List ℕ
+answered_text ask (Ok text) = text
+answered_text ask (Err refusal) = refused_of ask refusal
+
 -- a refusal is printed as one of a write that may have been done all the same
 abbrev pub lost_text : Result (List ℕ) Refusal → List ℕ
 lost_text (Ok text) = text
 lost_text (Err refusal) = unknown_text refusal
 
 -- what a line prints, where it is known of each write that was asked whether it was done, and where not
-abbrev pub shell_text : Bool → Result (List ℕ) Refusal → List ℕ
-shell_text true told = told_text told
-shell_text false told = lost_text told
+abbrev pub shell_text : Ask → Bool → Result (List ℕ) Refusal → List ℕ
+shell_text ask true told = answered_text ask told
+shell_text ask false told = lost_text told
 
 -- what was asked and told of a line, seen at what answers and at what is printed
 pub record Talks {A : Type 0} (Answers : A → A → Request → Reply → Type 0) (asked asked' : A) (ask : Ask)
@@ -160,4 +175,4 @@ pub record Prints_line {A : Type 0} (Answers : A → A → Request → Reply →
     (ask : Ask) (text : List ℕ) : Type 0 where
   pub told : Result (List ℕ) Refusal
   pub talks : Talks Answers asked asked' ask told
-  pub is : text ≡ shell_text (lost asked == lost asked') told
+  pub is : text ≡ shell_text ask (lost asked == lost asked') told

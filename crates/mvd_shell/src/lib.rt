@@ -3,11 +3,13 @@
 
 mod line_reader;
 mod losses;
+mod page_fits;
 mod pages;
 mod shell;
 mod talk;
 mod text_requests;
 
 pub use losses::{Losses, NoLosses};
+pub use page_fits::fits;
 pub use shell::shell_run;
 pub use talk::{answer, begin_line, say, settle};

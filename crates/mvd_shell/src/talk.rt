@@ -1,9 +1,11 @@
 //! What is asked by one line, and what is printed of it.
 ghost use Rattle.std.specs.Prelude.{◌≡◌, ◌≤◌, ◌+◌, ◌++◌, ℕ, [], IfErr, List, OnOk, Result, false, length, string_bytes};
-ghost use Rattle.std.specs.Prelude.{string_capacity, string_len};
+ghost use Rattle.std.specs.Prelude.{◌&&◌, nat_le, string_capacity, string_len};
+ghost use Rattle.mvd_dots.specs.Refusal.{number_of};
 ghost use Rattle.mvd_print.specs.Text.{written_text};
 ghost use Rattle.mvd_shell.specs.Talk.{AsksInTurn, MayHaveAsked, Prints_line, ShowsText, Speaks, SpeaksPages, TellsPage};
-ghost use Rattle.mvd_shell.specs.Talk.{TurnsPage, is_taken, shell_text, told_text};
+ghost use Rattle.mvd_shell.specs.Talk.{TurnsPage, is_taken, refused_of};
+ghost use Rattle.mvd_shell.specs.Talk.{shell_text, told_text};
 ghost use Rattle.mvd_shell.specs.Told.{tells_terms, unknown_text};
 
 use crate::losses::Losses;
@@ -13,7 +15,7 @@ use itoa::Buffer;
 use mvd_dots::{Dot, Refusal};
 use mvd_input::Ask;
 use mvd_peer::Endpoint;
-use mvd_print::{print_refusal, print_reply};
+use mvd_print::{FaultPlace, print_refusal, print_refusal_at, print_reply};
 use mvd_wire::{Reply, Request};
 use std::alloc::Global;
 use std::fmt::Write as Print;
@@ -40,26 +42,59 @@ pub fn answer<A: Endpoint, L: Losses<A>>(
     let before = L::lost(asked);
     let said = say(alloc, asked, ask, out);
     let is_known = before == L::lost(asked);
-    end_line(is_known, said, out)
+    end_line(alloc, ask, is_known, said, out)
 }
 
 /// Where something was refused, only that is printed: as a refusal, if it is known whether each write was done.
-fn end_line(is_known: bool, said: Result<(), Refusal>, out: &mut String) -> Result<(), Refusal>
+fn end_line(
+    alloc: Global,
+    ask: Ask<'_>,
+    is_known: bool,
+    said: Result<(), Refusal>,
+    out: &mut String,
+) -> Result<(), Refusal>
     ensures told { (told : Result (List ℕ) Refusal) → ShowsText told [] (string_bytes out.old) said →
-        OnOk result (string_bytes out.new ≡ shell_text is_known told) }
+        OnOk result (string_bytes out.new ≡ shell_text ask.entry is_known told) }
     ensures memory { IfErr result (λ refusal. refusal ≡ Refusal.Memory) }
 {
-    if is_known {
-        return settle(said, out);
-    }
     match said {
         Ok(()) => Ok(()),
         Err(refusal) => {
             out.clear();
-            print_unknown(refusal, out)?;
-            Ok(())
+            if is_known {
+                print_refused(alloc, ask, refusal, out)
+            } else {
+                print_unknown(refusal, out)
+            }
         }
     }
+}
+
+/// Prints a refusal; of the document that a put has, with the place of what is wrong.
+fn print_refused(
+    alloc: Global,
+    ask: Ask<'_>,
+    refusal: Refusal,
+    out: &mut String,
+) -> Result<(), Refusal>
+    ensures text { OnOk result (string_bytes out.new ≡ string_bytes out.old ++ refused_of ask.entry refusal) }
+    ensures memory { IfErr result (λ refusal. refusal ≡ Refusal.Memory) }
+{
+    match ask {
+        Ask::Put { document, .. } if is_of_document(refusal) => {
+            let place = FaultPlace::find(alloc, refusal, document)?;
+            Ok(print_refusal_at(refusal, &place, out)?)
+        }
+        _ => Ok(print_refusal(refusal, out)?),
+    }
+}
+
+/// Whether a refusal says what is wrong with a document.
+fn is_of_document(refusal: Refusal) -> bool
+    ensures { result ≡ (nat_le 3 (number_of refusal) && nat_le (number_of refusal) 6) }
+{
+    let number = refusal.number();
+    3 <= number && number <= 6
 }
 
 /// Prints that it is unknown whether a write was done, and what its reply was lost to.

@@ -5,7 +5,7 @@ use crate::many_requests::{MANY, OTHER_LINES, REFUSED_LINES};
 use mvd_docs::{Field, ViewName};
 use mvd_dots::Refusal;
 use mvd_http::{
-    Fault, Question, live_response_of, push_line, question_of, refused_response, response_of,
+    Fault, Question, live_response_of, misread_response, push_line, question_of, refused_response, response_of,
 };
 use mvd_rows::Defs;
 use mvd_site::{Config, Site};
@@ -119,6 +119,7 @@ fn told(
         Question::Many(items) => all_of(site, items.as_slice(), out),
         Question::Changes(since, wait) => tell_since(out, *since, *wait),
         Question::TooManyLines => tell(out, Fault::ContentTooLarge),
+        Question::Misread(refusal, place) => Ok(misread_response(out, *refusal, place)?),
         Question::Nowhere => tell(out, Fault::NotFound),
         Question::NotAllowed(_) => tell(out, Fault::MethodNotAllowed),
         _ => Ok(200),

@@ -114,7 +114,7 @@ pub const REFUSALS: &[Row] = &[
         None,
         b"{\"a\":\"\xFF\"}",
         400,
-        "{\"refused\":3,\"name\":\"BadDocument\"}",
+        "{\"refused\":3,\"name\":\"BadDocument\",\"at\":\"\"}",
     ),
     (
         "PUT",
@@ -122,15 +122,15 @@ pub const REFUSALS: &[Row] = &[
         None,
         b"[]",
         400,
-        "{\"refused\":4,\"name\":\"NotObject\"}",
+        "{\"refused\":4,\"name\":\"NotObject\",\"at\":\"\"}",
     ),
     (
         "PUT",
         "/keys/k",
         None,
-        b"{\"a\":1.5}",
+        b"{\"b\":-0,\"a/~\":[1,{\"c\":1.5}]}",
         400,
-        "{\"refused\":5,\"name\":\"BadNumber\"}",
+        "{\"refused\":5,\"name\":\"BadNumber\",\"at\":\"/a~1~0/1/c\"}",
     ),
     (
         "POST",

@@ -12,6 +12,6 @@ loop-peering-preserved c =
     let at : i < length items = omega arith in
     record {
       few = places_kept items i c.hear.new.self c.peering-item.result at c.loop-peering.invariant.few c.hear.ensures.places;
-      heard = heard_more _ items i _ _ c.hear.new.self at c.hear.ensures.news c.loop-peering.invariant.heard;
+      heard = heard_more _ items i _ _ _ c.hear.new.self at c.hear.ensures.news c.loop-peering.invariant.heard;
       deeds = deeds_on (talking_of c.args.crowd.now.talks) (talking_of c.loop-peering.crowd.talks) (talking_of c.hear.new.crowd.talks) c.loop-peering.invariant.deeds c.hear.ensures.deeds;
     }

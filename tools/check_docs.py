@@ -316,7 +316,7 @@ BROKEN = [
     ("CONTRIBUTING.md", "`Clashes.antt`, ", "", "no mvd_kept/proofs/Clashes.antt"),
     ("docs/THEOREM.md", "sites.rt:answer` | 2", "sites.rt:answer` | ", "definitions, and at most"),
     ("docs/THEOREM.md", "sites.rt:answer` | 2", "sites.rt:no_such_" "call` | 2", "no function no_such_" "call"),
-    ("docs/THEOREM.md", "| `sync_run` | ", "| ", "fewer than ten calls"),
+    ("docs/THEOREM.md", "| `run:", "| ", "fewer than ten calls"),
     ("docs/GATE.md", "| `mvd_dots` | ", "| `mvd_dots` | 9", "other lines than tools/lanes.py"),
 ]
 # What no rule is against: a table's row, and a sentence of 45 words, as long as they like.

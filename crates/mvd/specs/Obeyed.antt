@@ -3,6 +3,7 @@ use Rattle.std.specs.Prelude.{◌≡◌, ℕ, List, Result, Ok, Err}
 use Rattle.std.specs.declared.net.socket_addr.SocketAddr.{SocketAddr}
 use Rattle.clap.specs.Walk.{Text}
 use Rattle.mvd_app.specs.Done.{DoesOrder}
+use Rattle.mvd_app.specs.Stored.{SiteLeft}
 use Rattle.mvd_app.specs.Tasks.{Outside}
 use Rattle.mvd_app.specs.declared.closing.Ran.{Ran}
 use Rattle.mvd_hint.specs.declared.hint.Stop.{Stop}
@@ -43,7 +44,7 @@ module _ {D : Type 0} {g : disk.Ghosts D} (f : Ghosts (FileStore D g)) {K L : Ty
   -- an order is done, and the status is of how that ended; without an order nothing is done
   abbrev pub DoesRead : Result Order OrderFault → Outside K → Outside K → ℕ → Type 0
   DoesRead (Ok order) was now status =
-      (ran : Ran D) × DoesOrder f k line gives image order was now ran × (status ≡ status_after ran.ended)
+      (ran : Ran (SiteLeft D g f)) × DoesOrder f k line gives image order was now ran × (status ≡ status_after ran.ended)
   DoesRead (Err fault) was now status = (now ≡ was) × (status ≡ unread_status fault)
 
   -- WHAT THE WORDS ASK FOR IS DONE, if they ask for something

@@ -1,3 +1,4 @@
+pub mod Commanded
 pub mod Ending
 pub mod Following
 pub mod Frames

@@ -1,7 +1,8 @@
 -- What a command that told its turns leaves in its file is a run of the store.
-use Rattle.std.proofs.Common.{◌≡◌, ℕ, List, Option, Some, None, Ok, inl, inr, subst, sym}
-use Rattle.mvd_app.specs.Done.{IsFileLeft, IsRunOf}
-use Rattle.mvd_app.specs.Stored.{ClosesOrNot}
+use Rattle.std.proofs.Common.{◌≡◌, ℕ, List, Option, Ok, inl, inr, subst, sym}
+use Rattle.mvd_app.specs.OnFile.{IsFileLeft, IsRunOf}
+use Rattle.mvd_app.specs.Stored.{LeavesSite, SiteLeft}
+use Rattle.mvd_app.specs.declared.closing.Left.TheVariants.{Closed, Open, Unclosed}
 use Rattle.mvd_hint.specs.declared.harm.Harm.{Harm}
 use Rattle.mvd_records.specs.Records.{IsOurs}
 use Rattle.mvd_replica.specs.File.{IsFoundAt}
@@ -17,7 +18,6 @@ use Rattle.sqlite.specs.Effect.{Database}
 use Rattle.sqlite.specs.Recovery.{Image}
 use Rattle.sqlite.specs.State.{HasCleanDisk}
 use Rattle.sqlite_disk.specs.declared.Disk as disk
-use Rattle.sqlite_disk.specs.declared.Files.{Files}
 use Rattle.sqlite_store.specs.declared.store.FileStore.{FileStore}
 use Rattle.sqlite_trees.specs.declared.store.Store.{Ghosts}
 
@@ -28,12 +28,16 @@ module _ {D : Type 0} {g : disk.Ghosts D} {f : Ghosts (FileStore D g)} where
 
 module _ {D : Type 0} {g : disk.Ghosts D} {f : Ghosts (FileStore D g)} (image : Image) (i : ℕ) (config : ConfigValue) (number : config.site ≡ i) (old new : Replica (FileStore D g) f)
     (opened : OpensAsSite image config (Ok old)) (rests : HasCleanDisk (file_of old) → (was : Database) × IsFoundAt image was × (IsOurs was → IsAtRest (in_file old))) where
-  passes : (turns : List Turn) → WorksBy turns (in_file old) (in_file new) → (harm : Option Harm) (files : Option (Files D)) → ClosesOrNot new harm files → (after : Image) → IsFileLeft new files after →
+  passes : (turns : List Turn) → WorksBy turns (in_file old) (in_file new) → (harm : Option Harm) (left : SiteLeft D g f) → LeavesSite new harm left → (after : Image) → IsFileLeft new left after →
       Passes i (setup_of config) turns image after
-  passes turns works harm (Some files) closed after (clean, inl is) =
+  passes turns works harm (Closed files) closed after (clean, inl is) =
       subst (λ (m : Image). Passes i (setup_of config) turns image m) (sym is) (closed_run i image config turns old new number opened works files (closed.1.1 clean))
-  passes turns works harm (Some files) closed after (clean, inr may) = left_run i image config turns old new number opened works files (closed.1.1 clean) after may
-  passes turns works harm None closed after (clean, trees, may, holds) = stopped_run i image config turns old new number opened works rests after trees clean may holds
+  passes turns works harm (Closed files) closed after (clean, inr may) = left_run i image config turns old new number opened works files (closed.1.1 clean) after may
+  passes turns works harm (Open site) closed after (clean, trees, may, holds) =
+      stopped_run i image config turns old new number opened works rests after trees (subst (λ (r : Replica (FileStore D g) f). HasCleanDisk (file_of r)) closed.0 clean)
+      (subst (λ (r : Replica (FileStore D g) f). (file_of r).may_leave trees) closed.0 may) holds
+  passes turns works harm (Unclosed store) closed after (clean, trees, may, holds) =
+      stopped_run i image config turns old new number opened works rests after trees clean (closed.1.crash trees may) holds
 
-  pub runs_of : (turns : List Turn) → WorksBy turns (in_file old) (in_file new) → (harm : Option Harm) (files : Option (Files D)) → ClosesOrNot new harm files → IsRunOf image i config turns new files
-  runs_of turns works harm files closed = λ after left. passes turns works harm files closed after left
+  pub runs_of : (turns : List Turn) → WorksBy turns (in_file old) (in_file new) → (harm : Option Harm) (left : SiteLeft D g f) → LeavesSite new harm left → IsRunOf image i config turns new left
+  runs_of turns works harm left closed = λ after is. passes turns works harm left closed after is

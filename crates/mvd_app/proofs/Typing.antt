@@ -4,7 +4,7 @@ use Rattle.std.proofs.lemmas.List.{append-nil}
 use Rattle.std.specs.Prelude.{IfOk, IfSome, option_map}
 use Rattle.std.specs.List.{AllByRecursion}
 use Rattle.std.specs.Borrow.{Bor}
-use Rattle.mvd_app.specs.Noted.{Noted, Noting, lost_noted, noted_with}
+use Rattle.mvd_app.specs.Noted.{Noted, Noting, lost_noted, with_noted}
 use Rattle.mvd_app.specs.Tasks.{turns_asked}
 use Rattle.mvd_docs.specs.Document.{document_of}
 use Rattle.mvd_docs.specs.Name.{field_of, view_name_of}
@@ -183,14 +183,14 @@ ask_fine a exchanges told it =
 module _ {A : Type 0} (Answers : A → A → Request → Reply → Type 0) where
   -- the same requests, each noted behind those before
   answers_noted : (exchanges : List Exchange) (old new : A) (log : List Exchange) → AnswersExchanges Answers exchanges old new →
-      AnswersExchanges (Noting Answers) exchanges (noted_with old log) (noted_with new (log ++ exchanges))
+      AnswersExchanges (Noting Answers) exchanges (with_noted old log) (with_noted new (log ++ exchanges))
   unfolding AnswersExchanges
-  answers_noted [] old new log same = rw (append-nil log) (ap (λ (a : A). noted_with a log) same)
+  answers_noted [] old new log same = rw (append-nil log) (ap (λ (a : A). with_noted a log) same)
   answers_noted (exchange ∷ exchanges) old new log (between, one, others) =
       let log' = log ++ exchange ∷ [] in (
-        noted_with between log',
+        with_noted between log',
         record { answers = one; notes = refl },
-        subst (λ (l : List Exchange). AnswersExchanges (Noting Answers) exchanges (noted_with between log') (noted_with new l))
+        subst (λ (l : List Exchange). AnswersExchanges (Noting Answers) exchanges (with_noted between log') (with_noted new l))
             (append_assoc log (exchange ∷ []) exchanges) (answers_noted exchanges between new log' others),
       )
 
@@ -199,16 +199,16 @@ module _ {A : Type 0} (Answers : A → A → Request → Reply → Type 0) where
     pub exchanges : List Exchange
     pub answered : AnswersExchanges Answers exchanges old new
     pub fine : AreFine exchanges
-    pub noting : (log : List Exchange) → P (noted_with old log) (noted_with new (log ++ exchanges))
+    pub noting : (log : List Exchange) → P (with_noted old log) (with_noted new (log ++ exchanges))
 
   -- nothing was asked
-  asks_none : (P : Noted A → Noted A → Type 0) (old new : A) → new ≡ old → ((log : List Exchange) → noted_with new log ≡ noted_with old log → P (noted_with old log) (noted_with new log)) → Asks P old new
+  asks_none : (P : Noted A → Noted A → Type 0) (old new : A) → new ≡ old → ((log : List Exchange) → with_noted new log ≡ with_noted old log → P (with_noted old log) (with_noted new log)) → Asks P old new
   unfolding AnswersExchanges
   asks_none P old new same then = record {
     exchanges = [];
     answered = same;
     fine = tt;
-    noting = λ log. subst (λ (l : List Exchange). P (noted_with old log) (noted_with new l)) (sym (append-nil log)) (then log (ap (λ (a : A). noted_with a log) same));
+    noting = λ log. subst (λ (l : List Exchange). P (with_noted old log) (with_noted new l)) (sym (append-nil log)) (then log (ap (λ (a : A). with_noted a log) same));
   }
 
   -- one thing, and then another
@@ -217,12 +217,12 @@ module _ {A : Type 0} (Answers : A → A → Request → Reply → Type 0) where
     exchanges = one.exchanges ++ other.exchanges;
     answered = answered_both Answers one.exchanges other.exchanges old mid new one.answered other.answered;
     fine = fine_both one.exchanges other.exchanges one.fine other.fine;
-    noting = λ log. subst (λ (l : List Exchange). R (noted_with old log) (noted_with new l)) (append_assoc log one.exchanges other.exchanges)
-        (both (noted_with old log) (noted_with mid (log ++ one.exchanges)) (noted_with new (log ++ one.exchanges ++ other.exchanges)) (one.noting log) (other.noting (log ++ one.exchanges)));
+    noting = λ log. subst (λ (l : List Exchange). R (with_noted old log) (with_noted new l)) (append_assoc log one.exchanges other.exchanges)
+        (both (with_noted old log) (with_noted mid (log ++ one.exchanges)) (with_noted new (log ++ one.exchanges ++ other.exchanges)) (one.noting log) (other.noting (log ++ one.exchanges)));
   }
 
   asks_as : (P Q : Noted A → Noted A → Type 0) (old new : A) → ((a b : Noted A) → P a b → Q a b) → Asks P old new → Asks Q old new
-  asks_as P Q old new wider it = record { exchanges = it.exchanges; answered = it.answered; fine = it.fine; noting = λ log. wider (noted_with old log) (noted_with new (log ++ it.exchanges)) (it.noting log) }
+  asks_as P Q old new wider it = record { exchanges = it.exchanges; answered = it.answered; fine = it.fine; noting = λ log. wider (with_noted old log) (with_noted new (log ++ it.exchanges)) (it.noting log) }
 
 -- ---- lines
 

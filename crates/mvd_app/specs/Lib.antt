@@ -1,8 +1,10 @@
+pub mod Commands
 pub mod Done
 pub mod Found
 pub mod Looped
 pub mod Named
 pub mod Noted
+pub mod OnFile
 pub mod Refused
 pub mod Stored
 pub mod Tasks

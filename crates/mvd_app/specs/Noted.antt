@@ -9,12 +9,12 @@ pub record Noted (A : Type 0) : Type 0 where
   pub asked : A
   pub exchanges : List Exchange
 
-abbrev pub noted_with : {A : Type 0} → A → List Exchange → Noted A
-noted_with asked exchanges = record { asked = asked; exchanges = exchanges }
+abbrev pub with_noted : {A : Type 0} → A → List Exchange → Noted A
+with_noted asked exchanges = record { asked = asked; exchanges = exchanges }
 
 -- a moment of a shell, so far
 abbrev pub at_noted : {A : Type 0} → At A → List Exchange → At (Noted A)
-at_noted moment exchanges = at (noted_with moment.asked exchanges) moment.input moment.out
+at_noted moment exchanges = at (with_noted moment.asked exchanges) moment.input moment.out
 
 -- it answers as before, and this is noted behind what was noted
 pub record Noting {A : Type 0} (Answers : A → A → Request → Reply → Type 0) (old new : Noted A) (request : Request)

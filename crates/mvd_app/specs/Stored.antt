@@ -5,6 +5,8 @@ use Rattle.std.specs.FinMap.{empty as no_states}
 use Rattle.mvd_app.specs.Named.{StopsAtDefs, StopsAtToken}
 use Rattle.mvd_app.specs.Refused.{TellsFileFault}
 use Rattle.mvd_app.specs.Tasks.{Serving, Syncing, Task, Typing}
+use Rattle.mvd_app.specs.declared.closing.Left.{Left}
+use Rattle.mvd_app.specs.declared.closing.Left.TheVariants.{Closed, Open, Unclosed}
 use Rattle.mvd_app.specs.declared.closing.Ran.{Ran}
 use Rattle.mvd_dots.specs.declared.refusals.Refusal.TheVariants.{Broken, Store}
 use Rattle.mvd_hint.specs.Harm.{bars_closing}
@@ -17,7 +19,6 @@ use Rattle.mvd_input.specs.declared.order.Order.{Order}
 use Rattle.mvd_input.specs.declared.order.Order.TheVariants as order
 use Rattle.mvd_input.specs.declared.order.Setup.{Setup}
 use Rattle.mvd_replica.specs.FileCalls.{ClosesInto, FailsClosing}
-use Rattle.mvd_replica.specs.Programs.{LeavesFile}
 use Rattle.mvd_replica.specs.Refused.{FailsFile}
 use Rattle.mvd_replica.specs.Replicas.{site_of}
 use Rattle.mvd_replica.specs.declared.file.FileFault.{FileFault}
@@ -67,48 +68,50 @@ pub record IsConfigFor (setup : Setup) (config : ConfigValue) : Type 0 where
 
 -- ---- the end of the work
 
--- a command is stopped with what its work was stopped with; else, where no file comes back, since the site is broken or
--- its file cannot be closed
-abbrev pub EndsAsWorked : {D : Type 0} → Result (Unit {0}) Stop → Option (Files D) → Bool → Result (Unit {0}) Stop
+-- a command is stopped with what its work was stopped with; else, where no file was closed, since the site is broken or
+-- its file cannot be
+abbrev pub EndsAsWorked : {F R S : Type 0} → Result (Unit {0}) Stop → Left F R S → Bool → Result (Unit {0}) Stop
     → Type 0
-EndsAsWorked (Err stop) files broken ended = ended ≡ Err stop
-EndsAsWorked (Ok done) (Some files) broken ended = ended ≡ Ok tt
-EndsAsWorked (Ok done) None broken ended =
+EndsAsWorked (Err stop) left broken ended = ended ≡ Err stop
+EndsAsWorked (Ok done) (Closed files) broken ended = ended ≡ Ok tt
+EndsAsWorked (Ok done) left broken ended =
     IsErrAnd ended (λ stop. stop.fault ≡ Stopped (if broken then Broken else Store))
 
 -- the harm that came to its file goes first: no command ends well then
-abbrev pub EndsAs : {D : Type 0} → Bor (List ℕ) → Option Harm → Result (Unit {0}) Stop → Option (Files D) → Bool
+abbrev pub EndsAs : {F R S : Type 0} → Bor (List ℕ) → Option Harm → Result (Unit {0}) Stop → Left F R S → Bool
     → Result (Unit {0}) Stop → Type 0
-EndsAs db (Some harm) worked files broken ended = ended ≡ Err (stop_at_harm db harm)
-EndsAs db None worked files broken ended = EndsAsWorked worked files broken ended
+EndsAs db (Some harm) worked left broken ended = ended ≡ Err (stop_at_harm db harm)
+EndsAs db None worked left broken ended = EndsAsWorked worked left broken ended
 
 -- its harm bars a close
 abbrev pub BarsClosing : Option Harm → Type 0
 BarsClosing None = ⊥
 BarsClosing (Some harm) = IsTrue (bars_closing harm)
 
-module _ {D : Type 0} {g : disk.Ghosts D} {f : Ghosts (FileStore D g)} where
-  -- a site that is not broken, whose file cannot be closed
-  abbrev pub CannotClose : Replica (FileStore D g) f → Type 0
-  CannotClose replica = (failed : Error × FileStore D g) × FailsClosing replica failed
+-- what may be left of a site: its file, closed; the site; or its store
+abbrev pub SiteLeft : (D : Type 0) (g : disk.Ghosts D) → Ghosts (FileStore D g) → Type 0
+SiteLeft D g f = Left (Files D) (Replica (FileStore D g) f) (FileStore D g)
 
-  -- the site is whole, no harm bars a close, and its file is closed; or there is no such file, since the site is broken,
-  -- its harm bars that, or the file cannot be closed
-  abbrev pub ClosesOrNot : Replica (FileStore D g) f → Option Harm → Option (Files D) → Type 0
-  ClosesOrNot replica harm (Some files) =
+-- the file that was closed
+abbrev pub closed_in : {F R S : Type 0} → Left F R S → Option F
+closed_in (Closed files) = Some files
+closed_in left = None
+
+module _ {D : Type 0} {g : disk.Ghosts D} {f : Ghosts (FileStore D g)} where
+  -- The site is whole, no harm bars a close, and its file is closed; or the site is left as it is, since it is broken or
+  -- its harm bars that; or its store is, whose file cannot be closed
+  abbrev pub LeavesSite : Replica (FileStore D g) f → Option Harm → SiteLeft D g f → Type 0
+  LeavesSite replica harm (Closed files) =
       ((site_of replica).broken ≡ false) × ((¬ BarsClosing harm) × ClosesInto replica files)
-  ClosesOrNot replica harm None = ((site_of replica).broken ≡ true) ⊎ (BarsClosing harm ⊎ CannotClose replica)
+  LeavesSite replica harm (Open site) =
+      (site ≡ replica) × (((site_of replica).broken ≡ true) ⊎ BarsClosing harm)
+  LeavesSite replica harm (Unclosed store) = (error : Error) × FailsClosing replica (error, store)
 
 -- ---- what comes back
 
--- the file of the order's site, as a run leaves it
-abbrev pub GivesBack : {D : Type 0} → disk.Ghosts D → Image → Option Filed → Files D → Type 0
-GivesBack g image (Some filed) files = LeavesFile g image filed.setup.site files
-GivesBack g image None files = ⊥
-
--- no file comes back
-pub record IsWithoutFile {D : Type 0} (how : Result (Unit {0}) Stop) (ran : Ran D) : Type 0 where
-  pub files : ran.files ≡ None
+-- nothing is left of a site
+pub record IsWithoutFile {L : Type 0} (how : Result (Unit {0}) Stop) (ran : Ran L) : Type 0 where
+  pub left : ran.left ≡ None
   pub ended : ran.ended ≡ how
 
 -- a file is lost, and its log is still there
@@ -118,10 +121,10 @@ pub record TellsLost (file : Bor (List ℕ)) (stop : Stop) : Type 0 where
 
 module _ {D : Type 0} {g : disk.Ghosts D} (f : Ghosts (FileStore D g)) where
   -- the files refuse the site, for a cause, which is told
-  abbrev pub RefusesFile : Image → ConfigValue → Bor (List ℕ) → Stop → Type 0
-  RefusesFile image config db stop =
+  abbrev pub StopsAtFile : Image → ConfigValue → Bor (List ℕ) → Stop → Type 0
+  StopsAtFile image config db stop =
       (fault : FileFault D g) × FailsFile image config fault × TellsFileFault f db fault stop
 
   -- The site was not opened: its file is lost; or the files refuse it
   abbrev pub CannotOpen : Image → ConfigValue → Bor (List ℕ) → Stop → Type 0
-  CannotOpen image config db stop = TellsLost db stop ⊎ RefusesFile image config db stop
+  CannotOpen image config db stop = TellsLost db stop ⊎ StopsAtFile image config db stop

@@ -1,6 +1,6 @@
 //! How a command ends that worked on a file.
 ghost use Rattle.std.specs.Prelude.{None, Some};
-ghost use Rattle.mvd_app.specs.Stored.{ClosesOrNot, EndsAs};
+ghost use Rattle.mvd_app.specs.Stored.{EndsAs, LeavesSite};
 ghost use Rattle.mvd_replica.specs.Replicas.{site_of};
 
 use mvd_dots::Refusal;
@@ -9,10 +9,22 @@ use mvd_replica::Replica;
 use sqlite::{FileStore, Files};
 use sqlite_disk::Disk;
 
-/// How a command ended, and the file that it worked on with its log, closed.
+/// What is left of a site that was worked on: its file with its log, closed; the site, where it is not to be closed; or
+/// its store, where its file could not be.
 #[derive(Drop)]
-pub struct Ran<'a, D: Disk + Drop> {
-    pub files: Option<Files<D>>,
+pub enum Left<F: Drop, R: Drop, S: Drop> {
+    Closed(F),
+    Open(R),
+    Unclosed(S),
+}
+
+/// What is left of a site whose file stands on such a disk.
+pub type LeftOf<D> = Left<Files<D>, Replica<FileStore<D>>, FileStore<D>>;
+
+/// How a command ended, and what is left of the site that it worked on. Who is given that can only drop it.
+#[derive(Drop)]
+pub struct Ran<'a, L: Drop> {
+    pub(crate) left: Option<L>,
     pub ended: Result<(), Stop<'a>>,
 }
 
@@ -23,43 +35,37 @@ pub fn finish<'a, D: Disk + Drop>(
     replica: Replica<FileStore<D>>,
     worked: Result<(), Stop<'a>>,
     harm: Option<Harm>,
-) -> Ran<'a, D>
-    // The file comes back, closed, unless the site is broken, its harm bars that, or it cannot be closed.
-    ensures files { ClosesOrNot replica harm result.files }
+) -> (LeftOf<D>, Result<(), Stop<'a>>)
+    // It is closed, unless it is broken, its harm bars that, or its file cannot be: then it, or its store, is left.
+    ensures left { LeavesSite replica harm result.0 }
     // The command is stopped with the harm that came to its file; else with what the work was stopped with; else with 22
     // where the site is broken, and with 21 where its file cannot be closed.
-    ensures ended { EndsAs db.entry harm worked.entry result.files (site_of replica).broken result.ended }
+    ensures ended { EndsAs db.entry harm worked.entry result.0 (site_of replica).broken result.1 }
 {
     match harm {
         Some(harm) => {
-            let files = files_after(replica, harm);
-            Ran {
-                files,
-                ended: Err(Stop::in_harmed(db, harm)),
-            }
+            let left = left_after(replica, harm);
+            (left, Err(Stop::in_harmed(db, harm)))
         }
         None => finish_whole(db, replica, worked),
     }
 }
 
-/// The file of a site that came to harm, closed, unless that would lose more, or it cannot be closed.
-fn files_after<D: Disk + Drop>(site: Replica<FileStore<D>>, harm: Harm) -> Option<Files<D>>
-    ensures { ClosesOrNot site (Some harm) result }
+/// The file of a site that came to harm, closed; or the site, where that would lose more, or its store.
+fn left_after<D: Disk + Drop>(site: Replica<FileStore<D>>, harm: Harm) -> LeftOf<D>
+    ensures { LeavesSite site (Some harm) result }
 {
     if harm.bars_closing() {
-        drop(site);
-        return None;
+        return Left::Open(site);
     }
     if site.is_broken() {
-        drop(site);
-        return None;
+        return Left::Open(site);
     }
     match site.close() {
-        Ok(files) => Some(files),
+        Ok(files) => Left::Closed(files),
         Err((error, store)) => {
             let _error = error;
-            drop(store);
-            None
+            Left::Unclosed(store)
         }
     }
 }
@@ -69,24 +75,19 @@ fn finish_whole<'a, D: Disk + Drop>(
     db: &'a str,
     replica: Replica<FileStore<D>>,
     worked: Result<(), Stop<'a>>,
-) -> Ran<'a, D>
-    ensures files { ClosesOrNot replica None result.files }
-    ensures ended { EndsAs db.entry None worked.entry result.files (site_of replica).broken result.ended }
+) -> (LeftOf<D>, Result<(), Stop<'a>>)
+    ensures left { LeavesSite replica None result.0 }
+    ensures ended { EndsAs db.entry None worked.entry result.0 (site_of replica).broken result.1 }
 {
     if replica.is_broken() {
-        drop(replica);
         let ended = worked.and(Err(Stop::from(Refusal::Broken)));
-        return Ran { files: None, ended };
+        return (Left::Open(replica), ended);
     }
     match replica.close() {
-        Ok(files) => Ran {
-            files: Some(files),
-            ended: worked,
-        },
+        Ok(files) => (Left::Closed(files), worked),
         Err((error, store)) => {
-            drop(store);
             let ended = worked.and(Err(Stop::in_file(db, error)));
-            Ran { files: None, ended }
+            (Left::Unclosed(store), ended)
         }
     }
 }

@@ -3,7 +3,8 @@ ghost use Rattle.std.specs.Prelude.{◌≡◌, ◌⊎◌, IfErr, IfOk, IfSome, L
 ghost use Rattle.mvd_app.specs.Done.{DoesFile, DoesOrder};
 ghost use Rattle.mvd_app.specs.Looped.{IsLooped};
 ghost use Rattle.mvd_app.specs.Named.{StopsAtDefs, StopsAtToken};
-ghost use Rattle.mvd_app.specs.Stored.{GivesBack, IsConfigFor, IsWithoutFile, file_in, filed};
+ghost use Rattle.mvd_app.specs.OnFile.{RunsOnFile, setup_in};
+ghost use Rattle.mvd_app.specs.Stored.{IsConfigFor, IsWithoutFile, filed};
 ghost use Rattle.mvd_app.specs.Tasks.{DoesTask, IsMet, IsSimulated, IsTypedAt, MayWork, outside, task_of};
 ghost use Rattle.mvd_client.specs.LetIn.{GivesIn};
 ghost use Rattle.mvd_client.specs.SyncsAt.{TellsSession};
@@ -12,7 +13,7 @@ ghost use Rattle.mvd_input.specs.Orders.{IsInRange, IsSetUp};
 ghost use Rattle.mvd_replica.specs.Turns.{Turn};
 ghost use Rattle.sqlite.specs.WalFiles.{image_at};
 
-use crate::closing::{Ran, finish};
+use crate::closing::{LeftOf, Ran, finish};
 use crate::looping::loop_run;
 use crate::opening::opened;
 use crate::serve_command::serve_stored;
@@ -43,8 +44,8 @@ enum Work<'a> {
 }
 
 /// Runs an order, from `reader` where it reads lines, and to `writer`. A file that it works on is made where it is
-/// missing. It comes back with its log, closed, also where the command was stopped, unless its site is broken or it
-/// cannot be closed. What stands in it at first is what `start` names, which no code reads. `dial` leads to the server
+/// missing. It is closed, with its log, also where the command was stopped, unless its site is broken or it cannot be
+/// closed; and whatever is left of the site comes back, to be dropped. What stands in it at first is what `start` names, which no code reads. `dial` leads to the server
 /// of a session or a shell, and `sockets` move the bytes of the clients that are served.
 pub fn run<'a, S: Start, D: Dial, K: Sockets, R: BufRead, W: Write>(
     rt: &'a HostRuntime,
@@ -54,14 +55,15 @@ pub fn run<'a, S: Start, D: Dial, K: Sockets, R: BufRead, W: Write>(
     sockets: &mut K,
     reader: &mut R,
     writer: &mut W,
-) -> Ran<'a, FileFrom<S>>
+) -> Ran<'a, LeftOf<FileFrom<S>>>
     requires { IsInRange order }
-    // If files come back clean, no write is lost that they held, of either version; and new files hold the site.
-    ensures kept { IfSome result.files (GivesBack ⟦<FileFrom<S> as Disk>⟧ (image_at S.Start) (file_in order.entry)) }
-    // The site of the file was not opened, and the command is stopped with what a file told. Or its task was done, and
-    // nothing else, and it was closed, if it is whole and can be; then a run of the store by the task's turns stands in
-    // the file. What a script, a shell, a session or `loop` read and printed is of what it did.
-    ensures done { DoesOrder ⟦<FileStore<FileFrom<S>> as Store>⟧ K.Sockets D.Dialed.Line (D.gives dial.now)
+    // What stands in the file of the order's site then. The site was not opened, and the command is stopped; or it took
+    // turns, and what they come to is left, also by a stop.
+    ensures file { RunsOnFile ⟦<FileStore<FileFrom<S>> as Store>⟧ (image_at S.Start) (setup_in order.entry) result }
+    // What was printed, and how the command ended. The site was not opened, and it is stopped with what a file told. Or
+    // its task was done, and nothing else: these are the turns that it took. Of a file that was closed no write is lost
+    // that it held, of either version. What a script, a shell, a session or `loop` read and printed is of what it did.
+    ensures told { DoesOrder ⟦<FileStore<FileFrom<S>> as Store>⟧ K.Sockets D.Dialed.Line (D.gives dial.now)
         (image_at S.Start) order.entry (outside sockets.old (R.remaining reader.old) (W.contents writer.old))
         (outside sockets.new (R.remaining reader.new) (W.contents writer.new)) result }
 {
@@ -151,11 +153,11 @@ pub fn run<'a, S: Start, D: Dial, K: Sockets, R: BufRead, W: Write>(
 }
 
 /// How a command ends that works on no file.
-fn without_file<'a, S: Start>(ended: Result<(), Stop<'a>>, start: S) -> Ran<'a, FileFrom<S>>
+fn without_file<'a, S: Start>(ended: Result<(), Stop<'a>>, start: S) -> Ran<'a, LeftOf<FileFrom<S>>>
     ensures { IsWithoutFile ended.entry result }
 {
     drop(start);
-    Ran { files: None, ended }
+    Ran { left: None, ended }
 }
 
 fn run_sim<'a, R: BufRead, W: Write>(
@@ -201,8 +203,8 @@ fn unlooped<'a>(fault: Fault) -> Stop<'a>
 }
 
 /// Opens the site that a file holds, which is made where it is missing, works on it, and closes it: what the log holds
-/// is copied into the file, and both are given back. Before that it looks whether they still are what was opened. It is proved for whatever stands in the file. The definitions and
-/// the token are read first.
+/// is copied into the file. Before that it looks whether they still are what was opened. It is proved for whatever
+/// stands in the file. The definitions and the token are read first.
 fn run_stored<'a, S: Start, D: Dial, K: Sockets, R: BufRead, W: Write>(
     rt: &HostRuntime,
     db: &'a str,
@@ -214,12 +216,11 @@ fn run_stored<'a, S: Start, D: Dial, K: Sockets, R: BufRead, W: Write>(
     sockets: &mut K,
     reader: &mut R,
     writer: &mut W,
-) -> Ran<'a, FileFrom<S>>
+) -> Ran<'a, LeftOf<FileFrom<S>>>
     requires set_up { IsSetUp setup }
     requires work { MayWork work }
-    ensures kept { IfSome result.files (GivesBack ⟦<FileFrom<S> as Disk>⟧ (image_at S.Start)
-        (Some (filed db.entry setup.entry token_file.entry (task_of work.entry)))) }
-    ensures done { DoesFile ⟦<FileStore<FileFrom<S>> as Store>⟧ K.Sockets D.Dialed.Line (D.gives dial.now)
+    ensures file { RunsOnFile ⟦<FileStore<FileFrom<S>> as Store>⟧ (image_at S.Start) (Some setup.entry) result }
+    ensures told { DoesFile ⟦<FileStore<FileFrom<S>> as Store>⟧ K.Sockets D.Dialed.Line (D.gives dial.now)
         (image_at S.Start) (filed db.entry setup.entry token_file.entry (task_of work.entry))
         (outside sockets.old (R.remaining reader.old) (W.contents writer.old))
         (outside sockets.new (R.remaining reader.new) (W.contents writer.new)) result }
@@ -229,7 +230,7 @@ fn run_stored<'a, S: Start, D: Dial, K: Sockets, R: BufRead, W: Write>(
         Err(stop) => {
             drop(start);
             return Ran {
-                files: None,
+                left: None,
                 ended: Err(stop),
             };
         }
@@ -251,12 +252,16 @@ fn run_stored<'a, S: Start, D: Dial, K: Sockets, R: BufRead, W: Write>(
             drop(token);
             let harm = watch.look(rt);
             drop(watch);
-            finish(db, replica, worked, harm)
+            let (left, ended) = finish(db, replica, worked, harm);
+            Ran {
+                left: Some(left),
+                ended,
+            }
         }
         Err(stop) => {
             drop(token);
             Ran {
-                files: None,
+                left: None,
                 ended: Err(stop),
             }
         }

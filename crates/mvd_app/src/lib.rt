@@ -4,6 +4,7 @@
 mod awaited;
 mod closing;
 mod commands;
+pub mod laws;
 mod looping;
 mod opening;
 mod outlet;
@@ -12,7 +13,7 @@ mod setups;
 mod tokens;
 mod typed_lines;
 
-pub use closing::Ran;
+pub use closing::{Left, LeftOf, Ran};
 pub use commands::run;
 pub use looping::loop_run;
 pub use mvd_client::Sockets;

@@ -4,7 +4,7 @@ ghost use Rattle.mvd_app.specs.Found.{is_lost, is_missing};
 ghost use Rattle.mvd_dots.specs.declared.refusals.Refusal.TheVariants.{Store as RefusedStore};
 ghost use Rattle.mvd_input.specs.declared.fault.Fault.TheVariants.{Stopped};
 ghost use Rattle.mvd_app.specs.Refused.{TellsEither, TellsFileFault, TellsForeign, TellsOurs, TellsUnusable};
-ghost use Rattle.mvd_app.specs.Stored.{CannotOpen, RefusesFile, TellsLost};
+ghost use Rattle.mvd_app.specs.Stored.{CannotOpen, StopsAtFile, TellsLost};
 ghost use Rattle.mvd_records.specs.Foreign.{HoldsForeign};
 ghost use Rattle.mvd_records.specs.Records.{OnlyReads};
 ghost use Rattle.mvd_replica.specs.FileCalls.{OpensAsSite};
@@ -94,7 +94,7 @@ fn opened_as<'a, S: Start>(
     // A file that was lost is refused as lost.
     ensures lost { is_lost told ≡ true → IsErrAnd result (TellsLost db.entry) }
     // No other file is told so: it is opened, or refused for a cause.
-    ensures found { is_lost told ≡ false → IfErr result (RefusesFile ⟦<FileStore<FileFrom<S>> as Store>⟧
+    ensures found { is_lost told ≡ false → IfErr result (StopsAtFile ⟦<FileStore<FileFrom<S>> as Store>⟧
         (image_at S.Start) config db.entry) }
     ensures refused { IfErr result (CannotOpen ⟦<FileStore<FileFrom<S>> as Store>⟧ (image_at S.Start) config db.entry) }
 {

@@ -5,9 +5,9 @@ use Rattle.std.specs.List.{AllZip}
 use Rattle.std.specs.declared.net.socket_addr.SocketAddr.{SocketAddr}
 use Rattle.mvd_client.specs.Between.{EndsBetween, far_within, true_within}
 use Rattle.mvd_client.specs.Met.{IsStopAt}
-use Rattle.mvd_client.specs.Once.{AsksAt, AsksRoot, ComesBehind, HasNoRoot, MeetsOnce, SaysRoot, link_within}
+use Rattle.mvd_client.specs.Once.{AsksAt, AsksRoot, TellsThenParts, HasNoRoot, MeetsOnce, SaysRoot, link_within}
 use Rattle.mvd_client.specs.Once.MeetsOnce.{failed, met}
-use Rattle.mvd_client.specs.Reported.{root_of}
+use Rattle.mvd_client.specs.Reported.{root_in_states}
 use Rattle.mvd_client.specs.declared.counted.Counted.{Counted}
 use Rattle.mvd_client.specs.declared.ends.Failure.{Failure}
 use Rattle.mvd_client.specs.declared.meeting.Root.{Root}
@@ -40,14 +40,14 @@ module _ {L : Type 0} (line : LineGhosts L) where
 
   -- what a line tells that was kept, it tells of the line as it was kept
   pub truth_at : (kept : Option (Counted L)) (at link : Counted L) (before : Remote (Counted L)) (digest : List ℕ) → kept ≡ Some at → kept ≡ Some link → line_of before ≡ link → (true_within line link → (far_within line link).due ≡ [] → IsTrueRemote (true_within line) (far_within line) before)
-      → (IsTrueRemote (true_within line) (far_within line) before → digest ≡ root_of (far_of (far_within line) before).states) → true_within line at → (far_within line at).due ≡ [] → digest ≡ root_of (far_within line at).states
+      → (IsTrueRemote (true_within line) (far_within line) before → digest ≡ root_in_states (far_of (far_within line) before).states) → true_within line at → (far_within line at).due ≡ [] → digest ≡ root_in_states (far_within line at).states
   truth_at kept at link before digest kept_is took is opens tells t d =
       let same : link ≡ at = cc in
-      subst (λ a. digest ≡ root_of (far_within line a).states) (is ∙ same) (tells (opens (subst (true_within line) (sym same) t) (subst (λ a. (far_within line a).due ≡ []) (sym same) d)))
+      subst (λ a. digest ≡ root_in_states (far_within line a).states) (is ∙ same) (tells (opens (subst (true_within line) (sym same) t) (subst (λ a. (far_within line a).due ≡ []) (sym same) d)))
 
   -- a root that was told
   pub root_told : (server : SocketAddr) (kept : Option (Counted L)) (at link : Counted L) (before after : Remote (Counted L)) (root : Root) → kept ≡ Some at → kept ≡ Some link → line_of before ≡ link → refused_of before ≡ None
-      → AsksRoot (link_within line) before after (Ok root.digest) → root.address ≡ server → (true_within line at → (far_within line at).due ≡ [] → root.digest ≡ root_of (far_within line at).states) → SaysRoot line server at (line_of after) root
+      → AsksRoot (link_within line) before after (Ok root.digest) → root.address ≡ server → (true_within line at → (far_within line at).due ≡ [] → root.digest ≡ root_in_states (far_within line at).states) → SaysRoot line server at (line_of after) root
   root_told server kept at link before after root kept_is took is goes (inl (memory, same)) address truth = absurd cc
   root_told server kept at link before after root kept_is took is goes (inr (Ok digests, asked, own)) address truth = record {
     address = address;
@@ -74,10 +74,10 @@ module _ {L : Type 0} (line : LineGhosts L) (near_gives far_gives : L → Type 0
   once_failed failure it = failed failure it refl refl
 
   pub once_met : (report : Report) (it : EndsBetween line near_gives far_gives ⊤ ⊤ near far near_kept far_kept (Ok report)) (near_at far_at : SocketAddr) → near_at ≡ near → far_at ≡ far → (out' : Option (List ℕ)) (result : Result (Unit {0}) Stop)
-      → ((a b : Counted L) → near_kept ≡ Some a → far_kept ≡ Some b → ComesBehind line near_at far_at a b report out out' result) → MeetsOnce line near_gives far_gives near far out out' result
+      → ((a b : Counted L) → near_kept ≡ Some a → far_kept ≡ Some b → TellsThenParts line near_at far_at a b report out out' result) → MeetsOnce line near_gives far_gives near far out out' result
   once_met report it near_at far_at near_is far_is out' result behind = met report it.0
-      (subst (λ a. ComesBehind line near a (line_of it.0.near') (line_of it.0.far') report out out' result) far_is
-      (subst (λ a. ComesBehind line a far_at (line_of it.0.near') (line_of it.0.far') report out out' result) near_is (behind (line_of it.0.near') (line_of it.0.far') it.1 it.2)))
+      (subst (λ a. TellsThenParts line near a (line_of it.0.near') (line_of it.0.far') report out out' result) far_is
+      (subst (λ a. TellsThenParts line a far_at (line_of it.0.near') (line_of it.0.far') report out out' result) near_is (behind (line_of it.0.near') (line_of it.0.far') it.1 it.2)))
 
 -- ---- a list with one server
 

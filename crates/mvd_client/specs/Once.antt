@@ -6,7 +6,7 @@ use Rattle.std.specs.declared.net.socket_addr.SocketAddr.{SocketAddr}
 use Rattle.mvd_client.specs.Between.{FailsBetween, MeetsBetween, far_within, true_within}
 use Rattle.mvd_client.specs.LetIn.{GivesIn}
 use Rattle.mvd_client.specs.Met.{IsStopAt}
-use Rattle.mvd_client.specs.Reported.{ReportsAs, meeting_text, root_of}
+use Rattle.mvd_client.specs.Reported.{ReportsAs, meeting_text, root_in_states}
 use Rattle.mvd_client.specs.declared.counted.Counted.{Counted}
 use Rattle.mvd_client.specs.declared.ends.Failure.{Failure}
 use Rattle.mvd_client.specs.declared.meeting.Root.{Root}
@@ -65,7 +65,7 @@ module _ {L : Type 0} (line : LineGhosts L) where
     pub asked : AsksAt (node_query []) at at' (Ok digests)
     pub own : root.digest ≡ digests.own
     pub truth : true_within line at → (far_within line at).due ≡ []
-        → root.digest ≡ root_of (far_within line at).states
+        → root.digest ≡ root_in_states (far_within line at).states
 
   -- why there is no root of a server: this was told in its place, or memory was refused before that
   pub record HasNoRoot (server : SocketAddr) (at : Counted L) (stop : Stop) : Type 0 where
@@ -74,9 +74,9 @@ module _ {L : Type 0} (line : LineGhosts L) where
     pub why : (refusal ≡ Memory) ⊎ ((at' : Counted L) × AsksAt (node_query []) at at' (Err refusal))
 
   -- the root of a server, and the line that is kept; or why there is none
-  abbrev pub TellsRoot : SocketAddr → Counted L → Option (Counted L) → Result Root Stop → Type 0
-  TellsRoot server at kept (Ok root) = (at' : Counted L) × (kept ≡ Some at') × SaysRoot server at at' root
-  TellsRoot server at kept (Err stop) = HasNoRoot server at stop
+  abbrev pub GivesRoot : SocketAddr → Counted L → Option (Counted L) → Result Root Stop → Type 0
+  GivesRoot server at kept (Ok root) = (at' : Counted L) × (kept ≡ Some at') × SaysRoot server at at' root
+  GivesRoot server at kept (Err stop) = HasNoRoot server at stop
 
   -- a Bye was said over a line, and nothing else, and this was told
   abbrev pub SaysByeAt : Counted L → Result (Unit {0}) Refusal → Type 0
@@ -94,18 +94,18 @@ module _ {L : Type 0} (line : LineGhosts L) where
   -- WHAT COMES BEHIND A SESSION of two servers that ended well, over the lines that are kept. A root is not told, and
   -- nothing is printed; or what is printed is of the session, with the root that each server told, and then both are
   -- parted with. The command is stopped as that was told, or else as they are parted with
-  pub data ComesBehind (near far : SocketAddr) (near_at far_at : Counted L) (report : Report)
+  pub data TellsThenParts (near far : SocketAddr) (near_at far_at : Counted L) (report : Report)
       (out out' : Option (List ℕ)) (result : Result (Unit {0}) Stop) : Type 0 where
     no_near : (stop : Stop) → HasNoRoot near near_at stop → result ≡ Err stop → out' ≡ out
-        → ComesBehind near far near_at far_at report out out' result
+        → TellsThenParts near far near_at far_at report out out' result
     no_far : (near_at' : Counted L) (near_root : Root) → SaysRoot near near_at near_at' near_root → (stop : Stop)
         → HasNoRoot far far_at stop → result ≡ Err stop → out' ≡ out
-        → ComesBehind near far near_at far_at report out out' result
+        → TellsThenParts near far near_at far_at report out out' result
     told : (near_at' far_at' : Counted L) (near_root far_root : Root) → SaysRoot near near_at near_at' near_root
         → SaysRoot far far_at far_at' far_root → (reported parted : Result (Unit {0}) Stop)
         → ReportsAs (meeting_text report near_root far_root) false report out out' reported
         → PartsBoth near far near_at' far_at' parted → result ≡ result_and reported parted
-        → ComesBehind near far near_at far_at report out out' result
+        → TellsThenParts near far near_at far_at report out out' result
 
   -- ONE SESSION WITH ONE SERVER, over lines that the addresses give. It failed, and nothing is printed; or this comes
   -- behind the session that ran
@@ -114,7 +114,7 @@ module _ {L : Type 0} (line : LineGhosts L) where
     failed : (failure : Failure) → FailsBetween line near_gives far_gives ⊤ ⊤ near far failure
         → result ≡ Err failure.stop → out' ≡ out → MeetsOnce near_gives far_gives near far out out' result
     met : (report : Report) → (it : MeetsBetween line near_gives far_gives ⊤ ⊤ (Ok report))
-        → ComesBehind near far (line_of it.near') (line_of it.far') report out out' result
+        → TellsThenParts near far (line_of it.near') (line_of it.far') report out out' result
         → MeetsOnce near_gives far_gives near far out out' result
 
   -- so with the server that a text names: a port alone is at the address of the first. Or memory was refused for it

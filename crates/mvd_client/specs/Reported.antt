@@ -21,8 +21,8 @@ use Rattle.mvd_hint.specs.declared.hint.Hint.TheVariants as Hint
 use Rattle.mvd_hint.specs.declared.hint.Stop.{Stop}
 
 -- the digest of all that is held
-abbrev pub root_of : States → List ℕ
-root_of states = (node_digests (digests states) []).own
+abbrev pub root_in_states : States → List ℕ
+root_in_states states = (node_digests (digests states) []).own
 
 -- how many keys were refused, where some were
 abbrev pub refused_keys_text : ℕ → List ℕ
@@ -30,7 +30,7 @@ refused_keys_text count = if nat_lt 0 count then codes "refused " ++ decimal cou
 
 -- how many keys a session exchanged and refused, and the digest of all that the site holds then
 abbrev pub session_text : Report → States → List ℕ
-session_text report states = keys_text report.keys ++ (refused_keys_text report.refused ++ root_text (root_of states))
+session_text report states = keys_text report.keys ++ (refused_keys_text report.refused ++ root_text (root_in_states states))
 
 -- the first of these keys was refused so
 abbrev pub IsOfFirst : List Left → Fault → Type 0

@@ -3,7 +3,7 @@ ghost use Rattle.std.specs.Prelude.{◌≡◌, IfErr, IfOk, IsErrAnd, None, OnEr
 ghost use Rattle.mvd_client.specs.Between.{EndsBetween, IsFreshLine};
 ghost use Rattle.mvd_client.specs.LetIn.{GivesIn};
 ghost use Rattle.mvd_client.specs.Met.{IsFailureOf, IsStopAt};
-ghost use Rattle.mvd_client.specs.Once.{SaysByeAt, TellsRoot};
+ghost use Rattle.mvd_client.specs.Once.{SaysByeAt, GivesRoot};
 ghost use Rattle.mvd_client.specs.Stopped.{IsUndialed};
 ghost use Rattle.mvd_dots.specs.declared.refusals.Refusal.TheVariants.{Truncated};
 
@@ -84,7 +84,7 @@ impl<L: Line> End<L> {
     pub(crate) fn root<'a>(&mut self, alloc: Global) -> Result<Root, Stop<'a>>
         ensures address { self.new.address ≡ self.old.address }
         ensures told { (at : Counted L) → self.old.link ≡ Some at →
-            TellsRoot L.Line self.old.address at self.new.link result }
+            GivesRoot L.Line self.old.address at self.new.link result }
         ensures none { self.old.link ≡ None → IsErrAnd result (IsStopAt self.old.address Truncated) }
     {
         let address = self.address;

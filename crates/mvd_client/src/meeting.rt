@@ -4,7 +4,7 @@ ghost use Rattle.std.specs.Io.KnownBytes.{Appends};
 ghost use Rattle.mvd_client.specs.Met.{MeetsFars};
 ghost use Rattle.mvd_client.specs.Once.{AsksRoot};
 ghost use Rattle.mvd_client.specs.Questioned.{CountsFew, questions};
-ghost use Rattle.mvd_client.specs.Reported.{CutReport, ReportsAs, meeting_text, root_at_text, root_of};
+ghost use Rattle.mvd_client.specs.Reported.{CutReport, ReportsAs, meeting_text, root_at_text, root_in_states};
 ghost use Rattle.mvd_client.specs.SyncSides.{line_side, sides_between};
 ghost use Rattle.mvd_dots.specs.declared.refusals.Refusal.TheVariants.{Memory};
 ghost use Rattle.mvd_peer.specs.Sides.{two};
@@ -63,7 +63,7 @@ pub fn meet_over<L: Line, M: Line, E: Write>(
 pub fn root_over<L: Line>(alloc: Global, remote: &mut Remote<L>) -> Result<[u8; 32], Refusal>
     ensures asked { AsksRoot (link_of L.Line) remote.old remote.new result }
     ensures truth { IsTrueRemote L.is_true L.far remote.old →
-        IfOk result (λ digest. digest ≡ root_of (far_of L.far remote.old).states) }
+        IfOk result (λ digest. digest ≡ root_in_states (far_of L.far remote.old).states) }
 {
     let path = Path::new(alloc, &[])?;
     match remote.node(&path) {

@@ -4,7 +4,7 @@ ghost use Rattle.std.specs.Io.KnownBytes.{Appends};
 ghost use Rattle.mvd_client.specs.AskedServer.{RepliesNoted, lost_of};
 ghost use Rattle.mvd_client.specs.LetIn.{GivesIn};
 ghost use Rattle.mvd_client.specs.Questioned.{CountsFew, questions};
-ghost use Rattle.mvd_client.specs.Reported.{CutReport, HasNoLines, Reports, StopsLeft, refused_keys_text, root_of, session_text};
+ghost use Rattle.mvd_client.specs.Reported.{CutReport, HasNoLines, Reports, StopsLeft, refused_keys_text, root_in_states, session_text};
 ghost use Rattle.mvd_client.specs.Stopped.{StopsFaulted};
 ghost use Rattle.mvd_client.specs.Synced.{FollowsPushed, MeetsFar, TakesPushes};
 ghost use Rattle.mvd_client.specs.SyncSides.{sides_at};
@@ -302,7 +302,7 @@ fn add_root<S: Alter + Drop>(
     lines: &mut String,
 ) -> Result<(), Refusal>
     ensures text { OnOk result (string_bytes lines.new ≡
-        string_bytes lines.old ++ root_text (root_of (site_of replica.now).states)) }
+        string_bytes lines.old ++ root_text (root_in_states (site_of replica.now).states)) }
     ensures refused { IfErr result (HasNoLines (site_of replica.now).broken) }
 {
     let path = Path::new(alloc, &[])?;

@@ -1,7 +1,7 @@
 //! Sessions between a server and each of a list, one after the other: once, or again and again.
 ghost use Rattle.std.specs.Prelude.{◌≡◌, ◌≢◌, ◌∷◌, [], ℕ, IfNone, IfSome, List, None, OnOk, Some, length, option_copied};
 ghost use Rattle.std.specs.Io.KnownBytes.{Appends};
-ghost use Rattle.mvd_client.specs.Once.{ComesBehind, MeetsOnce, MeetsServer, PartsBoth};
+ghost use Rattle.mvd_client.specs.Once.{TellsThenParts, MeetsOnce, MeetsServer, PartsBoth};
 ghost use Rattle.mvd_client.specs.LetIn.{GivesIn};
 ghost use Rattle.mvd_client.specs.declared.counted.Counted.{Counted};
 ghost use Rattle.mvd_input.specs.Addresses.{IsAddressList, items_of};
@@ -155,7 +155,7 @@ fn tell_and_part<'a, L: Line, W: Write, E: Write>(
     errors: &mut E,
 ) -> Result<(), Stop<'a>>
     ensures { (near_at far_at : Counted L) → near.old.link ≡ Some near_at → far.old.link ≡ Some far_at →
-        ComesBehind L.Line near.old.address far.old.address near_at far_at report.now
+        TellsThenParts L.Line near.old.address far.old.address near_at far_at report.now
         (W.contents writer.old) (W.contents writer.new) result }
 {
     let near_root = match near.root(alloc) {

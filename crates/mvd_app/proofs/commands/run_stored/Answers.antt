@@ -9,9 +9,9 @@ use Rattle.mvd_app.proofs.commands.run_stored.Goals as goal
 
 pub returns-in-Err : goal.returns-in-Err
 returns-in-Err g c = record {
-  kept = tt;
-  done = inl (record {
-    files = refl;
+  file = inl (refl, (c.in-Err.stop, refl));
+  told = inl (record {
+    left = refl;
     still = refl;
     stop = c.in-Err.stop;
     ended = refl;
@@ -28,10 +28,12 @@ returns-in-Ok-opened g c =
     let set_up = c.in-Ok.ensures.read.0 in
     let token = option_copied c.as_ref.result in
     let does = c.work_on-worked.ensures in
+    let left = c.finish-left.result.0 in
+    let runs = runs_of image c.args.setup.site c.in-Ok.read.0 set_up.site old new opened opened.rests does.0
+    (does_by _ _ _ _ _ _ old new does.0 c.work_on-worked.result (task_of c.args.work) does.1 opened.stands) c.look-harm.result left c.finish-left.ensures.left in
     record {
-      kept = file_back image (filed c.args.db c.args.setup c.args.token_file (task_of c.args.work)) c.in-Ok.read.0 set_up old new opened c.look-harm.result c.finish.result.files
-          (does_work _ _ _ _ _ _ old new does.0 c.work_on-worked.result (task_of c.args.work) does.1) c.finish.ensures.files;
-      done = inr (record {
+      file = inr (left, (refl, record { config = c.in-Ok.read.0; keys = set_up.keys; new = new; turns = does.0; runs = runs }));
+      told = inr (record {
         config = c.in-Ok.read.0;
         set_up = set_up;
         old = old;
@@ -42,19 +44,22 @@ returns-in-Ok-opened g c =
         turns = does.0;
         worked = c.work_on-worked.result;
         does = does.1;
-        runs = runs_of image c.args.setup.site c.in-Ok.read.0 set_up.site old new opened opened.rests does.0
-            (does_by _ _ _ _ _ _ old new does.0 c.work_on-worked.result (task_of c.args.work) does.1 opened.stands) c.look-harm.result c.finish.result.files c.finish.ensures.files;
+        left = left;
+        comes = refl;
+        runs = runs;
         harm = c.look-harm.result;
-        closed = c.finish.ensures.files;
-        ends = c.finish.ensures.ended;
+        leaves = c.finish-left.ensures.left;
+        kept = file_back image (filed c.args.db c.args.setup c.args.token_file (task_of c.args.work)) c.in-Ok.read.0 set_up old new opened c.look-harm.result left
+            (does_work _ _ _ _ _ _ old new does.0 c.work_on-worked.result (task_of c.args.work) does.1) c.finish-left.ensures.left;
+        ends = c.finish-left.ensures.ended;
       });
     }
 
 pub returns-in-Err-opened : goal.returns-in-Err-opened
 returns-in-Err-opened g c = record {
-  kept = tt;
-  done = inl (record {
-    files = refl;
+  file = inl (refl, (c.in-Err-opened.stop, refl));
+  told = inl (record {
+    left = refl;
     still = refl;
     stop = c.in-Err-opened.stop;
     ended = refl;

@@ -1,6 +1,6 @@
 use Rattle.std.proofs.Common.{refl, subst}
 use Rattle.mvd_client.specs.Once.{PartsBoth}
-use Rattle.mvd_client.specs.Once.ComesBehind.{no_far, no_near, told}
+use Rattle.mvd_client.specs.Once.TellsThenParts.{no_far, no_near, told}
 use Rattle.mvd_client.proofs.rounds.tell_and_part.Goals as goal
 
 pub returns-in-Err : goal.returns-in-Err

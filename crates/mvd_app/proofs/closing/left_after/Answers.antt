@@ -1,11 +1,11 @@
-use Rattle.std.proofs.Common.{◌∙◌, inl, inr, sym, true≢false}
-use Rattle.mvd_app.proofs.closing.files_after.Goals as goal
+use Rattle.std.proofs.Common.{◌∙◌, inl, inr, refl, sym, true≢false}
+use Rattle.mvd_app.proofs.closing.left_after.Goals as goal
 
 pub returns-then-bars_closing : goal.returns-then-bars_closing
-returns-then-bars_closing g c = inr (inl (c.bars_closing.ensures.0 c.if-bars_closing.true))
+returns-then-bars_closing g c = (refl, inr (c.bars_closing.ensures.0 c.if-bars_closing.true))
 
 pub returns-then-is_broken : goal.returns-then-is_broken
-returns-then-is_broken g c = inl (sym c.is_broken.ensures ∙ c.if-is_broken.true)
+returns-then-is_broken g c = (refl, inl (sym c.is_broken.ensures ∙ c.if-is_broken.true))
 
 pub returns-in-Ok : goal.returns-in-Ok
 returns-in-Ok g c = (
@@ -14,4 +14,4 @@ returns-in-Ok g c = (
 )
 
 pub returns-in-Err : goal.returns-in-Err
-returns-in-Err g c = inr (inr ((c.in-Err.error, c.in-Err.store), c.in-Err.ensures.failed))
+returns-in-Err g c = (c.in-Err.error, c.in-Err.ensures.failed)

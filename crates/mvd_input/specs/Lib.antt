@@ -6,3 +6,4 @@ pub mod Lines
 pub mod Orders
 pub mod Tokens
 pub mod Words
+pub mod Passes

@@ -5,9 +5,11 @@
 #   look, build   are run at the top, and print what crates/mvd/stdout says; where a PROGRAM is given, it stands for `rt try` and `rt run`
 #   hex      is the state that the file of docs/FORMATS.md holds, or the frame that examples/client.py sends, which reads the other
 #   sql      is what a file's tables are made by
+#   page     is run as it stands, and serves a page and a server that answers to its origin
+#   nginx, haproxy, unit   stand in examples/proxy/ (tools/proxy.py runs these)
 #   rust, rattle   stand in the code, js and py in clients/, and edit in a file of wrong-bodies/ or must-fail/
 #   mermaid, floors   are read by tools/check_docs.py
-# It needs bash, python3, curl and node, and the ports 7007 to 7009 and 7080.
+# It needs bash, python3, curl and node, and the ports 7007 to 7009, 7080 and 8000.
 # usage: tools/first_hour.sh [--short] [PROGRAM]
 # With no PROGRAM it is proved and built first. With --short, as the gate runs it, free ports stand in the blocks for these, and where
 # there is no curl or node the blocks that run it are left out.
@@ -31,7 +33,7 @@ if [ $# -gt 0 ]; then
   chmod +x "$room/bin/mvd"
 fi
 PATH="$room/bin:$PATH" python3 - "$top" "$room/files" $# $short <<'END'
-import atexit, os, re, shutil, signal, socket, sqlite3, subprocess, sys, threading
+import atexit, os, re, shutil, signal, socket, sqlite3, subprocess, sys, threading, time, urllib.request
 
 top, room, given, is_short = sys.argv[1], sys.argv[2], sys.argv[3] != "0", len(sys.argv) > 4
 sys.dont_write_bytecode = True
@@ -39,7 +41,7 @@ sys.path.insert(0, os.path.join(top, "tools"))
 import places
 
 # the ports of the documents, and those that are taken
-ports = {port: port for port in ("7007", "7008", "7009", "7080")}
+ports = {port: port for port in ("7007", "7008", "7009", "7080", "8000")}
 if is_short:
     taken = [socket.create_server(("127.0.0.1", 0)) for _ in ports]
     ports = {port: str(free.getsockname()[1]) for port, free in zip(ports, taken)}
@@ -54,7 +56,7 @@ def miss(what):
 
 def at_ports(text):
     """A text of the documents, with the ports that are taken."""
-    return re.sub(r"\b(7007|7008|7009|7080)\b", lambda found: ports[found[0]], text)
+    return re.sub(r"\b(7007|7008|7009|7080|8000)\b", lambda found: ports[found[0]], text)
 
 
 def start(words, **how):
@@ -159,6 +161,25 @@ def spells(what, text):
             miss(f"{what}: the file holds {states}, and the client reads {told}")
 
 
+def serves(what, text):
+    """The block serves a page, and a server that lets it in from there."""
+    started = start(["bash", "-c", at_ports(text)], cwd=room, stderr=subprocess.DEVNULL)
+    page, server = (f"http://127.0.0.1:{ports[port]}" for port in ("8000", "7080"))
+    asked = urllib.request.Request(f"{server}/health", headers={"Origin": page})
+    for last in [False] * 100 + [True]:
+        try:
+            with urllib.request.urlopen(f"{page}/mvd.js") as module, urllib.request.urlopen(asked) as health:
+                allowed = health.headers["Access-Control-Allow-Origin"]
+                if b"class Site" not in module.read() or allowed != page:
+                    miss(f"{what}: the server lets in {allowed}")
+                break
+        except OSError as fault:
+            if last:
+                miss(f"{what}: {fault}")
+            time.sleep(.1)
+    kill(started)
+
+
 def tables(what, text):
     """The lines are what the tables of a file are made by."""
     run("mvd shell --db tables.db --site 1 < /dev/null")
@@ -187,13 +208,17 @@ def runs(file):
             spells(what, text)
         elif word == "sql":
             tables(what, text)
+        elif word == "page":
+            serves(what, text)
+        elif word in ("nginx", "haproxy", "unit") and not stands(text, r"examples/proxy/.*"):
+            miss(f"{what}: this stands in no file of examples/proxy/:\n{text}")
         elif word in ("rust", "rattle") and not stands(text, r"crates/.*\.rt"):
             miss(f"{what}: this stands in no file of code:\n{text}")
         elif word in ("js", "py") and not stands(text, r"clients/.*\.(mjs|py)"):
             miss(f"{what}: this stands in no file of clients/:\n{text}")
         elif word == "edit" and not stands(text, r"crates/.*\.edit"):
             miss(f"{what}: this is no edit:\n{text}")
-        elif word not in ("rust", "rattle", "js", "py", "edit", "mermaid", "floors") and not (word == "text" and before == "sh"):
+        elif word not in ("rust", "rattle", "js", "py", "nginx", "haproxy", "unit", "edit", "mermaid", "floors") and not (word == "text" and before == "sh"):
             miss(f"{what}: no word says how this block is tried")
         if word not in ("sh", "text", "mermaid", "floors"):
             print("done:", what)

@@ -71,8 +71,14 @@ asked_fine (ask ∷ asks) (turn ∷ turns) (none, may) is =
     let (one, others) = heads turn.asked (Ok ask) (map (λ t. t.asked) turns) (map (λ r. Ok r) asks) is in
     ((λ request asked. unpushed_fine request (subst (λ r. pushes r ≡ false) (ok_is ask request (sym one ∙ asked)) none)), asked_fine asks turns may others)
 
+-- the front of what waited
+unpushed_front : (asks rest : List Request) → AreUnpushed (asks ++ rest) → AreUnpushed asks
+unpushed_front [] rest all = tt
+unpushed_front (ask ∷ asks) rest (one, all) = (one, unpushed_front asks rest all)
+
 at_hand_fine : (n : ℕ) (turns : List (ℕ × Turn)) (old new : AtHandValue) → first_at_hand ≤ n → AnswersAtHand turns old new → AreFine (own n turns)
-at_hand_fine n turns old new above a = asked_fine (own n old.waits) (own n turns) (waiting_unpushed n old.waits a.may) (a.asked n above)
+at_hand_fine n turns old new above a =
+    asked_fine (own n a.asks) (own n turns) (unpushed_front (own n a.asks) (own n new.waits) (subst AreUnpushed (a.front n) (waiting_unpushed n old.waits a.may))) (a.asked n above)
 
 -- those of each client, and so all of them
 module _ (P : Turn → Type 0) where

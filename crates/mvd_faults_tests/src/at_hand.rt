@@ -209,19 +209,25 @@ fn ask_all_again(alloc: Global, hand: &mut AtHand, client: u64, frames: &[&str])
     }
 }
 
-/// Puts each reply that is left behind those before it: the first is to the first client, and all others to the second.
-fn put_told(alloc: Global, hand: &mut AtHand, told: &mut [Bytes; 3]) {
-    for (place, output) in (0..3u64).zip(told.iter_mut()) {
-        if let Some((client, bytes)) = next(alloc, hand)
-            && client == FIRST_AT_HAND + place.min(1)
+/// Puts each reply that is left, from this place on, behind those before it: the first is to the first client, and all
+/// others to the second. The place of the next one.
+fn put_told(alloc: Global, hand: &mut AtHand, place: u64, told: &mut [Bytes; 3]) -> u64 {
+    let mut next_place = place;
+    for (number, output) in (0..3u64).zip(told.iter_mut()) {
+        if number == next_place
+            && let Some((client, bytes)) = next(alloc, hand)
+            && client == FIRST_AT_HAND + number.min(1)
         {
             output.put(bytes.bytes());
+            next_place = number.saturating_add(1);
         }
     }
+    next_place
 }
 
 /// What two clients at hand are told, of whom the first asks what the first of three frames does, and the second what
-/// the other two do, all of them in one round: the replies to the first of three behind each other, and so on.
+/// the other two do, all of them in one round, or in two where memory was refused: the replies to the first of three
+/// behind each other, and so on.
 pub fn told_at_hand<S: Alter>(alloc: Global, replica: &mut Replica<S>, frames: &[&str]) -> Bytes {
     let mut told = [Bytes::of(&[]); 3];
     let mut host = Host::new(alloc);
@@ -231,8 +237,11 @@ pub fn told_at_hand<S: Alter>(alloc: Global, replica: &mut Replica<S>, frames: &
             ask_again(alloc, &mut hand, FIRST_AT_HAND, first);
             ask_all_again(alloc, &mut hand, FIRST_AT_HAND + 1, others);
         }
-        round_at_hand(alloc, &mut host, replica, &[], &mut hand);
-        put_told(alloc, &mut hand, &mut told);
+        let mut place = 0;
+        for _ in 0..2u32 {
+            round_at_hand(alloc, &mut host, replica, &[], &mut hand);
+            place = put_told(alloc, &mut hand, place, &mut told);
+        }
     }
     drop(hand);
     drop(host);

@@ -11,7 +11,7 @@ use Rattle.mvd_site.specs.Sites.{SiteValue}
 use Rattle.mvd_replica.specs.Turns.{Turn}
 use Rattle.mvd_replica.proofs.Positions.{AnswersAll}
 use Rattle.sqlite.specs.State.{State}
-use Rattle.mvd_host.specs.AtHand.{AllMayWait, AtHandValue, begun, first_at_hand, told_at_hand}
+use Rattle.mvd_host.specs.AtHand.{AllMayWait, AtHandValue, BeginsWith, first_at_hand, told_at_hand}
 use Rattle.mvd_host.specs.Hosts.{AreKept, IfClient, client_in}
 use Rattle.mvd_host.specs.Course.{BothClients, IsOut, asked_by, own}
 use Rattle.mvd_host.specs.Taking.{AreFaults, IsFair, HasNoNext, IsNothingTaken, TakesOnly}
@@ -64,11 +64,6 @@ answered_err rs ns refusal left mid between site s numbers memory queued left_is
   queued = subst (λ l. QueuesReplies l mid between) (err_tells rs ns refusal numbers) queued;
   serves = serves_still (turns_of (memory_turns rs refusal)) site s (memory_still rs refusal memory);
 }
-
--- what was told is left, once a round began
-pub kept_left : (hand mid : AtHandValue) (told left : List (ℕ × Reply)) → mid ≡ begun hand → told ≡ left
-    → ◌≡◌ {A = AtHandValue} (record { done = mid.done; waits = mid.waits; taken = mid.taken; left = told }) (record { done = hand.done ++ hand.waits; waits = []; taken = hand.taken; left = left })
-kept_left hand mid told left began is = ap₂ (λ (m : AtHandValue) (l : List (ℕ × Reply)). record { done = m.done; waits = m.waits; taken = m.taken; left = l }) began is
 
 -- nothing was taken, and nothing was answered
 no_requests : (rs : List (ℕ × Request)) (ns : List ℕ) → ns ≡ map (λ (r : ℕ × Request). r.0) rs → ns ≡ [] → rs ≡ []
@@ -203,7 +198,7 @@ module _ (asks_at_hand : List (ℕ × Request)) (ready : List ℕ) (old mid betw
         | inr (inr heavy) ↦ absurd (not_heavy site.states took.all.requests requests heavy)
       ]
 
-  module _ (hand : AtHandValue) (none : hand.left ≡ []) (waits : asks_at_hand ≡ hand.waits) (may : AllMayWait asks_at_hand) (kept : AreKept old admitted) where
+  module _ (hand begun : AtHandValue) (none : hand.left ≡ []) (begins : BeginsWith asks_at_hand hand begun) (all_may : AllMayWait hand.waits) (may : AllMayWait asks_at_hand) (kept : AreKept old admitted) where
     -- what waits at hand is of no connection
     none_low : (n : ℕ) → n < first_at_hand → (own n took.all.requests ≡ own n asks_at_hand) × (own n took.all.faulty ≡ []) → (own n took.all.requests ≡ []) × (own n took.all.faulty ≡ [])
     none_low n low is = (is.0 ∙ own_below n asks_at_hand may low, is.1)
@@ -232,18 +227,19 @@ module _ (asks_at_hand : List (ℕ × Request)) (ready : List ℕ) (old mid betw
         own-append n a.ts faults ∙ ap (λ l. own n a.ts ++ l) (no_fault_turns n (took.none n (none_high n high)).1) ∙ append-nil (own n a.ts)
 
     abbrev hand_after : AtHandValue
-    hand_after = record { done = hand.done ++ hand.waits; waits = []; taken = hand.taken; left = left }
+    hand_after = record { done = begun.done; waits = begun.waits; taken = begun.taken; left = left }
 
     answers_at_hand : AnswersAtHand all_turns hand hand_after
     answers_at_hand = record {
       none = none;
-      may = subst AllMayWait waits may;
-      done = refl;
-      waits = refl;
-      taken = refl;
+      may = all_may;
+      asks = asks_at_hand;
+      done = begins.done;
+      front = begins.front;
+      taken = begins.told.0;
       asked = λ n high.
           ap (λ (l : List Turn). map (λ t. t.asked) l) (high_turns n high) ∙ sym (own_mapped n (λ (t : Turn). t.asked) a.ts) ∙ ap (own n) a.asked ∙ own_mapped n (λ (r : Request). Ok r) took.all.requests
-          ∙ ap (λ (l : List Request). map {B = Result Request Refusal} (λ r. Ok r) l) ((took.none n (none_high n high)).0 ∙ ap (own n) waits);
+          ∙ ap (λ (l : List Request). map {B = Result Request Refusal} (λ r. Ok r) l) (took.none n (none_high n high)).0;
       told = λ n high.
           ap (own n) a.left_is ∙ own_at_hand n (tells a.ts) high ∙ own_mapped n (λ (t : Turn). t.reply) a.ts ∙ sym (ap (λ (l : List Turn). map (λ t. t.reply) l) (high_turns n high));
     }
@@ -257,23 +253,48 @@ module _ (asks_at_hand : List (ℕ × Request)) (ready : List ℕ) (old mid betw
     is_round : Round ready all_turns old_side new_side
     is_round = record { serves = round_serves; clients = round_clients; spares = round_spares; at_hand = answers_at_hand; admitted = refl }
 
-    -- frames were taken
-    pub round_of : ¬ IsNothingTaken taken → (refused : Bool) → (refused ≡ false → IsFair site.states ready (length ready) took.all.requests took.all.faulty mid) → (result : Result Bool Refusal) → result ≡ cond refused (Err Memory) (Ok true)
-        → (turns : List (ℕ × Turn)) × Round ready turns old_side new_side × GoesForward result ready turns site.states new_side.host
-    round_of some true fair result is = (all_turns, is_round, subst (λ r. GoesForward r ready all_turns site.states new_side.host) (sym is) (record { fair = tt; some = tt; idle = tt }))
-    round_of some false fair result is =
-        (all_turns, is_round, subst (λ r. GoesForward r ready all_turns site.states new_side.host) (sym is) (record { fair = fair_turns (fair refl); some = λ _. some_turns some; idle = λ no. absurd (true≢false no) }))
+    -- what waits at hand still, where memory was not refused
+    abbrev RestsAtHand : Type 0
+    RestsAtHand = (begun.waits ≡ []) ⊎ AreHeavy site.states asks_at_hand
 
-    -- none was
-    pub round_none : IsNothingTaken taken → (refused : Bool) → (refused ≡ false → IsFair site.states ready (length ready) took.all.requests took.all.faulty mid) → (result : Result Bool Refusal) → result ≡ cond refused (Err Memory) (Ok false)
-        → (turns : List (ℕ × Turn)) × Round ready turns old_side new_side × GoesForward result ready turns site.states new_side.host
-    round_none none true fair result is = (all_turns, is_round, subst (λ r. GoesForward r ready all_turns site.states new_side.host) (sym is) (record { fair = tt; some = tt; idle = tt }))
-    round_none none false fair result is = (
+    rest_turns : RestsAtHand → (begun.waits ≡ []) ⊎ AreHeavyTurns site.states all_turns
+    rest_turns (inl nothing) = inl nothing
+    rest_turns (inr heavy) = inr (heavy_all (let more = took.weight site.states in omega (arith, more, heavy)))
+
+    none_rests : IsNothingTaken taken → RestsAtHand → begun.waits ≡ []
+    none_rests nothing (inl none) = none
+    none_rests nothing (inr heavy) =
+        let requests : took.all.requests ≡ [] = nothing_mapped (λ (r : ℕ × Request). r.0) took.all.requests (sym took.all.holds.clients ∙ no_items taken.clients.items (length taken.faults.items) nothing) in
+        absurd (not_heavy site.states took.all.requests requests (let more = took.weight site.states in omega (arith, more, heavy)))
+
+    -- something was taken
+    pub round_of : ¬ IsNothingTaken taken → (refused : Bool) → (refused ≡ false → IsFair site.states ready (length ready) took.all.requests took.all.faulty mid) → (refused ≡ false → RestsAtHand) → (result : Result Bool Refusal) → result ≡ cond refused (Err Memory) (Ok true)
+        → (turns : List (ℕ × Turn)) × Round ready turns old_side new_side × GoesForward result ready turns site.states new_side.host hand_after
+    round_of some true fair rests result is = (all_turns, is_round, subst (λ r. GoesForward r ready all_turns site.states new_side.host hand_after) (sym is) (record { fair = tt; at_hand = tt; some = tt; none = tt; idle = tt }))
+    round_of some false fair rests result is = (
       all_turns,
       is_round,
-      subst (λ r. GoesForward r ready all_turns site.states new_side.host) (sym is) (record {
+      subst (λ r. GoesForward r ready all_turns site.states new_side.host hand_after) (sym is) (record {
+        fair = fair_turns (fair refl);
+        at_hand = rest_turns (rests refl);
+        some = λ _. some_turns some;
+        none = λ no. absurd (true≢false no);
+        idle = λ no. absurd (true≢false no);
+      }),
+    )
+
+    -- nothing was
+    pub round_none : IsNothingTaken taken → (refused : Bool) → (refused ≡ false → IsFair site.states ready (length ready) took.all.requests took.all.faulty mid) → (refused ≡ false → RestsAtHand) → (result : Result Bool Refusal) → result ≡ cond refused (Err Memory) (Ok false)
+        → (turns : List (ℕ × Turn)) × Round ready turns old_side new_side × GoesForward result ready turns site.states new_side.host hand_after
+    round_none none true fair rests result is = (all_turns, is_round, subst (λ r. GoesForward r ready all_turns site.states new_side.host hand_after) (sym is) (record { fair = tt; at_hand = tt; some = tt; none = tt; idle = tt }))
+    round_none none false fair rests result is = (
+      all_turns,
+      is_round,
+      subst (λ r. GoesForward r ready all_turns site.states new_side.host hand_after) (sym is) (record {
         fair = λ i below. inr (inl (all_idle none (fair refl) i below));
+        at_hand = rest_turns (rests refl);
         some = λ yes. absurd (true≢false (sym yes));
+        none = λ _. none_rests none (rests refl);
         idle = λ _. all_idle none (fair refl);
       }),
     )

@@ -7,7 +7,8 @@ pub mod Numbers
 pub mod Telling
 pub mod TakingAll
 pub mod Orders
-pub mod Asking
+pub mod Fronts
+pub mod Beginning
 pub mod ToldLemmas
 pub mod TurnWeights
 pub mod Weights

@@ -52,8 +52,8 @@ more_stepped n old new (inr (told, (left, is))) = record {
 
 pub more_answered : (turns : List (ℕ × Turn)) (n : ℕ) (old new : AtHandValue) → first_at_hand ≤ n → AnswersAtHand turns old new → MoreAtHand (own n turns) n old new
 more_answered turns n old new above a = record {
-  asked = ap (λ l. map (λ r. Ok r) (own n l)) a.done ∙ ap (map (λ r. Ok r)) (own-append n old.done old.waits)
-      ∙ map-append (λ r. Ok r) (own n old.done) (own n old.waits) ∙ ap (λ l. asks_so_far n old ++ l) (sym (a.asked n above));
+  asked = ap (λ l. map (λ r. Ok r) (own n l)) a.done ∙ ap (map (λ r. Ok r)) (own-append n old.done a.asks)
+      ∙ map-append (λ r. Ok r) (own n old.done) (own n a.asks) ∙ ap (λ l. asks_so_far n old ++ l) (sym (a.asked n above));
   told = ap₂ (λ x y. own n x ++ y) a.taken (a.told n above)
       ∙ ap (λ l. l ++ map (λ (t : Turn). t.reply) (own n turns)) (sym (ap (λ l. own n old.taken ++ own n l) a.none ∙ append-nil (own n old.taken)));
 }

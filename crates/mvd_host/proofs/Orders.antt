@@ -91,7 +91,7 @@ neither : (b c : Bool) → cond b true c ≡ false → (b ≡ false) × (c ≡ f
 neither true c is = absurd (true≢false is)
 neither false c is = (refl, is)
 
-not_noted : (old new : BTreeSet ℕ) (client n : ℕ) → Updates nat_cmp old new client true → contains nat_cmp new n ≡ false → ((n == client) ≡ false) × (contains nat_cmp old n ≡ false)
+pub not_noted : (old new : BTreeSet ℕ) (client n : ℕ) → Updates nat_cmp old new client true → contains nat_cmp new n ≡ false → ((n == client) ≡ false) × (contains nat_cmp old n ≡ false)
 not_noted old new client n updates not =
     let both = neither _ _ (sym (updates.0 n) ∙ not) in
     (sym (at_is client n) ∙ both.0, both.1)
@@ -228,6 +228,9 @@ module _ (asks : List (ℕ × Request)) (ready : List ℕ) (old new : List (ℕ 
     faults = subst (λ l. AreFaults t.all.faulty l) (sym a.faults) t.all.holds.faults;
   }
 
+  same_weight : (states : States) → weights_in states (map (λ r. r.1) a.arranged.ordered) ≡ weights_in states (map (λ r. r.1) t.all.requests)
+  same_weight states = ap (weights_in states) (sym a.arranged.requests_are) ∙ a.arranged.weight states ∙ ap (λ (l : List (ℕ × Request)). weights_in states (map (λ r. r.1) l)) asked_is
+
   abbrev only_still : TakesOnly asks ready (length ready) old new after
   only_still = record {
     all = record {
@@ -239,6 +242,7 @@ module _ (asks : List (ℕ × Request)) (ready : List ℕ) (old new : List (ℕ 
     none = λ n gone. (own_is n ∙ (t.none n gone).0, (t.none n gone).1);
     only = λ n out. (own_is n ∙ (t.only n out).0, (t.only n out).1);
     same = t.same;
+    weight = λ states. let same = same_weight states in let before = t.weight states in omega (arith, same, before);
   }
 
   frame_still : (n : ℕ) → HasTakenFrame n t.all.requests t.all.faulty → HasTakenFrame n a.arranged.ordered t.all.faulty
@@ -247,8 +251,7 @@ module _ (asks : List (ℕ × Request)) (ready : List ℕ) (old new : List (ℕ 
 
   heavy_still : (states : States) → AreHeavy states t.all.requests → AreHeavy states a.arranged.ordered
   heavy_still states heavy =
-      let same = ap (weights_in states) (sym a.arranged.requests_are) ∙ a.arranged.weight states ∙ ap (λ (l : List (ℕ × Request)). weights_in states (map (λ r. r.1) l)) asked_is in
-      omega (arith, same, heavy)
+      let same = same_weight states in omega (arith, same, heavy)
 
   pub fairly_still : (states : States) (refused : Bool) → (refused ≡ false → IsFair states ready (length ready) t.all.requests t.all.faulty new) → TakesFairly states refused asks ready (length ready) old new after
   fairly_still states refused fair = (

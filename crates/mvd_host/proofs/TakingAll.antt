@@ -10,7 +10,7 @@ use Rattle.mvd_wire.specs.Frames.{FrameValue}
 use Rattle.mvd_conn.specs.History.{History}
 use Rattle.mvd_host.specs.Hosts.{IfClient, client_in}
 use Rattle.mvd_host.specs.Course.{BothClients, own}
-use Rattle.mvd_host.specs.Taking.{AreApart, AreFaults, ExtendsTaken, HasTakenFrame, HoldsTaken, IsFair, HasNoNext, IsMore, EndsTurn, IsNothingTaken, TakesAllFrames, TakesMore, TakesOf, TakesOn, TakesOnly}
+use Rattle.mvd_host.specs.Taking.{AreApart, AreFaults, ExtendsTaken, HasTakenFrame, HoldsTaken, IsFair, HasNoNext, EndsTurn, IsNothingTaken, TakesAllFrames, TakesMore, TakesOf, TakesOn, TakesOnly}
 use Rattle.mvd_site.specs.Held.{States}
 use Rattle.mvd_host.specs.Weights.{AreHeavy, IsWeighed}
 use Rattle.mvd_host.specs.declared.taking.Taken.{Taken}
@@ -19,7 +19,7 @@ use Rattle.mvd_host.proofs.Holding.{holds_same}
 use Rattle.mvd_host.proofs.Hosts.{at_is}
 use Rattle.std.proofs.lemmas.List.{length-append, length-map}
 use Rattle.mvd_host.proofs.ToldLemmas.{no_first, no_second}
-use Rattle.mvd_host.proofs.Weights.{heavy_more, heavy_of, not_heavy}
+use Rattle.mvd_host.proofs.Weights.{heavy_more, heavy_of, not_heavy, weights_more}
 use Rattle.mvd_host.proofs.Own.{both_none, both_on, both_self, own-append, own-other, own-same}
 
 same_there : (n m : ℕ) → (n == m) ≡ true → m ≡ n
@@ -110,7 +110,7 @@ apart_is n m other = by_eq (n == m) refl
 
 pub only_nothing : (asks : List (ℕ × Request)) (ready : List ℕ) (clients : List (ℕ × History)) (taken : Taken) → HoldsTaken asks [] taken → AreApart asks clients → TakesOnly asks ready 0 clients clients taken
 unfolding takes_nothing
-only_nothing asks ready clients taken holds apart = record { all = takes_nothing asks clients taken holds apart; none = λ n _. (refl, refl); only = λ n _. (refl, refl); same = λ n _. refl }
+only_nothing asks ready clients taken holds apart = record { all = takes_nothing asks clients taken holds apart; none = λ n _. (refl, refl); only = λ n _. (refl, refl); same = λ n _. refl; weight = λ states. omega arith }
 
 abbrev only_at : (asks : List (ℕ × Request)) (ready : List ℕ) (at : ℕ) (old mid new : List (ℕ × History)) (before after : Taken) → TakesOnly asks ready at old mid before → TakesOf (slice_index ready at) mid new before after → TakesOnly asks ready (at + 1) old new after
 unfolding takes_of
@@ -122,6 +122,7 @@ only_at asks ready at old mid new before after so_far one =
           (both_none (client_in old n) (client_in mid n) (TakesOn (own n so_far.all.requests) (own n so_far.all.faulty)) gone (so_far.all.takes n)) (so_far.none n gone);
       only = λ n out. apart_too client old mid new before after so_far.all one n (own n asks) (apart_is n client (out at (omega arith))) (so_far.only n (λ i below. out i (omega (arith, below))));
       same = λ n out. one.others n (apart_is n client (out at (omega arith))) ∙ so_far.same n (λ i below. out i (omega (arith, below)));
+      weight = λ states. let more = weights_more states so_far.all.requests (map (λ r. (client, r)) one.requests) in let before = so_far.weight states in omega (arith, more, before);
     }
 
 pub only_of : (asks : List (ℕ × Request)) (ready : List ℕ) (at : ℕ) (old mid new : List (ℕ × History)) (before after : Taken) → TakesOnly asks ready at old mid before → TakesOf (slice_index ready at) mid new before after → TakesOnly asks ready (at + 1) old new after

@@ -1,6 +1,6 @@
 -- What requests weigh, one after the other.
-use Rattle.std.proofs.Common.{◌≡◌, ◌∙◌, ℕ, ◌+◌, ◌-◌, ◌^◌, ◌≤◌, ◌<◌, List, [], ◌∷◌, ◌++◌, length, map, min, take, get_or, refl, sym, ap, subst, arith}
-use Rattle.std.proofs.lemmas.List.{map-append, take_more}
+use Rattle.std.proofs.Common.{◌≡◌, ◌∙◌, ℕ, ◌+◌, ◌-◌, ◌^◌, ◌≤◌, List, [], ◌∷◌, ◌++◌, map, min, sym, ap, subst, arith}
+use Rattle.std.proofs.lemmas.List.{map-append}
 use Rattle.mvd_site.specs.Held.{States}
 use Rattle.mvd_wire.specs.declared.request.Request.{Request}
 use Rattle.mvd_host.specs.Weights.{AreHeavy, IsWeighed, weight_of, weights_in}
@@ -13,17 +13,8 @@ pub weights_push : (states : States) (xs : List Request) (x : Request) → weigh
 weights_push states xs x = let both = weights_append states xs (x ∷ []) in omega (arith, both)
 
 -- one more is counted
-counted : (total one sum n w m most : ℕ) → n ≡ min total most → w ≡ min one most → m ≡ min (n + w) most → sum ≡ total + one → m ≡ min sum most
-counted total one sum n w m most a b c d = omega (arith, a, b, c, d)
-
 pub weighed_more : (states : States) (xs all : List Request) (x : Request) (n w m : ℕ) → IsWeighed states xs n → w ≡ min (weight_of states x) (2 ^ 64 - 1) → m ≡ min (n + w) (2 ^ 64 - 1) → all ≡ xs ++ x ∷ [] → IsWeighed states all m
-weighed_more states xs all x n w m so_far one sum is =
-    counted (weights_in states xs) (weight_of states x) (weights_in states all) n w m (2 ^ 64 - 1) so_far one sum (ap (weights_in states) is ∙ weights_push states xs x)
-
-pub weighed_next : (states : States) (requests : List Request) (i : ℕ) (x : Request) (n w m : ℕ) → i < length requests → x ≡ get_or requests i x → IsWeighed states (take i requests) n → w ≡ min (weight_of states x) (2 ^ 64 - 1)
-    → m ≡ min (n + w) (2 ^ 64 - 1) → IsWeighed states (take (i + 1) requests) m
-weighed_next states requests i x n w m low is so_far one sum =
-    weighed_more states (take i requests) (take (i + 1) requests) x n w m so_far one sum (take_more requests i x low ∙ ap (λ r. take i requests ++ r ∷ []) (sym is))
+weighed_more states xs all x n w m so_far one sum is = let whole = ap (weights_in states) is ∙ weights_push states xs x in omega (arith, so_far, one, sum, whole)
 
 -- the same list
 pub weighed_same : (states : States) (xs ys : List Request) (n : ℕ) → ys ≡ xs → IsWeighed states xs n → IsWeighed states ys n
@@ -37,7 +28,11 @@ pub not_heavy : (states : States) (asks : List (ℕ × Request)) → asks ≡ []
 not_heavy states asks none heavy = let no : weights_in states (map (λ r. r.1) asks) ≡ 0 = ap (λ (l : List (ℕ × Request)). weights_in states (map (λ r. r.1) l)) none in omega (arith, no, heavy)
 
 -- those behind others only add
+pub weights_more : (states : States) (asks more : List (ℕ × Request)) → weights_in states (map (λ r. r.1) asks) ≤ weights_in states (map (λ r. r.1) (asks ++ more))
+weights_more states asks more =
+    let both = ap (weights_in states) (map-append (λ (r : ℕ × Request). r.1) asks more) ∙ weights_append states (map (λ r. r.1) asks) (map (λ r. r.1) more) in
+    omega (arith, both)
+
 pub heavy_more : (states : States) (asks more : List (ℕ × Request)) → AreHeavy states asks → AreHeavy states (asks ++ more)
 heavy_more states asks more heavy =
-    let both = ap (weights_in states) (map-append (λ (r : ℕ × Request). r.1) asks more) ∙ weights_append states (map (λ r. r.1) asks) (map (λ r. r.1) more) in
-    omega (arith, both, heavy)
+    let grown = weights_more states asks more in omega (arith, grown, heavy)

@@ -4,6 +4,7 @@ use Rattle.std.specs.List.{AllByRecursion, filter}
 use Rattle.mvd_wire.specs.declared.request.Request.{Request}
 use Rattle.mvd_wire.specs.declared.request.Request.TheVariants.{Push}
 use Rattle.mvd_wire.specs.declared.reply.Reply.{Reply}
+use Rattle.mvd_host.specs.Course.{own}
 
 -- the numbers of clients at hand begin here; those of connections are less
 abbrev pub first_at_hand : ℕ
@@ -40,9 +41,11 @@ asks_of n requests = map (λ request. (n, request)) requests
 abbrev pub asked_by_one : AtHandValue → ℕ → List Request → AtHandValue
 asked_by_one hand n requests = record hand { waits = hand.waits ++ asks_of n requests }
 
--- a round begins with all that waits
-abbrev pub begun : AtHandValue → AtHandValue
-begun hand = record hand { done = hand.done ++ hand.waits; waits = [] }
+-- a round asks these, which of each client are a front of what waits of it, in order; the rest waits still
+pub record BeginsWith (asked : List (ℕ × Request)) (old new : AtHandValue) : Type 0 where
+  pub done : new.done ≡ old.done ++ asked
+  pub front : (n : ℕ) → own n old.waits ≡ own n asked ++ own n new.waits
+  pub told : (new.taken ≡ old.taken) × (new.left ≡ old.left)
 
 -- ---- what is told
 

@@ -1,4 +1,5 @@
 pub mod AtHand
+pub mod Fronts
 pub mod KeptAtHand
 pub mod Hosts
 pub mod Inside

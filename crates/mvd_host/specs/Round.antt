@@ -5,6 +5,7 @@ use Rattle.mvd_dots.specs.declared.refusals.Refusal.{Refusal}
 use Rattle.mvd_dots.specs.declared.refusals.Refusal.TheVariants.{Memory}
 use Rattle.mvd_wire.specs.declared.reply.Reply.TheVariants.{Refused}
 use Rattle.mvd_wire.specs.Frames.{FrameValue}
+use Rattle.mvd_wire.specs.declared.request.Request.{Request}
 use Rattle.mvd_conn.specs.Guard.{IsShown}
 use Rattle.mvd_conn.specs.History.{History}
 use Rattle.mvd_site.specs.Held.{States}
@@ -80,25 +81,29 @@ pub record Spares (ready : List ℕ) (turns : List (ℕ × Turn)) (old new : Hos
 
 -- What a round that was not refused memory gives: each client that is ready had a turn, or nothing comes next of it, or
 -- the states of the keys that the turns change, as they were before, have 4,194,304 bytes with what is put and pushed;
--- there may be more only where there was a turn, and where there is no more nothing comes next of any ready client
+-- only then something waits at hand still. There may be more only where there was a turn, and where there is no more
+-- nothing waits at hand, and nothing comes next of any ready client
 pub record GoesForward (result : Result Bool Refusal) (ready : List ℕ) (turns : List (ℕ × Turn)) (states : States)
-    (new : HostValue) : Type 0 where
+    (new : HostValue) (hand : AtHandValue) : Type 0 where
   pub fair : OnOk result ((i : ℕ) → i < length ready →
       (own (slice_index ready i) turns ≢ []) ⊎ IfClient (client_of new (slice_index ready i)) HasNoNext
       ⊎ AreHeavyTurns states turns)
+  pub at_hand : OnOk result ((hand.waits ≡ []) ⊎ AreHeavyTurns states turns)
   pub some : IfOk result (λ more. more ≡ true → turns ≢ [])
+  pub none : IfOk result (λ more. more ≡ false → hand.waits ≡ [])
   pub idle : IfOk result (λ more. more ≡ false → (i : ℕ) → i < length ready →
       IfClient (client_of new (slice_index ready i)) HasNoNext)
 
--- ALL THAT WAITED at hand is asked in turns, which for each client are what it asked, in order; and it is told their
--- replies. No earlier reply was left
+-- OF WHAT WAITED at hand a front of each client's is asked in turns, in order, and the rest waits still; each client is
+-- told the replies to its own turns. No earlier reply was left
 pub record AnswersAtHand (turns : List (ℕ × Turn)) (old new : AtHandValue) : Type 0 where
   pub none : old.left ≡ []
   pub may : AllMayWait old.waits
-  pub done : new.done ≡ old.done ++ old.waits
-  pub waits : new.waits ≡ []
+  pub asks : List (ℕ × Request)
+  pub done : new.done ≡ old.done ++ asks
+  pub front : (n : ℕ) → own n old.waits ≡ own n asks ++ own n new.waits
   pub taken : new.taken ≡ old.taken
-  pub asked : (n : ℕ) → first_at_hand ≤ n → map (λ t. t.asked) (own n turns) ≡ map (λ r. Ok r) (own n old.waits)
+  pub asked : (n : ℕ) → first_at_hand ≤ n → map (λ t. t.asked) (own n turns) ≡ map (λ r. Ok r) (own n asks)
   pub told : (n : ℕ) → first_at_hand ≤ n → own n new.left ≡ map (λ t. t.reply) (own n turns)
 
 -- The turns, in order, are served by the replica; each client's own are what its connection took, and was answered, or

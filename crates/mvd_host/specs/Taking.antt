@@ -9,7 +9,7 @@ use Rattle.mvd_conn.specs.Guard.{IsShown}
 use Rattle.mvd_conn.specs.History.{History, after_next}
 use Rattle.mvd_site.specs.Held.{States}
 use Rattle.mvd_host.specs.Hosts.{IfClient, client_in}
-use Rattle.mvd_host.specs.Weights.{AreHeavy}
+use Rattle.mvd_host.specs.Weights.{AreHeavy, weights_in}
 use Rattle.mvd_host.specs.Course.{BothClients, IsOut, NoneMoved, asked_by, own}
 use Rattle.mvd_host.specs.declared.taking.Taken.{Taken}
 
@@ -115,13 +115,15 @@ abbrev pub held_in : Taken → List (ℕ × Request)
 held_in taken = zip taken.clients.items taken.requests.items
 
 -- and of the first of these clients alone: where there is no such client, or it is not looked at, nothing of it was
--- taken but what was held before
+-- taken but what was held before; and all weighs as much as that, or more
 pub record TakesOnly (asks : List (ℕ × Request)) (ready : List ℕ) (count : ℕ) (old new : List (ℕ × History))
     (taken : Taken) : Type 0 where
   pub all : TakesAllFrames old new taken
   pub none : (n : ℕ) → client_in old n ≡ None → (own n all.requests ≡ own n asks) × (own n all.faulty ≡ [])
   pub only : (n : ℕ) → IsOut n ready count → (own n all.requests ≡ own n asks) × (own n all.faulty ≡ [])
   pub same : (n : ℕ) → IsOut n ready count → client_in new n ≡ client_in old n
+  pub weight : (states : States) → weights_in states (map (λ r. r.1) asks)
+      ≤ weights_in states (map (λ r. r.1) all.requests)
 
 -- a frame of this client was taken
 abbrev pub HasTakenFrame : ℕ → List (ℕ × Request) → List (ℕ × FrameValue) → Type 0

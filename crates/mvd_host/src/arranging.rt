@@ -136,7 +136,7 @@ impl Lanes {
 }
 
 /// Notes that a request of a client stands behind.
-fn note(behind: &mut BTreeSet<u64>, is_shut: &mut bool, client: u64)
+pub(crate) fn note(behind: &mut BTreeSet<u64>, is_shut: &mut bool, client: u64)
     ensures unshut { is_shut.new ≡ false → is_shut.old ≡ false }
     ensures noted { is_shut.new ≡ false → Updates nat_cmp behind.old behind.new client true }
 {

@@ -1,12 +1,16 @@
 //! Requests at hand: a round answers them together with the frames of connections, and gives their replies as values.
-ghost use Rattle.std.specs.Prelude.{◌≡◌, ◌∷◌, ◌<◌, ◌↔◌, ℕ, List, [], IfErr, IsTrue, OnErr, OnOk, length, true, zip};
+ghost use Rattle.std.specs.Prelude.{◌≡◌, ◌∷◌, ◌<◌, ◌≤◌, ◌⊎◌, ◌↔◌, ℕ, List, [], IfErr, IsTrue, OnErr, OnOk, false, length};
+ghost use Rattle.std.specs.Prelude.{true, zip};
 ghost use Rattle.mvd_host.specs.AtHand.{AllMayWait, MayWait, asks_of};
 ghost use Rattle.mvd_dots.specs.declared.refusals.Refusal.TheVariants as Refusal;
 
+use crate::front::{Asking, Front};
 use http_server::Log;
 use mvd_dots::Refusal;
+use mvd_site::Site;
 use mvd_wire::{Reply, Request};
 use std::alloc::Global;
+use std::collections::VecDeque;
 use std::marker::Model;
 use std::mem;
 
@@ -58,15 +62,14 @@ impl Told {
 #[derive(Drop)]
 pub struct AtHand {
     alloc: Global,
-    /// What waits for a round, and whose it is.
-    clients: Vec<u64>,
-    requests: Vec<Request>,
+    /// What waits for a round.
+    asking: Vec<Asking>,
     /// The clients of the last round, connections too, what they were told, and how many of that were gone over.
     answered: Vec<u64>,
     told: Told,
     next: usize,
-    /// For proofs alone: all that was asked, and all replies that were taken away.
-    asked: Log<u64, Request>,
+    /// For proofs alone: all that was asked in rounds, and all replies that were taken away.
+    done: Log<u64, Request>,
     taken: Log<u64, Reply>,
 }
 
@@ -90,7 +93,8 @@ impl Model for AtHand {
 }
 
 impl AtHand {
-    ghost use Rattle.mvd_host.specs.AtHand.{TakesFirst, asked_by_one, begun, none_at_hand, told_at_hand};
+    ghost use Rattle.mvd_host.specs.AtHand.{BeginsWith, TakesFirst, asked_by_one, none_at_hand, told_at_hand};
+    ghost use Rattle.mvd_host.specs.Weights.{IsWeighed};
     ghost use Rattle.mvd_host.specs.KeptAtHand.{told_each};
 
     /// Nothing is asked, and nothing is told.
@@ -99,12 +103,11 @@ impl AtHand {
     {
         AtHand {
             alloc,
-            clients: Vec::new(alloc),
-            requests: Vec::new(alloc),
+            asking: Vec::new(alloc),
             answered: Vec::new(alloc),
             told: Told::Each(Vec::new(alloc)),
             next: 0,
-            asked: Log::new(),
+            done: Log::new(),
             taken: Log::new(),
         }
     }
@@ -118,11 +121,13 @@ impl AtHand {
         if !may_wait(client, &request) {
             return Err(Refusal::BadKind);
         }
-        self.clients.reserve(1)?;
-        self.requests.reserve(1)?;
-        self.asked = self.asked.and(&client, &request);
-        self.clients.push_reserved(client);
-        self.requests.push_reserved(request);
+        self.asking.reserve(1)?;
+        let mut requests = Vec::with_capacity(self.alloc, 1)?;
+        requests.push_reserved(request);
+        self.asking.push_reserved(Asking {
+            client,
+            requests: VecDeque::from(requests),
+        });
         Ok(())
     }
 
@@ -136,14 +141,15 @@ impl AtHand {
         if !all_may_wait(client, requests) {
             return Err(Refusal::BadKind);
         }
-        self.clients.reserve(requests.len())?;
-        self.requests.reserve(requests.len())?;
-        let asked = mem::replace(requests, Vec::new(self.alloc));
-        for request in asked {
-            self.asked = self.asked.and(&client, &request);
-            self.clients.push_reserved(client);
-            self.requests.push_reserved(request);
+        if requests.is_empty() {
+            return Ok(());
         }
+        self.asking.reserve(1)?;
+        let asked = mem::replace(requests, Vec::new(self.alloc));
+        self.asking.push_reserved(Asking {
+            client,
+            requests: VecDeque::from(asked),
+        });
         Ok(())
     }
 
@@ -162,16 +168,28 @@ impl AtHand {
         None
     }
 
-    /// All that waits, for a round.
-    pub(crate) fn begin(&mut self) -> (Vec<u64>, Vec<Request>)
-        ensures begun { self.new ≡ begun self.old }
-        ensures waits { zip result.0.items result.1.items ≡ self.old.waits }
-        ensures pairs { length result.0.items ≡ length result.1.items }
-        ensures may { AllMayWait self.old.waits }
+    /// Whether something waits.
+    pub fn has_waiting(&self) -> bool
+        ensures { result ≡ false → self.now.waits ≡ [] }
     {
-        let clients = mem::replace(&mut self.clients, Vec::new(self.alloc));
-        let requests = mem::replace(&mut self.requests, Vec::new(self.alloc));
-        (clients, requests)
+        !self.asking.is_empty()
+    }
+
+    /// What a round asks of what waits: of each client a front, which is all that it asked, unless the states that the
+    /// front changes have 4,194,304 bytes. Where memory was refused, less.
+    pub(crate) fn begin(&mut self, site: &Site) -> Front
+        ensures begins { BeginsWith (zip result.clients.items result.requests.items) self.old self.new }
+        ensures pairs { length result.clients.items ≡ length result.requests.items }
+        ensures may { AllMayWait (zip result.clients.items result.requests.items) }
+        ensures waits { AllMayWait self.old.waits }
+        ensures weighed { IsWeighed site.now.states result.requests.items result.weighed }
+        ensures rest { result.is_shut ≡ false → (self.new.waits ≡ []) ⊎ (4194304 ≤ result.weighed) }
+    {
+        let mut front = Front::new(self.alloc, mem::replace(&mut self.done, Log::new()));
+        let asking = mem::replace(&mut self.asking, Vec::new(self.alloc));
+        self.asking = front.take_waiting(self.alloc, site, asking);
+        self.done = mem::replace(&mut front.done, Log::new());
+        front
     }
 
     /// Keeps what the clients of a round were told.

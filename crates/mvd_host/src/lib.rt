@@ -5,6 +5,7 @@
 mod arranging;
 mod at_hand;
 mod feed;
+mod front;
 mod host;
 pub mod laws;
 mod noting;

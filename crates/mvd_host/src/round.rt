@@ -17,12 +17,13 @@ use sqlite::Alter;
 impl Host {
     ghost use Rattle.mvd_host.specs.Round.{GoesForward, Round, host_side};
 
-    /// Takes all that waits at hand, and at most 1,024 frames of each ready client, but none that changes a state of
-    /// more than a little once such states have 4,194,304 bytes. Answers them together, queues each reply on its own
-    /// client's connection or leaves it at hand, counts what was done and refused, and notes in the feed which keys may
-    /// have changed. Gives whether there may be more to do at once: after `false` no frame can be
-    /// taken of a ready client now, and after `true` something was taken. It is refused where memory was for a frame;
-    /// what else was taken is answered.
+    /// Takes what waits at hand, and at most 1,024 frames of each ready client, but nothing that changes a state of
+    /// more than a little once such states have 4,194,304 bytes, nor what its client asked behind that. Of frames one
+    /// such is taken in any case. Answers them together, queues each reply on its own client's connection or leaves it
+    /// at hand, counts what was done and refused, and notes in the feed which keys may have changed. Gives whether
+    /// there may be more to do at once: after `false` nothing waits at hand and no frame can be taken of a ready client
+    /// now, and after `true` something was taken. It is refused where memory was for a frame, or for what waits at
+    /// hand; what else was taken is answered.
     pub fn round<S: Alter>(
         &mut self,
         replica: &mut Replica<S>,
@@ -34,15 +35,17 @@ impl Host {
         requires { at_hand.old.left ≡ [] }
         ensures round { (turns : List (ℕ × Turn)) × Round ready.now turns
             (host_side self.old at_hand.old replica.old) (host_side self.new at_hand.new replica.new) ×
-            GoesForward result ready.now turns (site_of replica.old).states self.new }
+            GoesForward result ready.now turns (site_of replica.old).states self.new at_hand.new }
         ensures memory { IfErr result (λ refusal. refusal ≡ Refusal.Memory) }
         ensures lists { ListsOn feed.old (site_of replica.old).states feed.new (site_of replica.new).states }
     {
-        let (clients, requests) = at_hand.begin();
-        let mut taken = Taken::of(self.alloc, clients, requests);
-        let refused = taken.take_all(self.alloc, replica.site(), &mut self.clients, ready);
+        let site = replica.site();
+        let front = at_hand.begin(site);
+        let (is_shut, weighed) = (front.is_shut, front.weighed);
+        let mut taken = Taken::of(self.alloc, front.clients, front.requests);
+        let refused = taken.take_all(self.alloc, site, weighed, &mut self.clients, ready);
         if taken.is_none() {
-            return told(refused, false);
+            return told(refused | is_shut, false);
         }
         let Taken {
             clients,
@@ -60,7 +63,7 @@ impl Host {
             }
         }
         queue_faults(&mut self.clients, &faults);
-        told(refused, true)
+        told(refused | is_shut, true)
     }
 }
 

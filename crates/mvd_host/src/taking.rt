@@ -10,7 +10,7 @@ ghost use Rattle.mvd_conn.specs.History.{History, after_next, released};
 ghost use Rattle.mvd_host.specs.Course.{asked_by};
 
 use crate::arranging::arranged;
-use crate::weighing::{waits, weight, weights};
+use crate::weighing::{WEIGHT_MAX, waits, weight};
 use mvd_conn::Connection;
 use mvd_dots::Refusal;
 use mvd_frames::decode_request;
@@ -183,42 +183,48 @@ impl Taken {
         self.requests = requests;
     }
 
-    /// Takes frames of some clients, and arranges all that is held. Whether memory was refused for one.
+    /// Takes frames of some clients, beside what is held, which weighs so much, and arranges all that is held. Whether
+    /// memory was refused for one.
     pub(crate) fn take_all(
         &mut self,
         alloc: Global,
         site: &Site,
+        weighed: u64,
         clients: &mut BTreeMap<u64, Connection>,
         ready: &[u64],
     ) -> bool
         requires holds { HoldsTaken (held_in self.old) [] self.old }
         requires apart { AreApart (held_in self.old) clients.old.entries }
+        requires weighed { IsWeighed site.now.states self.old.requests.items weighed }
         ensures took { TakesFairly site.now.states result (held_in self.old) ready.now (length ready.now)
             clients.old.entries clients.new.entries self.new }
         ensures idle { result ≡ false → IsNothingTaken self.new → (i : ℕ) → i < length ready.now →
             IfClient (client_in clients.new.entries (slice_index ready.now i)) HasNoNext }
     {
-        let refused = self.take_each(alloc, site, clients, ready);
+        let refused = self.take_each(alloc, site, weighed, clients, ready);
         self.arrange(alloc);
         refused
     }
 
-    /// Takes frames of some clients, one client after the other. Whether memory was refused for one.
+    /// Takes frames of some clients, one client after the other, beside what is held. Whether memory was refused for one.
     fn take_each(
         &mut self,
         alloc: Global,
         site: &Site,
+        weighed: u64,
         clients: &mut BTreeMap<u64, Connection>,
         ready: &[u64],
     ) -> bool
         requires holds { HoldsTaken (held_in self.old) [] self.old }
         requires apart { AreApart (held_in self.old) clients.old.entries }
+        requires weighed { IsWeighed site.now.states self.old.requests.items weighed }
         ensures took { TakesFairly site.now.states result (held_in self.old) ready.now (length ready.now)
             clients.old.entries clients.new.entries self.new }
         ensures idle { result ≡ false → IsNothingTaken self.new → (i : ℕ) → i < length ready.now →
             IfClient (client_in clients.new.entries (slice_index ready.now i)) HasNoNext }
     {
-        let mut weighed = weights(site, &self.requests);
+        // However much those at hand weigh, one frame that weighs more than a little may follow.
+        let mut weighed = weighed.min(WEIGHT_MAX - 1);
         let mut refused = false;
         for client in ready {
             if self.take_of(alloc, site, &mut weighed, clients, *client) {

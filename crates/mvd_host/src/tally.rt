@@ -7,6 +7,13 @@ use mvd_wire::{Reply, Request};
 /// The number of kinds of requests.
 pub const KINDS: usize = 14;
 
+/// The places of the kinds that ask for a change.
+const PUT: usize = 1;
+
+const DELETE: usize = 2;
+
+const PUSH: usize = 8;
+
 /// How many requests of each kind were done, and how many were refused.
 #[derive(Clone, Copy, Drop)]
 pub struct Tally {
@@ -20,6 +27,17 @@ impl Tally {
             done: [0; KINDS],
             refused: [0; KINDS],
         }
+    }
+
+    /// The number of puts, deletes and pushes.
+    pub fn changes(&self) -> u64 {
+        let mut changes: u64 = 0;
+        for kind in [PUT, DELETE, PUSH] {
+            changes = changes
+                .saturating_add(self.done[kind])
+                .saturating_add(self.refused[kind]);
+        }
+        changes
     }
 
     fn note(&mut self, request: &Request, reply: &Reply) {
@@ -56,14 +74,14 @@ fn kind_of(request: &Request) -> usize
 {
     match request {
         Request::Get(_) => 0,
-        Request::Put(..) => 1,
-        Request::Delete(..) => 2,
+        Request::Put(..) => PUT,
+        Request::Delete(..) => DELETE,
         Request::Find(..) => 3,
         Request::Row(..) => 4,
         Request::Rows(..) => 5,
         Request::Node(_) => 6,
         Request::Bucket(..) => 7,
-        Request::Push(..) => 8,
+        Request::Push(..) => PUSH,
         Request::Range(..) => 9,
         Request::Keys(..) => 10,
         Request::Conflicts(_) => 11,

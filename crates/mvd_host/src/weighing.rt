@@ -1,6 +1,6 @@
 //! What requests weigh in a round: the bytes of states that they have it prepare.
 ghost use Rattle.std.specs.Prelude.{◌≡◌, ◌≤◌, ◌^◌, ◌-◌, min, true};
-ghost use Rattle.mvd_host.specs.Weights.{IsWeighed, weight_of};
+ghost use Rattle.mvd_host.specs.Weights.{weight_of};
 
 use mvd_conn::Connection;
 use mvd_frames::decode_request;
@@ -9,10 +9,10 @@ use mvd_wire::{Request, state_length};
 use std::alloc::Global;
 
 /// What the requests of a round weigh from which on none is taken that weighs more than a little.
-const WEIGHT_MAX: u64 = 4_194_304;
+pub(crate) const WEIGHT_MAX: u64 = 4_194_304;
 
 /// What a request weighs at most that is taken whatever the others weigh.
-const LITTLE: u64 = 4_096;
+pub(crate) const LITTLE: u64 = 4_096;
 
 /// What a request weighs: the bytes of its key's state, and of what it puts or pushes there.
 pub(crate) fn weight(site: &Site, request: &Request) -> u64
@@ -27,17 +27,6 @@ pub(crate) fn weight(site: &Site, request: &Request) -> u64
         Request::Push(key, pushed) => site.state_bytes(key).saturating_add(state_length(pushed)),
         _ => 0,
     }
-}
-
-/// What requests weigh together.
-pub(crate) fn weights(site: &Site, requests: &[Request]) -> u64
-    ensures { IsWeighed site.now.states requests.now result }
-{
-    let mut sum: u64 = 0;
-    for request in requests {
-        sum = sum.saturating_add(weight(site, request));
-    }
-    sum
 }
 
 /// Whether the next frame of a client has to wait for another round: those of this one weigh as much as they may, and

@@ -2,7 +2,8 @@
 mod asking;
 
 ghost use Rattle.mvd_server.specs.Peerings.{WakesInTime};
-ghost use Rattle.std.specs.Prelude.{◌≡◌, ◌⊎◌, IfErr, IfOk, IsSome, OnOk, option_copied};
+ghost use Rattle.std.specs.Prelude.{◌≡◌, ◌≢◌, ◌⊎◌, [], IfErr, IfOk, IsSome, IsSomeAnd, OnOk, option_copied};
+ghost use Rattle.std.specs.Duration.{as_nanos};
 ghost use Rattle.mvd_dots.specs.declared.refusals.Refusal.TheVariants.{Memory, ReadFailed, WriteFailed};
 ghost use Rattle.mvd_input.specs.declared.fault.Fault.TheVariants.{Stopped};
 ghost use Rattle.mvd_replica.specs.Replicas.{site_of};
@@ -334,9 +335,11 @@ impl Server {
 
     /// How long nothing needs to be done if the system tells of nothing.
     fn pause(&self) -> Option<Duration>
-        ensures { WakesInTime self.now.peers.list.items self.now.crowd.now result }
+        ensures peers { WakesInTime self.now.peers.list.items self.now.crowd.now result }
+        // It does not sleep while something that was asked over HTTP waits for a round.
+        ensures waits { self.now.crowd.talks.hand.waits ≢ [] → IsSomeAnd result (λ time. as_nanos time ≡ 0) }
     {
-        if !self.ready.is_empty() || self.peers.are_busy() {
+        if !self.ready.is_empty() || self.peers.are_busy() || self.crowd.talks.has_waiting() {
             return Some(Duration::ZERO);
         }
         let due = earlier(self.crowd.next_due(), self.peers.next_due());

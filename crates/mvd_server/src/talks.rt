@@ -82,7 +82,8 @@ impl Talks {
     }
 
     /// Takes requests of some clients, answers them together, and queues what each is told, and what those are told
-    /// that wait for a change. Whether there may be more of them at once: after a commit the replies leave first.
+    /// that wait for a change. Whether there may be more of them at once: behind changes the replies leave first, and
+    /// where something has to wait for another round.
     pub fn round<S: Alter + Drop>(
         &mut self,
         replica: &mut Replica<S>,
@@ -101,7 +102,7 @@ impl Talks {
         // The round before has left nothing to tell.
         self.tell_all(counts);
         // Where memory was refused for a frame, there may be more, but not at once.
-        let commits = replica.commits();
+        let changes = counts.tally.changes();
         let round = self.host.round(
             replica,
             ready,
@@ -115,7 +116,7 @@ impl Talks {
         }
         self.tell_all(counts);
         self.wake(replica, counts);
-        more & (replica.commits() == commits)
+        more & (counts.tally.changes() == changes) & !self.hand.has_waiting()
     }
 
     /// Takes the next request of a client over HTTP, or asks what its writes ask, where that was not done.

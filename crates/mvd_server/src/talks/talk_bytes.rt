@@ -1,5 +1,5 @@
 //! The bytes of a client, and how far its connection is.
-ghost use Rattle.std.specs.Prelude.{◌≡◌, ◌≤◌, IsTrue, false, length};
+ghost use Rattle.std.specs.Prelude.{◌≡◌, ◌≤◌, [], IsTrue, false, length};
 ghost use Rattle.mvd_server.specs.Talking.{MayPart, TalksDeeds, is_own_client, talking_of};
 ghost use Rattle.mvd_server.specs.Wires.{FeedsTo, IsFedBySocket, IsNoClient, MayFeed, SendsOf, waits_for};
 
@@ -115,6 +115,13 @@ impl Talks {
             Some(web) => web.is_done(),
             None => !self.is_own(number) && self.host.is_done(number),
         }
+    }
+
+    /// Whether something that was asked over HTTP waits for a round.
+    pub fn has_waiting(&self) -> bool
+        ensures { result ≡ false → self.now.hand.waits ≡ [] }
+    {
+        self.hand.has_waiting()
     }
 
     /// Whether a frame, a request or an end may be taken at once, where no more is read.

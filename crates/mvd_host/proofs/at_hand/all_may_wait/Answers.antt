@@ -2,7 +2,7 @@ use Rattle.std.proofs.Common.{◌≡◌, ◌∙◌, ◌∷◌, ◌++◌, [], Lis
 use Rattle.std.proofs.lemmas.List.{take_all, take_more}
 use Rattle.mvd_wire.specs.declared.request.Request.{Request}
 use Rattle.mvd_host.specs.AtHand.{AllMayWait, asks_of}
-use Rattle.mvd_host.proofs.Asking.{asks_more, may_at, may_more}
+use Rattle.mvd_host.proofs.Fronts.{asks_more, may_at, may_more}
 use Rattle.mvd_host.proofs.at_hand.all_may_wait.Goals as goal
 
 pub loop-request-preserved : goal.loop-request-preserved

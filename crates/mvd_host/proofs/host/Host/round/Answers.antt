@@ -1,11 +1,13 @@
-use Rattle.std.proofs.Common.{◌≡◌, ◌+◌, ◌++◌, [], false, length, refl, true≢false, Ok, ◌∙◌, ℕ, List, map, zip, sym, ap, subst, subst₂}
+use Rattle.std.proofs.Common.{◌≡◌, ◌⊎◌, ◌||◌, Bool, ◌+◌, [], false, length, refl, true≢false, Ok, ◌∙◌, ℕ, List, map, zip, sym, ap, subst, subst₂}
 use Rattle.mvd_wire.specs.declared.request.Request.{Request}
 use Rattle.mvd_wire.specs.declared.reply.Reply.{Reply}
 use Rattle.mvd_host.specs.Queueing.{AreDue, QueuesReplies, refused_all, refused_faults}
-use Rattle.mvd_host.proofs.Answering.{Answered, answered_err, answered_none, answered_ok, kept_left, no_faults, ok_tells, round_kept, round_none, round_of}
+use Rattle.mvd_host.proofs.Answering.{Answered, answered_err, answered_none, answered_ok, no_faults, ok_tells, round_kept, round_none, round_of}
+use Rattle.mvd_host.proofs.Beginning.{kept_left, neither, rests_at_hand, weighed_held}
 use Rattle.mvd_host.proofs.Numbers.{are_apart}
 use Rattle.mvd_host.proofs.RoundLemmas.{due, due_front, memory_asks, memory_tells, memory_turns, tells, zip_asks, zip_fits}
-use Rattle.mvd_host.specs.AtHand.{AllMayWait, AtHandValue}
+use Rattle.mvd_host.specs.AtHand.{AllMayWait, AtHandValue, BeginsWith}
+use Rattle.mvd_host.specs.Weights.{AreHeavy}
 use Rattle.std.specs.List.{AllByRecursion}
 use Rattle.mvd_dots.specs.declared.refusals.Refusal.{Refusal}
 use Rattle.mvd_wire.specs.Replies.{CanBeSent}
@@ -25,14 +27,18 @@ use Rattle.mvd_host.proofs.host.Host.round.Goals as goal
 
 pub take_all-refused-requires-clause-apart : goal.take_all-refused-requires-clause-apart
 take_all-refused-requires-clause-apart g c =
-    let waits = c.of-taken.ensures.held ∙ c.begin-clients.ensures.waits in
-    are_apart (held_in c.of-taken.result) c.self.inside.clients.entries c.self.inside.admitted (subst AllMayWait (sym waits) c.begin-clients.ensures.may) c.self.invariant
+    are_apart (held_in c.of-taken.result) c.self.inside.clients.entries c.self.inside.admitted (subst AllMayWait (sym c.of-taken.ensures.held) c.begin-front.ensures.may) c.self.invariant
+
+pub take_all-refused-requires-clause-weighed : goal.take_all-refused-requires-clause-weighed
+take_all-refused-requires-clause-weighed g c =
+    let front = c.begin-front.result in
+    weighed_held c.site-site.result.now.states front.clients.items front.requests.items front.weighed c.begin-front.ensures.pairs c.begin-front.ensures.weighed c.of-taken.result c.of-taken.ensures.holds c.of-taken.ensures.held
 
 pub keep-requires : goal.keep-requires
-keep-requires g c = ap (λ (h : AtHandValue). h.left) c.begin-clients.ensures.begun ∙ c.requires
+keep-requires g c = c.begin-front.ensures.begins.told.1 ∙ c.requires
 
 pub keep-requires-in-Err : goal.keep-requires-in-Err
-keep-requires-in-Err g c = ap (λ (h : AtHandValue). h.left) c.begin-clients.ensures.begun ∙ c.requires
+keep-requires-in-Err g c = c.begin-front.ensures.begins.told.1 ∙ c.requires
 
 pub queue_replies-requires-clause-due : goal.queue_replies-requires-clause-due
 queue_replies-requires-clause-due g c =
@@ -138,14 +144,20 @@ returns-then-is_none-clause-round g c =
     let faults = no_faults taken.faults.items mid sound in
     let asks = held_in c.of-taken.result in
     let hand = c.args.at_hand.now in
-    let waits = c.of-taken.ensures.held ∙ c.begin-clients.ensures.waits in
-    let may = subst AllMayWait (sym waits) c.begin-clients.ensures.may in
-    let fair : c.take_all-refused.result ≡ false → IsFair site.states c.args.ready.now (length c.args.ready.now) all.requests all.faulty mid =
-    λ no. subst (λ (s : SiteValue). IsFair s.states c.args.ready.now (length c.args.ready.now) all.requests all.faulty mid) c.site.ensures (c.take_all-refused.ensures.took.1 no) in
+    let front = c.begin-front.result in
+    let begun = c.begin-front.new.self in
+    let may = subst AllMayWait (sym c.of-taken.ensures.held) c.begin-front.ensures.may in
+    let begins : BeginsWith asks hand begun = subst (λ (l : List (ℕ × Request)). BeginsWith l hand begun) (sym c.of-taken.ensures.held) c.begin-front.ensures.begins in
+    let refused : Bool = c.take_all-refused.result || front.is_shut in
+    let fair : refused ≡ false → IsFair site.states c.args.ready.now (length c.args.ready.now) all.requests all.faulty mid =
+    λ no. subst (λ (s : SiteValue). IsFair s.states c.args.ready.now (length c.args.ready.now) all.requests all.faulty mid) c.site-site.ensures (c.take_all-refused.ensures.took.1 (neither c.take_all-refused.result front.is_shut no).0) in
+    let rests : refused ≡ false → (begun.waits ≡ []) ⊎ AreHeavy site.states asks =
+    λ no. subst (λ (s : SiteValue). (begun.waits ≡ []) ⊎ AreHeavy s.states asks) c.site-site.ensures
+    (rests_at_hand c.site-site.result.now.states front.clients.items front.requests.items front.weighed c.begin-front.ensures.pairs c.begin-front.ensures.weighed begun asks c.of-taken.ensures.held (c.begin-front.ensures.rest (neither c.take_all-refused.result front.is_shut no).1)) in
     let new : HostValue = record { clients = mid; admitted = c.self.inside.admitted } in
-    let same : c.begin-clients.new.self ≡ record { done = hand.done ++ hand.waits; waits = []; taken = hand.taken; left = [] } = c.begin-clients.ensures.begun ∙ ap (λ (l : List (ℕ × Reply)). record { done = hand.done ++ hand.waits; waits = []; taken = hand.taken; left = l }) c.requires in
-    subst₂ (λ (h : HostValue) (k : AtHandValue). (turns : List (ℕ × Turn)) × Round c.args.ready.now turns (record { host = h; hand = hand; site = site; store = store }) (record { host = new; hand = k; site = site; store = store }) × GoesForward c.told.result c.args.ready.now turns site.states new)
-    c.self.view_is (sym same) (round_none asks c.args.ready.now old mid mid mid taken took c.self.inside.admitted site site store store [] a faults hand c.requires waits may c.self.invariant zero c.take_all-refused.result fair c.told.result c.told.ensures.is)
+    let same : begun ≡ record begun { left = [] } = ap (λ (l : List (ℕ × Reply)). record begun { left = l }) (begins.told.1 ∙ c.requires) in
+    subst₂ (λ (h : HostValue) (k : AtHandValue). (turns : List (ℕ × Turn)) × Round c.args.ready.now turns (record { host = h; hand = hand; site = site; store = store }) (record { host = new; hand = k; site = site; store = store }) × GoesForward c.told.result c.args.ready.now turns site.states new k)
+    c.self.view_is (sym same) (round_none asks c.args.ready.now old mid mid mid taken took c.self.inside.admitted site site store store [] a faults hand begun c.requires begins c.begin-front.ensures.waits may c.self.invariant zero refused fair rests c.told.result c.told.ensures.is)
 
 -- something was
 pub invariant_of-self-2 : goal.invariant_of-self-2
@@ -185,22 +197,29 @@ returns-clause-round g c =
     let some : ¬ IsNothingTaken taken = λ none. true≢false (sym (c.is_none.ensures.1 none) ∙ c.if-is_none.false) in
     let asks = held_in c.of-taken.result in
     let hand = c.args.at_hand.now in
-    let waits = c.of-taken.ensures.held ∙ c.begin-clients.ensures.waits in
-    let may = subst AllMayWait (sym waits) c.begin-clients.ensures.may in
-    let fair : c.take_all-refused.result ≡ false → IsFair site.states c.args.ready.now (length c.args.ready.now) all.requests all.faulty mid =
-    λ no. subst (λ (s : SiteValue). IsFair s.states c.args.ready.now (length c.args.ready.now) all.requests all.faulty mid) c.site.ensures (c.take_all-refused.ensures.took.1 no) in
+    let front = c.begin-front.result in
+    let begun = c.begin-front.new.self in
+    let may = subst AllMayWait (sym c.of-taken.ensures.held) c.begin-front.ensures.may in
+    let begins : BeginsWith asks hand begun = subst (λ (l : List (ℕ × Request)). BeginsWith l hand begun) (sym c.of-taken.ensures.held) c.begin-front.ensures.begins in
+    let refused : Bool = c.take_all-refused.result || front.is_shut in
+    let fair : refused ≡ false → IsFair site.states c.args.ready.now (length c.args.ready.now) all.requests all.faulty mid =
+    λ no. subst (λ (s : SiteValue). IsFair s.states c.args.ready.now (length c.args.ready.now) all.requests all.faulty mid) c.site-site.ensures (c.take_all-refused.ensures.took.1 (neither c.take_all-refused.result front.is_shut no).0) in
+    let rests : refused ≡ false → (begun.waits ≡ []) ⊎ AreHeavy site.states asks =
+    λ no. subst (λ (s : SiteValue). (begun.waits ≡ []) ⊎ AreHeavy s.states asks) c.site-site.ensures
+    (rests_at_hand c.site-site.result.now.states front.clients.items front.requests.items front.weighed c.begin-front.ensures.pairs c.begin-front.ensures.weighed begun asks c.of-taken.ensures.held (c.begin-front.ensures.rest (neither c.take_all-refused.result front.is_shut no).1)) in
     let left = c.match-answer.at_hand.left in
-    let hand_is : c.match-answer.at_hand ≡ record { done = hand.done ++ hand.waits; waits = []; taken = hand.taken; left = left } =
+    let kept : AtHandValue = record begun { left = left } in
+    let hand_is : c.match-answer.at_hand ≡ kept =
     elim c.match-answer.branch [
-      | in-Ok w ↦ w.at_hand-is ∙ w.keep.ensures ∙ kept_left hand c.begin-clients.new.self _ left c.begin-clients.ensures.begun (sym (ap (λ (h : AtHandValue). h.left) (w.at_hand-is ∙ w.keep.ensures)))
-      | in-Err w ↦ w.at_hand-is ∙ w.keep-in-Err.ensures ∙ kept_left hand c.begin-clients.new.self _ left c.begin-clients.ensures.begun (sym (ap (λ (h : AtHandValue). h.left) (w.at_hand-is ∙ w.keep-in-Err.ensures)))
+      | in-Ok w ↦ kept_left c.match-answer.at_hand begun _ (w.at_hand-is ∙ w.keep.ensures)
+      | in-Err w ↦ kept_left c.match-answer.at_hand begun _ (w.at_hand-is ∙ w.keep-in-Err.ensures)
     ] in
     subst (λ (k : AtHandValue). (turns : List (ℕ × Turn)) × Round c.args.ready.now turns (record { host = c.args.self.now; hand = hand; site = site; store = store }) (record { host = record { clients = new; admitted = c.match-answer.self-inside.admitted }; hand = k; site = later; store = after })
-    × GoesForward c.told-2.result c.args.ready.now turns site.states (record { clients = new; admitted = c.match-answer.self-inside.admitted }))
+    × GoesForward c.told-2.result c.args.ready.now turns site.states (record { clients = new; admitted = c.match-answer.self-inside.admitted }) k)
     (sym hand_is)
-    (subst₂ (λ (h : HostValue) (n : ℕ). (turns : List (ℕ × Turn)) × Round c.args.ready.now turns (record { host = h; hand = hand; site = site; store = store }) (record { host = record { clients = new; admitted = n }; hand = record { done = hand.done ++ hand.waits; waits = []; taken = hand.taken; left = left }; site = later; store = after })
-    × GoesForward c.told-2.result c.args.ready.now turns site.states (record { clients = new; admitted = n }))
-    c.self.view_is (sym admitted) (round_of asks c.args.ready.now old mid between new taken took c.self.inside.admitted site later store after left a faults hand c.requires waits may c.self.invariant some c.take_all-refused.result fair c.told-2.result c.told-2.ensures.is))
+    (subst₂ (λ (h : HostValue) (n : ℕ). (turns : List (ℕ × Turn)) × Round c.args.ready.now turns (record { host = h; hand = hand; site = site; store = store }) (record { host = record { clients = new; admitted = n }; hand = kept; site = later; store = after })
+    × GoesForward c.told-2.result c.args.ready.now turns site.states (record { clients = new; admitted = n }) kept)
+    c.self.view_is (sym admitted) (round_of asks c.args.ready.now old mid between new taken took c.self.inside.admitted site later store after left a faults hand begun c.requires begins c.begin-front.ensures.waits may c.self.invariant some refused fair rests c.told-2.result c.told-2.ensures.is))
 
 pub returns-then-is_none-clause-lists : goal.returns-then-is_none-clause-lists
 returns-then-is_none-clause-lists g c = lists_still c.args.feed.now c.args.replica.now.site.states

@@ -1,14 +1,13 @@
 use Rattle.std.proofs.Common.{◌≡◌, ◌≤◌, ◌∙◌, sym, true≢false, length, subst, arith, rules}
 use Rattle.mvd_host.specs.Taking.{TakesFairly, held_in}
 use Rattle.mvd_host.proofs.TakingAll.{fair_of, idle_all, nothing_heavy, only_nothing, only_of}
-use Rattle.mvd_host.proofs.Weights.{weighed_same}
 use Rattle.mvd_host.proofs.taking.Taken.take_each.Goals.{then-take_of, else-take_of}
 use Rattle.mvd_host.proofs.taking.Taken.take_each.Goals as goal
 
 pub loop-client-init : goal.loop-client-init
 loop-client-init c = record {
   took = (only_nothing (held_in c.args.self.now) c.args.ready.now c.args.clients.now.entries c.args.self.now c.requires.holds c.requires.apart, λ _ i below. absurd (omega (arith, below)));
-  weighed = weighed_same c.args.site.now.states c.deref.result.now c.args.self.now.requests.items c.weights-weighed.result (sym c.deref.ensures.value) c.weights-weighed.ensures;
+  weighed = omega (arith, c.requires.weighed, c.min-weighed.ensures);
   idle = λ _ _ i below. absurd (omega (arith, below));
 }
 

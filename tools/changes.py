@@ -25,6 +25,8 @@ DOCUMENT = {"city": "Oslo", "days": 3}
 ZEROS = "0" * 64
 # as many wait for one change, and are told it within so many milliseconds
 READERS = 200
+# half of the places are for those that wait
+MANY = ("--clients", str(2 * READERS))
 TOLD_WITHIN = 5_000 if SHORT else 20
 # what is idle takes at most so many seconds of the processor
 IDLE = 5 if SHORT else 0.05
@@ -235,7 +237,7 @@ def check_changes(server):
 
 def check_restart(server, folder, last):
     server.close()
-    server = Server(folder)
+    server = Server(folder, *MANY)
     wanted("a server that starts knows the root of its file", server.since(last) == {"root": last, "keys": [], "resync": False})
     server.put("after")
     wanted("and lists from there on", server.since(last)["keys"] == ["after"])
@@ -309,6 +311,24 @@ def check_after_waiting(server):
     wanted("what stands behind it is answered in its turn", came.count(b"HTTP/1.1 200") == 1 and came.count(b"HTTP/1.1 404") == 1, came)
 
 
+def check_places(folder):
+    """Half of the places are for those that wait: a further one is answered at once, and one that writes has a place."""
+    server = Server(folder, "--clients", "4", name="few.db")
+    root = server.root()
+    readers = [Reader(server, root, 50) for _ in range(2)]
+    wanted("as many wait as may", comes_to(server, 3), server.metric("mvd_connections"))
+    answer = server.since(root, 50)
+    wanted("a further one is told so at once", answer == {"root": root, "keys": [], "resync": False, "wait": 0}, answer)
+    server.put("in")
+    told = [reader.body() for reader in readers]
+    wanted("those that wait are told of a write", all(it and it["keys"] == ["in"] and "wait" not in it for it in told), told)
+    root = server.root()
+    wanted("then there is a place again", server.since(root, 1) == {"root": root, "keys": [], "resync": False})
+    for reader in readers:
+        reader.socket.close()
+    server.close()
+
+
 def main():
     with tempfile.TemporaryDirectory(prefix="mvd-changes-") as folder:
         server = Server(folder)
@@ -317,6 +337,7 @@ def main():
         took, commits = check_writes(server)
         check_long_context(server)
         check_full(folder)
+        check_places(folder)
         last = check_changes(server)
         server = check_restart(server, folder, last)
         check_after_waiting(server)

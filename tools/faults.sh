@@ -1,11 +1,11 @@
 #!/bin/bash
 # Refuses growths of memory, one a run, in each test that is made for it: each run must pass. docs/FAULTS.md has the counts.
 # It runs the proved tests (`rt test` in their crates, or `rt ci`, first), and needs a C compiler. And it does the same to
-# the program as a server that is asked one put over HTTP (tools/refused_web.py).
+# the program as a server that is asked one write over HTTP (tools/refused_web.py): a put, a delete, or a list of puts.
 # usage: tools/faults.sh                each growth of each test
 #        tools/faults.sh --short        each growth of the script's test, all but the first of the server with the put, and each 50th
 #                                       of the others: what the gate runs
-#        tools/faults.sh web            each growth of the server with the put
+#        tools/faults.sh web            each growth of the server with each of these writes
 #        tools/faults.sh CRATE TEST     each growth of one test
 set -eu
 top=$(cd "$(dirname "$0")/.." && pwd)

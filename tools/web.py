@@ -161,7 +161,15 @@ def check_refusals(server):
     wanted("which says those that do", methods == ["GET, HEAD, PUT, DELETE", "GET, HEAD, POST", "GET, HEAD"], methods)
     told("another origin", 403, '{"refused":0,"name":"ForeignOrigin"}', "GET", "/root", Origin="http://evil.example")
     told("its own origin", 200, "", "GET", "/root", Origin=f"http://127.0.0.1:{server.http}")
-    told("another name", 403, "", "GET", "/root", Host="evil.example")
+    told("its own origin over TLS", 200, "", "GET", "/root", Origin=f"https://127.0.0.1:{server.http}")
+    told("another name", 403, '{"refused":0,"name":"ForeignHost"}', "GET", "/root", Host="evil.example")
+    told("a preflight of another origin", 403, '"name":"ForeignOrigin"', "OPTIONS", "/root", Origin="http://evil.example")
+    told("a page of its own needs none", 405, '"name":"MethodNotAllowed"', "OPTIONS", "/root", Origin=f"http://127.0.0.1:{server.http}")
+    told("whether it can answer", 200, '{"ready":true}', "GET", "/health")
+    for field in "If-Match", "If-None-Match":
+        for method, path, body in ("PUT", "/keys/cond", "{}"), ("DELETE", "/keys/cond", None), ("POST", "/keys", '{"key":"cond","document":{}}'):
+            told(f"{method} with {field}", 412, '{"refused":0,"name":"PreconditionFailed"}', method, path, body, **{field: "*"})
+        told(f"GET with {field}", 404, '"siblings":[]', "GET", "/keys/cond", **{field: "*"})
     told("localhost", 200, "", "GET", "/root", Host="localhost:1")
     lines = '{"key":"k","context":"-"}\n' * 1001
     told("1,001 lines are too many", 413, '{"refused":0,"name":"ContentTooLarge"}', "POST", "/keys", lines)
@@ -174,7 +182,7 @@ def check_refusals(server):
         got = server.raw(b"GET /root HTTP/1.1\r\n" + fields + b"Connection: close\r\n\r\n")
         wanted(f"{fields.count(b'Host')} hosts are 400", got.startswith(b"HTTP/1.1 400") and got.endswith(b'"HostMissing"}'), got)
     got = server.raw(b"GET /root HTTP/1.0\r\n\r\n")
-    wanted("HTTP/1.0 without a host is 403", got.startswith(b"HTTP/1.1 403"), got)
+    wanted("HTTP/1.0 without a host is answered", got.startswith(b"HTTP/1.1 200"), got)
 
 
 def check_connections(server):

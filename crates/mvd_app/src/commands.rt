@@ -87,6 +87,8 @@ pub fn run<'a, S: Start, D: Dial, K: Sockets, R: BufRead, W: Write>(
                 idle,
                 clients,
                 token: None,
+                hosts: "",
+                origins: "",
                 peers: &[],
                 every: 0,
             };

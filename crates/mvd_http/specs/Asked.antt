@@ -27,7 +27,7 @@ use Rattle.mvd_wire.specs.Prefix.{prefix_of_text}
 use Rattle.mvd_wire.specs.declared.request.Request.{Request}
 use Rattle.mvd_wire.specs.declared.request.Request.TheVariants.{Get, Put, Delete, Row, Rows, Node, Bucket, Range, Keys, Conflicts}
 use Rattle.mvd_http.specs.declared.question.Question.{Question}
-use Rattle.mvd_http.specs.declared.question.Question.TheVariants.{Page, Root, Metrics, Ask, Live, Changes, Misread, Nowhere, NotAllowed}
+use Rattle.mvd_http.specs.declared.question.Question.TheVariants.{Page, Root, Metrics, Health, Ask, Live, Changes, Misread, Nowhere, NotAllowed}
 use Rattle.mvd_http.specs.declared.question.Methods.TheVariants.{OfKey, OfKeys, OfList}
 use Rattle.mvd_http.specs.declared.question.Verb.{Verb}
 use Rattle.mvd_http.specs.declared.question.Verb.TheVariants as verb
@@ -210,7 +210,8 @@ abbrev pub list_asked : List ℕ → List ℕ → Result Question Refusal
 list_asked path query =
     if bytes_eq path (codes "/") then Ok Page else (
     if bytes_eq path (codes "/root") then Ok Root else (
-    if bytes_eq path (codes "/metrics") then Ok Metrics else told_asked path query))
+    if bytes_eq path (codes "/metrics") then Ok Metrics else (
+    if bytes_eq path (codes "/health") then Ok Health else told_asked path query)))
 
 -- ---- keys
 

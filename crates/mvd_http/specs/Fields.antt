@@ -46,5 +46,20 @@ abbrev pub challenge_of : Bool → List (List ℕ × List ℕ)
 challenge_of false = []
 challenge_of true = (codes "www-authenticate", codes "Bearer") ∷ []
 
+-- what a page of another origin may ask: by which methods, with which fields, and for how many seconds it need not ask
+-- that again (the CORS preflight of the Fetch standard)
+abbrev pub permits : Methods → List (List ℕ × List ℕ)
+permits methods =
+    (codes "access-control-allow-methods", names methods)
+    ∷ (codes "access-control-allow-headers", codes "authorization, content-type, mvd-context")
+    ∷ (codes "access-control-max-age", codes "7200") ∷ []
+
+abbrev pub preflight_of : Option Methods → List (List ℕ × List ℕ)
+preflight_of None = []
+preflight_of (Some methods) = permits methods
+
 abbrev pub fields_for : Answer → List (List ℕ × List ℕ)
-fields_for answer = common ++ (type_of answer.content ++ (allow_of answer.allow ++ challenge_of answer.asks_token))
+fields_for answer =
+    common
+    ++ (type_of answer.content
+    ++ (allow_of answer.allow ++ (challenge_of answer.asks_token ++ preflight_of answer.preflight)))

@@ -175,6 +175,11 @@ changes_text root keys resync =
     ++ (codes ",\"keys\":["
     ++ (commaed quoted keys ++ (codes "],\"resync\":" ++ (truth_text resync ++ codes "}")))))
 
+-- nothing changed since this root, and there was no place to wait until something does
+abbrev pub not_waited_text : List ℕ → List ℕ
+not_waited_text root =
+    codes "{\"root\":" ++ (digest_json root ++ codes ",\"keys\":[],\"resync\":false,\"wait\":0}")
+
 abbrev pub refused_json : Refusal → List ℕ
 refused_json refusal =
     codes "{\"refused\":" ++ (decimal (number_of refusal) ++ (codes ",\"name\":\"" ++ (name_of refusal ++ codes "\"}")))

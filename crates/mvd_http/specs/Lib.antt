@@ -8,4 +8,5 @@ pub mod Faults
 pub mod Guard
 pub mod Fields
 pub mod Room
+pub mod Writing
 pub mod OpenToAll

@@ -1,7 +1,8 @@
 //! The fields of a response.
 ghost use Rattle.std.specs.Prelude.{◌≡◌, ◌++◌, OnOk, string_bytes};
 ghost use Rattle.http_server.specs.Response.{IsBlank, IsResponse, fields_of};
-ghost use Rattle.mvd_http.specs.Fields.{allow_of, challenge_of, common, fields_for, guards, names, type_of, typed};
+ghost use Rattle.mvd_http.specs.Fields.{allow_of, challenge_of, common, fields_for, guards, names, permits};
+ghost use Rattle.mvd_http.specs.Fields.{preflight_of, type_of, typed};
 
 use crate::question::Methods;
 use bytes::BufMut;
@@ -30,6 +31,8 @@ pub struct Answer {
     pub allow: Option<Methods>,
     /// Whether it says that a token is asked for.
     pub asks_token: bool,
+    /// The methods by which a page of another origin may ask, where it asked which.
+    pub preflight: Option<Methods>,
 }
 
 const POLICY: &str =
@@ -44,6 +47,7 @@ pub fn fill(response: &mut Response, answer: Answer, body: &str) -> Result<(), A
     add_type(response, answer.content)?;
     add_allow(response, answer.allow)?;
     add_challenge(response, answer.asks_token)?;
+    add_preflight(response, answer.preflight)?;
     response.status = answer.status;
     response.body.put_slice(body.as_bytes())?;
     Ok(())
@@ -139,4 +143,32 @@ fn add_challenge(response: &mut Response, asks_token: bool) -> Result<(), AllocE
     }
     let name = HeaderName::from_static("www-authenticate");
     response.add_header(name, HeaderValue::from_static("Bearer"))
+}
+
+/// By which methods and with which fields a page of another origin may ask, and for how many seconds it need not ask
+/// that again.
+fn add_preflight(response: &mut Response, preflight: Option<Methods>) -> Result<(), AllocError>
+    ensures fields { OnOk result (fields_of response.new ≡ fields_of response.old ++ preflight_of preflight) }
+    ensures body { response.new.body ≡ response.old.body }
+{
+    match preflight {
+        Some(methods) => add_permits(response, methods),
+        None => Ok(()),
+    }
+}
+
+fn add_permits(response: &mut Response, methods: Methods) -> Result<(), AllocError>
+    ensures fields { OnOk result (fields_of response.new ≡ fields_of response.old ++ permits methods) }
+    ensures body { response.new.body ≡ response.old.body }
+{
+    let by = HeaderName::from_static("access-control-allow-methods");
+    response.add_header(by, names_of(methods))?;
+    let with = HeaderName::from_static("access-control-allow-headers");
+    response.add_header(
+        with,
+        HeaderValue::from_static("authorization, content-type, mvd-context"),
+    )?;
+    let seconds = HeaderName::from_static("access-control-max-age");
+    response.add_header(seconds, HeaderValue::from_static("7200"))?;
+    Ok(())
 }

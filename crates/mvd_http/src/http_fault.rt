@@ -11,12 +11,16 @@ pub enum Fault {
     BadRequest,
     /// It does not name one host.
     HostMissing,
-    /// It comes of another server's page, or names a host by a name.
+    /// It names a host by a name that is none of this server's.
+    ForeignHost,
+    /// It comes of a page of another origin.
     ForeignOrigin,
     /// Its path names nothing.
     NotFound,
     /// Its path is not asked by this method.
     MethodNotAllowed,
+    /// It is a write under a condition of HTTP's own: a context stands for these.
+    PreconditionFailed,
     /// Its body is too long, or has too many lines.
     ContentTooLarge,
     /// Its target is too long.
@@ -38,9 +42,10 @@ impl Fault {
     {
         match self {
             Fault::BadRequest | Fault::HostMissing => StatusCode::BAD_REQUEST,
-            Fault::ForeignOrigin => StatusCode::FORBIDDEN,
+            Fault::ForeignHost | Fault::ForeignOrigin => StatusCode::FORBIDDEN,
             Fault::NotFound => StatusCode::NOT_FOUND,
             Fault::MethodNotAllowed => StatusCode::METHOD_NOT_ALLOWED,
+            Fault::PreconditionFailed => StatusCode::PRECONDITION_FAILED,
             Fault::ContentTooLarge => StatusCode::PAYLOAD_TOO_LARGE,
             Fault::UriTooLong => StatusCode::URI_TOO_LONG,
             Fault::HeaderTooLarge => StatusCode::REQUEST_HEADER_FIELDS_TOO_LARGE,
@@ -58,6 +63,7 @@ impl Fault {
             content: Content::Json,
             allow: None,
             asks_token: false,
+            preflight: None,
         }
     }
 
@@ -68,9 +74,11 @@ impl Fault {
         match self {
             Fault::BadRequest => "{\"refused\":0,\"name\":\"BadRequest\"}",
             Fault::HostMissing => "{\"refused\":0,\"name\":\"HostMissing\"}",
+            Fault::ForeignHost => "{\"refused\":0,\"name\":\"ForeignHost\"}",
             Fault::ForeignOrigin => "{\"refused\":0,\"name\":\"ForeignOrigin\"}",
             Fault::NotFound => "{\"refused\":0,\"name\":\"NotFound\"}",
             Fault::MethodNotAllowed => "{\"refused\":0,\"name\":\"MethodNotAllowed\"}",
+            Fault::PreconditionFailed => "{\"refused\":0,\"name\":\"PreconditionFailed\"}",
             Fault::ContentTooLarge => "{\"refused\":0,\"name\":\"ContentTooLarge\"}",
             Fault::UriTooLong => "{\"refused\":0,\"name\":\"UriTooLong\"}",
             Fault::HeaderTooLarge => "{\"refused\":0,\"name\":\"HeaderTooLarge\"}",

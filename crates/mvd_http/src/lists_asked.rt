@@ -30,6 +30,9 @@ pub fn list_of(alloc: Global, path: &[u8], query: &[u8]) -> Result<Question, Ref
     if path == b"/metrics".as_slice() {
         return Ok(Question::Metrics);
     }
+    if path == b"/health".as_slice() {
+        return Ok(Question::Health);
+    }
     told_of(alloc, path, query)
 }
 

@@ -12,6 +12,8 @@ pub enum Question {
     Root,
     /// Counts.
     Metrics,
+    /// Whether the server can answer.
+    Health,
     /// The site is asked.
     Ask(Request),
     /// The site is asked, and keys without a sibling are left out of what is told.

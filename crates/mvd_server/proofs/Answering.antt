@@ -24,6 +24,10 @@ answered (Some waits) asked reply old new status body is answers responds =
       responds = responds;
     })
 
+-- the same of a connection that is as it was
+pub answered_so : (reply : Reply) (old mid new : WebValue) → mid ≡ old → AnswersWeb mid.asked reply mid new → AnswersWeb old.asked reply old new
+answered_so reply old mid new same answers = subst (λ (w : WebValue). AnswersWeb w.asked reply w new) same answers
+
 -- it is told that it is refused
 pub refuses : (refusal : Refusal) (old new : WebValue) (status : ℕ) (body : List ℕ) → IsToldAs (refused_for old.asked refusal) status body → RespondsTo old.asked old (json_answer status body) body new → RefusesWeb refusal old new
 refuses refusal old new status body told responds = inl (record { status = status; body = body; told = told; responds = responds })

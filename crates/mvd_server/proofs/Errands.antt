@@ -2,16 +2,17 @@
 use Rattle.std.proofs.Common.{◌≡◌, ◌≤◌, ◌⊎◌, length, Bool, true, false, ℕ, List, [], ◌∷◌, Option, None, Some, Result, Ok, Err, inl, inr, refl, sym, subst, ap, ◌∙◌}
 use Rattle.std.specs.Prelude.{string_bytes}
 use Rattle.mvd_conn.specs.declared.guard.Guard.{Guard}
+use Rattle.mvd_http.specs.Guard.{Named}
 use Rattle.mvd_dots.specs.declared.refusals.Refusal.{Refusal}
 use Rattle.mvd_host.specs.AtHand.{AtHandValue, StepsAtHand}
 use Rattle.mvd_http.specs.declared.fields.Content.TheVariants as content
 use Rattle.mvd_http.specs.declared.question.Question.{Question}
-use Rattle.mvd_http.specs.declared.question.Question.TheVariants.{Page, Root, Metrics, Ask, Live, Changes, Many, TooManyLines, Misread, Nowhere, NotAllowed}
+use Rattle.mvd_http.specs.declared.question.Question.TheVariants.{Page, Root, Metrics, Health, Ask, Live, Changes, Many, TooManyLines, Misread, Nowhere, NotAllowed}
 use Rattle.mvd_server.specs.Admitted.{Decides}
 use Rattle.mvd_server.specs.Batches.{BeginsBatch, HandsBatch}
 use Rattle.mvd_server.specs.Errands.{Asks, AsksAtHand, AsksNextOf, Desk, DoesPlan, Errand, Forgoes, IsBatchFor, IsUntold, RunsErrand, Stops, TakesIf, Tells, TellsBatch, TellsChange, TellsMany}
 use Rattle.mvd_server.specs.Lines.{IsOnlyTold, TellsEachLine}
-use Rattle.mvd_server.specs.Plans.{IsPlanOf, plain_answer}
+use Rattle.mvd_server.specs.Plans.{IsPlanOf, TellsMethods, plain_answer}
 use Rattle.mvd_server.specs.declared.batch.Batch.{Batch}
 use Rattle.mvd_server.specs.declared.gate.Plan.{Plan}
 use Rattle.mvd_server.specs.declared.gate.Plan.TheVariants as plan
@@ -20,7 +21,7 @@ use Rattle.mvd_server.specs.declared.gate.Rest.TheVariants as rest
 use Rattle.mvd_web.specs.Web.{RespondsTo, TakesRequest, WebValue, stopped_by}
 use Rattle.mvd_web.specs.declared.taken.Asked.{Asked}
 use Rattle.mvd_web.specs.declared.taken.Entry.{Entry}
-use Rattle.mvd_web.specs.declared.taken.Entry.TheVariants.{Open, HostMissing, ForeignPage, NoToken}
+use Rattle.mvd_web.specs.declared.taken.Entry.TheVariants.{Open, Preflight, Conditional, HostMissing, Stranger, NoToken}
 use Rattle.mvd_wire.specs.declared.reply.Reply.{Reply}
 use Rattle.mvd_wire.specs.declared.request.Request.{Request}
 
@@ -47,18 +48,19 @@ steps_plan n (plan.Writes batch) old hand new hand' left (is, same, writes) = in
 steps_plan n (plan.Changes since wait) old hand new hand' left (is, tells) = inl is
 steps_plan n plan.Root old hand new hand' left (told, body) = inl told.0
 steps_plan n plan.Metrics old hand new hand' left (told, body) = inl told.0
+steps_plan n plan.Health old hand new hand' left (told, body) = inl told.0
 steps_plan n (plan.Told answer body) old hand new hand' left (told, responds) = inl told.0
 steps_plan n plan.NotAdmitted old hand new hand' left (told, responds) = inl told.0
 steps_plan n (plan.Refused refusal) old hand new hand' left (told, refuses) = inl told.0
 
-pub steps_errand : (errand : Errand) (guard : Option Guard) (n : ℕ) (old new : Desk) → RunsErrand errand guard n old new → MayStep old.hand new.hand
-steps_errand (Asks left) guard n old new (inl (told, none), same) = inl told.0
-steps_errand (Asks left) guard n old new (inr one, same) = steps_plan n one.plan one.mid old.hand new.web new.hand left one.does
-steps_errand (Forgoes batch) guard n old new (writes, refuses, is) = inl (ap (λ (d : Desk). d.hand) is)
-steps_errand Tells guard n old new ((reply, takes, answers), same) = inr (inr ((n, reply), takes))
-steps_errand (TellsMany batch batch') guard n old new (has, (only, (reply, takes), told), same) = steps_taken n reply old.hand new.hand takes
-steps_errand TellsChange guard n old new (awaits, told, is) = inl (ap (λ (d : Desk). d.hand) is)
-steps_errand Stops guard n old new (ends, is) = inl (ap (λ (d : Desk). d.hand) is)
+pub steps_errand : (errand : Errand) (guard : Option Guard) (names : Named) (n : ℕ) (old new : Desk) → RunsErrand errand guard names n old new → MayStep old.hand new.hand
+steps_errand (Asks left) guard names n old new (inl (told, none), same) = inl told.0
+steps_errand (Asks left) guard names n old new (inr one, same) = steps_plan n one.plan one.mid old.hand new.web new.hand left one.does
+steps_errand (Forgoes batch) guard names n old new (writes, refuses, is) = inl (ap (λ (d : Desk). d.hand) is)
+steps_errand Tells guard names n old new ((reply, takes, answers), same) = inr (inr ((n, reply), takes))
+steps_errand (TellsMany batch batch') guard names n old new (has, (only, (reply, takes), told), same) = steps_taken n reply old.hand new.hand takes
+steps_errand TellsChange guard names n old new (awaits, told, is) = inl (ap (λ (d : Desk). d.hand) is)
+steps_errand Stops guard names n old new (ends, is) = inl (ap (λ (d : Desk). d.hand) is)
 
 -- ---- many writes are those of the request that waits
 
@@ -70,17 +72,36 @@ batch_asked (Ok (Changes since wait)) batch is = absurd (let no : ⊥ = cc in no
 batch_asked (Ok Page) batch never = absurd never
 batch_asked (Ok Root) batch is = absurd (let no : ⊥ = cc in no)
 batch_asked (Ok Metrics) batch is = absurd (let no : ⊥ = cc in no)
+batch_asked (Ok Health) batch is = absurd (let no : ⊥ = cc in no)
 batch_asked (Ok TooManyLines) batch never = absurd never
 batch_asked (Ok (Misread refusal place)) batch is = absurd (let no : ⊥ = cc in no)
 batch_asked (Ok Nowhere) batch never = absurd never
 batch_asked (Ok (NotAllowed methods)) batch never = absurd never
 batch_asked (Err refusal) batch is = absurd (let no : ⊥ = cc in no)
 
+-- what may be asked by which methods asks no write
+permits_none : (q : Result Question Refusal) (batch : Batch) → TellsMethods q (plan.Writes batch) → ⊥
+permits_none (Ok (Ask request)) batch never = never
+permits_none (Ok (Live request)) batch never = never
+permits_none (Ok (Many writes)) batch never = never
+permits_none (Ok (Changes since wait)) batch never = never
+permits_none (Ok Page) batch never = never
+permits_none (Ok Root) batch never = never
+permits_none (Ok Metrics) batch never = never
+permits_none (Ok Health) batch never = never
+permits_none (Ok TooManyLines) batch never = never
+permits_none (Ok (Misread refusal place)) batch never = never
+permits_none (Ok Nowhere) batch never = never
+permits_none (Ok (NotAllowed methods)) batch never = never
+permits_none (Err refusal) batch never = never
+
 -- only a request that comes in has its writes asked
 writes_decided : (entry : Entry) (q : Result Question Refusal) (batch : Batch) → Decides entry q (plan.Writes batch) → IsPlanOf q (plan.Writes batch)
 writes_decided Open q batch plans = plans
 writes_decided HostMissing q batch never = absurd never
-writes_decided ForeignPage q batch never = absurd never
+writes_decided (Stranger fault) q batch never = absurd never
+writes_decided Conditional q batch never = absurd never
+writes_decided Preflight q batch never = absurd (permits_none q batch never)
 writes_decided NoToken q batch is = absurd (let no : ⊥ = cc in no)
 
 batch_left : (guard : Option Guard) (n : ℕ) (p : Plan) (asked : Asked) (old : WebValue) (hand : AtHandValue) (new : WebValue) (hand' : AtHandValue) (batch : Batch) → old.asked ≡ Some asked → Decides asked.entry asked.question p
@@ -92,19 +113,20 @@ batch_left guard n (plan.Ask request) asked old hand new hand' batch kept plans 
 batch_left guard n (plan.Changes since wait) asked old hand new hand' batch kept plans (is, inl (left, body)) = absurd (let no : ⊥ = cc in no)
 batch_left guard n (plan.Changes since wait) asked old hand new hand' batch kept plans (is, inr (root, some, left, same)) = absurd (let no : ⊥ = cc in no)
 batch_left guard n plan.Root asked old hand new hand' batch kept plans (told, body) = let left = told.1 in absurd (let no : ⊥ = cc in no)
+batch_left guard n plan.Health asked old hand new hand' batch kept plans (told, body) = let left = told.1 in absurd (let no : ⊥ = cc in no)
 batch_left guard n plan.Metrics asked old hand new hand' batch kept plans (told, body) = let left = told.1 in absurd (let no : ⊥ = cc in no)
 batch_left guard n (plan.Told answer body) asked old hand new hand' batch kept plans (told, responds) = let left = told.1 in absurd (let no : ⊥ = cc in no)
 batch_left guard n plan.NotAdmitted asked old hand new hand' batch kept plans (told, responds) = let left = told.1 in absurd (let no : ⊥ = cc in no)
 batch_left guard n (plan.Refused refusal) asked old hand new hand' batch kept plans (told, refuses) = let left = told.1 in absurd (let no : ⊥ = cc in no)
 
-pub batch_of : (guard : Option Guard) (n : ℕ) (old : WebValue) (hand : AtHandValue) (new : WebValue) (hand' : AtHandValue) (batch : Batch) → AsksNextOf guard n old hand new hand' (rest.Writes batch) → IsBatchFor new.asked batch
-batch_of guard n old hand new hand' batch (inl (told, none)) = let left = told.1 in absurd (let no : ⊥ = cc in no)
-batch_of guard n old hand new hand' batch (inr one) = batch_left guard n one.plan one.asked one.mid hand new hand' batch one.kept one.decides one.does
+pub batch_of : (guard : Option Guard) (names : Named) (n : ℕ) (old : WebValue) (hand : AtHandValue) (new : WebValue) (hand' : AtHandValue) (batch : Batch) → AsksNextOf guard names n old hand new hand' (rest.Writes batch) → IsBatchFor new.asked batch
+batch_of guard names n old hand new hand' batch (inl (told, none)) = let left = told.1 in absurd (let no : ⊥ = cc in no)
+batch_of guard names n old hand new hand' batch (inr one) = batch_left guard n one.plan one.asked one.mid hand new hand' batch one.kept one.decides one.does
 
 -- ---- a request is taken, or none is
 
-pub asks_none : (guard : Option Guard) (n : ℕ) (old new : WebValue) (hand : AtHandValue) (took : Bool) → TakesRequest guard old took new → took ≡ false → AsksNextOf guard n old hand new hand rest.Nothing
-asks_none guard n old new hand took takes is = inl ((refl, refl), subst (λ b. TakesRequest guard old b new) is takes)
+pub asks_none : (guard : Option Guard) (names : Named) (n : ℕ) (old new : WebValue) (hand : AtHandValue) (took : Bool) → TakesRequest guard names old took new → took ≡ false → AsksNextOf guard names n old hand new hand rest.Nothing
+asks_none guard names n old new hand took takes is = inl ((refl, refl), subst (λ b. TakesRequest guard names old b new) is takes)
 
 -- ---- many writes are told
 

@@ -1,6 +1,7 @@
 -- One host, from its first client on.
 use Rattle.std.proofs.Common.{◌≡◌, ◌∙◌, ◌⊎◌, ◌<◌, true, ℕ, List, [], ◌∷◌, ◌++◌, Option, None, Some, inl, inr, ap, refl, sym, subst, append-nil, append_assoc, true≢false}
 use Rattle.mvd_conn.specs.declared.guard.Guard.{Guard}
+use Rattle.mvd_http.specs.Guard.{Named}
 use Rattle.mvd_conn.specs.History.{History, is_done}
 use Rattle.mvd_host.proofs.Own.{own-append}
 use Rattle.mvd_host.proofs.Runs.{SoFar, begins, goes_on as runs_on, has_shown, one_list}
@@ -216,38 +217,47 @@ module _ {K C : Type 0} (f : C → State) (k : SocketGhosts K) where
 
 -- ---- what a server does
 
-none_made : (guard : Option Guard) (n : ℕ) → IsMadeFor (new_talking guard) n → ⊥
-none_made guard n is = absurd (true≢false (sym is))
+-- it begins with who may come in, and with its names
+pub begins_serving : (token : Option (List ℕ)) (guard : Option Guard) (names : Named) (talks : Talks) → IsGuardOf token guard → talking_of talks ≡ new_talking guard names → BeginsServing token talks
+begins_serving token guard names talks guarded is = (guard, names, guarded, is)
+
+none_made : (guard : Option Guard) (names : Named) (n : ℕ) → IsMadeFor (new_talking guard names) n → ⊥
+none_made guard names n is = absurd (true≢false (sym is))
+
+-- a server without a name
+no_names : Named
+no_names = record { hosts = []; origins = []; any_host = false }
 
 none_shown : (guard : Option Guard) → HasShown guard []
 none_shown None = tt
 none_shown (Some guard) = tt
 
 module _ {S : Type 0} {g : Ghosts S} {K : Type 0} (k : SocketGhosts K) where
-  pub served : (token : Option (List ℕ)) (guard : Option Guard) (last : Talking) (sockets : K) (old : Replica S g) (sockets' : K) (new : Replica S g) → IsGuardOf token guard
-      → GoesOnServing k (begun guard sockets) old (record { talking = last; sockets = sockets' }) new → IsServed k token sockets old sockets' new
-  served token guard last sockets old sockets' new guarded p =
-      let start = moment_of (world_of (begun guard sockets) old) in
-      let h = of_steps (state g) k (world_of (begun guard sockets) old) (world_of (record { talking = last; sockets = sockets' }) new) p.mids p.steps in
+  pub served : (token : Option (List ℕ)) (guard : Option Guard) (names : Named) (last : Talking) (sockets : K) (old : Replica S g) (sockets' : K) (new : Replica S g) → IsGuardOf token guard
+      → GoesOnServing k (begun guard names sockets) old (record { talking = last; sockets = sockets' }) new → IsServed k token sockets old sockets' new
+  served token guard names last sockets old sockets' new guarded p =
+      let start = moment_of (world_of (begun guard names sockets) old) in
+      let h = of_steps (state g) k (world_of (begun guard names sockets) old) (world_of (record { talking = last; sockets = sockets' }) new) p.mids p.steps in
       let Made : ℕ → Type 0 = λ n. WasMadeFor n p.mids in
       let Told : ℕ → List Turn → Type 0 = λ n own. WasThere n (TellsOwn own) p.mids in
       let Done : ℕ → Type 0 = λ n. WasThere n (λ h. is_done h ≡ true) p.mids in
-      let first : Shows (state g) k guard start Made Told Done [] (world_of (begun guard sockets) old) = record {
-        guards = record { kept = refl; each = guarded_new guard; apart = numbered_new guard };
+      let first : Shows (state g) k guard start Made Told Done [] (world_of (begun guard names sockets) old) = record {
+        guards = record { kept = refl; each = guarded_new guard names; apart = numbered_new guard names };
         done = λ n is. absurd is;
         parted = λ n below gone. inl refl;
         far = begins (state g) start refl;
-        made = λ n made. absurd (none_made guard n made);
+        made = λ n made. absurd (none_made guard names n made);
         there = λ n own is. absurd is;
         gone = λ n below gone. record { shown = inl (none_shown guard); told = inl refl };
       } in
       let end = world_of (record { talking = last; sockets = sockets' }) new in
-      let shows = shows_steps (state g) k guard start Made Told Done [] (world_of (begun guard sockets) old) end p.mids p.steps (λ n was. was) (λ n own was. was) (λ n was. was) first in
+      let shows = shows_steps (state g) k guard start Made Told Done [] (world_of (begun guard names sockets) old) end p.mids p.steps (λ n was. was) (λ n own was. was) (λ n was. was) first in
       let each = shows_each (state g) k guard start Made Told Done (turns_in h.all) end shows in
       let one = subst (λ m. OneList (turns_in h.all) (side_at (state g) start) (side_at (state g) m)) h.ends (one_list (state g) start h.all refl refl h.runs) in
       record {
         guard = guard;
         guarded = guarded;
+        names = names;
         last = last;
         goes = p;
         all = h.all;
@@ -298,21 +308,21 @@ module _ {S : Type 0} {g : Ghosts S} {K : Type 0} (k : SocketGhosts K) where
 
   -- a guard of a token, of which there is one
   pub served_none : (token : Option (List ℕ)) (sockets : K) (replica : Replica S g) → IsServed k token sockets replica sockets replica
-  served_none None sockets replica = served None None (new_talking None) sockets replica sockets replica tt (goes_none (begun None sockets) replica)
+  served_none None sockets replica = served None None no_names (new_talking None no_names) sockets replica sockets replica tt (goes_none (begun None no_names sockets) replica)
   served_none (Some token) sockets replica =
       let guard : Guard = record { digest = sha256 token } in
-      served (Some token) (Some guard) (new_talking (Some guard)) sockets replica sockets replica refl (goes_none (begun (Some guard) sockets) replica)
+      served (Some token) (Some guard) no_names (new_talking (Some guard) no_names) sockets replica sockets replica refl (goes_none (begun (Some guard) no_names sockets) replica)
 
   pub served_from : (token : Option (List ℕ)) (first last : Talks) (sockets : K) (old : Replica S g) (sockets' : K) (new : Replica S g) → BeginsServing token first
       → GoesOnServing k (wired_of first sockets) old (wired_of last sockets') new → IsServed k token sockets old sockets' new
-  served_from token first last sockets old sockets' new (guard, guarded, is) p =
-      served token guard (talking_of last) sockets old sockets' new guarded (subst (λ (t : Talking). GoesOnServing k (record { talking = t; sockets = sockets }) old (wired_of last sockets') new) is p)
+  served_from token first last sockets old sockets' new (guard, names, guarded, is) p =
+      served token guard names (talking_of last) sockets old sockets' new guarded (subst (λ (t : Talking). GoesOnServing k (record { talking = t; sockets = sockets }) old (wired_of last sockets') new) is p)
 
   -- and at the end nobody is left but its own
   pub left_from : (token : Option (List ℕ)) (first last : Talks) (sockets : K) (old : Replica S g) (sockets' : K) (new : Replica S g) → BeginsServing token first
       → GoesOnServing k (wired_of first sockets) old (wired_of last sockets') new → IsDeserted (talking_of last) → EndsServed k token sockets old sockets' new
   unfolding served_from served
-  left_from token first last sockets old sockets' new (guard, guarded, is) p left = (served_from token first last sockets old sockets' new (guard, guarded, is) p, left)
+  left_from token first last sockets old sockets' new (guard, names, guarded, is) p left = (served_from token first last sockets old sockets' new (guard, names, guarded, is) p, left)
 
   -- ---- one after the other
 

@@ -6,6 +6,7 @@ use Rattle.std.specs.List.{list_any}
 use Rattle.std.specs.Map.{remove_entry, set_value}
 use Rattle.std.specs.Ordering.{nat_cmp}
 use Rattle.mvd_conn.specs.declared.guard.Guard.{Guard}
+use Rattle.mvd_http.specs.Guard.{Named}
 use Rattle.mvd_conn.specs.History.{History, closed, fed, new_history, released, sent}
 use Rattle.mvd_conn.specs.declared.source.Source.TheVariants as source
 use Rattle.mvd_dots.specs.declared.refusals.Refusal.TheVariants.{Memory}
@@ -27,8 +28,8 @@ use Rattle.mvd_web.specs.declared.web_connection.WebConnection.{WebConnection}
 abbrev pub AreGuarded : Talking → Type 0
 AreGuarded t = (q : ℕ) (h : History) → client_of t.host q ≡ Some h → (h.guard ≡ t.guard) ⊎ IsMadeFor t q
 
-pub guarded_new : (guard : Option Guard) → AreGuarded (new_talking guard)
-guarded_new guard q h found = absurd (let no : ◌≡◌ {A = Option History} None (Some h) = found in cc)
+pub guarded_new : (guard : Option Guard) (names : Named) → AreGuarded (new_talking guard names)
+guarded_new guard names q h found = absurd (let no : ◌≡◌ {A = Option History} None (Some h) = found in cc)
 
 -- ---- who comes and goes
 

@@ -7,6 +7,7 @@ use Rattle.mvd_conn.specs.declared.guard.Guard.{Guard}
 use Rattle.mvd_dots.specs.declared.refusals.Refusal.{Refusal}
 use Rattle.mvd_dots.specs.declared.refusals.Refusal.TheVariants.{Memory}
 use Rattle.mvd_host.specs.AtHand.{AtHandValue, MayWait, TakesFirst, asked_by_one}
+use Rattle.mvd_http.specs.Guard.{Named}
 use Rattle.mvd_http.specs.declared.fields.Content.TheVariants as content
 use Rattle.mvd_http.specs.declared.question.Question.TheVariants.{Changes, Many}
 use Rattle.mvd_server.specs.Admitted.{Decides}
@@ -49,6 +50,7 @@ DoesPlan n (plan.Writes batch) old hand new hand' left = (hand' ≡ hand) × (ne
 DoesPlan n (plan.Changes since wait) old hand new hand' left = (hand' ≡ hand) × TellsOrWaits since wait old new left
 DoesPlan n plan.Root old hand new hand' left = IsToldRest hand hand' left × TellsBody content.Json old new
 DoesPlan n plan.Metrics old hand new hand' left = IsToldRest hand hand' left × TellsBody content.Plain old new
+DoesPlan n plan.Health old hand new hand' left = IsToldRest hand hand' left × TellsBody content.Json old new
 DoesPlan n (plan.Told answer body) old hand new hand' left =
     IsToldRest hand hand' left × RespondsTo old.asked old answer body.now new
 DoesPlan n plan.NotAdmitted old hand new hand' left =
@@ -56,11 +58,11 @@ DoesPlan n plan.NotAdmitted old hand new hand' left =
 DoesPlan n (plan.Refused refusal) old hand new hand' left = IsToldRest hand hand' left × RefusesWeb refusal old new
 
 -- ONE REQUEST is taken of what came, and that is done about it which may be
-pub record AsksOne (guard : Option Guard) (n : ℕ) (old : WebValue) (hand : AtHandValue) (new : WebValue)
+pub record AsksOne (guard : Option Guard) (names : Named) (n : ℕ) (old : WebValue) (hand : AtHandValue) (new : WebValue)
     (hand' : AtHandValue)
     (left : Rest) : Type 0 where
   pub mid : WebValue
-  pub takes : TakesRequest guard old true mid
+  pub takes : TakesRequest guard names old true mid
   pub asked : Asked
   pub kept : mid.asked ≡ Some asked
   pub plan : Plan
@@ -68,9 +70,9 @@ pub record AsksOne (guard : Option Guard) (n : ℕ) (old : WebValue) (hand : AtH
   pub does : DoesPlan n plan mid hand new hand' left
 
 -- or there is none
-abbrev pub AsksNextOf : Option Guard → ℕ → WebValue → AtHandValue → WebValue → AtHandValue → Rest → Type 0
-AsksNextOf guard n old hand new hand' left =
-    (IsToldRest hand hand' left × TakesRequest guard old false new) ⊎ AsksOne guard n old hand new hand' left
+abbrev pub AsksNextOf : Option Guard → Named → ℕ → WebValue → AtHandValue → WebValue → AtHandValue → Rest → Type 0
+AsksNextOf guard names n old hand new hand' left =
+    (IsToldRest hand hand' left × TakesRequest guard names old false new) ⊎ AsksOne guard names n old hand new hand' left
 
 -- ---- many writes
 
@@ -148,18 +150,18 @@ KeepsWrites n batch old new =
     ⊎ ((new.web.asked ≡ None)
     × (new.batches ≡ remove_entry (is_at (nat_cmp n)) (set_value (is_at (nat_cmp n)) old.batches batch)))
 
-abbrev pub RunsErrand : Errand → Option Guard → ℕ → Desk → Desk → Type 0
-RunsErrand (Asks left) guard n old new =
-    AsksNextOf guard n old.web old.hand new.web new.hand left × (new.batches ≡ old.batches)
-RunsErrand (Forgoes batch) guard n old new =
+abbrev pub RunsErrand : Errand → Option Guard → Named → ℕ → Desk → Desk → Type 0
+RunsErrand (Asks left) guard names n old new =
+    AsksNextOf guard names n old.web old.hand new.web new.hand left × (new.batches ≡ old.batches)
+RunsErrand (Forgoes batch) guard names n old new =
     (IsBatchFor old.web.asked batch × (batch_in old.batches n ≡ None))
     × RefusesWeb Memory old.web new.web × (new ≡ record old { web = new.web })
-RunsErrand Tells guard n old new = TellsClient n old.web old.hand new.web new.hand × (new.batches ≡ old.batches)
-RunsErrand (TellsMany batch batch') guard n old new =
+RunsErrand Tells guard names n old new = TellsClient n old.web old.hand new.web new.hand × (new.batches ≡ old.batches)
+RunsErrand (TellsMany batch batch') guard names n old new =
     (batch_in old.batches n ≡ Some batch) × TellsBatch n old.web batch old.hand new.web batch' new.hand
     × KeepsWrites n batch' old new
-RunsErrand TellsChange guard n old new =
+RunsErrand TellsChange guard names n old new =
     AwaitsChange old.web.asked × TellsBody content.Json old.web new.web × (new ≡ record old { web = new.web })
-RunsErrand Stops guard n old new =
+RunsErrand Stops guard names n old new =
     (EndsInput old.web new.web ⊎ ((refusal : Refusal) × (new.web ≡ stopped_by old.web refusal)))
     × (new ≡ record old { web = new.web })

@@ -86,7 +86,7 @@ TellsBody content old new =
 
 -- a token is asked for
 abbrev pub token_answer : Answer
-token_answer = record { status = 401; content = Json; allow = None; asks_token = true }
+token_answer = record { status = 401; content = Json; allow = None; asks_token = true; preflight = None }
 
 abbrev pub not_admitted : List ℕ
 not_admitted = codes "{\"refused\":38,\"name\":\"NotAdmitted\"}"

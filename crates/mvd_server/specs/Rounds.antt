@@ -7,6 +7,7 @@ use Rattle.mvd_host.specs.Course.{own}
 use Rattle.mvd_host.specs.Hosts.{HostValue, IsClient, client_of, new_host}
 use Rattle.mvd_host.specs.Round.{Round, Side, host_side}
 use Rattle.mvd_host.specs.Runs.{Happening, HasShown, HostMoment, OneList, Runs, TellsOwn, after_run, turns_in}
+use Rattle.mvd_http.specs.Guard.{Named}
 use Rattle.mvd_replica.specs.Replicas.{conn_of, site_of}
 use Rattle.mvd_replica.specs.Turns.{Turn}
 use Rattle.mvd_replica.specs.declared.replica.Replica.{Replica}
@@ -22,11 +23,12 @@ use Rattle.sqlite.specs.State.{State}
 use Rattle.sqlite_trees.specs.declared.store.Store.{Ghosts}
 
 -- a server without clients
-abbrev pub begun : {K : Type 0} → Option Guard → K → Wired K
-begun guard sockets = record { talking = new_talking guard; sockets = sockets }
+abbrev pub begun : {K : Type 0} → Option Guard → Named → K → Wired K
+begun guard names sockets = record { talking = new_talking guard names; sockets = sockets }
 
 abbrev pub BeginsServing : Option (List ℕ) → Talks → Type 0
-BeginsServing token talks = (guard : Option Guard) × IsGuardOf token guard × (talking_of talks ≡ new_talking guard)
+BeginsServing token talks =
+    (guard : Option Guard) × (names : Named) × IsGuardOf token guard × (talking_of talks ≡ new_talking guard names)
 
 -- the clients of a server, with their sockets, and the replica that answers them
 pub record World (K C : Type 0) : Type 0 where
@@ -120,11 +122,12 @@ module _ {S : Type 0} {g : Ghosts S} where
       (new : Replica S g) : Type 0 where
     pub guard : Option Guard
     pub guarded : IsGuardOf token guard
+    pub names : Named
     pub last : Talking
-    pub goes : GoesOnServing k (begun guard sockets) old (record { talking = last; sockets = sockets' }) new
+    pub goes : GoesOnServing k (begun guard names sockets) old (record { talking = last; sockets = sockets' }) new
     pub all : List (Happening (Held S))
-    pub runs : Runs (state g) (moment_of (world_of (begun guard sockets) old)) all
-    pub ends : after_run (moment_of (world_of (begun guard sockets) old)) all
+    pub runs : Runs (state g) (moment_of (world_of (begun guard names sockets) old)) all
+    pub ends : after_run (moment_of (world_of (begun guard names sockets) old)) all
         ≡ moment_of (world_of (record { talking = last; sockets = sockets' }) new)
     pub list : OneList (turns_in all) (host_side new_host none_at_hand old) (host_side last.host last.hand new)
     -- also of a client of frames that has gone: its own turns are what it asked and was told

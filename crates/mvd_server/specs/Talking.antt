@@ -10,6 +10,7 @@ use Rattle.mvd_dots.specs.declared.refusals.Refusal.TheVariants.{Memory}
 use Rattle.mvd_host.specs.AtHand.{AtHandValue, TakesFirst, first_at_hand, none_at_hand}
 use Rattle.mvd_host.specs.Hosts.{AdmitsOne, ClientLeaves, HostValue, IsClient, altered, client_of, new_host}
 use Rattle.mvd_host.specs.Runs.{Call, Closes, Cuts, Feeds, Releases, Sends, after_call}
+use Rattle.mvd_http.specs.Guard.{Named, named_by}
 use Rattle.mvd_server.specs.Batches.{HandsBatch}
 use Rattle.mvd_server.specs.Errands.{AwaitsChange, Errand, IsBatchFor, RunsErrand, batch_in, desk}
 use Rattle.mvd_server.specs.Paths.{Path}
@@ -23,11 +24,12 @@ use Rattle.mvd_web.specs.Web.{IsNew, IsOver}
 use Rattle.mvd_web.specs.declared.web_connection.WebConnection.{WebConnection}
 use Rattle.mvd_wire.specs.declared.reply.Reply.{Reply}
 
--- who may come in; the host, with the connections of frames; what those over HTTP ask and are told; their connections,
--- and the number of the next one; the writes of those of whose request some are not answered; and the numbers of the
--- server's own, for its sessions
+-- who may come in, by which names and of which pages; the host, with the connections of frames; what those over HTTP
+-- ask and are told; their connections, and the number of the next one; the writes of those of whose request some are not
+-- answered; and the numbers of the server's own, for its sessions
 pub record Talking : Type 0 where
   pub guard : Option Guard
+  pub names : Named
   pub host : HostValue
   pub hand : AtHandValue
   pub webs : List (ℕ × WebConnection)
@@ -38,6 +40,7 @@ pub record Talking : Type 0 where
 abbrev pub talking_of : Talks → Talking
 talking_of t = record {
   guard = t.guard;
+  names = named_by t.names;
   host = t.host;
   hand = t.hand;
   webs = t.webs.entries;
@@ -46,9 +49,10 @@ talking_of t = record {
   own = t.own.items;
 }
 
-abbrev pub new_talking : Option Guard → Talking
-new_talking guard = record {
+abbrev pub new_talking : Option Guard → Named → Talking
+new_talking guard names = record {
   guard = guard;
+  names = names;
   host = new_host;
   hand = none_at_hand;
   webs = [];
@@ -167,7 +171,8 @@ DoesAct (GoesOwn n) old new =
 DoesAct (Calls n call) old new = MayCall old n call × (new ≡ with_host old (altered old.host n (after_call call)))
 DoesAct (Attends n web web' errand) old new =
     (web_in old n ≡ Some web)
-    × RunsErrand errand old.guard n (desk old.hand (web_of web) old.batches) (desk new.hand (web_of web') new.batches)
+    × RunsErrand errand old.guard old.names n (desk old.hand (web_of web) old.batches)
+    (desk new.hand (web_of web') new.batches)
     × (new ≡ record (with_web old n web') { hand = new.hand; batches = new.batches })
 DoesAct (Begins n batch) old new =
     MayBeginWrites n batch old × (new ≡ record old { batches = insert_entry nat_cmp old.batches n batch })

@@ -12,9 +12,9 @@ use crate::endings::tell_end;
 use crate::metrics::Counts;
 use crate::passing::{drop_left, receive, send};
 use crate::peer_list::Peers;
-use crate::server::Terms;
 use crate::sockets::Sockets;
 use crate::talks::Talks;
+use crate::terms::Terms;
 use crate::timers::{Timers, earlier};
 use mio::event::Event;
 use mvd_dots::Refusal;
@@ -57,13 +57,22 @@ pub(crate) struct Crowd {
 }
 
 impl Crowd {
+    #[tactic(auto, using(crate::proofs::Rounds::begins_serving))]
     pub fn new(alloc: Global, keys: RandomState, terms: Terms<'_>) -> Result<Crowd, AllocError>
         ensures { IfOk result (λ crowd. BeginsServing (option_copied terms.entry.token) crowd.talks) }
     {
         let piece = Piece::new(alloc)?;
         let told = String::with_capacity(alloc, PIECE)?;
         let peers = Peers::counts(alloc, terms)?;
-        let talks = Talks::new(alloc, keys, terms.guard(), terms.peers.len())?;
+        let names = terms.names(alloc)?;
+        let talks = Talks::new(
+            alloc,
+            keys,
+            terms.guard(),
+            names,
+            terms.peers.len(),
+            terms.waits_max(),
+        )?;
         Ok(Crowd {
             talks,
             counts: Counts::new(alloc, peers),

@@ -1,10 +1,11 @@
 //! From a request of HTTP to what is asked of the site, and from the reply to the response.
 ghost use Rattle.std.specs.Prelude.{ℕ, option_copied};
 ghost use Rattle.mvd_http.specs.declared.fields.Content.TheVariants.{Json, Plain};
+ghost use Rattle.mvd_http.specs.Guard.{named_by};
 ghost use Rattle.mvd_server.specs.Admitted.{Decides};
 ghost use Rattle.mvd_host.specs.AtHand.{AtHandValue};
 ghost use Rattle.mvd_server.specs.Errands.{AsksAtHand, AsksNextOf, DoesPlan, TakesIf, TellsBatch, TellsOrWaits};
-ghost use Rattle.mvd_server.specs.Plans.{IsPlanFor, TellsFault};
+ghost use Rattle.mvd_server.specs.Plans.{IsPlanFor, TellsFault, TellsMethods};
 ghost use Rattle.mvd_server.specs.Responding.{TellsBody, not_admitted, token_answer};
 ghost use Rattle.mvd_web.specs.Inside.{web_of};
 ghost use Rattle.mvd_web.specs.Web.{RespondsTo};
@@ -18,12 +19,14 @@ use http::StatusCode;
 use mvd_conn::Guard;
 use mvd_dots::Refusal;
 use mvd_host::{AtHand, Feed};
-use mvd_http::{Answer, Content, Fault, Methods, PAGE, Question, push_root};
+use mvd_http::{Answer, Content, Fault, Methods, Names, PAGE, Question, push_root};
 use mvd_replica::Replica;
 use mvd_web::{Asked, Entry, WebConnection};
 use mvd_wire::{Reply, Request};
 use sqlite::Alter;
 use std::alloc::Global;
+
+const READY: &str = "{\"ready\":true}";
 
 const NOT_ADMITTED: &str = "{\"refused\":38,\"name\":\"NotAdmitted\"}";
 
@@ -39,6 +42,7 @@ enum Plan {
     /// It is answered at once, by what the server keeps.
     Root,
     Metrics,
+    Health,
     /// It is answered at once, by this.
     Told(Answer, &'static str),
     /// A token is asked for.
@@ -67,7 +71,9 @@ fn plan_of(alloc: Global, asked: &Asked) -> Plan
             Err(refusal) => Plan::Refused(*refusal),
         },
         Entry::HostMissing => fault(Fault::HostMissing, None),
-        Entry::ForeignPage => fault(Fault::ForeignOrigin, None),
+        Entry::Stranger(cause) => fault(cause, None),
+        Entry::Conditional => fault(Fault::PreconditionFailed, None),
+        Entry::Preflight => methods_of(&asked.question),
         Entry::NoToken => Plan::NotAdmitted,
     }
 }
@@ -89,10 +95,27 @@ fn plan_for(alloc: Global, question: &Question) -> Plan
         Question::Page => Plan::Told(answer_of(StatusCode::OK, Content::Html), PAGE),
         Question::Root => Plan::Root,
         Question::Metrics => Plan::Metrics,
+        Question::Health => Plan::Health,
         Question::TooManyLines => fault(Fault::ContentTooLarge, None),
         Question::Misread(refusal, _) => Plan::Refused(*refusal),
         Question::Nowhere => fault(Fault::NotFound, None),
         Question::NotAllowed(methods) => fault(Fault::MethodNotAllowed, Some(*methods)),
+    }
+}
+
+/// By which methods a page of another origin may ask what it asked so.
+fn methods_of(question: &Result<Question, Refusal>) -> Plan
+    ensures { TellsMethods question.now result }
+{
+    match question {
+        Ok(Question::NotAllowed(methods)) => {
+            let answer = Answer {
+                preflight: Some(*methods),
+                ..answer_of(StatusCode::NO_CONTENT, Content::Nothing)
+            };
+            Plan::Told(answer, "")
+        }
+        _ => fault(Fault::NotFound, None),
     }
 }
 
@@ -112,6 +135,7 @@ fn fault(cause: Fault, allow: Option<Methods>) -> Plan
 pub(crate) fn ask<S: Alter + Drop>(
     alloc: Global,
     guard: Option<&Guard>,
+    names: &Names,
     hand: &mut AtHand,
     web: &mut WebConnection,
     number: u64,
@@ -119,9 +143,10 @@ pub(crate) fn ask<S: Alter + Drop>(
     changes: &Feed,
     counts: &mut Counts,
 ) -> Rest
-    ensures { AsksNextOf (option_copied guard.entry) number (web_of web.old) hand.old (web_of web.new) hand.new result }
+    ensures { AsksNextOf (option_copied guard.entry) (named_by names.now) number
+        (web_of web.old) hand.old (web_of web.new) hand.new result }
 {
-    if !web.next(guard) {
+    if !web.next(guard, names) {
         return Rest::Nothing;
     }
     let plan = match web.asked() {
@@ -159,6 +184,10 @@ fn carry_out<S: Alter + Drop>(
         }
         Plan::Metrics => {
             tell_metrics(alloc, web, replica, counts);
+            Rest::Nothing
+        }
+        Plan::Health => {
+            tell_health(alloc, web, replica, counts);
             Rest::Nothing
         }
         Plan::Told(answer, body) => {
@@ -270,6 +299,21 @@ pub(crate) fn tell_changes<S: Alter + Drop>(
     let mut body = String::new(alloc);
     let pushed = push_since(alloc, changes, replica, since, &mut body);
     tell_pushed(alloc, web, pushed, body.as_str(), counts);
+}
+
+/// Tells that the server can answer, unless its site is broken.
+fn tell_health<S: Alter + Drop>(
+    alloc: Global,
+    web: &mut WebConnection,
+    replica: &Replica<S>,
+    counts: &mut Counts,
+)
+    ensures { TellsBody Json (web_of web.old) (web_of web.new) }
+{
+    match replica.root() {
+        Ok(_) => respond(web, counts, answer_of(StatusCode::OK, Content::Json), READY),
+        Err(refusal) => refuse(alloc, web, counts, refusal),
+    }
 }
 
 fn tell_metrics<S: Alter + Drop>(

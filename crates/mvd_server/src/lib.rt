@@ -26,7 +26,9 @@ mod server;
 mod sockets;
 mod talks;
 mod telling;
+mod terms;
 mod timers;
 
-pub use server::{Terms, serve_run};
+pub use server::serve_run;
 pub use sockets::{Direct, Sockets};
+pub use terms::Terms;

@@ -8,7 +8,7 @@ use crate::crowd::Crowd;
 use crate::peer_counts::PeerCounts;
 use crate::peer_news::Setting;
 use crate::peering::Peering;
-use crate::server::Terms;
+use crate::terms::Terms;
 use crate::timers::earlier;
 use mio::event::Event;
 use mio::{Registry, Token};

@@ -3,7 +3,7 @@ ghost use Rattle.std.specs.Prelude.{◌≡◌, ◌++◌, OnOk, string_bytes};
 ghost use Rattle.mvd_server.specs.PeerNews.{noted_with, peer_text, some_text, told_at};
 
 use crate::client::Piece;
-use crate::server::Terms;
+use crate::terms::Terms;
 use mvd_dots::Refusal;
 use mvd_meet::is_among;
 use mvd_sync::{Left, Report, Side};

@@ -27,6 +27,7 @@ pub(crate) fn answer_of(status: StatusCode, content: Content) -> Answer
         content,
         allow: None,
         asks_token: false,
+        preflight: None,
     }
 }
 
@@ -121,10 +122,30 @@ pub(crate) fn tell_pushed(
     }
 }
 
-/// Queues the response to the request that waits, which is answered by this reply. Where there is no memory for the
-/// response to a change, which may be stored, the connection ends without one.
-#[tactic(auto, using(crate::proofs::Answering::answered))]
+/// Queues the response to the request that waits, which is answered by this reply. Where there is no memory for it, it
+/// is told with that which was taken before the site was asked.
+#[tactic(auto, using(crate::proofs::Answering::answered, crate::proofs::Answering::answered_so))]
 pub(crate) fn tell_reply(alloc: Global, web: &mut WebConnection, reply: &Reply, counts: &mut Counts)
+    ensures { AnswersWeb (web_of web.old).asked reply.now (web_of web.old) (web_of web.new) }
+{
+    let mut body = String::new(alloc);
+    let status = match web.asked() {
+        Some(asked) => put_body(alloc, &asked.question, reply, &mut body),
+        None => return,
+    };
+    match status {
+        Ok(status) => respond_json(web, counts, status, body.as_str()),
+        Err(_) => {
+            web.give_spare();
+            tell_last(alloc, web, reply, counts);
+        }
+    }
+}
+
+/// The same. Where there is no memory for the response to a change, which may be stored, the connection ends without
+/// one.
+#[tactic(auto, using(crate::proofs::Answering::answered))]
+fn tell_last(alloc: Global, web: &mut WebConnection, reply: &Reply, counts: &mut Counts)
     ensures { AnswersWeb (web_of web.old).asked reply.now (web_of web.old) (web_of web.new) }
 {
     let mut body = String::new(alloc);

@@ -19,15 +19,13 @@ use crate::peer_list::Peers;
 use crate::sockets::Sockets;
 use crate::talks::Kind;
 use crate::telling::{tell_listening, tell_root, web_address};
+use crate::terms::Terms;
 use crate::timers::{earlier, millis_of};
 use mio::{Events, Poll};
-use mvd_conn::Guard;
 use mvd_dots::Refusal;
 use mvd_hint::{Stop, Watch};
-use mvd_host::CLIENTS_MAX;
 use mvd_input::{Fault, tell};
 use mvd_replica::Replica;
-use mvd_wire::Token;
 use sqlite::Alter;
 use std::alloc::{AllocError, Global};
 use std::fs::Files;
@@ -37,40 +35,6 @@ use std::mem;
 use std::net::{Net, SocketAddr};
 use std::random::RandomSource;
 use std::time::{Clock, Duration, Instant};
-
-/// What a server is asked for: the port for HTTP, if it serves that too, how many connections it serves in all, for how
-/// many seconds no byte need move on one, and how many clients it serves at once. Where there is a token, who comes in
-/// shows it, and it is shown to peers. Each peer is met again as many seconds after a session.
-#[derive(Clone, Copy)]
-pub struct Terms<'a> {
-    pub http: Option<u16>,
-    pub conns: Option<u32>,
-    pub idle: u32,
-    pub clients: u32,
-    pub token: Option<&'a Token>,
-    pub peers: &'a [SocketAddr],
-    pub every: u32,
-}
-
-impl Terms<'_> {
-    ghost use Rattle.std.specs.Prelude.{option_copied};
-    ghost use Rattle.mvd_server.specs.Guarded.{IsGuardOf};
-
-    /// Who may come in, if not everybody.
-    pub(crate) fn guard(self) -> Option<Guard>
-        ensures { IsGuardOf (option_copied self.entry.token) result }
-    {
-        match self.token {
-            Some(token) => Some(Guard::of(token.bytes())),
-            None => None,
-        }
-    }
-
-    /// The most clients that are served at once. Beside them the host has a place for a session with each peer.
-    pub(crate) fn places(self) -> usize {
-        (self.clients as usize).min(CLIENTS_MAX.saturating_sub(self.peers.len()))
-    }
-}
 
 /// The clients, the listeners, the peers, and those clients for which there may be something to do.
 #[derive(Drop)]

@@ -3,6 +3,7 @@ mod comings;
 mod talk_bytes;
 
 ghost use Rattle.std.specs.Prelude.{◌≡◌, ◌<◌, [], IfOk, IsTrue, OnErr, OnOk, false, length, true};
+ghost use Rattle.mvd_http.specs.Guard.{named_by};
 ghost use Rattle.mvd_server.specs.Rounds.{HasRound};
 ghost use Rattle.mvd_server.specs.Talking.{Deeds, IsWaiting, KeepsBatch, LacksMemory, MayBeginWrites, TakesReply, Talking};
 ghost use Rattle.mvd_server.specs.Talking.{TalksDeeds, new_talking, talking_of, web_in};
@@ -16,7 +17,7 @@ use crate::responding::{asks_changes, refuse, tell_pushed, tell_reply};
 use mvd_conn::Guard;
 use mvd_dots::Refusal;
 use mvd_host::{AtHand, FIRST_AT_HAND, Feed, Host};
-use mvd_http::push_changes;
+use mvd_http::{Names, push_changes, push_not_waited};
 use mvd_replica::Replica;
 use mvd_web::WebConnection;
 use mvd_wire::Reply;
@@ -39,6 +40,8 @@ pub(crate) struct Talks {
     pub host: Host,
     /// Who may come in: whoever shows its token, or everybody.
     guard: Option<Guard>,
+    /// By which names it is asked, and of which origins a page may ask.
+    names: Names,
     hand: AtHand,
     webs: BTreeMap<u64, WebConnection>,
     /// The number of the next client over HTTP.
@@ -48,6 +51,8 @@ pub(crate) struct Talks {
     changes: Feed,
     /// Those that wait for a change, and those of them that were told of late.
     parked: Parked,
+    /// The most that may wait so.
+    waits_max: usize,
     pub woken: Vec<u64>,
     /// The numbers of those of the host's clients that are this server's own, for sessions with its peers.
     pub own: Vec<u64>,
@@ -56,24 +61,28 @@ pub(crate) struct Talks {
 }
 
 impl Talks {
-    /// Nobody's. There is room for as many clients of its own.
+    /// Nobody's. There is room for as many clients of its own, and as many others may wait for a change.
     pub fn new(
         alloc: Global,
         keys: RandomState,
         guard: Option<Guard>,
+        names: Names,
         own: usize,
+        waits_max: usize,
     ) -> Result<Talks, AllocError>
-        ensures { IfOk result (λ talks. talking_of talks ≡ new_talking guard) }
+        ensures { IfOk result (λ talks. talking_of talks ≡ new_talking guard (named_by names)) }
     {
         Ok(Talks {
             host: Host::new(alloc),
             guard,
+            names,
             hand: AtHand::new(alloc),
             webs: BTreeMap::new(alloc),
             next: FIRST_AT_HAND,
             batches: BTreeMap::new(alloc),
             changes: Feed::new(alloc),
             parked: Parked::new(alloc),
+            waits_max,
             woken: Vec::new(alloc),
             own: Vec::with_capacity(alloc, own)?,
             alloc,
@@ -138,6 +147,7 @@ impl Talks {
         let rest = ask(
             self.alloc,
             self.guard.as_ref(),
+            &self.names,
             &mut self.hand,
             web,
             number,
@@ -193,15 +203,28 @@ impl Talks {
         }
     }
 
-    /// Lets a client wait for a change. Where memory is refused for that, it is told that there is none yet.
+    /// Lets a client wait for a change. Where as many wait as may, or memory is refused for that, it is told that there
+    /// is none yet, and that it did not wait.
     fn park(&mut self, number: u64, root: [u8; 32], due: u64, counts: &mut Counts)
         ensures { TalksDeeds self.old self.new }
     {
         let count = self.parked.len().saturating_add(1);
-        if self.woken.reserve(count).is_ok() && self.parked.add(number, root, due) {
+        if count <= self.waits_max
+            && self.woken.reserve(count).is_ok()
+            && self.parked.add(number, root, due)
+        {
             return;
         }
-        self.tell_none(number, root, counts);
+        self.tell_not_waited(number, root, counts);
+    }
+
+    /// Tells a client that knows this root that it does not wait for another.
+    fn tell_not_waited(&mut self, number: u64, root: [u8; 32], counts: &mut Counts)
+        ensures { TalksDeeds self.old self.new }
+    {
+        let mut body = String::new(self.alloc);
+        let pushed = push_not_waited(self.alloc, &mut body, root);
+        self.tell_waiting(number, pushed, body.as_str(), counts);
     }
 
     /// Tells a client that nothing changed since this root.

@@ -5,7 +5,7 @@ ghost use Rattle.mvd_input.specs.declared.fault.Fault.TheVariants.{Stopped};
 ghost use Rattle.mvd_replica.specs.Replicas.{site_of};
 ghost use Rattle.mvd_server.specs.Closing.{EndsAtFault, PrintsRoot};
 
-use crate::server::Terms;
+use crate::terms::Terms;
 use mvd_input::{Fault, tell};
 use mvd_print::print_root;
 use mvd_replica::Replica;

@@ -1,6 +1,7 @@
 //! Indexes, views, and the hash tree.
 use crate::asked_over_http::Row;
-use mvd_http::is_own;
+use mvd_http::{Names, name_in, origin_in, stranger};
+use std::alloc::AllocError;
 
 /// Writes, and what an index and a view tell of them.
 pub const LISTS: &[Row] = &[
@@ -123,22 +124,59 @@ pub const OTHERS: &[Row] = &[
     ("GET", "/tree?path=000", None, b"", 200, "{\"keys\":[]}"),
 ];
 
-/// A host and an origin, if a request names them, and whether they are the server's own.
-type Named = (Option<&'static [u8]>, Option<&'static [u8]>, bool);
+/// A host and an origin, if a request names them, and what is told of them, if anything.
+type Named = (Option<&'static [u8]>, Option<&'static [u8]>, &'static str);
+
+const FOREIGN_HOST: &str = "{\"refused\":0,\"name\":\"ForeignHost\"}";
+
+const FOREIGN_ORIGIN: &str = "{\"refused\":0,\"name\":\"ForeignOrigin\"}";
 
 const NAMED: &[Named] = &[
-    (Some(b"127.0.0.1:80"), None, true),
-    (Some(b"localhost"), Some(b"http://localhost"), true),
-    (Some(b"[::1]:8080"), Some(b"http://[::1]:8080"), true),
-    (Some(b"evil.example"), None, false),
-    (Some(b"127.0.0.1"), Some(b"http://evil.example"), false),
-    (Some(b"127.0.0.1"), Some(b"https://127.0.0.1"), false),
-    (None, None, false),
+    (Some(b"127.0.0.1:80"), None, ""),
+    (Some(b"localhost"), Some(b"http://localhost"), ""),
+    (Some(b"[::1]:8080"), Some(b"http://[::1]:8080"), ""),
+    (Some(b"127.0.0.1"), Some(b"https://127.0.0.1"), ""),
+    (None, None, ""),
+    (Some(b"db.example"), None, ""),
+    (Some(b"db.internal:8080"), Some(b"https://app.example"), ""),
+    (Some(b"evil.example"), None, FOREIGN_HOST),
+    (Some(b":80"), None, FOREIGN_HOST),
+    (Some(b"db.example,db.internal"), None, FOREIGN_HOST),
+    (
+        Some(b"127.0.0.1"),
+        Some(b"http://evil.example"),
+        FOREIGN_ORIGIN,
+    ),
+    (
+        Some(b"127.0.0.1"),
+        Some(b"http://app.example"),
+        FOREIGN_ORIGIN,
+    ),
+    (Some(b"127.0.0.1"), Some(b""), FOREIGN_ORIGIN),
+    (None, Some(b"http://evil.example"), FOREIGN_ORIGIN),
 ];
 
-#[test]
-fn others_are_not_own(rt: HostRuntime) {
-    for (host, origin, wanted) in NAMED {
-        assert!(rt; is_own(*host, *origin) == *wanted);
+/// What is told of a host and an origin by a server that has these names.
+fn told_of(names: &Names, host: Option<&[u8]>, origin: Option<&[u8]>) -> &'static str {
+    let name = match host {
+        Some(host) => name_in(host),
+        None => None,
+    };
+    match stranger(names, name, origin_in(host, origin)) {
+        Some(fault) => fault.body(),
+        None => "",
     }
+}
+
+#[test]
+fn others_are_not_own(rt: HostRuntime) -> Result<(), AllocError> {
+    let names = Names {
+        hosts: String::from_str(rt.alloc(), "db.example,db.internal")?,
+        origins: String::from_str(rt.alloc(), "https://app.example")?,
+        any_host: false,
+    };
+    for (host, origin, wanted) in NAMED {
+        assert!(rt; told_of(&names, *host, *origin) == *wanted, "{wanted}");
+    }
+    Ok(())
 }

@@ -11,9 +11,10 @@ use Rattle.http_server.specs.declared.state.State.{State}
 use Rattle.mvd_http.specs.declared.fields.Answer.{Answer}
 use Rattle.mvd_http.specs.declared.http_fault.Fault.{Fault}
 use Rattle.mvd_conn.specs.declared.guard.Guard.{Guard}
+use Rattle.mvd_http.specs.Guard.{Named, named_by}
 use Rattle.mvd_web.specs.Asked.{IsAskedBy, KeepsAsked}
 use Rattle.mvd_web.specs.Ends.{fault_in}
-use Rattle.mvd_web.specs.Response.{fault_bytes, response_bytes}
+use Rattle.mvd_web.specs.Response.{fault_bytes, origin_or_none, response_bytes}
 use Rattle.mvd_web.specs.Steps.{Drops, StepsOn, PassesAll, PassesOn, Quiet, ReadsOn, ReadsNone, ReadsOne, Settles}
 use Rattle.mvd_web.specs.Web.{LooksIf, MayRest, Queues, RespondsTo, NothingCame, TakesRequest, SaysAll, WebValue, first_cause, is_closed, is_free, manner_asked, said_of, stopped_by, unasked, with_waits}
 use Rattle.mvd_web.specs.declared.taken.Asked.{Asked}
@@ -38,18 +39,18 @@ at_most_one old new (c ∷ []) (next, k, e) = inr (record { call = c; one = refl
 at_most_one old new (c ∷ d ∷ calls) (next, k, (later, l, h)) = absurd (cc (k.kept, l.none))
 
 took : (before after : Desk) (old new : WebValue) (calls : List Call) → new.heard.calls ≡ old.heard.calls ++ calls → old.asked ≡ before.asked → new.asked ≡ after.asked → before.asked ≡ None
-    → Quiet old new → Rests new.config new.heard → ((calls ≡ []) × (after ≡ before)) ⊎ CalledOnce before after calls → ReadsOn (option_copied before.guard) old (is_some new.asked) new
+    → Quiet old new → Rests new.config new.heard → ((calls ≡ []) × (after ≡ before)) ⊎ CalledOnce before after calls → ReadsOn (option_copied before.guard) (named_by before.names.now) old (is_some new.asked) new
 took before after old new calls e p q none quiet rests (inl (n, s)) =
     let still : new.asked ≡ None = q ∙ ap (λ (d : Desk). d.asked) s ∙ none in
-    subst (λ o. ReadsOn (option_copied before.guard) old (is_some o) new) (sym still) (record { calls = e ∙ ap (λ l. old.heard.calls ++ l) n ∙ append-nil old.heard.calls; asked = still ∙ sym (p ∙ none); rests = rests; quiet = quiet })
+    subst (λ o. ReadsOn (option_copied before.guard) (named_by before.names.now) old (is_some o) new) (sym still) (record { calls = e ∙ ap (λ l. old.heard.calls ++ l) n ∙ append-nil old.heard.calls; asked = still ∙ sym (p ∙ none); rests = rests; quiet = quiet })
 took before after old new calls e p q none quiet rests (inr once) =
     let kept : new.asked ≡ Some once.keeps.asked = q ∙ once.keeps.kept in
-    subst (λ o. ReadsOn (option_copied before.guard) old (is_some o) new) (sym kept)
-    (record { call = once.call; calls = e ∙ ap (λ l. old.heard.calls ++ l) once.one; plain = once.keeps.plain; asked = once.keeps.asked; kept = kept; asks = subst (λ g. IsAskedBy (option_copied g) once.call.0 once.keeps.asked) once.keeps.guard once.keeps.asks; quiet = quiet })
+    subst (λ o. ReadsOn (option_copied before.guard) (named_by before.names.now) old (is_some o) new) (sym kept)
+    (record { call = once.call; calls = e ∙ ap (λ l. old.heard.calls ++ l) once.one; plain = once.keeps.plain; asked = once.keeps.asked; kept = kept; asks = subst (λ n. IsAskedBy (option_copied before.guard) (named_by n.now) once.call.0 once.keeps.asked) once.keeps.names (subst (λ g. IsAskedBy (option_copied g) (named_by after.names.now) once.call.0 once.keeps.asked) once.keeps.guard once.keeps.asks); quiet = quiet })
 
 -- a desk that kept nothing reads one request or none
 pub reads : (before after : Desk) (old new : WebValue) → Calls KeepsAsked before after old.heard.calls new.heard.calls → old.asked ≡ before.asked → new.asked ≡ after.asked
-    → before.asked ≡ None → Quiet old new → Rests new.config new.heard → ReadsOn (option_copied before.guard) old (is_some new.asked) new
+    → before.asked ≡ None → Quiet old new → Rests new.config new.heard → ReadsOn (option_copied before.guard) (named_by before.names.now) old (is_some new.asked) new
 reads before after old new (calls, e, chain) p q none quiet rests = took before after old new calls e p q none quiet rests (at_most_one before after calls chain)
 
 -- ---- one call after another
@@ -57,8 +58,8 @@ reads before after old new (calls, e, chain) p q none quiet rests = took before 
 pub stays_then : (a b c : WebValue) → NothingCame a b → NothingCame b c → NothingCame a c
 stays_then a b c one two = record { config = two.config ∙ one.config; received = two.received ∙ one.received; ended = two.ended ∙ one.ended }
 
-pub takes_one : (guard : Option Guard) (a b c : WebValue) → IsTrue (is_free a) → ReadsOne guard a b → Drops b c → c.heard.pending ≡ [] → TakesRequest guard a true c
-takes_one guard a b c free one two none = (
+pub takes_one : (guard : Option Guard) (names : Named) (a b c : WebValue) → IsTrue (is_free a) → ReadsOne guard names a b → Drops b c → c.heard.pending ≡ [] → TakesRequest guard names a true c
+takes_one guard names a b c free one two none = (
   free,
   record {
     call = one.call;
@@ -82,8 +83,8 @@ tells : (told queued : List ℕ) (a b c : WebValue) → b.stopped ≡ a.stopped 
 tells told queued a b c was rests same (inl (s, none, settles, whole)) = inl (s ∙ was, none, may_rest told b c rests same settles, whole)
 tells told queued a b c was rests same (inr (s, part)) = inr (s ∙ ap (λ o. first_cause o Memory) was, part)
 
-pub takes_none : (guard : Option Guard) (a b c : WebValue) → IsTrue (is_free a) → ReadsNone a b → PassesOn b c → TakesRequest guard a false c
-takes_none guard a b c free one two = subst (λ f. LooksIf f a c) (sym free) (record {
+pub takes_none : (guard : Option Guard) (names : Named) (a b c : WebValue) → IsTrue (is_free a) → ReadsNone a b → PassesOn b c → TakesRequest guard names a false c
+takes_none guard names a b c free one two = subst (λ f. LooksIf f a c) (sym free) (record {
   calls = two.calls ∙ one.calls;
   asked = two.asked ∙ one.asked;
   told = two.told;
@@ -131,8 +132,8 @@ free_at (Some refusal) asked room h = absurd (cc h)
 pub free_desk : (w : WebValue) → IsTrue (is_free w) → w.asked ≡ None
 free_desk w free = free_at w.stopped w.asked (nat_lt (length w.waits) 262144) free
 
-pub not_free : (guard : Option Guard) (w : WebValue) (free : Bool) → free ≡ is_free w → free ≡ false → TakesRequest guard w false w
-not_free guard w free e is = subst (λ f. LooksIf f w w) (sym is ∙ e) refl
+pub not_free : (guard : Option Guard) (names : Named) (w : WebValue) (free : Bool) → free ≡ is_free w → free ≡ false → TakesRequest guard names w false w
+not_free guard names w free e is = subst (λ f. LooksIf f w w) (sym is ∙ e) refl
 
 none_waits : (xs : List ℕ) (b : Bool) → (IsTrue b ↔ (0 < length xs)) → b ≡ false → xs ≡ []
 none_waits [] b h e = refl
@@ -263,17 +264,20 @@ falls pending piece h new b same chunk waits more e =
     omega (arith, l, some, f)
 
 -- the response that is queued is the one to the request that waited
-pub responds : (old mid new : WebValue) (answer : Answer) (body : List ℕ) (is_head : Bool) (manner : Manner) → Some is_head ≡ option_map (λ (a : Asked). a.is_head) old.asked
-    → mid ≡ unasked old → manner ≡ record { is_last = is_closed mid.heard.state; is_head = is_head } → Queues mid (response_bytes answer body manner) new
+pub responds : (old mid now new : WebValue) (answer : Answer) (body : List ℕ) (waits : Asked) (manner : Manner) (origin : List ℕ) → Some waits ≡ old.asked
+    → mid ≡ unasked old → manner ≡ record { is_last = is_closed mid.heard.state; is_head = waits.is_head } → origin ≡ origin_or_none waits.origin → Queues mid (response_bytes answer body manner origin) now → new ≡ now
     → (asked : Option Asked) → old.asked ≡ asked → RespondsTo asked old answer body new
-responds old mid new answer body is_head manner h e k q None none = absurd (cc (h ∙ ap (option_map (λ (a : Asked). a.is_head)) none))
-responds old mid new answer body is_head manner h e k q (Some asked) some =
-    let both : Some is_head ≡ Some asked.is_head = h ∙ ap (option_map (λ (a : Asked). a.is_head)) some in
-    let same : is_head ≡ asked.is_head = cc in
-    let now : manner ≡ manner_asked old asked = k ∙ (λ i. record { is_last = is_closed (e i).heard.state; is_head = same i }) in
-    subst (λ w. Queues w (response_bytes answer body (manner_asked old asked)) new) e (subst (λ m. Queues mid (response_bytes answer body m) new) now q)
+responds old mid now new answer body waits manner origin h e k o q same None none = absurd (cc (h ∙ none))
+responds old mid now new answer body waits manner origin h e k o q same (Some asked) some =
+    let one : waits ≡ asked = cc in
+    let shown : manner ≡ manner_asked old asked = k ∙ (λ i. record { is_last = is_closed (e i).heard.state; is_head = (one i).is_head }) in
+    let to : origin ≡ origin_or_none asked.origin = o ∙ ap (λ (a : Asked). origin_or_none a.origin) one in
+    subst (λ w. Queues (unasked old) (response_bytes answer body (manner_asked old asked) (origin_or_none asked.origin)) w) (sym same)
+    (subst (λ w. Queues w (response_bytes answer body (manner_asked old asked) (origin_or_none asked.origin)) now) e
+    (subst (λ p. Queues mid (response_bytes answer body (manner_asked old asked) p) now) to
+    (subst (λ m. Queues mid (response_bytes answer body m origin) now) shown q)))
 
-pub nobody : (old mid : WebValue) (answer : Answer) (body : List ℕ) (asked : Option Asked) → None ≡ option_map (λ (a : Asked). a.is_head) old.asked → mid ≡ unasked old → old.asked ≡ asked
+pub nobody : (old mid : WebValue) (answer : Answer) (body : List ℕ) (asked : Option Asked) → None ≡ old.asked → mid ≡ unasked old → old.asked ≡ asked
     → RespondsTo asked old answer body mid
 nobody old mid answer body None h e none = e ∙ (λ i. record old { asked = sym none i })
-nobody old mid answer body (Some asked) h e some = absurd (cc (h ∙ ap (option_map (λ (a : Asked). a.is_head)) some))
+nobody old mid answer body (Some asked) h e some = absurd (cc (h ∙ some))

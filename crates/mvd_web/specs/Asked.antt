@@ -1,5 +1,5 @@
 -- What a request of HTTP asks, by its parts (RFC 9110).
-use Rattle.std.specs.Prelude.{◌≡◌, ◌⊎◌, ⊤, ℕ, IsTrue, IsSomeAnd, List, [], codes, length, Option, Some, None, option_copied, option_map, Result, Err}
+use Rattle.std.specs.Prelude.{◌≡◌, ◌⊎◌, ◌&&◌, ◌||◌, ⊤, ℕ, Bool, true, false, is_some, IsTrue, IsSomeAnd, List, [], codes, length, Option, Some, None, option_copied, option_map, Result, Err}
 use Rattle.std.specs.Str.{bytes_eq}
 use Rattle.http.specs.declared.request.Parts.{Parts}
 use Rattle.http.specs.declared.request.Request.{Request}
@@ -17,13 +17,15 @@ use Rattle.mvd_dots.specs.declared.refusals.Refusal.TheVariants.{NotAdmitted}
 use Rattle.mvd_conn.specs.Guard.{IsTokenOf}
 use Rattle.mvd_conn.specs.declared.guard.Guard.{Guard}
 use Rattle.mvd_http.specs.Asked.{IsQuestion}
-use Rattle.mvd_http.specs.Guard.{is_own}
+use Rattle.mvd_http.specs.Guard.{Named, name_in, named_by, origin_in, stranger_of}
 use Rattle.mvd_http.specs.OpenToAll.{is_open_to_all}
+use Rattle.mvd_http.specs.Writing.{is_write}
+use Rattle.mvd_http.specs.declared.http_fault.Fault.{Fault}
 use Rattle.mvd_http.specs.declared.question.Question.{Question}
 use Rattle.mvd_http.specs.Paths.{without}
 use Rattle.mvd_web.specs.declared.taken.Asked.{Asked}
 use Rattle.mvd_web.specs.declared.taken.Entry.{Entry}
-use Rattle.mvd_web.specs.declared.taken.Entry.TheVariants.{Open, HostMissing, ForeignPage, NoToken}
+use Rattle.mvd_web.specs.declared.taken.Entry.TheVariants.{Open, Preflight, Conditional, HostMissing, Stranger, NoToken}
 use Rattle.mvd_web.specs.declared.desk.Desk.{Desk}
 
 -- the value of the first field of a name
@@ -71,31 +73,73 @@ HasHosts parts count = length (get_all parts.headers (codes "host")) ≡ count
 abbrev pub NamesHost : Parts → Type 0
 NamesHost parts = HasHosts parts 1 ⊎ (HasHosts parts 0 × (parts.version ≡ HTTP_10))
 
--- it comes of this server's own page, or of no page
-abbrev pub IsOwnPage : Parts → Type 0
-IsOwnPage parts = IsTrue (is_own (host_of parts) (header_in (codes "origin") parts.headers))
+-- the name of its host, where that is no address and not `localhost`
+abbrev pub name_or : Option (List ℕ) → Option (List ℕ)
+name_or None = None
+name_or (Some host) = name_in host
+
+abbrev pub name_of : Parts → Option (List ℕ)
+name_of parts = name_or (host_of parts)
+
+-- the origin of its page, where that is another than the host's own
+abbrev pub origin_of : Parts → Option (List ℕ)
+origin_of parts = origin_in (host_of parts) (header_in (codes "origin") parts.headers)
+
+-- it names a host that is not this server, or comes of a page that may not ask it
+abbrev pub stranger_in : Named → Parts → Option Fault
+stranger_in names parts = stranger_of names (name_of parts) (origin_of parts)
+
+-- the other origin whose page may read the response
+abbrev pub shared_if : Option Fault → Option (List ℕ) → Option (List ℕ)
+shared_if None origin = origin
+shared_if (Some fault) origin = None
+
+abbrev pub shared_with : Named → Parts → Option (List ℕ)
+shared_with names parts = shared_if (stranger_in names parts) (origin_of parts)
+
+-- it asks for a page of another origin by which methods that may ask (the CORS preflight of the Fetch standard)
+abbrev pub is_preflight : Parts → Bool
+is_preflight parts = bytes_eq parts.method (codes "OPTIONS") && is_some (origin_of parts)
+
+-- a condition of HTTP's own (RFC 9110, 13.1)
+abbrev pub has_condition : Parts → Bool
+has_condition parts =
+    is_some (header_in (codes "if-match") parts.headers) || is_some (header_in (codes "if-none-match") parts.headers)
+
+abbrev pub is_conditional : Parts → Bool
+is_conditional parts = is_write parts.method (target_of parts) && has_condition parts
 
 -- ---- who comes in
 
 -- by the head alone, and by the first cause that keeps it out
-abbrev pub IsEntry : Option Guard → Parts → Entry → Type 0
-IsEntry guard parts Open = NamesHost parts × IsOwnPage parts × MayAsk guard parts
-IsEntry guard parts HostMissing = ¬ NamesHost parts
-IsEntry guard parts ForeignPage = NamesHost parts × ¬ IsOwnPage parts
-IsEntry guard parts NoToken = NamesHost parts × IsOwnPage parts × ¬ MayAsk guard parts
+abbrev pub IsKnown : Named → Parts → Type 0
+IsKnown names parts = NamesHost parts × (stranger_in names parts ≡ None)
+
+abbrev pub IsEntry : Option Guard → Named → Parts → Entry → Type 0
+IsEntry guard names parts HostMissing = ¬ NamesHost parts
+IsEntry guard names parts (Stranger fault) = NamesHost parts × (stranger_in names parts ≡ Some fault)
+IsEntry guard names parts Preflight = IsKnown names parts × (is_preflight parts ≡ true)
+IsEntry guard names parts NoToken = IsKnown names parts × (is_preflight parts ≡ false) × ¬ MayAsk guard parts
+IsEntry guard names parts Conditional = IsKnown names parts × MayAsk guard parts × (is_conditional parts ≡ true)
+IsEntry guard names parts Open = IsKnown names parts × MayAsk guard parts × (is_conditional parts ≡ false)
 
 -- WHAT A REQUEST ASKS that comes in. Of any other nothing is read but its head: whatever its body is, it asks the same.
 abbrev pub AsksIf : Entry → Request (List ℕ) → Result Question Refusal → Type 0
 AsksIf Open request question =
     IsQuestion (head_of request).method (target_of (head_of request))
     (header_in (codes "mvd-context") (head_of request).headers) (body_of request) question
+AsksIf Preflight request question =
+    IsQuestion (head_of request).method (target_of (head_of request))
+    (header_in (codes "mvd-context") (head_of request).headers) (body_of request) question
 AsksIf _ request question = question ≡ Err NotAdmitted
 
--- whether the request comes in, what it asks then, and whether its response has no body
-pub record IsAskedBy (guard : Option Guard) (request : Request (List ℕ)) (asked : Asked) : Type 0 where
-  pub entry : IsEntry guard (head_of request) asked.entry
+-- whether the request comes in, what it asks then, whether its response has no body, and which other origin's page may
+-- read that
+pub record IsAskedBy (guard : Option Guard) (names : Named) (request : Request (List ℕ)) (asked : Asked) : Type 0 where
+  pub entry : IsEntry guard names (head_of request) asked.entry
   pub question : AsksIf asked.entry request asked.question
   pub head : asked.is_head ≡ bytes_eq (head_of request).method (codes "HEAD")
+  pub origin : asked.origin ≡ shared_with names (head_of request)
 
 -- The desk kept nothing, and keeps what the request asks. Its own response is plain: the kit's connection is not closed
 -- for it.
@@ -103,6 +147,7 @@ pub record KeepsAsked (old : Desk) (request : Request (List ℕ)) (response : Re
   pub none : old.asked ≡ None
   pub asked : Asked
   pub kept : new.asked ≡ Some asked
-  pub asks : IsAskedBy (option_copied new.guard) request asked
+  pub asks : IsAskedBy (option_copied new.guard) (named_by new.names.now) request asked
   pub guard : new.guard ≡ old.guard
+  pub names : new.names ≡ old.names
   pub plain : IsResponse 404 [] [] response

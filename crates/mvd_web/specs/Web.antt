@@ -13,9 +13,10 @@ use Rattle.mvd_dots.specs.declared.refusals.Refusal.TheVariants.{Memory}
 use Rattle.mvd_http.specs.declared.fields.Answer.{Answer}
 use Rattle.mvd_http.specs.declared.http_fault.Fault.{Fault}
 use Rattle.mvd_conn.specs.declared.guard.Guard.{Guard}
+use Rattle.mvd_http.specs.Guard.{Named}
 use Rattle.mvd_web.specs.Asked.{IsAskedBy}
 use Rattle.mvd_web.specs.Ends.{ending_of_state, fault_in}
-use Rattle.mvd_web.specs.Response.{fault_bytes, response_bytes}
+use Rattle.mvd_web.specs.Response.{fault_bytes, origin_or_none, response_bytes}
 use Rattle.mvd_web.specs.declared.taken.Asked.{Asked}
 use Rattle.mvd_web.specs.declared.response.Manner.{Manner}
 
@@ -110,16 +111,16 @@ pub record NothingCame (old new : WebValue) : Type 0 where
   pub received : new.heard.received ≡ old.heard.received
   pub ended : new.heard.ended ≡ old.heard.ended
 
--- One more request was read, and this is what it asks, where the guard lets it in. Nothing was queued: its response is not known yet. What the
--- kit's connection had to say in its place is a plain response, which closes nothing, and of that no byte is left to be
--- queued.
-pub record TakesOne (guard : Option Guard) (old new : WebValue) : Type 0 where
+-- One more request was read, and this is what it asks, where the guard lets it in. Nothing was queued: its response is
+-- not known yet. What the kit's connection had to say in its place is a plain response, which closes nothing, and of
+-- that no byte is left to be queued.
+pub record TakesOne (guard : Option Guard) (names : Named) (old new : WebValue) : Type 0 where
   pub call : Call
   pub calls : new.heard.calls ≡ old.heard.calls ++ call ∷ []
   pub plain : IsResponse 404 [] [] call.1
   pub asked : Asked
   pub kept : new.asked ≡ Some asked
-  pub asks : IsAskedBy guard call.0 asked
+  pub asks : IsAskedBy guard names call.0 asked
   pub waits : new.waits ≡ old.waits
   pub none_left : new.heard.pending ≡ []
   pub stopped : new.stopped ≡ old.stopped
@@ -163,9 +164,9 @@ abbrev pub LooksIf : Bool → WebValue → WebValue → Type 0
 LooksIf false old new = new ≡ old
 LooksIf true old new = TakesNone old new
 
-abbrev pub TakesRequest : Option Guard → WebValue → Bool → WebValue → Type 0
-TakesRequest guard old true new = IsTrue (is_free old) × TakesOne guard old new
-TakesRequest guard old false new = LooksIf (is_free old) old new
+abbrev pub TakesRequest : Option Guard → Named → WebValue → Bool → WebValue → Type 0
+TakesRequest guard names old true new = IsTrue (is_free old) × TakesOne guard names old new
+TakesRequest guard names old false new = LooksIf (is_free old) old new
 
 -- ---- responses
 
@@ -176,6 +177,10 @@ unasked w = record w { asked = None }
 -- these bytes are queued behind what waits, or none of them is, and the connection is stopped for want of memory
 abbrev pub with_waits : WebValue → List ℕ → WebValue
 with_waits w waits = record w { waits = waits; rests = false }
+
+-- the same bytes are behind what waits
+abbrev pub pushed : WebValue → List ℕ → WebValue
+pushed w bytes = record w { waits = w.waits ++ bytes }
 
 abbrev pub Queues : WebValue → List ℕ → WebValue → Type 0
 Queues old bytes new =
@@ -193,7 +198,7 @@ manner_asked w asked = record { is_last = is_closed w.heard.state; is_head = ask
 abbrev pub RespondsTo : Option Asked → WebValue → Answer → List ℕ → WebValue → Type 0
 RespondsTo None old answer body new = new ≡ old
 RespondsTo (Some asked) old answer body new =
-    Queues (unasked old) (response_bytes answer body (manner_asked old asked)) new
+    Queues (unasked old) (response_bytes answer body (manner_asked old asked) (origin_or_none asked.origin)) new
 
 -- so many of the waiting bytes left
 abbrev pub web_sent : WebValue → ℕ → WebValue

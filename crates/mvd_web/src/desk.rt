@@ -1,11 +1,13 @@
 //! What keeps a request until it is answered.
 ghost use Rattle.mvd_web.specs.Asked.{KeepsAsked};
 
+use crate::spare::spare_for;
 use crate::taken::{Asked, asked_by};
 use bytes::Bytes;
 use http::{Request, StatusCode};
 use http_server::{Response, Service};
 use mvd_conn::Guard;
+use mvd_http::Names;
 use std::alloc::{AllocError, Global};
 
 /// It keeps one request. What it answers is never sent: the response is queued once it is known.
@@ -13,7 +15,10 @@ use std::alloc::{AllocError, Global};
 pub(crate) struct Desk<'a> {
     pub(crate) alloc: Global,
     pub(crate) guard: Option<&'a Guard>,
+    pub(crate) names: &'a Names,
     pub(crate) asked: Option<Asked>,
+    /// Memory that was taken for the response to a write.
+    pub(crate) spare: Option<Vec<u8>>,
 }
 
 impl Service for Desk<'_> {
@@ -27,7 +32,10 @@ impl Service for Desk<'_> {
         if self.asked.is_some() {
             return Err(AllocError);
         }
-        self.asked = Some(asked_by(self.alloc, self.guard, request));
+        let spare = spare_for(self.alloc, request)?;
+        let asked = asked_by(self.alloc, self.guard, self.names, request)?;
+        self.spare = spare;
+        self.asked = Some(asked);
         // No request is refused this status.
         response.status = StatusCode::NOT_FOUND;
         Ok(())

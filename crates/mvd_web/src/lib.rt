@@ -4,6 +4,7 @@
 
 mod desk;
 mod response;
+mod spare;
 mod taken;
 mod web_connection;
 mod web_ending;

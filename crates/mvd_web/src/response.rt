@@ -3,7 +3,8 @@ ghost use Rattle.std.specs.Prelude.{◌≡◌, ◌++◌, OnOk, OnErr, IfOk};
 ghost use Rattle.http1.specs.Head.{header_parts, pairs, response_text};
 ghost use Rattle.http1_typed.specs.Parts.{reason_of};
 ghost use Rattle.http_server.specs.Response.{fields as pairs_of, fields_of};
-ghost use Rattle.mvd_web.specs.Response.{framing_fields, framing_of, persistence as persistence_told, response_bytes, body_sent};
+ghost use Rattle.mvd_web.specs.Response.{framing_fields, framing_of, persistence as persistence_told, response_bytes, shares};
+ghost use Rattle.mvd_web.specs.Response.{allowing, body_sent, shares_with, varying};
 
 use bytes::BytesMut;
 use http::{HeaderName, HeaderValue, StatusCode};
@@ -39,7 +40,7 @@ fn own_fields<'a>(
 ) -> Result<Vec<Header<'a>>, AllocError>
     ensures { IfOk result (λ list. pairs list.items ≡ pairs_of fields.now) }
 {
-    let mut list = Vec::with_capacity(alloc, fields.len() + 2)?;
+    let mut list = Vec::with_capacity(alloc, fields.len() + 4)?;
     for field in fields {
         list.push(Header {
             name: field.0.as_bytes(),
@@ -56,11 +57,13 @@ fn listed<'a>(
     filled: &'a Response,
     digits: &'a [u8],
     is_last: bool,
+    origin: &'a [u8],
 ) -> Result<Vec<Header<'a>>, AllocError>
-    ensures { IfOk result (λ list. pairs list.items ≡
-        fields_of filled.now ++ framing_fields filled.now.status digits.now is_last) }
+    ensures { IfOk result (λ list. pairs list.items ≡ (fields_of filled.now ++ shares origin.now)
+        ++ framing_fields filled.now.status digits.now is_last) }
 {
     let mut list = own_fields(alloc, &filled.headers)?;
+    share(&mut list, origin)?;
     list.push(persistence(is_last))?;
     if filled.status.as_u16() == 204 {
         return Ok(list);
@@ -70,6 +73,45 @@ fn listed<'a>(
         value: digits,
     })?;
     Ok(list)
+}
+
+/// The fields by which a page of another origin may read the response, if one may.
+fn share<'a>(list: &mut Vec<Header<'a>>, origin: &'a [u8]) -> Result<(), AllocError>
+    ensures { OnOk result (pairs list.new.items ≡ pairs list.old.items ++ shares origin.now) }
+{
+    if origin.is_empty() {
+        return Ok(());
+    }
+    share_with(list, origin)
+}
+
+#[tactic(auto, using(crate::proofs::Listing::two_more))]
+fn share_with<'a>(list: &mut Vec<Header<'a>>, origin: &'a [u8]) -> Result<(), AllocError>
+    ensures { OnOk result (pairs list.new.items ≡ pairs list.old.items ++ shares_with origin.now) }
+{
+    list.push(allows(origin))?;
+    list.push(varies())?;
+    Ok(())
+}
+
+/// The field that says which origin's pages may read the response.
+fn allows<'a>(origin: &'a [u8]) -> Header<'a>
+    ensures { header_parts result ≡ allowing origin.now }
+{
+    Header {
+        name: b"access-control-allow-origin",
+        value: origin,
+    }
+}
+
+/// The field that says that the response is for one origin.
+fn varies() -> Header<'static>
+    ensures { header_parts result ≡ varying }
+{
+    Header {
+        name: b"vary",
+        value: b"Origin",
+    }
 }
 
 /// Writes a head.
@@ -92,14 +134,16 @@ pub(crate) fn push_response(
     answer: Answer,
     body: &str,
     manner: Manner,
+    origin: &[u8],
 ) -> Result<(), AllocError>
-    ensures ok { OnOk result (out.new.items ≡ out.old.items ++ response_bytes answer body.now manner) }
+    ensures ok { OnOk result (out.new.items ≡
+        out.old.items ++ response_bytes answer body.now manner origin.now) }
     ensures err { OnErr result (out.new.items ≡ out.old.items) }
 {
     let mut filled = Response::new(alloc);
     fill(&mut filled, answer, "")?;
     let before = out.len();
-    push_head(alloc, out, &filled, body.len(), manner.is_last)?;
+    push_head(alloc, out, &filled, body.len(), manner.is_last, origin)?;
     match push_body(out, body, manner.is_head || filled.status.as_u16() == 204) {
         Ok(()) => Ok(()),
         Err(error) => {
@@ -127,13 +171,15 @@ fn push_head(
     filled: &Response,
     length: usize,
     is_last: bool,
+    origin: &[u8],
 ) -> Result<(), AllocError>
     ensures ok { OnOk result (out.new.items ≡ out.old.items
         ++ response_text 1 filled.now.status (reason_of filled.now.status)
-        (fields_of filled.now ++ framing_of filled.now.status length is_last)) }
+        ((fields_of filled.now ++ shares origin.now)
+        ++ framing_of filled.now.status length is_last)) }
     ensures err { OnErr result (out.new.items ≡ out.old.items) }
 {
     let digits = format!(in alloc; "{length}")?;
-    let fields = listed(alloc, filled, digits.as_bytes(), is_last)?;
+    let fields = listed(alloc, filled, digits.as_bytes(), is_last, origin)?;
     put_head(out, filled.status, &fields)
 }

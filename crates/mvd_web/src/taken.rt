@@ -1,9 +1,13 @@
 //! A request that was taken.
-ghost use Rattle.std.specs.Prelude.{◌≡◌, ◌↔◌, IsTrue, codes, length, option_copied};
+ghost use Rattle.std.specs.Prelude.{◌≡◌, ◌↔◌, IfOk, IsTrue, codes, is_some, length, option_copied};
 ghost use Rattle.http.specs.Request.{body_of, head_of};
 ghost use Rattle.http_header.specs.HeaderMap.{get_all};
 ghost use Rattle.mvd_http.specs.Asked.{IsQuestion};
-ghost use Rattle.mvd_web.specs.Asked.{AsksIf, IsAskedBy, IsEntry, IsOwnPage, MayAsk, NamesHost, bearer_text};
+ghost use Rattle.mvd_http.specs.Guard.{named_by};
+ghost use Rattle.mvd_web.specs.Asked.{AsksIf, IsAskedBy, IsEntry, MayAsk, NamesHost, bearer_text};
+ghost use Rattle.mvd_web.specs.Asked.{has_condition as condition_told, is_conditional as conditional_told};
+ghost use Rattle.mvd_web.specs.Asked.{is_preflight as preflight_told, name_of as name_told, origin_of as origin_told};
+ghost use Rattle.mvd_web.specs.Asked.{shared_with as shared_told, stranger_in as stranger_told};
 ghost use Rattle.mvd_web.specs.Asked.{header_in as field_told, host_of as host_told, shown_by as token_told};
 ghost use Rattle.mvd_web.specs.Asked.{target_of as target_told};
 
@@ -11,17 +15,23 @@ use bytes::Bytes;
 use http::{HeaderValue, Request, Version};
 use mvd_conn::Guard;
 use mvd_dots::Refusal;
-use mvd_http::{Question, is_open_to_all, is_own, question_of};
-use std::alloc::Global;
+use mvd_http::{
+    Fault, Names, Question, is_open_to_all, is_write, name_in, origin_in, question_of, stranger,
+};
+use std::alloc::{AllocError, Global};
 
 /// Whether a request comes in, by its head alone.
 #[derive(Clone, Copy)]
 pub enum Entry {
     Open,
+    /// It asks by which methods a page of another origin may ask.
+    Preflight,
+    /// It is a write under a condition of HTTP's own: a context stands for these.
+    Conditional,
     /// It names no host, or more than one. HTTP has it refused.
     HostMissing,
-    /// It comes of another server's page.
-    ForeignPage,
+    /// It names a host that is not this server, or comes of a page that may not ask it.
+    Stranger(Fault),
     /// It shows no token, and needs one.
     NoToken,
 }
@@ -34,6 +44,8 @@ pub struct Asked {
     pub question: Result<Question, Refusal>,
     /// Its response is sent without the body.
     pub is_head: bool,
+    /// The origin of its page, where that is another than the host's own, and may read the response.
+    pub origin: Option<Bytes>,
 }
 
 /// The value of the first field of a name.
@@ -114,27 +126,111 @@ fn may_ask(guard: Option<&Guard>, request: &Request<Bytes>) -> bool
     is_open_to_all(request.method().as_str().as_bytes(), target_of(request))
 }
 
-/// Whether it comes of this server's own page, or of no page.
-fn is_of_own_page(request: &Request<Bytes>) -> bool
-    ensures { IsTrue result ↔ IsOwnPage (head_of request.now) }
+/// The name of its host, where that is no address and not `localhost`.
+fn name_of(request: &Request<Bytes>) -> Option<&[u8]>
+    ensures { option_copied result ≡ name_told (head_of request.now) }
 {
-    is_own(host_of(request), field_in(request, "origin"))
+    match host_of(request) {
+        Some(host) => name_in(host),
+        None => None,
+    }
+}
+
+/// The origin of its page, where that is another than the host's own.
+fn origin_of(request: &Request<Bytes>) -> Option<&[u8]>
+    ensures { option_copied result ≡ origin_told (head_of request.now) }
+{
+    origin_in(host_of(request), field_in(request, "origin"))
+}
+
+/// Why it is not answered that names such a host, or comes of such a page, if it is not.
+fn stranger_in(names: &Names, request: &Request<Bytes>) -> Option<Fault>
+    ensures { result ≡ stranger_told (named_by names.now) (head_of request.now) }
+{
+    stranger(names, name_of(request), origin_of(request))
+}
+
+fn has_other_origin(request: &Request<Bytes>) -> bool
+    ensures { result ≡ is_some (origin_told (head_of request.now)) }
+{
+    match origin_of(request) {
+        Some(_) => true,
+        None => false,
+    }
+}
+
+/// Whether it asks for a page of another origin by which methods that may ask.
+fn is_preflight(request: &Request<Bytes>) -> bool
+    ensures { result ≡ preflight_told (head_of request.now) }
+{
+    request.method().as_str().as_bytes() == b"OPTIONS".as_slice() && has_other_origin(request)
+}
+
+/// Whether it is a write under a condition of HTTP's own.
+fn is_conditional(request: &Request<Bytes>) -> bool
+    ensures { result ≡ conditional_told (head_of request.now) }
+{
+    is_write(request.method().as_str().as_bytes(), target_of(request)) && has_condition(request)
+}
+
+fn has_field(request: &Request<Bytes>, name: &str) -> bool
+    ensures { result ≡ is_some (field_told name.now (head_of request.now).headers) }
+{
+    match field_in(request, name) {
+        Some(_) => true,
+        None => false,
+    }
+}
+
+fn has_condition(request: &Request<Bytes>) -> bool
+    ensures { result ≡ condition_told (head_of request.now) }
+{
+    has_field(request, "if-match") || has_field(request, "if-none-match")
 }
 
 /// Whether a request comes in. Of its body nothing is read.
-fn entry_of(guard: Option<&Guard>, request: &Request<Bytes>) -> Entry
-    ensures { IsEntry (option_copied guard.entry) (head_of request.now) result }
+fn entry_of(guard: Option<&Guard>, names: &Names, request: &Request<Bytes>) -> Entry
+    ensures { IsEntry (option_copied guard.entry) (named_by names.now) (head_of request.now) result }
 {
     if !names_host(request) {
         return Entry::HostMissing;
     }
-    if !is_of_own_page(request) {
-        return Entry::ForeignPage;
+    if let Some(fault) = stranger_in(names, request) {
+        return Entry::Stranger(fault);
+    }
+    if is_preflight(request) {
+        return Entry::Preflight;
     }
     if !may_ask(guard, request) {
         return Entry::NoToken;
     }
+    if is_conditional(request) {
+        return Entry::Conditional;
+    }
     Entry::Open
+}
+
+fn copied(alloc: Global, bytes: Option<&[u8]>) -> Result<Option<Bytes>, AllocError>
+    ensures { IfOk result (λ copy. copy ≡ option_copied bytes.entry) }
+{
+    match bytes {
+        Some(bytes) => Ok(Some(Bytes::copy_from_slice(alloc, bytes)?)),
+        None => Ok(None),
+    }
+}
+
+/// The origin of the page that may read the response, where that is another than the host's own.
+fn shared_with(
+    alloc: Global,
+    names: &Names,
+    request: &Request<Bytes>,
+) -> Result<Option<Bytes>, AllocError>
+    ensures { IfOk result (λ origin. origin ≡ shared_told (named_by names.now) (head_of request.now)) }
+{
+    match stranger_in(names, request) {
+        Some(_) => Ok(None),
+        None => copied(alloc, origin_of(request)),
+    }
 }
 
 /// What a request asks that comes in.
@@ -154,18 +250,26 @@ fn question_if(alloc: Global, entry: Entry, request: &Request<Bytes>) -> Result<
 {
     match entry {
         Entry::Open => question_in(alloc, request),
+        Entry::Preflight => question_in(alloc, request),
         _ => Err(Refusal::NotAdmitted),
     }
 }
 
 /// Whether a request comes in, and what it asks then.
-pub(crate) fn asked_by(alloc: Global, guard: Option<&Guard>, request: &Request<Bytes>) -> Asked
-    ensures { IsAskedBy (option_copied guard.entry) request.now result }
+pub(crate) fn asked_by(
+    alloc: Global,
+    guard: Option<&Guard>,
+    names: &Names,
+    request: &Request<Bytes>,
+) -> Result<Asked, AllocError>
+    ensures { IfOk result (IsAskedBy (option_copied guard.entry) (named_by names.now) request.now) }
 {
-    let entry = entry_of(guard, request);
-    Asked {
+    let entry = entry_of(guard, names, request);
+    let origin = shared_with(alloc, names, request)?;
+    Ok(Asked {
         entry,
         question: question_if(alloc, entry, request),
         is_head: request.method().as_str().as_bytes() == b"HEAD".as_slice(),
-    }
+        origin,
+    })
 }

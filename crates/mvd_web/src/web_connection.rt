@@ -1,7 +1,7 @@
 //! One connection: from the bytes that came to the bytes that leave.
-ghost use Rattle.std.specs.Prelude.{◌≡◌, ◌<◌, ◌≤◌, ◌↔◌, [], length, true, Some, None, IsTrue, OnOk, option_copied};
-ghost use Rattle.std.specs.Prelude.{option_map};
-ghost use Rattle.mvd_web.specs.Response.{response_bytes};
+ghost use Rattle.std.specs.Prelude.{◌≡◌, ◌<◌, ◌≤◌, ◌↔◌, [], length, true, Some, None, IsTrue, OnErr, OnOk, option_copied};
+ghost use Rattle.mvd_http.specs.Guard.{named_by};
+ghost use Rattle.mvd_web.specs.Response.{origin_or_none, response_bytes};
 ghost use Rattle.mvd_web.specs.declared.taken.Asked.{Asked};
 
 use crate::desk::Desk;
@@ -12,7 +12,7 @@ use bytes::BytesMut;
 use http_server::{Config, Connection, State};
 use mvd_conn::Guard;
 use mvd_dots::Refusal;
-use mvd_http::{Answer, Fault};
+use mvd_http::{Answer, Fault, Names};
 use mvd_wire::Ending;
 use std::alloc::{AllocError, Global};
 use std::hash::RandomState;
@@ -31,6 +31,8 @@ pub struct WebConnection {
     /// The request that waits for its answer.
     asked: Option<Asked>,
     output: BytesMut,
+    /// Memory that was taken for the response to a write, before the site is asked for it.
+    spare: Option<Vec<u8>>,
     /// There is nothing to take before more bytes come.
     rests: bool,
     /// Why nothing more is taken and nothing more leaves.
@@ -41,7 +43,8 @@ impl WebConnection {
     ghost use Rattle.mvd_web.specs.Ends.{fault_in as fault_told};
     ghost use Rattle.mvd_web.specs.Inside.{web_of};
     ghost use Rattle.mvd_web.specs.Web.{EndsInput, Feeds, IsNew, IsOver, Queues, RespondsTo, TakesRequest, WantsBytes};
-    ghost use Rattle.mvd_web.specs.Web.{is_awake, is_closed, is_free as free_now, web_sent, stopped_by, unasked, web_ending};
+    ghost use Rattle.mvd_web.specs.Web.{is_awake, is_closed, is_free as free_now, pushed};
+    ghost use Rattle.mvd_web.specs.Web.{stopped_by, unasked, web_ending, web_sent};
     ghost use Rattle.mvd_web.specs.Steps.{Drops, StepsOn, PassesOn, ReadsOn};
 
     /// A connection on which nothing happened yet. The keys hide in which order a peer's fields are kept.
@@ -59,6 +62,7 @@ impl WebConnection {
             parser: Connection::new(alloc, keys, config),
             asked: None,
             output: BytesMut::new(alloc),
+            spare: None,
             rests: true,
             stopped: None,
         }
@@ -123,22 +127,25 @@ impl WebConnection {
     }
 
     /// Takes the next request, where no other waits for its answer. Whether one was taken. Only one that the guard lets
-    /// in is read further than its head. Where none was taken, what the parser answers for itself is queued, and for a request that it refuses the response that names the fault.
-    pub fn next(&mut self, guard: Option<&Guard>) -> bool
-        ensures { TakesRequest (option_copied guard.entry) (web_of self.old) result (web_of self.new) }
+    /// in is read further than its head. Where none was taken, what the parser answers for itself is queued, and for a
+    /// request that it refuses the response that names the fault.
+    pub fn next(&mut self, guard: Option<&Guard>, names: &Names) -> bool
+        ensures { TakesRequest (option_copied guard.entry) (named_by names.now)
+            (web_of self.old) result (web_of self.new) }
     {
         if self.is_free() {
-            return self.look(guard);
+            return self.look(guard, names);
         }
         false
     }
 
     /// The same, where a request may be taken.
-    fn look(&mut self, guard: Option<&Guard>) -> bool
+    fn look(&mut self, guard: Option<&Guard>, names: &Names) -> bool
         requires { free_now (web_of self.old) ≡ true }
-        ensures { TakesRequest (option_copied guard.entry) (web_of self.old) result (web_of self.new) }
+        ensures { TakesRequest (option_copied guard.entry) (named_by names.now)
+            (web_of self.old) result (web_of self.new) }
     {
-        if self.advance(guard) {
+        if self.advance(guard, names) {
             self.drop_pending();
             return true;
         }
@@ -179,7 +186,7 @@ impl WebConnection {
             is_last: true,
             is_head: false,
         };
-        self.queue(fault.answer(), fault.body(), manner);
+        self.queue(fault.answer(), fault.body(), manner, no_origin());
     }
 
     /// Queues what the parser answers for itself. Where memory is refused, the connection stops.
@@ -205,22 +212,30 @@ impl WebConnection {
     pub fn respond(&mut self, answer: Answer, body: &str)
         ensures { RespondsTo (web_of self.old).asked (web_of self.old) answer body.now (web_of self.new) }
     {
-        let Some(is_head) = self.take_asked() else {
+        let Some(asked) = self.take_asked() else {
             return;
         };
-        let is_last = self.is_last();
-        self.queue(answer, body, Manner { is_last, is_head });
+        let manner = Manner {
+            is_last: self.is_last(),
+            is_head: asked.is_head,
+        };
+        self.queue(answer, body, manner, origin_in(&asked));
+        self.give_spare();
     }
 
-    /// The request no longer waits. Whether its response is sent without the body.
-    fn take_asked(&mut self) -> Option<bool>
-        ensures head { result ≡ option_map (λ (asked : Asked). asked.is_head) (web_of self.old).asked }
+    /// Gives back what was taken for the response to a write. It is there for that response now.
+    pub fn give_spare(&mut self)
+        ensures { web_of self.new ≡ web_of self.old }
+    {
+        self.spare = None;
+    }
+
+    /// The request no longer waits.
+    fn take_asked(&mut self) -> Option<Asked>
+        ensures asked { result ≡ (web_of self.old).asked }
         ensures gone { web_of self.new ≡ unasked (web_of self.old) }
     {
-        match self.asked.take() {
-            Some(asked) => Some(asked.is_head),
-            None => None,
-        }
+        self.asked.take()
     }
 
     /// Whether no request is read after those that were.
@@ -231,13 +246,48 @@ impl WebConnection {
     }
 
     /// Queues a response. Where memory is refused, nothing of it leaves.
-    fn queue(&mut self, answer: Answer, body: &str, manner: Manner)
-        ensures { Queues (web_of self.old) (response_bytes answer body.now manner) (web_of self.new) }
+    fn queue(&mut self, answer: Answer, body: &str, manner: Manner, origin: &[u8])
+        ensures { Queues (web_of self.old) (response_bytes answer body.now manner origin.now) (web_of self.new) }
     {
         self.rests = false;
-        if push_response(self.alloc, &mut self.output, answer, body, manner).is_err() {
+        if self.push(&answer, body, &manner, origin).is_err()
+            && self.push_again(&answer, body, &manner, origin).is_err()
+        {
             self.stop(Refusal::Memory);
         }
+    }
+
+    /// Puts a response behind what waits to leave: all of it, or nothing.
+    fn push(
+        &mut self,
+        answer: &Answer,
+        body: &str,
+        manner: &Manner,
+        origin: &[u8],
+    ) -> Result<(), AllocError>
+        ensures ok { OnOk result (web_of self.new ≡
+            pushed (web_of self.old) (response_bytes answer.now body.now manner.now origin.now)) }
+        ensures err { OnErr result (web_of self.new ≡ web_of self.old) }
+    {
+        let answer = *answer;
+        let manner = *manner;
+        push_response(self.alloc, &mut self.output, answer, body, manner, origin)
+    }
+
+    /// The same, where memory was refused: what was taken for a response is given back first.
+    fn push_again(
+        &mut self,
+        answer: &Answer,
+        body: &str,
+        manner: &Manner,
+        origin: &[u8],
+    ) -> Result<(), AllocError>
+        ensures ok { OnOk result (web_of self.new ≡
+            pushed (web_of self.old) (response_bytes answer.now body.now manner.now origin.now)) }
+        ensures err { OnErr result (web_of self.new ≡ web_of self.old) }
+    {
+        self.give_spare();
+        self.push(answer, body, manner, origin)
     }
 
     /// The bytes that wait to leave.
@@ -276,17 +326,20 @@ impl WebConnection {
     }
 
     /// Reads at most one request. Whether one was read.
-    fn advance(&mut self, guard: Option<&Guard>) -> bool
+    fn advance(&mut self, guard: Option<&Guard>, names: &Names) -> bool
         requires { (web_of self.old).asked ≡ None }
-        ensures { ReadsOn (option_copied guard.entry) (web_of self.old) result (web_of self.new) }
+        ensures { ReadsOn (option_copied guard.entry) (named_by names.now) (web_of self.old) result (web_of self.new) }
     {
         let mut desk = Desk {
             alloc: self.alloc,
             guard,
+            names,
             asked: None,
+            spare: None,
         };
         self.parser.advance(&mut desk);
         self.asked = desk.asked;
+        self.spare = desk.spare;
         self.asked.is_some()
     }
 
@@ -313,5 +366,22 @@ impl WebConnection {
             let count = self.parser.output().len();
             self.parser.sent(count);
         }
+    }
+}
+
+/// What stands for an origin where there is none.
+fn no_origin() -> &'static [u8]
+    ensures { result.now ≡ [] }
+{
+    &[]
+}
+
+/// The other origin whose page may read the response, or nothing.
+fn origin_in(asked: &Asked) -> &[u8]
+    ensures { result.now ≡ origin_or_none asked.now.origin }
+{
+    match &asked.origin {
+        Some(origin) => origin.as_slice(),
+        None => &[],
     }
 }

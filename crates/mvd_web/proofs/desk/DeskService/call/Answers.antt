@@ -5,9 +5,10 @@ use Rattle.mvd_web.proofs.desk.DeskService.call.Goals as goal
 pub returns-clause-ok : goal.returns-clause-ok
 returns-clause-ok c = record {
   none = none_kept c.args.self.now.asked (sym c.if-is_some.ensures);
-  asked = c.asked_by.result;
+  asked = c.in_ok-asked.asked;
   kept = refl;
-  asks = c.asked_by.ensures;
+  asks = c.in_ok-asked.ensures;
   guard = refl;
+  names = refl;
   plain = record { status = refl; headers = c.requires.headers; body = c.requires.body };
 }

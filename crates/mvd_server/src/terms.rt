@@ -1,0 +1,58 @@
+//! What a server is asked for.
+use mvd_conn::Guard;
+use mvd_host::CLIENTS_MAX;
+use mvd_http::Names;
+use mvd_wire::Token;
+use std::alloc::{AllocError, Global};
+use std::net::SocketAddr;
+
+/// What a server is asked for: the port for HTTP, if it serves that too, how many connections it serves in all, for how
+/// many seconds no byte need move on one, and how many clients it serves at once. Where there is a token, who comes in
+/// shows it, and it is shown to peers. Over HTTP it may be asked by the names of a list, and by pages of the origins of
+/// another, each with commas between its items. Each peer is met again as many seconds after a session.
+#[derive(Clone, Copy)]
+pub struct Terms<'a> {
+    pub http: Option<u16>,
+    pub conns: Option<u32>,
+    pub idle: u32,
+    pub clients: u32,
+    pub token: Option<&'a Token>,
+    pub hosts: &'a str,
+    pub origins: &'a str,
+    pub peers: &'a [SocketAddr],
+    pub every: u32,
+}
+
+impl Terms<'_> {
+    ghost use Rattle.std.specs.Prelude.{option_copied};
+    ghost use Rattle.mvd_server.specs.Guarded.{IsGuardOf};
+
+    /// Who may come in, if not everybody.
+    pub(crate) fn guard(self) -> Option<Guard>
+        ensures { IsGuardOf (option_copied self.entry.token) result }
+    {
+        match self.token {
+            Some(token) => Some(Guard::of(token.bytes())),
+            None => None,
+        }
+    }
+
+    /// The most clients that are served at once. Beside them the host has a place for a session with each peer.
+    pub(crate) fn places(self) -> usize {
+        (self.clients as usize).min(CLIENTS_MAX.saturating_sub(self.peers.len()))
+    }
+
+    /// By which names it is asked, and of which origins a page may ask: by any name, where a token is asked for.
+    pub(crate) fn names(self, alloc: Global) -> Result<Names, AllocError> {
+        Ok(Names {
+            hosts: String::from_str(alloc, self.hosts)?,
+            origins: String::from_str(alloc, self.origins)?,
+            any_host: self.token.is_some(),
+        })
+    }
+
+    /// The most clients that may wait for a change at once, so that there are places for those who write.
+    pub(crate) fn waits_max(self) -> usize {
+        self.clients as usize / 2
+    }
+}

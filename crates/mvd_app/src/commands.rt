@@ -79,6 +79,7 @@ pub fn run<'a, S: Start, D: Dial, K: Sockets, R: BufRead, W: Write>(
             http,
             clients,
             peers,
+            named,
             token_file,
         } => {
             let terms = Terms {
@@ -87,8 +88,8 @@ pub fn run<'a, S: Start, D: Dial, K: Sockets, R: BufRead, W: Write>(
                 idle,
                 clients,
                 token: None,
-                hosts: "",
-                origins: "",
+                hosts: named.hosts.unwrap_or(""),
+                origins: named.origins.unwrap_or(""),
                 peers: &[],
                 every: 0,
             };

@@ -8,13 +8,17 @@ ghost use Rattle.mvd_input.specs.Orders.{ArePeers};
 use crate::outlet::{Outlet, STANDARD_ERROR, STANDARD_OUTPUT};
 use mvd_dots::Refusal;
 use mvd_hint::{Stop, Watch};
-use mvd_input::{Peers, addresses_of};
+use mvd_input::{Peers, addresses_of, tell};
 use mvd_replica::Replica;
 use mvd_server::{Sockets, Terms, serve_run};
 use sqlite::Alter;
 use std::alloc::{AllocError, Global};
 use std::io::Write;
 use std::net::SocketAddr;
+
+/// What is told of a server that pages of other origins may ask without a token.
+const OPEN_TO_PAGES: &str =
+    "mvd: --origin without --token-file: whoever opens such a page reads and writes here\n";
 
 /// Serves a stored site at an address, and meets the peers meanwhile, if there are any: those of the list but itself. It
 /// waits for nobody who should read what it prints.
@@ -71,6 +75,7 @@ fn serve_met<'a, K: Sockets, S: Alter + Drop, W: Write>(
         Ok(errors) => errors,
         Err(error) => return Err(Stop::unheard(address, error)),
     };
+    warn_of_pages(alloc, terms, &mut errors);
     let Some(peers) = peers else {
         return serve_run(
             rt,
@@ -103,6 +108,17 @@ fn serve_met<'a, K: Sockets, S: Alter + Drop, W: Write>(
         writer,
         &mut errors,
     )
+}
+
+/// Warns where pages of other origins may ask a server that asks for no token.
+fn warn_of_pages<E: Write>(alloc: Global, terms: Terms<'_>, errors: &mut E) {
+    if terms.origins.is_empty() || terms.token.is_some() {
+        return;
+    }
+    let Ok(mut line) = String::from_str(alloc, OPEN_TO_PAGES) else {
+        return;
+    };
+    let _ = tell(errors, &mut line);
 }
 
 /// The servers of a list that the one at `own` meets: each once, and not itself, since all servers may name one list.

@@ -3,6 +3,7 @@ pub mod Definitions
 pub mod Ends
 pub mod Hexadecimal
 pub mod Lines
+pub mod Names
 pub mod Orders
 pub mod Tokens
 pub mod Words

@@ -17,12 +17,14 @@ use Rattle.clap.specs.declared.error.kind.ErrorKind.TheVariants.{OutOfMemory}
 use Rattle.mvd_dots.specs.declared.refusals.Refusal.TheVariants.{Memory}
 use Rattle.mvd_input.specs.Addresses.{IsAddressList}
 use Rattle.mvd_input.specs.Lines.{IsNoNumber, IsNumber}
+use Rattle.mvd_input.specs.Names.{is_name_list}
 use Rattle.mvd_input.specs.Words.{program}
 use Rattle.mvd_input.specs.declared.order.Order.{Order}
 use Rattle.mvd_input.specs.declared.order.Order.TheVariants.{Sim, Loop, Serve, Shell, RemoteShell, Sync, Meet}
 use Rattle.mvd_input.specs.declared.order.OrderFault.{OrderFault}
 use Rattle.mvd_input.specs.declared.order.OrderFault.TheVariants.{Words, Range, Stopped}
 use Rattle.mvd_input.specs.declared.order.Setup.{Setup}
+use Rattle.mvd_input.specs.declared.options.Named.{Named}
 use Rattle.mvd_input.specs.declared.options.Peers.{Peers}
 use Rattle.mvd_input.specs.declared.options.Repeat.{Repeat}
 use Rattle.mvd_input.specs.declared.options.Unread.{Unread}
@@ -59,12 +61,27 @@ IsRounds repeat = (1 ≤ repeat.every) × (repeat.every ≤ 3600) × ForSome rep
 abbrev pub ArePeers : Peers → Type 0
 ArePeers peers = IsAddressList peers.list.now × (1 ≤ peers.every) × (peers.every ≤ 3600)
 
+-- names, and origins, are lists where they are told
+abbrev pub are_names : Option (List ℕ) → Bool
+are_names None = true
+are_names (Some list) = is_name_list list
+
+abbrev pub named_hosts : Named → Option (List ℕ)
+named_hosts named = option_map (λ text. text.now) named.hosts
+
+abbrev pub named_origins : Named → Option (List ℕ)
+named_origins named = option_map (λ text. text.now) named.origins
+
+abbrev pub AreNamed : Named → Type 0
+AreNamed named = IsTrue (are_names (named_hosts named)) × IsTrue (are_names (named_origins named))
+
 -- a site may be set up with the numbers of an order
 abbrev pub IsInRange : Order → Type 0
 IsInRange Sim = ⊤
 IsInRange (Loop setup) = IsSetUp setup
-IsInRange (Serve _ setup address conns idle http clients peers _) = IsSetUp setup × HasPort address
+IsInRange (Serve _ setup address conns idle http clients peers named _) = IsSetUp setup × HasPort address
     × AreConnections conns × IsIdleTime idle × IsPort http × AreClients clients × ForSome peers ArePeers
+    × AreNamed named
 IsInRange (Shell _ setup) = IsSetUp setup
 IsInRange (RemoteShell address idle _) = HasPort address × IsIdleTime idle
 IsInRange (Sync _ setup address idle _ _) = IsSetUp setup × HasPort address × IsIdleTime idle
@@ -211,6 +228,11 @@ IsPeersOf rows None = (first_of (codes "peer") rows ≡ None) × (is_given_optio
 IsPeersOf rows (Some peers) = (first_of (codes "peer") rows ≡ Some peers.list.now) × IsAddressList peers.list.now
     × GivesNumber rows (codes "every") peers.every
 
+-- the names of a server, and the origins whose pages may ask it, where they are told: each is a list
+abbrev pub IsNamedOf : List Row → Named → Type 0
+IsNamedOf rows named = (first_of (codes "host") rows ≡ named_hosts named)
+    × (first_of (codes "origin") rows ≡ named_origins named) × AreNamed named
+
 -- it is told how far a session is
 abbrev pub IsVerbose : List Row → Bool → Type 0
 IsVerbose rows verbose = IsTrue verbose ↔ (first_of (codes "verbose") rows ≡ Some (codes "true"))
@@ -219,10 +241,10 @@ IsVerbose rows verbose = IsTrue verbose ↔ (first_of (codes "verbose") rows ≡
 abbrev pub IsOrderOf : List ℕ → List Row → Order → Type 0
 IsOrderOf name rows Sim = name ≡ codes "sim"
 IsOrderOf name rows (Loop setup) = (name ≡ codes "loop") × IsSetupOf rows setup
-IsOrderOf name rows (Serve db setup address conns idle http clients peers token_file) = (name ≡ codes "serve")
+IsOrderOf name rows (Serve db setup address conns idle http clients peers named token_file) = (name ≡ codes "serve")
     × IsDbOf rows db × IsSetupOf rows setup × IsAddressOfOrder rows address × IsConns rows conns × IsSeconds rows idle
-    × IsHttp rows http × IsClients rows clients × IsPeersOf rows peers × IsTokenFile rows token_file
-    × IsOtherPort address http
+    × IsHttp rows http × IsClients rows clients × IsPeersOf rows peers × IsNamedOf rows named
+    × IsTokenFile rows token_file × IsOtherPort address http
 IsOrderOf name rows (Shell db setup) = (name ≡ codes "shell") × IsDbOf rows db × IsSetupOf rows setup
     × (names_server rows ≡ false)
 IsOrderOf name rows (RemoteShell address idle token_file) = (name ≡ codes "shell") × (first_of (codes "db") rows ≡ None)

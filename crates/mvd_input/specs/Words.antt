@@ -63,6 +63,12 @@ with = text_option (codes "with")
 abbrev pub peer : Rule
 peer = text_option (codes "peer")
 
+abbrev pub host : Rule
+host = text_option (codes "host")
+
+abbrev pub origin : Rule
+origin = text_option (codes "origin")
+
 abbrev pub every : Rule
 every = number_option (codes "every")
 
@@ -99,7 +105,8 @@ loop_words = leaf (codes "loop") (needed site ∷ defs ∷ max_keys ∷ [])
 
 abbrev pub serve_words : App
 serve_words = leaf (codes "serve")
-    (database ++ needed port ∷ http ∷ conns ∷ idle (codes "300") ∷ clients ∷ peer ∷ peer_every ∷ token_file ∷ [])
+    (database ++ needed port ∷ http ∷ conns ∷ idle (codes "300") ∷ clients ∷ peer ∷ peer_every ∷ host ∷ origin
+    ∷ token_file ∷ [])
 
 abbrev pub shell_words : App
 shell_words = leaf (codes "shell")

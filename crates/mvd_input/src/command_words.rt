@@ -43,6 +43,15 @@ const PEER: &str =
                     at the same IP address, or an address with its port, as 192.0.2.1:7007 or [::1]:7007. Where \
                     there is a token, it is shown to each of them.";
 
+const HOST: &str =
+    "The names by which this server may be asked over HTTP, beside its addresses and localhost: 1 to 16 with commas \
+                    between them, each in lower case and without a port, as db.example.com. Where there is a token, \
+                    it may be asked by any name.";
+
+const ORIGIN: &str =
+    "The origins whose pages may ask this server over HTTP, beside its own: 1 to 16 with commas between them, each as \
+                      https://app.example.com. Give it a token, too: a page asks from wherever its reader is.";
+
 const PEER_EVERY: &str =
     "The seconds after which each peer is met again, 1 to 3600. It is met sooner where something was written here.";
 
@@ -163,6 +172,8 @@ fn serve_command<'a>(alloc: Global) -> Result<Command<'a>, AllocError>
         clients(alloc),
         peer(alloc),
         peer_every(alloc),
+        host(alloc),
+        origin(alloc),
         token_file(alloc, SERVED_TOKEN),
     ]?;
     named(alloc, "serve", SERVE, SERVE_EXAMPLES).args(options)
@@ -329,6 +340,18 @@ fn peer<'a>(alloc: Global) -> Arg<'a>
     ensures { rule_of result ≡ spec.peer }
 {
     text(alloc, "peer", "LIST", PEER)
+}
+
+fn host<'a>(alloc: Global) -> Arg<'a>
+    ensures { rule_of result ≡ spec.host }
+{
+    text(alloc, "host", "LIST", HOST)
+}
+
+fn origin<'a>(alloc: Global) -> Arg<'a>
+    ensures { rule_of result ≡ spec.origin }
+{
+    text(alloc, "origin", "LIST", ORIGIN)
 }
 
 fn peer_every<'a>(alloc: Global) -> Arg<'a>

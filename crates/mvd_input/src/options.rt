@@ -5,10 +5,11 @@ ghost use Rattle.clap.specs.Words.{first_of};
 ghost use Rattle.mvd_input.specs.Orders.{AreClients, ArePeers, HasPort, IsAddressOfOrder, IsClients, IsConns, IsDbOf, IsHttp};
 ghost use Rattle.mvd_input.specs.Orders.{IsIdleTime, IsIpOf, IsPeersOf, IsPort, IsRepeatOf, IsRounds, IsSeconds, IsTimes};
 ghost use Rattle.mvd_input.specs.Orders.{IsTokenFile, IsUnreadValue, ReadsGiven, ReadsNumber, is_given_option, is_word};
-ghost use Rattle.mvd_input.specs.Orders.{options_of};
+ghost use Rattle.mvd_input.specs.Orders.{AreNamed, IsNamedOf, are_names, options_of};
 
 use crate::addresses::is_address_list;
 use crate::command::number_of;
+use crate::name_lists::is_name_list;
 use clap::ArgMatches;
 use clap::parser::ValueSource;
 use std::net::{IpAddr, SocketAddr};
@@ -37,6 +38,13 @@ const NEITHER: &str = "'--db <FILE>' with '--site <N>', or '--port <P>', is miss
 const NO_PEERS: &str =
     "invalid value for '--peer <LIST>': it is no list of 1 to 16 ports and addresses with ports";
 
+/// What is told of lists of names that are none.
+const NO_HOSTS: &str =
+    "invalid value for '--host <LIST>': it is no list of 1 to 16 names of at most 4096 bytes";
+
+const NO_ORIGINS: &str =
+    "invalid value for '--origin <LIST>': it is no list of 1 to 16 origins of at most 4096 bytes";
+
 const ONLY_PEERS: &str = "'--every <S>' goes with '--peer <LIST>'";
 
 /// How often servers meet again: each `every` seconds, 1 to 3,600, after a session with it, until it is stopped or each
@@ -53,6 +61,14 @@ pub struct Repeat {
 pub struct Peers<'a> {
     pub list: &'a str,
     pub every: u32,
+}
+
+/// The names of a server beside its addresses and `localhost`, and the origins beside its own whose pages may ask it: each
+/// a list of 1 to 16 texts with commas between them.
+#[derive(Clone, Copy, PartialEq, Eq)]
+pub struct Named<'a> {
+    pub hosts: Option<&'a str>,
+    pub origins: Option<&'a str>,
 }
 
 /// Why the options of a command mean no order.
@@ -202,6 +218,33 @@ pub(crate) fn peers_in<'a>(matches: &ArgMatches<'a>) -> Result<Option<Peers<'a>>
         Some(_) => Err(Unread::Text(NO_PEERS)),
         None if is_given(matches, "every") => Err(Unread::Text(ONLY_PEERS)),
         None => Ok(None),
+    }
+}
+
+/// The names of a server, and the origins whose pages may ask it, where they are told.
+pub(crate) fn named_in<'a>(matches: &ArgMatches<'a>) -> Result<Named<'a>, Unread>
+    ensures range { IfOk result AreNamed }
+    ensures named { IfOk result (IsNamedOf (options_of matches.now)) }
+    ensures fault { IfErr result (IsUnreadValue (options_of matches.now) IsNamedOf) }
+{
+    let hosts = text_in(matches, "host");
+    let origins = text_in(matches, "origin");
+    if !are_names(hosts) {
+        return Err(Unread::Text(NO_HOSTS));
+    }
+    if !are_names(origins) {
+        return Err(Unread::Text(NO_ORIGINS));
+    }
+    Ok(Named { hosts, origins })
+}
+
+/// Whether a text is a list of names, where it is told.
+fn are_names(list: Option<&str>) -> bool
+    ensures { result ≡ are_names (option_map (λ text. text.now) list.entry) }
+{
+    match list {
+        Some(list) => is_name_list(list),
+        None => true,
     }
 }
 

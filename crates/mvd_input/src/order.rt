@@ -9,8 +9,8 @@ ghost use Rattle.mvd_input.specs.Orders.{ReadsWords, has_file, is_repeated, name
 use crate::addresses::is_address_list;
 use crate::command_words::{command, command_of};
 use crate::options::{
-    Peers, Repeat, Unread, address_in, clients_in, conns_in, db_in, given_in, http_in, idle_in,
-    is_given, peers_in, repeat_in, text_in, token_file_in,
+    Named, Peers, Repeat, Unread, address_in, clients_in, conns_in, db_in, given_in, http_in,
+    idle_in, is_given, named_in, peers_in, repeat_in, text_in, token_file_in,
 };
 use clap::error::ErrorKind;
 use clap::{ArgMatches, Command, Error};
@@ -49,7 +49,7 @@ pub struct Setup<'a> {
 /// What a command line asks for. Numbers are in their ranges: those of a site as told there, a port at least 1,
 /// `conns` 1 to 1,000, `idle` 1 to 86,400 seconds, and `clients` 1 to 10,000. The port `http` is another than that of
 /// `address`. The first line of a `token_file` is the token that a server asks for, or that it is shown. A server
-/// meets its `peers` by itself.
+/// meets its `peers` by itself. Over HTTP it may be asked by names, and by pages of other origins (`named`).
 #[derive(Clone, Copy, PartialEq, Eq)]
 pub enum Order<'a> {
     /// Run a script from standard input.
@@ -66,6 +66,7 @@ pub enum Order<'a> {
         http: Option<u16>,
         clients: u32,
         peers: Option<Peers<'a>>,
+        named: Named<'a>,
         token_file: Option<&'a str>,
     },
     /// Answer the lines of standard input on a database.
@@ -192,6 +193,7 @@ fn serve_of<'a>(matches: &ArgMatches<'a>) -> Result<Order<'a>, Unread>
         http,
         clients: clients_in(matches)?,
         peers: peers_in(matches)?,
+        named: named_in(matches)?,
         token_file: token_file_in(matches),
     })
 }

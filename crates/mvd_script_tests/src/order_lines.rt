@@ -12,6 +12,8 @@ pub enum Wanted {
     ServeToken,
     SyncToken,
     MeetToken,
+    Named,
+    NamedMost,
     Peer,
     Peers,
     PeersLeast,
@@ -34,8 +36,25 @@ const SHELL: &str =
 /// The longest list.
 pub const SIXTEEN: &str = "1,2,3,4,5,6,7,8,9,10,11,12,13,14,15,9";
 
+/// The longest list of names.
+pub const NAMES: &str = "a,b,c,d,e,f,g,h,i,j,k,l,m,n,o,p";
+
 /// What stands behind the words of a server, and what comes of both.
 pub const PEERS: &[(&str, Wanted)] = &[
+    (
+        "--host db.example --origin https://a.example,http://b:1",
+        Wanted::Named,
+    ),
+    ("--host a,b,c,d,e,f,g,h,i,j,k,l,m,n,o,p", Wanted::NamedMost),
+    (
+        "--host a,b,c,d,e,f,g,h,i,j,k,l,m,n,o,p,q",
+        Wanted::Says("'--host <LIST>': it is no list"),
+    ),
+    ("--host=", Wanted::Says("it is no list")),
+    (
+        "--origin=",
+        Wanted::Says("'--origin <LIST>': it is no list"),
+    ),
     ("--peer 2", Wanted::Peer),
     ("--peer 2,10.0.0.1:7007,[::1]:7007 --every 5", Wanted::Peers),
     ("--every 1 --peer [::1]:65535", Wanted::PeersLeast),

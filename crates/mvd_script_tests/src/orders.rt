@@ -1,6 +1,6 @@
 //! What command lines ask for.
-use crate::order_lines::{LINES, PEERS, SIXTEEN, Wanted};
-use mvd_input::{Order, OrderFault, Peers, Repeat, Setup, addresses_of, order_of};
+use crate::order_lines::{LINES, NAMES, PEERS, SIXTEEN, Wanted};
+use mvd_input::{Named, Order, OrderFault, Peers, Repeat, Setup, addresses_of, order_of};
 use std::alloc::{AllocError, Global};
 use std::net::{IpAddr, Ipv4Addr, SocketAddr};
 use std::test::Fail;
@@ -47,6 +47,12 @@ fn meet_of<'a>(
     }
 }
 
+/// No names, and no origins.
+const UNNAMED: Named<'static> = Named {
+    hosts: None,
+    origins: None,
+};
+
 /// A server at port 1 with these.
 fn serve_of(
     conns: Option<u32>,
@@ -64,6 +70,7 @@ fn serve_of(
         http,
         clients,
         peers: None,
+        named: UNNAMED,
         token_file,
     }
 }
@@ -79,7 +86,24 @@ fn peers_of<'a>(list: &'a str, every: u32, token_file: Option<&'a str>) -> Order
         http: None,
         clients: 256,
         peers: Some(Peers { list, every }),
+        named: UNNAMED,
         token_file,
+    }
+}
+
+/// A server at port 1 that may be asked by these names, and by pages of these origins.
+fn named_of<'a>(hosts: Option<&'a str>, origins: Option<&'a str>) -> Order<'a> {
+    Order::Serve {
+        db: "f",
+        setup: set_up(1, None, 1_000_000),
+        address: address(Ipv4Addr::LOCALHOST, 1),
+        conns: None,
+        idle: 300,
+        http: None,
+        clients: 256,
+        peers: None,
+        named: Named { hosts, origins },
+        token_file: None,
     }
 }
 
@@ -124,6 +148,8 @@ fn order_wanted(wanted: Wanted) -> Option<Order<'static>> {
     let order = match wanted {
         Wanted::Serve => serve_of(Some(1), 1, Some(65_535), 10_000, None),
         Wanted::ServeToken => serve_of(None, 300, None, 256, Some("t")),
+        Wanted::Named => named_of(Some("db.example"), Some("https://a.example,http://b:1")),
+        Wanted::NamedMost => named_of(Some(NAMES), None),
         Wanted::Peer => peers_of("2", 30, None),
         Wanted::Peers => peers_of("2,10.0.0.1:7007,[::1]:7007", 5, None),
         Wanted::PeersLeast => peers_of("[::1]:65535", 1, None),

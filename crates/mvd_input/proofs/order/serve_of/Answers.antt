@@ -2,8 +2,8 @@ use Rattle.std.proofs.Common.{◌∙◌, Some, ap, codes, nat_eq}
 use Rattle.std.specs.Option.{option_eq}
 use Rattle.std.proofs.lemmas.Result.{err_from_is_err_and}
 use Rattle.clap.specs.Words.{found_of, rows_of}
-use Rattle.mvd_input.specs.Orders.{IsAddressOfOrder, IsClients, IsOrderOf, IsPeersOf, IsSeconds}
-use Rattle.mvd_input.proofs.Ordered.{one_port, within, serve_clients, serve_meets, serve_peers}
+use Rattle.mvd_input.specs.Orders.{IsAddressOfOrder, IsClients, IsNamedOf, IsOrderOf, IsPeersOf, IsSeconds}
+use Rattle.mvd_input.proofs.Ordered.{one_port, within, serve_clients, serve_meets, serve_named, serve_peers}
 use Rattle.mvd_input.proofs.order.serve_of.Goals as goal
 
 pub returns-then-eq : goal.returns-then-eq
@@ -33,3 +33,9 @@ returns-in_err-peers_in c =
     let p = err_from_is_err_and c.from_residual-in_err-peers_in.result c.from_residual-in_err-peers_in.ensures.1 in
     let rows = rows_of (found_of c.args.matches.now) in
     rw (p.1, p.2) (within rows IsPeersOf (IsOrderOf (codes "serve")) _ (λ order m. serve_peers rows order m) c.in_err-peers_in.ensures.fault)
+
+pub returns-in_err-named_in : goal.returns-in_err-named_in
+returns-in_err-named_in c =
+    let p = err_from_is_err_and c.from_residual-in_err-named_in.result c.from_residual-in_err-named_in.ensures.1 in
+    let rows = rows_of (found_of c.args.matches.now) in
+    rw (p.1, p.2) (within rows IsNamedOf (IsOrderOf (codes "serve")) _ (λ order m. serve_named rows order m) c.in_err-named_in.ensures.fault)

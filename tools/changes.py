@@ -177,15 +177,46 @@ def check_writes(server):
         wanted(f"a line that is none is 400: {what}", status == 400, (status, text))
     status, _ = server.post([line(key="q", document={})] * 1001)
     wanted("a line too many is 413", status == 413, status)
-    status, _ = server.post([line(key="q", document={"a": "x" * 60000})] * 18)
+    status, _ = server.post([line(key="q", document={"a": "x" * 60000})] * 36)
     wanted("a body over the limit is 413", status == 413, status)
     wanted("nothing of them was done", server.root() == before)
-    status, text = server.post([line(key=f"long{n}", document={"a": "x" * 60000}) for n in range(17)])
-    wanted("long documents, in several pieces", (status, text) == (200, '{"dot":"1:1"}\n' * 17), (status, text[:200]))
+    status, text = server.post([line(key=f"long{n}", document={"a": "x" * 60000}) for n in range(34)])
+    wanted("long documents, in several pieces", (status, text) == (200, '{"dot":"1:1"}\n' * 34), (status, text[:200]))
     status, text = server.post([line(key="a b", document={})] * 3)
     wanted("lines that are all refused", (status, text) == (200, refused[0] + "\n" + (refused[0] + "\n") * 2), (status, text))
     wanted("no line", server.post([]) == (200, ""), "")
     return took * 1000, commits
+
+
+def check_states(server, folder):
+    """States in lists: told, and pushed into another site, twice."""
+    keys = [f"long{n}" for n in range(34)] + ["many0000", "nobody", "one"]
+    status, text = server.ask("POST", "/get", "".join(json.dumps(key) + "\n" for key in keys))
+    told = [json.loads(it) for it in text.splitlines()]
+    wanted("each key has a line", (status, [it["key"] for it in told]) == (200, keys), (status, len(told)))
+    whole = [it for it in told if "later" not in it]
+    wanted("a mebibyte is told, and no line more", sum(len(json.dumps(it, separators=(",", ":"))) + 1 for it in whole[:-1]) < 1 << 20 < len(text) < (1 << 20) + 65_536, len(text))
+    wanted("further keys are to be asked again", told[len(whole):] == [{"key": key, "later": True} for key in keys[len(whole):]], told[len(whole):])
+    wanted("a state is told as alone", whole[0] == server.json("/keys/long0"), "")
+    other = Server(folder, name="pushed.db")
+    left, after = [], ""
+    while after is not None:
+        page = server.json(f"/keys?after={after}")
+        left, after = left + [it["key"] for it in page["keys"]], page.get("next")
+    while left:
+        asked, left = left[:1000], left[1000:]
+        states = [json.loads(it) for it in server.ask("POST", "/get", "\n".join(json.dumps(key) for key in asked))[1].splitlines()]
+        left = [it["key"] for it in states if "later" in it] + left
+        lines = [json.dumps(it) for it in states if "later" not in it]
+        for again in "", " again":
+            wanted(f"states are pushed{again}", other.ask("POST", "/push", "\n".join(lines)) == (200, "{}\n" * len(lines)), "")
+    wanted("the roots are equal", other.root() == server.root(), "")
+    nodes = other.ask("GET", "/tree?paths=" + ",".join(f"{digit:x}" for digit in range(16)))[1].splitlines()
+    children = server.json("/tree")["children"]
+    wanted("and all nodes of a level", [json.loads(it)["digest"] for it in nodes] == children, nodes[:1])
+    status, text = other.ask("POST", "/get", "x" * ((1 << 20) + 1))
+    wanted("a body over 1 MiB is too long to ask", (status, text) == (413, '{"refused":0,"name":"ContentTooLarge"}'), (status, text[:100]))
+    other.close()
 
 
 def check_long_context(server):
@@ -335,6 +366,7 @@ def main():
         check_frames(server)
         check_lists(server)
         took, commits = check_writes(server)
+        check_states(server, folder)
         check_long_context(server)
         check_full(folder)
         check_places(folder)

@@ -33,7 +33,7 @@ DOCUMENT = {"city": "Oslo", "days": 3}
 # what is no request, or one that is too long: its status, and its name
 FAULTS = (
     ("no HTTP", 400, b"BadRequest", b"\x00\x01\r\n\r\n"),
-    ("a body over 1 MiB", 413, b"ContentTooLarge", b"PUT /keys/k HTTP/1.1\r\nHost: localhost\r\nContent-Length: 1048577\r\n\r\n"),
+    ("a body over 2 MiB", 413, b"ContentTooLarge", b"PUT /keys/k HTTP/1.1\r\nHost: localhost\r\nContent-Length: 2097153\r\n\r\n"),
     ("a target that is too long", 414, b"UriTooLong", b"GET /" + b"k" * 20_000),
     ("a field that is too long", 431, b"HeaderTooLarge", b"GET /root HTTP/1.1\r\nHost: localhost\r\nX: " + b"x" * 20_000),
     ("another coding", 501, b"NotImplemented", b"PUT /keys/k HTTP/1.1\r\nHost: localhost\r\nTransfer-Encoding: gzip, chunked\r\n\r\n"),

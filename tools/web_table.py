@@ -43,6 +43,19 @@ def by_curl():
     yield "/keys?prefix=m", [], 200, '{"keys":[{"key":"m","siblings":0}]}'
     yield "/keys?prefix=m&live=1", [], 200, '{"keys":[]}'
     yield "/keys", post('{"key":" ","document":{}}\n{"key":"m","document":[]}'), 200, '{"refused":1,"name":"BadKey"}\n{"refused":4,"name":"NotObject"}'
+    state = '{"key":"p","context":"2:1","siblings":[{"dot":"2:1","document":{"a":1}}]}'
+    yield "/push", post(state + "\n" + state.replace('"document":{"a":1}', '"text":"{ \\"a\\" : 1 }"')), 200, "{}\n{}\n"
+    yield "/push", post(state.replace('"a":1', '"a":2') + "\n" + state.replace("2:1", "2:2", 1)), 200, '{"refused":11,"name":"DotClash"}\n{}\n'
+    yield "/push", post(state.replace("2:1", "2:0", 1)), 200, '{"refused":2,"name":"BadContext"}'
+    yield "/push", post(state.replace("2:1", "3:1", 1)), 200, '{"refused":33,"name":"BadBody"}'
+    yield "/push", post(state + '\n{"key":"p"}\n'), 400, '{"refused":33,"name":"BadBody","line":2}'
+    yield "/get", post('"p"\n"q"\n'), 200, state.replace("2:1", "2:2", 1) + '\n{"key":"q","context":"-","siblings":[]}\n'
+    yield "/get", post('"p"\n\n'), 400, '"line":2}'
+    yield "/get", post('" "'), 200, '{"refused":1,"name":"BadKey"}'
+    yield "/keys", post('{"key":"m","context":"-"}\n{"key":"m"}\n'), 400, '"line":2}'
+    yield "/tree?paths=,fff,0", [], 200, '{"path":"","digest":"'
+    yield "/tree?paths=fff%2Cffe", [], 200, '{"path":"fff","keys":[]}\n{"path":"ffe","keys":[]}\n'
+    yield "/tree?paths=f,g", [], 400, '{"refused":14,"name":"BadPath"}'
     yield "/root", [], 200, '"site":1}'
     yield "/metrics", [], 200, 'mvd_requests_total{kind="put",outcome="done"}'
     yield "/", [], 200, "<!DOCTYPE html>"
@@ -94,7 +107,7 @@ def by_curl():
     # of a list of writes with another line nothing is done
     for line in "", "{}", "[]", '{"key":"n"}', '{"key":1,"document":{}}', '{"key":"n","document":{},"more":1}', '{"key":"n",', b'{"key":"\xff"}':
         first = b'{"key":"n","document":{}}\n'
-        yield "/keys", post(first + (line if isinstance(line, bytes) else line.encode()) + b"\n"), 400, '{"refused":33,"name":"BadBody"}'
+        yield "/keys", post(first + (line if isinstance(line, bytes) else line.encode()) + b"\n"), 400, '{"refused":33,"name":"BadBody","line":2}'
     yield "/keys?prefix=n", [], 200, '{"keys":[]}'
     # what is not there, and what cannot be asked so
     for path in "/none", "/keysx", "/views/visits", "/views/visits/none", "/root/", "/index":

@@ -1,12 +1,12 @@
 -- The turns of a server's rounds are asked by frames, or at hand, and so push no state but those of some writes.
-use Rattle.std.proofs.Common.{◌≡◌, ◌∙◌, ◌==◌, ◌≤◌, ◌<◌, ◌⊎◌, inl, inr, ℕ, Bool, true, false, cond, List, [], ◌∷◌, ◌++◌, map, Option, Some, None, Ok, Result, refl, sym, subst, true≢false}
+use Rattle.std.proofs.Common.{◌≡◌, ◌∙◌, ◌==◌, ◌≤◌, ◌<◌, ◌⊎◌, inl, inr, ℕ, Bool, true, false, cond, List, [], ◌∷◌, ◌++◌, map, Option, Some, None, Ok, Result, refl, sym, subst}
 use Rattle.std.proofs.lemmas.Bool.{cases_lt}
 use Rattle.std.specs.List.{AllByRecursion}
 use Rattle.mvd_app.proofs.Reading.{request_fine}
 use Rattle.mvd_conn.specs.History.{History}
 use Rattle.mvd_dots.specs.declared.refusals.Refusal.{Refusal}
 use Rattle.mvd_host.proofs.Own.{same_number}
-use Rattle.mvd_host.specs.AtHand.{AllMayWait, AtHandValue, first_at_hand, pushes}
+use Rattle.mvd_host.specs.AtHand.{AllMayWait, AtHandValue, first_at_hand}
 use Rattle.mvd_host.specs.Course.{BothClients, asked_by, own}
 use Rattle.mvd_host.specs.Hosts.{client_of}
 use Rattle.mvd_host.specs.Round.{AnswersAtHand, ClientCourse, Round, Side, turns_of}
@@ -16,7 +16,6 @@ use Rattle.mvd_site.specs.Known.{IsValidRequest}
 use Rattle.mvd_runs.specs.Files.{IsValidTurn}
 use Rattle.mvd_wire.specs.Frames.{FrameValue}
 use Rattle.mvd_wire.specs.declared.request.Request.{Request}
-use Rattle.mvd_wire.specs.declared.request.Request.TheVariants.{Get, Put, Delete, Find, Row, Rows, Node, Bucket, Push, Range, Keys, Conflicts, Hello, Bye}
 use Rattle.sqlite.specs.State.{State}
 
 abbrev AreFine : List Turn → Type 0
@@ -33,52 +32,36 @@ framed_fine (f ∷ frames) (turn ∷ turns) is =
     let (one, others) = heads (asked_by f) turn.asked (map asked_by frames) (map (λ t. t.asked) turns) is in
     ((λ request asked. request_fine f.kind f.payload request (one ∙ asked)), framed_fine frames turns others)
 
--- what waited at hand pushes no state
-unpushed_fine : (request : Request) → pushes request ≡ false → IsValidRequest request
-unpushed_fine (Get key) none = tt
-unpushed_fine (Put key context document) none = tt
-unpushed_fine (Delete key context) none = tt
-unpushed_fine (Find field term after) none = tt
-unpushed_fine (Row view term) none = tt
-unpushed_fine (Rows view after) none = tt
-unpushed_fine (Node path) none = tt
-unpushed_fine (Bucket path after) none = tt
-unpushed_fine (Push key state) none = absurd (true≢false none)
-unpushed_fine (Range field first last after) none = tt
-unpushed_fine (Keys prefix after) none = tt
-unpushed_fine (Conflicts after) none = tt
-unpushed_fine (Hello token) none = tt
-unpushed_fine Bye none = tt
-
+-- what waited at hand pushes no state but one of some writes
 ok_is : (a b : Request) → ◌≡◌ {A = Result Request Refusal} (Ok a) (Ok b) → a ≡ b
 ok_is a b e = cc
 
-abbrev AreUnpushed : List Request → Type 0
-AreUnpushed asks = AllByRecursion (λ request. pushes request ≡ false) asks
+abbrev AreValid : List Request → Type 0
+AreValid asks = AllByRecursion IsValidRequest asks
 
-waiting_unpushed : (n : ℕ) (asks : List (ℕ × Request)) → AllMayWait asks → AreUnpushed (own n asks)
-waiting_unpushed n [] may = tt
-waiting_unpushed n (ask ∷ asks) (one, may) =
-    elim (ask.0 == n) as (λ b. AreUnpushed (cond b (ask.1 ∷ own n asks) (own n asks))) [
-      | true ↦ (one.1, waiting_unpushed n asks may)
-      | false ↦ waiting_unpushed n asks may
+waiting_valid : (n : ℕ) (asks : List (ℕ × Request)) → AllMayWait asks → AreValid (own n asks)
+waiting_valid n [] may = tt
+waiting_valid n (ask ∷ asks) (one, may) =
+    elim (ask.0 == n) as (λ b. AreValid (cond b (ask.1 ∷ own n asks) (own n asks))) [
+      | true ↦ (one.1, waiting_valid n asks may)
+      | false ↦ waiting_valid n asks may
     ]
 
-asked_fine : (asks : List Request) (turns : List Turn) → AreUnpushed asks → map (λ t. t.asked) turns ≡ map (λ r. Ok r) asks → AreFine turns
+asked_fine : (asks : List Request) (turns : List Turn) → AreValid asks → map (λ t. t.asked) turns ≡ map (λ r. Ok r) asks → AreFine turns
 asked_fine asks [] may is = tt
 asked_fine [] (turn ∷ turns) may is = absurd cc
 asked_fine (ask ∷ asks) (turn ∷ turns) (none, may) is =
     let (one, others) = heads turn.asked (Ok ask) (map (λ t. t.asked) turns) (map (λ r. Ok r) asks) is in
-    ((λ request asked. unpushed_fine request (subst (λ r. pushes r ≡ false) (ok_is ask request (sym one ∙ asked)) none)), asked_fine asks turns may others)
+    ((λ request asked. subst IsValidRequest (ok_is ask request (sym one ∙ asked)) none), asked_fine asks turns may others)
 
 -- the front of what waited
-unpushed_front : (asks rest : List Request) → AreUnpushed (asks ++ rest) → AreUnpushed asks
-unpushed_front [] rest all = tt
-unpushed_front (ask ∷ asks) rest (one, all) = (one, unpushed_front asks rest all)
+valid_front : (asks rest : List Request) → AreValid (asks ++ rest) → AreValid asks
+valid_front [] rest all = tt
+valid_front (ask ∷ asks) rest (one, all) = (one, valid_front asks rest all)
 
 at_hand_fine : (n : ℕ) (turns : List (ℕ × Turn)) (old new : AtHandValue) → first_at_hand ≤ n → AnswersAtHand turns old new → AreFine (own n turns)
 at_hand_fine n turns old new above a =
-    asked_fine (own n a.asks) (own n turns) (unpushed_front (own n a.asks) (own n new.waits) (subst AreUnpushed (a.front n) (waiting_unpushed n old.waits a.may))) (a.asked n above)
+    asked_fine (own n a.asks) (own n turns) (valid_front (own n a.asks) (own n new.waits) (subst AreValid (a.front n) (waiting_valid n old.waits a.may))) (a.asked n above)
 
 -- those of each client, and so all of them
 module _ (P : Turn → Type 0) where

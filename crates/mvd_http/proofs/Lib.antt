@@ -3,4 +3,5 @@ pub mod Steps
 pub mod Telling
 pub mod Counting
 pub mod Lines
+pub mod Reading
 pub mod LineLengths

@@ -1,11 +1,11 @@
--- The lines of many writes, and what each asks.
-use Rattle.std.proofs.Common.{◌≡◌, ◌∙◌, ◌==◌, ℕ, ◌+◌, ◌<◌, ◌≤◌, max, Bool, true, false, cond, List, [], ◌∷◌, ◌++◌, length, get_or, take, Option, Some, None, option_map, Result, Bor, sym, ap, subst, arith, codes}
-use Rattle.std.specs.List.{slice_split}
+-- The lines of a list, and what each asks.
+use Rattle.std.proofs.Common.{◌≡◌, ◌∙◌, ◌==◌, ℕ, suc, zero, refl, ◌+◌, ◌<◌, ◌≤◌, max, Bool, true, false, cond, List, [], ◌∷◌, ◌++◌, length, get_or, take, Option, Some, None, option_map, Result, Bor, sym, ap, subst, arith, codes}
+use Rattle.std.specs.List.{slice_get, slice_split}
 use Rattle.std.specs.Ordering.{match_ordering, nat_cmp}
 use Rattle.std.specs.Cmp.Lexicographic.{slice_cmp}
 use Rattle.std.specs.declared.cmp.Ordering.{Ordering}
 use Rattle.std.specs.declared.cmp.Ordering.TheVariants.{Less, Equal, Greater}
-use Rattle.std.proofs.lemmas.List.{take_all, take_more}
+use Rattle.std.proofs.lemmas.List.{length-take-le, take_all, take_more}
 use Rattle.serde_json.specs.Data.{Data, Members, no_members, member, null, boolean, number, string, array, object, depth, members_depth}
 use Rattle.serde_json.specs.Find.{get, get_member}
 use Rattle.serde_json.specs.Read.{max_depth}
@@ -14,7 +14,8 @@ use Rattle.serde_json.specs.declared.value.Value.{Value}
 use Rattle.mvd_dots.specs.declared.refusals.Refusal.{Refusal}
 use Rattle.mvd_wire.specs.declared.request.Request.{Request}
 use Rattle.mvd_http.specs.declared.posted.Line.{Line}
-use Rattle.mvd_http.specs.Posted.{AreLineWrites, HasOther, IsLineWrite, IsItemIf, LineValue, line_value, line_of_data, line_with, body_lines, said_by, without_last}
+use Rattle.mvd_http.specs.declared.posted.Form.{Form}
+use Rattle.mvd_http.specs.Posted.{AreItems, IsFirstOther, IsLineItem, LineValue, line_of_data, line_with, body_lines, said_by, without_last}
 
 -- ---- the document of a line nests no deeper than the line
 
@@ -27,7 +28,7 @@ member_within : (k : List ℕ) (ms : Members) (e : Data) → get_member k ms ≡
 member_within k no_members e is = absurd cc
 member_within k (member l d ms) e is = found (slice_cmp nat_cmp k l) (get_member k ms) d e (members_depth ms) is (λ more. member_within k ms e more)
 
-within : (k : List ℕ) (d e : Data) → get k d ≡ Some e → depth e ≤ depth d
+pub within : (k : List ℕ) (d e : Data) → get k d ≡ Some e → depth e ≤ depth d
 within k null e is = absurd cc
 within k (boolean b) e is = absurd cc
 within k (number n) e is = absurd cc
@@ -52,28 +53,51 @@ nests_no_deeper line d is few v of_line =
 
 -- ---- the items so far, with one more
 
-items_more : (lines : List (List ℕ)) (items : List (Result Request Refusal)) (line : List ℕ) (item : Result Request Refusal) → AreLineWrites lines items → IsLineWrite (line_value line) item → AreLineWrites (lines ++ line ∷ []) (items ++ item ∷ [])
-items_more [] [] line item are is = (is, tt)
-items_more [] (i ∷ is) line item are it = absurd are
-items_more (l ∷ ls) [] line item are it = absurd are
-items_more (l ∷ ls) (i ∷ is) line item are it = (are.0, items_more ls is line item are.1 it)
+module _ (form : Form) where
+  items_more : (lines : List (List ℕ)) (items : List (Result Request Refusal)) (line : List ℕ) (item : Result Request Refusal) → AreItems form lines items → IsLineItem form line (Some item) → AreItems form (lines ++ line ∷ []) (items ++ item ∷ [])
+  items_more [] [] line item are is = (is, tt)
+  items_more [] (i ∷ is) line item are it = absurd are
+  items_more (l ∷ ls) [] line item are it = absurd are
+  items_more (l ∷ ls) (i ∷ is) line item are it = (are.0, items_more ls is line item are.1 it)
 
-pub one_more : (lines : List (List ℕ)) (n : ℕ) (items : List (Result Request Refusal)) (line : List ℕ) (item : Result Request Refusal) → (n < length lines) × (line ≡ get_or lines n line)
-    → AreLineWrites (take n lines) items → IsLineWrite (line_value line) item → AreLineWrites (take (n + 1) lines) (items ++ item ∷ [])
-one_more lines n items line item at are is =
-    subst (λ ls. AreLineWrites ls (items ++ item ∷ [])) (sym (take_more lines n line at.0 ∙ ap (λ l. take n lines ++ l ∷ []) (sym at.1)))
-    (items_more (take n lines) items line item are is)
+  pub one_more : (lines : List (List ℕ)) (n : ℕ) (items : List (Result Request Refusal)) (line : List ℕ) (item : Result Request Refusal) → (n < length lines) × (line ≡ get_or lines n line)
+      → AreItems form (take n lines) items → IsLineItem form line (Some item) → AreItems form (take (n + 1) lines) (items ++ item ∷ [])
+  one_more lines n items line item at are is =
+      subst (λ ls. AreItems form ls (items ++ item ∷ [])) (sym (take_more lines n line at.0 ∙ ap (λ l. take n lines ++ l ∷ []) (sym at.1)))
+      (items_more (take n lines) items line item are is)
 
-pub all_lines : (lines : List (List ℕ)) (n : ℕ) (items : List (Result Request Refusal)) → length lines ≤ n → AreLineWrites (take n lines) items → AreLineWrites lines items
-all_lines lines n items ended are = subst (λ ls. AreLineWrites ls items) (take_all n lines ended) are
+  pub all_lines : (lines : List (List ℕ)) (n : ℕ) (items : List (Result Request Refusal)) → length lines ≤ n → AreItems form (take n lines) items → AreItems form lines items
+  all_lines lines n items ended are = subst (λ ls. AreItems form ls items) (take_all n lines ended) are
+
+  -- as many items as lines
+  items_count : (lines : List (List ℕ)) (items : List (Result Request Refusal)) → AreItems form lines items → length items ≡ length lines
+  items_count [] [] are = refl
+  items_count [] (i ∷ is) are = absurd are
+  items_count (l ∷ ls) [] are = absurd are
+  items_count (l ∷ ls) (i ∷ is) are = ap suc (items_count ls is are.1)
+
+  there_at : (lines : List (List ℕ)) (n : ℕ) (line : List ℕ) → n < length lines → line ≡ get_or lines n line → slice_get lines n ≡ Some line
+  there_at [] n line within is = absurd (omega arith)
+  there_at (l ∷ ls) zero line within is = ap Some (sym is)
+  there_at (l ∷ ls) (suc n) line within is = there_at ls n line (omega arith) is
+
+  pub first_other : (lines : List (List ℕ)) (n told : ℕ) (items : List (Result Request Refusal)) (line : List ℕ) (item : Option (Result Request Refusal)) → (n < length lines) × (line ≡ get_or lines n line)
+      → AreItems form (take n lines) items → told ≡ length items + 1 → item ≡ None → IsLineItem form line item → IsFirstOther form lines told
+  first_other lines n told items line item at are is none other =
+      let count : length items ≡ n = items_count (take n lines) items are ∙ length-take-le n lines (omega (arith, at.0)) in
+      record {
+        before = n;
+        is_next = is ∙ ap (λ k. k + 1) count;
+        items = items;
+        are = are;
+        line = line;
+        there = there_at lines n line at.0 at.1;
+        other = subst (λ o. IsLineItem form line o) none other;
+      }
 
 -- where the next line is, in the one list of lines or the other
 pub at_line : (n : ℕ) (line : List ℕ) (parts lines : List (List ℕ)) → parts ≡ lines → (n < length parts) × (line ≡ get_or parts n line) → (n < length lines) × (line ≡ get_or lines n line)
 at_line n line parts lines same at = let P : List (List ℕ) → Type 0 = λ ls. (n < length ls) × (line ≡ get_or ls n line) in subst P same at
-
-pub other_line : (lines : List (List ℕ)) (n : ℕ) (line : List ℕ) (item : Option (Result Request Refusal)) → (n < length lines) × (line ≡ get_or lines n line) → item ≡ None → IsItemIf (line_value line) item → HasOther lines
-other_line lines n line item at none is =
-    let P : Option (Result Request Refusal) → Type 0 = λ o. IsItemIf (line_value line) o in (n, line, at.0, sym at.1, subst P none is)
 
 -- ---- the lines of a body that has some
 

@@ -1,5 +1,5 @@
 -- What a reply of a site is as a response: its status and its body, by what was asked (statuses of RFC 9110).
-use Rattle.std.specs.Prelude.{ℕ, ◌==◌, ◌≡◌, ◌++◌, ◌⊎◌, if◌then◌else◌, Bool, true, false, List, [], length, Option, Some, None, Result, Ok, Err}
+use Rattle.std.specs.Prelude.{ℕ, ◌==◌, ◌≡◌, ◌++◌, ◌⊎◌, if◌then◌else◌, Bool, true, false, List, [], length, Option, Some, None, Result, Ok, Err, ⊤}
 use Rattle.std.specs.FinMap.{entries}
 use Rattle.std.specs.FinSet as set
 use Rattle.mvd_dots.specs.Context.{DotSet}
@@ -13,8 +13,8 @@ use Rattle.mvd_wire.specs.declared.reply.RowValue.{RowValue}
 use Rattle.mvd_wire.specs.declared.reply.Reply.{Reply}
 use Rattle.mvd_wire.specs.declared.reply.Reply.TheVariants as reply
 use Rattle.mvd_wire.specs.declared.request.Request.{Request}
-use Rattle.mvd_wire.specs.declared.request.Request.TheVariants.{Get, Put, Row}
-use Rattle.mvd_http.specs.Json.{state_json, written_json, places_json, rows_text, keys_json, counts_text, live_text, row_json, node_text, misread_json, refused_json}
+use Rattle.mvd_wire.specs.declared.request.Request.TheVariants.{Bucket, Get, Node, Put, Row}
+use Rattle.mvd_http.specs.Json.{bucket_line, counts_text, keys_json, later_json, later_line, live_text, node_line, misread_json, node_text, places_json, refused_json, row_json, rows_text, state_json, written_json}
 
 -- a status and a body
 pub record Told : Type 0 where
@@ -106,6 +106,50 @@ reply_told request (reply.Refused refusal) = Err refusal
 abbrev pub live_told : Request → Reply → Result Told Refusal
 live_told request (reply.Counts keys more) = Ok (ok_told (live_text keys more))
 live_told request reply = reply_told request reply
+
+-- ---- lines of a list of questions
+
+-- the line of the reply to a question: a node and the keys of a bucket with their path, and a key's state as it is told
+-- alone. A reply of another kind is 32
+abbrev pub refusal_in : Reply → Refusal
+refusal_in (reply.Refused refusal) = refusal
+refusal_in _ = BadKind
+
+abbrev pub state_line : Key → Reply → Result (List ℕ) Refusal
+state_line key (reply.State state) = Ok (state_json key state)
+state_line key told = Err (refusal_in told)
+
+abbrev pub digests_line : List ℕ → Reply → Result (List ℕ) Refusal
+digests_line path (reply.Digests digests) = Ok (node_line path digests.own digests.children)
+digests_line path told = Err (refusal_in told)
+
+abbrev pub keys_line : List ℕ → Reply → Result (List ℕ) Refusal
+keys_line path (reply.Keys keys more) = Ok (bucket_line path keys more)
+keys_line path told = Err (refusal_in told)
+
+abbrev pub line_told : Request → Reply → Result (List ℕ) Refusal
+line_told (Get key) told = state_line key told
+line_told (Node path) told = digests_line path told
+line_told (Bucket path after) told = keys_line path told
+line_told _ told = Err (refusal_in told)
+
+-- what is told in its place where much is told, if anything
+abbrev pub later_told : Request → Option (List ℕ)
+later_told (Get key) = Some (later_json key)
+later_told (Bucket path after) = Some (later_line path)
+later_told _ = None
+
+-- the text came behind another; a refusal is given back, and so is want of memory
+abbrev pub AppendsText : Result (List ℕ) Refusal → List ℕ → List ℕ → Result ⊤ Refusal → Type 0
+AppendsText (Ok text) old new (Ok _) = new ≡ old ++ text
+AppendsText (Ok text) old new (Err refusal) = refusal ≡ Memory
+AppendsText (Err refusal) old new result = result ≡ Err refusal
+
+-- the same of a text that there may be, and whether there is one
+abbrev pub AppendsIf : Option (List ℕ) → List ℕ → List ℕ → Result Bool Refusal → Type 0
+AppendsIf text old new (Err refusal) = refusal ≡ Memory
+AppendsIf (Some text) old new (Ok told) = (told ≡ true) × (new ≡ old ++ text)
+AppendsIf None old new (Ok told) = (told ≡ false) × (new ≡ old)
 
 -- ---- what is told
 

@@ -1,11 +1,9 @@
 -- What a request of HTTP asks, this repository's own: of the site, or of the server. It is read from left to right: the
 -- first refusal decides.
-use Rattle.std.specs.Prelude.{ℕ, ◌-◌, ◌==◌, ◌^◌, ◌≡◌, ◌&&◌, nat_lt, nat_le, if◌then◌else◌, Bool, true, false, List, [], ◌∷◌, codes, length, map, Option, Some, None, Result, Ok, Err}
+use Rattle.std.specs.Prelude.{ℕ, ◌-◌, ◌==◌, ◌≡◌, ◌&&◌, ◌||◌, nat_lt, nat_le, not, if◌then◌else◌, Bool, true, false, List, [], ◌∷◌, codes, length, map, Option, Some, None, Result, Ok, Err}
 use Rattle.std.specs.FinSet as set
-use Rattle.std.specs.Char.{is_ascii_digit}
-use Rattle.std.specs.List.{list_all}
+use Rattle.std.specs.List.{slice_split}
 use Rattle.std.specs.Str.{bytes_eq}
-use Rattle.std.specs.Str.Parse.{digits_value}
 use Rattle.hex.specs.Hex.{decode_sized}
 use Rattle.hex.specs.declared.error.FromHexError.{FromHexError}
 use Rattle.percent_encoding.specs.Percent.{percent_decode}
@@ -13,7 +11,7 @@ use Rattle.mvd_dots.specs.Answer.{IsAnswer}
 use Rattle.mvd_dots.specs.Context.{DotSet}
 use Rattle.mvd_dots.specs.Dot.{DotValue}
 use Rattle.mvd_dots.specs.declared.refusals.Refusal.{Refusal}
-use Rattle.mvd_dots.specs.declared.refusals.Refusal.TheVariants.{BadBody, BadContext, BadDocument, BadKey, BadTerm, NoIndex, NoView}
+use Rattle.mvd_dots.specs.declared.refusals.Refusal.TheVariants.{BadBody, BadContext, BadDocument, BadKey, BadPath, BadTerm, NoIndex, NoView}
 use Rattle.mvd_docs.specs.Document.{document_of}
 use Rattle.mvd_docs.specs.Name.{field_of, view_name_of}
 use Rattle.mvd_docs.specs.Term.{term_of_json}
@@ -27,12 +25,15 @@ use Rattle.mvd_wire.specs.Prefix.{prefix_of_text}
 use Rattle.mvd_wire.specs.declared.request.Request.{Request}
 use Rattle.mvd_wire.specs.declared.request.Request.TheVariants.{Get, Put, Delete, Row, Rows, Node, Bucket, Range, Keys, Conflicts}
 use Rattle.mvd_http.specs.declared.question.Question.{Question}
-use Rattle.mvd_http.specs.declared.question.Question.TheVariants.{Page, Root, Metrics, Health, Ask, Live, Changes, Misread, Nowhere, NotAllowed}
-use Rattle.mvd_http.specs.declared.question.Methods.TheVariants.{OfKey, OfKeys, OfList}
+use Rattle.mvd_http.specs.declared.question.Question.TheVariants.{Page, Root, Metrics, Health, Ask, Asks, Live, Changes, Misread, Nowhere, NotAllowed, TooLong}
+use Rattle.mvd_http.specs.declared.posted.Form.{Form}
+use Rattle.mvd_http.specs.declared.posted.Form.TheVariants as form
+use Rattle.mvd_http.specs.declared.question.Methods.TheVariants.{OfKey, OfKeys, OfList, OfPost}
 use Rattle.mvd_http.specs.declared.question.Verb.{Verb}
 use Rattle.mvd_http.specs.declared.question.Verb.TheVariants as verb
 use Rattle.mvd_http.specs.Paths.{text_before, text_behind, given, read_part, read_text, without, without_end}
-use Rattle.mvd_http.specs.Posted.{IsMany}
+use Rattle.mvd_http.specs.Dots.{dot_in, number_in}
+use Rattle.mvd_http.specs.Posted.{IsList}
 use Rattle.mvd_http.specs.Seen.{IsWrite, then_read}
 
 -- a refusal in place of another
@@ -73,21 +74,6 @@ if_given read [] = Ok None
 if_given read (b ∷ bs) = then_read (read (b ∷ bs)) (λ value. Ok (Some value))
 
 -- ---- the text of a place: `SITE:COUNTER KEY TERM`
-
--- the number of at most 15 decimal digits
-abbrev pub number_in : List ℕ → Option ℕ
-number_in text =
-    if list_all is_ascii_digit text && nat_lt 0 (length text)
-    && nat_le (length text) 15 then Some (digits_value 10 text) else None
-
-abbrev pub dot_of : Option ℕ → Option ℕ → Result DotValue Refusal
-dot_of (Some site) (Some counter) =
-    if nat_lt 0 site && nat_lt site (2 ^ 32) && nat_lt 0 counter && nat_lt counter (2 ^ 48)
-    then Ok (record { site = site; counter = counter }) else Err BadBody
-dot_of _ _ = Err BadBody
-
-abbrev pub dot_in : List ℕ → Result DotValue Refusal
-dot_in text = dot_of (number_in (text_before 58 text)) (number_in (text_behind 58 text))
 
 abbrev pub place_asked : DotValue → List ℕ → Result Place Refusal
 place_asked dot rest =
@@ -166,8 +152,28 @@ under_path path query =
     then then_read (if_given key_in (given (codes "after=") query)) (λ after. Ok (Ask (Bucket path after)))
     else Ok (Ask (Node path))
 
+abbrev pub node_or_keys : List ℕ → Request
+node_or_keys path = if length path == 3 then Bucket path None else Node path
+
+-- what is asked of these paths, from the first on
+unfoldable pub paths_asked : List (List ℕ) → Result (List (Result Request Refusal)) Refusal
+paths_asked [] = Ok []
+paths_asked (text ∷ texts) =
+    then_read (path_of (map digit_in text)) (λ path.
+    then_read (paths_asked texts) (λ asks. Ok (Ok (node_or_keys path) ∷ asks)))
+
+-- at most 64 of them
+abbrev pub few_paths : List (List ℕ) → Result Question Refusal
+few_paths texts =
+    if nat_lt 64 (length texts) then Err BadPath else then_read (paths_asked texts) (λ asks. Ok (Asks asks))
+
+-- parted by `,` (44)
+abbrev pub paths_or : List ℕ → List ℕ → Result Question Refusal
+paths_or [] query = then_read (path_asked (given (codes "path=") query)) (λ path. under_path path query)
+paths_or (b ∷ bs) query = few_paths (slice_split (λ c. c == 44) (percent_decode (b ∷ bs)))
+
 abbrev pub tree_asked : List ℕ → Result Question Refusal
-tree_asked query = then_read (path_asked (given (codes "path=") query)) (λ path. under_path path query)
+tree_asked query = paths_or (given (codes "paths=") query) query
 
 -- `live=1` leaves out keys without a sibling
 abbrev pub keys_as : Bool → Request → Question
@@ -238,10 +244,30 @@ IsQuestionOfKey verb.Other key context body result = result ≡ Ok (NotAllowed O
 -- all keys: their list, or many writes
 abbrev pub IsOfKeys : Verb → List ℕ → List ℕ → Result Question Refusal → Type 0
 IsOfKeys verb.Read query body result = IsAnswer result (keys_question query)
-IsOfKeys verb.Post query body result = IsMany body result
+IsOfKeys verb.Post query body result = IsList form.Writes body result
 IsOfKeys verb.Put query body result = result ≡ Ok (NotAllowed OfKeys)
 IsOfKeys verb.Delete query body result = result ≡ Ok (NotAllowed OfKeys)
 IsOfKeys verb.Other query body result = result ≡ Ok (NotAllowed OfKeys)
+
+-- ---- lists that are sent
+
+-- to which paths, beside that of all keys
+abbrev pub form_at : List ℕ → Option Form
+form_at path =
+    if bytes_eq path (codes "/get") then Some form.Keys else (
+    if bytes_eq path (codes "/push") then Some form.States else None)
+
+abbrev pub IsOfList : Form → Verb → List ℕ → Result Question Refusal → Type 0
+IsOfList f verb.Post body result = IsList f body result
+IsOfList f _ body result = result ≡ Ok (NotAllowed OfPost)
+
+-- to which of them writes or states are
+abbrev pub takes_changes : List ℕ → Bool
+takes_changes path = bytes_eq path (codes "/keys") || bytes_eq path (codes "/push")
+
+-- these may have 2,097,152 bytes, which no body exceeds; each other body has at most 1,048,576
+abbrev pub is_too_long : List ℕ → List ℕ → Bool
+is_too_long path body = nat_lt 1048576 (length body) && not (takes_changes path)
 
 -- ---- requests
 
@@ -262,14 +288,23 @@ abbrev pub IsOfServer : Bool → Verb → List ℕ → List ℕ → List ℕ →
 IsOfServer true verb path query body result = IsOfKeys verb query body result
 IsOfServer false verb path query body result = IsAnswer result (read_only verb path query)
 
+abbrev pub IsOfPath : Option Form → Verb → List ℕ → List ℕ → List ℕ → Result Question Refusal → Type 0
+IsOfPath None verb path query body result =
+    IsOfServer (bytes_eq path (codes "/keys")) verb path query body result
+IsOfPath (Some f) verb path query body result = IsOfList f verb body result
+
 abbrev pub IsQuestionOf : Option (List ℕ) → Verb → List ℕ → List ℕ → Option (List ℕ) → List ℕ → Result Question Refusal
     → Type 0
-IsQuestionOf None verb path query context body result =
-    IsOfServer (bytes_eq path (codes "/keys")) verb path query body result
+IsQuestionOf None verb path query context body result = IsOfPath (form_at path) verb path query body result
 IsQuestionOf (Some key) verb path query context body result = IsQuestionOfKey verb key context body result
+
+abbrev pub IsQuestionIf : Bool → Verb → List ℕ → List ℕ → Option (List ℕ) → List ℕ → Result Question Refusal → Type 0
+IsQuestionIf true verb path query context body result = result ≡ Ok TooLong
+IsQuestionIf false verb path query context body result =
+    IsQuestionOf (without (codes "/keys/") path) verb path query context body result
 
 -- a request of this method, target, field `Mvd-Context` and body asks this
 abbrev pub IsQuestion : List ℕ → List ℕ → Option (List ℕ) → List ℕ → Result Question Refusal → Type 0
 IsQuestion method target context body result =
-    IsQuestionOf (without (codes "/keys/") (text_before 63 target)) (verb_of method) (text_before 63 target)
+    IsQuestionIf (is_too_long (text_before 63 target) body) (verb_of method) (text_before 63 target)
     (text_behind 63 target) context body result

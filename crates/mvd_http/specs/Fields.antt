@@ -5,7 +5,7 @@ use Rattle.mvd_http.specs.declared.fields.Answer.{Answer}
 use Rattle.mvd_http.specs.declared.fields.Content.{Content}
 use Rattle.mvd_http.specs.declared.fields.Content.TheVariants.{Nothing, Json, Lines, Html, Plain}
 use Rattle.mvd_http.specs.declared.question.Methods.{Methods}
-use Rattle.mvd_http.specs.declared.question.Methods.TheVariants.{OfKey, OfKeys, OfList}
+use Rattle.mvd_http.specs.declared.question.Methods.TheVariants.{OfKey, OfKeys, OfList, OfPost}
 
 -- what a page of the server may load and run: its own script and style, by their digests, and requests to the server
 abbrev pub policy : List ℕ
@@ -36,6 +36,7 @@ abbrev pub names : Methods → List ℕ
 names OfList = codes "GET, HEAD"
 names OfKeys = codes "GET, HEAD, POST"
 names OfKey = codes "GET, HEAD, PUT, DELETE"
+names OfPost = codes "POST"
 
 abbrev pub allow_of : Option Methods → List (List ℕ × List ℕ)
 allow_of None = []

@@ -1,5 +1,5 @@
 -- The JSON that replies are told in (RFC 8259), this repository's own form.
-use Rattle.std.specs.Prelude.{ℕ, ℤ, ◌-◌, ◌++◌, nat_lt, Bool, true, false, List, [], ◌∷◌, codes, length, filter, Option, Some, None, option_map}
+use Rattle.std.specs.Prelude.{ℕ, ℤ, ◌+◌, ◌-◌, ◌++◌, nat_lt, if◌then◌else◌, Bool, true, false, List, [], ◌∷◌, codes, length, filter, map, Option, Some, None, option_map}
 use Rattle.std.specs.Fmt.{decimal, signed_decimal}
 use Rattle.std.specs.List.{flat_map, slice_get}
 use Rattle.std.specs.FinMap.{entries}
@@ -205,3 +205,35 @@ write_text _ = refused_json BadKind
 
 abbrev pub line_text : Reply → List ℕ
 line_text reply = write_text reply ++ 10 ∷ []
+
+-- ---- the lines that many questions are told in
+
+-- a node's path, as its digits
+abbrev pub digit_letter : ℕ → ℕ
+digit_letter digit = if nat_lt digit 10 then digit + 48 else digit + 87
+
+abbrev pub path_json : List ℕ → List ℕ
+path_json path = codes "{\"path\":\"" ++ (map digit_letter path ++ codes "\",")
+
+-- a node with its path, and a page of a bucket's keys with its path
+abbrev pub node_line : List ℕ → List ℕ → Option (List (List ℕ)) → List ℕ
+node_line path own children =
+    path_json path ++ (codes "\"digest\":" ++ (digest_json own ++ (children_text children ++ codes "}")))
+
+abbrev pub bucket_line : List ℕ → List (Key × List ℕ) → Bool → List ℕ
+bucket_line path keys more =
+    path_json path
+    ++ (codes "\"keys\":["
+    ++ (commaed key_digest_text keys ++ (codes "]" ++ (next_text (next_text_of key_mark more keys) ++ codes "}"))))
+
+-- where much is told: the state of a key is to be asked again, and so is the first page of a bucket
+abbrev pub later_json : Key → List ℕ
+later_json key = codes "{\"key\":" ++ (quoted key ++ codes ",\"later\":true}")
+
+abbrev pub later_line : List ℕ → List ℕ
+later_line path = path_json path ++ codes "\"keys\":[],\"next\":\"\"}"
+
+-- ---- a list with a line of another form
+
+abbrev pub bad_line_json : ℕ → List ℕ
+bad_line_json line = codes "{\"refused\":33,\"name\":\"BadBody\",\"line\":" ++ (decimal line ++ codes "}")

@@ -1,5 +1,8 @@
 pub mod Paths
 pub mod Seen
+pub mod Dots
+pub mod Members
+pub mod Pushed
 pub mod Posted
 pub mod Asked
 pub mod Json

@@ -1,28 +1,36 @@
--- A list of writes, this repository's own: lines of JSON (RFC 8259), each an object with `key`, and `context` or
--- `document` or both.
-use Rattle.std.specs.Prelude.{ℕ, ◌+◌, ◌==◌, ◌≡◌, ◌≢◌, ◌≤◌, ◌<◌, ◌&&◌, nat_lt, if◌then◌else◌, List, [], ◌∷◌, codes, length, Any, Option, Some, None, option_copied, option_map, option_and_then, unwrap_or, Result, Ok, Err}
+-- Lists that are sent, this repository's own: lines of JSON (RFC 8259). Of `/keys` each is a write, an object with
+-- `key`, and `context` or `document` or both. Of `/get` each is a key, as a text. Of `/push` each is a state
+-- (`Pushed.antt`).
+use Rattle.std.specs.Prelude.{ℕ, ◌+◌, ◌==◌, ◌≡◌, ◌≢◌, ◌≤◌, ◌<◌, ◌&&◌, nat_lt, if◌then◌else◌, Bool, true, false, List, [], ◌∷◌, codes, length, take, Option, Some, None, option_copied, option_map, option_and_then, unwrap_or, Result, Ok, Err}
 use Rattle.std.specs.FinSet as set
-use Rattle.std.specs.List.{slice_split}
+use Rattle.std.specs.List.{slice_get, slice_split}
 use Rattle.std.specs.Str.{is_utf8}
-use Rattle.serde_json.specs.Data.{Data, Members, no_members, member}
+use Rattle.serde_json.specs.Data.{Data}
 use Rattle.serde_json.specs.Find.{as_object, as_str, get}
 use Rattle.serde_json.specs.Read.{read}
 use Rattle.serde_json.specs.View.{view}
+use Rattle.mvd_dots.specs.Answer.{IsAnswer}
 use Rattle.mvd_dots.specs.Context.{DotSet}
 use Rattle.mvd_dots.specs.declared.refusals.Refusal.{Refusal}
-use Rattle.mvd_dots.specs.declared.refusals.Refusal.TheVariants.{BadBody, Memory}
+use Rattle.mvd_dots.specs.declared.refusals.Refusal.TheVariants.{Memory}
 use Rattle.mvd_docs.specs.Document.{document_of_data}
 use Rattle.mvd_keys.specs.Key.{key_of_text}
 use Rattle.mvd_keys.specs.Writes.{Key}
 use Rattle.mvd_wire.specs.declared.request.Request.{Request}
-use Rattle.mvd_wire.specs.declared.request.Request.TheVariants.{Put, Delete}
+use Rattle.mvd_wire.specs.declared.request.Request.TheVariants.{Get, Put, Delete}
+use Rattle.mvd_http.specs.declared.posted.Form.{Form}
+use Rattle.mvd_http.specs.declared.posted.Form.TheVariants.{Writes, Keys, States}
 use Rattle.mvd_http.specs.declared.posted.Line.{Line}
+use Rattle.mvd_http.specs.declared.posted.Listed.{Listed}
+use Rattle.mvd_http.specs.declared.posted.Listed.TheVariants as listed
 use Rattle.mvd_http.specs.declared.question.Question.{Question}
-use Rattle.mvd_http.specs.declared.question.Question.TheVariants.{Many, TooManyLines}
+use Rattle.mvd_http.specs.declared.question.Question.TheVariants.{Asks, BadLine, Many, TooLong}
+use Rattle.mvd_http.specs.Members.{member_count_of, one_if, text_if}
 use Rattle.mvd_http.specs.Paths.{without_end}
+use Rattle.mvd_http.specs.Pushed.{IsPushOf, state_line_of}
 use Rattle.mvd_http.specs.Seen.{IsWrite, then_read}
 
--- ---- the form of a line
+-- ---- the form of a write
 
 -- what a line says: a put has a document, and may have a context; a delete has a context alone
 pub record LineValue : Type 0 where
@@ -38,23 +46,6 @@ said_by line =
       document = option_map (λ v. view v.now) line.document;
     }
 
-abbrev pub member_count : Members → ℕ
-member_count no_members = 0
-member_count (member name d ms) = member_count ms + 1
-
-abbrev pub member_count_of : Option Members → ℕ
-member_count_of None = 0
-member_count_of (Some ms) = member_count ms
-
-abbrev pub one_if : {A : Type 0} → Option A → ℕ
-one_if None = 0
-one_if (Some value) = 1
-
--- nothing where there is no such member, and its text where it is one
-abbrev pub text_if : Option Data → Option (Option (List ℕ))
-text_if None = Some None
-text_if (Some d) = option_map Some (as_str d)
-
 -- an object of so many members: a text and one of the others, or both, are all that it has
 abbrev pub line_with : ℕ → Option (List ℕ) → Option (Option (List ℕ)) → Option Data → Option LineValue
 line_with count (Some key) (Some context) document =
@@ -68,14 +59,7 @@ line_of_data d =
     line_with (member_count_of (as_object d)) (option_and_then as_str (get (codes "key") d))
     (text_if (get (codes "context") d)) (get (codes "document") d)
 
-abbrev pub line_of_read : Option Data → Option LineValue
-line_of_read d = option_and_then line_of_data d
-
--- what a line says, or that it has another form
-unfoldable pub line_value : List ℕ → Option LineValue
-line_value text = if is_utf8 text then line_of_read (read text) else None
-
--- ---- what it asks
+-- ---- what a line asks
 
 abbrev pub write_of : Option Data → Key → DotSet → Result Request Refusal
 write_of None key seen = Ok (Delete key seen)
@@ -84,29 +68,59 @@ write_of (Some d) key seen = then_read (document_of_data d) (λ document. Ok (Pu
 abbrev pub IsWriteOf : LineValue → Result Request Refusal → Type 0
 IsWriteOf line item = IsWrite (Ok set.empty) (key_of_text line.key) line.context (write_of line.document) item
 
--- the write that a line asks for, or why it is refused; want of memory is no line's own
-abbrev pub IsLineWrite : Option LineValue → Result Request Refusal → Type 0
-IsLineWrite None item = ⊥
-IsLineWrite (Some line) item = IsWriteOf line item × (item ≢ Err Memory)
+abbrev pub IsGetOf : List ℕ → Result Request Refusal → Type 0
+IsGetOf text item = IsAnswer item (then_read (key_of_text text) (λ key. Ok (Get key)))
+
+-- what a line asks, or why it is refused, where it has the form
+abbrev pub IsReadIf : {L : Type 0} → (L → Result Request Refusal → Type 0) → Option L
+    → Option (Result Request Refusal) → Type 0
+IsReadIf Is line None = line ≡ None
+IsReadIf Is None (Some item) = ⊥
+IsReadIf Is (Some line) (Some item) = Is line item
+
+-- the same; want of memory is no line's own
+abbrev pub IsItemIf : {L : Type 0} → (L → Result Request Refusal → Type 0) → Option L
+    → Option (Result Request Refusal) → Type 0
+IsItemIf Is line item = IsReadIf Is line item × (item ≢ Some (Err Memory))
+
+abbrev pub IsItemOf : Form → Data → Option (Result Request Refusal) → Type 0
+IsItemOf Writes d item = IsItemIf IsWriteOf (line_of_data d) item
+IsItemOf Keys d item = IsItemIf IsGetOf (as_str d) item
+IsItemOf States d item = IsItemIf IsPushOf (state_line_of d) item
+
+abbrev pub IsItemRead : Form → Option Data → Option (Result Request Refusal) → Type 0
+IsItemRead form None item = item ≡ None
+IsItemRead form (Some d) item = IsItemOf form d item
+
+-- what a text asks, where it is one
+abbrev pub IsItemOfText : Bool → Form → List ℕ → Option (Result Request Refusal) → Type 0
+IsItemOfText true form text item = IsItemRead form (read text) item
+IsItemOfText false form text item = item ≡ None
+
+-- what a line of a list of this form asks, or that it has another form
+unfoldable pub IsLineItem : Form → List ℕ → Option (Result Request Refusal) → Type 0
+IsLineItem form text item = IsItemOfText (is_utf8 text) form text item
 
 -- that of each line, in order
-abbrev pub AreLineWrites : List (List ℕ) → List (Result Request Refusal) → Type 0
-AreLineWrites [] [] = Unit {0}
-AreLineWrites [] (item ∷ items) = ⊥
-AreLineWrites (line ∷ lines) [] = ⊥
-AreLineWrites (line ∷ lines) (item ∷ items) = IsLineWrite (line_value line) item × AreLineWrites lines items
+abbrev pub AreItems : Form → List (List ℕ) → List (Result Request Refusal) → Type 0
+AreItems form [] [] = Unit {0}
+AreItems form [] (item ∷ items) = ⊥
+AreItems form (line ∷ lines) [] = ⊥
+AreItems form (line ∷ lines) (item ∷ items) = IsLineItem form line (Some item) × AreItems form lines items
 
--- or that there is none, or one has none
-abbrev pub IsItemIf : Option LineValue → Option (Result Request Refusal) → Type 0
-IsItemIf line None = line ≡ None
-IsItemIf line (Some item) = IsLineWrite line item
+-- the line of this number is the first that has another form
+pub record IsFirstOther (form : Form) (lines : List (List ℕ)) (number : ℕ) : Type 0 where
+  pub before : ℕ
+  pub is_next : number ≡ before + 1
+  pub items : List (Result Request Refusal)
+  pub are : AreItems form (take before lines) items
+  pub line : List ℕ
+  pub there : slice_get lines before ≡ Some line
+  pub other : IsLineItem form line None
 
-abbrev pub HasOther : List (List ℕ) → Type 0
-HasOther lines = Any (λ line. line_value line ≡ None) lines
-
-abbrev pub AreItemsIf : List (List ℕ) → Option (List (Result Request Refusal)) → Type 0
-AreItemsIf lines None = HasOther lines
-AreItemsIf lines (Some items) = AreLineWrites lines items
+abbrev pub IsListed : Form → List (List ℕ) → Listed → Type 0
+IsListed form lines (listed.Items items) = AreItems form lines items.items
+IsListed form lines (listed.Other number) = IsFirstOther form lines number
 
 -- ---- the lines of a body
 
@@ -120,10 +134,20 @@ body_lines body = if length body == 0 then [] else slice_split (λ b. b == 10) (
 abbrev pub AreFewLines : List ℕ → Type 0
 AreFewLines body = length (body_lines body) ≤ 1000
 
--- Each line is a write or its refusal, where there are at most 1,000 and each has the form of one. Else nothing is
--- done.
-abbrev pub IsMany : List ℕ → Result Question Refusal → Type 0
-IsMany body (Ok (Many items)) = AreFewLines body × AreLineWrites (body_lines body) items
-IsMany body (Ok TooManyLines) = 1000 < length (body_lines body)
-IsMany body (Ok _) = ⊥
-IsMany body (Err refusal) = refusal ≢ Memory → (refusal ≡ BadBody) × AreFewLines body × HasOther (body_lines body)
+-- whether the lines only ask
+abbrev pub only_asks : Form → Bool
+only_asks Writes = false
+only_asks Keys = true
+only_asks States = false
+
+-- Each line is what is asked or its refusal, where there are at most 1,000 and each has the form of one. Else the site
+-- is asked nothing.
+abbrev pub IsList : Form → List ℕ → Result Question Refusal → Type 0
+IsList form body (Ok (Many items)) =
+    (only_asks form ≡ false) × AreFewLines body × AreItems form (body_lines body) items
+IsList form body (Ok (Asks items)) =
+    (only_asks form ≡ true) × AreFewLines body × AreItems form (body_lines body) items
+IsList form body (Ok (BadLine number)) = AreFewLines body × IsFirstOther form (body_lines body) number
+IsList form body (Ok TooLong) = 1000 < length (body_lines body)
+IsList form body (Ok _) = ⊥
+IsList form body (Err refusal) = refusal ≡ Memory

@@ -1,7 +1,6 @@
 -- Which requests of HTTP ask for a change.
-use Rattle.std.specs.Prelude.{ℕ, Bool, true, false, List, codes}
-use Rattle.std.specs.Str.{bytes_eq}
-use Rattle.mvd_http.specs.Asked.{verb_of}
+use Rattle.std.specs.Prelude.{ℕ, Bool, true, false, List}
+use Rattle.mvd_http.specs.Asked.{takes_changes, verb_of}
 use Rattle.mvd_http.specs.Paths.{text_before}
 use Rattle.mvd_http.specs.declared.question.Verb.{Verb}
 use Rattle.mvd_http.specs.declared.question.Verb.TheVariants.{Read, Put, Delete, Post, Other}
@@ -9,7 +8,7 @@ use Rattle.mvd_http.specs.declared.question.Verb.TheVariants.{Read, Put, Delete,
 abbrev pub is_write_by : Verb → List ℕ → Bool
 is_write_by Put path = true
 is_write_by Delete path = true
-is_write_by Post path = bytes_eq path (codes "/keys")
+is_write_by Post path = takes_changes path
 is_write_by Read path = false
 is_write_by Other path = false
 

@@ -8,22 +8,27 @@ ghost use Rattle.mvd_docs.specs.Document.{document_of};
 ghost use Rattle.mvd_print.specs.Place.{fault_json};
 ghost use Rattle.mvd_http.specs.declared.question.Question.TheVariants.{Ask, Misread};
 ghost use Rattle.mvd_wire.specs.declared.request.Request.TheVariants.{Get};
-ghost use Rattle.mvd_http.specs.Asked.{key_in as key_read, IsQuestionOf, IsQuestionOfKey, IsOfKeys, IsOfServer, IsQuestion};
-ghost use Rattle.mvd_http.specs.Asked.{delete_question as deletes, put_or_place, put_question as puts};
-ghost use Rattle.mvd_http.specs.Asked.{read_only as only_read, verb_of as verb_read};
+ghost use Rattle.mvd_http.specs.Asked.{key_in as key_read, IsQuestionOf, IsQuestionOfKey, IsOfKeys, IsOfList};
+ghost use Rattle.mvd_http.specs.Asked.{IsOfPath, IsOfServer, IsQuestion, form_at as form_told, is_too_long as too_long};
+ghost use Rattle.mvd_http.specs.Asked.{delete_question as deletes, put_or_place};
+ghost use Rattle.mvd_http.specs.Asked.{put_question as puts, read_only as only_read, verb_of as verb_read};
 ghost use Rattle.mvd_http.specs.Seen.{IsContext, IsSeen, IsWrite, then_read};
 
 use crate::lists_asked::{keys_of, list_of};
-use crate::posted::many_of;
+use crate::posted::{Form, listed_in};
 use crate::question::{Methods, Question, Verb};
 use crate::target::{before, behind, without};
 use crate::target_parts::key_in;
+use crate::writing::is_list_of_changes;
 use mvd_docs::Document;
 use mvd_dots::{Context, Refusal};
 use mvd_keys::Key;
 use mvd_print::FaultPlace;
 use mvd_wire::Request;
 use std::alloc::Global;
+
+/// The most bytes of a body that is no list of writes or states.
+const MOST_BYTES: usize = 1_048_576;
 
 /// What a request asks that has this method, this target, this field `Mvd-Context`, if any, and this body.
 pub fn question_of(
@@ -38,10 +43,20 @@ pub fn question_of(
     let path = before(target, b'?');
     let query = behind(target, b'?');
     let verb = verb_of(method);
+    if is_too_long(path, body) {
+        return Ok(Question::TooLong);
+    }
     match without(path, b"/keys/") {
         Some(key) => of_key(alloc, verb, key, context, body),
-        None => of_server(alloc, verb, path, query, body),
+        None => of_path(alloc, verb, path, query, body),
     }
+}
+
+/// Whether a body is longer than it may be there. None has more bytes than writes and states may have.
+fn is_too_long(path: &[u8], body: &[u8]) -> bool
+    ensures { result ≡ too_long path.now body.now }
+{
+    body.len() > MOST_BYTES && !is_list_of_changes(path)
 }
 
 pub(crate) fn verb_of(method: &[u8]) -> Verb
@@ -175,6 +190,45 @@ fn context_of(alloc: Global, text: &[u8]) -> Result<Context, Refusal>
 }
 
 /// What is asked by a path that names no key.
+fn of_path(
+    alloc: Global,
+    verb: Verb,
+    path: &[u8],
+    query: &[u8],
+    body: &[u8],
+) -> Result<Question, Refusal>
+    ensures { IsOfPath (form_told path.now) verb path.now query.now body.now result }
+{
+    match form_at(path) {
+        Some(form) => of_list(alloc, form, verb, body),
+        None => of_server(alloc, verb, path, query, body),
+    }
+}
+
+/// What the lines are that are sent to a path, if it is of a list alone.
+fn form_at(path: &[u8]) -> Option<Form>
+    ensures { result ≡ form_told path.now }
+{
+    if path == b"/get".as_slice() {
+        return Some(Form::Keys);
+    }
+    if path == b"/push".as_slice() {
+        return Some(Form::States);
+    }
+    None
+}
+
+/// What is asked by a list.
+fn of_list(alloc: Global, form: Form, verb: Verb, body: &[u8]) -> Result<Question, Refusal>
+    ensures { IsOfList form verb body.now result }
+{
+    match verb {
+        Verb::Post => listed_in(alloc, form, body),
+        _ => Ok(Question::NotAllowed(Methods::OfPost)),
+    }
+}
+
+/// What is asked of the server, or of a list of the site.
 fn of_server(
     alloc: Global,
     verb: Verb,
@@ -196,7 +250,7 @@ fn of_keys(alloc: Global, verb: Verb, query: &[u8], body: &[u8]) -> Result<Quest
 {
     match verb {
         Verb::Read => keys_of(alloc, query),
-        Verb::Post => many_of(alloc, body),
+        Verb::Post => listed_in(alloc, Form::Writes, body),
         _ => Ok(Question::NotAllowed(Methods::OfKeys)),
     }
 }

@@ -119,6 +119,7 @@ fn names_of(methods: Methods) -> HeaderValue
         Methods::OfList => HeaderValue::from_static("GET, HEAD"),
         Methods::OfKeys => HeaderValue::from_static("GET, HEAD, POST"),
         Methods::OfKey => HeaderValue::from_static("GET, HEAD, PUT, DELETE"),
+        Methods::OfPost => HeaderValue::from_static("POST"),
     }
 }
 

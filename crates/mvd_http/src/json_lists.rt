@@ -182,7 +182,7 @@ fn push_more_keys(alloc: Global, out: &mut String, keys: &[KeyDigest]) -> Result
     Ok(())
 }
 
-fn push_keys(alloc: Global, out: &mut String, keys: &[KeyDigest]) -> Result<(), Refusal>
+pub fn push_keys(alloc: Global, out: &mut String, keys: &[KeyDigest]) -> Result<(), Refusal>
     ensures text { OnOk result (string_bytes out.new ≡ string_bytes out.old ++ commaed key_digest_text keys.now) }
     ensures memory { IsOkUnless result Refusal.Memory }
 {
@@ -256,7 +256,7 @@ fn push_row_next(
     push_next(alloc, out, text.as_str())
 }
 
-fn push_key_next(
+pub fn push_key_next(
     alloc: Global,
     out: &mut String,
     keys: &[KeyDigest],

@@ -11,17 +11,20 @@ mod json_words;
 mod line_told;
 mod lists_asked;
 mod live_told;
+mod members;
 mod not_waited;
 mod open_to_all;
 mod page;
 mod place;
 mod posted;
+mod pushed;
 pub mod question;
 mod responses;
 mod server_told;
 mod since;
 mod target;
 mod target_parts;
+mod told_lines;
 mod writing;
 
 pub use asked::question_of;
@@ -34,6 +37,9 @@ pub use not_waited::push_not_waited;
 pub use open_to_all::is_open_to_all;
 pub use page::PAGE;
 pub use question::{Methods, Question, Verb};
-pub use responses::{misread_response, refused_response, refused_status, response_of};
+pub use responses::{
+    misread_response, push_refused, refused_response, refused_status, response_of,
+};
 pub use server_told::{push_changes, push_root};
+pub use told_lines::{push_bad_line, push_later, push_told};
 pub use writing::is_write;

@@ -1,9 +1,14 @@
 //! What a request asks of the server, or of a list of the site.
-ghost use Rattle.std.specs.Prelude.{◌≡◌, codes};
+ghost use Rattle.std.specs.Prelude.{◌≡◌, ◌==◌, [], Ok, codes, map};
+ghost use Rattle.std.specs.List.{slice_split};
+ghost use Rattle.mvd_keys.specs.Path.{path_of};
+ghost use Rattle.mvd_wire.specs.Codec.{Gives};
+ghost use Rattle.mvd_http.specs.Asked.{digit_in};
+ghost use Rattle.mvd_http.specs.Seen.{then_read};
 ghost use Rattle.mvd_dots.specs.Answer.{IsAnswer};
 ghost use Rattle.mvd_http.specs.Asked.{bound as bound_given, changes_question, conflicts_asked, index_asked, keys_question};
 ghost use Rattle.mvd_http.specs.Asked.{list_asked, named_list as list_named, row_question, rows_question, told_asked, tree_asked};
-ghost use Rattle.mvd_http.specs.Asked.{under_path, view_asked};
+ghost use Rattle.mvd_http.specs.Asked.{few_paths, node_or_keys, paths_asked, paths_or, under_path, view_asked};
 ghost use Rattle.mvd_http.specs.Paths.{without as left_behind};
 
 use crate::place::place_if_given;
@@ -11,12 +16,16 @@ use crate::question::Question;
 use crate::since::{root_if_given, wait_in};
 use crate::target::{given, without, without_end};
 use crate::target_parts::{
-    field_in, key_if_given, path_in, prefix_in, term_if_given, term_in, view_in,
+    decoded, field_in, key_if_given, path_in, path_of_bytes, prefix_in, term_if_given, term_in,
+    view_in,
 };
 use mvd_dots::Refusal;
 use mvd_keys::Path;
-use mvd_wire::Request;
+use mvd_wire::{Items, Request};
 use std::alloc::Global;
+
+/// The most paths of one request.
+const PATHS_MAX: usize = 64;
 
 pub fn list_of(alloc: Global, path: &[u8], query: &[u8]) -> Result<Question, Refusal>
     ensures { IsAnswer result (list_asked path.now query.now) }
@@ -96,8 +105,51 @@ fn named_list(alloc: Global, path: &[u8], query: &[u8]) -> Result<Question, Refu
 fn tree_of(alloc: Global, query: &[u8]) -> Result<Question, Refusal>
     ensures { IsAnswer result (tree_asked query.now) }
 {
+    let paths = given(query, b"paths=");
+    if paths.is_empty() {
+        return at_path(alloc, query);
+    }
+    nodes_of(alloc, &decoded(alloc, paths)?)
+}
+
+fn at_path(alloc: Global, query: &[u8]) -> Result<Question, Refusal>
+    ensures { IsAnswer result (paths_or [] query.now) }
+{
     let path = path_in(alloc, given(query, b"path="))?;
     keys_under(alloc, path, query)
+}
+
+/// The nodes of some paths, and the keys of buckets.
+fn nodes_of(alloc: Global, paths: &[u8]) -> Result<Question, Refusal>
+    ensures { IsAnswer result (few_paths (slice_split (λ c. c == 44) paths.now)) }
+{
+    if paths.split(|byte| *byte == b',').count() > PATHS_MAX {
+        return Err(Refusal::BadPath);
+    }
+    let asks = each_node_of(alloc, paths)?;
+    Ok(Question::Asks(Items::new(asks)))
+}
+
+fn each_node_of(alloc: Global, paths: &[u8]) -> Result<Vec<Result<Request, Refusal>>, Refusal>
+    ensures { Gives (λ v. v.items) result (paths_asked (slice_split (λ c. c == 44) paths.now)) }
+{
+    let mut asks = Vec::new(alloc);
+    for path in paths.split(|byte| *byte == b',') {
+        let ask = node_of(alloc, path)?;
+        asks.push(Ok(ask))?;
+    }
+    Ok(asks)
+}
+
+/// A node, or the keys of a bucket.
+fn node_of(alloc: Global, path: &[u8]) -> Result<Request, Refusal>
+    ensures { IsAnswer result (then_read (path_of (map digit_in path.now)) (λ p. Ok (node_or_keys p))) }
+{
+    let path = path_of_bytes(alloc, path)?;
+    if path.digits().len() == 3 {
+        return Ok(Request::Bucket(path, None));
+    }
+    Ok(Request::Node(path))
 }
 
 /// The keys of a bucket, or a node.

@@ -4,8 +4,8 @@ ghost use Rattle.std.specs.Char.{is_ascii_digit};
 ghost use Rattle.std.specs.List.{list_all};
 ghost use Rattle.std.specs.Str.Parse.{AllDigits, digits_value};
 ghost use Rattle.mvd_dots.specs.Answer.{IsAnswer};
-ghost use Rattle.mvd_http.specs.Asked.{dot_in as dot_read, dot_of as dot_from, if_given, number_in as number_read};
-ghost use Rattle.mvd_http.specs.Asked.{place_in as place_read, place_of_text as place_text, place_asked as place_after};
+ghost use Rattle.mvd_http.specs.Dots.{dot_in as dot_read, dot_of as dot_from, number_in as number_read};
+ghost use Rattle.mvd_http.specs.Asked.{if_given, place_in as place_read, place_of_text as place_text, place_asked as place_after};
 
 use crate::target::{before, behind};
 use crate::target_parts::{decoded, key_of, term_of};
@@ -58,7 +58,7 @@ fn dot_of(site: Option<u64>, counter: Option<u64>) -> Result<Dot, Refusal>
     }
 }
 
-fn dot_in(text: &[u8]) -> Result<Dot, Refusal>
+pub fn dot_in(text: &[u8]) -> Result<Dot, Refusal>
     ensures { result ≡ dot_read text.now }
 {
     dot_of(number_in(before(text, b':')), number_in(behind(text, b':')))

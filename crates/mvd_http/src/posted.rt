@@ -1,19 +1,22 @@
-//! A list of writes: what each line asks.
+//! Lists that are sent: what each line asks.
 ghost use Rattle.std.specs.Prelude.{◌≡◌, ◌≤◌, Ok, Some, IfOk, IsOkUnless, length, option_copied, option_map};
 ghost use Rattle.std.specs.FinSet as set;
 ghost use Rattle.std.specs.Option.{ForSome};
 ghost use Rattle.std.specs.Str.{is_utf8};
 ghost use Rattle.serde_json.specs.Data.{depth as nesting};
-ghost use Rattle.serde_json.specs.Find.{as_object};
+ghost use Rattle.serde_json.specs.Find.{as_str as string_in};
 ghost use Rattle.serde_json.specs.Read.{max_depth};
 ghost use Rattle.serde_json.specs.View.{view};
 ghost use Rattle.mvd_dots.specs.Answer.{IsAnswer};
 ghost use Rattle.mvd_docs.specs.Document.{document_of_data};
-ghost use Rattle.mvd_http.specs.Posted.{AreItemsIf, IsWriteOf, IsItemIf, IsMany, member_count_of as count_told};
-ghost use Rattle.mvd_http.specs.Posted.{line_value as line_read, line_of_data, body_lines, said_by, text_if as text_told};
-ghost use Rattle.mvd_http.specs.Posted.{without_last as without_feed, write_of as write_asked};
+ghost use Rattle.mvd_http.specs.Posted.{IsGetOf, IsItemOf, IsLineItem, IsList, IsListed, IsReadIf};
+ghost use Rattle.mvd_http.specs.Posted.{IsWriteOf, body_lines, line_of_data, said_by, without_last as without_feed};
+ghost use Rattle.mvd_http.specs.Posted.{write_of as write_asked};
+ghost use Rattle.mvd_http.specs.Pushed.{IsPushOf, state_line_of};
 ghost use Rattle.mvd_http.specs.Seen.{IsContext, IsSeen};
 
+use crate::members::{count_of, text_if};
+use crate::pushed::{push_in, state_in};
 use crate::question::Question;
 use crate::target::without_end;
 use mvd_docs::Document;
@@ -23,13 +26,30 @@ use mvd_wire::{Items, Request};
 use serde_json::Value;
 use std::alloc::Global;
 
-/// The most lines of a list of writes.
+/// The most lines of a list.
 const MOST_LINES: usize = 1_000;
 
 /// What a line asks, or why it is refused.
 type Item = Result<Request, Refusal>;
 
-/// What a line says.
+/// What the lines of a list are.
+#[derive(Clone, Copy)]
+pub enum Form {
+    Writes,
+    /// Keys whose states are asked for.
+    Keys,
+    /// States that are pushed.
+    States,
+}
+
+/// What each line asks, or the number of the first that has another form.
+#[derive(Drop)]
+enum Listed {
+    Items(Vec<Item>),
+    Other(u64),
+}
+
+/// What a line says that is a write.
 #[derive(Clone, Copy)]
 pub struct Line<'a> {
     pub key: &'a str,
@@ -37,16 +57,19 @@ pub struct Line<'a> {
     pub document: Option<&'a Value>,
 }
 
-/// What a list of writes asks.
-pub fn many_of(alloc: Global, body: &[u8]) -> Result<Question, Refusal>
-    ensures { IsMany body.now result }
+/// What a list asks.
+pub fn listed_in(alloc: Global, form: Form, body: &[u8]) -> Result<Question, Refusal>
+    ensures { IsList form body.now result }
 {
     if line_count(body) > MOST_LINES {
-        return Ok(Question::TooManyLines);
+        return Ok(Question::TooLong);
     }
-    match items_of(alloc, body)? {
-        Some(items) => Ok(Question::Many(Items::new(items))),
-        None => Err(Refusal::BadBody),
+    match items_of(alloc, form, body)? {
+        Listed::Items(items) => match form {
+            Form::Writes | Form::States => Ok(Question::Many(Items::new(items))),
+            Form::Keys => Ok(Question::Asks(Items::new(items))),
+        },
+        Listed::Other(line) => Ok(Question::BadLine(line)),
     }
 }
 
@@ -66,35 +89,35 @@ fn line_count(body: &[u8]) -> usize
     without_last(body).split(|byte| *byte == b'\n').count()
 }
 
-/// What each line asks, or that one has another form.
-fn items_of(alloc: Global, body: &[u8]) -> Result<Option<Vec<Item>>, Refusal>
-    ensures items { IfOk result (λ found. AreItemsIf (body_lines body.now) (option_map (λ v. v.items) found)) }
+/// What each line asks, or the number of the first that has another form.
+fn items_of(alloc: Global, form: Form, body: &[u8]) -> Result<Listed, Refusal>
+    ensures items { IfOk result (IsListed form (body_lines body.now)) }
     ensures memory { IsOkUnless result Refusal.Memory }
 {
     if body.is_empty() {
-        return Ok(Some(Vec::new(alloc)));
+        return Ok(Listed::Items(Vec::new(alloc)));
     }
     let mut items = Vec::new(alloc);
     for line in without_last(body).split(|byte| *byte == b'\n') {
-        match item_of(alloc, line)? {
+        match item_of(alloc, form, line)? {
             Some(item) => items.push(item)?,
-            None => return Ok(None),
+            None => return Ok(Listed::Other(items.len() as u64 + 1)),
         }
     }
-    Ok(Some(items))
+    Ok(Listed::Items(items))
 }
 
 /// What a line asks, or why it is refused, where it has the form of one.
-#[tactic(auto, using(crate::proofs::Texts::is_text, crate::proofs::Texts::is_no_text), unfolding(crate::specs::Posted::line_value))]
-fn item_of(alloc: Global, line: &[u8]) -> Result<Option<Item>, Refusal>
-    ensures item { IfOk result (λ item. IsItemIf (line_read line.now) item) }
+#[tactic(auto, using(crate::proofs::Texts::is_text, crate::proofs::Texts::is_no_text), unfolding(crate::specs::Posted::IsLineItem))]
+fn item_of(alloc: Global, form: Form, line: &[u8]) -> Result<Option<Item>, Refusal>
+    ensures item { IfOk result (λ item. IsLineItem form line.now item) }
     ensures memory { IsOkUnless result Refusal.Memory }
 {
     let Ok(text) = str::from_utf8(line) else {
         return Ok(None);
     };
     match Value::from_str(alloc, text) {
-        Ok(value) => item_in(alloc, &value),
+        Ok(value) => item_in(alloc, form, &value),
         Err(error) => if error.is_memory() {
             Err(Refusal::Memory)
         } else {
@@ -103,18 +126,57 @@ fn item_of(alloc: Global, line: &[u8]) -> Result<Option<Item>, Refusal>
     }
 }
 
-fn item_in(alloc: Global, value: &Value) -> Result<Option<Item>, Refusal>
+fn item_in(alloc: Global, form: Form, value: &Value) -> Result<Option<Item>, Refusal>
     requires { nesting (view value.now) ≤ max_depth }
-    ensures item { IfOk result (λ item. IsItemIf (line_of_data (view value.now)) item) }
+    ensures item { IfOk result (λ item. IsItemOf form (view value.now) item) }
     ensures memory { IsOkUnless result Refusal.Memory }
 {
-    let Some(line) = line_of(value) else {
-        return Ok(None);
+    let item = match form {
+        Form::Writes => write_if(alloc, value),
+        Form::Keys => get_if(alloc, value),
+        Form::States => push_if(alloc, value),
     };
-    match write_in(alloc, &line) {
-        Err(Refusal::Memory) => Err(Refusal::Memory),
-        item => Ok(Some(item)),
+    match item {
+        Some(Err(Refusal::Memory)) => Err(Refusal::Memory),
+        item => Ok(item),
     }
+}
+
+/// What a line asks that is a write.
+fn write_if(alloc: Global, value: &Value) -> Option<Item>
+    requires { nesting (view value.now) ≤ max_depth }
+    ensures { IsReadIf IsWriteOf (line_of_data (view value.now)) result }
+{
+    let Some(line) = line_of(value) else {
+        return None;
+    };
+    Some(write_in(alloc, &line))
+}
+
+/// What a line asks that is a key.
+fn get_if(alloc: Global, value: &Value) -> Option<Item>
+    ensures { IsReadIf IsGetOf (string_in (view value.now)) result }
+{
+    let text = value.as_str()?;
+    Some(get_of(alloc, text))
+}
+
+fn get_of(alloc: Global, text: &str) -> Item
+    ensures { IsGetOf text.now result }
+{
+    let key = Key::read(alloc, text)?;
+    Ok(Request::Get(key))
+}
+
+/// What a line asks that is a state.
+fn push_if(alloc: Global, value: &Value) -> Option<Item>
+    requires { nesting (view value.now) ≤ max_depth }
+    ensures { IsReadIf IsPushOf (state_line_of (view value.now)) result }
+{
+    let Some(line) = state_in(value) else {
+        return None;
+    };
+    Some(push_in(alloc, &line))
 }
 
 /// What a line says, where it has the form of one.
@@ -133,29 +195,6 @@ fn line_of(value: &Value) -> Option<Line<'_>>
         context,
         document,
     })
-}
-
-#[tactic(auto, using(crate::proofs::Counting::counted))]
-fn count_of(value: &Value) -> usize
-    ensures { result ≡ count_told (as_object (view value.now)) }
-{
-    match value.as_object() {
-        Some(object) => object.len(),
-        None => 0,
-    }
-}
-
-/// A member that is a text, where there is such a member.
-fn text_if<'a>(member: Option<&'a Value>) -> Option<Option<&'a str>>
-    ensures { option_map option_copied result ≡ text_told (option_map (λ v. view v.now) member.entry) }
-{
-    match member {
-        None => Some(None),
-        Some(value) => match value.as_str() {
-            Some(text) => Some(Some(text)),
-            None => None,
-        },
-    }
 }
 
 fn write_in(alloc: Global, line: &Line<'_>) -> Item
@@ -182,7 +221,7 @@ fn seen_in(alloc: Global, context: Option<&str>) -> Result<Context, Refusal>
 }
 
 #[tactic(auto, using(crate::proofs::Texts::is_text))]
-fn context_in(alloc: Global, text: &str) -> Result<Context, Refusal>
+pub fn context_in(alloc: Global, text: &str) -> Result<Context, Refusal>
     ensures { IsContext (is_utf8 text.now) text.now result }
 {
     Context::read(alloc, text)
@@ -213,7 +252,7 @@ fn put_of(alloc: Global, key: Key, seen: Context, value: &Value) -> Result<Reque
 
 /// The document that a JSON value is.
 #[tactic(auto, unfolding(mvd_docs::specs::Document::document_of))]
-fn document_of(alloc: Global, value: &Value) -> Result<Document, Refusal>
+pub fn document_of(alloc: Global, value: &Value) -> Result<Document, Refusal>
     requires { nesting (view value.now) ≤ max_depth }
     ensures { IsAnswer result (document_of_data (view value.now)) }
 {

@@ -20,10 +20,14 @@ pub enum Question {
     Live(Request),
     /// The keys that changed since a root, if one is named. Where none did, the response may wait for so many seconds.
     Changes(Option<[u8; 32]>, u32),
-    /// A list of writes: what each line asks, or why that write is refused.
+    /// A list of writes, or of states that are pushed: what each line asks, or why it is refused.
     Many(Items<Result<Request, Refusal>>),
-    /// A list of writes with too many lines.
-    TooManyLines,
+    /// A list of questions, each told in a line: what each asks, or why it is refused.
+    Asks(Items<Result<Request, Refusal>>),
+    /// A list whose line of this number is the first that has another form.
+    BadLine(u64),
+    /// A list with too many lines, or a body that is too long for what it is sent to.
+    TooLong,
     /// A write whose document is refused, and where that is wrong.
     Misread(Refusal, FaultPlace),
     /// There is nothing of that name.
@@ -41,6 +45,8 @@ pub enum Methods {
     OfKeys,
     /// `GET`, `HEAD`, `PUT` and `DELETE`
     OfKey,
+    /// `POST` alone
+    OfPost,
 }
 
 /// What a method does.

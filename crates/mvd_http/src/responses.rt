@@ -242,7 +242,12 @@ fn push_context(out: &mut String, context: &Context) -> Result<(), Refusal>
     Ok(push_word(out, text.as_str())?)
 }
 
-fn push_state(alloc: Global, key: &Key, state: &KeyState, out: &mut String) -> Result<(), Refusal>
+pub fn push_state(
+    alloc: Global,
+    key: &Key,
+    state: &KeyState,
+    out: &mut String,
+) -> Result<(), Refusal>
     ensures text { OnOk result (string_bytes out.new ≡ string_bytes out.old ++ state_json key.now state.now) }
     ensures memory { IsOkUnless result Refusal.Memory }
 {
@@ -319,7 +324,7 @@ fn push_digests(alloc: Global, out: &mut String, digests: &[[u8; 32]]) -> Result
     push_more_digests(alloc, out, rest)
 }
 
-fn push_children(
+pub fn push_children(
     alloc: Global,
     out: &mut String,
     children: &Option<[[u8; 32]; 16]>,

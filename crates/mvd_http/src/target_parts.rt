@@ -146,7 +146,7 @@ pub fn path_in(alloc: Global, part: &[u8]) -> Result<Path, Refusal>
     path_of_bytes(alloc, bytes.as_slice())
 }
 
-fn path_of_bytes(alloc: Global, bytes: &[u8]) -> Result<Path, Refusal>
+pub fn path_of_bytes(alloc: Global, bytes: &[u8]) -> Result<Path, Refusal>
     ensures { IsAnswer result (path_of (map digit_in bytes.now)) }
 {
     match bytes {

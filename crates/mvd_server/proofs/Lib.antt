@@ -17,6 +17,7 @@ pub mod Numbering
 pub mod Parting
 pub mod Paths
 pub mod Placing
+pub mod Questions
 pub mod Rounds
 pub mod Showing
 pub mod Sinces

@@ -5,7 +5,7 @@ use Rattle.mvd_dots.specs.declared.refusals.Refusal.TheVariants.{BadKind}
 use Rattle.mvd_host.specs.AtHand.{AllMayWait, AtHandValue, asked_by_one, asks_of}
 use Rattle.mvd_server.specs.declared.batch.Batch.{Batch}
 use Rattle.mvd_wire.specs.declared.request.Request.{Request}
-use Rattle.mvd_wire.specs.declared.request.Request.TheVariants.{Get, Put, Delete, Find, Row, Rows, Node, Bucket, Range, Keys, Conflicts}
+use Rattle.mvd_wire.specs.declared.request.Request.TheVariants.{Get, Put, Delete, Find, Row, Rows, Node, Bucket, Push, Range, Keys, Conflicts}
 
 -- what may be asked of the site over HTTP
 abbrev pub is_web_request : Request → Bool
@@ -17,6 +17,7 @@ is_web_request (Row view term) = true
 is_web_request (Rows view after) = true
 is_web_request (Node path) = true
 is_web_request (Bucket path after) = true
+is_web_request (Push key state) = true
 is_web_request (Range field from to after) = true
 is_web_request (Keys prefix after) = true
 is_web_request (Conflicts after) = true

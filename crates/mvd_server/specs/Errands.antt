@@ -14,8 +14,10 @@ use Rattle.mvd_server.specs.Admitted.{Decides}
 use Rattle.mvd_server.specs.Batches.{BeginsBatch}
 use Rattle.mvd_server.specs.Lines.{IsOnlyTold, TellsEachLine}
 use Rattle.mvd_server.specs.Plans.{plain_answer}
+use Rattle.mvd_server.specs.Questions.{TellsAsks, TellsBadLine}
 use Rattle.mvd_server.specs.Responding.{AnswersWeb, RefusesWeb, TellsBody, token_answer, not_admitted}
 use Rattle.mvd_server.specs.declared.batch.Batch.{Batch}
+use Rattle.mvd_site.specs.Sites.{SiteValue}
 use Rattle.mvd_server.specs.declared.gate.Plan.{Plan}
 use Rattle.mvd_server.specs.declared.gate.Plan.TheVariants as plan
 use Rattle.mvd_server.specs.declared.gate.Rest.{Rest}
@@ -48,6 +50,9 @@ abbrev pub DoesPlan : ℕ → Plan → WebValue → AtHandValue → WebValue →
 DoesPlan n (plan.Ask request) old hand new hand' left = AsksAtHand n request old hand new hand' × (left ≡ rest.Nothing)
 DoesPlan n (plan.Writes batch) old hand new hand' left = (hand' ≡ hand) × (new ≡ old) × (left ≡ rest.Writes batch)
 DoesPlan n (plan.Changes since wait) old hand new hand' left = (hand' ≡ hand) × TellsOrWaits since wait old new left
+DoesPlan n plan.Asks old hand new hand' left =
+    IsToldRest hand hand' left × ((site : SiteValue) × TellsAsks site old.asked old new)
+DoesPlan n (plan.BadLine line) old hand new hand' left = IsToldRest hand hand' left × TellsBadLine line old new
 DoesPlan n plan.Root old hand new hand' left = IsToldRest hand hand' left × TellsBody content.Json old new
 DoesPlan n plan.Metrics old hand new hand' left = IsToldRest hand hand' left × TellsBody content.Plain old new
 DoesPlan n plan.Health old hand new hand' left = IsToldRest hand hand' left × TellsBody content.Json old new

@@ -15,6 +15,7 @@ pub mod PeerLinks
 pub mod PeerNews
 pub mod Peerings
 pub mod Plans
+pub mod Questions
 pub mod Responding
 pub mod Rounds
 pub mod Since

@@ -3,11 +3,12 @@ ghost use Rattle.std.specs.Prelude.{◌≡◌, IfErr, IfOk, Ok, false, true};
 ghost use Rattle.mvd_dots.specs.Answer.{IsAnswer};
 ghost use Rattle.mvd_dots.specs.declared.refusals.Refusal.TheVariants as Refusal;
 ghost use Rattle.mvd_server.specs.Batches.{is_web_request};
-ghost use Rattle.mvd_wire.specs.declared.request.Request.TheVariants.{Bucket, Delete, Find, Keys, Put, Range, Row, Rows};
+ghost use Rattle.mvd_wire.specs.declared.request.Request.TheVariants.{Bucket, Delete, Find, Keys, Push, Put, Range, Row};
+ghost use Rattle.mvd_wire.specs.declared.request.Request.TheVariants.{Rows};
 
 use mvd_docs::{Document, Field, Term, ViewName};
 use mvd_dots::{Context, Dot, Refusal};
-use mvd_keys::{Key, Path, Place};
+use mvd_keys::{Key, KeyState, Path, Place};
 use mvd_wire::{Prefix, Request};
 use std::alloc::Global;
 
@@ -26,6 +27,7 @@ pub(crate) fn copy_request(alloc: Global, request: &Request) -> Result<Request, 
         Request::Rows(view, after) => copy_rows(alloc, view, after),
         Request::Node(path) => Ok(Request::Node(copy_path(alloc, path)?)),
         Request::Bucket(path, after) => copy_bucket(alloc, path, after),
+        Request::Push(key, state) => copy_push(alloc, key, state),
         Request::Range(field, from, to, after) => copy_range(alloc, field, from, to, after),
         Request::Keys(prefix, after) => copy_keys(alloc, prefix, after),
         Request::Conflicts(after) => Ok(Request::Conflicts(copy_key(alloc, after)?)),
@@ -51,6 +53,13 @@ fn copy_delete(alloc: Global, key: &Key, seen: &Context) -> Result<Request, Refu
 {
     let key = key.copy(alloc)?;
     Ok(Request::Delete(key, seen.copy()?))
+}
+
+fn copy_push(alloc: Global, key: &Key, state: &KeyState) -> Result<Request, Refusal>
+    ensures { IsAnswer result (Ok (Push key.now state.now)) }
+{
+    let key = key.copy(alloc)?;
+    Ok(Request::Push(key, state.copy(alloc)?))
 }
 
 fn copy_find(

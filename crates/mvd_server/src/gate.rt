@@ -10,6 +10,7 @@ ghost use Rattle.mvd_server.specs.Responding.{TellsBody, not_admitted, token_ans
 ghost use Rattle.mvd_web.specs.Inside.{web_of};
 ghost use Rattle.mvd_web.specs.Web.{RespondsTo};
 
+use crate::asks::{tell_asks, tell_bad_line};
 use crate::batch::Batch;
 use crate::changes::push_since;
 use crate::copying::copy_request;
@@ -37,6 +38,10 @@ enum Plan {
     Ask(Request),
     /// These writes are.
     Writes(Batch),
+    /// Its questions are answered at once, in lines.
+    Asks,
+    /// Its line of this number is told to have another form.
+    BadLine(u64),
     /// It is answered by what the server keeps, maybe after so many seconds.
     Changes(Option<[u8; 32]>, u32),
     /// It is answered at once, by what the server keeps.
@@ -91,12 +96,14 @@ fn plan_for(alloc: Global, question: &Question) -> Plan
             Ok(batch) => Plan::Writes(batch),
             Err(refusal) => Plan::Refused(refusal),
         },
+        Question::Asks(_) => Plan::Asks,
+        Question::BadLine(line) => Plan::BadLine(*line),
         Question::Changes(since, wait) => Plan::Changes(*since, *wait),
         Question::Page => Plan::Told(answer_of(StatusCode::OK, Content::Html), PAGE),
         Question::Root => Plan::Root,
         Question::Metrics => Plan::Metrics,
         Question::Health => Plan::Health,
-        Question::TooManyLines => fault(Fault::ContentTooLarge, None),
+        Question::TooLong => fault(Fault::ContentTooLarge, None),
         Question::Misread(refusal, _) => Plan::Refused(*refusal),
         Question::Nowhere => fault(Fault::NotFound, None),
         Question::NotAllowed(methods) => fault(Fault::MethodNotAllowed, Some(*methods)),
@@ -177,6 +184,14 @@ fn carry_out<S: Alter + Drop>(
         Plan::Writes(batch) => Rest::Writes(batch),
         Plan::Changes(since, wait) => {
             wait_or_tell(alloc, web, replica, changes, since, wait, counts)
+        }
+        Plan::Asks => {
+            tell_asks(alloc, web, replica, counts);
+            Rest::Nothing
+        }
+        Plan::BadLine(line) => {
+            tell_bad_line(alloc, web, line, counts);
+            Rest::Nothing
         }
         Plan::Root => {
             tell_root(alloc, web, replica, counts);

@@ -1,6 +1,7 @@
 //! A server of many clients at once, in frames and over HTTP.
 #![tactic(auto)]
 
+mod asks;
 mod batch;
 mod changes;
 mod client;

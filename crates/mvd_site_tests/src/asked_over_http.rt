@@ -2,11 +2,12 @@
 use crate::key_requests::{ESCAPES, REFUSALS, WRITES};
 use crate::list_requests::{LISTS, OTHERS};
 use crate::many_requests::{MANY, OTHER_LINES, REFUSED_LINES};
+use crate::state_requests::{REFUSED_STATES, STATES};
 use mvd_docs::{Field, ViewName};
 use mvd_dots::Refusal;
 use mvd_http::{
-    Fault, Question, live_response_of, misread_response, push_line, question_of, refused_response,
-    response_of,
+    Fault, Question, live_response_of, misread_response, push_bad_line, push_line, push_refused,
+    push_told, question_of, refused_response, response_of,
 };
 use mvd_rows::Defs;
 use mvd_site::{Config, Site};
@@ -76,6 +77,29 @@ fn live_of(
     Ok(live_response_of(alloc, request, &reply, out)?)
 }
 
+/// Each question in turn.
+fn lines_of(
+    alloc: Global,
+    site: &mut Site,
+    asks: &[Result<Request, Refusal>],
+    out: &mut String,
+) -> Result<u16, Refusal> {
+    for ask in asks {
+        match ask {
+            Ok(request) => push_told(alloc, request, &answered(site, request), out)?,
+            Err(refusal) => push_refused(out, *refusal)?,
+        }
+        out.push_str("\n")?;
+    }
+    Ok(200)
+}
+
+/// That a line has another form.
+fn tell_line(out: &mut String, line: u64) -> Result<u16, Refusal> {
+    push_bad_line(out, line)?;
+    Ok(400)
+}
+
 /// Each write in turn.
 fn all_of(
     site: &mut Site,
@@ -118,8 +142,10 @@ fn told(
         Question::Ask(request) => asked_of(alloc, site, request, out),
         Question::Live(request) => live_of(alloc, site, request, out),
         Question::Many(items) => all_of(site, items.as_slice(), out),
+        Question::Asks(asks) => lines_of(alloc, site, asks.as_slice(), out),
+        Question::BadLine(line) => tell_line(out, *line),
         Question::Changes(since, wait) => tell_since(out, *since, *wait),
-        Question::TooManyLines => tell(out, Fault::ContentTooLarge),
+        Question::TooLong => tell(out, Fault::ContentTooLarge),
         Question::Misread(refusal, place) => Ok(misread_response(out, *refusal, place)?),
         Question::Nowhere => tell(out, Fault::NotFound),
         Question::NotAllowed(_) => tell(out, Fault::MethodNotAllowed),
@@ -180,6 +206,8 @@ fn requests_are_told(rt: HostRuntime) -> Result<(), Fail> {
         MANY,
         REFUSED_LINES,
         OTHER_LINES,
+        STATES,
+        REFUSED_STATES,
     ] {
         let told = told_well(rt.alloc(), rows)?;
         assert!(rt; told == rows.len(), "{told}");
@@ -200,7 +228,7 @@ fn lines(alloc: Global, count: usize) -> Result<String, Refusal> {
 fn are_too_many(alloc: Global, count: usize) -> Result<bool, Refusal> {
     let body = lines(alloc, count)?;
     let asked = question_of(alloc, b"POST", b"/keys", None, body.as_bytes())?;
-    Ok(matches!(asked, Question::TooManyLines))
+    Ok(matches!(asked, Question::TooLong))
 }
 
 #[test]

@@ -35,6 +35,8 @@ mod state_frames;
 #[cfg(test)]
 mod state_limits;
 #[cfg(test)]
+mod state_requests;
+#[cfg(test)]
 mod trials;
 #[cfg(test)]
 mod two_sites;

@@ -105,6 +105,8 @@ pub const REFUSED_LINES: &[Row] = &[
 
 const BAD_BODY: &str = "{\"refused\":33,\"name\":\"BadBody\"}";
 
+const BAD_LINE: &str = "{\"refused\":33,\"name\":\"BadBody\",\"line\":1}";
+
 /// Bodies of which nothing is done, since a line has another form.
 pub const OTHER_LINES: &[Row] = &[
     (
@@ -113,18 +115,18 @@ pub const OTHER_LINES: &[Row] = &[
         None,
         b"{\"key\":\"k\",\"document\":{}}\n{\"key\":\"k\"}",
         400,
-        BAD_BODY,
+        "{\"refused\":33,\"name\":\"BadBody\",\"line\":2}",
     ),
-    ("POST", "/keys", None, b"\n", 400, BAD_BODY),
-    ("POST", "/keys", None, b"{}", 400, BAD_BODY),
-    ("POST", "/keys", None, b"{\"document\":{}}", 400, BAD_BODY),
+    ("POST", "/keys", None, b"\n", 400, BAD_LINE),
+    ("POST", "/keys", None, b"{}", 400, BAD_LINE),
+    ("POST", "/keys", None, b"{\"document\":{}}", 400, BAD_LINE),
     (
         "POST",
         "/keys",
         None,
         b"{\"key\":1,\"document\":{}}",
         400,
-        BAD_BODY,
+        BAD_LINE,
     ),
     (
         "POST",
@@ -132,7 +134,7 @@ pub const OTHER_LINES: &[Row] = &[
         None,
         b"{\"key\":\"k\",\"context\":1,\"document\":{}}",
         400,
-        BAD_BODY,
+        BAD_LINE,
     ),
     (
         "POST",
@@ -140,16 +142,16 @@ pub const OTHER_LINES: &[Row] = &[
         None,
         b"{\"key\":\"k\",\"document\":{},\"more\":1}",
         400,
-        BAD_BODY,
+        BAD_LINE,
     ),
-    ("POST", "/keys", None, b"{\"key\":\"k\",", 400, BAD_BODY),
+    ("POST", "/keys", None, b"{\"key\":\"k\",", 400, BAD_LINE),
     (
         "POST",
         "/keys",
         None,
         b"{\"key\":\"\xFF\",\"document\":{}}",
         400,
-        BAD_BODY,
+        BAD_LINE,
     ),
     ("GET", "/keys", None, b"", 200, "{\"keys\":[]}"),
     (

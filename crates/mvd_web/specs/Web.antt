@@ -35,7 +35,7 @@ pub record AreLimits (config : Config) : Type 0 where
   pub head : config.limits.max_head_len ≡ 16384
   pub extensions : config.limits.max_extensions_len ≡ 16384
   pub trailers : config.limits.max_trailers_len ≡ 16384
-  pub body : config.max_body_len ≡ 1048576
+  pub body : config.max_body_len ≡ 2097152
   pub pending : config.max_pending ≡ 0
 
 abbrev pub new_web : Config → WebValue

@@ -21,7 +21,7 @@ use std::hash::RandomState;
 pub const WAITS_MAX: usize = 262_144;
 
 /// The most bytes of a body.
-pub const BODY_MAX: usize = 1_048_576;
+pub const BODY_MAX: usize = 2_097_152;
 
 /// The bytes that came, the request that was taken of them and is not answered, and the bytes that wait to leave.
 #[derive(Drop)]

@@ -1,0 +1,58 @@
+-- What is told of a list of questions: a line for each, of the site's answer to it; and of a list that is none.
+use Rattle.std.specs.Prelude.{◌≡◌, ◌⊎◌, nat_le, ℕ, Bool, true, false, List, [], ◌∷◌, ◌++◌, length, Option, Some, None, Result, Ok, Err}
+use Rattle.mvd_dots.specs.declared.refusals.Refusal.{Refusal}
+use Rattle.mvd_dots.specs.declared.refusals.Refusal.TheVariants.{BadKind, Memory}
+use Rattle.mvd_http.specs.Answers.{later_told, line_told}
+use Rattle.mvd_http.specs.Json.{bad_line_json, refused_json}
+use Rattle.mvd_http.specs.Seen.{then_read}
+use Rattle.mvd_http.specs.declared.fields.Content.TheVariants as content
+use Rattle.mvd_http.specs.declared.question.Question.{Question}
+use Rattle.mvd_http.specs.declared.question.Question.TheVariants.{Asks}
+use Rattle.mvd_server.specs.Plans.{plain_answer}
+use Rattle.mvd_server.specs.Responding.{RefusesWeb}
+use Rattle.mvd_site.specs.Answer.{answer_from}
+use Rattle.mvd_site.specs.Sites.{SiteValue}
+use Rattle.mvd_web.specs.Web.{RespondsTo, WebValue}
+use Rattle.mvd_web.specs.declared.taken.Asked.{Asked}
+use Rattle.mvd_wire.specs.declared.request.Request.{Request}
+
+-- ---- lines
+
+abbrev pub later_or : Bool → Option (List ℕ) → Result (List ℕ) Refusal → Result (List ℕ) Refusal
+later_or true (Some later) line = Ok later
+later_or _ _ line = line
+
+-- what a question is told where so many bytes are told already: from 1,048,576 on a state, and the keys of a bucket,
+-- are to be asked again
+abbrev pub ask_line : SiteValue → ℕ → Result Request Refusal → Result (List ℕ) Refusal
+ask_line site told (Err refusal) = Ok (refused_json refusal)
+ask_line site told (Ok request) =
+    later_or (nat_le 1048576 told) (later_told request) (line_told request (answer_from site.config site.states request))
+
+-- behind what is told already a line for each, with its line feed (10), or the first refusal of all
+unfoldable pub asks_text : SiteValue → List ℕ → List (Result Request Refusal) → Result (List ℕ) Refusal
+asks_text site told [] = Ok told
+asks_text site told (ask ∷ asks) =
+    then_read (ask_line site (length told) ask) (λ line. asks_text site ((told ++ line) ++ 10 ∷ []) asks)
+
+-- ---- responses
+
+abbrev pub asks_of : SiteValue → Result Question Refusal → Result (List ℕ) Refusal
+asks_of site (Ok (Asks asks)) = asks_text site [] asks
+asks_of site _ = Err BadKind
+
+-- the lines are told, or a refusal in their place
+abbrev pub TellsLines : Result (List ℕ) Refusal → WebValue → WebValue → Type 0
+TellsLines lines old new =
+    ((text : List ℕ) × (lines ≡ Ok text) × RespondsTo old.asked old (plain_answer 200 content.Lines) text new)
+    ⊎ ((refusal : Refusal) × RefusesWeb refusal old new)
+
+-- the request that waits is told the lines of its questions
+abbrev pub TellsAsks : SiteValue → Option Asked → WebValue → WebValue → Type 0
+TellsAsks site None old new = new ≡ old
+TellsAsks site (Some asked) old new = TellsLines (asks_of site asked.question) old new
+
+-- which line of a list has another form
+abbrev pub TellsBadLine : ℕ → WebValue → WebValue → Type 0
+TellsBadLine line old new =
+    RespondsTo old.asked old (plain_answer 400 content.Json) (bad_line_json line) new ⊎ RefusesWeb Memory old new

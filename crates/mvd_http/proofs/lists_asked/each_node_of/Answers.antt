@@ -1,12 +1,11 @@
-use Rattle.std.proofs.Common.{◌≡◌, ◌∙◌, ◌==◌, ◌+◌, ◌++◌, ◌∷◌, [], List, Result, Ok, length, ap, subst, sym, rules, tests, arith}
+use Rattle.std.proofs.Common.{◌∙◌, ◌==◌, length, ap, rules, tests, arith}
 use Rattle.std.proofs.lemmas.Iterator.Splits.{YieldsList-from_slice_split}
 use Rattle.std.proofs.lemmas.Iterator.Consumers.{YieldsList-turn, YieldsList-end}
 use Rattle.std.proofs.lemmas.List.{length_push}
 use Rattle.std.proofs.lemmas.Result.{err_from_is_err_and}
 use Rattle.std.specs.List.{slice_split}
 use Rattle.std.specs.Slice.Iter as slice
-use Rattle.mvd_http.specs.Asked.{paths_asked}
-use Rattle.mvd_http.proofs.Reading.{behind, path_ends, path_on, paths_done, paths_left, starts}
+use Rattle.mvd_http.proofs.Reading.{path_ends, path_on, paths_done}
 use Rattle.mvd_http.proofs.lists_asked.each_node_of.Goals as goal
 
 pub loop-path-preserved : goal.loop-path-preserved

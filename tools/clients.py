@@ -16,6 +16,7 @@ The last three parts are left out where PROGRAM answers no `POST /get`. --short 
 scripts and 200 seeds. A script that differs is printed.
 """
 import argparse
+import collections
 import json
 import multiprocessing
 import multiprocessing.pool
@@ -297,10 +298,17 @@ def done(what, words):
 
 
 def mesh(program, seed, seeds, steps, port, jobs):
+    sums = collections.Counter()
     with tempfile.TemporaryDirectory() as folder, multiprocessing.pool.ThreadPool(jobs) as pool:
         def one(i):
-            done(f"mesh of seed {seed + i}", ["node", TEST / "mesh.mjs", program, folder, seed + i, steps, port + 10 + 2 * (i % 40)])
+            words = ["node", TEST / "mesh.mjs", program, folder, seed + i, steps, port + 10 + 2 * (i % 40)]
+            told = subprocess.run([str(word) for word in words], capture_output=True, text=True)
+            is_so(f"mesh of seed {seed + i}", told.returncode == 0, (told.stdout + told.stderr)[-1500:])
+            if told.returncode == 0:
+                sums.update({**json.loads(told.stdout.splitlines()[-1]), "seeds": 1})
         pool.map(one, range(seeds), chunksize=1)
+    print("  {seeds} seeds: {syncs} sessions, {cut} of them cut, {documents} documents, {there} of them there".format_map(sums), flush=True)
+    is_so("half of the sessions are cut", 2 * sums["cut"] >= sums["syncs"], sums)
 
 
 def requests(program, port):

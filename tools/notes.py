@@ -4,10 +4,10 @@
 usage: tools/notes.py [--port P] PROGRAM
 
 Where PROGRAM has the option --origin, the page is of another origin than the server, else both are behind examples/notes/serve.py. The server
-wants a token. Seen are: a first meeting; a reload with no
-server and nobody who serves the page; notes that are written meanwhile; two tabs that write one key at once; two browsers that write one
-note apart while the server is away, show both versions, and resolve them; a server that is killed in the midst of a sync. It needs
-Debian's chromium, chromium-driver and python3-selenium (/usr/bin/python3 has it, where python3 is another).
+wants a token. Seen are: a first meeting; a reload with no server and nobody who serves the page; notes that are written meanwhile; two tabs
+that write one key at once; two browsers that write one note apart while the server is away, show both versions, and resolve them; a server
+that is killed in the midst of a sync; and, from another origin, how many requests sessions take. It needs Debian's chromium,
+chromium-driver and python3-selenium (/usr/bin/python3 has it, where python3 is another).
 """
 import argparse
 import http.client
@@ -54,27 +54,34 @@ class Parts:
 
     def __init__(self, program, folder, port):
         self.program, self.folder, self.port = program, folder, port
-        self.page, self.url = f"http://127.0.0.1:{port}/", f"http://127.0.0.1:{port + 1}"
+        self.page, self.url, self.empty = (f"http://127.0.0.1:{port + i}" for i in (0, 1, 3))
+        self.page += "/"
         told = subprocess.run([program, "serve", "--help"], capture_output=True, text=True)
         self.is_apart = "--origin" in told.stdout + told.stderr
         # The server as the page names it.
         self.named = self.url if self.is_apart else self.page + "mvd"
         self.site = folder / "site"
         shutil.copytree(TOP / "examples" / "notes", self.site, ignore=shutil.ignore_patterns("serve.py"))
-        shutil.copy(TOP / "clients" / "js" / "mvd.js", self.site)
+        for file in ("mvd.js", "test/counted.mjs"):
+            shutil.copy(TOP / "clients" / "js" / file, self.site)
         (folder / "token").write_text(TOKEN + "\n")
         self.running = {}
 
     def start(self, name):
+        def serve(file, port):
+            origin = ["--origin", self.page.rstrip("/")] if self.is_apart else []
+            return [self.program, "serve", "--db", str(self.folder / file), "--site", "1", "--port", str(port + 1), "--http", str(port), "--token-file",
+                    str(self.folder / "token"), *origin]
+
         words = {
             "web": [sys.executable, "-m", "http.server", str(self.port), "--bind", "127.0.0.1", "--directory", str(self.site)] if self.is_apart else
                    [sys.executable, str(TOP / "examples" / "notes" / "serve.py"), str(self.site), str(self.port), str(self.port + 1)],
-            "server": [self.program, "serve", "--db", str(self.folder / "notes.db"), "--site", "1", "--port", str(self.port + 2), "--http", str(self.port + 1),
-                       "--token-file", str(self.folder / "token"), *(["--origin", self.page.rstrip("/")] if self.is_apart else [])],
+            "server": serve("notes.db", self.port + 1),
+            "empty": serve("empty.db", self.port + 3),
         }[name]
         self.running[name] = subprocess.Popen(words, stdout=subprocess.DEVNULL, stderr=subprocess.DEVNULL)
-        is_there = (lambda: urllib.request.urlopen(self.page, timeout=1).status == 200) if name == "web" else (lambda: "root" in self.ask("/root"))
-        wait_for(f"{name} is there", is_there)
+        asks = {"web": lambda: urllib.request.urlopen(self.page, timeout=1), "server": lambda: self.ask("/root"), "empty": lambda: self.tell("/root", self.empty)}
+        wait_for(f"{name} is there", lambda: bool(asks[name]()))
 
     def end(self, *names):
         for name in names:
@@ -83,9 +90,12 @@ class Parts:
                 self.running.pop(name).wait()
 
     def ask(self, path):
-        request = urllib.request.Request(self.url + path, headers={"Authorization": f"Bearer {TOKEN}"})
+        return json.loads(self.tell(path, self.url))
+
+    def tell(self, path, url):
+        request = urllib.request.Request(url + path, headers={"Authorization": f"Bearer {TOKEN}"})
         with urllib.request.urlopen(request, timeout=5) as response:
-            return json.load(response)
+            return response.read().decode()
 
     def texts(self):
         """The texts of each note at the server."""
@@ -218,6 +228,18 @@ def two_browsers(parts, one, other):
     wait_for("and the other sees it", lambda: sorted(map(len, other.notes())) == [1, 1] and other.notes() == one.notes(), 60)
 
 
+def counted(parts, one):
+    """How many requests sessions take, and how often the browser asks before whether it may."""
+    parts.start("empty")
+    rows = one.later(f"""const {{ counted }} = await import('./counted.mjs'), {{ Client }} = await import('./mvd.js');
+        const client = () => new Client('{parts.empty}', {{ token: '{TOKEN}' }});
+        return counted(await Site.open('counted', {{ site: 70000 }}), client(), client());""")
+    is_so("sessions of a page of another origin take few requests", isinstance(rows, list), rows)
+    before = [line for line in parts.tell("/metrics", parts.empty).splitlines() if 'status="204"' in line]
+    is_so("of preflights there were", bool(before), " ".join(before))
+    parts.end("empty")
+
+
 def in_the_middle(parts, one, other):
     """The server is killed while many notes cross."""
     text = "{ text: `${i} ` + 'lorem '.repeat(30) }"
@@ -250,6 +272,8 @@ def main():
             two_tabs(parts, browsers[0])
             two_browsers(parts, *browsers)
             in_the_middle(parts, *browsers)
+            if parts.is_apart:
+                counted(parts, browsers[0])
             for browser in browsers:
                 told = [entry["message"] for entry in browser.driver.get_log("browser")]
                 said = [message for message in told if not any(known in message for known in KNOWN)]
@@ -257,7 +281,7 @@ def main():
         finally:
             for browser in browsers:
                 browser.driver.quit()
-            parts.end("server", "web")
+            parts.end(*list(parts.running))
 
 
 if __name__ == "__main__":

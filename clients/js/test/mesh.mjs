@@ -1,11 +1,11 @@
-// Five sites of the module and two servers that meet, over lines of which half the sessions' are cut, while a server is killed and begins
-// again: in the end all roots are equal, no edit is gone that nobody replaced, and none that was replaced is back.
+// Five sites of the module and two servers that meet. Half of the sessions are cut at a random request, some because their server is killed:
+// in the end all roots are equal, no edit is gone that nobody replaced, and none that was replaced is back. The last line is what was seen.
 //
 // usage: node mesh.mjs PROGRAM FOLDER SEED STEPS PORT      the servers take PORT, PORT + 1, PORT + 100 and PORT + 101
 import assert from "node:assert/strict";
 import path from "node:path";
 import { Site, Client, Unreachable } from "../mvd.js";
-import { serve, lossy, dice, sleep } from "./program.mjs";
+import { serve, cutAt, dice, sleep } from "./program.mjs";
 
 const [program, folder, seed, steps, port] = process.argv.slice(2).map((word, i) => (i < 2 ? word : +word));
 const random = dice(seed), key = () => `${["a", "u1/", "u2/"][random(3)]}${random(5)}`;
@@ -27,10 +27,11 @@ async function edit(where) {
   return where.put(name, text, blind ? undefined : state);
 }
 
+/** A session, which is cut at one of its first requests, or goes on over the next server or the same. */
 async function meet(site) {
+  const kind = random(8), fetch = kind < 5 ? cutAt(random, random(3), false) : kind < 6 ? cutAt(random, random(3), true) : undefined;
+  const order = random(2) ? urls : [...urls].reverse(), prefix = ["", "", "u1/", "u2/"][random(4)];
   told.syncs++;
-  const fetch = lossy(random, 2), prefix = ["", "", "u1/", "u2/"][random(4)];
-  const order = random(2) ? urls : [...urls].reverse();
   try {
     const report = await site.sync(random(3) ? order[0] : order, { fetch, prefix, whole: random(8) === 0 });
     told.refused += report.refused.length;
@@ -40,17 +41,22 @@ async function meet(site) {
   }
 }
 
-for (let step = 0; step < steps; step++) {
+/** A server ends in the midst of what it is asked, and begins again. */
+async function kill() {
+  const i = random(2), going = Promise.all([meet(sites[random(5)]), meet(sites[random(5)])]);
+  await sleep(random(10) / 1000);
+  await servers[i].stop();
+  await going;
+  await meet(sites[random(5)]);
+  servers[i] = await start(i);
+}
+
+for (let step = 1; step <= steps; step++) {
   const r = random(20);
-  if (r < 9) await edit(sites[random(5)]);
+  if (step % 97 === 0) await kill();
+  else if (r < 9) await edit(sites[random(5)]);
   else if (r < 12) await edit(clients[random(2)]);
   else await meet(sites[random(5)]);
-  if (step % 97 === 96) {
-    const i = random(2);
-    await servers[i].stop();
-    await meet(sites[random(5)]);
-    servers[i] = await start(i);
-  }
 }
 const rootOf = async (where) => {
   const told = await where.root();
@@ -65,6 +71,5 @@ assert.equal((await roots()).size, 1, "one root");
 const there = new Set((await sites[4].all()).flatMap((state) => state.siblings.map((one) => one.text)));
 assert.deepEqual([...written].filter((text) => !there.has(text) && !replaced.has(text)), [], "gone, and nobody replaced it");
 assert.deepEqual([...there].filter((text) => replaced.has(text)), [], "there, though it was replaced");
-const seen = `${written.size} documents, ${there.size} of them there`;
-console.log(`seed ${seed}: ${steps} steps, ${told.syncs} sessions, ${told.cut} cut, ${told.refused} refused, ${seen}`);
+console.log(JSON.stringify({ seed, steps, ...told, documents: written.size, there: there.size }));
 await Promise.all(servers.map((one) => one.stop()));

@@ -4,16 +4,18 @@ import { spawn } from "node:child_process";
 /** Starts a server and waits until it listens. `stop` kills it, as a machine does that goes off. */
 export async function serve(program, file, site, port, words = []) {
   const all = ["serve", "--db", file, "--site", site, "--port", port, "--http", port + 100, ...words].map(String);
-  const child = spawn(program, all, { stdio: ["ignore", "pipe", "ignore"] });
+  const child = spawn(program, all, { stdio: ["ignore", "pipe", "ignore"] }), kill = () => child.kill("SIGKILL");
+  process.once("exit", kill);
   const ended = new Promise((done) => { child.on("exit", done); });
   await Promise.race([new Promise((done) => { child.stdout.once("data", done); }), ended.then(() => { throw new Error("the server ended"); })]);
   child.stdout.resume();
-  return { url: `http://127.0.0.1:${port + 100}`, stop: () => { child.kill("SIGKILL"); return ended; } };
+  return { url: `http://127.0.0.1:${port + 100}`, stop: () => { kill(); process.off("exit", kill); return ended; } };
 }
 
-/** A fetch that loses one of so many: before it leaves, before its response comes, or in the midst of the response. */
-export const lossy = (random, every) => async (url, given) => {
-  const kind = random(every) ? 3 : random(3);
+/** A fetch over a line that is cut at one request: before it leaves, before its response comes, or in the midst of the response. Then
+ *  nothing comes through, or, where it `heals`, what is asked next. */
+export const cutAt = (random, at, heals) => async (url, given) => {
+  const turn = at--, kind = turn > 0 || (turn < 0 && heals) ? 3 : turn < 0 ? 0 : random(3);
   if (kind === 0) throw new TypeError("lost before");
   const response = await fetch(url, given);
   if (kind === 1) throw new TypeError("lost behind");

@@ -9,11 +9,11 @@ usage: tools/clients.py [--short] [--scripts N] [--seeds N] [--seed S] [--jobs J
             that are cut at any request, of a part of the keys, or beside a write, are given to `sim` as the states that crossed
   merges    the merges of docs/OFFLINE.md: one result in any order, with any repeats and in any grouping, and the same in both languages
   requests  how many requests sessions over HTTP take; the code of docs/OFFLINE.md
-  mesh      five sites of the module and two servers that meet, with half of the sessions cut and servers killed, for so many seeds
+  mesh      five sites of the module and two servers that meet, with half of the sessions cut and servers killed, for so many seeds: in the
+            end all roots are equal, and no edit is lost
   python    the package's client with two servers, of which one is killed
 
-The last three parts are left out where PROGRAM answers no `POST /get`. --short takes less than a minute. Without it there are 100,000
-scripts and 200 seeds. A script that differs is printed.
+--short takes less than a minute. Without it there are 100,000 scripts and 200 seeds. A script that differs is printed.
 """
 import argparse
 import collections
@@ -26,8 +26,6 @@ import subprocess
 import sys
 import tempfile
 import time
-import urllib.error
-import urllib.request
 
 sys.dont_write_bytecode = True
 TOP = pathlib.Path(__file__).resolve().parent.parent
@@ -317,21 +315,6 @@ def requests(program, port):
         done("the code of docs/OFFLINE.md", ["node", TEST / "offline.mjs", program, folder, port + 1])
 
 
-def tells_states(program, port):
-    """Whether a server of the program tells states in lists."""
-    with tempfile.TemporaryDirectory() as folder:
-        words = [program, "serve", "--db", f"{folder}/a.db", "--site", "1", "--port", str(port), "--http", str(port + 1)]
-        with subprocess.Popen(words, stdout=subprocess.PIPE, stderr=subprocess.DEVNULL) as server:
-            try:
-                server.stdout.readline()
-                with urllib.request.urlopen(f"http://127.0.0.1:{port + 1}/get", data=b'"k"') as response:
-                    return response.status == 200
-            except urllib.error.HTTPError:
-                return False
-            finally:
-                server.kill()
-
-
 def main():
     words = argparse.ArgumentParser(usage=__doc__)
     words.add_argument("--short", action="store_true")
@@ -353,11 +336,8 @@ def main():
         "mesh": lambda: mesh(program, given.seed, seeds, 120 if given.short else 300, given.port, given.jobs),
         "python": lambda: done("python", [sys.executable, PACKAGE / "try_client.py", program, given.port + 200]),
     }
-    left_out = set() if tells_states(program, given.port + 300) else {"requests", "mesh", "python"}
     for name, part in parts.items():
-        if name in left_out:
-            print(f"{name}: left out, as the program answers no POST /get", flush=True)
-        elif given.only is None or name in given.only.split(","):
+        if given.only is None or name in given.only.split(","):
             begun = time.time()
             part()
             print(f"{name}: {time.time() - begun:.0f} seconds", flush=True)

@@ -3,11 +3,10 @@
 
 usage: tools/notes.py [--port P] PROGRAM
 
-Where PROGRAM has the option --origin, the page is of another origin than the server, else both are behind examples/notes/serve.py. The server
-wants a token. Seen are: a first meeting; a reload with no server and nobody who serves the page; notes that are written meanwhile; two tabs
-that write one key at once; two browsers that write one note apart while the server is away, show both versions, and resolve them; a server
-that is killed in the midst of a sync; and, from another origin, how many requests sessions take. It needs Debian's chromium,
-chromium-driver and python3-selenium (/usr/bin/python3 has it, where python3 is another).
+The page is of another origin than the server, which wants a token. Seen are: a first meeting; a reload with no server and nobody who serves
+the page; notes that are written meanwhile; two tabs that write one key at once; two browsers that write one note apart while the server is
+away, show both versions, and resolve them; a server that is killed in the midst of a sync; and how many requests sessions take. It needs
+Debian's chromium, chromium-driver and python3-selenium (/usr/bin/python3 has it, where python3 is another).
 """
 import argparse
 import http.client
@@ -56,12 +55,8 @@ class Parts:
         self.program, self.folder, self.port = program, folder, port
         self.page, self.url, self.empty = (f"http://127.0.0.1:{port + i}" for i in (0, 1, 3))
         self.page += "/"
-        told = subprocess.run([program, "serve", "--help"], capture_output=True, text=True)
-        self.is_apart = "--origin" in told.stdout + told.stderr
-        # The server as the page names it.
-        self.named = self.url if self.is_apart else self.page + "mvd"
         self.site = folder / "site"
-        shutil.copytree(TOP / "examples" / "notes", self.site, ignore=shutil.ignore_patterns("serve.py"))
+        shutil.copytree(TOP / "examples" / "notes", self.site)
         for file in ("mvd.js", "test/counted.mjs"):
             shutil.copy(TOP / "clients" / "js" / file, self.site)
         (folder / "token").write_text(TOKEN + "\n")
@@ -69,13 +64,11 @@ class Parts:
 
     def start(self, name):
         def serve(file, port):
-            origin = ["--origin", self.page.rstrip("/")] if self.is_apart else []
             return [self.program, "serve", "--db", str(self.folder / file), "--site", "1", "--port", str(port + 1), "--http", str(port), "--token-file",
-                    str(self.folder / "token"), *origin]
+                    str(self.folder / "token"), "--origin", self.page.rstrip("/")]
 
         words = {
-            "web": [sys.executable, "-m", "http.server", str(self.port), "--bind", "127.0.0.1", "--directory", str(self.site)] if self.is_apart else
-                   [sys.executable, str(TOP / "examples" / "notes" / "serve.py"), str(self.site), str(self.port), str(self.port + 1)],
+            "web": [sys.executable, "-m", "http.server", str(self.port), "--bind", "127.0.0.1", "--directory", str(self.site)],
             "server": serve("notes.db", self.port + 1),
             "empty": serve("empty.db", self.port + 3),
         }[name]
@@ -110,7 +103,7 @@ class Browser:
             options.add_argument(word)
         options.set_capability("goog:loggingPrefs", {"browser": "ALL"})
         self.driver, self.parts = webdriver.Chrome(options=options), parts
-        self.driver.set_script_timeout(60)
+        self.driver.set_script_timeout(240)
 
     def run(self, script, *given):
         return self.driver.execute_script(script, *given)
@@ -127,7 +120,7 @@ class Browser:
     def meet(self):
         self.open()
         self.run("""document.querySelector('#server').value = arguments[0]; document.querySelector('#token').value = arguments[1];
-            document.querySelector('#door button').click()""", self.parts.named, TOKEN)
+            document.querySelector('#door button').click()""", self.parts.url, TOKEN)
         wait_for("it meets the server", lambda: "met at" in self.state())
 
     def state(self):
@@ -162,8 +155,6 @@ def alone(parts, one):
     one.open()
     is_so("and another what was written", sorted(map(tuple, one.notes())) == [("first, edited with no network",), ("second, with no network",)], one.notes())
     parts.start("server")
-    if not parts.is_apart:
-        parts.start("web")
     wait_for("the server gets it when it is back", lambda: sorted(parts.texts()) == [["first, edited with no network"], ["second, with no network"]], 60)
 
 
@@ -185,8 +176,7 @@ def stores(one):
 
 
 def two_tabs(parts, one):
-    if parts.is_apart:
-        parts.start("web")
+    parts.start("web")
     first = one.driver.current_window_handle
     one.driver.switch_to.new_window("tab")
     one.open()
@@ -229,14 +219,21 @@ def two_browsers(parts, one, other):
 
 
 def counted(parts, one):
-    """How many requests sessions take, and how often the browser asks before whether it may."""
+    """How many requests sessions take; and how many more there are as the browser asks first whether the page may ask (a preflight)."""
+    def preflights():
+        return sum(int(line.split()[1]) for line in parts.tell("/metrics", parts.empty).splitlines() if 'status="204"' in line)
+
     parts.start("empty")
-    rows = one.later(f"""const {{ counted }} = await import('./counted.mjs'), {{ Client }} = await import('./mvd.js');
-        const client = () => new Client('{parts.empty}', {{ token: '{TOKEN}' }});
-        return counted(await Site.open('counted', {{ site: 70000 }}), client(), client());""")
-    is_so("sessions of a page of another origin take few requests", isinstance(rows, list), rows)
-    before = [line for line in parts.tell("/metrics", parts.empty).splitlines() if 'status="204"' in line]
-    is_so("of preflights there were", bool(before), " ".join(before))
+    begin = f"""const {{ counted }} = await import('./counted.mjs'), {{ Client }} = await import('./mvd.js');
+        const client = () => new Client('{parts.empty}', {{ token: '{TOKEN}' }}), far = client(), own = await Site.open('counted', {{ site: 70000 }});"""
+    rows = one.later(begin + """const rows = await counted(own, far, client());
+        for (let i = 0; i < 10; i++) await far.put(`n${i}`, { again: i }, await far.get(`n${i}`));
+        return rows""")
+    is_so("sessions take few requests", isinstance(rows, list), rows)
+    before = preflights()
+    told = one.later(begin + "const report = await own.sync(far); return [report.keys, far.requests]")
+    is_so("10 of 1,000 keys cross from another origin in at most 3 requests, and as many preflights at most",
+          isinstance(told, list) and told[0] == 10 and told[1] <= 3 >= preflights() - before, f"{told}, {preflights() - before} preflights")
     parts.end("empty")
 
 
@@ -272,8 +269,7 @@ def main():
             two_tabs(parts, browsers[0])
             two_browsers(parts, *browsers)
             in_the_middle(parts, *browsers)
-            if parts.is_apart:
-                counted(parts, browsers[0])
+            counted(parts, browsers[0])
             for browser in browsers:
                 told = [entry["message"] for entry in browser.driver.get_log("browser")]
                 said = [message for message in told if not any(known in message for known in KNOWN)]

@@ -1366,7 +1366,8 @@ export class Client {
     signal?.addEventListener("abort", stop);
     this.requests++;
     try {
-      const given = { method, headers, body, signal: ends.signal, cache: "no-store" };
+      // (a request that passes by the browser's cache is always asked for before, where the page is of another origin)
+      const given = { method, headers, body, signal: ends.signal, cache: method === "GET" ? "no-store" : "default" };
       const response = await this.#fetch(this.name + path, given);
       return { status: response.status, text: await response.text() };
     } catch (error) {

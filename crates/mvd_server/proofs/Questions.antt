@@ -54,12 +54,13 @@ pub told_line : (site : SiteValue) (old mid new : List ℕ) (ask : Result Reques
     → OnOk result ((line : List ℕ) × (ask_line site (length old) ask ≡ Ok line) × (new ≡ old ++ line))
 told_line site old mid new ask request reply (Err refusal) asks answers (where_to, same) appends = tt
 told_line site old mid new ask request reply (Ok u) asks answers (where_to, same) appends =
-    let (line, told, came) = line_of (line_told request reply) mid new u appends in
-    (line,
-    ap (ask_line site (length old)) asks
-    ∙ not_later (nat_le 1048576 (length old)) (later_told request) (line_told request (answer_from site.config site.states request)) where_to
-    ∙ ap (line_told request) (sym answers) ∙ told,
-    came ∙ ap (λ (text : List ℕ). text ++ line) same)
+    let (line, told, came) = line_of (line_told request reply) mid new u appends in (
+      line,
+      ap (ask_line site (length old)) asks
+          ∙ not_later (nat_le 1048576 (length old)) (later_told request) (line_told request (answer_from site.config site.states request)) where_to
+          ∙ ap (line_told request) (sym answers) ∙ told,
+      came ∙ ap (λ (text : List ℕ). text ++ line) same,
+    )
 
 -- ---- a list that is none
 

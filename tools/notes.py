@@ -139,7 +139,8 @@ class Browser:
         wait_for(f"edits {old} to {new}", lambda: [new] in self.notes())
 
     def press(self, selector):
-        self.run("document.querySelector(arguments[0]).click()", selector)
+        """A click of the mouse, after which what was clicked has the focus."""
+        self.driver.find_element("css selector", selector).click()
 
 
 def alone(parts, one):

@@ -25,6 +25,7 @@ function tell() {
 function editor(state, sibling) {
   const area = make("textarea", { value: sibling.document.text ?? sibling.text, ariaLabel: `Note, version ${sibling.dot}` });
   area.onchange = () => write(state, { text: area.value });
+  area.onblur = changed;
   return area;
 }
 
@@ -62,7 +63,7 @@ function changed() {
 
 /** Shows the notes. One that somebody types in stays as it is: its write then replaces just what it showed. */
 async function draw() {
-  const states = await site.all(PREFIX), typed = document.activeElement?.closest?.("#notes li");
+  const states = await site.all(PREFIX), typed = document.activeElement?.closest?.("#notes textarea")?.parentNode;
   $("notes").replaceChildren(...states.reverse().map((state) => (typed && typed.id === state.key ? typed : note(state))));
   tell();
 }

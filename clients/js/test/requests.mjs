@@ -37,5 +37,15 @@ rows.push(`2 of the 111 keys of a prefix changed: ${far.requests - before} reque
 assert.ok(far.requests - before <= 3);
 assert.deepEqual((await other.get("m120")).documents, [text(1)]);
 assert.equal((await other.get("elsewhere")).context, "-");
-console.log(rows.join("\n"));
 await server.stop();
+
+// What a server refuses is told, and the rest crosses.
+const full = await serve(program, path.join(folder, "full.db"), 1, +port + 2, ["--max-keys", 5]), ten = await Site.open("", { site: 70003 });
+for (let i = 0; i < 10; i++) await ten.put(`k${i}`, text(i));
+for (const keys of [5, 0]) {
+  const report = await ten.sync(full.url);
+  assert.equal(report.keys, keys);
+  assert.deepEqual(report.refused.map(({ side, number, name }) => [side, number, name]), Array(5).fill(["there", 10, "Full"]));
+}
+await full.stop();
+console.log(rows.join("\n"));

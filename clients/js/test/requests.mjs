@@ -37,6 +37,9 @@ rows.push(`2 of the 111 keys of a prefix changed: ${far.requests - before} reque
 assert.ok(far.requests - before <= 3);
 assert.deepEqual((await other.get("m120")).documents, [text(1)]);
 assert.equal((await other.get("elsewhere")).context, "-");
+
+// A store that lost what it wrote is told so: the server knows dots of its site that it has not.
+assert.equal((await (await Site.open("", { site: 70002 })).sync(far, { prefix: "m12" })).older, 1);
 await server.stop();
 
 // What a server refuses is told, and the rest crosses.

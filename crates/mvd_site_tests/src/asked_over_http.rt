@@ -79,6 +79,7 @@ fn live_of(
 }
 
 /// The states that a site holds.
+#[derive(Clone, Copy)]
 struct SiteStates<'a> {
     site: &'a Site,
 }

@@ -1,6 +1,5 @@
-use Rattle.std.proofs.Common.{◌≡◌, ◌∙◌, ◌+◌, ◌++◌, ◌∷◌, [], List, ℕ, ap, drop, string_bytes, subst, sym}
+use Rattle.std.proofs.Common.{string_bytes}
 use Rattle.std.proofs.lemmas.List.{at_drop_all}
-use Rattle.mvd_server.specs.Questions.{asks_text}
 use Rattle.mvd_server.proofs.Questions.{asks_done, asks_on}
 use Rattle.mvd_server.proofs.asks.push_asks.Goals as goal
 

@@ -5,8 +5,8 @@ usage: tools/notes.py [--port P] PROGRAM
 
 The page is of another origin than the server, which wants a token. Seen are: a first meeting; a reload with no server and nobody who serves
 the page; notes that are written meanwhile; two tabs that write one key at once; two browsers that write one note apart while the server is
-away, show both versions, and resolve them; a server that is killed in the midst of a sync; and how many requests sessions take. It needs
-Debian's chromium, chromium-driver and python3-selenium (/usr/bin/python3 has it, where python3 is another).
+away, show both versions, and resolve them; notes that come in while one types; a server that is killed in the midst of a sync; and how many
+requests sessions take. It needs Debian's chromium, chromium-driver and python3-selenium (/usr/bin/python3 has it, where python3 is another).
 """
 import argparse
 import http.client
@@ -213,10 +213,28 @@ def two_browsers(parts, one, other):
     other.edit("second, with no network", "edited in the other")
     parts.start("server")
     for browser in (one, other):
-        wait_for("both versions are shown", lambda: ["edited in one", "edited in the other"] in [sorted(note) for note in browser.notes()], 90)
+        wait_for("both versions are shown", lambda: ["edited in one", "edited in the other"] in [sorted(note) for note in browser.notes()], 20)
     one.press("#notes .apart .both")
     wait_for("one resolves them", lambda: "edited in one" in str(one.notes()) and not one.run("return document.querySelector('.apart')"))
     wait_for("and the other sees it", lambda: sorted(map(len, other.notes())) == [1, 1] and other.notes() == one.notes(), 60)
+
+
+def by_hand(one, other):
+    """A note that comes in leaves the one alone that is typed in; and what was just typed is deleted by a click."""
+    one.add("typed")
+    wait_for("the other has it", lambda: ["typed"] in other.notes())
+    area = next(it for it in one.driver.find_elements("css selector", "#notes textarea") if it.get_property("value") == "typed")
+    area.send_keys(" half")
+    other.add("comes in")
+    wait_for("a note comes in", lambda: ["comes in"] in one.notes())
+    one.driver.switch_to.active_element.send_keys(" and the rest")
+    is_so("what is typed stays where it was typed", ["typed half and the rest"] in one.notes(), one.notes())
+    area.find_element("xpath", "..").find_element("css selector", ".delete").click()
+    wait_for("what was just typed is deleted", lambda: not any("typed" in text for note in other.notes() for text in note))
+    is_so("by whoever typed it, too", not any("typed" in text for note in one.notes() for text in note), one.notes())
+    at = next(it for it in other.driver.find_elements("css selector", "#notes li") if "comes in" in it.find_element("tag name", "textarea").get_property("value"))
+    at.find_element("css selector", ".delete").click()
+    wait_for("and the other is", lambda: ["comes in"] not in one.notes())
 
 
 def counted(parts, one):
@@ -269,6 +287,7 @@ def main():
             stores(browsers[0])
             two_tabs(parts, browsers[0])
             two_browsers(parts, *browsers)
+            by_hand(*browsers)
             in_the_middle(parts, *browsers)
             counted(parts, browsers[0])
             for browser in browsers:

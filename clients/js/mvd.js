@@ -996,7 +996,7 @@ export class Site {
   /** Syncs whenever something changed here or there, until `signal` ends it. After a fault it waits, up to a minute. */
   async follow(url, { signal, wait = 25, onsync, onfault, ...options } = {}) {
     const client = asClient(url, options);
-    let pause = 1, ends, woken, isStirred = false;
+    let pause = 1, ends, woken, isStirred = true;
     const rest = (seconds) => new Promise((done) => {
       const clock = setTimeout(done, 1000 * seconds);
       woken = () => { clearTimeout(clock); done(); };
@@ -1008,7 +1008,7 @@ export class Site {
     try {
       while (!signal?.aborted) {
         ends = new AbortController();
-        // What was written while the session before went on is not left waiting for the server.
+        // What was written while the session before went on, or before there was one, is not left waiting for the server.
         const seconds = isStirred ? 0 : wait;
         isStirred = false;
         try {
@@ -1018,6 +1018,7 @@ export class Site {
           if (report.refused.length || report.busy) await rest(1);
         } catch (fault) {
           if (signal?.aborted) break;
+          isStirred = true;
           onfault?.(fault);
           await rest(pause);
           pause = Math.min(60, 2 * pause);

@@ -21,34 +21,26 @@ function tell() {
 
 // ---- the list
 
-/** What was typed is written in place of what the note showed as it was typed. */
-function editor(state, sibling) {
-  const area = make("textarea", { value: sibling.document.text ?? sibling.text, ariaLabel: `Note, version ${sibling.dot}` });
-  area.onchange = () => write(state, { text: area.value });
-  area.onblur = changed;
-  return area;
-}
-
-async function write(state, document) {
-  await site.put(state.key, document, state);
-  changed();
-}
-
+/** A note. What is written replaces what it showed, and what was written there before. */
 function note(state) {
-  const item = make("li", { id: state.key });
-  if (state.siblings.length > 1) {
+  const item = make("li", { id: state.key }), apart = state.siblings.length > 1;
+  let seen = Promise.resolve(state);
+  const write = (document) => { seen = seen.then((read) => site.put(state.key, document, read)); seen.then(changed); };
+  const button = (text, className, onclick) => make("button", { className, onclick }, text);
+  if (apart) {
     item.className = "apart";
     item.append(make("p", {}, `Written in ${state.siblings.length} places that did not know of each other:`));
   }
   for (const sibling of state.siblings) {
-    item.append(editor(state, sibling));
-    if (state.siblings.length > 1) item.append(make("button", { onclick: () => write(state, sibling.document) }, "Keep this one"));
+    const area = make("textarea", { value: sibling.document.text ?? sibling.text, ariaLabel: `Note, version ${sibling.dot}` });
+    area.onchange = () => write({ text: area.value });
+    area.onblur = changed;
+    item.append(area);
+    if (apart) item.append(button("Keep this one", "", () => write(sibling.document)));
   }
-  if (state.siblings.length > 1) {
-    const all = state.documents.map((one) => one.text).join("\n---\n");
-    item.append(make("button", { className: "both", onclick: () => write(state, { text: all }) }, "Keep all in one note"));
-  }
-  item.append(make("button", { className: "delete", onclick: () => site.delete(state.key, state) }, "Delete"));
+  const all = state.documents.map((one) => one.text).join("\n---\n");
+  if (apart) item.append(button("Keep all in one note", "both", () => write({ text: all })));
+  item.append(button("Delete", "delete", () => seen.then((read) => site.delete(state.key, read))));
   return item;
 }
 
@@ -61,10 +53,19 @@ function changed() {
   setTimeout(() => { waiting = false; shown = shown.then(draw); }, 50);
 }
 
-/** Shows the notes. One that somebody types in stays as it is: its write then replaces just what it showed. */
+/** Shows the notes. One that somebody types in or presses stays in its place, and what has the focus keeps it. */
 async function draw() {
-  const states = await site.all(PREFIX), typed = document.activeElement?.closest?.("#notes textarea")?.parentNode;
-  $("notes").replaceChildren(...states.reverse().map((state) => (typed && typed.id === state.key ? typed : note(state))));
+  const states = await site.all(PREFIX), list = $("notes"), focused = document.activeElement, old = focused?.closest?.("#notes li");
+  const held = list.querySelector("li:active") ?? (focused?.matches?.("textarea") ? old : null);
+  const items = states.reverse().map((state) => (held?.id === state.key ? held : note(state))), at = items.indexOf(held);
+  if (at < 0) list.replaceChildren(...items);
+  else {
+    for (const item of [...list.children]) if (item !== held) item.remove();
+    held.before(...items.slice(0, at));
+    held.after(...items.slice(at + 1));
+  }
+  const parts = (item) => [...item?.querySelectorAll("textarea, button") ?? []], now = parts(old && $(old.id));
+  if (old && old !== held && now.length === parts(old).length) now[parts(old).indexOf(focused)].focus();
   tell();
 }
 

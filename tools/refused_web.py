@@ -93,8 +93,9 @@ def is_true(told, is_stored, head, body):
     if told.startswith(head) and not b'{"refused"' in told:
         return is_stored and is_whole(told) and told.endswith(b"\r\n\r\n" + body)
     if told.startswith(head):
-        # of a list each line is a refusal of its own
-        return is_whole(told) and (not is_stored or b'{"refused":22,' in told)
+        # Of a list each line tells of its own write, the first of the key that was looked at.
+        line = told.partition(b"\r\n\r\n")[2].split(b"\n")[0]
+        return is_whole(told) and (is_stored == line.startswith(b'{"dot":') or b'{"refused":22,' in line)
     # After 22 the write is in the file, for the site to be opened again.
     return is_whole(told) and told.startswith(b"HTTP/1.1 503 ") and (not is_stored or b'{"refused":22,' in told)
 

@@ -1,7 +1,7 @@
 //! Requests at hand: clients that are no connections ask a host as values, and are told as values.
 use super::host_calls::{admit_all, feed, round_at_hand, take};
 use super::replica_calls::{
-    Bytes, CLASH, GET, PUT, ROOM, STATE, Told, WRITTEN, end, new_replica, tells,
+    Bytes, CLASH, CLASHES, GET, PUT, ROOM, STATE, Told, WRITTEN, end, new_replica, tells,
 };
 use mvd_dots::Refusal;
 use mvd_frames::{decode_request, encode_reply};
@@ -98,11 +98,12 @@ fn is_told<S: Alter>(
     tells_next(alloc, hand, FIRST_AT_HAND, reply) && next(alloc, hand).is_none()
 }
 
-fn put_and_get_are_told(alloc: Global) -> Result<bool, Refusal> {
+fn put_push_and_get_are_told(alloc: Global) -> Result<bool, Refusal> {
     let mut replica = new_replica(alloc, 1, &[])?;
     let mut host = Host::new(alloc);
     let mut hand = AtHand::new(alloc);
     let are_told = is_told(alloc, &mut host, &mut replica, &mut hand, PUT, WRITTEN)
+        && is_told(alloc, &mut host, &mut replica, &mut hand, CLASH, CLASHES)
         && is_told(alloc, &mut host, &mut replica, &mut hand, GET, STATE);
     drop(hand);
     drop(host);
@@ -112,7 +113,7 @@ fn put_and_get_are_told(alloc: Global) -> Result<bool, Refusal> {
 
 #[test]
 fn a_client_at_hand_is_told(rt: HostRuntime) -> Result<(), Fail> {
-    assert!(rt; put_and_get_are_told(rt.alloc())?);
+    assert!(rt; put_push_and_get_are_told(rt.alloc())?);
     Ok(())
 }
 
@@ -135,8 +136,8 @@ fn puts_share_a_round<S: Alter>(
     Ok(matches!(asked, (Ok(()), 0)) && are_told && is_third && replica.commits() == 1)
 }
 
-/// Whether none of these may be asked at hand, and a round does nothing then: what has the number of a connection, and a
-/// push, alone or among others.
+/// Whether none of these may be asked at hand, and a round does nothing then: what has the number of a connection, alone
+/// or among others.
 fn are_refused<S: Alter>(
     alloc: Global,
     replica: &mut Replica<S>,
@@ -144,17 +145,10 @@ fn are_refused<S: Alter>(
     hand: &mut AtHand,
 ) -> Result<bool, Refusal> {
     let one = ask(alloc, hand, FIRST_AT_HAND - 1, PUT);
-    let push = ask(alloc, hand, FIRST_AT_HAND, CLASH);
     let all = ask_all(alloc, hand, FIRST_AT_HAND - 1, &[PUT, GET])?;
-    let pushes = ask_all(alloc, hand, FIRST_AT_HAND, &[PUT, CLASH])?;
     let are_bad = matches!(
-        (one, push, all, pushes),
-        (
-            Err(Refusal::BadKind),
-            Err(Refusal::BadKind),
-            (Err(Refusal::BadKind), 2),
-            (Err(Refusal::BadKind), 2)
-        )
+        (one, all),
+        (Err(Refusal::BadKind), (Err(Refusal::BadKind), 2))
     );
     round_at_hand(alloc, host, replica, &[], hand);
     Ok(are_bad && next(alloc, hand).is_none() && replica.commits() == 0)

@@ -27,9 +27,9 @@ async function edit(where) {
   return where.put(name, text, blind ? undefined : state);
 }
 
-/** A session, which is cut at one of its first requests, or goes on over the next server or the same. */
+/** A session, which is cut at one of its first requests, or goes on over the next server or the same. Many take one request or two. */
 async function meet(site) {
-  const kind = random(8), fetch = kind < 5 ? cutAt(random, random(3), false) : kind < 6 ? cutAt(random, random(3), true) : undefined;
+  const kind = random(8), fetch = kind < 7 ? cutAt(random, [0, 0, 1, 1, 2][random(5)], kind === 0) : undefined;
   const order = random(2) ? urls : [...urls].reverse(), prefix = ["", "", "u1/", "u2/"][random(4)];
   told.syncs++;
   try {

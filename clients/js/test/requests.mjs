@@ -21,6 +21,15 @@ before = far.requests;
 assert.equal((await many.sync(far, { whole: true })).keys, 10);
 rows.push(`10 of 4,000 changed, by the tree: ${far.requests - before} requests`);
 
+// More changes than one answer has.
+for await (const { fault } of other.write(Array.from({ length: 2500 }, (_, i) => ({ key: `o${i}`, document: i % 50 ? text(i) : { text: "x".repeat(9000) } })))) {
+  assert.equal(fault, undefined);
+}
+before = far.requests;
+assert.deepEqual(await site.sync(far), { keys: 2510, refused: [], older: 0 });
+assert.equal(await site.root(), (await other.root()).root);
+rows.push(`2,510 changed there: ${far.requests - before} requests`);
+
 // A part of the keys: of the others none comes, and none goes.
 before = far.requests;
 assert.equal((await site.sync(far, { prefix: "m1" })).keys, 0);

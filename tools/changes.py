@@ -146,6 +146,11 @@ def check_lists(server):
     told("live keys", 200, '{"keys":[{"key":"ada","siblings":2}]}', "GET", "/keys?prefix=ad&live=1")
     told("keys in conflict", 200, '{"keys":[{"key":"ada","siblings":2}]}', "GET", "/conflicts")
     told("keys in conflict after one", 200, '{"keys":[]}', "GET", "/conflicts?after=ada")
+    digests = {one["key"]: one["digest"] for place in range(4096) for one in server.json(f"/tree?path={place:03x}")["keys"]}
+    page = server.json("/keys?digests=1")["keys"]
+    wanted("keys with the digests of the tree", [(one["key"], one["siblings"], one["digest"]) for one in page] == [(key, count, digests[key]) for key, count in (("ada", 2), ("adele", 0), ("bob", 1))], page)
+    page = server.json("/keys?digests=1&live=1&after=ada")
+    wanted("live keys with theirs", page == {"keys": [{"key": "bob", "siblings": 1, "digest": digests["bob"]}]}, page)
     told("a prefix that is none is 1", 400, '{"refused":1,"name":"BadKey"}', "GET", "/keys?prefix=%20")
     root = server.json("/root")
     wanted("the root tells of conflicts", (root["keys"], root["conflicts"], root["site"]) == (3, 1, 1), root)
@@ -194,6 +199,11 @@ def check_states(server, folder):
     status, text = server.ask("POST", "/get", "".join(json.dumps(key) + "\n" for key in keys))
     told = [json.loads(it) for it in text.splitlines()]
     wanted("each key has a line", (status, [it["key"] for it in told]) == (200, keys), (status, len(told)))
+    listed, pages, after = [], 0, ""
+    while after is not None:
+        page = server.json(f"/keys?prefix=long&digests=1&after={after}")
+        listed, pages, after = listed + [it["key"] for it in page["keys"]], pages + 1, page.get("next")
+    wanted("a mebibyte is hashed for a page", (listed, pages) == (sorted(keys[:34]), 2), (listed, pages))
     whole = [it for it in told if "later" not in it]
     wanted("a mebibyte is told, and no line more", sum(len(json.dumps(it, separators=(",", ":"))) + 1 for it in whole[:-1]) < 1 << 20 < len(text) < (1 << 20) + 65_536, len(text))
     wanted("further keys are to be asked again", told[len(whole):] == [{"key": key, "later": True} for key in keys[len(whole):]], told[len(whole):])

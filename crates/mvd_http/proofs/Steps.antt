@@ -23,6 +23,9 @@ entry_more f xs i x old s0 s1 s2 within is e0 e1 e2 =
     steps3 old s0 s1 s2 (flat_map (led f) (take i xs)) (codes ",") (f x) e0 e1 e2
     ∙ ap (λ t. old ++ t) (ap (λ y. flat_map (led f) (take i xs) ++ led f y) is ∙ flat_map-take_more (led f) xs i x within)
 
+pub steps6 : (old s1 s2 s3 s4 s5 s6 a b c d e f : List ℕ) → s1 ≡ old ++ a → s2 ≡ s1 ++ b → s3 ≡ s2 ++ c → s4 ≡ s3 ++ d → s5 ≡ s4 ++ e → s6 ≡ s5 ++ f → s6 ≡ old ++ (a ++ (b ++ (c ++ (d ++ (e ++ f)))))
+steps6 old s1 s2 s3 s4 s5 s6 a b c d e f e1 e2 e3 e4 e5 e6 = rw (e6, e5, e4, e3, e2, e1) (simp append_assoc)
+
 pub steps7 : (old s1 s2 s3 s4 s5 s6 s7 a b c d e f g : List ℕ) → s1 ≡ old ++ a → s2 ≡ s1 ++ b → s3 ≡ s2 ++ c → s4 ≡ s3 ++ d → s5 ≡ s4 ++ e → s6 ≡ s5 ++ f → s7 ≡ s6 ++ g → s7 ≡ old ++ (a ++ (b ++ (c ++ (d ++ (e ++ (f ++ g))))))
 steps7 old s1 s2 s3 s4 s5 s6 s7 a b c d e f g e1 e2 e3 e4 e5 e6 e7 = rw (e7, e6, e5, e4, e3, e2, e1) (simp append_assoc)
 

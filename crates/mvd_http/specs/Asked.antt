@@ -25,11 +25,12 @@ use Rattle.mvd_wire.specs.Prefix.{prefix_of_text}
 use Rattle.mvd_wire.specs.declared.request.Request.{Request}
 use Rattle.mvd_wire.specs.declared.request.Request.TheVariants.{Get, Put, Delete, Row, Rows, Node, Bucket, Range, Keys, Conflicts}
 use Rattle.mvd_http.specs.declared.question.Question.{Question}
-use Rattle.mvd_http.specs.declared.question.Question.TheVariants.{Page, Root, Metrics, Health, Ask, Asks, Live, Changes, Misread, Nowhere, NotAllowed, TooLong}
+use Rattle.mvd_http.specs.declared.question.Question.TheVariants.{Page, Root, Metrics, Health, Ask, Asks, Listed, Live, Changes, Misread, Nowhere, NotAllowed, TooLong}
 use Rattle.mvd_http.specs.declared.posted.Form.{Form}
 use Rattle.mvd_http.specs.declared.posted.Form.TheVariants as form
 use Rattle.mvd_http.specs.declared.question.Methods.TheVariants.{OfKey, OfKeys, OfList, OfPost}
 use Rattle.mvd_http.specs.declared.question.Verb.{Verb}
+use Rattle.mvd_http.specs.declared.question.Wanted.{Wanted}
 use Rattle.mvd_http.specs.declared.question.Verb.TheVariants as verb
 use Rattle.mvd_http.specs.Paths.{text_before, text_behind, given, read_part, read_text, without, without_end}
 use Rattle.mvd_http.specs.Dots.{dot_in, number_in}
@@ -175,19 +176,22 @@ paths_or (b ∷ bs) query = few_paths (slice_split (λ c. c == 44) (percent_deco
 abbrev pub tree_asked : List ℕ → Result Question Refusal
 tree_asked query = paths_or (given (codes "paths=") query) query
 
--- `live=1` leaves out keys without a sibling
-abbrev pub keys_as : Bool → Request → Question
-keys_as true request = Live request
-keys_as false request = Ask request
+abbrev pub is_set : List ℕ → List ℕ → Bool
+is_set name query = bytes_eq (given name query) (codes "1")
 
-abbrev pub is_live : List ℕ → Bool
-is_live query = bytes_eq (given (codes "live=") query) (codes "1")
+-- `live=1` leaves out keys without a sibling, `digests=1` tells the digest of each
+abbrev pub wanted_in : List ℕ → Wanted
+wanted_in query = record { live = is_set (codes "live=") query; digests = is_set (codes "digests=") query }
+
+abbrev pub keys_as : Wanted → Request → Question
+keys_as wanted request =
+    if wanted.digests then Listed request wanted else (if wanted.live then Live request else Ask request)
 
 abbrev pub keys_question : List ℕ → Result Question Refusal
 keys_question query =
     then_read (prefix_in (given (codes "prefix=") query)) (λ prefix.
     then_read (if_given key_in (given (codes "after=") query))
-    (λ after. Ok (keys_as (is_live query) (Keys prefix after))))
+    (λ after. Ok (keys_as (wanted_in query) (Keys prefix after))))
 
 abbrev pub conflicts_asked : List ℕ → Result Question Refusal
 conflicts_asked query = then_read (if_given key_in (given (codes "after=") query)) (λ after. Ok (Ask (Conflicts after)))

@@ -34,6 +34,11 @@ abbrev pub led_if : {X : Type 0} → Bool → (X → List ℕ) → X → List �
 led_if true text x = text x
 led_if false text x = led text x
 
+-- the same, by itself
+abbrev pub comma_if : Bool → List ℕ
+comma_if true = []
+comma_if false = codes ","
+
 abbrev pub commaed : {X : Type 0} → (X → List ℕ) → List X → List ℕ
 commaed text [] = []
 commaed text (x ∷ xs) = text x ++ flat_map (led text) xs

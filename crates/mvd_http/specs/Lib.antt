@@ -7,6 +7,7 @@ pub mod Posted
 pub mod Asked
 pub mod Json
 pub mod Answers
+pub mod Listed
 pub mod Faults
 pub mod Guard
 pub mod Fields

@@ -79,7 +79,7 @@ fn push_live(alloc: Global, out: &mut String, keys: &[KeyCount]) -> Result<(), R
     Ok(())
 }
 
-fn push_count_next(
+pub fn push_count_next(
     alloc: Global,
     out: &mut String,
     keys: &[KeyCount],

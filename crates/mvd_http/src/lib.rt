@@ -9,6 +9,7 @@ mod http_fault;
 mod json_lists;
 mod json_words;
 mod line_told;
+mod listed;
 mod lists_asked;
 mod live_told;
 mod members;
@@ -32,11 +33,12 @@ pub use fields::{Answer, Content, fill};
 pub use guard::{Names, name_in, origin_in, stranger};
 pub use http_fault::Fault;
 pub use line_told::{LINE_ROOM, push_line};
+pub use listed::{Holds, push_listed};
 pub use live_told::live_response_of;
 pub use not_waited::push_not_waited;
 pub use open_to_all::is_open_to_all;
 pub use page::PAGE;
-pub use question::{Methods, Question, Verb};
+pub use question::{Methods, Question, Verb, Wanted};
 pub use responses::{
     misread_response, push_refused, refused_response, refused_status, response_of,
 };

@@ -6,13 +6,13 @@ ghost use Rattle.mvd_wire.specs.Codec.{Gives};
 ghost use Rattle.mvd_http.specs.Asked.{digit_in};
 ghost use Rattle.mvd_http.specs.Seen.{then_read};
 ghost use Rattle.mvd_dots.specs.Answer.{IsAnswer};
-ghost use Rattle.mvd_http.specs.Asked.{bound as bound_given, changes_question, conflicts_asked, index_asked, keys_question};
+ghost use Rattle.mvd_http.specs.Asked.{bound as bound_given, changes_question, conflicts_asked, index_asked, is_set as set_to_one, keys_as, keys_question};
 ghost use Rattle.mvd_http.specs.Asked.{list_asked, named_list as list_named, row_question, rows_question, told_asked, tree_asked};
 ghost use Rattle.mvd_http.specs.Asked.{few_paths, node_or_keys, paths_asked, paths_or, under_path, view_asked};
 ghost use Rattle.mvd_http.specs.Paths.{without as left_behind};
 
 use crate::place::place_if_given;
-use crate::question::Question;
+use crate::question::{Question, Wanted};
 use crate::since::{root_if_given, wait_in};
 use crate::target::{given, without, without_end};
 use crate::target_parts::{
@@ -67,11 +67,31 @@ pub fn keys_of(alloc: Global, query: &[u8]) -> Result<Question, Refusal>
 {
     let prefix = prefix_in(alloc, given(query, b"prefix="))?;
     let after = key_if_given(alloc, given(query, b"after="))?;
-    let request = Request::Keys(prefix, after);
-    if given(query, b"live=") == b"1".as_slice() {
-        return Ok(Question::Live(request));
+    let wanted = Wanted {
+        live: is_set(query, b"live="),
+        digests: is_set(query, b"digests="),
+    };
+    Ok(told_as(wanted, Request::Keys(prefix, after)))
+}
+
+/// Whether an option is `1`.
+fn is_set(query: &[u8], name: &[u8]) -> bool
+    ensures { result ≡ set_to_one name.now query.now }
+{
+    given(query, name) == b"1".as_slice()
+}
+
+/// A page of keys, told as is wanted.
+fn told_as(wanted: Wanted, request: Request) -> Question
+    ensures { result ≡ keys_as wanted request }
+{
+    if wanted.digests {
+        return Question::Listed(request, wanted);
     }
-    Ok(Question::Ask(request))
+    if wanted.live {
+        return Question::Live(request);
+    }
+    Question::Ask(request)
 }
 
 fn conflicts_of(alloc: Global, query: &[u8]) -> Result<Question, Refusal>

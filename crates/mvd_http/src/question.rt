@@ -18,6 +18,8 @@ pub enum Question {
     Ask(Request),
     /// The site is asked, and keys without a sibling are left out of what is told.
     Live(Request),
+    /// The site is asked, and more is told of the keys of its reply.
+    Listed(Request, Wanted),
     /// The keys that changed since a root, if one is named. Where none did, the response may wait for so many seconds.
     Changes(Option<[u8; 32]>, u32),
     /// A list of writes, or of states that are pushed: what each line asks, or why it is refused.
@@ -34,6 +36,15 @@ pub enum Question {
     Nowhere,
     /// There is, and it is asked by these methods alone.
     NotAllowed(Methods),
+}
+
+/// What is told of a page of keys.
+#[derive(Clone, Copy)]
+pub struct Wanted {
+    /// The keys that have a sibling alone.
+    pub live: bool,
+    /// Each with its digest.
+    pub digests: bool,
 }
 
 /// The methods by which something is asked.

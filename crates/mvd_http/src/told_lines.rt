@@ -31,7 +31,7 @@ pub fn push_told(
 }
 
 /// Why there is no line.
-fn refusal_of(reply: &Reply) -> Refusal
+pub fn refusal_of(reply: &Reply) -> Refusal
     ensures { result ≡ refusal_in reply.now }
 {
     match reply {

@@ -7,7 +7,7 @@ use Rattle.mvd_dots.specs.declared.refusals.Refusal.{Refusal}
 use Rattle.mvd_host.specs.AtHand.{AtHandValue, StepsAtHand}
 use Rattle.mvd_http.specs.declared.fields.Content.TheVariants as content
 use Rattle.mvd_http.specs.declared.question.Question.{Question}
-use Rattle.mvd_http.specs.declared.question.Question.TheVariants.{Page, Root, Metrics, Health, Ask, Asks, BadLine, Live, Changes, Many, Misread, Nowhere, NotAllowed, TooLong}
+use Rattle.mvd_http.specs.declared.question.Question.TheVariants.{Page, Root, Metrics, Health, Ask, Asks, BadLine, Listed, Live, Changes, Many, Misread, Nowhere, NotAllowed, TooLong}
 use Rattle.mvd_server.specs.Admitted.{Decides}
 use Rattle.mvd_server.specs.Batches.{BeginsBatch, HandsBatch}
 use Rattle.mvd_server.specs.Errands.{Asks, AsksAtHand, AsksNextOf, Desk, DoesPlan, Errand, Forgoes, IsBatchFor, IsUntold, RunsErrand, Stops, TakesIf, Tells, TellsBatch, TellsChange, TellsMany}
@@ -47,6 +47,7 @@ steps_plan n (plan.Ask request) old hand new hand' left (asks, none) = steps_ask
 steps_plan n (plan.Writes batch) old hand new hand' left (is, same, writes) = inl is
 steps_plan n (plan.Changes since wait) old hand new hand' left (is, tells) = inl is
 steps_plan n plan.Asks old hand new hand' left (told, body) = inl told.0
+steps_plan n plan.Listed old hand new hand' left (told, body) = inl told.0
 steps_plan n (plan.BadLine line) old hand new hand' left (told, body) = inl told.0
 steps_plan n plan.Root old hand new hand' left (told, body) = inl told.0
 steps_plan n plan.Metrics old hand new hand' left (told, body) = inl told.0
@@ -77,6 +78,7 @@ batch_asked (Ok Metrics) batch is = absurd (let no : ⊥ = cc in no)
 batch_asked (Ok Health) batch is = absurd (let no : ⊥ = cc in no)
 batch_asked (Ok TooLong) batch never = absurd never
 batch_asked (Ok (Asks questions)) batch is = absurd (let no : ⊥ = cc in no)
+batch_asked (Ok (Listed request wanted)) batch is = absurd (let no : ⊥ = cc in no)
 batch_asked (Ok (BadLine line)) batch is = absurd (let no : ⊥ = cc in no)
 batch_asked (Ok (Misread refusal place)) batch is = absurd (let no : ⊥ = cc in no)
 batch_asked (Ok Nowhere) batch never = absurd never
@@ -117,6 +119,7 @@ batch_left guard n (plan.Ask request) asked old hand new hand' batch kept plans 
 batch_left guard n (plan.Changes since wait) asked old hand new hand' batch kept plans (is, inl (left, body)) = absurd (let no : ⊥ = cc in no)
 batch_left guard n (plan.Changes since wait) asked old hand new hand' batch kept plans (is, inr (root, some, left, same)) = absurd (let no : ⊥ = cc in no)
 batch_left guard n plan.Asks asked old hand new hand' batch kept plans (told, body) = let left = told.1 in absurd (let no : ⊥ = cc in no)
+batch_left guard n plan.Listed asked old hand new hand' batch kept plans (told, body) = let left = told.1 in absurd (let no : ⊥ = cc in no)
 batch_left guard n (plan.BadLine line) asked old hand new hand' batch kept plans (told, body) = let left = told.1 in absurd (let no : ⊥ = cc in no)
 batch_left guard n plan.Root asked old hand new hand' batch kept plans (told, body) = let left = told.1 in absurd (let no : ⊥ = cc in no)
 batch_left guard n plan.Health asked old hand new hand' batch kept plans (told, body) = let left = told.1 in absurd (let no : ⊥ = cc in no)

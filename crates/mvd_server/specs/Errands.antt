@@ -14,6 +14,7 @@ use Rattle.mvd_server.specs.Admitted.{Decides}
 use Rattle.mvd_server.specs.Batches.{BeginsBatch}
 use Rattle.mvd_server.specs.Lines.{IsOnlyTold, TellsEachLine}
 use Rattle.mvd_server.specs.Plans.{plain_answer}
+use Rattle.mvd_server.specs.Listings.{TellsListed}
 use Rattle.mvd_server.specs.Questions.{TellsAsks, TellsBadLine}
 use Rattle.mvd_server.specs.Responding.{AnswersWeb, RefusesWeb, TellsBody, token_answer, not_admitted}
 use Rattle.mvd_server.specs.declared.batch.Batch.{Batch}
@@ -52,6 +53,8 @@ DoesPlan n (plan.Writes batch) old hand new hand' left = (hand' ≡ hand) × (ne
 DoesPlan n (plan.Changes since wait) old hand new hand' left = (hand' ≡ hand) × TellsOrWaits since wait old new left
 DoesPlan n plan.Asks old hand new hand' left =
     IsToldRest hand hand' left × ((site : SiteValue) × TellsAsks site old.asked old new)
+DoesPlan n plan.Listed old hand new hand' left =
+    IsToldRest hand hand' left × ((site : SiteValue) × TellsListed site old.asked old new)
 DoesPlan n (plan.BadLine line) old hand new hand' left = IsToldRest hand hand' left × TellsBadLine line old new
 DoesPlan n plan.Root old hand new hand' left = IsToldRest hand hand' left × TellsBody content.Json old new
 DoesPlan n plan.Metrics old hand new hand' left = IsToldRest hand hand' left × TellsBody content.Plain old new

@@ -16,6 +16,7 @@ pub mod PeerNews
 pub mod Peerings
 pub mod Plans
 pub mod Questions
+pub mod Listings
 pub mod Responding
 pub mod Rounds
 pub mod Since

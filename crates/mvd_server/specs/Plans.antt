@@ -10,7 +10,7 @@ use Rattle.mvd_http.specs.declared.http_fault.Fault.{Fault}
 use Rattle.mvd_http.specs.declared.http_fault.Fault.TheVariants.{ContentTooLarge, MethodNotAllowed, NotFound}
 use Rattle.mvd_http.specs.declared.question.Methods.{Methods}
 use Rattle.mvd_http.specs.declared.question.Question.{Question}
-use Rattle.mvd_http.specs.declared.question.Question.TheVariants.{Page, Root, Metrics, Health, Ask, Asks, BadLine, Live, Changes, Many, Misread, Nowhere, NotAllowed, TooLong}
+use Rattle.mvd_http.specs.declared.question.Question.TheVariants.{Page, Root, Metrics, Health, Ask, Asks, BadLine, Listed, Live, Changes, Many, Misread, Nowhere, NotAllowed, TooLong}
 use Rattle.mvd_server.specs.Batches.{BeginsBatch, is_web_request}
 use Rattle.mvd_server.specs.declared.gate.Plan.{Plan}
 use Rattle.mvd_server.specs.declared.gate.Plan.TheVariants as plan
@@ -60,6 +60,7 @@ IsPlanFor (Ask request) p = HandsOn request p
 IsPlanFor (Live request) p = HandsOn request p
 IsPlanFor (Many writes) p = HandsOnAll writes p
 IsPlanFor (Asks questions) p = p ≡ plan.Asks
+IsPlanFor (Listed request wanted) p = p ≡ plan.Listed
 IsPlanFor (BadLine line) p = p ≡ plan.BadLine line
 IsPlanFor (Changes since wait) p = p ≡ plan.Changes since wait
 IsPlanFor Page p = TellsWebPage p

@@ -5,6 +5,7 @@ use Rattle.mvd_dots.specs.declared.refusals.Refusal.TheVariants.{BadKind, Memory
 use Rattle.mvd_http.specs.Answers.{later_told, line_told}
 use Rattle.mvd_http.specs.Json.{bad_line_json, refused_json}
 use Rattle.mvd_http.specs.Seen.{then_read}
+use Rattle.mvd_http.specs.declared.fields.Content.{Content}
 use Rattle.mvd_http.specs.declared.fields.Content.TheVariants as content
 use Rattle.mvd_http.specs.declared.question.Question.{Question}
 use Rattle.mvd_http.specs.declared.question.Question.TheVariants.{Asks}
@@ -41,16 +42,16 @@ abbrev pub asks_of : SiteValue → Result Question Refusal → Result (List ℕ)
 asks_of site (Ok (Asks asks)) = asks_text site [] asks
 asks_of site _ = Err BadKind
 
--- the lines are told, or a refusal in their place
-abbrev pub TellsLines : Result (List ℕ) Refusal → WebValue → WebValue → Type 0
-TellsLines lines old new =
-    ((text : List ℕ) × (lines ≡ Ok text) × RespondsTo old.asked old (plain_answer 200 content.Lines) text new)
+-- a text of this kind is told, or a refusal in its place
+abbrev pub TellsText : Content → Result (List ℕ) Refusal → WebValue → WebValue → Type 0
+TellsText kind told old new =
+    ((text : List ℕ) × (told ≡ Ok text) × RespondsTo old.asked old (plain_answer 200 kind) text new)
     ⊎ ((refusal : Refusal) × RefusesWeb refusal old new)
 
 -- the request that waits is told the lines of its questions
 abbrev pub TellsAsks : SiteValue → Option Asked → WebValue → WebValue → Type 0
 TellsAsks site None old new = new ≡ old
-TellsAsks site (Some asked) old new = TellsLines (asks_of site asked.question) old new
+TellsAsks site (Some asked) old new = TellsText content.Lines (asks_of site asked.question) old new
 
 -- which line of a list has another form
 abbrev pub TellsBadLine : ℕ → WebValue → WebValue → Type 0

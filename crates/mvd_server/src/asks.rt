@@ -116,7 +116,7 @@ fn push_ask(
 }
 
 /// What the site answers to a question.
-fn reply_to(site: &Site, request: &Request) -> Result<Reply, Refusal>
+pub(crate) fn reply_to(site: &Site, request: &Request) -> Result<Reply, Refusal>
     ensures { IfOk result (λ reply. reply ≡ answer_from site.now.config site.now.states request.now) }
 {
     match site.prepare(request)? {

@@ -14,6 +14,7 @@ use crate::asks::{tell_asks, tell_bad_line};
 use crate::batch::Batch;
 use crate::changes::push_since;
 use crate::copying::copy_request;
+use crate::listings::tell_listed;
 use crate::metrics::{Counts, Now};
 use crate::responding::{answer_of, refuse, respond, tell_pushed};
 use http::StatusCode;
@@ -40,6 +41,8 @@ enum Plan {
     Writes(Batch),
     /// Its questions are answered at once, in lines.
     Asks,
+    /// Its page is told at once.
+    Listed,
     /// Its line of this number is told to have another form.
     BadLine(u64),
     /// It is answered by what the server keeps, maybe after so many seconds.
@@ -97,6 +100,7 @@ fn plan_for(alloc: Global, question: &Question) -> Plan
             Err(refusal) => Plan::Refused(refusal),
         },
         Question::Asks(_) => Plan::Asks,
+        Question::Listed(..) => Plan::Listed,
         Question::BadLine(line) => Plan::BadLine(*line),
         Question::Changes(since, wait) => Plan::Changes(*since, *wait),
         Question::Page => Plan::Told(answer_of(StatusCode::OK, Content::Html), PAGE),
@@ -187,6 +191,10 @@ fn carry_out<S: Alter + Drop>(
         }
         Plan::Asks => {
             tell_asks(alloc, web, replica, counts);
+            Rest::Nothing
+        }
+        Plan::Listed => {
+            tell_listed(alloc, web, replica, counts);
             Rest::Nothing
         }
         Plan::BadLine(line) => {

@@ -11,6 +11,7 @@ mod door;
 mod endings;
 mod feeding;
 mod gate;
+mod listings;
 mod look;
 mod metrics;
 mod own_session;

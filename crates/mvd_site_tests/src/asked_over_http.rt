@@ -6,9 +6,10 @@ use crate::state_requests::{REFUSED_STATES, STATES};
 use mvd_docs::{Field, ViewName};
 use mvd_dots::Refusal;
 use mvd_http::{
-    Fault, Question, live_response_of, misread_response, push_bad_line, push_line, push_refused,
-    push_told, question_of, refused_response, response_of,
+    Fault, Holds, Question, Wanted, live_response_of, misread_response, push_bad_line, push_line,
+    push_listed, push_refused, push_told, question_of, refused_response, response_of,
 };
+use mvd_keys::{Key, KeyState};
 use mvd_rows::Defs;
 use mvd_site::{Config, Site};
 use mvd_wire::{Reply, Request};
@@ -77,6 +78,34 @@ fn live_of(
     Ok(live_response_of(alloc, request, &reply, out)?)
 }
 
+/// The states that a site holds.
+struct SiteStates<'a> {
+    site: &'a Site,
+}
+
+impl<'a> Holds for SiteStates<'a> {
+    ghost use Rattle.mvd_site.specs.Answer.{state_at};
+
+    ghost states = { λ held. state_at held.site.now.states };
+
+    fn state_of(&self, key: &Key) -> Result<KeyState, Refusal> {
+        self.site.get(key)
+    }
+}
+
+/// The same, with more of each key.
+fn listed_of(
+    alloc: Global,
+    site: &mut Site,
+    request: &Request,
+    wanted: Wanted,
+    out: &mut String,
+) -> Result<u16, Refusal> {
+    let reply = answered(site, request);
+    push_listed(alloc, &SiteStates { site }, wanted, &reply, out)?;
+    Ok(200)
+}
+
 /// Each question in turn.
 fn lines_of(
     alloc: Global,
@@ -141,6 +170,7 @@ fn told(
     match asked {
         Question::Ask(request) => asked_of(alloc, site, request, out),
         Question::Live(request) => live_of(alloc, site, request, out),
+        Question::Listed(request, wanted) => listed_of(alloc, site, request, *wanted, out),
         Question::Many(items) => all_of(site, items.as_slice(), out),
         Question::Asks(asks) => lines_of(alloc, site, asks.as_slice(), out),
         Question::BadLine(line) => tell_line(out, *line),

@@ -1,0 +1,85 @@
+-- The entries of a page that are told, and how far it goes.
+use Rattle.std.proofs.Common.{◌≡◌, ◌≢◌, ◌∙◌, ◌==◌, ℕ, zero, suc, ◌+◌, ◌-◌, ◌<◌, ◌≤◌, Bool, true, false, cond, List, [], ◌∷◌, ◌++◌, length, get_or, take, drop, filter, refl, sym, ap, append_assoc, append-nil, arith, codes}
+use Rattle.sha2.specs.Sha256.{sha256}
+use Rattle.std.proofs.lemmas.List.Elements.{filter_more}
+use Rattle.std.proofs.lemmas.List.{at_drop_all, drop_more, length_push, take_all, take_more}
+use Rattle.std.proofs.lemmas.Bool.Decides.{nat_tests}
+use Rattle.mvd_keys.specs.State.{State}
+use Rattle.mvd_keys.specs.Writes.{Key}
+use Rattle.mvd_http.specs.Json.{commaed, digest_json, led_if}
+use Rattle.mvd_http.specs.Listed.{digest_told, front, spelling, state_digest}
+use Rattle.mvd_http.proofs.Counting.{commaed_more}
+use Rattle.mvd_http.proofs.Steps.{steps2}
+
+-- ---- how far it goes
+
+module _ {X : Type 0} (bytes : X → ℕ) where
+  first : (room : ℕ) (x : X) (rest : List X) → room ≢ 0 → front bytes room (x ∷ rest) ≡ x ∷ front bytes (room - bytes x) rest
+  unfolding front
+  first room x rest some =
+      let left : room == 0 ≡ false = grind (arith, nat_tests) in ap (λ b. cond b [] (x ∷ front bytes (room - bytes x) rest)) left
+
+  none : (xs : List X) → front bytes 0 xs ≡ []
+  unfolding front
+  none [] = refl
+  none (x ∷ xs) = refl
+
+  -- one entry more
+  pub front_on : (xs whole : List X) (i room left : ℕ) (x : X) → i < length xs → x ≡ get_or xs i x → room ≢ 0 → left ≡ room - bytes x
+      → whole ≡ take i xs ++ front bytes room (drop i xs) → whole ≡ take (i + 1) xs ++ front bytes left (drop (i + 1) xs)
+  front_on xs whole i room left x within is some now so_far =
+      let rest = front bytes left (drop (i + 1) xs) in
+      so_far
+      ∙ ap (λ ys. take i xs ++ front bytes room ys) (drop_more xs i x within ∙ ap (λ (y : X). y ∷ drop (i + 1) xs) (sym is))
+      ∙ ap (λ ys. take i xs ++ ys) (first room x (drop (i + 1) xs) some ∙ ap (λ n. x ∷ front bytes n (drop (i + 1) xs)) (sym now))
+      ∙ sym (append_assoc (take i xs) (x ∷ []) rest)
+      ∙ ap (λ ys. ys ++ rest) (ap (λ (y : X). take i xs ++ y ∷ []) is ∙ sym (take_more xs i x within))
+
+  -- no room is left
+  pub front_stop : (xs whole : List X) (i room : ℕ) → room ≡ 0 → whole ≡ take i xs ++ front bytes room (drop i xs) → take i xs ≡ whole
+  front_stop xs whole i room full so_far =
+      sym (so_far ∙ ap (λ n. take i xs ++ front bytes n (drop i xs)) full ∙ ap (λ ys. take i xs ++ ys) (none (drop i xs)) ∙ append-nil (take i xs))
+
+  -- no entry is left
+  pub front_end : (xs whole : List X) (i room : ℕ) → length xs ≤ i → whole ≡ take i xs ++ front bytes room (drop i xs) → take (length xs) xs ≡ whole
+  unfolding front
+  front_end xs whole i room ended so_far =
+      take_all (length xs) xs (omega arith)
+      ∙ sym (so_far ∙ ap (λ ys. take i xs ++ front bytes room ys) (at_drop_all (λ ys. ys) xs i ended) ∙ append-nil (take i xs) ∙ take_all i xs ended)
+
+-- what is left out takes no room
+pub unweighed : (room : ℕ) (b : Bool) (weight : ℕ) → b ≡ false → room ≡ room - cond b weight 0
+unweighed room b weight out = let none : room ≡ room - 0 = omega arith in none ∙ ap (λ (c : Bool). room - cond c weight 0) (sym out)
+
+-- ---- what is told
+
+pub digest_put : (old s1 s2 bytes digest : List ℕ) (key : Key) (state : State) (wanted : Bool) → wanted ≡ true → bytes ≡ spelling key state → digest ≡ sha256 bytes → s1 ≡ old ++ codes ",\"digest\":" → s2 ≡ s1 ++ digest_json digest
+    → s2 ≡ old ++ digest_told wanted key state
+unfolding state_digest
+digest_put old s1 s2 bytes digest key state wanted sure spelled hashed e1 e2 =
+    steps2 old s1 s2 (codes ",\"digest\":") (digest_json digest) e1 e2
+    ∙ ap (λ d. old ++ (codes ",\"digest\":" ++ digest_json d)) (hashed ∙ ap sha256 spelled)
+    ∙ ap (λ b. old ++ digest_told b key state) (sym sure)
+
+module _ {X : Type 0} (p : X → Bool) (f : X → List ℕ) (xs : List X) (i : ℕ) (x : X) where
+  more : i < length xs → x ≡ get_or xs i x → filter p (take (i + 1) xs) ≡ filter p (take i xs) ++ cond (p x) (x ∷ []) []
+  more within is = filter_more p xs i x within ∙ ap (λ (y : X). filter p (take i xs) ++ cond (p y) (y ∷ []) []) (sym is)
+
+  -- the same text, where the entry is left out
+  pub same_told : i < length xs → x ≡ get_or xs i x → p x ≡ false → filter p (take (i + 1) xs) ≡ filter p (take i xs)
+  same_told within is out =
+      more within is ∙ ap (λ b. filter p (take i xs) ++ cond b (x ∷ []) []) out ∙ append-nil (filter p (take i xs))
+
+  -- the text so far, with the entry
+  pub told_more : (old s0 s1 : List ℕ) (b : Bool) → i < length xs → x ≡ get_or xs i x → p x ≡ true
+      → s0 ≡ old ++ commaed f (filter p (take i xs)) → b ≡ (length (filter p (take i xs)) == 0) → s1 ≡ s0 ++ led_if b f x
+      → (s1 ≡ old ++ commaed f (filter p (take (i + 1) xs))) × (false ≡ (length (filter p (take (i + 1) xs)) == 0))
+  told_more old s0 s1 b within is sure was at_first now =
+      let all = more within is ∙ ap (λ b. filter p (take i xs) ++ cond b (x ∷ []) []) sure in
+      let so_far = filter p (take i xs) in
+      let size : length (so_far ++ x ∷ []) ≡ length so_far + 1 = length_push so_far x in (
+        now ∙ ap (λ t. t ++ led_if b f x) was ∙ append_assoc old (commaed f so_far) (led_if b f x)
+            ∙ ap (λ c. old ++ (commaed f so_far ++ led_if c f x)) at_first
+            ∙ ap (λ t. old ++ t) (sym (commaed_more f so_far x) ∙ ap (commaed f) (sym all)),
+        let some : length (so_far ++ x ∷ []) == 0 ≡ false = grind (arith, nat_tests) in sym (ap (λ ys. length ys == 0) all ∙ some),
+      )

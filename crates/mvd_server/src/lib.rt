@@ -2,6 +2,7 @@
 #![tactic(auto)]
 
 mod batch;
+mod census;
 mod changes;
 mod client;
 mod copying;
@@ -10,6 +11,7 @@ mod door;
 mod endings;
 mod feeding;
 mod gate;
+mod histogram;
 mod look;
 mod metrics;
 mod own_session;
@@ -28,6 +30,7 @@ mod talks;
 mod telling;
 mod terms;
 mod timers;
+mod timing;
 
 pub use server::serve_run;
 pub use sockets::{Direct, Sockets};

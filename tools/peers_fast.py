@@ -12,7 +12,7 @@ idle     two servers of PEERS_KEYS (1000000) keys that name each other with `--e
 rate     puts a second of 64 clients at a server with two peers and at one without, in turn: at least 0.6 of those without
 amiss    a server with peers that are silent, no `mvd`, closed at once, full, stopped for a while, gone and back, or ask for a token:
          each is told once, also one that is named twice, no client waits for any, and the server takes little of a processor;
-         one that names itself
+         one that names itself, and a quiet one
 stalls   a server with five peers that answer one question and then nothing, and one that is well: a put is there within 3 seconds
 
 It ends with 1 at the first answer that is not the one wanted. With --short, `soon` makes 40 puts, where each names the next, `idle`
@@ -308,8 +308,25 @@ def alone(program, folder):
     until(f"it tells of these two alone: {server.out}", lambda: sorted(server.out[1:-1]) == ends)
 
 
+def quiet(program, folder):
+    """A quiet server tells that a peer has gone and is back, but not what they exchange."""
+    near, far = free(), free()
+    other = Server(program, folder, 8, far)
+    server = Server(program, folder, 7, near, "--quiet", "--every", 1, "--peer", far)
+    Client(near).put("k", EMPTY, {"n": 1})
+    until("a put at a quiet server is at its peer", lambda: is_read(Client(far), "k"))
+    other.end()
+    until("a quiet server tells that its peer has gone", lambda: len(server.out) == 2)
+    other.start()
+    until(f"and that it is back: {server.out}", lambda: server.told(far, True)[1:] == ["again"])
+    wanted(f"and nothing else: {server.out}", len(server.out) == 3 and server.told(far, True)[0][0].isdigit())
+    server.end()
+    other.end()
+
+
 def amiss(program, folder):
     alone(program, folder)
+    quiet(program, folder)
     run = Amiss(program, folder)
     run.go_on()
     spent = used_all([run.main], 2)[0] / 2

@@ -159,6 +159,15 @@ case $(python3 client.py "$port" 'get k' bye) in
 esac
 ended
 
+# A quiet server prints a fault, where it listens, and its root.
+serve --db a.db --site 1 --conns 3 --quiet
+python3 client.py "$port" 'get k' bye >out
+python3 client.py "$port" cut
+python3 client.py "$port" 'get k' >out
+ended
+same "what a quiet server prints" "listening connection 2 30 Truncated root" \
+  "$(sed 's/^listening 127.*/listening/; s/^root [0-9a-f]*$/root/' told | tr '\n' ' ' | sed 's/ $//')"
+
 # A missing file is made by the command that opens it, which says so.
 # made FILE SITE: standard error says just that this file is new, and it is there.
 made() {

@@ -23,6 +23,7 @@ import threading
 import time
 
 from measure_stored import context, document, frame, short
+import web_metrics
 from web_table import by_curl
 
 IS_SHORT = sys.argv[1:2] == ["--short"]
@@ -273,6 +274,32 @@ def check_pipelines(server):
     wanted("fields that are too long are 431", statuses(server.raw(b"GET /root HTTP/1.1\r\n" + field + b"A: " + b"a" * 20_000 + b"\r\n\r\n")) == [431])
 
 
+def check_metrics(folder):
+    """What the metrics tell of a site, and that they are in form."""
+    server = Server(folder, "--max-keys", "7", name="metrics.db")
+    try:
+        server.is_told("a server that did nothing", 200, "mvd_commit_seconds_count 0\n", "GET", "/metrics")
+        for number in range(6):
+            server.ask("PUT", f"/keys/m{number}", DOCUMENT)
+        for number in range(2):
+            server.ask("DELETE", f"/keys/m{number}", mvd_context="1:1")
+        server.ask("GET", "/keys/m5")
+        for again in range(2):
+            found = web_metrics.check(server.ask("GET", "/metrics")[1])
+            names = "mvd_keys", "mvd_max_keys", "mvd_keys_live", "mvd_keys_deleted", "mvd_commits_total"
+            seen = [found.get((name, "")) for name in names]
+            wanted(f"keys, the most that may be, live, deleted and commits {again}", seen == [6, 7, 4, 2, 8], seen)
+            wanted("each request had a round", found["mvd_rounds_total", ""] == 9, found["mvd_rounds_total", ""])
+        told = subprocess.run([PROGRAM, "--version"], capture_output=True, text=True)
+        version = (told.stdout + told.stderr).split()[1].rstrip(",")
+        wanted("the version and the site", ("mvd_info", f'version="{version}",site="1"') in found, [at for at in found if at[0] == "mvd_info"])
+        kinds = {kind: found["mvd_request_seconds_count", f'kind="{kind}"'] for kind in ("put", "delete", "get", "push")}
+        wanted("requests by their kind", kinds == {"put": 6, "delete": 2, "get": 1, "push": 0}, kinds)
+        wanted("a commit takes time", found["mvd_commit_seconds_sum", ""] > 0)
+    finally:
+        server.close()
+
+
 def check_endings(folder):
     """How connections end, and that a last response comes through."""
     server = Server(folder, "--conns", "6", "--idle", "2", name="endings.db")
@@ -443,7 +470,7 @@ def main():
         try:
             for check in check_rows, check_contexts, check_refusals, check_connections, check_pipelines, check_together:
                 check(server)
-            for check in check_table, check_endings, check_places, check_busy, check_no_room:
+            for check in check_table, check_metrics, check_endings, check_places, check_busy, check_no_room:
                 check(folder)
             if IS_SHORT:
                 return

@@ -42,7 +42,7 @@ module _ {D : Type 0} {g : disk.Ghosts D} {f : Ghosts (FileStore D g)} where
 
 -- what the site of an order is set up with, whose file the order names
 abbrev pub setup_in : Order → Option Setup
-setup_in (order.Serve db setup address conns idle http clients peers token) = Some setup
+setup_in (order.Serve db setup address conns idle http clients peers named quiet token) = Some setup
 setup_in (order.Shell db setup) = Some setup
 setup_in (order.Sync db setup address idle verbose token) = Some setup
 setup_in _ = None

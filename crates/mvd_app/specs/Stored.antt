@@ -51,7 +51,8 @@ abbrev pub filed : Bor (List ℕ) → Setup → Option (Bor (List ℕ)) → Task
 filed db setup token task = record { db = db; setup = setup; token = token; task = task }
 
 abbrev pub file_in : Order → Option Filed
-file_in (order.Serve db setup address conns idle http clients peers named token) = Some (filed db setup token Serving)
+file_in (order.Serve db setup address conns idle http clients peers named quiet token) =
+    Some (filed db setup token Serving)
 file_in (order.Shell db setup) = Some (filed db setup None Typing)
 file_in (order.Sync db setup address idle verbose token) = Some (filed db setup token (Syncing address))
 file_in _ = None

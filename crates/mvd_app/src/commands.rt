@@ -80,6 +80,7 @@ pub fn run<'a, S: Start, D: Dial, K: Sockets, R: BufRead, W: Write>(
             clients,
             peers,
             named,
+            quiet,
             token_file,
         } => {
             let terms = Terms {
@@ -90,6 +91,7 @@ pub fn run<'a, S: Start, D: Dial, K: Sockets, R: BufRead, W: Write>(
                 token: None,
                 hosts: named.hosts.unwrap_or(""),
                 origins: named.origins.unwrap_or(""),
+                quiet,
                 peers: &[],
                 every: 0,
             };

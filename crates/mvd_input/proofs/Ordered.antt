@@ -61,7 +61,7 @@ Meets rows = ((address : SocketAddr) × IsAddressOfOrder rows address) × ((idle
 pub serve_meets : (rows : List Row) (order : Order) → IsOrderOf (codes "serve") rows order → Meets rows
 serve_meets rows Sim h = differ _ _ h refl
 serve_meets rows (Loop _) h = differ _ _ h.0 refl
-serve_meets rows (Serve _ _ address _ idle _ _ _ _ _) h = ((address, h.3), (idle, h.5))
+serve_meets rows (Serve _ _ address _ idle _ _ _ _ _ _) h = ((address, h.3), (idle, h.5))
 serve_meets rows (Shell _ _) h = differ _ _ h.0 refl
 serve_meets rows (RemoteShell _ _ _) h = differ _ _ h.0 refl
 serve_meets rows (Sync _ _ _ _ _ _) h = differ _ _ h.0 refl
@@ -70,7 +70,7 @@ serve_meets rows (Meet _ _ _ _ _ _) h = differ _ _ h.0 refl
 pub serve_clients : (rows : List Row) (order : Order) → IsOrderOf (codes "serve") rows order → (clients : ℕ) × IsClients rows clients
 serve_clients rows Sim h = differ _ _ h refl
 serve_clients rows (Loop _) h = differ _ _ h.0 refl
-serve_clients rows (Serve _ _ _ _ _ _ clients _ _ _) h = (clients, h.7)
+serve_clients rows (Serve _ _ _ _ _ _ clients _ _ _ _) h = (clients, h.7)
 serve_clients rows (Shell _ _) h = differ _ _ h.0 refl
 serve_clients rows (RemoteShell _ _ _) h = differ _ _ h.0 refl
 serve_clients rows (Sync _ _ _ _ _ _) h = differ _ _ h.0 refl
@@ -79,7 +79,7 @@ serve_clients rows (Meet _ _ _ _ _ _) h = differ _ _ h.0 refl
 pub serve_peers : (rows : List Row) (order : Order) → IsOrderOf (codes "serve") rows order → (peers : Option Peers) × IsPeersOf rows peers
 serve_peers rows Sim h = differ _ _ h refl
 serve_peers rows (Loop _) h = differ _ _ h.0 refl
-serve_peers rows (Serve _ _ _ _ _ _ _ peers _ _) h = (peers, h.8)
+serve_peers rows (Serve _ _ _ _ _ _ _ peers _ _ _) h = (peers, h.8)
 serve_peers rows (Shell _ _) h = differ _ _ h.0 refl
 serve_peers rows (RemoteShell _ _ _) h = differ _ _ h.0 refl
 serve_peers rows (Sync _ _ _ _ _ _) h = differ _ _ h.0 refl
@@ -88,7 +88,7 @@ serve_peers rows (Meet _ _ _ _ _ _) h = differ _ _ h.0 refl
 pub serve_named : (rows : List Row) (order : Order) → IsOrderOf (codes "serve") rows order → (named : Named) × IsNamedOf rows named
 serve_named rows Sim h = differ _ _ h refl
 serve_named rows (Loop _) h = differ _ _ h.0 refl
-serve_named rows (Serve _ _ _ _ _ _ _ _ named _) h = (named, h.9)
+serve_named rows (Serve _ _ _ _ _ _ _ _ named _ _) h = (named, h.9)
 serve_named rows (Shell _ _) h = differ _ _ h.0 refl
 serve_named rows (RemoteShell _ _ _) h = differ _ _ h.0 refl
 serve_named rows (Sync _ _ _ _ _ _) h = differ _ _ h.0 refl
@@ -105,9 +105,9 @@ one_port_given : (rows : List Row) (address : SocketAddr) (port : ℕ) → IsAdd
     → (order : Order) → IsOrderOf (codes "serve") rows order → ⊥
 one_port_given rows address port a h e Sim w = differ _ _ w refl
 one_port_given rows address port a h e (Loop _) w = differ _ _ w.0 refl
-one_port_given rows address port a h e (Serve _ _ _ _ _ None _ _ _ _) w = cc (w.6, h.1)
-one_port_given rows address port a h e (Serve _ _ other _ _ (Some http) _ _ _ _) w =
-    w.11 (ap Some (same_number rows (codes "http") http port w.6 h ∙ e ∙ same_number rows (codes "port") (socket_port address) (socket_port other) a.port w.3.port))
+one_port_given rows address port a h e (Serve _ _ _ _ _ None _ _ _ _ _) w = cc (w.6, h.1)
+one_port_given rows address port a h e (Serve _ _ other _ _ (Some http) _ _ _ _ _) w =
+    w.12 (ap Some (same_number rows (codes "http") http port w.6 h ∙ e ∙ same_number rows (codes "port") (socket_port address) (socket_port other) a.port w.3.port))
 one_port_given rows address port a h e (Shell _ _) w = differ _ _ w.0 refl
 one_port_given rows address port a h e (RemoteShell _ _ _) w = differ _ _ w.0 refl
 one_port_given rows address port a h e (Sync _ _ _ _ _ _) w = differ _ _ w.0 refl
@@ -121,7 +121,7 @@ one_port rows address (Some port) a h e order w = one_port_given rows address po
 pub sync_meets : (rows : List Row) (order : Order) → IsOrderOf (codes "sync") rows order → Meets rows
 sync_meets rows Sim h = differ _ _ h refl
 sync_meets rows (Loop _) h = differ _ _ h.0 refl
-sync_meets rows (Serve _ _ _ _ _ _ _ _ _ _) h = differ _ _ h.0 refl
+sync_meets rows (Serve _ _ _ _ _ _ _ _ _ _ _) h = differ _ _ h.0 refl
 sync_meets rows (Shell _ _) h = differ _ _ h.0 refl
 sync_meets rows (RemoteShell _ _ _) h = differ _ _ h.0 refl
 sync_meets rows (Sync _ _ address idle _ _) h = ((address, h.3), (idle, h.4))
@@ -130,7 +130,7 @@ sync_meets rows (Meet address _ _ idle _ _) h = ((address, h.3), (idle, h.5))
 pub remote_meets : (rows : List Row) → first_of (codes "db") rows ≡ None → (order : Order) → IsOrderOf (codes "shell") rows order → Meets rows
 remote_meets rows e Sim h = differ _ _ h refl
 remote_meets rows e (Loop _) h = differ _ _ h.0 refl
-remote_meets rows e (Serve _ _ _ _ _ _ _ _ _ _) h = differ _ _ h.0 refl
+remote_meets rows e (Serve _ _ _ _ _ _ _ _ _ _ _) h = differ _ _ h.0 refl
 remote_meets rows e (Shell _ _) h = absurd (cc (h.1, e))
 remote_meets rows e (RemoteShell address idle _) h = ((address, h.2), (idle, h.3))
 remote_meets rows e (Sync _ _ _ _ _ _) h = differ _ _ h.0 refl
@@ -150,7 +150,7 @@ repeat_times rows (Some repeat) h = (repeat.times, h.1)
 pub meet_repeats : (rows : List Row) (list : Text) → first_of (codes "with") rows ≡ Some list → (order : Order) → IsOrderOf (codes "sync") rows order → (repeat : Option Repeat) × IsRepeatOf rows repeat
 meet_repeats rows list e Sim h = differ _ _ h refl
 meet_repeats rows list e (Loop _) h = differ _ _ h.0 refl
-meet_repeats rows list e (Serve _ _ _ _ _ _ _ _ _ _) h = differ _ _ h.0 refl
+meet_repeats rows list e (Serve _ _ _ _ _ _ _ _ _ _ _) h = differ _ _ h.0 refl
 meet_repeats rows list e (Shell _ _) h = differ _ _ h.0 refl
 meet_repeats rows list e (RemoteShell _ _ _) h = differ _ _ h.0 refl
 meet_repeats rows list e (Sync _ _ _ _ _ _) h = absurd (cc (h.6, e))

@@ -79,7 +79,7 @@ AreNamed named = IsTrue (are_names (named_hosts named)) × IsTrue (are_names (na
 abbrev pub IsInRange : Order → Type 0
 IsInRange Sim = ⊤
 IsInRange (Loop setup) = IsSetUp setup
-IsInRange (Serve _ setup address conns idle http clients peers named _) = IsSetUp setup × HasPort address
+IsInRange (Serve _ setup address conns idle http clients peers named _ _) = IsSetUp setup × HasPort address
     × AreConnections conns × IsIdleTime idle × IsPort http × AreClients clients × ForSome peers ArePeers
     × AreNamed named
 IsInRange (Shell _ setup) = IsSetUp setup
@@ -237,14 +237,19 @@ IsNamedOf rows named = (first_of (codes "host") rows ≡ named_hosts named)
 abbrev pub IsVerbose : List Row → Bool → Type 0
 IsVerbose rows verbose = IsTrue verbose ↔ (first_of (codes "verbose") rows ≡ Some (codes "true"))
 
+-- what ends well is not told
+abbrev pub IsQuiet : List Row → Bool → Type 0
+IsQuiet rows quiet = IsTrue quiet ↔ (first_of (codes "quiet") rows ≡ Some (codes "true"))
+
 -- the order that a command with the values of its options is
 abbrev pub IsOrderOf : List ℕ → List Row → Order → Type 0
 IsOrderOf name rows Sim = name ≡ codes "sim"
 IsOrderOf name rows (Loop setup) = (name ≡ codes "loop") × IsSetupOf rows setup
-IsOrderOf name rows (Serve db setup address conns idle http clients peers named token_file) = (name ≡ codes "serve")
+IsOrderOf name rows (Serve db setup address conns idle http clients peers named quiet token_file) =
+    (name ≡ codes "serve")
     × IsDbOf rows db × IsSetupOf rows setup × IsAddressOfOrder rows address × IsConns rows conns × IsSeconds rows idle
     × IsHttp rows http × IsClients rows clients × IsPeersOf rows peers × IsNamedOf rows named
-    × IsTokenFile rows token_file × IsOtherPort address http
+    × IsQuiet rows quiet × IsTokenFile rows token_file × IsOtherPort address http
 IsOrderOf name rows (Shell db setup) = (name ≡ codes "shell") × IsDbOf rows db × IsSetupOf rows setup
     × (names_server rows ≡ false)
 IsOrderOf name rows (RemoteShell address idle token_file) = (name ≡ codes "shell") × (first_of (codes "db") rows ≡ None)

@@ -84,6 +84,9 @@ idle seconds = by_default seconds (number_option (codes "idle"))
 abbrev pub verbose : Rule
 verbose = flag_rule (codes "verbose")
 
+abbrev pub quiet : Rule
+quiet = flag_rule (codes "quiet")
+
 abbrev pub token_file : Rule
 token_file = text_option (codes "token-file")
 
@@ -106,7 +109,7 @@ loop_words = leaf (codes "loop") (needed site ∷ defs ∷ max_keys ∷ [])
 abbrev pub serve_words : App
 serve_words = leaf (codes "serve")
     (database ++ needed port ∷ http ∷ conns ∷ idle (codes "300") ∷ clients ∷ peer ∷ peer_every ∷ host ∷ origin
-    ∷ token_file ∷ [])
+    ∷ quiet ∷ token_file ∷ [])
 
 abbrev pub shell_words : App
 shell_words = leaf (codes "shell")

@@ -7,7 +7,9 @@ ghost use Rattle.mvd_input.specs.Words as spec;
 use clap::{Arg, ArgAction, Command, value_parser};
 use std::alloc::{AllocError, Global};
 
-/// What `--version` tells behind the program's name.
+/// The version, and what `--version` tells behind the program's name.
+pub const RELEASE: &str = "0.3.0";
+
 const VERSION: &str = "0.3.0, format version 2";
 
 /// What stands at the end of the help.
@@ -174,6 +176,7 @@ fn serve_command<'a>(alloc: Global) -> Result<Command<'a>, AllocError>
         peer_every(alloc),
         host(alloc),
         origin(alloc),
+        quiet(alloc),
         token_file(alloc, SERVED_TOKEN),
     ]?;
     named(alloc, "serve", SERVE, SERVE_EXAMPLES).args(options)
@@ -390,6 +393,15 @@ fn verbose<'a>(alloc: Global) -> Arg<'a>
         .long("verbose")
         .action(ArgAction::SetTrue)
         .help("Tell on standard error, after each thousand states, how many came or went so far.")
+}
+
+fn quiet<'a>(alloc: Global) -> Arg<'a>
+    ensures { rule_of result ≡ spec.quiet }
+{
+    Arg::new(alloc, "quiet")
+        .long("quiet")
+        .action(ArgAction::SetTrue)
+        .help("Tell faults alone: of connections that ended well, and of sessions, print nothing.")
 }
 
 fn token_file<'a>(alloc: Global, help: &'a str) -> Arg<'a>

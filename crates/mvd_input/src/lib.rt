@@ -16,6 +16,7 @@ mod token_files;
 
 pub use addresses::addresses_of;
 pub use command::{Ask, Command, Line, Typed, View, line_of, typed_of};
+pub use command_words::RELEASE;
 pub use defs_file::{DEFS_MAX, add_index, add_view, read_defs, text_of};
 pub use fault::Fault;
 pub use hexadecimal::{BYTES_MAX, HEX_MAX, first_line, hex_bytes};

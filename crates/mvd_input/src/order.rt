@@ -3,8 +3,8 @@ ghost use Rattle.std.specs.Prelude.{◌≡◌, IfErr, IfOk, Some, codes, false};
 ghost use Rattle.mvd_input.specs.Addresses.{IsAddressList};
 ghost use Rattle.clap.specs.Walk.{texts};
 ghost use Rattle.clap.specs.Words.{first_of};
-ghost use Rattle.mvd_input.specs.Orders.{IsInRange, IsSetUp, IsSetupOf, IsUnreadValue, IsVerbose, ReadsOptions, ReadsOrder};
-ghost use Rattle.mvd_input.specs.Orders.{ReadsWords, has_file, is_repeated, names_server, options_of, sets_up};
+ghost use Rattle.mvd_input.specs.Orders.{IsInRange, IsQuiet, IsSetUp, IsSetupOf, IsUnreadValue, IsVerbose, ReadsOptions};
+ghost use Rattle.mvd_input.specs.Orders.{ReadsOrder, ReadsWords, has_file, is_repeated, names_server, options_of, sets_up};
 
 use crate::addresses::is_address_list;
 use crate::command_words::{command, command_of};
@@ -49,7 +49,8 @@ pub struct Setup<'a> {
 /// What a command line asks for. Numbers are in their ranges: those of a site as told there, a port at least 1,
 /// `conns` 1 to 1,000, `idle` 1 to 86,400 seconds, and `clients` 1 to 10,000. The port `http` is another than that of
 /// `address`. The first line of a `token_file` is the token that a server asks for, or that it is shown. A server
-/// meets its `peers` by itself. Over HTTP it may be asked by names, and by pages of other origins (`named`).
+/// meets its `peers` by itself. Over HTTP it may be asked by names, and by pages of other origins (`named`). Where it is
+/// `quiet`, it does not tell what ends well.
 #[derive(Clone, Copy, PartialEq, Eq)]
 pub enum Order<'a> {
     /// Run a script from standard input.
@@ -67,6 +68,7 @@ pub enum Order<'a> {
         clients: u32,
         peers: Option<Peers<'a>>,
         named: Named<'a>,
+        quiet: bool,
         token_file: Option<&'a str>,
     },
     /// Answer the lines of standard input on a database.
@@ -194,8 +196,16 @@ fn serve_of<'a>(matches: &ArgMatches<'a>) -> Result<Order<'a>, Unread>
         clients: clients_in(matches)?,
         peers: peers_in(matches)?,
         named: named_in(matches)?,
+        quiet: is_quiet(matches),
         token_file: token_file_in(matches),
     })
+}
+
+/// Whether a server tells faults alone.
+fn is_quiet(matches: &ArgMatches<'_>) -> bool
+    ensures { IsQuiet (options_of matches.now) result }
+{
+    text_in(matches, "quiet") == Some("true")
 }
 
 fn sync_of<'a>(matches: &ArgMatches<'a>) -> Result<Order<'a>, Unread>

@@ -71,6 +71,7 @@ fn serve_of(
         clients,
         peers: None,
         named: UNNAMED,
+        quiet: false,
         token_file,
     }
 }
@@ -87,12 +88,13 @@ fn peers_of<'a>(list: &'a str, every: u32, token_file: Option<&'a str>) -> Order
         clients: 256,
         peers: Some(Peers { list, every }),
         named: UNNAMED,
+        quiet: false,
         token_file,
     }
 }
 
 /// A server at port 1 that may be asked by these names, and by pages of these origins.
-fn named_of<'a>(hosts: Option<&'a str>, origins: Option<&'a str>) -> Order<'a> {
+fn named_of<'a>(hosts: Option<&'a str>, origins: Option<&'a str>, quiet: bool) -> Order<'a> {
     Order::Serve {
         db: "f",
         setup: set_up(1, None, 1_000_000),
@@ -103,6 +105,7 @@ fn named_of<'a>(hosts: Option<&'a str>, origins: Option<&'a str>) -> Order<'a> {
         clients: 256,
         peers: None,
         named: Named { hosts, origins },
+        quiet,
         token_file: None,
     }
 }
@@ -148,8 +151,13 @@ fn order_wanted(wanted: Wanted) -> Option<Order<'static>> {
     let order = match wanted {
         Wanted::Serve => serve_of(Some(1), 1, Some(65_535), 10_000, None),
         Wanted::ServeToken => serve_of(None, 300, None, 256, Some("t")),
-        Wanted::Named => named_of(Some("db.example"), Some("https://a.example,http://b:1")),
-        Wanted::NamedMost => named_of(Some(NAMES), None),
+        Wanted::Named => named_of(
+            Some("db.example"),
+            Some("https://a.example,http://b:1"),
+            false,
+        ),
+        Wanted::NamedMost => named_of(Some(NAMES), None, false),
+        Wanted::Quiet => named_of(None, None, true),
         Wanted::Peer => peers_of("2", 30, None),
         Wanted::Peers => peers_of("2,10.0.0.1:7007,[::1]:7007", 5, None),
         Wanted::PeersLeast => peers_of("[::1]:65535", 1, None),

@@ -8,7 +8,7 @@ ghost use Rattle.mvd_server.specs.Talking.{MayPart, TalksDeeds, talking_of};
 ghost use Rattle.mvd_server.specs.Wires.{Carries, wired_of};
 
 use crate::client::{Client, PIECE, Piece, Stage};
-use crate::endings::tell_end;
+use crate::endings::{is_good, tell_end};
 use crate::metrics::Counts;
 use crate::passing::{drop_left, receive, send};
 use crate::peer_list::Peers;
@@ -25,6 +25,7 @@ use std::alloc::{AllocError, Global};
 use std::collections::BTreeMap;
 use std::hash::RandomState;
 use std::mem;
+use std::time::{Clock, Instant};
 
 /// The most sockets that may be open at once beside those that are served: of clients that are told that there is no
 /// place, and of those that take their last reply. Further ones wait in the listener's queue.
@@ -53,12 +54,19 @@ pub(crate) struct Crowd {
     pub now: u64,
     /// For as many milliseconds no byte need move.
     idle: u64,
+    /// A connection that ended well is not told.
+    is_quiet: bool,
     pub told: String,
 }
 
 impl Crowd {
     #[tactic(auto, using(crate::proofs::Rounds::begins_serving))]
-    pub fn new(alloc: Global, keys: RandomState, terms: Terms<'_>) -> Result<Crowd, AllocError>
+    pub fn new(
+        alloc: Global,
+        keys: RandomState,
+        terms: Terms<'_>,
+        start: Instant,
+    ) -> Result<Crowd, AllocError>
         ensures { IfOk result (λ crowd. BeginsServing (option_copied terms.entry.token) crowd.talks) }
     {
         let piece = Piece::new(alloc)?;
@@ -75,7 +83,7 @@ impl Crowd {
         )?;
         Ok(Crowd {
             talks,
-            counts: Counts::new(alloc, peers),
+            counts: Counts::new(alloc, peers, start),
             most: terms.conns.map_or(u64::MAX, u64::from),
             places: terms.places(),
             next_away: AWAY,
@@ -84,6 +92,7 @@ impl Crowd {
             piece,
             now: 0,
             idle: u64::from(terms.idle).saturating_mul(1_000),
+            is_quiet: terms.quiet,
             told,
         })
     }
@@ -116,11 +125,18 @@ impl Crowd {
     }
 
     /// Answers what came of some clients, together. Whether there may be more of it at once.
-    pub fn round<S: Alter + Drop>(&mut self, replica: &mut Replica<S>, ready: &[u64]) -> bool
+    pub fn round<N: Clock, S: Alter + Drop>(
+        &mut self,
+        rt: &N,
+        replica: &mut Replica<S>,
+        ready: &[u64],
+    ) -> bool
         ensures { HasRound (talking_of self.old.talks) (talking_of self.new.talks) replica.old replica.new }
     {
-        self.counts.now = self.now;
-        self.talks.round(replica, ready, &mut self.counts, self.now)
+        self.counts.begin_round(rt, self.now, replica.commits());
+        let more = self.talks.round(replica, ready, &mut self.counts, self.now);
+        self.counts.end_round(rt, replica.commits());
+        more
     }
 
     /// Tells those that have waited for a change for long enough, and lists all that were told.
@@ -262,6 +278,9 @@ impl Crowd {
         };
         if !stays {
             self.remove(number);
+        }
+        if self.is_quiet && is_good(ending) {
+            return Ok(());
         }
         tell_end(&mut self.told, ordinal, ending)
     }

@@ -348,7 +348,11 @@ fn tell_metrics<S: Alter + Drop>(
     ensures { TellsBody Plain (web_of web.old) (web_of web.new) }
 {
     let mut body = String::new(alloc);
+    counts.census.go_on(alloc, replica.site());
+    let config = replica.config();
     let now = Now {
+        site: config.site(),
+        max_keys: config.max_keys(),
         keys: replica.key_count(),
         conflicts: replica.conflict_count(),
         commits: replica.commits(),

@@ -3,6 +3,7 @@
 
 mod asks;
 mod batch;
+mod census;
 mod changes;
 mod client;
 mod copying;
@@ -11,6 +12,7 @@ mod door;
 mod endings;
 mod feeding;
 mod gate;
+mod histogram;
 mod listings;
 mod look;
 mod metrics;
@@ -30,6 +32,7 @@ mod talks;
 mod telling;
 mod terms;
 mod timers;
+mod timing;
 
 pub use server::serve_run;
 pub use sockets::{Direct, Sockets};

@@ -1,11 +1,15 @@
 //! What is counted, and how it is told (Prometheus' text form).
+use crate::census::Census;
 use crate::peer_counts::{PeerCounts, print_peers};
 use crate::talks::Kind;
+use crate::timing::Timing;
 use mvd_dots::Refusal;
 use mvd_host::{KINDS, Tally};
+use mvd_input::RELEASE;
 use std::alloc::Global;
 use std::collections::BTreeMap;
 use std::fmt::Write as Print;
+use std::time::{Clock, Instant};
 
 /// The kinds of requests, as they are told, in the order of a tally.
 const NAMES: [&str; KINDS] = [
@@ -35,6 +39,9 @@ pub(crate) struct Counts {
     pub rounds: u64,
     /// The requests that the site answered, of frames and over HTTP.
     pub tally: Tally,
+    pub timing: Timing,
+    /// The keys that have a sibling, and those that are deleted.
+    pub census: Census,
     /// The responses over HTTP, by their status.
     statuses: BTreeMap<u16, u64>,
     /// The sessions with each peer.
@@ -47,18 +54,22 @@ pub(crate) struct Counts {
 /// What there is now.
 #[derive(Clone, Copy)]
 pub(crate) struct Now {
+    pub site: u32,
+    pub max_keys: u32,
     pub keys: u32,
     pub conflicts: u32,
     pub commits: u64,
 }
 
 impl Counts {
-    pub fn new(alloc: Global, peers: Vec<PeerCounts>) -> Counts {
+    pub fn new(alloc: Global, peers: Vec<PeerCounts>, start: Instant) -> Counts {
         Counts {
             frames: 0,
             https: 0,
             rounds: 0,
             tally: Tally::new(),
+            timing: Timing::new(start),
+            census: Census::new(),
             statuses: BTreeMap::new(alloc),
             peers,
             open: 0,
@@ -74,6 +85,17 @@ impl Counts {
         }
     }
 
+    /// A round begins at this time, in milliseconds, before which there were so many commits.
+    pub fn begin_round<N: Clock>(&mut self, rt: &N, now: u64, commits: u64) {
+        self.now = now;
+        self.timing.begin(rt, self.rounds, commits);
+    }
+
+    /// A round ended, after which there are so many commits.
+    pub fn end_round<N: Clock>(&mut self, rt: &N, commits: u64) {
+        self.timing.end(rt, &self.tally, self.rounds, commits);
+    }
+
     /// Notes a response over HTTP. Where memory is refused, it is not counted.
     pub fn note(&mut self, status: u16) {
         match self.statuses.get_mut(&status) {
@@ -84,27 +106,59 @@ impl Counts {
         }
     }
 
-    /// Prints each count on a line.
+    /// Prints all of it, each with what it is.
     pub fn print(&self, now: Now, out: &mut String) -> Result<(), Refusal> {
-        print_one(out, "mvd_keys", "gauge", u64::from(now.keys))?;
-        print_one(out, "mvd_conflicts", "gauge", u64::from(now.conflicts))?;
-        print_one(out, "mvd_connections", "gauge", self.open as u64)?;
+        self.print_site(now, out)?;
         self.print_connections(out)?;
-        print_one(out, "mvd_rounds_total", "counter", self.rounds)?;
-        print_one(out, "mvd_commits_total", "counter", now.commits)?;
+        self.print_rounds(now, out)?;
         self.print_requests(out)?;
+        self.print_seconds(out)?;
         self.print_responses(out)?;
         print_peers(&self.peers, self.now, out)
     }
 
+    /// Prints what the site is, and what it holds.
+    fn print_site(&self, now: Now, out: &mut String) -> Result<(), Refusal> {
+        let info = "The version, and the number of the site.";
+        print_head("mvd_info", "gauge", info, out)?;
+        let (version, site) = (RELEASE, now.site);
+        writeln!(out, "mvd_info{{version=\"{version}\",site=\"{site}\"}} 1")?;
+        let keys = "Keys that are held, those that are deleted too.";
+        print_one(out, "mvd_keys", "gauge", keys, u64::from(now.keys))?;
+        let most = "The most keys that may be held.";
+        print_one(out, "mvd_max_keys", "gauge", most, u64::from(now.max_keys))?;
+        if let Some(found) = self.census.whole {
+            let live = "Keys with a sibling, when all were counted last.";
+            print_one(out, "mvd_keys_live", "gauge", live, found.live)?;
+            let deleted = "Keys without a sibling, when all were counted last.";
+            print_one(out, "mvd_keys_deleted", "gauge", deleted, found.deleted)?;
+        }
+        let (help, count) = ("Keys with two siblings or more.", u64::from(now.conflicts));
+        print_one(out, "mvd_conflicts", "gauge", help, count)
+    }
+
     fn print_connections(&self, out: &mut String) -> Result<(), Refusal> {
-        out.push_str("# TYPE mvd_connections_total counter\n")?;
+        let open = "Connections that are open.";
+        print_one(out, "mvd_connections", "gauge", open, self.open as u64)?;
+        let came = "Connections that came.";
+        print_head("mvd_connections_total", "counter", came, out)?;
         print_came(out, "frames", self.frames)?;
         print_came(out, "http", self.https)
     }
 
+    fn print_rounds(&self, now: Now, out: &mut String) -> Result<(), Refusal> {
+        let rounds = "Rounds in which something was answered.";
+        print_one(out, "mvd_rounds_total", "counter", rounds, self.rounds)?;
+        let commits = "Commits of changes.";
+        print_one(out, "mvd_commits_total", "counter", commits, now.commits)?;
+        let seconds = "Seconds of a commit, with what its round did beside it.";
+        print_head("mvd_commit_seconds", "histogram", seconds, out)?;
+        self.timing.commits.print("mvd_commit_seconds", None, out)
+    }
+
     fn print_requests(&self, out: &mut String) -> Result<(), Refusal> {
-        out.push_str("# TYPE mvd_requests_total counter\n")?;
+        let help = "Requests that were answered, by kind and outcome.";
+        print_head("mvd_requests_total", "counter", help, out)?;
         for place in 0..KINDS {
             let kind = NAMES[place];
             print_ended(out, kind, "done", self.tally.done[place])?;
@@ -113,8 +167,19 @@ impl Counts {
         Ok(())
     }
 
+    fn print_seconds(&self, out: &mut String) -> Result<(), Refusal> {
+        let help = "Seconds from when the server woke up to a request until its reply was queued.";
+        print_head("mvd_request_seconds", "histogram", help, out)?;
+        for place in 0..KINDS {
+            let kind = Some(NAMES[place]);
+            self.timing.requests[place].print("mvd_request_seconds", kind, out)?;
+        }
+        Ok(())
+    }
+
     fn print_responses(&self, out: &mut String) -> Result<(), Refusal> {
-        out.push_str("# TYPE mvd_http_responses_total counter\n")?;
+        let help = "Responses over HTTP, by their status.";
+        print_head("mvd_http_responses_total", "counter", help, out)?;
         for (status, count) in &self.statuses {
             writeln!(
                 out,
@@ -125,9 +190,27 @@ impl Counts {
     }
 }
 
-/// Prints what kind of count this is, and then the count.
-fn print_one(out: &mut String, name: &str, kind: &str, count: u64) -> Result<(), Refusal> {
-    writeln!(out, "# TYPE {name} {kind}\n{name} {count}")?;
+/// Prints what a metric is, and of which kind.
+pub(crate) fn print_head(
+    name: &str,
+    kind: &str,
+    help: &str,
+    out: &mut String,
+) -> Result<(), Refusal> {
+    writeln!(out, "# HELP {name} {help}\n# TYPE {name} {kind}")?;
+    Ok(())
+}
+
+/// Prints what a count is, and then the count.
+fn print_one(
+    out: &mut String,
+    name: &str,
+    kind: &str,
+    help: &str,
+    count: u64,
+) -> Result<(), Refusal> {
+    print_head(name, kind, help, out)?;
+    writeln!(out, "{name} {count}")?;
     Ok(())
 }
 

@@ -2,6 +2,7 @@
 ghost use Rattle.std.specs.Prelude.{◌≡◌};
 ghost use Rattle.mvd_server.specs.PeerCounted.{ended_with, one_more};
 
+use crate::metrics::print_head;
 use mvd_dots::Refusal;
 use std::fmt::Write as Print;
 use std::net::SocketAddr;
@@ -69,13 +70,33 @@ pub(crate) fn print_peers(peers: &[PeerCounts], now: u64, out: &mut String) -> R
     if peers.is_empty() {
         return Ok(());
     }
-    out.push_str("# TYPE mvd_peer_sessions_total counter\n")?;
+    print_sessions(peers, out)?;
+    print_keys(peers, out)?;
+    print_since(peers, now, out)
+}
+
+fn print_sessions(peers: &[PeerCounts], out: &mut String) -> Result<(), Refusal> {
+    print_head(
+        "mvd_peer_sessions_total",
+        "counter",
+        "Sessions with each peer, by how they ended.",
+        out,
+    )?;
     for peer in peers {
         peer.print_ended("done", peer.done, out)?;
         peer.print_ended("left", peer.left, out)?;
         peer.print_ended("failed", peer.failed, out)?;
     }
-    out.push_str("# TYPE mvd_peer_keys_total counter\n")?;
+    Ok(())
+}
+
+fn print_keys(peers: &[PeerCounts], out: &mut String) -> Result<(), Refusal> {
+    print_head(
+        "mvd_peer_keys_total",
+        "counter",
+        "Keys that crossed in the sessions with each peer.",
+        out,
+    )?;
     for peer in peers {
         let address = peer.address;
         writeln!(
@@ -84,7 +105,16 @@ pub(crate) fn print_peers(peers: &[PeerCounts], now: u64, out: &mut String) -> R
             peer.keys
         )?;
     }
-    out.push_str("# TYPE mvd_peer_seconds_since gauge\n")?;
+    Ok(())
+}
+
+fn print_since(peers: &[PeerCounts], now: u64, out: &mut String) -> Result<(), Refusal> {
+    print_head(
+        "mvd_peer_seconds_since",
+        "gauge",
+        "Seconds since the last session with each peer ended that had no fault, or since the start.",
+        out,
+    )?;
     for peer in peers {
         let address = peer.address;
         let seconds = now.saturating_sub(peer.last) / 1_000;

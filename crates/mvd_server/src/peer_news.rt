@@ -28,6 +28,8 @@ pub(crate) struct Setting {
     pub idle: u64,
     /// A connection stays open from one session to the next.
     pub stays: bool,
+    /// What a session exchanged is not told.
+    pub is_quiet: bool,
     /// Each peer is shown it first, if there is one.
     pub token: Option<Token>,
     pub piece: Piece,
@@ -50,6 +52,7 @@ impl Setting {
             number,
             idle: u64::from(terms.idle).saturating_mul(1_000),
             stays: terms.every < APART,
+            is_quiet: terms.quiet,
             token,
             piece,
             errors: String::new(alloc),

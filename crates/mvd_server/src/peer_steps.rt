@@ -201,7 +201,7 @@ impl Peering {
         let report = session.report();
         self.tell_again(&mut crowd.told);
         self.is_failing = false;
-        self.untold.note(&report);
+        self.note_exchanged(setting, &report);
         self.tell(crowd);
         self.note_done(setting, crowd, report);
         if let Some(link) = &mut self.link {
@@ -212,6 +212,15 @@ impl Peering {
             return Ok(false);
         }
         self.part(crowd.now)
+    }
+
+    /// Notes what a session exchanged, where that is told.
+    fn note_exchanged(&mut self, setting: &Setting, report: &Report)
+        ensures { self.new ≡ record self.old { untold = self.new.untold } }
+    {
+        if !setting.is_quiet {
+            self.untold.note(report);
+        }
     }
 
     /// Tells what the sessions exchanged, once that may be told.

@@ -157,7 +157,7 @@ impl Server {
         let frames = Door::new(rt, poll.registry(), address, Kind::Frames)?;
         // Those that own most come last: each value before them is let go where a later one fails.
         let peers = Peers::new(alloc, number, terms)?;
-        let crowd = Crowd::new(alloc, keys, terms)?;
+        let crowd = Crowd::new(alloc, keys, terms, start)?;
         Ok(Server {
             poll,
             events,
@@ -248,8 +248,8 @@ impl Server {
         self.wait(rt)?;
         self.take_in(sockets)?;
         self.peers.go_on(rt, self.poll.registry(), &mut self.crowd);
-        self.answer_asking(sockets, replica);
-        self.answer(replica);
+        self.answer_asking(rt, sockets, replica);
+        self.answer(rt, replica);
         self.crowd.wake(&mut self.ready);
         self.give_out(sockets, writer)?;
         self.peers.tell_errors(errors);
@@ -270,6 +270,7 @@ impl Server {
         // A clock that cannot be read stands still.
         if let Ok(passed) = self.start.elapsed(rt) {
             self.crowd.now = millis_of(passed);
+            self.crowd.counts.timing.wake(passed);
         }
         for event in &self.events {
             let token = event.token();

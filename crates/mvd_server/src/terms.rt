@@ -9,7 +9,8 @@ use std::net::SocketAddr;
 /// What a server is asked for: the port for HTTP, if it serves that too, how many connections it serves in all, for how
 /// many seconds no byte need move on one, and how many clients it serves at once. Where there is a token, who comes in
 /// shows it, and it is shown to peers. Over HTTP it may be asked by the names of a list, and by pages of the origins of
-/// another, each with commas between its items. Each peer is met again as many seconds after a session.
+/// another, each with commas between its items. Where it is quiet it tells faults alone. Each peer is met again as many
+/// seconds after a session.
 #[derive(Clone, Copy)]
 pub struct Terms<'a> {
     pub http: Option<u16>,
@@ -19,6 +20,7 @@ pub struct Terms<'a> {
     pub token: Option<&'a Token>,
     pub hosts: &'a str,
     pub origins: &'a str,
+    pub quiet: bool,
     pub peers: &'a [SocketAddr],
     pub every: u32,
 }

@@ -7,6 +7,7 @@ use crate::server::Server;
 use crate::sockets::Sockets;
 use mvd_replica::Replica;
 use sqlite::Alter;
+use std::time::Clock;
 
 /// The most rounds that follow each other before replies leave.
 const ROUNDS_MAX: usize = 64;
@@ -23,8 +24,9 @@ fn take_turns(ready: &mut Vec<u64>)
 
 impl Server {
     /// Answers the clients of which a question came, and writes to them, before the changes of others are committed.
-    pub fn answer_asking<K: Sockets, S: Alter + Drop>(
+    pub fn answer_asking<N: Clock, K: Sockets, S: Alter + Drop>(
         &mut self,
+        rt: &N,
         sockets: &mut K,
         replica: &mut Replica<S>,
     )
@@ -37,28 +39,28 @@ impl Server {
         if self.next.is_empty() || self.next.len() == self.ready.len() {
             return;
         }
-        self.crowd.round(replica, &self.next);
+        self.crowd.round(rt, replica, &self.next);
         self.crowd.send_all(sockets, &self.next);
     }
 
     /// Answers what came of the clients that are listed, and what the sessions with peers ask.
-    pub fn answer<S: Alter + Drop>(&mut self, replica: &mut Replica<S>)
+    pub fn answer<N: Clock, S: Alter + Drop>(&mut self, rt: &N, replica: &mut Replica<S>)
         ensures { AnswersClients self.old.crowd.talks replica.old self.new.crowd.talks replica.new }
     {
         let clients = self.ready.len();
         take_turns(&mut self.ready);
         self.peers.list(&mut self.crowd, &mut self.ready);
-        self.answer_all(replica);
+        self.answer_all(rt, replica);
         self.ready.truncate(clients);
         self.peers.take_replies(&mut self.crowd, replica.commits());
     }
 
     /// Answers what came of those that are listed: together what may be, and then what came behind it.
-    fn answer_all<S: Alter + Drop>(&mut self, replica: &mut Replica<S>)
+    fn answer_all<N: Clock, S: Alter + Drop>(&mut self, rt: &N, replica: &mut Replica<S>)
         ensures { AnswersClients self.old.crowd.talks replica.old self.new.crowd.talks replica.new }
     {
         for _round in 0..ROUNDS_MAX {
-            if !self.crowd.round(replica, &self.ready) {
+            if !self.crowd.round(rt, replica, &self.ready) {
                 return;
             }
         }

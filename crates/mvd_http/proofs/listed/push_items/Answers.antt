@@ -1,4 +1,4 @@
-use Rattle.std.proofs.Common.{ℕ, ◌≡◌, ◌∙◌, ◌==◌, ◌++◌, ap, length, string_bytes, sym}
+use Rattle.std.proofs.Common.{ℕ, ◌∙◌, ◌==◌, ◌++◌, ap, length, string_bytes, sym}
 use Rattle.mvd_keys.specs.Writes.{Key}
 use Rattle.mvd_http.specs.Json.{commaed}
 use Rattle.mvd_http.specs.Listed.{is_told, item_bytes, item_json}
@@ -19,18 +19,18 @@ loop-index-preserved g c =
     let was = c.loop-index.invariant in
     elim c.if-is_told.branch [
       | then-is_told+in_ok-room w ↦
-          let both = told_more (is_told wanted) (λ e. item_json wanted e (states e.0)) keys i x (string_bytes c.args.out.now) _ _ _ within is w.if-is_told.true was.text was.first w.in_ok-room.ensures.text in
+          let both = told_more (is_told wanted) (λ e. item_json wanted e (states e.0)) keys i x (string_bytes c.args.out.now) _ _ _ within is (sym c.is_told.ensures ∙ w.if-is_told.true) was.text was.first w.in_ok-room.ensures.text in
           record {
             text = ap string_bytes w.out-is ∙ both.0;
             first = w.is_first-is ∙ both.1;
             front = front_on bytes keys _ i c.loop-index.room _ x within is c.if-room-eq0.false (w.room-is ∙ w.in_ok-room.ensures.room) was.front;
           }
       | else-is_told w ↦
-          let same = same_told (is_told wanted) (λ e. item_json wanted e (states e.0)) keys i x within is w.if-is_told.false in
+          let same = same_told (is_told wanted) (λ e. item_json wanted e (states e.0)) keys i x within is (sym c.is_told.ensures ∙ w.if-is_told.false) in
           record {
             text = ap string_bytes w.out-is ∙ was.text ∙ ap (λ ks. string_bytes c.args.out.now ++ commaed (λ e. item_json wanted e (states e.0)) ks) (sym same);
             first = w.is_first-is ∙ was.first ∙ ap (λ ks. length ks == 0) (sym same);
-            front = front_on bytes keys _ i c.loop-index.room _ x within is c.if-room-eq0.false (w.room-is ∙ unweighed c.loop-index.room (is_told wanted x) _ w.if-is_told.false) was.front;
+            front = front_on bytes keys _ i c.loop-index.room _ x within is c.if-room-eq0.false (w.room-is ∙ unweighed c.loop-index.room (is_told wanted x) _ (sym c.is_told.ensures ∙ w.if-is_told.false)) was.front;
           }
     ]
 

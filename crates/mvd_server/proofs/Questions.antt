@@ -1,10 +1,18 @@
 -- The lines of a list of questions, put down one after the other.
-use Rattle.std.proofs.Common.{◌≡◌, ◌∙◌, ℕ, ◌+◌, ◌<◌, List, [], ◌∷◌, ◌++◌, ap, drop, get_or, length, Result, Ok, sym}
+use Rattle.std.proofs.Common.{◌≡◌, ◌∙◌, ◌⊎◌, inl, inr, ℕ, ◌+◌, ◌<◌, Bool, true, false, List, [], ◌∷◌, ◌++◌, absurd, ap, drop, get_or, length, nat_le, OnOk, Option, Some, None, refl, Result, Ok, Err, subst, sym, tt}
 use Rattle.std.proofs.lemmas.List.{drop_more}
 use Rattle.mvd_dots.specs.declared.refusals.Refusal.{Refusal}
+use Rattle.mvd_http.specs.Answers.{AppendsIf, AppendsText, later_told, line_told}
+use Rattle.mvd_http.specs.Json.{bad_line_json}
 use Rattle.mvd_http.specs.Seen.{then_read}
-use Rattle.mvd_server.specs.Questions.{ask_line, asks_text}
+use Rattle.mvd_http.specs.declared.fields.Answer.{Answer}
+use Rattle.mvd_http.specs.declared.fields.Content.TheVariants as content
+use Rattle.mvd_server.specs.Plans.{plain_answer}
+use Rattle.mvd_server.specs.Questions.{TellsBadLine, ask_line, asks_text, later_or}
+use Rattle.mvd_site.specs.Answer.{answer_from}
 use Rattle.mvd_site.specs.Sites.{SiteValue}
+use Rattle.mvd_web.specs.Web.{RespondsTo, WebValue}
+use Rattle.mvd_wire.specs.declared.reply.Reply.{Reply}
 use Rattle.mvd_wire.specs.declared.request.Request.{Request}
 
 module _ (site : SiteValue) (asks : List (Result Request Refusal)) where
@@ -21,3 +29,42 @@ module _ (site : SiteValue) (asks : List (Result Request Refusal)) where
   pub asks_done : (told : List ℕ) (i : ℕ) (all : Result (List ℕ) Refusal) → drop i asks ≡ [] → asks_text site told (drop i asks) ≡ all → all ≡ Ok told
   unfolding asks_text
   asks_done told i all none so_far = sym so_far ∙ ap (asks_text site told) none
+
+-- ---- one line
+
+-- nothing is put down in place of the line
+pub never_later : (later : Option (List ℕ)) (old new : List ℕ) (result : Result Bool Refusal) → result ≡ Ok false → AppendsIf later old new result → (later ≡ None) × (new ≡ old)
+never_later later old new (Err refusal) no is = cc
+never_later (Some text) old new (Ok told) no (is, came) = cc
+never_later None old new (Ok told) no (is, same) = (refl, same)
+
+not_later : (much : Bool) (later : Option (List ℕ)) (line : Result (List ℕ) Refusal) → (much ≡ false ⊎ later ≡ None) → later_or much later line ≡ line
+not_later false later line is = refl
+not_later true None line is = refl
+not_later true (Some text) line (inl no) = cc
+not_later true (Some text) line (inr no) = cc
+
+line_of : (line : Result (List ℕ) Refusal) (old new : List ℕ) (u : ⊤) → AppendsText line old new (Ok u) → (text : List ℕ) × (line ≡ Ok text) × (new ≡ old ++ text)
+line_of (Ok text) old new u is = (text, refl, is)
+line_of (Err refusal) old new u no = absurd (let never : ⊥ = cc in never)
+
+-- so the line is that of the answer
+pub told_line : (site : SiteValue) (old mid new : List ℕ) (ask : Result Request Refusal) (request : Request) (reply : Reply) (result : Result ⊤ Refusal) → ask ≡ Ok request → reply ≡ answer_from site.config site.states request
+    → (nat_le 1048576 (length old) ≡ false ⊎ later_told request ≡ None) × (mid ≡ old) → AppendsText (line_told request reply) mid new result
+    → OnOk result ((line : List ℕ) × (ask_line site (length old) ask ≡ Ok line) × (new ≡ old ++ line))
+told_line site old mid new ask request reply (Err refusal) asks answers (where_to, same) appends = tt
+told_line site old mid new ask request reply (Ok u) asks answers (where_to, same) appends =
+    let (line, told, came) = line_of (line_told request reply) mid new u appends in
+    (line,
+    ap (ask_line site (length old)) asks
+    ∙ not_later (nat_le 1048576 (length old)) (later_told request) (line_told request (answer_from site.config site.states request)) where_to
+    ∙ ap (line_told request) (sym answers) ∙ told,
+    came ∙ ap (λ (text : List ℕ). text ++ line) same)
+
+-- ---- a list that is none
+
+pub bad_line_told : (line : ℕ) (old new : WebValue) (answer : Answer) (none body text : List ℕ) → none ≡ [] → body ≡ none ++ bad_line_json line → text ≡ body → answer ≡ plain_answer 400 content.Json
+    → RespondsTo old.asked old answer text new → TellsBadLine line old new
+bad_line_told line old new answer none body text empty put is plain responds =
+    inl (subst (λ (a : Answer). RespondsTo old.asked old a (bad_line_json line) new) plain
+    (subst (λ (t : List ℕ). RespondsTo old.asked old answer t new) (is ∙ put ∙ ap (λ (l : List ℕ). l ++ bad_line_json line) empty) responds))

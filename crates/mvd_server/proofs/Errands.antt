@@ -12,12 +12,15 @@ use Rattle.mvd_server.specs.Admitted.{Decides}
 use Rattle.mvd_server.specs.Batches.{BeginsBatch, HandsBatch}
 use Rattle.mvd_server.specs.Errands.{Asks, AsksAtHand, AsksNextOf, Desk, DoesPlan, Errand, Forgoes, IsBatchFor, IsUntold, RunsErrand, Stops, TakesIf, Tells, TellsBatch, TellsChange, TellsMany}
 use Rattle.mvd_server.specs.Lines.{IsOnlyTold, TellsEachLine}
+use Rattle.mvd_server.specs.Listings.{TellsListed}
 use Rattle.mvd_server.specs.Plans.{IsPlanOf, TellsMethods, plain_answer}
+use Rattle.mvd_server.specs.Questions.{TellsAsks}
 use Rattle.mvd_server.specs.declared.batch.Batch.{Batch}
 use Rattle.mvd_server.specs.declared.gate.Plan.{Plan}
 use Rattle.mvd_server.specs.declared.gate.Plan.TheVariants as plan
 use Rattle.mvd_server.specs.declared.gate.Rest.{Rest}
 use Rattle.mvd_server.specs.declared.gate.Rest.TheVariants as rest
+use Rattle.mvd_site.specs.Sites.{SiteValue}
 use Rattle.mvd_web.specs.Web.{RespondsTo, TakesRequest, WebValue, stopped_by}
 use Rattle.mvd_web.specs.declared.taken.Asked.{Asked}
 use Rattle.mvd_web.specs.declared.taken.Entry.{Entry}
@@ -138,6 +141,14 @@ batch_of guard names n old hand new hand' batch (inr one) = batch_left guard n o
 
 pub asks_none : (guard : Option Guard) (names : Named) (n : ℕ) (old new : WebValue) (hand : AtHandValue) (took : Bool) → TakesRequest guard names old took new → took ≡ false → AsksNextOf guard names n old hand new hand rest.Nothing
 asks_none guard names n old new hand took takes is = inl ((refl, refl), subst (λ b. TakesRequest guard names old b new) is takes)
+
+-- ---- lists are told of a site
+
+pub asks_told : (n : ℕ) (p : Plan) (site : SiteValue) (old new : WebValue) (hand : AtHandValue) → p ≡ plan.Asks → TellsAsks site old.asked old new → DoesPlan n p old hand new hand rest.Nothing
+asks_told n p site old new hand is told = subst (λ (q : Plan). DoesPlan n q old hand new hand rest.Nothing) (sym is) ((refl, refl), (site, told))
+
+pub listed_told : (n : ℕ) (p : Plan) (site : SiteValue) (old new : WebValue) (hand : AtHandValue) → p ≡ plan.Listed → TellsListed site old.asked old new → DoesPlan n p old hand new hand rest.Nothing
+listed_told n p site old new hand is told = subst (λ (q : Plan). DoesPlan n q old hand new hand rest.Nothing) (sym is) ((refl, refl), (site, told))
 
 -- ---- many writes are told
 

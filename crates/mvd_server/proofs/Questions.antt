@@ -1,5 +1,5 @@
 -- The lines of a list of questions, put down one after the other.
-use Rattle.std.proofs.Common.{◌≡◌, ◌∙◌, ◌⊎◌, inl, inr, ℕ, ◌+◌, ◌<◌, Bool, true, false, List, [], ◌∷◌, ◌++◌, absurd, ap, drop, get_or, length, nat_le, OnOk, Option, Some, None, refl, Result, Ok, Err, subst, sym, tt}
+use Rattle.std.proofs.Common.{◌≡◌, ◌∙◌, ◌⊎◌, inl, inr, ℕ, ◌+◌, ◌<◌, Bool, true, false, List, [], ◌∷◌, ◌++◌, ap, drop, get_or, length, nat_le, OnOk, Option, Some, None, refl, Result, Ok, Err, subst, sym}
 use Rattle.std.proofs.lemmas.List.{drop_more}
 use Rattle.mvd_dots.specs.declared.refusals.Refusal.{Refusal}
 use Rattle.mvd_http.specs.Answers.{AppendsIf, AppendsText, later_told, line_told}
@@ -34,22 +34,22 @@ module _ (site : SiteValue) (asks : List (Result Request Refusal)) where
 
 -- nothing is put down in place of the line
 pub never_later : (later : Option (List ℕ)) (old new : List ℕ) (result : Result Bool Refusal) → result ≡ Ok false → AppendsIf later old new result → (later ≡ None) × (new ≡ old)
-never_later later old new (Err refusal) no is = cc
-never_later (Some text) old new (Ok told) no (is, came) = cc
-never_later None old new (Ok told) no (is, same) = (refl, same)
+never_later later old new (Err refusal) kept is = cc
+never_later (Some text) old new (Ok told) kept (is, came) = cc
+never_later None old new (Ok told) kept (is, same) = (refl, same)
 
 not_later : (much : Bool) (later : Option (List ℕ)) (line : Result (List ℕ) Refusal) → (much ≡ false ⊎ later ≡ None) → later_or much later line ≡ line
 not_later false later line is = refl
 not_later true None line is = refl
-not_later true (Some text) line (inl no) = cc
-not_later true (Some text) line (inr no) = cc
+not_later true (Some text) line (inl little) = cc
+not_later true (Some text) line (inr none) = cc
 
-line_of : (line : Result (List ℕ) Refusal) (old new : List ℕ) (u : ⊤) → AppendsText line old new (Ok u) → (text : List ℕ) × (line ≡ Ok text) × (new ≡ old ++ text)
+line_of : (line : Result (List ℕ) Refusal) (old new : List ℕ) (u : Unit {0}) → AppendsText line old new (Ok u) → (text : List ℕ) × (line ≡ Ok text) × (new ≡ old ++ text)
 line_of (Ok text) old new u is = (text, refl, is)
-line_of (Err refusal) old new u no = absurd (let never : ⊥ = cc in never)
+line_of (Err refusal) old new u differs = absurd (let never : ⊥ = cc in never)
 
 -- so the line is that of the answer
-pub told_line : (site : SiteValue) (old mid new : List ℕ) (ask : Result Request Refusal) (request : Request) (reply : Reply) (result : Result ⊤ Refusal) → ask ≡ Ok request → reply ≡ answer_from site.config site.states request
+pub told_line : (site : SiteValue) (old mid new : List ℕ) (ask : Result Request Refusal) (request : Request) (reply : Reply) (result : Result (Unit {0}) Refusal) → ask ≡ Ok request → reply ≡ answer_from site.config site.states request
     → (nat_le 1048576 (length old) ≡ false ⊎ later_told request ≡ None) × (mid ≡ old) → AppendsText (line_told request reply) mid new result
     → OnOk result ((line : List ℕ) × (ask_line site (length old) ask ≡ Ok line) × (new ≡ old ++ line))
 told_line site old mid new ask request reply (Err refusal) asks answers (where_to, same) appends = tt

@@ -105,7 +105,7 @@ fn push_ask(
 {
     match ask {
         Ok(request) => {
-            if out.len() >= TOLD_MAX && push_later(alloc, request, out)? {
+            if out.as_str().len() >= TOLD_MAX && push_later(alloc, request, out)? {
                 return Ok(());
             }
             let reply = reply_to(site, request)?;

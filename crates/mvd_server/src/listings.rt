@@ -18,6 +18,7 @@ use sqlite::Alter;
 use std::alloc::Global;
 
 /// The states that a site holds.
+#[derive(Clone, Copy)]
 struct SiteStates<'a> {
     site: &'a Site,
 }

@@ -354,10 +354,10 @@ def check_after_waiting(server):
 
 def check_places(folder):
     """Half of the places are for those that wait: a further one is answered at once, and one that writes has a place."""
-    server = Server(folder, "--clients", "4", name="few.db")
+    server = Server(folder, "--clients", "8", name="few.db")
     root = server.root()
-    readers = [Reader(server, root, 50) for _ in range(2)]
-    wanted("as many wait as may", comes_to(server, 3), server.metric("mvd_connections"))
+    readers = [Reader(server, root, 50) for _ in range(4)]
+    wanted("as many wait as may", comes_to(server, 5), server.metric("mvd_connections"))
     answer = server.since(root, 50)
     wanted("a further one is told so at once", answer == {"root": root, "keys": [], "resync": False, "wait": 0}, answer)
     server.put("in")

@@ -230,7 +230,7 @@ def as_curl(server, path, words):
 
 
 def check_table(folder):
-    server = Server(folder, "--max-keys", "4", name="table.db")
+    server = Server(folder, "--max-keys", "5", name="table.db")
     try:
         count = 0
         for path, words, status, part in by_curl():

@@ -3,7 +3,7 @@
 
 usage: tools/attacks.py [--short] PROGRAM [PART..]
 
-PROGRAM is `mvd` as built. The parts are, all where none is named but the last two, which are not held yet:
+PROGRAM is `mvd` as built. The parts are, all where none is named:
 
 round      `bounds.py round`: clients that send hundreds of puts at a state of 1 MB
 dear       deletes at a key of 1 MB, and at one whose context has many loose counters; puts at a key of 60,000 siblings
@@ -181,15 +181,13 @@ def windows(program, folder, short):
 
 
 PARTS = {"round": rounds, "dear": dear, "strangers": strangers, "windows": windows, "drip": drip, "files": files, "limits": limits,
-         "log": log, "pages": pages, "forms": forms, "news": news}
-# SECURITY.md names these as not held
-OPEN = {"lists": lists, "contexts": contexts}
+         "log": log, "pages": pages, "forms": forms, "news": news, "lists": lists, "contexts": contexts}
 
 
 def main(*words):
     short = "--short" in words
     program, *parts = [word for word in words if word != "--short"]
-    if not set(parts) <= set(PARTS | OPEN):
+    if not set(parts) <= set(PARTS):
         sys.exit(__doc__)
     if short:
         bounds.GET_WITHIN = heavy.WAITED = 2 * bounds.GET_WITHIN
@@ -198,7 +196,7 @@ def main(*words):
         begun = time.perf_counter()
         with tempfile.TemporaryDirectory() as folder:
             try:
-                (PARTS | OPEN)[part](os.path.abspath(program), folder, short)
+                PARTS[part](os.path.abspath(program), folder, short)
                 held = "held"
             except (Broken, SystemExit) as error:
                 held = f"NOT HELD: {error}"

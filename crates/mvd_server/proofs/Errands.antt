@@ -99,6 +99,7 @@ permits_none (Ok Root) batch never = never
 permits_none (Ok Metrics) batch never = never
 permits_none (Ok Health) batch never = never
 permits_none (Ok (Asks questions)) batch never = never
+permits_none (Ok (Listed request wanted)) batch never = never
 permits_none (Ok (BadLine line)) batch never = never
 permits_none (Ok TooLong) batch never = never
 permits_none (Ok (Misread refusal place)) batch never = never

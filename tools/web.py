@@ -304,7 +304,7 @@ def check_endings(folder):
     """How connections end, and that a last response comes through."""
     server = Server(folder, "--conns", "6", "--idle", "2", name="endings.db")
     ask = b"GET /root HTTP/1.1\r\nHost: localhost\r\n\r\n"
-    long = b"PUT /keys/k HTTP/1.1\r\nHost: localhost\r\nContent-Length: 1048577\r\n\r\n"
+    long = b"PUT /keys/k HTTP/1.1\r\nHost: localhost\r\nContent-Length: 2097153\r\n\r\n"
     for text in ask.replace(b"\r\n\r\n", b"\r\nConnection: close\r\n\r\n"), ask, ask[:20], long, b"\x00\r\n\r\n":
         server.raw(text)
     with socket.create_connection(("127.0.0.1", server.http), PATIENCE) as slow:

@@ -3,3 +3,4 @@ pub mod History
 pub mod Stands
 pub mod Front
 pub mod Inside
+pub mod Rights

@@ -7,3 +7,4 @@ pub mod Names
 pub mod Orders
 pub mod Tokens
 pub mod Words
+pub mod Passes

@@ -12,6 +12,7 @@ mod input;
 mod name_lists;
 mod options;
 mod order;
+pub mod pass_lines;
 mod token_files;
 
 pub use addresses::addresses_of;
@@ -22,4 +23,5 @@ pub use hexadecimal::{BYTES_MAX, HEX_MAX, first_line, hex_bytes};
 pub use input::{read_input, tell, write_out};
 pub use options::{Named, Peers, Repeat};
 pub use order::{MOST_KEYS, Order, OrderFault, Setup, order_of};
+pub use pass_lines::{PassLine, pass_line};
 pub use token_files::{TOKEN_FILE_MAX, token_line};

@@ -23,13 +23,13 @@ pub fn token_line(text: &[u8]) -> Option<&[u8]>
 }
 
 /// Whether a line is a token: 16 to 256 ASCII characters that are seen on paper.
-fn is_token(line: &[u8]) -> bool
+pub(crate) fn is_token(line: &[u8]) -> bool
     ensures { result ≡ is_token line.now }
 {
     LEAST_BYTES <= line.len() && line.len() <= MOST_BYTES && are_graphic(line)
 }
 
-fn are_graphic(line: &[u8]) -> bool
+pub(crate) fn are_graphic(line: &[u8]) -> bool
     ensures { result ≡ list_all is_graphic line.now }
 {
     line.iter().all(|byte| b'!' <= *byte && *byte <= b'~')

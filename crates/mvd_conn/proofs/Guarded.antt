@@ -1,12 +1,17 @@
 -- Who may come in.
-use Rattle.std.proofs.Common.{◌≡◌, ℕ, zero, suc, ◌<◌, ◌&&◌, Bool, true, false, eqb, cond, List, [], ◌∷◌, ◌++◌, length, take, get_or, Option, Some, None, refl, subst, arith}
+use Rattle.std.proofs.Common.{◌≡◌, ℕ, zero, suc, ◌<◌, ◌&&◌, Bool, true, false, eqb, cond, List, [], ◌∷◌, ◌++◌, length, take, get_or, Option, Some, None, Result, refl, subst, arith}
 use Rattle.std.specs.Str.{bytes_eq}
 use Rattle.mvd_dots.specs.declared.refusals.Refusal.{Refusal}
 use Rattle.mvd_dots.specs.declared.refusals.Refusal.TheVariants.{NotAdmitted, TooManyRequests}
 use Rattle.mvd_wire.specs.Frames.{FrameValue, frame_at}
-use Rattle.mvd_conn.specs.Guard.{IsShown, is_barred, may_come}
+use Rattle.mvd_conn.specs.Guard.{IsShown, guard_met, is_barred, may_come, may_under}
+use Rattle.mvd_conn.specs.Rights.{may}
+use Rattle.mvd_wire.specs.declared.request.Request.{Request}
+use Rattle.mvd_conn.specs.Passes.{has_pass}
 use Rattle.mvd_conn.specs.History.{Gives, History, NextTaken, Over, Stops, Waits, frames_most, let_in, next_held, next_of}
 use Rattle.mvd_conn.specs.declared.guard.Guard.{Guard}
+use Rattle.mvd_conn.specs.declared.guard.Guard.TheVariants.{Asks, Knows, Left}
+use Rattle.mvd_conn.specs.declared.passes.Pass.{Pass}
 
 and_last : (a : Bool) → (a && true) ≡ a
 and_last true = refl
@@ -52,8 +57,10 @@ given_may guard taken Waits f rest e = absurd cc
 
 shown_more : (guard : Option Guard) (taken : List FrameValue) (f : FrameValue) → may_come guard taken f ≡ true → IsShown guard taken → IsShown guard (taken ++ f ∷ [])
 shown_more None taken f may shown = tt
-shown_more (Some guard) [] f may shown = may
-shown_more (Some guard) (g ∷ taken) f may shown = shown
+shown_more (Some Asks) taken f may shown = absurd cc
+shown_more (Some (Knows pass)) [] f may shown = may
+shown_more (Some (Knows pass)) (g ∷ taken) f may shown = shown
+shown_more (Some (Left pass)) taken f may shown = absurd cc
 
 not_stopped : (b : Bool) (r : Refusal) (next : NextTaken) (f : FrameValue) (rest : List ℕ) → cond b (Stops r) next ≡ Gives f rest → next ≡ Gives f rest
 not_stopped true r next f rest e = absurd cc
@@ -68,3 +75,28 @@ gives_shown h f rest next shown =
     not_stopped barred NotAdmitted (let_in h.guard h.taken y) f rest
     (not_stopped (eqb (length h.taken) frames_most) TooManyRequests (cond barred (Stops NotAdmitted) (let_in h.guard h.taken y)) f rest next) in
     shown_more h.guard h.taken f (given_may h.guard h.taken y f rest in_) shown
+
+-- ---- the passes that are known
+
+kept_if : (b : Bool) (pass : Pass) (f : FrameValue) (taken : List FrameValue) → IsShown (Some (Knows pass)) (f ∷ taken) → IsShown (Some (cond b (Knows pass) (Left pass))) (f ∷ taken)
+kept_if true pass f taken shown = shown
+kept_if false pass f taken shown = shown
+
+-- what was shown stays so
+pub shown_met : (passes : List Pass) (taken : List FrameValue) (next : Result (Option FrameValue × List ℕ) Refusal) (guard : Option Guard) → IsShown guard taken → IsShown (guard_met passes taken next guard) taken
+shown_met passes taken next None shown = tt
+shown_met passes [] next (Some guard) shown = tt
+shown_met passes (f ∷ taken) next (Some Asks) shown = shown
+shown_met passes (f ∷ taken) next (Some (Knows pass)) shown = kept_if (has_pass passes pass) pass f taken shown
+shown_met passes (f ∷ taken) next (Some (Left pass)) shown = shown
+
+may_if : (b : Bool) (pass : Pass) (request : Request) → may_under (Some (cond b (Knows pass) (Left pass))) request ≡ may pass.right request
+may_if true pass request = refl
+may_if false pass request = refl
+
+-- and so does what may be asked, once a frame was taken
+pub may_met : (passes : List Pass) (f : FrameValue) (taken : List FrameValue) (guard : Option Guard) (next : Result (Option FrameValue × List ℕ) Refusal) (request : Request) → may_under (guard_met passes (f ∷ taken) next guard) request ≡ may_under guard request
+may_met passes f taken None next request = refl
+may_met passes f taken (Some Asks) next request = refl
+may_met passes f taken (Some (Knows pass)) next request = may_if (has_pass passes pass) pass request
+may_met passes f taken (Some (Left pass)) next request = refl

@@ -8,3 +8,4 @@ pub mod Orders
 pub mod Tokens
 pub mod Words
 pub mod Passes
+pub mod PassFiles

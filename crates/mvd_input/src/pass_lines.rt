@@ -3,7 +3,7 @@ ghost use Rattle.std.specs.Prelude.{◌≡◌, ◌≤◌, length, option_copied,
 ghost use Rattle.mvd_input.specs.Passes.{before_blank, behind_blank, blank_at, is_key_prefix as prefix_said, pass_of, said_by};
 ghost use Rattle.mvd_input.specs.Passes.{prefix_in as prefix_told, writes_by as writes_told};
 
-use crate::token_files::{are_graphic, is_token};
+use crate::token_texts::{are_graphic, is_token};
 
 const PREFIX_MAX: usize = 128;
 

@@ -161,7 +161,7 @@ impl Connection {
     /// Looks at the passes that are known, if a token is asked for: before the first frame at whose token that shows,
     /// and then whether that is known still.
     pub fn meet(&mut self, passes: &Passes)
-        ensures { self.new ≡ met passes.now.list.items self.old }
+        ensures { self.new ≡ met passes.now self.old }
     {
         let Some(guard) = self.guard else {
             return;

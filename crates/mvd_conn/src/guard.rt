@@ -32,7 +32,7 @@ impl Guard {
 
     /// That of the first frame, where it came.
     pub(crate) fn at(passes: &Passes, held: &[u8]) -> Guard
-        ensures { result ≡ guard_at passes.now.list.items (frame_at held.now) }
+        ensures { result ≡ guard_at passes.now (frame_at held.now) }
     {
         match front_of(held) {
             Front::Whole(size) => {
@@ -45,7 +45,7 @@ impl Guard {
 
     /// The same where these passes are known: one that is not there any more is left for good.
     pub(crate) fn kept(self, passes: &Passes) -> Guard
-        ensures { result ≡ guard_kept passes.now.list.items self }
+        ensures { result ≡ guard_kept passes.now self }
     {
         match self {
             Guard::Knows(pass) if !passes.has(&pass) => Guard::Left(pass),

@@ -7,6 +7,7 @@ ghost use Rattle.mvd_conn.specs.Passes.{admits, has_pass, pass_of, pass_of_diges
 use crate::right::Right;
 use sha2::{Digest, Sha256};
 use std::alloc::{AllocError, Global};
+use std::marker::Model;
 
 /// The kind byte of a Hello.
 const HELLO: u8 = 0x2D;
@@ -33,12 +34,21 @@ impl Pass {
 /// The passes of all tokens that are known.
 #[derive(Drop)]
 pub struct Passes {
-    pub list: Vec<Pass>,
+    list: Vec<Pass>,
+}
+
+impl Model for Passes {
+    ghost use Rattle.std.specs.Prelude.{List};
+    ghost use Rattle.mvd_conn.specs.declared.passes.Pass.{Pass};
+
+    ghost Value = { List Pass };
+
+    ghost view = { λ p. p.list.items };
 }
 
 impl Passes {
     pub fn new(alloc: Global) -> Passes
-        ensures { result.list.items ≡ [] }
+        ensures { result ≡ [] }
     {
         Passes {
             list: Vec::new(alloc),
@@ -47,9 +57,9 @@ impl Passes {
 
     /// Adds that of a token.
     pub fn add(&mut self, token: &[u8], right: Right) -> Result<(), AllocError>
-        ensures added { OnOk result (self.new.list.items ≡
-            self.old.list.items ++ record { digest = sha256 token.now; right = right } ∷ []) }
-        ensures same { OnErr result (self.new.list.items ≡ self.old.list.items) }
+        ensures added { OnOk result (self.new ≡
+            self.old ++ record { digest = sha256 token.now; right = right } ∷ []) }
+        ensures same { OnErr result (self.new ≡ self.old) }
     {
         let digest = digest_of(token);
         self.list.push(Pass { digest, right })?;
@@ -57,7 +67,7 @@ impl Passes {
     }
 
     pub fn copy(&self, alloc: Global) -> Result<Passes, AllocError>
-        ensures { IfOk result (λ copy. copy.list.items ≡ self.now.list.items) }
+        ensures { IfOk result (λ copy. copy ≡ self.now) }
     {
         let list = Vec::from_slice(alloc, &self.list)?;
         Ok(Passes { list })
@@ -65,7 +75,7 @@ impl Passes {
 
     /// The pass of a token, if it is known.
     pub fn of(&self, token: &[u8]) -> Option<&Pass>
-        ensures { option_copied result ≡ pass_of self.now.list.items token.now }
+        ensures { option_copied result ≡ pass_of self.now token.now }
     {
         pass_in(&self.list, &digest_of(token))
     }
@@ -73,7 +83,7 @@ impl Passes {
     /// The pass of the token that a frame shows, if it is a Hello.
     pub(crate) fn shown(&self, kind: u8, payload: &[u8]) -> Option<&Pass>
         ensures { option_copied result ≡
-            pass_shown self.now.list.items (record { kind = kind; payload = payload.now }) }
+            pass_shown self.now (record { kind = kind; payload = payload.now }) }
     {
         match shown_by(kind, payload) {
             Some(token) => self.of(token),
@@ -83,7 +93,7 @@ impl Passes {
 
     /// Whether a pass is there still: its token is known, and allows the same.
     pub(crate) fn has(&self, pass: &Pass) -> bool
-        ensures { result ≡ has_pass self.now.list.items pass.now }
+        ensures { result ≡ has_pass self.now pass.now }
     {
         match pass_in(&self.list, &pass.digest) {
             Some(other) => pass.right.is_same(&other.right),

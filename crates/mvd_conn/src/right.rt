@@ -1,5 +1,5 @@
 //! What a token allows.
-ghost use Rattle.std.specs.Prelude.{◌≡◌, [], false, length, nat_le, true};
+ghost use Rattle.std.specs.Prelude.{◌≡◌, length, nat_le};
 ghost use Rattle.std.specs.Prelude.{IfSome, is_some};
 ghost use Rattle.std.specs.Str.{bytes_eq};
 ghost use Rattle.mvd_conn.specs.Passes.{is_same_right};
@@ -22,16 +22,18 @@ pub struct Right {
 
 impl Right {
     /// All may be asked, of all keys.
-    pub fn all() -> Right
-        ensures writes { result.writes ≡ true }
-        ensures all { prefix_of result ≡ [] }
-    {
-        Right {
-            writes: true,
-            bytes: [0; 128],
-            size: 0,
-        }
-    }
+    pub const ALL: Right = Right {
+        writes: true,
+        bytes: [0; 128],
+        size: 0,
+    };
+
+    /// Nothing may be asked, of the keys that begin with 128 bytes of zero: there is none.
+    pub const NONE: Right = Right {
+        writes: false,
+        bytes: [0; 128],
+        size: 128,
+    };
 
     /// It is `None` where the prefix is longer than any key.
     pub fn new(writes: bool, prefix: &[u8]) -> Option<Right>

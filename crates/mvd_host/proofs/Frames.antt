@@ -88,19 +88,26 @@ took_one h k e =
       | false ↦ λ is. let s : TookOne (released h) k = stepped_one (released h) (next_of h) k refl is in record { frame = s.frame; hand = s.hand; taken = s.taken; answers = s.answers; moved = record { came = s.moved.came; source = s.moved.source; left = s.moved.left; failed = s.moved.failed; guard = s.moved.guard }; shown = s.shown }
     ] e
 
-pub took_request : (old new : History) (one : TookOne old new) (r : Request) → asked_by one.frame ≡ Ok r → TakesOn (r ∷ []) [] old new
+pub took_request : (old new : History) (one : TookOne old new) (r : Request) → asked_by new.guard one.frame ≡ Ok r → TakesOn (r ∷ []) [] old new
 took_request old new one r is = record { frames = one.frame ∷ []; taken = one.taken; asked = ap (λ a. a ∷ []) is; answers = one.answers; moved = one.moved; shown = one.shown }
 
-pub took_fault : (old new : History) (one : TookOne old new) → TakesOn [] (one.frame ∷ []) old new
-took_fault old new one = record { frames = []; taken = one.taken; asked = refl; answers = one.answers; moved = one.moved; shown = one.shown }
+pub took_fault : (old new : History) (one : TookOne old new) → TakesOn [] (asked_by new.guard one.frame ∷ []) old new
+took_fault old new one = record { frames = one.frame ∷ []; taken = one.taken; asked = refl; answers = one.answers; moved = one.moved; shown = one.shown }
+
+-- the guard is the same
+same_guard : (old mid new : History) (rs : List Request) (faulty : List (Result Request Refusal)) (one : TakesOn rs faulty old mid) → new.guard ≡ mid.guard → map (asked_by new.guard) one.frames ≡ map (λ r. Ok r) rs ++ faulty
+same_guard old mid new rs faulty one guard = ap (λ (g : Option Guard). map (asked_by g) one.frames) guard ∙ one.asked
+
+first_asked : (old mid new : History) (rs : List Request) (one : TakesOn rs [] old mid) → new.guard ≡ mid.guard → map (asked_by new.guard) one.frames ≡ map (λ r. Ok r) rs
+first_asked old mid new rs one guard = same_guard old mid new rs [] one guard ∙ append-nil (map (λ r. Ok r) rs)
 
 -- requests, and then more frames
-pub takes_on : (old mid new : History) (rs more : List Request) (faulty : List FrameValue) → TakesOn rs [] old mid → TakesOn more faulty mid new → TakesOn (rs ++ more) faulty old new
+pub takes_on : (old mid new : History) (rs more : List Request) (faulty : List (Result Request Refusal)) → TakesOn rs [] old mid → TakesOn more faulty mid new → TakesOn (rs ++ more) faulty old new
 takes_on old mid new rs more faulty one other = record {
   frames = one.frames ++ other.frames;
-  taken = other.taken ∙ ap (λ l. l ++ (other.frames ++ faulty)) (one.taken ∙ ap (λ l. old.taken ++ l) (append-nil one.frames))
-      ∙ append_assoc old.taken one.frames (other.frames ++ faulty) ∙ ap (λ l. old.taken ++ l) (sym (append_assoc one.frames other.frames faulty));
-  asked = map-append asked_by one.frames other.frames ∙ ap₂ (λ a b. a ++ b) one.asked other.asked ∙ sym (map-append (λ r. Ok r) rs more);
+  taken = other.taken ∙ ap (λ l. l ++ other.frames) one.taken ∙ append_assoc old.taken one.frames other.frames;
+  asked = map-append (asked_by new.guard) one.frames other.frames ∙ ap₂ (λ a b. a ++ b) (first_asked old mid new rs one other.moved.guard) other.asked
+      ∙ sym (append_assoc (map (λ r. Ok r) rs) (map (λ r. Ok r) more) faulty) ∙ ap (λ l. l ++ faulty) (sym (map-append (λ r. Ok r) rs more));
   answers = other.answers ∙ one.answers;
   moved = record { came = other.moved.came ∙ one.moved.came; source = other.moved.source ∙ one.moved.source; left = other.moved.left ∙ one.moved.left; failed = other.moved.failed ∙ one.moved.failed; guard = other.moved.guard ∙ one.moved.guard };
   shown = λ s. other.shown (one.shown s);
@@ -133,15 +140,15 @@ idle_after h k e =
       | inr idle ↦ idle
     ]
 
-no_frames : (frames : List FrameValue) → map asked_by frames ≡ [] → frames ≡ []
-no_frames [] e = refl
-no_frames (f ∷ fs) e = absurd (let no : ◌≡◌ {A = List (Result Request Refusal)} (asked_by f ∷ map asked_by fs) [] = e in cc)
+no_frames : (guard : Option Guard) (frames : List FrameValue) → map (asked_by guard) frames ≡ [] → frames ≡ []
+no_frames guard [] e = refl
+no_frames guard (f ∷ fs) e = absurd (let no : ◌≡◌ {A = List (Result Request Refusal)} (asked_by guard f ∷ map (asked_by guard) fs) [] = e in cc)
 
-pub then_none : (old mid new : History) (rs : List Request) (faulty : List FrameValue) → TakesOn rs faulty old mid → TakesOn [] [] mid new → TakesOn rs faulty old new
+pub then_none : (old mid new : History) (rs : List Request) (faulty : List (Result Request Refusal)) → TakesOn rs faulty old mid → TakesOn [] [] mid new → TakesOn rs faulty old new
 then_none old mid new rs faulty one other = record {
   frames = one.frames;
-  taken = other.taken ∙ ap (λ l. mid.taken ++ (l ++ [])) (no_frames other.frames other.asked) ∙ append-nil mid.taken ∙ one.taken;
-  asked = one.asked;
+  taken = other.taken ∙ ap (λ l. mid.taken ++ l) (no_frames new.guard other.frames other.asked) ∙ append-nil mid.taken ∙ one.taken;
+  asked = same_guard old mid new rs faulty one other.moved.guard;
   answers = other.answers ∙ one.answers;
   moved = record { came = other.moved.came ∙ one.moved.came; source = other.moved.source ∙ one.moved.source; left = other.moved.left ∙ one.moved.left; failed = other.moved.failed ∙ one.moved.failed; guard = other.moved.guard ∙ one.moved.guard };
   shown = λ s. other.shown (one.shown s);

@@ -61,12 +61,12 @@ pub record Serves (turns : List Turn) (old new : StoredSite) : Type 0 where
   pub follows : TurnsFollow turns old new
   pub states : ServesAllFrom old.site new.site turns
 
--- The frames that were taken of a connection are those of these turns, in order, and the replies that were queued on it
--- are theirs, in order. Where there is a guard, the first frame of all shows the token
+-- The frames that were taken of a connection are those of these turns, in order, each of what its client's right allows,
+-- and the replies that were queued on it are theirs, in order. Where there is a guard, the first frame of all shows a token
 pub record ClientCourse (turns : List Turn) (old new : History) : Type 0 where
   pub frames : List FrameValue
   pub taken : new.taken ≡ old.taken ++ frames
-  pub asked : map asked_by frames ≡ map (λ t. t.asked) turns
+  pub asked : map (asked_by new.guard) frames ≡ map (λ t. t.asked) turns
   pub queued : List (List ℕ)
   pub answers : new.answers ≡ old.answers ++ queued
   pub told : AreQueued (map (λ t. t.reply) turns) queued

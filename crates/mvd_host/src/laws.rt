@@ -7,7 +7,7 @@ ghost use Rattle.mvd_host.specs.Course.{own};
 ghost use Rattle.mvd_host.specs.Grown.{Grows};
 ghost use Rattle.mvd_host.specs.Hosts.{HostValue, client_of, new_host};
 ghost use Rattle.mvd_host.specs.Round.{Round};
-ghost use Rattle.mvd_host.specs.Runs.{Goes, Happening, HasShown, HostMoment, OneList, Runs};
+ghost use Rattle.mvd_host.specs.Runs.{Goes, Happening, HasRight, HasShown, HostMoment, OneList, Runs};
 ghost use Rattle.mvd_host.specs.Runs.{TellsOwn, after_run, side_at, turns_in};
 ghost use Rattle.mvd_replica.specs.Turns.{Turn};
 ghost use Rattle.mvd_site.specs.Held.{AreHeld};
@@ -30,10 +30,12 @@ pub fn rounds_are_one_list<S: Alter>()
         TellsOwn (own n (turns_in (before ++ Goes n host ∷ after))) h }
 {}
 
-/// A client that has to show a token has no turn before a Hello with that token. Before its first turn nothing was told
-/// it but why its connection ended, which what came of it decides, and no site.
+/// A client that has to show a token has no turn before a Hello with that of a pass, and each of its turns is one that the
+/// right of that pass allows. Before its first turn nothing was told it but why its connection ended, which what came of it
+/// decides, and no site.
 pub fn none_before_the_token()
     ensures shown { (turns : List Turn) (h : History) → TellsOwn turns h → HasShown h.guard turns }
+    ensures right { (turns : List Turn) (h : History) → TellsOwn turns h → HasRight h.guard turns }
     ensures told { (h : History) → TellsOwn [] h → HistoryStands h →
         (h.left ++ h.waits ≡ last_bytes h.last) × IsLast h h.last }
 {}

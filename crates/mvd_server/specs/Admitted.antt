@@ -11,9 +11,9 @@ use Rattle.mvd_web.specs.declared.taken.Entry.TheVariants.{Open, Preflight, Cond
 
 -- WHAT IS DONE ABOUT A REQUEST: what it asks, where it comes in. Else it is told why not, and the site is asked nothing:
 -- it names no host, or more than one; or a host that is not this server, or it comes of a page that may not ask; or
--- it shows no token; or it is a write under a condition. A page of another origin is told by which methods it may ask
+-- it shows no token that is known; or its right does not allow it; or it is a write under a condition. A page of another origin is told by which methods it may ask
 abbrev pub Decides : Entry → Result Question Refusal → Plan → Type 0
-Decides Open question p = IsPlanOf question p
+Decides (Open right) question p = IsPlanOf right question p
 Decides HostMissing question p = TellsFault fault.HostMissing None p
 Decides (Stranger cause) question p = TellsFault cause None p
 Decides Conditional question p = TellsFault fault.PreconditionFailed None p

@@ -21,3 +21,4 @@ pub mod Rounds
 pub mod Since
 pub mod Talking
 pub mod Wires
+pub mod TokenFiles

@@ -23,13 +23,16 @@ mod peer_news;
 mod peer_steps;
 mod peering;
 mod responding;
+mod rotation;
 mod server;
 mod sockets;
 mod talks;
 mod telling;
 mod terms;
 mod timers;
+mod tokens;
 
 pub use server::serve_run;
 pub use sockets::{Direct, Sockets};
 pub use terms::Terms;
+pub use tokens::{Tokens, TokensFault, read_tokens, tokens_of};

@@ -14,7 +14,7 @@ use crate::gate::{Rest, answer_writes, ask};
 use crate::metrics::Counts;
 use crate::parked::Parked;
 use crate::responding::{asks_changes, refuse, tell_pushed, tell_reply};
-use mvd_conn::Guard;
+use mvd_conn::Passes;
 use mvd_dots::Refusal;
 use mvd_host::{AtHand, FIRST_AT_HAND, Feed, Host};
 use mvd_http::{Names, push_changes, push_not_waited};
@@ -38,8 +38,8 @@ pub(crate) enum Kind {
 #[derive(Drop)]
 pub(crate) struct Talks {
     pub host: Host,
-    /// Who may come in: whoever shows its token, or everybody.
-    guard: Option<Guard>,
+    /// Who may come in: whoever shows the token of one of these, or everybody.
+    passes: Option<Passes>,
     /// By which names it is asked, and of which origins a page may ask.
     names: Names,
     hand: AtHand,
@@ -65,16 +65,16 @@ impl Talks {
     pub fn new(
         alloc: Global,
         keys: RandomState,
-        guard: Option<Guard>,
+        passes: Option<Passes>,
         names: Names,
         own: usize,
         waits_max: usize,
     ) -> Result<Talks, AllocError>
-        ensures { IfOk result (λ talks. talking_of talks ≡ new_talking guard (named_by names)) }
+        ensures { IfOk result (λ talks. talking_of talks ≡ new_talking passes (named_by names)) }
     {
         Ok(Talks {
             host: Host::new(alloc),
-            guard,
+            passes,
             names,
             hand: AtHand::new(alloc),
             webs: BTreeMap::new(alloc),
@@ -128,7 +128,8 @@ impl Talks {
         more & (counts.tally.changes() == changes) & !self.hand.has_waiting()
     }
 
-    /// Takes the next request of a client over HTTP, or asks what its writes ask, where that was not done.
+    /// Takes the next request of a client over HTTP, or asks what its writes ask, where that was not done. One of frames
+    /// meets the passes that are known.
     fn take_in<S: Alter + Drop>(
         &mut self,
         replica: &Replica<S>,
@@ -142,11 +143,11 @@ impl Talks {
             return self.hand_on_writes(number);
         }
         let Some(web) = self.webs.get_mut(&number) else {
-            return;
+            return self.meet(number);
         };
         let rest = ask(
             self.alloc,
-            self.guard.as_ref(),
+            self.passes.as_ref(),
             &self.names,
             &mut self.hand,
             web,
@@ -162,6 +163,24 @@ impl Talks {
                 let due = now.saturating_add(u64::from(wait).saturating_mul(1_000));
                 self.park(number, root, due, counts);
             }
+        }
+    }
+
+    /// Has a client of frames meet the passes that are known, if a token is asked of it.
+    fn meet(&mut self, number: u64)
+        ensures { TalksDeeds self.old self.new }
+    {
+        if let Some(passes) = &self.passes {
+            self.host.meet(number, passes);
+        }
+    }
+
+    /// Other passes are known from now on, where tokens are asked for.
+    pub fn rotate(&mut self, passes: Passes)
+        ensures { TalksDeeds self.old self.new }
+    {
+        if self.passes.is_some() {
+            self.passes = Some(passes);
         }
     }
 

@@ -266,13 +266,13 @@ rest_asked a b rest bs e = cc
 none_asked : (b : Result Request Refusal) (bs : List (Result Request Refusal)) → [] ≡ b ∷ bs → ⊥
 none_asked b bs e = absurd cc
 
-under_is : (guard : Option Guard) (asked : Result Request Refusal) (request : Request) → asked_under guard asked ≡ Ok request → (asked ≡ Ok request) × (may_under guard request ≡ true)
-under_is guard (Ok r) request e = on (may_under guard r) refl e
-  where
-    on : (b : Bool) → may_under guard r ≡ b → cond b (Ok r) (Err NotAdmitted) ≡ Ok request → (Ok r ≡ Ok request) × (may_under guard request ≡ true)
-    on true is e = let same : r ≡ request = cc in (e, subst (λ (x : Request). may_under guard x ≡ true) same is)
-    on false is e = absurd cc
-under_is guard (Err refusal) request e = absurd cc
+under_on : (r request : Request) (b : Bool) → ◌≡◌ {A = Result Request Refusal} (cond b (Ok r) (Err NotAdmitted)) (Ok request) → (b ≡ true) × (r ≡ request)
+under_on r request true e = (refl, cc)
+under_on r request false e = absurd cc
+
+under_may : (guard : Option Guard) (asked : Result Request Refusal) (request : Request) → asked_under guard asked ≡ Ok request → may_under guard request ≡ true
+under_may guard (Ok r) request e = let it = under_on r request (may_under guard r) e in subst (λ (x : Request). may_under guard x ≡ true) it.1 it.0
+under_may guard (Err refusal) request e = absurd cc
 
 -- a Hello is asked by whoever may come in
 hello_under : (guard : Option Guard) (asked : Result Request Refusal) (token : List ℕ) → may_under guard (Hello token) ≡ true → asked ≡ Ok (Hello token) → asked_under guard asked ≡ Ok (Hello token)
@@ -297,7 +297,7 @@ pub has_shown : (turns : List Turn) (h : History) → TellsOwn turns h → HasSh
 has_shown turns h own = shown_first h.guard h.taken turns own.asked own.shown
 
 right_if : (guard : Option Guard) (f : FrameValue) (asked : Result Request Refusal) → asked ≡ asked_by guard f → IfOk asked (λ request. may_under guard request ≡ true)
-right_if guard f (Ok request) is = (under_is guard (request_of f.kind f.payload) request (sym is)).1
+right_if guard f (Ok request) is = under_may guard (request_of f.kind f.payload) request (sym is)
 right_if guard f (Err refusal) is = tt
 
 right_all : (guard : Option Guard) (taken : List FrameValue) (turns : List Turn) → map (asked_by guard) taken ≡ map (λ t. t.asked) turns → HasRight guard turns

@@ -1,5 +1,5 @@
 -- The frames of clients, one client after the other.
-use Rattle.std.proofs.Common.{◌≡◌, ◌⊎◌, inl, inr, ℕ, ◌+◌, ◌≤◌, ◌==◌, Bool, true, false, cond, List, [], ◌∷◌, ◌++◌, map, length, slice_index, ◌<◌, ◌||◌, true≢false, Option, Some, None, refl, sym, ap, ap₂, ◌≢◌, ◌∙◌, subst, subst₂, append-nil, arith}
+use Rattle.std.proofs.Common.{◌≡◌, ◌⊎◌, inl, inr, ℕ, ◌+◌, ◌≤◌, ◌==◌, Bool, true, false, cond, List, [], ◌∷◌, ◌++◌, map, length, slice_index, ◌<◌, ◌||◌, true≢false, Option, Some, None, refl, sym, ap, ap₂, ◌≢◌, ◌∙◌, subst, subst₂, append-nil, arith, Result}
 use Rattle.std.proofs.lemmas.Bool.Decides.{nat_tests}
 use Rattle.std.specs.Ordering.{nat_cmp}
 use Rattle.std.specs.BTreeMap.{is_at}

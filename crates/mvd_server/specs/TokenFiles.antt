@@ -3,9 +3,17 @@ use Rattle.std.specs.Prelude.{◌≡◌, ℕ, List, [], ◌∷◌, Option, Some,
 use Rattle.sha2.specs.Sha256.{sha256}
 use Rattle.mvd_conn.specs.Rights.{prefix_of}
 use Rattle.mvd_conn.specs.declared.passes.Pass.{Pass}
+use Rattle.mvd_input.specs.Ends.{ReadsNot}
 use Rattle.mvd_input.specs.Passes.{PassText}
 use Rattle.mvd_server.specs.declared.terms.Terms.{Terms}
 use Rattle.mvd_server.specs.declared.tokens.Tokens.{Tokens}
+use Rattle.mvd_server.specs.declared.tokens.TokensFault.{TokensFault}
+use Rattle.mvd_server.specs.declared.tokens.TokensFault.TheVariants.{Bad, Unread}
+
+-- where a file could not be read, it is as for any other
+abbrev pub IsUnreadSo : TokensFault → Type 0
+IsUnreadSo (Unread fault) = ReadsNot fault
+IsUnreadSo (Bad fault) = ⊤
 
 -- a pass is of a line: its token's, and what that allows
 pub record IsPassOf (text : PassText) (pass : Pass) : Type 0 where

@@ -53,12 +53,15 @@ impl Rotation {
         if self.file.is_empty() {
             return None;
         }
-        let mark = mark_of(rt, self.file.as_str()).unwrap_or(None);
-        if mark.is_none() && !self.was_seen {
-            // What was read at first is no file, as a pipe: it is not looked at again.
-            self.file.clear();
-            return None;
-        }
+        let mark = match mark_of(rt, self.file.as_str()) {
+            Ok(None) if !self.was_seen => {
+                // What was read at first is no file, as a pipe: it is not looked at again.
+                self.file.clear();
+                return None;
+            }
+            Ok(mark) => mark,
+            Err(_) => None,
+        };
         if !self.is_changed(mark, now) {
             return None;
         }

@@ -1,11 +1,10 @@
 //! Files with tokens: what a server lets in, and what it shows itself.
-ghost use Rattle.std.specs.Prelude.{◌≡◌, ◌⊎◌, [], Err, IfErr, IfOk, Ok, OnOk, map};
+ghost use Rattle.std.specs.Prelude.{◌≡◌, ◌<◌, ◌⊎◌, Err, IfErr, IfOk, List, Ok, length, map};
 ghost use Rattle.mvd_input.specs.Ends.{ReadsNot};
 ghost use Rattle.mvd_input.specs.PassFiles.{passes_of};
 ghost use Rattle.mvd_input.specs.Passes.{PassText, said_by};
 ghost use Rattle.mvd_input.specs.declared.pass_files.PassFault.TheVariants.{Memory};
-ghost use Rattle.mvd_server.specs.TokenFiles.{ArePassesOf};
-ghost use Rattle.std.specs.Prelude.{List};
+ghost use Rattle.mvd_server.specs.TokenFiles.{ArePassesOf, IsUnreadSo};
 
 use mvd_conn::{Passes, Right};
 use mvd_dots::Refusal;
@@ -32,7 +31,9 @@ pub enum TokensFault {
 }
 
 /// What a file with tokens says.
-pub fn read_tokens<F: Files>(rt: &F, alloc: Global, file: &str) -> Result<Tokens, TokensFault> {
+pub fn read_tokens<F: Files>(rt: &F, alloc: Global, file: &str) -> Result<Tokens, TokensFault>
+    ensures { IfErr result IsUnreadSo }
+{
     let text = match text_of(rt, alloc, file) {
         Ok(text) => text,
         Err(fault) => return Err(TokensFault::Unread(fault)),

@@ -1,6 +1,8 @@
 //! Laws of many rounds, each as the contract of an empty function.
-ghost use Rattle.std.specs.Prelude.{◌≡◌, ◌∷◌, ◌++◌, [], ℕ, List, Some};
+ghost use Rattle.std.specs.Prelude.{◌≡◌, ◌∷◌, ◌++◌, [], ℕ, List, Some, true};
 ghost use Rattle.mvd_conn.specs.History.{History, last_bytes};
+ghost use Rattle.mvd_conn.specs.Rights.{may};
+ghost use Rattle.mvd_conn.specs.declared.right.Right.{Right};
 ghost use Rattle.mvd_conn.specs.Stands.{IsLast, HistoryStands};
 ghost use Rattle.mvd_host.specs.AtHand.{none_at_hand};
 ghost use Rattle.mvd_host.specs.Course.{own};
@@ -9,7 +11,9 @@ ghost use Rattle.mvd_host.specs.Hosts.{HostValue, client_of, new_host};
 ghost use Rattle.mvd_host.specs.Round.{Round};
 ghost use Rattle.mvd_host.specs.Runs.{Goes, Happening, HasRight, HasShown, HostMoment, OneList, Runs};
 ghost use Rattle.mvd_host.specs.Runs.{TellsOwn, after_run, side_at, turns_in};
+ghost use Rattle.mvd_host.specs.Within.{ChangesWithin, RepliesWithin};
 ghost use Rattle.mvd_replica.specs.Turns.{Turn};
+ghost use Rattle.mvd_wire.specs.declared.request.Request.{Request};
 ghost use Rattle.mvd_site.specs.Held.{AreHeld};
 ghost use Rattle.sqlite.specs.Held.{Held, state};
 
@@ -46,4 +50,11 @@ pub fn rounds_only_grow<S: Alter>()
     ensures { (ready : List ℕ) (turns : List (ℕ × Turn)) (old new : HostMoment (Held S)) → AreHeld old.site.states →
         Round ready turns (side_at (state S.Store) old) (side_at (state S.Store) new) →
         Grows old.site.states new.site.states }
+{}
+
+/// What a right allows is answered from the keys that begin with its prefix alone, but for whether all places for keys are
+/// taken; and it changes such a key, or nothing.
+pub fn rights_bound_replies()
+    ensures told { (right : Right) (request : Request) → may right request ≡ true → RepliesWithin right request }
+    ensures changed { (right : Right) (request : Request) → may right request ≡ true → ChangesWithin right request }
 {}

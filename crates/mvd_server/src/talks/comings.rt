@@ -39,7 +39,8 @@ impl Talks {
         ensures own { self.new.own ≡ self.old.own }
         ensures deeds { TalksDeeds self.old self.new }
     {
-        match self.host.admit(self.first_guard()) {
+        let guard = self.first_guard();
+        match self.host.admit(guard) {
             Ok(number) => number,
             Err(_) => None,
         }

@@ -28,13 +28,6 @@ impl Right {
         size: 0,
     };
 
-    /// Nothing may be asked, of the keys that begin with 128 bytes of zero: there is none.
-    pub const NONE: Right = Right {
-        writes: false,
-        bytes: [0; 128],
-        size: 128,
-    };
-
     /// It is `None` where the prefix is longer than any key.
     pub fn new(writes: bool, prefix: &[u8]) -> Option<Right>
         ensures some { is_some result ≡ nat_le (length prefix.now) 128 }

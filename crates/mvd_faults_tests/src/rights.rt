@@ -136,8 +136,9 @@ const BYE: &str = "000000012f";
 fn passes(alloc: Global) -> Result<Passes, Refusal> {
     let mut passes = Passes::new(alloc);
     for (token, writes, prefix, _) in &TOKENS {
-        let right = Right::new(*writes, prefix).unwrap_or(Right::NONE);
-        passes.add(token, right)?;
+        if let Some(right) = Right::new(*writes, prefix) {
+            passes.add(token, right)?;
+        }
     }
     Ok(passes)
 }
@@ -200,8 +201,9 @@ fn each_line_of_the_table(rt: HostRuntime) -> Result<(), Fail> {
 fn fewer(alloc: Global) -> Result<Passes, Refusal> {
     let mut passes = Passes::new(alloc);
     for (token, writes, prefix, _) in TOKENS.iter().skip(1) {
-        let right = Right::new(*writes, prefix).unwrap_or(Right::NONE);
-        passes.add(token, right)?;
+        if let Some(right) = Right::new(*writes, prefix) {
+            passes.add(token, right)?;
+        }
     }
     Ok(passes)
 }

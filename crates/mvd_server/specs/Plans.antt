@@ -86,6 +86,13 @@ abbrev pub IsPlanIf : Bool → Right → Question → Plan → Type 0
 IsPlanIf true right question p = IsPlanFor right question p
 IsPlanIf false right question p = TellsBeyond p
 
+-- WHAT NEEDS NO TOKEN: the page, and whether the server can answer
+abbrev pub IsFreePlan : Result Question Refusal → Plan → Type 0
+IsFreePlan (Ok Page) p = TellsWebPage p
+IsFreePlan (Ok Health) p = p ≡ plan.Health
+IsFreePlan (Ok TooLong) p = TellsFault ContentTooLarge None p
+IsFreePlan _ p = p ≡ plan.NotAdmitted
+
 -- what is done about a question, or the refusal of what is none
 abbrev pub IsPlanOf : Right → Result Question Refusal → Plan → Type 0
 IsPlanOf right (Ok question) p = IsPlanIf (may_ask right question) right question p

@@ -5,7 +5,7 @@ ghost use Rattle.mvd_http.specs.Guard.{named_by};
 ghost use Rattle.mvd_server.specs.Admitted.{Decides};
 ghost use Rattle.mvd_host.specs.AtHand.{AtHandValue};
 ghost use Rattle.mvd_server.specs.Errands.{AsksAtHand, AsksNextOf, DoesPlan, TakesIf, TellsBatch, TellsOrWaits};
-ghost use Rattle.mvd_server.specs.Plans.{IsPlanFor, IsPlanIf, TellsFault, TellsMethods};
+ghost use Rattle.mvd_server.specs.Plans.{IsFreePlan, IsPlanFor, IsPlanIf, TellsFault, TellsMethods};
 ghost use Rattle.mvd_server.specs.Responding.{TellsBody, not_admitted, token_answer};
 ghost use Rattle.mvd_web.specs.Inside.{web_of};
 ghost use Rattle.mvd_web.specs.Rights.{may_ask};
@@ -76,11 +76,24 @@ fn plan_of(alloc: Global, asked: &Asked) -> Plan
             Ok(question) => plan_if(alloc, right, question),
             Err(refusal) => Plan::Refused(*refusal),
         },
+        Entry::Free => plan_free(&asked.question),
         Entry::HostMissing => fault(Fault::HostMissing, None),
         Entry::Stranger(cause) => fault(cause, None),
         Entry::Conditional => fault(Fault::PreconditionFailed, None),
         Entry::Preflight => methods_of(&asked.question),
         Entry::NoToken => Plan::NotAdmitted,
+    }
+}
+
+/// What is done about a question of whoever shows no token.
+fn plan_free(question: &Result<Question, Refusal>) -> Plan
+    ensures { IsFreePlan question.now result }
+{
+    match question {
+        Ok(Question::Page) => Plan::Told(answer_of(StatusCode::OK, Content::Html), PAGE),
+        Ok(Question::Health) => Plan::Health,
+        Ok(Question::TooLong) => fault(Fault::ContentTooLarge, None),
+        _ => Plan::NotAdmitted,
     }
 }
 

@@ -100,7 +100,9 @@ fn listed(alloc: Global, lines: &[PassLine<'_>]) -> Result<Passes, PassFault>
     let mut passes = Passes::new(alloc);
     for line in lines {
         // No line has a longer prefix than may be.
-        let right = Right::new(line.writes, line.prefix).unwrap_or(Right::NONE);
+        let Some(right) = Right::new(line.writes, line.prefix) else {
+            return Err(PassFault::Memory);
+        };
         passes.add(line.token, right)?;
     }
     Ok(passes)

@@ -17,7 +17,7 @@ use Rattle.mvd_dots.specs.declared.refusals.Refusal.TheVariants.{NotAdmitted}
 use Rattle.mvd_conn.specs.Passes.{pass_if}
 use Rattle.mvd_conn.specs.declared.passes.Pass.{Pass}
 use Rattle.mvd_conn.specs.declared.right.Right.{Right}
-use Rattle.mvd_conn.specs.declared.right.TheConstants.Right.{ALL, NONE}
+use Rattle.mvd_conn.specs.declared.right.TheConstants.Right.{ALL}
 use Rattle.mvd_http.specs.Asked.{IsQuestion}
 use Rattle.mvd_http.specs.Guard.{Named, name_in, named_by, origin_in, stranger_of}
 use Rattle.mvd_http.specs.OpenToAll.{is_open_to_all}
@@ -27,7 +27,7 @@ use Rattle.mvd_http.specs.declared.question.Question.{Question}
 use Rattle.mvd_http.specs.Paths.{without}
 use Rattle.mvd_web.specs.declared.taken.Asked.{Asked}
 use Rattle.mvd_web.specs.declared.taken.Entry.{Entry}
-use Rattle.mvd_web.specs.declared.taken.Entry.TheVariants.{Open, Preflight, Conditional, HostMissing, Stranger, NoToken}
+use Rattle.mvd_web.specs.declared.taken.Entry.TheVariants.{Open, Free, Preflight, Conditional, HostMissing, Stranger, NoToken}
 use Rattle.mvd_web.specs.declared.desk.Desk.{Desk}
 
 -- the value of the first field of a name
@@ -60,16 +60,14 @@ bearer_text (Some field) = without (codes "Bearer ") field
 abbrev pub shown_by : Parts → Option (List ℕ)
 shown_by parts = bearer_text (header_in (codes "authorization") parts.headers)
 
--- THE RIGHT BY WHICH A REQUEST ASKS: where tokens are asked for, that of the token which it shows; one that needs none
--- asks nothing of the site
-abbrev pub right_or : Option Pass → Bool → Option Right
-right_or (Some pass) free = Some pass.right
-right_or None true = Some NONE
-right_or None false = None
-
+-- THE RIGHT BY WHICH A REQUEST ASKS: where tokens are asked for, that of the token which it shows, if that is known
 abbrev pub right_in : Option (List Pass) → Parts → Option Right
 right_in None parts = Some ALL
-right_in (Some passes) parts = right_or (pass_if passes (shown_by parts)) (is_open_to_all parts.method (target_of parts))
+right_in (Some passes) parts = option_map (λ pass. pass.right) (pass_if passes (shown_by parts))
+
+-- it needs none
+abbrev pub is_free : Parts → Bool
+is_free parts = is_open_to_all parts.method (target_of parts)
 
 -- ---- hosts
 
@@ -127,7 +125,8 @@ IsEntry passes names parts HostMissing = ¬ NamesHost parts
 IsEntry passes names parts (Stranger fault) = NamesHost parts × (stranger_in names parts ≡ Some fault)
 IsEntry passes names parts Preflight = IsKnown names parts × (is_preflight parts ≡ true)
 IsEntry passes names parts NoToken =
-    IsKnown names parts × (is_preflight parts ≡ false) × (right_in passes parts ≡ None)
+    IsKnown names parts × (is_preflight parts ≡ false) × (right_in passes parts ≡ None) × (is_free parts ≡ false)
+IsEntry passes names parts Free = IsKnown names parts × (right_in passes parts ≡ None) × (is_free parts ≡ true)
 IsEntry passes names parts Conditional =
     IsKnown names parts × IsSome (right_in passes parts) × (is_conditional parts ≡ true)
 IsEntry passes names parts (Open right) =
@@ -136,6 +135,9 @@ IsEntry passes names parts (Open right) =
 -- WHAT A REQUEST ASKS that comes in. Of any other nothing is read but its head: whatever its body is, it asks the same.
 abbrev pub AsksIf : Entry → Request (List ℕ) → Result Question Refusal → Type 0
 AsksIf (Open right) request question =
+    IsQuestion (head_of request).method (target_of (head_of request))
+    (header_in (codes "mvd-context") (head_of request).headers) (body_of request) question
+AsksIf Free request question =
     IsQuestion (head_of request).method (target_of (head_of request))
     (header_in (codes "mvd-context") (head_of request).headers) (body_of request) question
 AsksIf Preflight request question =

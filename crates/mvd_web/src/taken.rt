@@ -1,10 +1,12 @@
 //! A request that was taken.
-ghost use Rattle.std.specs.Prelude.{◌≡◌, ◌↔◌, IfOk, IsTrue, codes, is_some, length, option_copied};
+ghost use Rattle.std.specs.Prelude.{◌≡◌, ◌↔◌, IfOk, IsTrue, codes, if◌then◌else◌, is_some, length, option_copied, option_map};
 ghost use Rattle.http.specs.Request.{body_of, head_of};
 ghost use Rattle.http_header.specs.HeaderMap.{get_all};
 ghost use Rattle.mvd_http.specs.Asked.{IsQuestion};
+ghost use Rattle.mvd_conn.specs.Passes.{pass_of};
 ghost use Rattle.mvd_http.specs.Guard.{named_by};
-ghost use Rattle.mvd_web.specs.Asked.{AsksIf, IsAskedBy, IsEntry, NamesHost, bearer_text, right_in as right_told};
+ghost use Rattle.mvd_web.specs.declared.taken.Entry.TheVariants.{Free, NoToken};
+ghost use Rattle.mvd_web.specs.Asked.{AsksIf, IsAskedBy, IsEntry, NamesHost, bearer_text, is_free, right_in as right_told};
 ghost use Rattle.mvd_web.specs.Asked.{has_condition as condition_told, is_conditional as conditional_told};
 ghost use Rattle.mvd_web.specs.Asked.{is_preflight as preflight_told, name_of as name_told, origin_of as origin_told};
 ghost use Rattle.mvd_web.specs.Asked.{shared_with as shared_told, stranger_in as stranger_told};
@@ -25,6 +27,8 @@ use std::alloc::{AllocError, Global};
 pub enum Entry {
     /// It may ask what this right allows.
     Open(Right),
+    /// It needs no token, and shows none that is known: of the site it asks nothing.
+    Free,
     /// It asks by which methods a page of another origin may ask.
     Preflight,
     /// It is a write under a condition of HTTP's own: a context stands for these.
@@ -112,22 +116,37 @@ fn shown_by(request: &Request<Bytes>) -> Option<&[u8]>
     bearer_in(field_in(request, "authorization"))
 }
 
-/// The right by which a request asks: where tokens are asked for, that of the token which it shows, unless it needs none.
+/// The right by which a request asks: where tokens are asked for, that of the token which it shows, if that is known.
 fn right_in(passes: Option<&Passes>, request: &Request<Bytes>) -> Option<Right>
     ensures { result ≡ right_told (option_copied passes.entry) (head_of request.now) }
 {
     let Some(passes) = passes else {
         return Some(Right::ALL);
     };
-    if let Some(token) = shown_by(request)
-        && let Some(pass) = passes.of(token)
-    {
-        return Some(pass.right);
+    match shown_by(request) {
+        Some(token) => right_of(passes, token),
+        None => None,
     }
+}
+
+/// The right of a token, if that is known.
+fn right_of(passes: &Passes, token: &[u8]) -> Option<Right>
+    ensures { result ≡ option_map (λ pass. pass.right) (pass_of passes.now token.now) }
+{
+    match passes.of(token) {
+        Some(pass) => Some(pass.right),
+        None => None,
+    }
+}
+
+/// Whether a request comes in that shows no token which is known.
+fn entry_free(request: &Request<Bytes>) -> Entry
+    ensures { result ≡ (if is_free (head_of request.now) then Free else NoToken) }
+{
     if is_open_to_all(request.method().as_str().as_bytes(), target_of(request)) {
-        return Some(Right::NONE);
+        return Entry::Free;
     }
-    None
+    Entry::NoToken
 }
 
 /// The name of its host, where that is no address and not `localhost`.
@@ -206,7 +225,7 @@ fn entry_of(passes: Option<&Passes>, names: &Names, request: &Request<Bytes>) ->
         return Entry::Preflight;
     }
     let Some(right) = right_in(passes, request) else {
-        return Entry::NoToken;
+        return entry_free(request);
     };
     if is_conditional(request) {
         return Entry::Conditional;
@@ -253,7 +272,7 @@ fn question_if(alloc: Global, entry: Entry, request: &Request<Bytes>) -> Result<
     ensures { AsksIf entry request.now result }
 {
     match entry {
-        Entry::Open(_) => question_in(alloc, request),
+        Entry::Open(_) | Entry::Free => question_in(alloc, request),
         Entry::Preflight => question_in(alloc, request),
         _ => Err(Refusal::NotAdmitted),
     }

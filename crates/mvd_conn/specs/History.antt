@@ -172,10 +172,13 @@ first_source (source.Failed refusal) new = source.Failed refusal
 abbrev pub closed : History → Source → History
 closed h new = record h { source = first_source h.source new }
 
--- these passes are known: where none was looked at before, that of the next frame is, and else whether it is there still
+-- the frame that comes next, if any; where the connection has ended, none does
+abbrev pub coming : History → Result (Option FrameValue × List ℕ) Refusal
+coming h = if is_some h.last then Ok (None, h.held) else frame_at h.held
+
+-- these passes are known: before the first frame its token decides, and then whether it is known still
 abbrev pub met : List Pass → History → History
-met passes h = if is_some h.last then h
-    else record h { guard = guard_met passes h.taken (frame_at h.held) h.guard }
+met passes h = record h { guard = guard_met passes h.taken (coming h) h.guard }
 
 -- a frame is handed out; a Bye is the last
 abbrev pub taking : History → FrameValue → List ℕ → History

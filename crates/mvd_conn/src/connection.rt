@@ -166,13 +166,12 @@ impl Connection {
         let Some(guard) = self.guard else {
             return;
         };
-        if self.last.is_some() {
-            return;
-        }
-        let met = if self.count == 0 {
-            Guard::at(passes, &self.input.as_slice()[self.hand..])
-        } else {
+        let met = if self.count > 0 {
             guard.kept(passes)
+        } else if self.last.is_some() {
+            Guard::Asks
+        } else {
+            Guard::at(passes, &self.input.as_slice()[self.hand..])
         };
         self.guard = Some(met);
     }

@@ -1,5 +1,5 @@
 -- What a server does to a stored site.
-use Rattle.std.specs.Prelude.{◌≡◌, ◌≤◌, ◌<◌, ◌⊎◌, ⊤, ℕ, true, List, [], ◌∷◌, Option, None, Some, IfOk}
+use Rattle.std.specs.Prelude.{◌≡◌, ◌≤◌, ◌<◌, ◌⊎◌, ⊤, ℕ, true, List, [], ◌∷◌, Option, None, Some}
 use Rattle.std.specs.List.{AllByRecursion, Contains}
 use Rattle.mvd_conn.specs.Rights.{may}
 use Rattle.mvd_conn.specs.declared.guard.Guard.TheVariants.{Knows}
@@ -20,6 +20,7 @@ use Rattle.mvd_server.specs.Talking.{Deeds, IsMadeFor, Talking, new_talking, tal
 use Rattle.mvd_server.specs.Wires.{Wired, WiredStep}
 use Rattle.mvd_server.specs.declared.sockets.Sockets.{Ghosts as SocketGhosts}
 use Rattle.mvd_server.specs.declared.talks.Talks.{Talks}
+use Rattle.mvd_wire.specs.declared.request.Request.{Request}
 use Rattle.mvd_site.specs.Sites.{SiteValue}
 use Rattle.sqlite.specs.Held.{Held, state}
 use Rattle.sqlite.specs.State.{State}
@@ -79,23 +80,26 @@ abbrev pub KnowsPass : Option (List Pass) → Pass → Type 0
 KnowsPass None pass = ⊥
 KnowsPass (Some passes) pass = Contains passes pass
 
-abbrev pub WasKnown : {K C : Type 0} → Pass → List (World K C) → Type 0
-WasKnown pass [] = ⊥
-WasKnown pass (w ∷ ws) = KnowsPass w.wired.talking.passes pass ⊎ WasKnown pass ws
+abbrev pub WasKnownIn : {K C : Type 0} → Pass → List (World K C) → Type 0
+WasKnownIn pass [] = ⊥
+WasKnownIn pass (w ∷ ws) = KnowsPass w.wired.talking.passes pass ⊎ WasKnownIn pass ws
+
+-- or at first
+abbrev pub WasKnown : {K C : Type 0} → Option (List Pass) → List (World K C) → Pass → Type 0
+WasKnown first ws pass = KnowsPass first pass ⊎ WasKnownIn pass ws
 
 -- EACH TURN OF A CLIENT IS ONE THAT ITS RIGHT ALLOWS. Where tokens are asked for, the first turn of a client of frames is a
 -- Hello with the token of a pass that was known, and each is one that the right of that pass allows
-abbrev pub IsLetIn : {K C : Type 0} → Option (List Pass) → List Turn → List (World K C) → Type 0
-IsLetIn None turns ws = ⊤
-IsLetIn (Some passes) [] ws = ⊤
-IsLetIn (Some passes) (turn ∷ turns) ws =
-    (pass : Pass) × WasKnown pass ws × IsHelloOf pass turn.asked × HasRight (Some (Knows pass)) (turn ∷ turns)
+abbrev pub IsLetIn : (Pass → Type 0) → Option (List Pass) → List Turn → Type 0
+IsLetIn Known None turns = ⊤
+IsLetIn Known (Some passes) [] = ⊤
+IsLetIn Known (Some passes) (turn ∷ turns) =
+    (pass : Pass) × Known pass × IsHelloOf pass turn.asked × HasRight (Some (Knows pass)) (turn ∷ turns)
 
 -- over HTTP each by itself: a pass that was known allows it
-abbrev pub IsAllowed : {K C : Type 0} → Option (List Pass) → List (World K C) → Turn → Type 0
-IsAllowed None ws turn = ⊤
-IsAllowed (Some passes) ws turn =
-    IfOk turn.asked (λ request. (pass : Pass) × WasKnown pass ws × (may pass.right request ≡ true))
+abbrev pub IsAllowed : (Pass → Type 0) → Option (List Pass) → Request → Type 0
+IsAllowed Known None request = ⊤
+IsAllowed Known (Some passes) request = (pass : Pass) × Known pass × (may pass.right request ≡ true)
 
 module _ {K C : Type 0} (f : C → State) (k : SocketGhosts K) where
   -- what a server does beside a round changes no site
@@ -168,9 +172,11 @@ module _ {S : Type 0} {g : Ghosts S} where
     -- also of a client of frames that has gone: its own turns are what it asked and was told
     pub told : (n : ℕ) → n < first_at_hand
         → (own n (turns_in all) ≡ []) ⊎ WasThere n (TellsOwn (own n (turns_in all))) goes.mids
-    -- each turn of one of frames is one that its right allows, and so is each of one over HTTP
-    pub rights : (n : ℕ) → n < first_at_hand → IsLetIn passes (own n (turns_in all)) goes.mids ⊎ WasMadeFor n goes.mids
-    pub web_rights : (n : ℕ) → first_at_hand ≤ n → AllByRecursion (IsAllowed passes goes.mids) (own n (turns_in all))
+    -- each turn of one of frames is one that its right allows, and so is all that is asked over HTTP
+    pub rights : (n : ℕ) → n < first_at_hand
+        → IsLetIn (WasKnown passes goes.mids) passes (own n (turns_in all)) ⊎ WasMadeFor n goes.mids
+    pub web_rights : (n : ℕ) → first_at_hand ≤ n
+        → AllByRecursion (IsAllowed (WasKnown passes goes.mids) passes) (own n last.hand.done)
     -- one of frames that was told anything has gone only after all of it had left, or its connection broke
     pub parted : (n : ℕ) → n < first_at_hand → client_of last.host n ≡ None
         → (own n (turns_in all) ≡ []) ⊎ (WasThere n (λ h. is_done h ≡ true) goes.mids ⊎ WasMadeFor n goes.mids)

@@ -83,10 +83,10 @@ impl Model for Connection {
 }
 
 impl Connection {
-    ghost use Rattle.mvd_conn.specs.History.{NextRefused, Over, Stops, WantsInput, after_next, closed, cut, due, ending_of};
+    ghost use Rattle.mvd_conn.specs.History.{NextRefused, Over, Stops, WantsInput, after_next, closed, coming, cut, due, ending_of};
     ghost use Rattle.mvd_conn.specs.History.{ends_long, fed, frame_most, is_done, is_held_up, met, new_history, next_of, over};
     ghost use Rattle.mvd_conn.specs.History.{owed, piece_most, released, replied, sent, stopped};
-    ghost use Rattle.mvd_conn.specs.Guard.{is_barred, may_come, may_under};
+    ghost use Rattle.mvd_conn.specs.Guard.{guard_met, is_barred, may_come, may_under};
     ghost use Rattle.mvd_conn.specs.Stands.{IsBounded, IsQueued, HistoryStands, frame_of};
     ghost use Rattle.mvd_conn.specs.Front.{IsFound, TakesFrame};
     ghost use Rattle.mvd_conn.specs.declared.scan.Found.TheVariants as Found;
@@ -163,17 +163,22 @@ impl Connection {
     pub fn meet(&mut self, passes: &Passes)
         ensures { self.new ≡ met passes.now self.old }
     {
-        let Some(guard) = self.guard else {
-            return;
-        };
-        let met = if self.count > 0 {
+        if let Some(guard) = self.guard {
+            self.guard = Some(self.guard_met(guard, passes));
+        }
+    }
+
+    /// The guard where these passes are known.
+    fn guard_met(&self, guard: Guard, passes: &Passes) -> Guard
+        ensures { Some result ≡ guard_met passes.now self.now.taken (coming self.now) (Some guard) }
+    {
+        if self.count > 0 {
             guard.kept(passes)
         } else if self.last.is_some() {
             Guard::Asks
         } else {
             Guard::at(passes, &self.input.as_slice()[self.hand..])
-        };
-        self.guard = Some(met);
+        }
     }
 
     /// Whether the client may ask that: its right allows it, if a token is asked for.

@@ -1,5 +1,5 @@
 -- Siblings of a line, read one after the other.
-use Rattle.std.proofs.Common.{◌≡◌, ◌∙◌, ℕ, ◌+◌, ◌<◌, ◌≤◌, Bool, true, false, cond, T, List, [], ◌∷◌, ◌++◌, drop, get_or, length, max, Option, None, Some, option_map, Result, Ok, Err, refl, sym, ap, subst, append_assoc, arith, codes, zero, suc, map, take, Bor, is_some}
+use Rattle.std.proofs.Common.{◌≡◌, ◌∙◌, ℕ, ◌+◌, ◌<◌, ◌≤◌, Bool, true, false, cond, T, List, [], ◌∷◌, ◌++◌, drop, get_or, length, Option, None, Some, option_map, Result, Ok, Err, refl, sym, ap, subst, append_assoc, arith, codes, zero, suc, map, take, Bor, is_some}
 use Rattle.std.specs.Prelude.{◌&&◌, ◌==◌, nat_le, option_and_then}
 use Rattle.std.specs.List.{list_all}
 use Rattle.std.specs.FinSet.{contains}
@@ -21,7 +21,7 @@ use Rattle.mvd_keys.proofs.Lists.{and_true}
 use Rattle.mvd_keys.proofs.Parts.{holds, is_true, parts_of_tests}
 use Rattle.mvd_keys.proofs.Rising.{Pair, below_less, both_true, less_of}
 use Rattle.mvd_keys.specs.Path.{is_digit, is_path, path_of}
-use Rattle.mvd_keys.specs.State.{AreParts, Text, pair_of, pairs_of}
+use Rattle.mvd_keys.specs.State.{AreParts, pairs_of}
 use Rattle.mvd_keys.specs.declared.siblings.Sibling.{Sibling}
 use Rattle.mvd_wire.proofs.Laws.{ok_is, passed_ok}
 use Rattle.mvd_wire.specs.Codecs.{comes_after}

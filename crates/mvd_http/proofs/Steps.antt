@@ -14,7 +14,7 @@ steps4 old s1 s2 s3 s4 a b c d e1 e2 e3 e4 = rw (e4, e3, e2, e1) (simp append_as
 pub steps5 : (old s1 s2 s3 s4 s5 a b c d e : List ℕ) → s1 ≡ old ++ a → s2 ≡ s1 ++ b → s3 ≡ s2 ++ c → s4 ≡ s3 ++ d → s5 ≡ s4 ++ e → s5 ≡ old ++ (a ++ (b ++ (c ++ (d ++ e))))
 steps5 old s1 s2 s3 s4 s5 a b c d e e1 e2 e3 e4 e5 = rw (e5, e4, e3, e2, e1) (simp append_assoc)
 
-steps3 : (old s1 s2 s3 a b c : List ℕ) → s1 ≡ old ++ a → s2 ≡ s1 ++ b → s3 ≡ s2 ++ c → s3 ≡ old ++ (a ++ (b ++ c))
+pub steps3 : (old s1 s2 s3 a b c : List ℕ) → s1 ≡ old ++ a → s2 ≡ s1 ++ b → s3 ≡ s2 ++ c → s3 ≡ old ++ (a ++ (b ++ c))
 steps3 old s1 s2 s3 a b c e1 e2 e3 = rw (e3, e2, e1) (simp append_assoc)
 
 -- one entry more of a list, behind a comma

@@ -1,6 +1,6 @@
 -- Which hosts a request may name, and of which pages it may come (RFC 6454, the origin of a page): others are refused,
 -- against pages that lead a browser here under a name of their own.
-use Rattle.std.specs.Prelude.{◌==◌, ◌&&◌, ◌||◌, ℕ, Bool, true, false, not, nat_lt, if◌then◌else◌, List, [], ◌∷◌, codes, length, Option, Some, None, string_bytes}
+use Rattle.std.specs.Prelude.{◌==◌, ◌&&◌, ◌||◌, ℕ, Bool, false, not, nat_lt, if◌then◌else◌, List, [], ◌∷◌, codes, length, Option, Some, None, string_bytes}
 use Rattle.std.specs.Char.{is_ascii_digit}
 use Rattle.std.specs.List.{list_all, slice_split}
 use Rattle.std.specs.Str.{bytes_eq}

@@ -1,6 +1,6 @@
 -- A state that is pushed, this repository's own: an object of `key`, `context` and `siblings`, as the state of a key is
 -- told; each sibling is an object of `dot`, and `document` or `text`, the document's text.
-use Rattle.std.specs.Prelude.{ℕ, ◌+◌, ◌==◌, ◌≡◌, ◌&&◌, if◌then◌else◌, Bool, true, List, [], ◌∷◌, codes, is_some, length, Option, Some, None, option_copied, option_map, option_and_then, Result, Ok, Err}
+use Rattle.std.specs.Prelude.{ℕ, ◌+◌, ◌==◌, ◌&&◌, if◌then◌else◌, Bool, true, List, [], ◌∷◌, codes, is_some, Option, Some, None, option_copied, option_map, option_and_then, Result, Ok, Err}
 use Rattle.std.specs.FinMap.{from_entries}
 use Rattle.std.specs.FinSet.{contains}
 use Rattle.serde_json.specs.Data.{Data, Items, no_items, item}

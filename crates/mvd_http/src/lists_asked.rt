@@ -1,5 +1,5 @@
 //! What a request asks of the server, or of a list of the site.
-ghost use Rattle.std.specs.Prelude.{◌≡◌, ◌==◌, [], Ok, codes, map};
+ghost use Rattle.std.specs.Prelude.{◌≡◌, ◌==◌, [], Ok, codes, length, map};
 ghost use Rattle.std.specs.List.{slice_split};
 ghost use Rattle.mvd_keys.specs.Path.{path_of};
 ghost use Rattle.mvd_wire.specs.Codec.{Gives};
@@ -123,11 +123,18 @@ fn at_path(alloc: Global, query: &[u8]) -> Result<Question, Refusal>
 fn nodes_of(alloc: Global, paths: &[u8]) -> Result<Question, Refusal>
     ensures { IsAnswer result (few_paths (slice_split (λ c. c == 44) paths.now)) }
 {
-    if paths.split(|byte| *byte == b',').count() > PATHS_MAX {
+    if path_count(paths) > PATHS_MAX {
         return Err(Refusal::BadPath);
     }
     let asks = each_node_of(alloc, paths)?;
     Ok(Question::Asks(Items::new(asks)))
+}
+
+/// How many paths these are.
+fn path_count(paths: &[u8]) -> usize
+    ensures { result ≡ length (slice_split (λ c. c == 44) paths.now) }
+{
+    paths.split(|byte| *byte == b',').count()
 }
 
 fn each_node_of(alloc: Global, paths: &[u8]) -> Result<Vec<Result<Request, Refusal>>, Refusal>

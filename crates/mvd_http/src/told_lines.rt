@@ -219,5 +219,5 @@ pub fn push_bad_line(out: &mut String, line: u64) -> Result<(), AllocError>
 {
     push_word(out, "{\"refused\":33,\"name\":\"BadBody\",\"line\":")?;
     push_number(out, line)?;
-    push_word(out, "}")
+    Ok(push_word(out, "}")?)
 }

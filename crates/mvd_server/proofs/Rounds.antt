@@ -1,5 +1,5 @@
 -- One host, from its first client on.
-use Rattle.std.proofs.Common.{◌≡◌, ◌∙◌, ◌⊎◌, ◌<◌, true, ℕ, List, [], ◌∷◌, ◌++◌, Option, None, Some, is_some, inl, inr, ap, refl, sym, subst, append-nil, append_assoc, true≢false}
+use Rattle.std.proofs.Common.{◌≡◌, ◌∙◌, ◌⊎◌, ◌<◌, true, false, ℕ, List, [], ◌∷◌, ◌++◌, Option, None, Some, is_some, inl, inr, ap, refl, sym, subst, append-nil, append_assoc, true≢false}
 use Rattle.mvd_conn.specs.declared.guard.Guard.{Guard}
 use Rattle.mvd_conn.specs.declared.guard.Guard.TheVariants.{Asks, Knows, Left}
 use Rattle.mvd_conn.specs.declared.passes.Pass.{Pass}

@@ -1,12 +1,11 @@
-use Rattle.std.proofs.Common.{◌≡◌, ◌∙◌, ◌==◌, ◌+◌, ◌++◌, ◌∷◌, [], List, Result, Ok, length, ap, subst, sym, rules, tests, arith}
+use Rattle.std.proofs.Common.{◌∙◌, ◌==◌, length, ap, rules, tests, arith}
 use Rattle.std.proofs.lemmas.Iterator.Splits.{YieldsList-from_slice_split}
 use Rattle.std.proofs.lemmas.Iterator.Consumers.{YieldsList-turn, YieldsList-end}
 use Rattle.std.proofs.lemmas.List.{length_push}
 use Rattle.std.proofs.lemmas.Result.{err_from_is_err_and}
 use Rattle.std.specs.List.{slice_split}
 use Rattle.std.specs.Slice.Iter as slice
-use Rattle.mvd_http.specs.Asked.{paths_asked}
-use Rattle.mvd_http.proofs.Reading.{behind, path_ends, path_on, paths_done, paths_left, starts}
+use Rattle.mvd_http.proofs.Reading.{path_ends, path_on, paths_done}
 use Rattle.mvd_http.proofs.lists_asked.each_node_of.Goals as goal
 
 pub loop-path-preserved : goal.loop-path-preserved
@@ -20,7 +19,7 @@ pub returns-in_err-ask : goal.returns-in_err-ask
 returns-in_err-ask c =
     let parts = slice_split (λ b. b == 44) c.args.paths.now in
     let t = YieldsList-turn (YieldsList-from_slice_split {s = c.into_iter-path-iterator.result} _ (λ b. b == 44) c.args.paths.now (ap slice.split_rest c.into_iter-path-iterator.ensures.into_iter_gives ∙ c.split-path-items.ensures.rest) (ap slice.split_done c.into_iter-path-iterator.ensures.into_iter_gives ∙ c.split-path-items.ensures.done) (ap slice.split_callee c.into_iter-path-iterator.ensures.into_iter_gives ∙ c.split-path-items.ensures.closure) (λ x r q k. search (rules, tests))) c.loop-path.yielded _ c.loop-path.yielded_by _ _ c.in-Some.path c.in-Some.is c.next.ensures.steps in
-    let p = err_from_is_err_and c.from_residual-in_err-ask.result c.from_residual-in_err-ask.ensures.1 in
+    let p = err_from_is_err_and c.from_residual.result c.from_residual.ensures.1 in
     rw (p.1, p.2) (λ none. path_ends parts c.loop-path.asks.items (length c.loop-path.yielded) c.in-Some.path.now _ _ t (c.in_err-ask.ensures none) c.loop-path.invariant)
 
 pub returns : goal.returns

@@ -1,5 +1,5 @@
 -- What a call on one client leaves of the others, and of what it asked and was told.
-use Rattle.std.proofs.Common.{◌≡◌, ℕ, ◌==◌, Bool, true, false, cond, List, [], ◌∷◌, map, Option, Some, None, Result, Ok, Err, refl, sym, ap, ap₂, ◌∙◌, subst, subst₂, arith, is_some}
+use Rattle.std.proofs.Common.{◌≡◌, ℕ, ◌==◌, Bool, true, false, cond, List, [], ◌∷◌, map, Option, Some, None, Result, Ok, Err, refl, sym, ap, ap₂, ◌∙◌, subst, subst₂, arith}
 use Rattle.std.proofs.lemmas.Bool.Decides.{nat_tests}
 use Rattle.std.specs.Ordering.{nat_cmp}
 use Rattle.std.specs.BTreeMap.{is_at}
@@ -8,10 +8,10 @@ use Rattle.mvd_conn.proofs.Guarded.{may_met, shown_met}
 use Rattle.mvd_conn.specs.Guard.{IsShown, asked_under, guard_met}
 use Rattle.mvd_conn.specs.declared.guard.Guard.{Guard}
 use Rattle.mvd_conn.specs.declared.passes.Pass.{Pass}
-use Rattle.mvd_conn.specs.History.{History, closed, cut, fed, released, sent}
+use Rattle.mvd_conn.specs.History.{History, closed, coming, cut, fed, met, released, sent}
 use Rattle.mvd_dots.specs.declared.refusals.Refusal.{Refusal}
 use Rattle.mvd_dots.specs.declared.refusals.Refusal.TheVariants.{NotAdmitted}
-use Rattle.mvd_wire.specs.Frames.{FrameValue, frame_at}
+use Rattle.mvd_wire.specs.Frames.{FrameValue}
 use Rattle.mvd_wire.specs.Requests.{request_of}
 use Rattle.mvd_wire.specs.declared.request.Request.{Request}
 use Rattle.mvd_replica.specs.Turns.{Turn}
@@ -89,9 +89,8 @@ same_asked : (passes : List Pass) (taken : List FrameValue) (guard : Option Guar
 same_asked passes [] guard next = refl
 same_asked passes (f ∷ taken) guard next = same_each passes f taken guard next (f ∷ taken)
 
-tells_met : (turns : List Turn) (b : Bool) (passes : List Pass) (h : History) → TellsOwn turns h → TellsOwn turns (cond b h (record h { guard = guard_met passes h.taken (frame_at h.held) h.guard }))
-tells_met turns true passes h t = t
-tells_met turns false passes h t = record { asked = same_asked passes h.taken h.guard (frame_at h.held) ∙ t.asked; told = t.told; shown = shown_met passes h.taken (frame_at h.held) h.guard t.shown }
+tells_met : (turns : List Turn) (passes : List Pass) (h : History) → TellsOwn turns h → TellsOwn turns (met passes h)
+tells_met turns passes h t = record { asked = same_asked passes h.taken h.guard (coming h) ∙ t.asked; told = t.told; shown = shown_met passes h.taken (coming h) h.guard t.shown }
 
 tells_same : (turns : List Turn) (h k : History) → k.taken ≡ h.taken → k.answers ≡ h.answers → k.guard ≡ h.guard → TellsOwn turns h → TellsOwn turns k
 tells_same turns h k taken answers guard t = record {
@@ -101,7 +100,7 @@ tells_same turns h k taken answers guard t = record {
 }
 
 pub tells_call : (turns : List Turn) (call : Call) (h : History) → TellsOwn turns h → TellsOwn turns (after_call call h)
-tells_call turns (Meets passes) h t = tells_met turns (is_some h.last) passes h t
+tells_call turns (Meets passes) h t = tells_met turns passes h t
 tells_call turns (Feeds bytes) h t = tells_same turns h (fed h bytes) refl refl refl t
 tells_call turns Releases h t = tells_same turns h (released h) refl refl refl t
 tells_call turns (Closes source) h t = tells_same turns h (closed h source) refl refl refl t

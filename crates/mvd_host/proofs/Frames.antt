@@ -4,11 +4,13 @@ use Rattle.std.proofs.lemmas.List.{map-append}
 use Rattle.mvd_dots.specs.declared.refusals.Refusal.{Refusal}
 use Rattle.mvd_wire.specs.declared.request.Request.{Request}
 use Rattle.mvd_wire.specs.Frames.{FrameValue}
-use Rattle.mvd_conn.specs.Guard.{IsShown}
+use Rattle.mvd_conn.specs.Guard.{IsShown, may_come}
 use Rattle.mvd_conn.specs.declared.guard.Guard.{Guard}
-use Rattle.mvd_conn.proofs.Guarded.{gives_shown}
+use Rattle.mvd_conn.specs.declared.guard.Guard.TheVariants.{Asks, Knows, Left}
+use Rattle.mvd_conn.specs.declared.passes.Pass.{Pass}
+use Rattle.mvd_conn.proofs.Guarded.{gives_may, gives_shown}
 use Rattle.mvd_conn.specs.History.{Gives, History, NextTaken, Over, Stops, Waits, after_next, due, is_held_up, next_of, over, released, stepped, stopped, taking}
-use Rattle.mvd_host.specs.Course.{NoneMoved, asked_by}
+use Rattle.mvd_host.specs.Course.{MayGoOn, NoneMoved, asked_by}
 use Rattle.mvd_host.specs.Taking.{HasNoNext, TakesOn}
 
 pub none_moved : (h : History) → NoneMoved h h
@@ -28,6 +30,7 @@ same old new is = record {
   answers = is.answers;
   moved = is.moved;
   shown = λ s. subst₂ (λ (g : Option Guard) (fs : List FrameValue). IsShown g fs) (sym is.moved.guard) (sym is.taken) s;
+  goes_on = inl refl;
 }
 
 pub took_nothing : (h : History) → TakesOn [] [] h (released h)
@@ -58,6 +61,21 @@ took_none h k e =
       | false ↦ λ is. let s : Same (released h) k = stepped_same (released h) (next_of h) k is in same h k (record { taken = s.taken; answers = s.answers; moved = record { came = s.moved.came; source = s.moved.source; left = s.moved.left; failed = s.moved.failed; guard = s.moved.guard } })
     ] e
 
+-- who may send a frame may go on
+let_on : (guard : Option Guard) (taken : List FrameValue) (f : FrameValue) → may_come guard taken f ≡ true → MayGoOn guard
+let_on None taken f may = tt
+let_on (Some Asks) taken f may = absurd cc
+let_on (Some (Knows pass)) taken f may = tt
+let_on (Some (Left pass)) taken f may = absurd cc
+
+-- with the same guard
+pub goes_still : (old new : Option Guard) (frames : List FrameValue) → new ≡ old → (frames ≡ []) ⊎ MayGoOn old → (frames ≡ []) ⊎ MayGoOn new
+goes_still old new frames same goes = subst (λ (g : Option Guard). (frames ≡ []) ⊎ MayGoOn g) (sym same) goes
+
+goes_both : (guard : Option Guard) (first second : List FrameValue) → (first ≡ []) ⊎ MayGoOn guard → (second ≡ []) ⊎ MayGoOn guard → (first ++ second ≡ []) ⊎ MayGoOn guard
+goes_both guard first second (inl none) other = subst (λ (l : List FrameValue). (l ++ second ≡ []) ⊎ MayGoOn guard) (sym none) other
+goes_both guard first second (inr goes) other = inr goes
+
 -- one frame was taken, and is in hand
 pub record TookOne (old new : History) : Type 0 where
   pub frame : FrameValue
@@ -66,6 +84,7 @@ pub record TookOne (old new : History) : Type 0 where
   pub answers : new.answers ≡ old.answers
   pub moved : NoneMoved old new
   pub shown : IsShown old.guard old.taken → IsShown new.guard new.taken
+  pub goes_on : MayGoOn new.guard
 
 stepped_one : (h : History) (n : NextTaken) (k : History) → next_of h ≡ n → ◌≡◌ {A = Bool × History} (true, k) (stepped h n) → TookOne h k
 stepped_one h (Gives f rest) k next e =
@@ -76,6 +95,7 @@ stepped_one h (Gives f rest) k next e =
       answers = refl;
       moved = record { came = refl; source = refl; left = refl; failed = refl; guard = refl };
       shown = gives_shown h f rest next;
+      goes_on = let_on h.guard h.taken f (gives_may h f rest next);
     })
 stepped_one h Over k next e = absurd (not_true _ k (sym e))
 stepped_one h (Stops refusal) k next e = absurd (not_true _ k (sym e))
@@ -85,14 +105,14 @@ pub took_one : (h k : History) → ◌≡◌ {A = Bool × History} (true, k) (af
 took_one h k e =
     elim (is_held_up h) as (λ b. ◌≡◌ {A = Bool × History} (true, k) (cond b (false, released h) (stepped (released h) (next_of h))) → TookOne h k) [
       | true ↦ λ is. absurd (not_true (released h) k (sym is))
-      | false ↦ λ is. let s : TookOne (released h) k = stepped_one (released h) (next_of h) k refl is in record { frame = s.frame; hand = s.hand; taken = s.taken; answers = s.answers; moved = record { came = s.moved.came; source = s.moved.source; left = s.moved.left; failed = s.moved.failed; guard = s.moved.guard }; shown = s.shown }
+      | false ↦ λ is. let s : TookOne (released h) k = stepped_one (released h) (next_of h) k refl is in record { frame = s.frame; hand = s.hand; taken = s.taken; answers = s.answers; moved = record { came = s.moved.came; source = s.moved.source; left = s.moved.left; failed = s.moved.failed; guard = s.moved.guard }; shown = s.shown; goes_on = s.goes_on }
     ] e
 
 pub took_request : (old new : History) (one : TookOne old new) (r : Request) → asked_by new.guard one.frame ≡ Ok r → TakesOn (r ∷ []) [] old new
-took_request old new one r is = record { frames = one.frame ∷ []; taken = one.taken; asked = ap (λ a. a ∷ []) is; answers = one.answers; moved = one.moved; shown = one.shown }
+took_request old new one r is = record { frames = one.frame ∷ []; taken = one.taken; asked = ap (λ a. a ∷ []) is; answers = one.answers; moved = one.moved; shown = one.shown; goes_on = inr one.goes_on }
 
 pub took_fault : (old new : History) (one : TookOne old new) → TakesOn [] (asked_by new.guard one.frame ∷ []) old new
-took_fault old new one = record { frames = one.frame ∷ []; taken = one.taken; asked = refl; answers = one.answers; moved = one.moved; shown = one.shown }
+took_fault old new one = record { frames = one.frame ∷ []; taken = one.taken; asked = refl; answers = one.answers; moved = one.moved; shown = one.shown; goes_on = inr one.goes_on }
 
 -- the guard is the same
 same_guard : (old mid new : History) (rs : List Request) (faulty : List (Result Request Refusal)) (one : TakesOn rs faulty old mid) → new.guard ≡ mid.guard → map (asked_by new.guard) one.frames ≡ map (λ r. Ok r) rs ++ faulty
@@ -111,6 +131,7 @@ takes_on old mid new rs more faulty one other = record {
   answers = other.answers ∙ one.answers;
   moved = record { came = other.moved.came ∙ one.moved.came; source = other.moved.source ∙ one.moved.source; left = other.moved.left ∙ one.moved.left; failed = other.moved.failed ∙ one.moved.failed; guard = other.moved.guard ∙ one.moved.guard };
   shown = λ s. other.shown (one.shown s);
+  goes_on = goes_both new.guard one.frames other.frames (goes_still mid.guard new.guard one.frames other.moved.guard one.goes_on) other.goes_on;
 }
 
 idle_step : (h : History) (n : NextTaken) (k : History) → ◌≡◌ {A = Bool × History} (false, k) (stepped (released h) n) → (k ≡ released h) ⊎ HasNoNext k
@@ -152,4 +173,5 @@ then_none old mid new rs faulty one other = record {
   answers = other.answers ∙ one.answers;
   moved = record { came = other.moved.came ∙ one.moved.came; source = other.moved.source ∙ one.moved.source; left = other.moved.left ∙ one.moved.left; failed = other.moved.failed ∙ one.moved.failed; guard = other.moved.guard ∙ one.moved.guard };
   shown = λ s. other.shown (one.shown s);
+  goes_on = goes_still mid.guard new.guard one.frames other.moved.guard one.goes_on;
 }

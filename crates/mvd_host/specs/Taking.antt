@@ -10,7 +10,7 @@ use Rattle.mvd_conn.specs.History.{History, after_next}
 use Rattle.mvd_site.specs.Held.{States}
 use Rattle.mvd_host.specs.Hosts.{IfClient, client_in}
 use Rattle.mvd_host.specs.Weights.{AreHeavy, weights_in}
-use Rattle.mvd_host.specs.Course.{BothClients, IsOut, NoneMoved, asked_by, own}
+use Rattle.mvd_host.specs.Course.{BothClients, IsOut, MayGoOn, NoneMoved, asked_by, own}
 use Rattle.mvd_host.specs.declared.taking.Taken.{Taken}
 
 -- what frames of clients are that ask nothing, and what each is told: why it does not, or want of memory
@@ -28,6 +28,7 @@ pub record TakesOn (requests : List Request) (faulty : List (Result Request Refu
   pub answers : new.answers ≡ old.answers
   pub moved : NoneMoved old new
   pub shown : IsShown old.guard old.taken → IsShown new.guard new.taken
+  pub goes_on : (frames ≡ []) ⊎ MayGoOn new.guard
 
 -- nothing comes next
 abbrev pub HasNoNext : History → Type 0

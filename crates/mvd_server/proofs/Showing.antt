@@ -13,11 +13,11 @@ use Rattle.mvd_conn.specs.declared.guard.Guard.{Guard}
 use Rattle.mvd_conn.specs.declared.guard.Guard.TheVariants.{Asks, Knows, Left}
 use Rattle.mvd_conn.specs.declared.passes.Pass.{Pass}
 use Rattle.mvd_http.specs.Guard.{Named}
-use Rattle.mvd_conn.specs.History.{History, closed, cut, fed, met, new_history, released, sent}
+use Rattle.mvd_conn.specs.History.{History, closed, coming, cut, fed, met, new_history, released, sent}
 use Rattle.mvd_conn.specs.declared.source.Source.TheVariants as source
 use Rattle.mvd_dots.specs.declared.refusals.Refusal.{Refusal}
 use Rattle.mvd_dots.specs.declared.refusals.Refusal.TheVariants.{Memory}
-use Rattle.mvd_wire.specs.Frames.{FrameValue, frame_at}
+use Rattle.mvd_wire.specs.Frames.{FrameValue}
 use Rattle.mvd_host.proofs.RoundLemmas.{was}
 use Rattle.mvd_host.specs.AtHand.{AtHandValue}
 use Rattle.mvd_host.specs.Course.{BothClients, own}
@@ -82,9 +82,8 @@ fits_guard Known passes all (f ∷ taken) next (Some Asks) fits = tt
 fits_guard Known passes all (f ∷ taken) next (Some (Knows pass)) fits = fits_if Known (has_pass passes pass) pass fits
 fits_guard Known passes all (f ∷ taken) next (Some (Left pass)) fits = fits
 
-fits_met : (Known : Pass → Type 0) (passes : List Pass) → ((pass : Pass) → Contains passes pass → Known pass) → (b : Bool) (h : History) → Fits Known h.guard → Fits Known (cond b h (record h { guard = guard_met passes h.taken (frame_at h.held) h.guard })).guard
-fits_met Known passes all true h fits = fits
-fits_met Known passes all false h fits = fits_guard Known passes all h.taken (frame_at h.held) h.guard fits
+fits_met : (Known : Pass → Type 0) (passes : List Pass) → ((pass : Pass) → Contains passes pass → Known pass) → (h : History) → Fits Known h.guard → Fits Known (met passes h).guard
+fits_met Known passes all h fits = fits_guard Known passes all h.taken (coming h) h.guard fits
 
 -- ---- who comes and goes
 
@@ -114,7 +113,7 @@ asked_of (Some passes) P Q f p = f p
 call_fits : (Known : Pass → Type 0) (t : Talking) (n : ℕ) (call : Call) → AreKnown Known t → MayCall t n call → (h : History) → IfAsked t.passes (Fits Known h.guard) → IfAsked t.passes (Fits Known (after_call call h).guard)
 call_fits Known t n (Meets passes) all may h fits =
     asked_of t.passes (Fits Known h.guard) (Fits Known (met passes h).guard)
-    (fits_met Known passes (λ pass is. all pass (subst (λ (o : Option (List Pass)). KnowsPass o pass) (sym may) is)) (is_some h.last) h) fits
+    (fits_met Known passes (λ pass is. all pass (subst (λ (o : Option (List Pass)). KnowsPass o pass) (sym may) is)) h) fits
 call_fits Known t n (Feeds bytes) all may h fits = fits
 call_fits Known t n Releases all may h fits = fits
 call_fits Known t n (Closes source) all may h fits = fits

@@ -1,5 +1,6 @@
 //! What the clients say, in frames or over HTTP.
 mod comings;
+mod meeting;
 mod talk_bytes;
 
 ghost use Rattle.std.specs.Prelude.{◌≡◌, ◌<◌, [], IfOk, IsTrue, OnErr, OnOk, false, length, true};
@@ -110,6 +111,7 @@ impl Talks {
         }
         // The round before has left nothing to tell.
         self.tell_all(counts);
+        self.meet_all(ready);
         // Where memory was refused for a frame, there may be more, but not at once.
         let changes = counts.tally.changes();
         let round = self.host.round(
@@ -128,8 +130,7 @@ impl Talks {
         more & (counts.tally.changes() == changes) & !self.hand.has_waiting()
     }
 
-    /// Takes the next request of a client over HTTP, or asks what its writes ask, where that was not done. One of frames
-    /// meets the passes that are known.
+    /// Takes the next request of a client over HTTP, or asks what its writes ask, where that was not done.
     fn take_in<S: Alter + Drop>(
         &mut self,
         replica: &Replica<S>,
@@ -143,7 +144,7 @@ impl Talks {
             return self.hand_on_writes(number);
         }
         let Some(web) = self.webs.get_mut(&number) else {
-            return self.meet(number);
+            return;
         };
         let rest = ask(
             self.alloc,
@@ -163,24 +164,6 @@ impl Talks {
                 let due = now.saturating_add(u64::from(wait).saturating_mul(1_000));
                 self.park(number, root, due, counts);
             }
-        }
-    }
-
-    /// Has a client of frames meet the passes that are known, if a token is asked of it.
-    fn meet(&mut self, number: u64)
-        ensures { TalksDeeds self.old self.new }
-    {
-        if let Some(passes) = &self.passes {
-            self.host.meet(number, passes);
-        }
-    }
-
-    /// Other passes are known from now on, where tokens are asked for.
-    pub fn rotate(&mut self, passes: Passes)
-        ensures { TalksDeeds self.old self.new }
-    {
-        if self.passes.is_some() {
-            self.passes = Some(passes);
         }
     }
 

@@ -2,6 +2,7 @@
 use Rattle.std.proofs.Common.{◌≡◌, ◌≤◌, ◌⊎◌, length, Bool, true, false, ℕ, List, [], ◌∷◌, Option, None, Some, Result, Ok, Err, inl, inr, refl, sym, subst, ap, ◌∙◌}
 use Rattle.std.specs.Prelude.{string_bytes}
 use Rattle.mvd_conn.specs.declared.passes.Pass.{Pass}
+use Rattle.mvd_conn.specs.declared.right.Right.{Right}
 use Rattle.mvd_http.specs.Guard.{Named}
 use Rattle.mvd_dots.specs.declared.refusals.Refusal.{Refusal}
 use Rattle.mvd_host.specs.AtHand.{AtHandValue, StepsAtHand}
@@ -12,12 +13,13 @@ use Rattle.mvd_server.specs.Admitted.{Decides}
 use Rattle.mvd_server.specs.Batches.{BeginsBatch, HandsBatch}
 use Rattle.mvd_server.specs.Errands.{Asks, AsksAtHand, AsksNextOf, Desk, DoesPlan, Errand, Forgoes, IsBatchFor, IsUntold, RunsErrand, Stops, TakesIf, Tells, TellsBatch, TellsChange, TellsMany}
 use Rattle.mvd_server.specs.Lines.{IsOnlyTold, TellsEachLine}
-use Rattle.mvd_server.specs.Plans.{IsPlanOf, TellsMethods, plain_answer}
+use Rattle.mvd_server.specs.Plans.{IsFreePlan, IsPlanFor, IsPlanIf, IsPlanOf, TellsMethods, plain_answer}
 use Rattle.mvd_server.specs.declared.batch.Batch.{Batch}
 use Rattle.mvd_server.specs.declared.gate.Plan.{Plan}
 use Rattle.mvd_server.specs.declared.gate.Plan.TheVariants as plan
 use Rattle.mvd_server.specs.declared.gate.Rest.{Rest}
 use Rattle.mvd_server.specs.declared.gate.Rest.TheVariants as rest
+use Rattle.mvd_web.specs.Rights.{may_ask}
 use Rattle.mvd_web.specs.Web.{RespondsTo, TakesRequest, WebValue, stopped_by}
 use Rattle.mvd_web.specs.declared.taken.Asked.{Asked}
 use Rattle.mvd_web.specs.declared.taken.Entry.{Entry}
@@ -46,7 +48,7 @@ steps_plan : (n : ℕ) (p : Plan) (old : WebValue) (hand : AtHandValue) (new : W
 steps_plan n (plan.Ask request) old hand new hand' left (asks, none) = steps_asked n request old hand new hand' asks
 steps_plan n (plan.Writes batch) old hand new hand' left (is, same, writes) = inl is
 steps_plan n (plan.Changes since wait) old hand new hand' left (is, tells) = inl is
-steps_plan n plan.Asks old hand new hand' left (told, body) = inl told.0
+steps_plan n (plan.Asks right) old hand new hand' left (told, body) = inl told.0
 steps_plan n (plan.BadLine line) old hand new hand' left (told, body) = inl told.0
 steps_plan n plan.Root old hand new hand' left (told, body) = inl told.0
 steps_plan n plan.Metrics old hand new hand' left (told, body) = inl told.0

@@ -15,6 +15,7 @@ use Rattle.mvd_host.specs.Runs.{Happening, HasRight, HasShown, HostMoment, IsHel
 use Rattle.mvd_replica.specs.Replicas.{conn_of, site_of}
 use Rattle.mvd_replica.specs.Turns.{Turn}
 use Rattle.mvd_replica.specs.declared.replica.Replica.{Replica}
+use Rattle.mvd_server.proofs.Allowing.{AreAllowed, allowed_deed, allowed_in, allowed_new, allowed_out, allowed_round}
 use Rattle.mvd_server.proofs.Calming.{Calm, moment, of_deed, of_in, of_out}
 use Rattle.mvd_server.proofs.Numbering.{AreNumbered, numbered_apart, numbered_deed, numbered_in, numbered_new, numbered_out, numbered_round}
 use Rattle.mvd_server.proofs.Parting.{parts_deed, parts_in, parts_out}
@@ -98,27 +99,31 @@ module _ {K C : Type 0} (f : C → State) (k : SocketGhosts K) where
   of_steps old new [] same = record { all = []; runs = tt; ends = ap moment_of (sym same) }
   of_steps old new (mid ∷ mids) (one, more) = happened_on f (moment_of old) (moment_of mid) (moment_of new) (of_step old mid one) (of_steps mid new mids more)
 
-  -- what each client has shown was known, and a connection of the host is of none over HTTP
+  -- what each client has shown was known, a connection of the host is of none over HTTP, and these ask what they may
   record Guards (passes : Option (List Pass)) (Known : Pass → Type 0) (t : Talking) : Type 0 where
     kept : is_some t.passes ≡ is_some passes
     each : AreGuarded Known t
     apart : AreNumbered t
+    allowed : AreAllowed Known passes t
 
   guards_wired : (passes : Option (List Pass)) (Known : Pass → Type 0) (old new : Wired K) → AreKnown Known old.talking → WiredStep k old new → Guards passes Known old.talking → Guards passes Known new.talking
   guards_wired passes Known old new all (inl (deed, same)) s = record {
     kept = kept_deed old.talking new.talking deed ∙ s.kept;
     each = guarded_deed Known old.talking new.talking all deed s.each;
     apart = numbered_deed old.talking new.talking deed s.apart;
+    allowed = allowed_deed Known passes old.talking new.talking s.kept all deed s.allowed;
   }
   guards_wired passes Known old new all (inr (inl (n, bytes, gives, takes))) s = record {
     kept = kept_in n bytes old.talking new.talking takes ∙ s.kept;
     each = guarded_in Known n bytes old.talking new.talking takes s.each;
     apart = numbered_in n bytes old.talking new.talking takes s.apart;
+    allowed = allowed_in Known passes n bytes old.talking new.talking takes s.allowed;
   }
   guards_wired passes Known old new all (inr (inr (n, bytes, takes, gives))) s = record {
     kept = kept_out n bytes old.talking new.talking gives ∙ s.kept;
     each = guarded_out Known n bytes old.talking new.talking gives s.each;
     apart = numbered_out n bytes old.talking new.talking gives s.apart;
+    allowed = allowed_out Known passes n bytes old.talking new.talking gives s.allowed;
   }
 
   guards_step : (passes : Option (List Pass)) (Known : Pass → Type 0) (old new : World K C) → AreKnown Known old.wired.talking → ServeStep f k old new → Guards passes Known old.wired.talking → Guards passes Known new.wired.talking
@@ -130,6 +135,7 @@ module _ {K C : Type 0} (f : C → State) (k : SocketGhosts K) where
         kept = s.kept;
         each = guarded_round Known t (host_in new) (hand_in new) r.turns r.round.clients s.each;
         apart = numbered_round t (host_in new) (hand_in new) s.apart;
+        allowed = allowed_round Known passes t (host_in new) (hand_in new) r.turns r.round.at_hand s.allowed;
       })
 
   -- whoever has gone has no turn in a step
@@ -259,7 +265,7 @@ module _ {S : Type 0} {g : Ghosts S} {K : Type 0} (k : SocketGhosts K) where
       let Told : ℕ → List Turn → Type 0 = λ n own. WasThere n (TellsOwn own) p.mids in
       let Done : ℕ → Type 0 = λ n. WasThere n (λ h. is_done h ≡ true) p.mids in
       let first : Shows (state g) k passes Known start Made Told Done [] (world_of (begun passes names sockets) old) = record {
-        guards = record { kept = refl; each = guarded_new Known passes names; apart = numbered_new passes names };
+        guards = record { kept = refl; each = guarded_new Known passes names; apart = numbered_new passes names; allowed = allowed_new Known passes names };
         known = λ pass is. inl is;
         done = λ n is. absurd is;
         parted = λ n below gone. inl refl;
@@ -282,7 +288,7 @@ module _ {S : Type 0} {g : Ghosts S} {K : Type 0} (k : SocketGhosts K) where
         list = one;
         told = λ n below. (each n below).told;
         rights = λ n below. (each n below).shown;
-        web_rights = ?;
+        web_rights = λ n above. shows.guards.allowed.hand.done n;
         parted = shows.parted;
       }
 

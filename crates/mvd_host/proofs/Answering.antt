@@ -12,7 +12,7 @@ use Rattle.mvd_replica.proofs.Positions.{AnswersAll}
 use Rattle.sqlite.specs.State.{State}
 use Rattle.mvd_host.specs.AtHand.{AllMayWait, AtHandValue, BeginsWith, first_at_hand, told_at_hand}
 use Rattle.mvd_host.specs.Hosts.{AreKept, IfClient, client_in}
-use Rattle.mvd_host.specs.Course.{BothClients, IsOut, asked_by, own}
+use Rattle.mvd_host.specs.Course.{BothClients, IsOut, own}
 use Rattle.mvd_host.specs.Taking.{AreFaults, IsFair, HasNoNext, IsNothingTaken, TakesOnly}
 use Rattle.mvd_host.specs.Queueing.{QueuesReplies, refused_all, refused_faults}
 use Rattle.mvd_host.specs.Round.{AnswersAtHand, ClientCourse, GoesForward, Round, Side, Spares, turns_of}

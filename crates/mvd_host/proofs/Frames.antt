@@ -1,5 +1,5 @@
 -- The frames of one connection, taken one by one.
-use Rattle.std.proofs.Common.{◌≡◌, ◌⊎◌, inl, inr, ◌==◌, Bool, true, false, List, [], ◌∷◌, ◌++◌, map, Some, Result, Ok, cond, Option, refl, sym, ap, ◌∙◌, subst, subst₂, append_assoc, append-nil, ap₂}
+use Rattle.std.proofs.Common.{◌≡◌, ◌⊎◌, inl, inr, ◌==◌, Bool, true, false, List, [], ◌∷◌, ◌++◌, map, Some, None, Result, Ok, cond, Option, refl, sym, ap, ◌∙◌, subst, subst₂, append_assoc, append-nil, ap₂}
 use Rattle.std.proofs.lemmas.List.{map-append}
 use Rattle.mvd_dots.specs.declared.refusals.Refusal.{Refusal}
 use Rattle.mvd_wire.specs.declared.request.Request.{Request}
@@ -7,7 +7,6 @@ use Rattle.mvd_wire.specs.Frames.{FrameValue}
 use Rattle.mvd_conn.specs.Guard.{IsShown, may_come}
 use Rattle.mvd_conn.specs.declared.guard.Guard.{Guard}
 use Rattle.mvd_conn.specs.declared.guard.Guard.TheVariants.{Asks, Knows, Left}
-use Rattle.mvd_conn.specs.declared.passes.Pass.{Pass}
 use Rattle.mvd_conn.proofs.Guarded.{gives_may, gives_shown}
 use Rattle.mvd_conn.specs.History.{Gives, History, NextTaken, Over, Stops, Waits, after_next, due, is_held_up, next_of, over, released, stepped, stopped, taking}
 use Rattle.mvd_host.specs.Course.{MayGoOn, NoneMoved, asked_by}

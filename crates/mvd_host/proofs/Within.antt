@@ -1,7 +1,7 @@
 -- What a client with a right is told depends on its own keys alone.
-use Rattle.std.proofs.Common.{◌≡◌, ◌==◌, ℕ, Bool, true, false, cond, ◌&&◌, List, [], ◌∷◌, length, take, map, filter, Option, Some, None, T, refl, sym, ap, ap₂, ◌∙◌, subst, arith, eqb}
-use Rattle.std.specs.Str.{bytes_eq}
-use Rattle.std.specs.FinMap.{FinMap, entries, entries-from_sorted, entries_sorted, from_sorted, get, get-entries, get-from_sorted, get-retain_keys, len, retain_keys, same_map}
+use Rattle.std.proofs.Common.{◌≡◌, ◌≤◌, ℕ, Bool, true, false, cond, ◌&&◌, List, [], ◌∷◌, length, take, map, filter, Option, Some, None, refl, sym, ap, ◌∙◌, subst, arith}
+use Rattle.std.specs.FinSet.{union}
+use Rattle.std.specs.FinMap.{entries, entries-from_sorted, entries_sorted, from_sorted, get, get-entries, get-from_sorted, get-retain_keys, retain_keys, same_map}
 use Rattle.std.specs.FinMap.Entries.{find-where_key, is_sorted-where_key, where_key}
 use Rattle.std.proofs.lemmas.Bool.{eqb-true}
 use Rattle.std.proofs.lemmas.List.{length-take, nil_from_length, take-take}
@@ -17,11 +17,10 @@ use Rattle.mvd_keys.specs.Writes.{Key}
 use Rattle.mvd_dots.specs.Context.{DotSet}
 use Rattle.mvd_dots.specs.Dot.{DotValue}
 use Rattle.mvd_host.specs.Within.{ChangesWithin, RepliesWithin, is_filled}
-use Rattle.mvd_rows.specs.Siblings.{begins_with, is_after_key, keys_answer, sibling_count, sibling_counts}
+use Rattle.mvd_rows.specs.Siblings.{begins_with, is_after_key, sibling_count, sibling_counts}
 use Rattle.mvd_rows.specs.Answers.{page_of}
-use Rattle.mvd_site.specs.Answer.{States, answer_from, change_from, counts_reply, state_at}
+use Rattle.mvd_site.specs.Answer.{States, answer_from, counts_reply, put_from, state_at}
 use Rattle.mvd_site.specs.Config.{ConfigValue}
-use Rattle.mvd_wire.specs.declared.reply.Reply.{Reply}
 use Rattle.mvd_wire.specs.declared.reply.Reply.TheVariants as told
 use Rattle.mvd_wire.specs.declared.request.Request.{Request}
 use Rattle.mvd_wire.specs.declared.request.Request.TheVariants.{Get, Put, Delete, Find, Row, Rows, Node, Bucket, Push, Range, Keys, Conflicts, Hello, Bye}
@@ -46,7 +45,14 @@ module _ (config : ConfigValue) (a b : States) (key : Key) (same : get a key ≡
   get_same = rw same refl
 
   pub put_same : (seen : DotSet) (document : Text) → answer_from config a (Put key seen document) ≡ answer_from config b (Put key seen document)
-  put_same seen document = rw (same, full) refl
+  put_same seen document = ap (λ (s : State). put_from config a key seen document (mint config.site (union s.context seen))) at ∙ by_dot (mint config.site (union (state_at b key).context seen))
+    where
+      at : state_at a key ≡ state_at b key
+      at = rw same refl
+
+      by_dot : (dot : Option DotValue) → put_from config a key seen document dot ≡ put_from config b key seen document dot
+      by_dot None = refl
+      by_dot (Some dot) = rw (same, full) refl
 
   pub delete_same : (seen : DotSet) → answer_from config a (Delete key seen) ≡ answer_from config b (Delete key seen)
   delete_same seen = rw (same, full) refl
@@ -136,10 +142,11 @@ of_key right key k s t is e =
     let same : key ≡ k = first_is (key, s) (k, t) e in
     (both.0, subst (λ (x : Key). covers (prefix_of right) x ≡ true) same both.1)
   where
-    first_is : (x y : Key × State) → ◌≡◌ {A = Option (Key × State)} (Some x) (Some y) → x.0 ≡ y.0
-    first_is x y h = ap (λ (p : Key × State). p.0) (some_is x y h)
     some_is : (x y : Key × State) → ◌≡◌ {A = Option (Key × State)} (Some x) (Some y) → x ≡ y
     some_is x y h = cc
+
+    first_is : (x y : Key × State) → ◌≡◌ {A = Option (Key × State)} (Some x) (Some y) → x.0 ≡ y.0
+    first_is x y h = ap (λ (p : Key × State). p.0) (some_is x y h)
 
 no_change : (right : Right) (k : Key) (t : State) → ◌≡◌ {A = Option (Key × State)} None (Some (k, t)) → (right.writes ≡ true) × (covers (prefix_of right) k ≡ true)
 no_change right k t e = absurd cc

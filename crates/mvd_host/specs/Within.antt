@@ -1,7 +1,7 @@
 -- What a client with a right is told, and what it changes.
 use Rattle.std.specs.Prelude.{◌≡◌, ◌==◌, Bool, true, Some}
 use Rattle.std.specs.FinMap.{len}
-use Rattle.mvd_conn.specs.Rights.{AgreeWithin, covers, may, prefix_of}
+use Rattle.mvd_conn.specs.Rights.{AgreeWithin, covers, prefix_of}
 use Rattle.mvd_conn.specs.declared.right.Right.{Right}
 use Rattle.mvd_keys.specs.State.{State}
 use Rattle.mvd_keys.specs.Writes.{Key}

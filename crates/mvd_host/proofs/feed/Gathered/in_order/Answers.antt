@@ -3,7 +3,7 @@ use Rattle.std.specs.Borrow.{Bor}
 use Rattle.mvd_dots.specs.declared.refusals.Refusal.{Refusal}
 use Rattle.mvd_keys.specs.Writes.{Key}
 use Rattle.mvd_host.proofs.Feeding.{one_copied}
-use Rattle.mvd_host.proofs.feed.Lasts.in_order.Goals as goal
+use Rattle.mvd_host.proofs.feed.Gathered.in_order.Goals as goal
 
 ok_is : (a b : Key) → ◌≡◌ {A = Result Key Refusal} (Ok a) (Ok b) → a ≡ b
 ok_is a b e = cc

@@ -89,7 +89,7 @@ pub fn push_later(alloc: Global, request: &Request, out: &mut String) -> Result<
     Ok(true)
 }
 
-fn push_later_key(alloc: Global, key: &Key, out: &mut String) -> Result<(), Refusal>
+pub fn push_later_key(alloc: Global, key: &Key, out: &mut String) -> Result<(), Refusal>
     ensures text { OnOk result (string_bytes out.new ≡ string_bytes out.old ++ later_json key.now) }
     ensures memory { IsOkUnless result Refusal.Memory }
 {

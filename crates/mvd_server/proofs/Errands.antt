@@ -74,7 +74,7 @@ batch_asked : (q : Result Question Refusal) (batch : Batch) → IsPlanOf q (plan
 batch_asked (Ok (Ask request)) batch never = absurd never
 batch_asked (Ok (Live request)) batch never = absurd never
 batch_asked (Ok (Many writes)) batch begins = (writes, refl, begins)
-batch_asked (Ok (Changes since wait)) batch is = absurd (let no : ⊥ = cc in no)
+batch_asked (Ok (Changes since wait followed)) batch is = absurd (let no : ⊥ = cc in no)
 batch_asked (Ok Page) batch never = absurd never
 batch_asked (Ok Root) batch is = absurd (let no : ⊥ = cc in no)
 batch_asked (Ok Metrics) batch is = absurd (let no : ⊥ = cc in no)
@@ -93,7 +93,7 @@ permits_none : (q : Result Question Refusal) (batch : Batch) → TellsMethods q 
 permits_none (Ok (Ask request)) batch never = never
 permits_none (Ok (Live request)) batch never = never
 permits_none (Ok (Many writes)) batch never = never
-permits_none (Ok (Changes since wait)) batch never = never
+permits_none (Ok (Changes since wait followed)) batch never = never
 permits_none (Ok Page) batch never = never
 permits_none (Ok Root) batch never = never
 permits_none (Ok Metrics) batch never = never

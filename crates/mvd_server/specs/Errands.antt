@@ -1,5 +1,5 @@
 -- What a server does for a client over HTTP, between two rounds.
-use Rattle.std.specs.Prelude.{◌≡◌, ◌≤◌, ◌⊎◌, ℕ, Bool, true, false, List, [], ◌∷◌, length, Option, Some, None, Result, Ok, OnOk, OnErr, Err, string_bytes}
+use Rattle.std.specs.Prelude.{◌≡◌, ◌≤◌, ◌⊎◌, ℕ, Bool, true, false, IsTrue, is_some, List, [], ◌∷◌, length, Option, Some, None, Result, Ok, OnOk, OnErr, Err, string_bytes}
 use Rattle.std.specs.BTreeMap.{is_at}
 use Rattle.std.specs.Map.{lookup, remove_entry, set_value}
 use Rattle.std.specs.Ordering.{nat_cmp}
@@ -9,6 +9,7 @@ use Rattle.mvd_dots.specs.declared.refusals.Refusal.TheVariants.{Memory}
 use Rattle.mvd_host.specs.AtHand.{AtHandValue, MayWait, TakesFirst, asked_by_one}
 use Rattle.mvd_http.specs.Guard.{Named}
 use Rattle.mvd_http.specs.declared.fields.Content.TheVariants as content
+use Rattle.mvd_http.specs.declared.question.Followed.{Followed}
 use Rattle.mvd_http.specs.declared.question.Question.TheVariants.{Changes, Many}
 use Rattle.mvd_server.specs.Admitted.{Decides}
 use Rattle.mvd_server.specs.Batches.{BeginsBatch}
@@ -38,7 +39,7 @@ IsToldRest old new left = (new ≡ old) × (left ≡ rest.Nothing)
 abbrev pub TellsOrWaits : Option (List ℕ) → ℕ → WebValue → WebValue → Rest → Type 0
 TellsOrWaits since wait old new left =
     ((left ≡ rest.Nothing) × TellsBody content.Json old new)
-    ⊎ ((root : List ℕ) × (since ≡ Some root) × (left ≡ rest.Waits root wait) × (new ≡ old))
+    ⊎ ((root : List ℕ) × IsTrue (is_some since) × (left ≡ rest.Waits root wait) × (new ≡ old))
 
 -- the request is asked at hand, once; or it is refused, for want of memory, or since it is none that may wait
 abbrev pub AsksAtHand : ℕ → Request → WebValue → AtHandValue → WebValue → AtHandValue → Type 0
@@ -125,7 +126,8 @@ TellsClient n old hand new hand' =
 -- the request that waits asks what changed
 abbrev pub AwaitsChange : Option Asked → Type 0
 AwaitsChange None = ⊥
-AwaitsChange (Some asked) = (since : Option (List ℕ)) × (wait : ℕ) × (asked.question ≡ Ok (Changes since wait))
+AwaitsChange (Some asked) =
+    (since : Option (List ℕ)) × (wait : ℕ) × (followed : Followed) × (asked.question ≡ Ok (Changes since wait followed))
 
 -- ---- errands
 

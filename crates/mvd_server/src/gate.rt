@@ -1,5 +1,5 @@
 //! From a request of HTTP to what is asked of the site, and from the reply to the response.
-ghost use Rattle.std.specs.Prelude.{ℕ, option_copied};
+ghost use Rattle.std.specs.Prelude.{ℕ, IfOk, IfSome, IsTrue, is_some, option_copied};
 ghost use Rattle.mvd_http.specs.declared.fields.Content.TheVariants.{Json, Plain};
 ghost use Rattle.mvd_http.specs.Guard.{named_by};
 ghost use Rattle.mvd_server.specs.Admitted.{Decides};
@@ -12,7 +12,7 @@ ghost use Rattle.mvd_web.specs.Web.{RespondsTo};
 
 use crate::asks::{tell_asks, tell_bad_line};
 use crate::batch::Batch;
-use crate::changes::push_since;
+use crate::changes::{followed_by, push_since, quiet_root};
 use crate::copying::copy_request;
 use crate::listings::tell_listed;
 use crate::metrics::{Counts, Now};
@@ -102,7 +102,7 @@ fn plan_for(alloc: Global, question: &Question) -> Plan
         Question::Asks(_) => Plan::Asks,
         Question::Listed(..) => Plan::Listed,
         Question::BadLine(line) => Plan::BadLine(*line),
-        Question::Changes(since, wait) => Plan::Changes(*since, *wait),
+        Question::Changes(since, wait, _) => Plan::Changes(*since, *wait),
         Question::Page => Plan::Told(answer_of(StatusCode::OK, Content::Html), PAGE),
         Question::Root => Plan::Root,
         Question::Metrics => Plan::Metrics,
@@ -256,14 +256,27 @@ fn wait_or_tell<S: Alter + Drop>(
 ) -> Rest
     ensures { TellsOrWaits since wait (web_of web.old) (web_of web.new) result }
 {
-    if let Some(root) = since
-        && wait > 0
-        && changes.root() == since
-    {
-        return Rest::Waits(root, wait);
+    match root_to_wait_from(web.asked(), changes, since, wait) {
+        Ok(Some(root)) => return Rest::Waits(root, wait),
+        Ok(None) => tell_changes(alloc, web, replica, changes, since, counts),
+        Err(refusal) => refuse(alloc, web, counts, refusal),
     }
-    tell_changes(alloc, web, replica, changes, since, counts);
     Rest::Nothing
+}
+
+/// The root now, where nothing changed that is asked for, and who asks would wait for that.
+fn root_to_wait_from(
+    asked: Option<&Asked>,
+    changes: &Feed,
+    since: Option<[u8; 32]>,
+    wait: u32,
+) -> Result<Option<[u8; 32]>, Refusal>
+    ensures { IfOk result (λ quiet. IfSome quiet (λ _. IsTrue (is_some since))) }
+{
+    match followed_by(asked) {
+        Some(followed) if wait > 0 => quiet_root(changes, since, followed),
+        _ => Ok(None),
+    }
 }
 
 /// Tells that a token is asked for.
@@ -309,7 +322,7 @@ fn push_root_of<S: Alter + Drop>(
 }
 
 /// Tells what changed since a root.
-pub(crate) fn tell_changes<S: Alter + Drop>(
+fn tell_changes<S: Alter + Drop>(
     alloc: Global,
     web: &mut WebConnection,
     replica: &Replica<S>,
@@ -320,7 +333,10 @@ pub(crate) fn tell_changes<S: Alter + Drop>(
     ensures { TellsBody Json (web_of web.old) (web_of web.new) }
 {
     let mut body = String::new(alloc);
-    let pushed = push_since(alloc, changes, replica, since, &mut body);
+    let pushed = match followed_by(web.asked()) {
+        Some(followed) => push_since(alloc, changes, replica, since, followed, &mut body),
+        None => Err(Refusal::BadKind),
+    };
     tell_pushed(alloc, web, pushed, body.as_str(), counts);
 }
 

@@ -9,7 +9,7 @@ ghost use Rattle.mvd_server.specs.Talking.{Deeds, IsWaiting, KeepsBatch, LacksMe
 ghost use Rattle.mvd_server.specs.Talking.{TalksDeeds, new_talking, talking_of, web_in};
 
 use crate::batch::Batch;
-use crate::changes::push_since;
+use crate::changes::{News, followed_by};
 use crate::gate::{Rest, answer_writes, ask};
 use crate::metrics::Counts;
 use crate::parked::Parked;
@@ -17,7 +17,7 @@ use crate::responding::{asks_changes, refuse, tell_pushed, tell_reply};
 use mvd_conn::Guard;
 use mvd_dots::Refusal;
 use mvd_host::{AtHand, FIRST_AT_HAND, Feed, Host};
-use mvd_http::{Names, push_changes, push_not_waited};
+use mvd_http::{Followed, Names, push_changes, push_not_waited};
 use mvd_replica::Replica;
 use mvd_web::WebConnection;
 use mvd_wire::Reply;
@@ -318,27 +318,66 @@ impl Talks {
         }
     }
 
-    /// Tells all that wait what changed, if something did.
+    /// Tells those that wait what changed, if something did that they ask for.
     fn wake<S: Alter + Drop>(&mut self, replica: &Replica<S>, counts: &mut Counts)
         ensures { TalksDeeds self.old self.new }
     {
         if self.changes.root() == self.parked.root() {
             return;
         }
-        let mut body = String::new(self.alloc);
-        let root = self.parked.root();
-        let mut pushed = None;
+        let mut news = News::new(self.alloc);
+        let mut from = 0;
         for _ in 0..u64::MAX {
-            let Some(number) = self.parked.take_due(u64::MAX) else {
-                return;
+            let Some(number) = self.parked.first_from(from) else {
+                break;
             };
-            let told = match pushed {
-                Some(told) => told,
-                None => push_since(self.alloc, &self.changes, replica, root, &mut body),
-            };
-            pushed = Some(told);
-            self.tell_change(number, told, body.as_str(), counts);
+            self.wake_one(replica, number, &mut news, counts);
+            from = number.saturating_add(1);
         }
+        self.follow();
+    }
+
+    /// Tells one that waits what changed, if something did that it asks for.
+    fn wake_one<S: Alter + Drop>(
+        &mut self,
+        replica: &Replica<S>,
+        number: u64,
+        news: &mut News,
+        counts: &mut Counts,
+    )
+        ensures { TalksDeeds self.old self.new }
+    {
+        let told = match self.followed(number) {
+            Some(followed) => {
+                news.tell_since(&self.changes, replica, self.parked.root(), followed)
+            }
+            None => Ok(true),
+        };
+        let told = match told {
+            Ok(true) => Ok(()),
+            Ok(false) => return,
+            Err(refusal) => Err(refusal),
+        };
+        self.unpark(number);
+        self.tell_change(number, told, news.body.as_str(), counts);
+    }
+
+    /// Of which changes a client asks.
+    fn followed(&self, number: u64) -> Option<&Followed> {
+        followed_by(self.webs.get(&number)?.asked())
+    }
+
+    fn unpark(&mut self, number: u64)
+        ensures { talking_of self.new ≡ talking_of self.old }
+    {
+        self.parked.remove(number);
+    }
+
+    /// Those that wait on know the root now.
+    fn follow(&mut self)
+        ensures { talking_of self.new ≡ talking_of self.old }
+    {
+        self.parked.follow(self.changes.root());
     }
 
     /// Tells one that waits what changed.

@@ -1,5 +1,5 @@
 //! What changed since a root, as it is told over HTTP.
-ghost use Rattle.std.specs.Prelude.{◌≡◌, ◌++◌, [], IfOk, IfSome, OnOk, Some, option_copied, option_map, string_bytes};
+ghost use Rattle.std.specs.Prelude.{◌≡◌, ◌++◌, [], IfOk, IfSome, IsTrue, OnOk, Some, is_some, option_copied, option_map, string_bytes};
 ghost use Rattle.mvd_host.specs.Feeds.{changed_by, told_since};
 ghost use Rattle.mvd_replica.specs.Replicas.{site_of};
 ghost use Rattle.mvd_server.specs.Since.{since_text, told_if};
@@ -68,7 +68,7 @@ fn changed_since(
 }
 
 /// The root now, where this root is known and nothing that is asked for changed since.
-pub(crate) fn quiet_root(
+fn quiet_root(
     changes: &Feed,
     since: Option<[u8; 32]>,
     followed: &Followed,
@@ -78,6 +78,21 @@ pub(crate) fn quiet_root(
 {
     match changed_since(changes, since, followed)? {
         Some(changed) if changed.keys.is_empty() => Ok(Some(changed.root)),
+        _ => Ok(None),
+    }
+}
+
+/// The root now, where nothing changed that is asked for, and who asks would wait for that.
+pub(crate) fn root_to_wait_from(
+    asked: Option<&Asked>,
+    changes: &Feed,
+    since: Option<[u8; 32]>,
+    wait: u32,
+) -> Result<Option<[u8; 32]>, Refusal>
+    ensures { IfOk result (λ quiet. IfSome quiet (λ _. IsTrue (is_some since))) }
+{
+    match followed_by(asked) {
+        Some(followed) if wait > 0 => quiet_root(changes, since, followed),
         _ => Ok(None),
     }
 }

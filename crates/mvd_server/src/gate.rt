@@ -1,5 +1,5 @@
 //! From a request of HTTP to what is asked of the site, and from the reply to the response.
-ghost use Rattle.std.specs.Prelude.{ℕ, IfOk, IfSome, IsTrue, is_some, option_copied};
+ghost use Rattle.std.specs.Prelude.{ℕ, option_copied};
 ghost use Rattle.mvd_http.specs.declared.fields.Content.TheVariants.{Json, Plain};
 ghost use Rattle.mvd_http.specs.Guard.{named_by};
 ghost use Rattle.mvd_server.specs.Admitted.{Decides};
@@ -12,7 +12,7 @@ ghost use Rattle.mvd_web.specs.Web.{RespondsTo};
 
 use crate::asks::{tell_asks, tell_bad_line};
 use crate::batch::Batch;
-use crate::changes::{followed_by, push_since, quiet_root};
+use crate::changes::{followed_by, push_since, root_to_wait_from};
 use crate::copying::copy_request;
 use crate::listings::tell_listed;
 use crate::metrics::{Counts, Now};
@@ -262,21 +262,6 @@ fn wait_or_tell<S: Alter + Drop>(
         Err(refusal) => refuse(alloc, web, counts, refusal),
     }
     Rest::Nothing
-}
-
-/// The root now, where nothing changed that is asked for, and who asks would wait for that.
-fn root_to_wait_from(
-    asked: Option<&Asked>,
-    changes: &Feed,
-    since: Option<[u8; 32]>,
-    wait: u32,
-) -> Result<Option<[u8; 32]>, Refusal>
-    ensures { IfOk result (λ quiet. IfSome quiet (λ _. IsTrue (is_some since))) }
-{
-    match followed_by(asked) {
-        Some(followed) if wait > 0 => quiet_root(changes, since, followed),
-        _ => Ok(None),
-    }
 }
 
 /// Tells that a token is asked for.

@@ -26,6 +26,7 @@ mod peer_news;
 mod peer_steps;
 mod peering;
 mod responding;
+mod rotation;
 mod server;
 mod sockets;
 mod talks;
@@ -33,7 +34,9 @@ mod telling;
 mod terms;
 mod timers;
 mod timing;
+mod tokens;
 
 pub use server::serve_run;
 pub use sockets::{Direct, Sockets};
 pub use terms::Terms;
+pub use tokens::{Tokens, TokensFault, read_tokens, tokens_of};

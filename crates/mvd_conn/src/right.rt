@@ -86,7 +86,7 @@ impl Right {
     }
 
     /// Whether a text begins with the prefix.
-    fn covers(&self, text: &str) -> bool
+    pub fn covers(&self, text: &str) -> bool
         ensures { result ≡ covers (prefix_of self.now) text.now }
     {
         text.as_bytes().starts_with(self.prefix())

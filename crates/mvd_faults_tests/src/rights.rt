@@ -11,10 +11,30 @@ use std::test::Fail;
 
 /// A token, whether it may write, and what keys begin with; and a Hello with it.
 const TOKENS: [(&[u8], bool, &[u8], &str); 4] = [
-    (b"all-that-there-is", true, b"", "000000142d0011616c6c2d746861742d74686572652d6973"),
-    (b"who-reads-it-all!", false, b"", "000000142d001177686f2d72656164732d69742d616c6c21"),
-    (b"writes-below-u1/!", true, b"u1/", "000000142d00117772697465732d62656c6f772d75312f21"),
-    (b"reads-below-u1/!!", false, b"u1/", "000000142d001172656164732d62656c6f772d75312f2121"),
+    (
+        b"all-that-there-is",
+        true,
+        b"",
+        "000000142d0011616c6c2d746861742d74686572652d6973",
+    ),
+    (
+        b"who-reads-it-all!",
+        false,
+        b"",
+        "000000142d001177686f2d72656164732d69742d616c6c21",
+    ),
+    (
+        b"writes-below-u1/!",
+        true,
+        b"u1/",
+        "000000142d00117772697465732d62656c6f772d75312f21",
+    ),
+    (
+        b"reads-below-u1/!!",
+        false,
+        b"u1/",
+        "000000142d001172656164732d62656c6f772d75312f2121",
+    ),
 ];
 
 /// Requests, and which of the tokens allow them.
@@ -79,11 +99,7 @@ const ROWS: &[(&str, &str, [bool; 4])] = &[
         "000000042b017500",
         [true, true, false, false],
     ),
-    (
-        "Keys of all",
-        "000000032b0000",
-        [true, true, false, false],
-    ),
+    ("Keys of all", "000000032b0000", [true, true, false, false]),
     (
         "Find",
         "0000000e2400016103000000000000000100",
@@ -94,31 +110,15 @@ const ROWS: &[(&str, &str, [bool; 4])] = &[
         "0000000d25000176030000000000000001",
         [true, true, false, false],
     ),
-    (
-        "Rows",
-        "000000052600017600",
-        [true, true, false, false],
-    ),
-    (
-        "Node",
-        "000000022700",
-        [true, true, false, false],
-    ),
-    (
-        "Bucket",
-        "00000006280300000000",
-        [true, true, false, false],
-    ),
+    ("Rows", "000000052600017600", [true, true, false, false]),
+    ("Node", "000000022700", [true, true, false, false]),
+    ("Bucket", "00000006280300000000", [true, true, false, false]),
     (
         "Range",
         "000000172a00016103000000000000000103000000000000000100",
         [true, true, false, false],
     ),
-    (
-        "Conflicts",
-        "000000022c00",
-        [true, true, false, false],
-    ),
+    ("Conflicts", "000000022c00", [true, true, false, false]),
     (
         "Hello",
         "000000162d0013616e6f746865722d746f6b656e2d69742d6973",

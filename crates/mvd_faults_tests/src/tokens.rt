@@ -116,7 +116,16 @@ fn nothing_else_does(rt: HostRuntime) -> Result<(), Fail> {
     let told = [NOT_ADMITTED];
     for first in [OTHER, HALF, NONE, GET, PUT] {
         assert!(rt; is_told(rt.alloc(), passes, &[first], &told, false, false)?);
-        assert!(rt; is_told(rt.alloc(), passes, &[first, HELLO, PUT], &told, false, false)?);
+        assert!(rt;
+            is_told(
+                rt.alloc(),
+                passes,
+                &[first, HELLO, PUT],
+                &told,
+                false,
+                false
+            )?
+        );
     }
     Ok(())
 }

@@ -115,10 +115,7 @@ fn push_denied_key(alloc: Global, key: &Key, out: &mut String) -> Result<(), Ref
 {
     push_word(out, "{\"key\":")?;
     push_quoted(alloc, out, key.text())?;
-    Ok(push_word(
-        out,
-        ",\"refused\":38,\"name\":\"NotAdmitted\"}",
-    )?)
+    Ok(push_word(out, ",\"refused\":38,\"name\":\"NotAdmitted\"}")?)
 }
 
 fn push_later_bucket(path: &Path, out: &mut String) -> Result<(), AllocError>

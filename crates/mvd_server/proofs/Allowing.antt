@@ -26,13 +26,14 @@ use Rattle.mvd_http.specs.declared.fields.Answer.{Answer}
 use Rattle.mvd_http.specs.declared.fields.Content.{Content}
 use Rattle.mvd_http.specs.declared.fields.Content.TheVariants as content
 use Rattle.mvd_http.specs.declared.question.Question.{Question}
-use Rattle.mvd_http.specs.declared.question.Question.TheVariants.{Page, Root, Metrics, Health, Ask, Asks, BadLine, Live, Changes, Many, Misread, Nowhere, NotAllowed, TooLong}
+use Rattle.mvd_http.specs.declared.question.Question.TheVariants.{Page, Root, Metrics, Health, Ask, Asks, BadLine, Listed, Live, Changes, Many, Misread, Nowhere, NotAllowed, TooLong}
 use Rattle.mvd_replica.specs.Turns.{Turn}
 use Rattle.mvd_server.proofs.Keyed.{found_at}
 use Rattle.mvd_server.proofs.Writing.{responded, told_ends}
 use Rattle.mvd_server.specs.Admitted.{Decides}
 use Rattle.mvd_server.specs.Batches.{BeginsBatch, HandsBatch, asked_if, asked_in, is_web_request}
 use Rattle.mvd_server.specs.Errands.{Asks as Taking, AsksAtHand, AsksNextOf, AsksOne, Desk, DoesPlan, Errand, Forgoes, IsBatchFor, KeepsWrites, RunsErrand, Stops, TakesIf, Tells, TellsAllLines, TellsBatch, TellsChange, TellsMany, TellsOrWaits, batch_in}
+use Rattle.mvd_server.specs.Listings.{TellsListed}
 use Rattle.mvd_server.specs.Plans.{IsFreePlan, IsPlanFor, IsPlanIf, IsPlanOf, TellsMethods}
 use Rattle.mvd_server.specs.Questions.{TellsAsks, TellsBadLine}
 use Rattle.mvd_server.specs.Responding.{AnswersWeb, RefusesWeb, TellsBody}
@@ -135,6 +136,11 @@ lines_asks right site None old new same = same_asks old new same
 lines_asks right site (Some asked) old new (inl (text, is, responds)) = responded old.asked old _ text new responds
 lines_asks right site (Some asked) old new (inr (refusal, refuses)) = refuses_asks refusal old new refuses
 
+page_asks : (site : SiteValue) (asked : Option Asked) (old new : WebValue) → TellsListed site asked old new → StillAsks old new
+page_asks site None old new same = same_asks old new same
+page_asks site (Some asked) old new (inl (text, is, responds)) = responded old.asked old _ text new responds
+page_asks site (Some asked) old new (inr (refusal, refuses)) = refuses_asks refusal old new refuses
+
 bad_asks : (line : ℕ) (old new : WebValue) → TellsBadLine line old new → StillAsks old new
 bad_asks line old new (inl responds) = responded old.asked old _ _ new responds
 bad_asks line old new (inr refuses) = refuses_asks Memory old new refuses
@@ -144,6 +150,7 @@ plan_asks n (plan.Ask request) old hand new hand' left (asks, none) = hand_asks 
 plan_asks n (plan.Writes batch) old hand new hand' left (is, same, writes) = same_asks old new same
 plan_asks n (plan.Changes since wait) old hand new hand' left (is, tells) = waits_asks since wait old new left tells
 plan_asks n (plan.Asks right) old hand new hand' left (told, (site, tells)) = lines_asks right site old.asked old new tells
+plan_asks n plan.Listed old hand new hand' left (told, (site, tells)) = page_asks site old.asked old new tells
 plan_asks n (plan.BadLine line) old hand new hand' left (told, tells) = bad_asks line old new tells
 plan_asks n plan.Root old hand new hand' left (told, body) = body_asks content.Json old new body
 plan_asks n plan.Metrics old hand new hand' left (told, body) = body_asks content.Plain old new body
@@ -161,13 +168,14 @@ for_may : (right : Right) (q : Question) (request : Request) → may_ask right q
 for_may right (Ask asked) request is same = hands_may right request asked is same
 for_may right (Live asked) request is same = hands_may right request asked is same
 for_may right (Many writes) request is never = absurd never
-for_may right (Changes since wait) request is same = absurd (let no : ⊥ = cc in no)
+for_may right (Changes since wait followed) request is same = absurd (let no : ⊥ = cc in no)
 for_may right Page request is never = absurd never
 for_may right Root request is same = absurd (let no : ⊥ = cc in no)
 for_may right Metrics request is same = absurd (let no : ⊥ = cc in no)
 for_may right Health request is same = absurd (let no : ⊥ = cc in no)
 for_may right TooLong request is never = absurd never
 for_may right (Asks questions) request is same = absurd (let no : ⊥ = cc in no)
+for_may right (Listed asked wanted) request is same = absurd (let no : ⊥ = cc in no)
 for_may right (BadLine line) request is same = absurd (let no : ⊥ = cc in no)
 for_may right (Misread refusal place) request is same = absurd (let no : ⊥ = cc in no)
 for_may right Nowhere request is never = absurd never
@@ -188,10 +196,11 @@ free_asks (Ok TooLong) request never = never
 free_asks (Ok (Ask asked)) request is = absurd cc
 free_asks (Ok (Live asked)) request is = absurd cc
 free_asks (Ok (Many writes)) request is = absurd cc
-free_asks (Ok (Changes since wait)) request is = absurd cc
+free_asks (Ok (Changes since wait followed)) request is = absurd cc
 free_asks (Ok Root) request is = absurd cc
 free_asks (Ok Metrics) request is = absurd cc
 free_asks (Ok (Asks questions)) request is = absurd cc
+free_asks (Ok (Listed asked wanted)) request is = absurd cc
 free_asks (Ok (BadLine line)) request is = absurd cc
 free_asks (Ok (Misread refusal place)) request is = absurd cc
 free_asks (Ok Nowhere) request is = absurd cc
@@ -202,12 +211,13 @@ permits_asks : (q : Result Question Refusal) (request : Request) → TellsMethod
 permits_asks (Ok (Ask asked)) request never = never
 permits_asks (Ok (Live asked)) request never = never
 permits_asks (Ok (Many writes)) request never = never
-permits_asks (Ok (Changes since wait)) request never = never
+permits_asks (Ok (Changes since wait followed)) request never = never
 permits_asks (Ok Page) request never = never
 permits_asks (Ok Root) request never = never
 permits_asks (Ok Metrics) request never = never
 permits_asks (Ok Health) request never = never
 permits_asks (Ok (Asks questions)) request never = never
+permits_asks (Ok (Listed asked wanted)) request never = never
 permits_asks (Ok (BadLine line)) request never = never
 permits_asks (Ok TooLong) request never = never
 permits_asks (Ok (Misread refusal place)) request never = never
@@ -388,6 +398,7 @@ module _ (Known : Pass → Type 0) (passes : Option (List Pass)) where
   hand_plan n (plan.Writes batch) asked old hand new hand' left decides open (is, same, writes) all = hand_to hand hand' is all
   hand_plan n (plan.Changes since wait) asked old hand new hand' left decides open (is, tells) all = hand_to hand hand' is all
   hand_plan n (plan.Asks right) asked old hand new hand' left decides open (told, body) all = hand_to hand hand' told.0 all
+  hand_plan n plan.Listed asked old hand new hand' left decides open (told, body) all = hand_to hand hand' told.0 all
   hand_plan n (plan.BadLine line) asked old hand new hand' left decides open (told, body) all = hand_to hand hand' told.0 all
   hand_plan n plan.Root asked old hand new hand' left decides open (told, body) all = hand_to hand hand' told.0 all
   hand_plan n plan.Metrics asked old hand new hand' left decides open (told, body) all = hand_to hand hand' told.0 all

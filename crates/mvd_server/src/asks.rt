@@ -10,7 +10,9 @@ use crate::responding::{answer_of, refuse, respond};
 use http::StatusCode;
 use mvd_conn::Right;
 use mvd_dots::Refusal;
-use mvd_http::{Content, Question, push_bad_line, push_denied, push_later, push_refused, push_told};
+use mvd_http::{
+    Content, Question, push_bad_line, push_denied, push_later, push_refused, push_told,
+};
 use mvd_replica::Replica;
 use mvd_site::{Prepared, Site};
 use mvd_web::WebConnection;

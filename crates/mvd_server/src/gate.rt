@@ -1,6 +1,6 @@
 //! From a request of HTTP to what is asked of the site, and from the reply to the response.
 ghost use Rattle.std.specs.Prelude.{ℕ, option_copied};
-ghost use Rattle.mvd_http.specs.declared.fields.Content.TheVariants.{Json, Plain};
+ghost use Rattle.mvd_http.specs.declared.fields.Content.TheVariants.{Json};
 ghost use Rattle.mvd_http.specs.Guard.{named_by};
 ghost use Rattle.mvd_server.specs.Admitted.{Decides};
 ghost use Rattle.mvd_host.specs.AtHand.{AtHandValue};
@@ -12,24 +12,23 @@ ghost use Rattle.mvd_web.specs.Rights.{may_ask};
 ghost use Rattle.mvd_web.specs.Web.{RespondsTo};
 
 use crate::asks::{tell_asks, tell_bad_line};
+use crate::at_once::{tell_health, tell_metrics, tell_root};
 use crate::batch::Batch;
 use crate::changes::{followed_by, push_since, root_to_wait_from};
 use crate::copying::copy_request;
 use crate::listings::tell_listed;
-use crate::metrics::{Counts, Now};
+use crate::metrics::Counts;
 use crate::responding::{answer_of, refuse, respond, tell_pushed};
 use http::StatusCode;
 use mvd_conn::{Passes, Right};
 use mvd_dots::Refusal;
 use mvd_host::{AtHand, Feed};
-use mvd_http::{Answer, Content, Fault, Methods, Names, PAGE, Question, push_root};
+use mvd_http::{Answer, Content, Fault, Methods, Names, PAGE, Question};
 use mvd_replica::Replica;
 use mvd_web::{Asked, Entry, WebConnection, may_ask};
 use mvd_wire::{Reply, Request};
 use sqlite::Alter;
 use std::alloc::Global;
-
-const READY: &str = "{\"ready\":true}";
 
 const NOT_ADMITTED: &str = "{\"refused\":38,\"name\":\"NotAdmitted\"}";
 
@@ -302,37 +301,6 @@ fn ask_token(web: &mut WebConnection, counts: &mut Counts)
     respond(web, counts, answer, NOT_ADMITTED);
 }
 
-fn tell_root<S: Alter + Drop>(
-    alloc: Global,
-    web: &mut WebConnection,
-    replica: &Replica<S>,
-    counts: &mut Counts,
-)
-    ensures { TellsBody Json (web_of web.old) (web_of web.new) }
-{
-    let mut body = String::new(alloc);
-    let pushed = push_root_of(alloc, replica, &mut body);
-    tell_pushed(alloc, web, pushed, body.as_str(), counts);
-}
-
-fn push_root_of<S: Alter + Drop>(
-    alloc: Global,
-    replica: &Replica<S>,
-    body: &mut String,
-) -> Result<(), Refusal> {
-    let digest = replica.root()?;
-    let keys = u64::from(replica.key_count());
-    let conflicts = u64::from(replica.conflict_count());
-    push_root(
-        alloc,
-        body,
-        digest,
-        keys,
-        conflicts,
-        replica.config().site(),
-    )
-}
-
 /// Tells what changed since a root.
 fn tell_changes<S: Alter + Drop>(
     alloc: Global,
@@ -350,50 +318,6 @@ fn tell_changes<S: Alter + Drop>(
         None => Err(Refusal::BadKind),
     };
     tell_pushed(alloc, web, pushed, body.as_str(), counts);
-}
-
-/// Tells that the server can answer, unless its site is broken.
-fn tell_health<S: Alter + Drop>(
-    alloc: Global,
-    web: &mut WebConnection,
-    replica: &Replica<S>,
-    counts: &mut Counts,
-)
-    ensures { TellsBody Json (web_of web.old) (web_of web.new) }
-{
-    match replica.root() {
-        Ok(_) => respond(web, counts, answer_of(StatusCode::OK, Content::Json), READY),
-        Err(refusal) => refuse(alloc, web, counts, refusal),
-    }
-}
-
-fn tell_metrics<S: Alter + Drop>(
-    alloc: Global,
-    web: &mut WebConnection,
-    replica: &Replica<S>,
-    counts: &mut Counts,
-)
-    ensures { TellsBody Plain (web_of web.old) (web_of web.new) }
-{
-    let mut body = String::new(alloc);
-    counts.census.go_on(alloc, replica.site());
-    let config = replica.config();
-    let now = Now {
-        site: config.site(),
-        max_keys: config.max_keys(),
-        keys: replica.key_count(),
-        conflicts: replica.conflict_count(),
-        commits: replica.commits(),
-    };
-    match counts.print(now, &mut body) {
-        Ok(()) => respond(
-            web,
-            counts,
-            answer_of(StatusCode::OK, Content::Plain),
-            body.as_str(),
-        ),
-        Err(refusal) => refuse(alloc, web, counts, refusal),
-    }
 }
 
 /// Puts down the line of a reply to one of the writes of a client, if there is a reply, and queues the response once all

@@ -2,6 +2,7 @@
 #![tactic(auto)]
 
 mod asks;
+mod at_once;
 mod batch;
 mod census;
 mod changes;

@@ -112,10 +112,16 @@ impl Rotation {
         let file = self.file.as_str();
         match fault {
             TokensFault::Unread(fault) => {
-                writeln!(self.errors, "mvd: {file}: {fault}: its tokens stay as they were")
+                writeln!(
+                    self.errors,
+                    "mvd: {file}: {fault}: its tokens stay as they were"
+                )
             }
             TokensFault::Bad(fault) => {
-                writeln!(self.errors, "mvd: {file}: {fault}: its tokens stay as they were")
+                writeln!(
+                    self.errors,
+                    "mvd: {file}: {fault}: its tokens stay as they were"
+                )
             }
         }
     }

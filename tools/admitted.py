@@ -24,6 +24,7 @@ The files are made in TMPDIR (else /tmp).
 """
 import atexit
 import http.client
+import json
 import os
 import socket
 import struct
@@ -304,7 +305,10 @@ ASKED = [
     ("GET", "/keys?prefix=u", None, "yynn"), ("GET", "/keys", None, "yynn"), ("GET", "/conflicts", None, "yynn"),
     ("GET", "/index/a?is=1", None, "yynn"), ("GET", "/views/v/rows", None, "yynn"), ("GET", "/views/v/row?is=1", None, "yynn"),
     ("GET", "/tree?path=", None, "yynn"), ("GET", "/root", None, "yynn"), ("GET", "/metrics", None, "yynn"),
-    ("GET", "/changes", None, "yynn"), ("GET", "/", None, "yyyy"), ("GET", "/health", None, "yyyy"), ("GET", "/nowhere", None, "yyyy"),
+    ("GET", "/changes", None, "yynn"), ("GET", "/changes?prefix=u", None, "yynn"), ("GET", "/changes?states=1", None, "yynn"),
+    ("GET", "/changes?prefix=u1/", None, "yyyy"), ("GET", "/changes?prefix=u1/x&states=1", None, "yyyy"),
+    ("GET", "/keys?prefix=u1/&digests=1", None, "yyyy"), ("GET", "/keys?prefix=u&digests=1", None, "yynn"),
+    ("GET", "/keys?digests=1&live=1", None, "yynn"), ("GET", "/tree?path=000", None, "yynn"), ("GET", "/", None, "yyyy"), ("GET", "/health", None, "yyyy"), ("GET", "/nowhere", None, "yyyy"),
 ]
 
 # lists: which of the lines each token allows, all of `u1/x` and of `u2/x`
@@ -343,7 +347,32 @@ def of_rights(place):
                 miss(f"POST {path} of {token} was told {status} {told}")
             if path == "/get" and token == READS_BELOW and lines[1] != '{"key":"u2/x","refused":38,"name":"NotAdmitted"}':
                 miss(f"a key that may not be asked for was told {lines[1]}")
+    for token, allowed in zip(tokens, "yynn"):
+        status, fields, told = server.asked("GET", "/tree?paths=,0,000", f"Bearer {token}")
+        lines = told.splitlines()
+        if status != 200 or [f'"refused":38' in line for line in lines] != [allowed == "n"] * 3:
+            miss(f"three paths of {token} were told {status} {told}")
+    changes_within(server)
     server.ends()
+
+
+def changes_within(server):
+    """Of a prefix a client is told what changed below it, and of no other key, however it asks."""
+    whole, below = f"Bearer {ALL}", f"Bearer {READS_BELOW}"
+    start = json.loads(server.asked("GET", "/root", whole)[2])["root"]
+    for name in "u1/one", "u2/two", "u1/three", "v":
+        if server.asked("PUT", f"/keys/{name}".replace("u1/", "u1%2F").replace("u2/", "u2%2F"), whole, DOCUMENT)[0] != 201:
+            miss(f"{name} was not put")
+    told = json.loads(server.asked("GET", f"/changes?prefix=u1/&since={start}", below)[2])
+    if sorted(told["keys"]) != ["u1/one", "u1/three"] or told["resync"]:
+        miss(f"of a prefix it is told {told}")
+    states = server.asked("GET", f"/changes?prefix=u1/&states=1&since={start}", below)[2]
+    digests = server.asked("GET", "/keys?prefix=u1/&digests=1", below)[2]
+    for text in states, digests:
+        if "u1/one" not in text or "u2/" in text or '"v"' in text:
+            miss(f"of a prefix it is told {text}")
+    if server.asked("GET", f"/changes?prefix=u2/&since={start}", below)[0] != 403:
+        miss("of another prefix it is told what changed")
 
 
 def of_rotation(place):

@@ -1,5 +1,7 @@
 -- What a client with a right is told depends on its own keys alone.
-use Rattle.std.proofs.Common.{◌≡◌, ◌≤◌, ℕ, Bool, true, false, cond, ◌&&◌, List, [], ◌∷◌, length, take, map, filter, Option, Some, None, refl, sym, ap, ◌∙◌, subst, arith}
+use Rattle.std.proofs.Common.{◌≡◌, ◌≤◌, ℕ, Bool, true, false, cond, ◌&&◌, List, [], ◌∷◌, length, take, map, filter, Option, Some, None, Result, Ok, Err, refl, sym, ap, ◌∙◌, subst, arith}
+use Rattle.std.specs.Prelude.{IfOk}
+use Rattle.std.specs.List.{AllByRecursion}
 use Rattle.std.specs.FinSet.{union}
 use Rattle.std.specs.FinMap.{entries, entries-from_sorted, entries_sorted, from_sorted, get, get-entries, get-from_sorted, get-retain_keys, retain_keys, same_map}
 use Rattle.std.specs.FinMap.Entries.{find-where_key, is_sorted-where_key, where_key}
@@ -16,7 +18,9 @@ use Rattle.mvd_keys.specs.State.{State, Text}
 use Rattle.mvd_keys.specs.Writes.{Key}
 use Rattle.mvd_dots.specs.Context.{DotSet}
 use Rattle.mvd_dots.specs.Dot.{DotValue}
-use Rattle.mvd_host.specs.Within.{ChangesWithin, RepliesWithin, is_filled}
+use Rattle.mvd_dots.specs.declared.refusals.Refusal.{Refusal}
+use Rattle.mvd_host.specs.Within.{AreWithin, ChangesWithin, IsWithin, RepliesWithin, is_filled}
+use Rattle.mvd_replica.specs.Turns.{Turn}
 use Rattle.mvd_rows.specs.Siblings.{begins_with, is_after_key, sibling_count, sibling_counts}
 use Rattle.mvd_rows.specs.Answers.{page_of}
 use Rattle.mvd_site.specs.Answer.{States, answer_from, counts_reply, put_from, state_at}
@@ -193,3 +197,16 @@ changes_within right (Keys prefix after) is states reply k t e = no_change right
 changes_within right (Conflicts after) is states reply k t e = no_change right k t e
 changes_within right (Hello token) is states reply k t e = no_change right k t e
 changes_within right Bye is states reply k t e = no_change right k t e
+
+-- ---- what is within a right
+
+pub within : (right : Right) (request : Request) → may right request ≡ true → IsWithin right request
+within right request is = record { allowed = is; replies = replies_within right request is; changes = changes_within right request is }
+
+if_within : (right : Right) (asked : Result Request Refusal) → IfOk asked (λ request. may right request ≡ true) → IfOk asked (IsWithin right)
+if_within right (Ok request) is = within right request is
+if_within right (Err refusal) is = tt
+
+pub are_within : (right : Right) (turns : List Turn) → AllByRecursion (λ turn. IfOk turn.asked (λ request. may right request ≡ true)) turns → AreWithin right turns
+are_within right [] all = tt
+are_within right (turn ∷ turns) all = (if_within right turn.asked all.0, are_within right turns all.1)

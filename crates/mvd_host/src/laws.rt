@@ -11,7 +11,7 @@ ghost use Rattle.mvd_host.specs.Hosts.{HostValue, client_of, new_host};
 ghost use Rattle.mvd_host.specs.Round.{Round};
 ghost use Rattle.mvd_host.specs.Runs.{Goes, Happening, HasRight, HasShown, HostMoment, OneList, Runs};
 ghost use Rattle.mvd_host.specs.Runs.{TellsOwn, after_run, side_at, turns_in};
-ghost use Rattle.mvd_host.specs.Within.{ChangesWithin, RepliesWithin};
+ghost use Rattle.mvd_host.specs.Within.{IsWithin};
 ghost use Rattle.mvd_replica.specs.Turns.{Turn};
 ghost use Rattle.mvd_wire.specs.declared.request.Request.{Request};
 ghost use Rattle.mvd_site.specs.Held.{AreHeld};
@@ -55,6 +55,5 @@ pub fn rounds_only_grow<S: Alter>()
 /// What a right allows is answered from the keys that begin with its prefix alone, but for whether all places for keys are
 /// taken; and it changes such a key, or nothing.
 pub fn rights_bound_replies()
-    ensures told { (right : Right) (request : Request) → may right request ≡ true → RepliesWithin right request }
-    ensures changed { (right : Right) (request : Request) → may right request ≡ true → ChangesWithin right request }
+    ensures { (right : Right) (request : Request) → may right request ≡ true → IsWithin right request }
 {}

@@ -17,6 +17,7 @@ use Rattle.mvd_conn.specs.declared.right.Right.{Right}
 use Rattle.mvd_dots.specs.declared.refusals.Refusal.{Refusal}
 use Rattle.mvd_dots.specs.declared.refusals.Refusal.TheVariants.{Memory}
 use Rattle.mvd_host.proofs.Own.{own-append, own-other, own-same}
+use Rattle.mvd_host.proofs.Within.{within}
 use Rattle.mvd_host.specs.AtHand.{AtHandValue, TakesFirst, asked_by_one, asks_of, first_at_hand}
 use Rattle.mvd_host.specs.Course.{own}
 use Rattle.mvd_host.specs.Hosts.{HostValue}
@@ -286,7 +287,7 @@ IsOpenTo Known passes (Some asked) = (right : Right) → asked.entry ≡ Open ri
 
 allowed_by : (Known : Pass → Type 0) (passes : Option (List Pass)) (right : Right) (request : Request) → IsRightOf Known passes right → may right request ≡ true → IsAllowed Known passes request
 allowed_by Known None right request of is = tt
-allowed_by Known (Some passes) right request (pass, known, of) is = (pass, known, subst (λ (r : Right). may r request ≡ true) (sym of) is)
+allowed_by Known (Some passes) right request (pass, known, of) is = (pass, known, within pass.right request (subst (λ (r : Right). may r request ≡ true) (sym of) is))
 
 -- what comes in now has the right of a pass that is known now
 right_known : (Known : Pass → Type 0) (passes now : Option (List Pass)) → is_some now ≡ is_some passes → ((pass : Pass) → KnowsPass now pass → Known pass) → (parts : Parts) (right : Right) → right_in now parts ≡ Some right → IsRightOf Known passes right

@@ -7,11 +7,13 @@ use Rattle.mvd_http.specs.Guard.{Named}
 use Rattle.mvd_conn.specs.History.{History, is_done}
 use Rattle.mvd_host.proofs.Own.{own-append}
 use Rattle.mvd_host.proofs.Runs.{SoFar, begins, goes_on as runs_on, has_right, has_shown, one_list}
+use Rattle.mvd_host.proofs.Within.{are_within}
 use Rattle.mvd_host.specs.AtHand.{first_at_hand}
 use Rattle.mvd_host.specs.Hosts.{IsClient, client_of}
 use Rattle.mvd_host.specs.Course.{BothClients, own}
 use Rattle.mvd_host.specs.Round.{ClientCourse}
 use Rattle.mvd_host.specs.Runs.{Happening, HasRight, HasShown, HostMoment, IsHelloOf, OneList, Rounds, Runs, TellsOwn, after_one, after_run, happened_turns, side_at, turns_in}
+use Rattle.mvd_host.specs.Within.{AreWithin}
 use Rattle.mvd_replica.specs.Replicas.{conn_of, site_of}
 use Rattle.mvd_replica.specs.Turns.{Turn}
 use Rattle.mvd_replica.specs.declared.replica.Replica.{Replica}
@@ -62,11 +64,11 @@ happened_on f old mid new p q = record {
 
 -- ---- what a client's right allows
 
-by_guard : (Known : Pass → Type 0) (turn : Turn) (turns : List Turn) (guard : Option Guard) → Fits Known guard → HasShown guard (turn ∷ turns) → HasRight guard (turn ∷ turns) → (pass : Pass) × Known pass × IsHelloOf pass turn.asked × HasRight (Some (Knows pass)) (turn ∷ turns)
+by_guard : (Known : Pass → Type 0) (turn : Turn) (turns : List Turn) (guard : Option Guard) → Fits Known guard → HasShown guard (turn ∷ turns) → HasRight guard (turn ∷ turns) → (pass : Pass) × Known pass × IsHelloOf pass turn.asked × AreWithin pass.right (turn ∷ turns)
 by_guard Known turn turns None fits shown right = absurd fits
 by_guard Known turn turns (Some Asks) fits shown right = absurd shown
-by_guard Known turn turns (Some (Knows pass)) fits shown right = (pass, fits, shown, right)
-by_guard Known turn turns (Some (Left pass)) fits shown right = (pass, fits, shown, right)
+by_guard Known turn turns (Some (Knows pass)) fits shown right = (pass, fits, shown, are_within pass.right (turn ∷ turns) right)
+by_guard Known turn turns (Some (Left pass)) fits shown right = (pass, fits, shown, are_within pass.right (turn ∷ turns) right)
 
 let_in : (Known : Pass → Type 0) (passes now : Option (List Pass)) → is_some now ≡ is_some passes → (turns : List Turn) (h : History) → TellsOwn turns h → IfAsked now (Fits Known h.guard) → IsLetIn Known passes turns
 let_in Known None now same turns h tells fits = tt

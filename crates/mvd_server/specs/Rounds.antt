@@ -1,15 +1,14 @@
 -- What a server does to a stored site.
 use Rattle.std.specs.Prelude.{◌≡◌, ◌≤◌, ◌<◌, ◌⊎◌, ⊤, ℕ, true, List, [], ◌∷◌, Option, None, Some}
 use Rattle.std.specs.List.{AllByRecursion, Contains}
-use Rattle.mvd_conn.specs.Rights.{may}
-use Rattle.mvd_conn.specs.declared.guard.Guard.TheVariants.{Knows}
 use Rattle.mvd_conn.specs.declared.passes.Pass.{Pass}
 use Rattle.mvd_conn.specs.History.{History, is_done}
 use Rattle.mvd_host.specs.AtHand.{AtHandValue, first_at_hand, none_at_hand}
 use Rattle.mvd_host.specs.Course.{own}
 use Rattle.mvd_host.specs.Hosts.{HostValue, IsClient, client_of, new_host}
 use Rattle.mvd_host.specs.Round.{Round, Side, host_side}
-use Rattle.mvd_host.specs.Runs.{Happening, HasRight, HostMoment, IsHelloOf, OneList, Runs, TellsOwn, after_run, turns_in}
+use Rattle.mvd_host.specs.Runs.{Happening, HostMoment, IsHelloOf, OneList, Runs, TellsOwn, after_run, turns_in}
+use Rattle.mvd_host.specs.Within.{AreWithin, IsWithin}
 use Rattle.mvd_http.specs.Guard.{Named}
 use Rattle.mvd_replica.specs.Replicas.{conn_of, site_of}
 use Rattle.mvd_replica.specs.Turns.{Turn}
@@ -88,18 +87,19 @@ WasKnownIn pass (w ∷ ws) = KnowsPass w.wired.talking.passes pass ⊎ WasKnownI
 abbrev pub WasKnown : {K C : Type 0} → Option (List Pass) → List (World K C) → Pass → Type 0
 WasKnown first ws pass = KnowsPass first pass ⊎ WasKnownIn pass ws
 
--- EACH TURN OF A CLIENT IS ONE THAT ITS RIGHT ALLOWS. Where tokens are asked for, the first turn of a client of frames is a
--- Hello with the token of a pass that was known, and each is one that the right of that pass allows
+-- EACH TURN OF A CLIENT IS ONE THAT ITS RIGHT ALLOWS, and with a prefix no reply depends on keys beyond it. Where tokens
+-- are asked for, the first turn of a client of frames is a Hello with the token of a pass that was known, and each is within
+-- the right of that pass
 abbrev pub IsLetIn : (Pass → Type 0) → Option (List Pass) → List Turn → Type 0
 IsLetIn Known None turns = ⊤
 IsLetIn Known (Some passes) [] = ⊤
 IsLetIn Known (Some passes) (turn ∷ turns) =
-    (pass : Pass) × Known pass × IsHelloOf pass turn.asked × HasRight (Some (Knows pass)) (turn ∷ turns)
+    (pass : Pass) × Known pass × IsHelloOf pass turn.asked × AreWithin pass.right (turn ∷ turns)
 
--- over HTTP each by itself: a pass that was known allows it
+-- over HTTP each by itself: it is within the right of a pass that was known
 abbrev pub IsAllowed : (Pass → Type 0) → Option (List Pass) → Request → Type 0
 IsAllowed Known None request = ⊤
-IsAllowed Known (Some passes) request = (pass : Pass) × Known pass × (may pass.right request ≡ true)
+IsAllowed Known (Some passes) request = (pass : Pass) × Known pass × IsWithin pass.right request
 
 module _ {K C : Type 0} (f : C → State) (k : SocketGhosts K) where
   -- what a server does beside a round changes no site

@@ -1,5 +1,5 @@
-use Rattle.mvd_host.proofs.Within.{changes_within, replies_within}
+use Rattle.mvd_host.proofs.Within.{within}
 use Rattle.mvd_host.proofs.laws.rights_bound_replies.Goals as goal
 
 pub returns : goal.returns
-returns c = record { told = replies_within; changed = changes_within }
+returns c = within

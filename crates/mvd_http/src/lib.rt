@@ -48,5 +48,5 @@ pub use responses::{
     misread_response, push_refused, refused_response, refused_status, response_of,
 };
 pub use server_told::{Totals, push_changes, push_root};
-pub use told_lines::{push_bad_line, push_later, push_told};
+pub use told_lines::{push_bad_line, push_denied, push_later, push_told};
 pub use writing::is_write;

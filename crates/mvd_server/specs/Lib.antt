@@ -22,3 +22,4 @@ pub mod Rounds
 pub mod Since
 pub mod Talking
 pub mod Wires
+pub mod TokenFiles

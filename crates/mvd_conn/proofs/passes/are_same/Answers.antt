@@ -1,7 +1,7 @@
 use Rattle.std.proofs.Common.{◌&&◌, get_or, eqb, sym, ap, ◌∙◌, add-one, arith}
 use Rattle.std.proofs.lemmas.List.{take_all}
 use Rattle.mvd_conn.proofs.Guarded.{same_more}
-use Rattle.mvd_conn.proofs.guard.are_same.Goals as goal
+use Rattle.mvd_conn.proofs.passes.are_same.Goals as goal
 
 pub loop-i-preserved : goal.loop-i-preserved
 loop-i-preserved c =

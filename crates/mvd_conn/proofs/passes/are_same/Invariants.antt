@@ -1,6 +1,6 @@
 use Rattle.std.specs.Prelude.{◌≡◌, take}
 use Rattle.std.specs.Str.{bytes_eq}
-use Rattle.mvd_conn.proofs.guard.are_same.Given as goal
+use Rattle.mvd_conn.proofs.passes.are_same.Given as goal
 
 -- whether all bytes so far are the same
 abbrev pub invariant-loop-i : goal.invariant-loop-i

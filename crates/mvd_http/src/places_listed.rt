@@ -1,6 +1,7 @@
 //! Pages of an index, of which a document may be told with each place.
 ghost use Rattle.std.specs.Prelude.{◌≡◌, ◌≤◌, ◌++◌, IfOk, OnOk, length, option_map, string_bytes, take};
 ghost use Rattle.std.specs.FinMap.Entries.{find};
+ghost use Rattle.std.specs.Ordering.{eq_by_cmp};
 ghost use Rattle.mvd_dots.specs.Dot.{dot_cmp};
 ghost use Rattle.mvd_keys.specs.State.{pairs_of};
 ghost use Rattle.mvd_http.specs.Listed.{document_at, place_bytes, place_front_of, place_told, places_listed, places_told};
@@ -121,9 +122,15 @@ fn document_of_dot(siblings: &[Sibling], dot: Dot) -> Option<&Document>
     ensures { option_map (λ document. document.now) result ≡ find dot_cmp dot (pairs_of siblings.now) }
 {
     for sibling in siblings {
-        if dot.cmp(&sibling.dot) == Ordering::Equal {
+        if is_dot(dot, sibling.dot) {
             return Some(&sibling.document);
         }
     }
     None
+}
+
+fn is_dot(dot: Dot, other: Dot) -> bool
+    ensures { result ≡ eq_by_cmp dot_cmp dot other }
+{
+    matches!(dot.cmp(&other), Ordering::Equal)
 }

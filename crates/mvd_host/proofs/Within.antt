@@ -103,7 +103,7 @@ listed_on p q only (e ∷ es) = on (p e.0) (q e.0) refl refl (listed_on p q only
 
 -- ---- a longer prefix is within
 
-front_covers : (first longer key : List ℕ) → covers first longer ≡ true → covers longer key ≡ true → covers first key ≡ true
+pub front_covers : (first longer key : List ℕ) → covers first longer ≡ true → covers longer key ≡ true → covers first key ≡ true
 front_covers first longer key one other =
     let a : first ≡ take (length first) longer = (bytes_eq-Decides first (take (length first) longer)).0 one in
     let b : longer ≡ take (length longer) key = (bytes_eq-Decides longer (take (length longer) key)).0 other in

@@ -312,13 +312,13 @@ right_known Known (Some passes) (Some now) same all parts right is = on (pass_if
 
 entry_known : (Known : Pass → Type 0) (passes now : Option (List Pass)) → is_some now ≡ is_some passes → ((pass : Pass) → KnowsPass now pass → Known pass) → (names : Named) (parts : Parts) (entry : Entry) → IsEntry now names parts entry → (right : Right) → entry ≡ Open right
     → IsRightOf Known passes right
-entry_known Known passes now same all names parts entry is right open =
-    let in_ : IsEntry now names parts (Open right) = subst (IsEntry now names parts) open is in
+entry_known Known passes now same all names parts entry is right opened =
+    let in_ : IsEntry now names parts (Open right) = subst (IsEntry now names parts) opened is in
     right_known Known passes now same all parts right in_.1
 
 open_still : (Known : Pass → Type 0) (passes : Option (List Pass)) (a b : Option Asked) → (b ≡ a) ⊎ (b ≡ None) → IsOpenTo Known passes a → IsOpenTo Known passes b
-open_still Known passes a b (inl same) open = subst (IsOpenTo Known passes) (sym same) open
-open_still Known passes a b (inr none) open = subst (IsOpenTo Known passes) (sym none) tt
+open_still Known passes a b (inl same) opened = subst (IsOpenTo Known passes) (sym same) opened
+open_still Known passes a b (inr none) opened = subst (IsOpenTo Known passes) (sym none) tt
 
 module _ (Known : Pass → Type 0) (passes : Option (List Pass)) where
   abbrev pub May : Request → Type 0
@@ -397,28 +397,28 @@ module _ (Known : Pass → Type 0) (passes : Option (List Pass)) where
   writes_may right of (write ∷ writes) = all_append May (asked_if right write) (asked_in right writes) (write_may right of write) (writes_may right of writes)
 
   batch_may : (asked : Option Asked) (batch : Batch) → IsBatchFor asked batch → IsOpenTo Known passes asked → MayBatch batch
-  batch_may None batch never open = absurd never
-  batch_may (Some asked) batch (right, entry, (writes, many, begins)) open = subst (AllByRecursion May) (sym begins.requests) (writes_may right (open right entry) writes)
+  batch_may None batch never opened = absurd never
+  batch_may (Some asked) batch (right, entry, (writes, many, begins)) opened = subst (AllByRecursion May) (sym begins.requests) (writes_may right (opened right entry) writes)
 
   -- ---- errands
 
   hand_plan : (n : ℕ) (p : Plan) (asked : Asked) (old : WebValue) (hand : AtHandValue) (new : WebValue) (hand' : AtHandValue) (left : Rest) → Decides asked.entry asked.question p → IsOpenTo Known passes (Some asked) → DoesPlan n p old hand new hand' left → HandMay hand → HandMay hand'
-  hand_plan n (plan.Ask request) asked old hand new hand' left decides open (inl (may, is, same), none) all =
+  hand_plan n (plan.Ask request) asked old hand new hand' left decides opened (inl (may, is, same), none) all =
       let by = decides_may asked.entry asked.question request decides in
-      hand_to (asked_by_one hand n (request ∷ [])) hand' is (hand_more n hand (request ∷ []) (allowed_by Known passes by.0 request (open by.0 by.1) by.2, tt) all)
-  hand_plan n (plan.Ask request) asked old hand new hand' left decides open (inr (same, refuses), none) all = hand_to hand hand' same all
-  hand_plan n (plan.Writes batch) asked old hand new hand' left decides open (is, same, writes) all = hand_to hand hand' is all
-  hand_plan n (plan.Changes since wait) asked old hand new hand' left decides open (is, tells) all = hand_to hand hand' is all
-  hand_plan n (plan.Asks right) asked old hand new hand' left decides open (told, body) all = hand_to hand hand' told.0 all
-  hand_plan n plan.Listed asked old hand new hand' left decides open (told, body) all = hand_to hand hand' told.0 all
-  hand_plan n (plan.BadLine line) asked old hand new hand' left decides open (told, body) all = hand_to hand hand' told.0 all
-  hand_plan n plan.Root asked old hand new hand' left decides open (told, body) all = hand_to hand hand' told.0 all
-  hand_plan n plan.Metrics asked old hand new hand' left decides open (told, body) all = hand_to hand hand' told.0 all
-  hand_plan n plan.Health asked old hand new hand' left decides open (told, body) all = hand_to hand hand' told.0 all
-  hand_plan n plan.Stop asked old hand new hand' left decides open (is, stops) all = hand_to hand hand' is all
-  hand_plan n (plan.Told answer body) asked old hand new hand' left decides open (told, responds) all = hand_to hand hand' told.0 all
-  hand_plan n plan.NotAdmitted asked old hand new hand' left decides open (told, responds) all = hand_to hand hand' told.0 all
-  hand_plan n (plan.Refused refusal) asked old hand new hand' left decides open (told, refuses) all = hand_to hand hand' told.0 all
+      hand_to (asked_by_one hand n (request ∷ [])) hand' is (hand_more n hand (request ∷ []) (allowed_by Known passes by.0 request (opened by.0 by.1) by.2, tt) all)
+  hand_plan n (plan.Ask request) asked old hand new hand' left decides opened (inr (same, refuses), none) all = hand_to hand hand' same all
+  hand_plan n (plan.Writes batch) asked old hand new hand' left decides opened (is, same, writes) all = hand_to hand hand' is all
+  hand_plan n (plan.Changes since wait) asked old hand new hand' left decides opened (is, tells) all = hand_to hand hand' is all
+  hand_plan n (plan.Asks right) asked old hand new hand' left decides opened (told, body) all = hand_to hand hand' told.0 all
+  hand_plan n plan.Listed asked old hand new hand' left decides opened (told, body) all = hand_to hand hand' told.0 all
+  hand_plan n (plan.BadLine line) asked old hand new hand' left decides opened (told, body) all = hand_to hand hand' told.0 all
+  hand_plan n plan.Root asked old hand new hand' left decides opened (told, body) all = hand_to hand hand' told.0 all
+  hand_plan n plan.Metrics asked old hand new hand' left decides opened (told, body) all = hand_to hand hand' told.0 all
+  hand_plan n plan.Health asked old hand new hand' left decides opened (told, body) all = hand_to hand hand' told.0 all
+  hand_plan n plan.Stop asked old hand new hand' left decides opened (is, stops) all = hand_to hand hand' is all
+  hand_plan n (plan.Told answer body) asked old hand new hand' left decides opened (told, responds) all = hand_to hand hand' told.0 all
+  hand_plan n plan.NotAdmitted asked old hand new hand' left decides opened (told, responds) all = hand_to hand hand' told.0 all
+  hand_plan n (plan.Refused refusal) asked old hand new hand' left decides opened (told, refuses) all = hand_to hand hand' told.0 all
 
   desk_to : (old new : Desk) → new.hand ≡ old.hand → new.batches ≡ old.batches → StillAsks old.web new.web → DeskMay old → DeskMay new
   desk_to old new hand batches still all = record {
@@ -428,7 +428,7 @@ module _ (Known : Pass → Type 0) (passes : Option (List Pass)) where
   }
 
   open_taken : (now : Option (List Pass)) (names : Named) → is_some now ≡ is_some passes → ((pass : Pass) → KnowsPass now pass → Known pass) → (old mid : WebValue) → TakesRequest now names old true mid → IsOpenTo Known passes mid.asked
-  open_taken now names same all old mid (free, one) = subst (IsOpenTo Known passes) (sym one.kept) (λ right open. entry_known Known passes now same all names _ one.asked.entry one.asks.entry right open)
+  open_taken now names same all old mid (free, one) = subst (IsOpenTo Known passes) (sym one.kept) (λ right opened. entry_known Known passes now same all names _ one.asked.entry one.asks.entry right opened)
 
   desk_one : (now : Option (List Pass)) (names : Named) (n : ℕ) (old new : Desk) (left : Rest) → is_some now ≡ is_some passes → ((pass : Pass) → KnowsPass now pass → Known pass) → AsksOne now names n old.web old.hand new.web new.hand left → new.batches ≡ old.batches → DeskMay old → DeskMay new
   desk_one now names n old new left same known one batches all =

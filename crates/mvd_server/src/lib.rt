@@ -14,6 +14,7 @@ mod endings;
 mod feeding;
 mod gate;
 mod histogram;
+pub mod laws;
 mod listings;
 mod look;
 mod metrics;

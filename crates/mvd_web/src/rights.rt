@@ -15,7 +15,8 @@ pub fn may_ask(right: &Right, question: &Question) -> bool
         | Question::Texts(request)
         | Question::Listed(request, _) => right.allows(request),
         Question::Changes(_, _, followed) => right.covers(followed.prefix.text()),
-        Question::Root | Question::Metrics | Question::Stop => right.is_of_all(),
+        Question::Root | Question::Metrics => right.is_of_all(),
+        Question::Stop => right.writes && right.is_of_all(),
         Question::Page
         | Question::Health
         | Question::Many(_)

@@ -1,4 +1,3 @@
-pub mod Forms
 pub mod FrameLemmas
 pub mod FramesRead
 pub mod Names

@@ -8,12 +8,13 @@ use Rattle.mvd_dots.specs.Refusal.{number_of}
 use Rattle.mvd_wire.specs.declared.reply.Reply.{Reply}
 use Rattle.mvd_wire.specs.declared.reply.Reply.TheVariants as reply
 use Rattle.mvd_wire.specs.Codec.{◌>>=◌, byte, nothing}
-use Rattle.mvd_wire.specs.Codecs.{layout2, dot, state_codec, spell_state}
+use Rattle.mvd_wire.specs.Codecs.{layout2, dot, state_codec}
 use Rattle.mvd_wire.specs.Replies.{refusal, numbered, reply_of, SpellsReply, IsReply, reply_kind, reply_payload}
 use Rattle.mvd_wire.proofs.Laws.{IsBytes, IsLawful, Takes, bind_ok, ok_is, whole_again, lawful_byte}
 use Rattle.mvd_wire.specs.Rows.{digests_codec, key_count, key_entry, page, place, row_codec, view_row}
 use Rattle.mvd_frames.proofs.RowLaws.{lawful_digests, lawful_key_count, lawful_key_entry, lawful_page, lawful_place, lawful_row, lawful_view_row}
 use Rattle.mvd_wire.proofs.CodecLaws.{wide_layout2, lawful_dot, lawful_state}
+use Rattle.mvd_wire.proofs.Spellings.{codec_is}
 use Rattle.mvd_frames.proofs.RefusalNumbers.{own_number, number_back}
 use Rattle.mvd_frames.proofs.Tagged.{Decodes, decodes_tagged, lawful_nothing}
 
@@ -35,9 +36,8 @@ lawful_refusal = record {
 }
 
 decodes_replies : Decodes SpellsReply reply_of
-unfolding spell_state
 decodes_replies =
-    decodes_tagged SpellsReply 0xA1 (state_codec layout2) reply.State _ (lawful_state layout2 wide_layout2) (λ x fits. (fits, refl, refl))
+    decodes_tagged SpellsReply 0xA1 (state_codec layout2) reply.State _ (lawful_state layout2 wide_layout2) (λ x fits. (fits, refl, codec_is x))
     (decodes_tagged SpellsReply 0xA2 (dot layout2) reply.Written _ (lawful_dot layout2 wide_layout2) (λ x fits. (fits, refl, refl))
     (decodes_tagged SpellsReply 0xA3 nothing (λ _. reply.Done) _ lawful_nothing (λ x fits. (tt, refl, refl))
     (decodes_tagged SpellsReply 0xA4 (page place) (λ p. reply.Places p.0 p.1) _ (lawful_page place lawful_place) (λ x fits. (fits, refl, refl))
@@ -50,8 +50,7 @@ decodes_replies =
     (λ kind payload y bytes e. absurd cc))))))))))
 
 pub replies_again : (r : Reply) → IsReply r → reply_of (reply_kind r) (reply_payload r) ≡ Ok r
-unfolding spell_state
-replies_again (reply.State s) fits = rw (whole_again (state_codec layout2) (lawful_state layout2 wide_layout2) s fits) refl
+replies_again (reply.State s) fits = rw (← codec_is s, whole_again (state_codec layout2) (lawful_state layout2 wide_layout2) s fits) refl
 replies_again (reply.Written d) fits = rw (whole_again (dot layout2) (lawful_dot layout2 wide_layout2) d fits) refl
 replies_again reply.Done fits = refl
 replies_again (reply.Places ps more) fits = rw (whole_again (page place) (lawful_page place lawful_place) (ps, more) fits) refl

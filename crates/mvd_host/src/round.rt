@@ -52,6 +52,7 @@ impl Host {
             requests,
             faults,
         } = taken;
+        replica.stands();
         match feed.answer(replica, requests, tally) {
             Ok(replies) => {
                 queue_replies(&mut self.clients, &clients, &replies);

@@ -6,7 +6,7 @@ use Rattle.mvd_keys.specs.Writes.{Stands, Write, state}
 use Rattle.mvd_wire.specs.declared.request.Request.{Request}
 use Rattle.mvd_wire.specs.declared.request.Request.TheVariants.{Put, Delete, Push}
 use Rattle.mvd_wire.specs.declared.reply.Reply.{Reply}
-use Rattle.mvd_wire.specs.declared.reply.Reply.TheVariants.{Refused}
+use Rattle.mvd_wire.specs.declared.reply.Reply.TheVariants.{Done, Refused}
 use Rattle.mvd_kept.specs.Answer.{answer, change_of}
 use Rattle.mvd_kept.specs.AtOnce.{AnswersRequest}
 use Rattle.mvd_kept.specs.Change.{ChangeValue, change_reply}
@@ -19,7 +19,7 @@ use Rattle.mvd_kept.specs.Prepared.{IsFrugal, IsPlain, PreparesAnswerFrom, Prepa
 use Rattle.mvd_kept.specs.Sites.{AnswersOne, SiteValue}
 use Rattle.mvd_kept.proofs.Answered.{after_stands, answered, changed_alike, with_state-same}
 use Rattle.mvd_kept.proofs.Clashes.{no_answer_broken}
-use Rattle.mvd_kept.proofs.Outcomes.{change_plain, refused_fits}
+use Rattle.mvd_kept.proofs.Outcomes.{change_plain}
 use Rattle.mvd_kept.proofs.Prepare.{answers_from_answer, answers_from_breaking, answers_from_change, answers_from_refusal, refuses_all, refuses_from, whole_site}
 use Rattle.mvd_kept.proofs.Pushes.{refusal_is}
 use Rattle.mvd_kept.proofs.Runs.{fitting}
@@ -33,11 +33,8 @@ no_memory reply plain is = true≢false (sym (ap is_refusal is) ∙ plain.accept
 not_broken : {P : Type 0} (site : SiteValue) → site.broken ≡ false → site.broken ≡ true → P
 not_broken site whole broken = absurd (true≢false (sym broken ∙ whole))
 
-pub adds_nothing : (request : Request) (refusal : Refusal) → Adds request (Refused refusal) []
-adds_nothing (Put key seen document) refusal = refl
-adds_nothing (Delete key seen) refusal = refl
-adds_nothing (Push key pushed) refusal = refl
-adds_nothing request refusal = refl
+not_done : (request : Request) (refusal : Refusal) → Refused refusal ≡ Done → IsValidRequest request
+not_done request refusal is = absurd (let wrong : ◌≡◌ {A = Reply} (Refused refusal) Done = is in cc)
 
 -- it is refused before anything is changed
 pub request_refused : (old : SiteValue) (request : Request) (refusal : Refusal) →
@@ -46,9 +43,8 @@ pub request_refused : (old : SiteValue) (request : Request) (refusal : Refusal) 
 request_refused old request refusal prepared says frugal = record {
   step = answers_from_refusal old request refusal prepared;
   broken = λ was. (ap Refused (says was), refl);
-  adds = ([], adds_nothing request refusal);
+  valid = λ done. not_done request refusal done;
   frugal = λ takes_none is. frugal takes_none (refusal_is refusal Memory is);
-  fits = refused_fits refusal;
 }
 
 -- there is nothing to change
@@ -57,9 +53,8 @@ pub request_told : (old : SiteValue) (request : Request) (reply : Reply) → old
 request_told old request reply whole prepared plain valid = record {
   step = answers_from_answer old request reply (λ _. prepared);
   broken = not_broken old whole;
-  adds = fitting request reply valid;
+  valid = λ _. valid;
   frugal = λ _. no_memory reply plain;
-  fits = plain.fits;
 }
 
 -- its change is put in
@@ -70,9 +65,8 @@ request_changed old new request change reply whole installed told prepared valid
     record {
       step = answers_from_change old new request change reply installed told (λ _. prepared);
       broken = not_broken old whole;
-      adds = fitting request reply valid;
+      valid = λ _. valid;
       frugal = λ _. no_memory reply plain;
-      fits = plain.fits;
     }
 
 -- it breaks as its change is put in
@@ -81,12 +75,18 @@ pub request_broke : (old new : SiteValue) (request : Request) (change : ChangeVa
 request_broke old new request change refusal whole is broke prepared = record {
   step = answers_from_breaking old new request change refusal is broke (λ _. prepared);
   broken = not_broken old whole;
-  adds = ([], adds_nothing request refusal);
+  valid = λ done. not_done request refusal done;
   frugal = λ _ memory. let wrong : ◌≡◌ {A = Refusal} Broken Memory = sym is ∙ refusal_is refusal Memory memory in cc;
-  fits = refused_fits refusal;
 }
 
 -- ---- what follows from the states
+
+choice_of : (request : Request) (reply : Reply) → (reply ≡ Done → IsValidRequest request) → (added : List Write) × Adds request reply added
+choice_of (Put key seen document) reply valid = fitting (Put key seen document) reply tt
+choice_of (Delete key seen) reply valid = fitting (Delete key seen) reply tt
+choice_of (Push key pushed) Done valid = fitting (Push key pushed) Done (valid refl)
+choice_of (Push key pushed) reply valid = ([], refl)
+choice_of request reply valid = ([], refl)
 
 module _ (old new : SiteValue) (request : Request) (reply : Reply) (does : AnswersRequest old new request reply) where
   -- by whether it is broken
@@ -116,6 +116,10 @@ module _ (old new : SiteValue) (request : Request) (reply : Reply) (does : Answe
       (λ (here : Answered old new request reply). here.site ∙ sym (whole_site old _ whole
       (ap (λ r. with_change old.states (change_from old.states request r)) (sym here.answers ∙ told) ∙ ap (with_change old.states) (refuses_from old.states request refusal))))
       (λ rest. ⊎_elim (λ memory. memory.1) (λ broke. absurd (other (refusal_is refusal Broken (sym told ∙ broke.0)))) rest) (does.step whole))
+
+  -- there are writes that the request adds
+  pub adds_some : (added : List Write) × Adds request reply added
+  adds_some = choice_of request reply does.valid
 
 -- ---- and from the writes known
 

@@ -3,6 +3,7 @@ pub mod Answered
 pub mod AnsweredAtOnce
 pub mod Clashes
 pub mod Digested
+pub mod Fitting
 pub mod Installed
 pub mod InstallSpent
 pub mod HeldMaps

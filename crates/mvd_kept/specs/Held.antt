@@ -5,7 +5,7 @@ use Rattle.mvd_keys.specs.Key.{is_key}
 use Rattle.mvd_keys.specs.State.{IsValid, State}
 use Rattle.mvd_keys.specs.Writes.{Key, is_empty}
 use Rattle.mvd_tree.specs.States.{key_digest}
-use Rattle.mvd_wire.specs.Codecs.{layout2, state_codec}
+use Rattle.mvd_wire.specs.Codecs.{IsInForm}
 use Rattle.mvd_kept.specs.Answer.{is_too_large, spelled}
 pub use Rattle.mvd_kept.specs.Answer.{States, state_at}
 
@@ -21,7 +21,7 @@ pub record IsKept (s : State) : Type 0 where
 
 -- a state that has a spelling: its documents are in form, and its dots in range
 pub record IsSpelled (s : State) : Type 0 where
-  pub fits : (state_codec layout2).Fits s
+  pub form : IsInForm s
 
 -- each state is one that may be held, each key is one, and both have a spelling
 pub record AreHeld (states : States) : Type 0 where

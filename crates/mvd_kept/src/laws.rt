@@ -7,6 +7,7 @@ ghost use Rattle.mvd_keys.specs.Writes.{Agree, Key, SameWrites, Stands, Write, s
 ghost use Rattle.mvd_rows.specs.Visible.{visible, visible_in};
 ghost use Rattle.mvd_tree.specs.Hashed.{HashesTellApart, HaveOneText, SameUnder};
 ghost use Rattle.mvd_tree.specs.HashTree.{node_digest};
+ghost use Rattle.mvd_wire.specs.Replies.{CanBeSent};
 ghost use Rattle.mvd_wire.specs.declared.request.Request.{Request};
 ghost use Rattle.mvd_wire.specs.declared.reply.Reply.{Reply};
 ghost use Rattle.mvd_wire.specs.declared.reply.Reply.TheVariants.{Refused};
@@ -54,6 +55,12 @@ pub fn answers_follow()
     // What is refused changes nothing, unless it breaks.
     ensures unchanged { (old new : SiteValue) (request : Request) (reply : Reply) (refusal : Refusal) →
         AnswersRequest old new request reply → reply ≡ Refused refusal → refusal ≢ Broken → new ≡ old }
+    // There are writes that the request adds.
+    ensures adds { (old new : SiteValue) (request : Request) (reply : Reply) →
+        AnswersRequest old new request reply → (added : List Write) × Adds request reply added }
+    // From states in form no reply is too long for its frame.
+    ensures fits { (old new : SiteValue) (request : Request) (reply : Reply) → AreHeld old.states →
+        AnswersRequest old new request reply → CanBeSent reply }
 {}
 
 /// Sites that know the same writes give equal answers: to a question, of the configuration only the definitions of

@@ -21,6 +21,7 @@ use Rattle.mvd_site.specs.Sites.{SiteValue}
 use Rattle.mvd_site.proofs.Outcomes.{refused_fits}
 use Rattle.mvd_remote.specs.Lines.{TrueReply}
 use Rattle.mvd_replica.specs.Turns.{Turn}
+use Rattle.mvd_replica.proofs.Batching.{fits_turn, form_turn}
 use Rattle.mvd_host.specs.Course.{AreQueued, own}
 use Rattle.mvd_host.specs.Round.{ServesAllFrom, ServesFrom, turns_of}
 use Rattle.mvd_host.specs.Runs.{TellsOwn}
@@ -197,18 +198,20 @@ windows_told config (window ∷ windows) rs bytes old new moments form among fra
 
 -- ---- a client's own turns
 
-turn_fits : (old mid : SiteValue) (asked : Result Request Refusal) (r : Reply) → ServesFrom old mid (record { asked = asked; reply = r }) → CanBeSent r
-turn_fits old mid (Ok q) r (inl one) = one.fits
-turn_fits old mid (Err fault) r (inl (inl is, same)) = subst CanBeSent (sym is) (refused_fits fault)
-turn_fits old mid (Err fault) r (inl (inr is, same)) = subst CanBeSent (sym is) (refused_fits Memory)
-turn_fits old mid asked r (inr memory) = subst CanBeSent (sym memory.0) (refused_fits Memory)
+turn_fits : (old mid : SiteValue) (asked : Result Request Refusal) (r : Reply) → AreHeld old.states → ServesFrom old mid (record { asked = asked; reply = r }) → CanBeSent r
+turn_fits old mid asked r held (inl one) = fits_turn old mid asked r held one
+turn_fits old mid asked r held (inr memory) = subst CanBeSent (sym memory.0) (refused_fits Memory)
 
-own_fits : (n : ℕ) (turns : List (ℕ × Turn)) (old new : SiteValue) → ServesAllFrom old new (turns_of turns) → AllByRecursion CanBeSent (map (λ (turn : Turn). turn.reply) (own n turns))
-own_fits n [] old new all = tt
-own_fits n (t ∷ ts) old new all =
-    let rest = own_fits n ts all.0 new all.2 in
+turn_form : (old mid : SiteValue) (asked : Result Request Refusal) (r : Reply) → AreHeld old.states → ServesFrom old mid (record { asked = asked; reply = r }) → AreHeld mid.states
+turn_form old mid asked r held (inl one) = form_turn old mid asked r held one
+turn_form old mid asked r held (inr memory) = subst (λ (s : SiteValue). AreHeld s.states) (sym memory.1) held
+
+own_fits : (n : ℕ) (turns : List (ℕ × Turn)) (old new : SiteValue) → AreHeld old.states → ServesAllFrom old new (turns_of turns) → AllByRecursion CanBeSent (map (λ (turn : Turn). turn.reply) (own n turns))
+own_fits n [] old new held all = tt
+own_fits n (t ∷ ts) old new held all =
+    let rest = own_fits n ts all.0 new (turn_form old all.0 t.1.asked t.1.reply held all.1) all.2 in
     elim (t.0 == n) as (λ b. AllByRecursion CanBeSent (map (λ (turn : Turn). turn.reply) (if b then t.1 ∷ own n ts else own n ts))) [
-      | true ↦ (turn_fits old all.0 t.1.asked t.1.reply all.1, rest)
+      | true ↦ (turn_fits old all.0 t.1.asked t.1.reply held all.1, rest)
       | false ↦ rest
     ]
 
@@ -261,5 +264,5 @@ host_tells n turns old new h windows form all mine asked =
     let among = turns_among old.config (site_turns n turns) old.states new.states form (host_answers n turns old new form all) in
     let told : AnswersAmong old.config requests (map (λ (turn : Turn). turn.reply) (own n turns)) old.states among.0 new.states =
     subst (λ qs. AnswersAmong old.config qs (map (λ (turn : Turn). turn.reply) (own n turns)) old.states among.0 new.states) here.0 (subst (λ rs. AnswersAmong old.config (own_requests (site_turns n turns)) rs old.states among.0 new.states) here.1 among.1) in
-    let queued = requeued old.config requests (map (λ (turn : Turn). turn.reply) (own n turns)) h.answers old.states new.states among.0 (windows_ask windows) told mine.told (own_fits n turns old new all) in
+    let queued = requeued old.config requests (map (λ (turn : Turn). turn.reply) (own n turns)) h.answers old.states new.states among.0 (windows_ask windows) told mine.told (own_fits n turns old new form all) in
     windows_told old.config windows queued.0 (concat h.answers) old.states new.states among.0 form queued.2 queued.1

@@ -5,10 +5,8 @@ use Rattle.mvd_dots.specs.declared.refusals.Refusal.{Refusal}
 use Rattle.mvd_dots.specs.declared.refusals.Refusal.TheVariants.{Broken, Memory}
 use Rattle.mvd_wire.specs.declared.request.Request.{Request}
 use Rattle.mvd_wire.specs.declared.reply.Reply.TheVariants.{Refused}
-use Rattle.mvd_wire.specs.Replies.{CanBeSent}
 use Rattle.mvd_records.specs.Records.{IsSound}
 use Rattle.mvd_site.specs.Sites.{SiteValue}
-use Rattle.mvd_site.proofs.Outcomes.{refused_fits}
 use Rattle.mvd_site.proofs.Pushes.{refusal_is}
 use Rattle.mvd_peer.specs.Sides.{SiteFollows, site_follows_on, site_follows_self}
 use Rattle.mvd_replica.specs.Batch.{AreAmongTurns, HoldsLost, Loses}
@@ -95,10 +93,6 @@ module _ (first second : List Turn) (old mid new : SiteValue) (before between af
 
 -- ---- both
 
-fits_both : (first second : List Turn) → AllByRecursion (λ turn. CanBeSent turn.reply) first → AllByRecursion (λ turn. CanBeSent turn.reply) second → AllByRecursion (λ turn. CanBeSent turn.reply) (first ++ second)
-fits_both [] second one other = other
-fits_both (turn ∷ first) second one other = (one.0, fits_both first second one.1 other)
-
 whole_before : (mid new : SiteValue) (is : Bool) → mid.broken ≡ is → SiteFollows mid new → new.broken ≡ false → mid.broken ≡ false
 whole_before mid new false is follows whole = is
 whole_before mid new true is follows whole = sym (site_broken new mid (follows.1 is)) ∙ whole
@@ -133,7 +127,6 @@ TakesTurns-append first second old mid new before between after one other = reco
   stands = StandsOn-append old mid new first second one.stands other.stands;
   config = other.config ∙ one.config;
   choice = HasChoice-append first second one.choice other.choice;
-  fits = fits_both first second one.fits other.fits;
   told = λ whole. else_both first second (one.told (whole_before mid new mid.broken refl other.follows.site whole)) (other.told whole);
   breaks = λ whole broken. breaks_both first second old mid new mid.broken refl (one.told) (one.breaks whole) (λ is. other.breaks is broken);
   follows = TurnsFollow-append first second old mid new before between after one.follows other.follows one.told;
@@ -153,7 +146,6 @@ TakesTurns-memory site s asked =
       stands = StandsOn-one site site turn one;
       config = refl;
       choice = HasChoice-turn asked (Refused Memory) ([], AddsAt-Refused-none asked Memory);
-      fits = (refused_fits Memory, tt);
       told = λ _. ((λ request bad. (let is : Memory ≡ Broken = refusal_is Memory Broken bad.1 in absurd cc)), tt);
       breaks = λ whole broken. absurd (true≢false (sym broken ∙ whole));
       follows = still_follows (turn ∷ []) site s;

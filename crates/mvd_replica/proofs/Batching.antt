@@ -11,10 +11,11 @@ use Rattle.mvd_wire.specs.declared.reply.Reply.TheVariants.{Refused}
 use Rattle.mvd_wire.specs.Replies.{CanBeSent}
 use Rattle.mvd_site.specs.Config.{ConfigValue}
 use Rattle.mvd_site.specs.FromStates.{after_from, answer_from, change_from, with_change}
-use Rattle.mvd_site.specs.Held.{States}
+use Rattle.mvd_site.specs.Held.{AreHeld, States}
 use Rattle.mvd_site.specs.Known.{Adds, ChangesKey}
 use Rattle.mvd_site.specs.Sites.{SiteStands, SiteValue}
 use Rattle.mvd_site.proofs.Answered.{after_stands, answered, changed_alike, with_state-same}
+use Rattle.mvd_site.proofs.Fitting.{reply_fits}
 use Rattle.mvd_site.proofs.Outcomes.{refused_fits}
 use Rattle.mvd_site.proofs.Steps.{Stands-nothing, state_at-stands}
 use Rattle.mvd_replica.specs.Batch.{AnswersOneFrom, TakesAllFrom, TakesFrom}
@@ -147,9 +148,19 @@ module _ (old new : SiteValue) where
   config_turn (Ok request) reply one = config_stored request reply old.broken refl one
   config_turn (Err fault) reply one = ap (λ (s : SiteValue). s.config) one.1
 
-  fits_turn : (asked : Result Request Refusal) (reply : Reply) → TakesFrom old new asked reply → CanBeSent reply
-  fits_turn (Ok request) reply one = one.fits
-  fits_turn (Err fault) reply one = let r : (refusal : Refusal) × (reply ≡ Refused refusal) = fault_refused fault reply one.0 in subst CanBeSent (sym r.1) (refused_fits r.0)
+  pub fits_one : (request : Request) (reply : Reply) → AreHeld old.states → AnswersOneFrom old new request reply → CanBeSent reply
+  fits_one request reply held one = elim one.whole [
+    | inl from ↦ reply_fits old new request reply held from (λ was. (one.broken was).0)
+    | inr store ↦ subst CanBeSent (sym store.told) (refused_fits Store)
+  ]
+
+  pub fits_turn : (asked : Result Request Refusal) (reply : Reply) → AreHeld old.states → TakesFrom old new asked reply → CanBeSent reply
+  fits_turn (Ok request) reply held one = fits_one request reply held one
+  fits_turn (Err fault) reply held one = let r : (refusal : Refusal) × (reply ≡ Refused refusal) = fault_refused fault reply one.0 in subst CanBeSent (sym r.1) (refused_fits r.0)
+
+  pub form_turn : (asked : Result Request Refusal) (reply : Reply) → AreHeld old.states → TakesFrom old new asked reply → AreHeld new.states
+  form_turn (Ok request) reply held one = one.form held
+  form_turn (Err fault) reply held one = subst (λ (s : SiteValue). AreHeld s.states) (sym one.1) held
 
   choice_turn : (asked : Result Request Refusal) (reply : Reply) → TakesFrom old new asked reply → (added : List Write) × AddsAt asked reply added
   choice_turn (Ok request) reply one = one.choice
@@ -208,9 +219,11 @@ choice_all [] old new all = HasChoice-none
 choice_all (turn ∷ turns) old new all =
     HasChoice-append (turn ∷ []) turns (HasChoice-turn turn.asked turn.reply (choice_turn old all.0 turn.asked turn.reply all.1)) (choice_all turns all.0 new all.2)
 
-fits_all : (turns : List Turn) (old new : SiteValue) → TakesAllFrom old new turns → AllByRecursion (λ turn. CanBeSent turn.reply) turns
-fits_all [] old new all = tt
-fits_all (turn ∷ turns) old new all = (fits_turn old all.0 turn.asked turn.reply all.1, fits_all turns all.0 new all.2)
+-- from states in form
+pub fits_all : (turns : List Turn) (old new : SiteValue) → AreHeld old.states → TakesAllFrom old new turns → AllByRecursion (λ turn. CanBeSent turn.reply) turns
+fits_all [] old new held all = tt
+fits_all (turn ∷ turns) old new held all =
+    (fits_turn old all.0 turn.asked turn.reply held all.1, fits_all turns all.0 new (form_turn old all.0 turn.asked turn.reply held all.1) all.2)
 
 pub whole_all : (turns : List Turn) (old new : SiteValue) → TakesAllFrom old new turns → new.broken ≡ false → old.broken ≡ false
 whole_all [] old new all whole = sym (site_broken new old all) ∙ whole
@@ -240,7 +253,6 @@ takes turns old new before after all follows = record {
   stands = stands_all turns old new all;
   config = config_all turns old new all;
   choice = choice_all turns old new all;
-  fits = fits_all turns old new all;
   told = told_all turns old new all;
   breaks = breaks_all turns old new all;
   follows = follows;

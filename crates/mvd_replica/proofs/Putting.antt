@@ -9,7 +9,6 @@ use Rattle.mvd_wire.specs.declared.request.Request.{Request}
 use Rattle.mvd_wire.specs.declared.request.Request.TheVariants.{Bye, Hello, Node, Push, Row}
 use Rattle.mvd_wire.specs.declared.reply.Reply.{Reply}
 use Rattle.mvd_wire.specs.declared.reply.Reply.TheVariants.{Done, Refused}
-use Rattle.mvd_wire.specs.Replies.{CanBeSent}
 use Rattle.mvd_site.specs.Change.{ChangeValue, change_reply}
 use Rattle.mvd_site.specs.Config.{ConfigValue}
 use Rattle.mvd_site.specs.FromStates.{AnswersFrom, answer_from, change_from}
@@ -93,7 +92,6 @@ module _ (old new : SiteValue) (request : Request) where
     broken = λ _. (told, same);
     told = λ _. ap (λ (s : SiteValue). s.broken) same ∙ was;
     frugal = λ _ bad. (let other : Refused Broken ≡ Refused Memory = sym told ∙ bad in cc);
-    fits = subst CanBeSent (sym told) (refused_fits Broken);
     choice = subst (λ x. (added : List Write) × Adds request x added) (sym told) (nothing_added request Broken);
     form = λ held. subst (λ (s : SiteValue). AreHeld s.states) (sym same) held;
   }
@@ -106,7 +104,6 @@ module _ (old new : SiteValue) (request : Request) where
     broken = λ broken. absurd (true≢false (sym broken ∙ was));
     told = λ bad. absurd (is.other (sym told ∙ bad));
     frugal = frugal;
-    fits = subst CanBeSent (sym told) is.fits;
     choice = subst (λ x. (added : List Write) × Adds request x added) (sym told) is.choice;
     form = form;
   }
@@ -118,7 +115,6 @@ module _ (old new : SiteValue) (request : Request) where
     broken = λ broken. absurd (true≢false (sym broken ∙ was));
     told = λ _. ap (λ (s : SiteValue). s.broken) breaks;
     frugal = λ _ bad. (let other : Refused Broken ≡ Refused Memory = sym told ∙ bad in cc);
-    fits = subst CanBeSent (sym told) (refused_fits Broken);
     choice = subst (λ x. (added : List Write) × Adds request x added) (sym told) (nothing_added request Broken);
     form = λ held. subst (λ (s : SiteValue). AreHeld s.states) (sym breaks) held;
   }

@@ -19,6 +19,8 @@ use Rattle.mvd_keys.proofs.KeyOrder.{key_antisymmetric, key_total, same_where_ti
 use Rattle.mvd_keys.proofs.Rising.{first_true, second_true}
 use Rattle.mvd_wire.specs.Codec.{Spells, spelled_within}
 use Rattle.mvd_wire.specs.Codecs.{layout2, spell_state, state_codec, state_limit}
+use Rattle.mvd_wire.proofs.Forms.{fits_of}
+use Rattle.mvd_wire.proofs.Spellings.{codec_is}
 use Rattle.mvd_records.specs.Pairs.{Pair, pair_entries}
 use Rattle.mvd_records.specs.States.{StoredStates as Stored}
 use Rattle.mvd_records.specs.Records.{AreDisjoint, EndsMove, HasNone, IsWhole, KeepsStates, LacksKey, HoldsRecords, MovesState, TellsVersion, marks_of, new_states, old_states}
@@ -307,8 +309,8 @@ too_long true bytes e is same = cc
 too_long false bytes e is same = absurd (true≢false (sym is))
 
 pub not_too_long : (s : State) (e : Refusal) → length (spell_state s) ≤ state_limit → (e ≢ Memory → spelled_within StateTooLarge state_limit (state_codec layout2) s ≡ Err e) → e ≢ Memory → ⊥
-unfolding spell_state
 not_too_long s e short exact other =
+    let few : length ((state_codec layout2).spell s) ≤ state_limit = subst (λ (bytes : List ℕ). length bytes ≤ state_limit) (sym (codec_is s)) short in
     let is : nat_le (length ((state_codec layout2).spell s)) state_limit ≡ true = grind (arith, nat_tests) in
     too_long (nat_le (length ((state_codec layout2).spell s)) state_limit) ((state_codec layout2).spell s) e is (exact other)
 
@@ -371,13 +373,12 @@ alone_ordered (Err e) b c same order = tt
 
 -- what records without old keys have is what they spell
 has_spelled : (db : Database) (states : States) → HasNone (old_states db) → SpellStates (new_states db) states → AreSpelled states → HasJust db states
-unfolding spell_state
 has_spelled db states none spelled fits key s = (by, back)
   where
     by_found : (found : Option State) → get states key ≡ found → (bytes : List ℕ) → option_map spell_state found ≡ Some bytes → Spells (state_codec layout2) s bytes → get states key ≡ Some s
     by_found None is bytes same spells = absurd (none_is_some bytes same)
     by_found (Some t) is bytes same spells =
-        let own : Spells (state_codec layout2) t bytes = ((fits key t is).fits, sym (some_is (spell_state t) bytes same)) in
+        let own : Spells (state_codec layout2) t bytes = (fits_of t (fits key t is).form, sym (codec_is t ∙ some_is (spell_state t) bytes same)) in
         is ∙ ap (λ (x : State). Some x) (spells_one layout2 free2 t s bytes own spells)
 
     by : HasState db key s → get states key ≡ Some s
@@ -385,7 +386,7 @@ has_spelled db states none spelled fits key s = (by, back)
     by (inr has) = absurd (none key has.0 has.1)
 
     back : get states key ≡ Some s → HasState db key s
-    back is = inl (spell_state s, spelled key ∙ ap (option_map spell_state) is, ((fits key s is).fits, refl))
+    back is = inl (spell_state s, spelled key ∙ ap (option_map spell_state) is, (fits_of s (fits key s is).form, sym (codec_is s)))
 
 pub has_just : (a b : Database) (states : States) → SameStates a b → HasNone (old_states b) → SpellStates (new_states b) states → AreSpelled states → HasJust a states
 has_just a b states same none spelled fits key s =

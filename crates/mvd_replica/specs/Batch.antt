@@ -8,7 +8,6 @@ use Rattle.mvd_wire.specs.declared.request.Request.{Request}
 use Rattle.mvd_wire.specs.declared.request.Request.TheVariants.{Put, Delete, Push}
 use Rattle.mvd_wire.specs.declared.reply.Reply.{Reply}
 use Rattle.mvd_wire.specs.declared.reply.Reply.TheVariants.{Refused}
-use Rattle.mvd_wire.specs.Replies.{CanBeSent}
 use Rattle.mvd_records.specs.Records.{IsSound}
 use Rattle.mvd_site.specs.FromStates.{after_from}
 use Rattle.mvd_site.specs.Held.{AreHeld}
@@ -38,14 +37,13 @@ changes_asked (request ∷ requests) = asks_change request + changes_asked reque
 -- ---- the site, turn by turn
 
 -- What one request does to a site, from its states alone: a broken site refuses it and stays as it is. A request that
--- takes no memory is not told want of it. The reply can be sent, there are writes that the request adds, and states in
--- form stay so
+-- takes no memory is not told want of it. There are writes that the request adds, and states in form stay so: from such
+-- no reply is too long for its frame (law `replies_fit_their_frames`)
 pub record AnswersOneFrom (old new : SiteValue) (request : Request) (reply : Reply) : Type 0 where
   pub whole : AnswersFromStored old new request reply
   pub broken : old.broken ≡ true → (reply ≡ Refused Broken) × (new ≡ old)
   pub told : reply ≡ Refused Broken → new.broken ≡ true
   pub frugal : IsFrugal old.states request → reply ≢ Refused Memory
-  pub fits : CanBeSent reply
   pub choice : (added : List Write) × Adds request reply added
   pub form : AreHeld old.states → AreHeld new.states
 
@@ -119,14 +117,12 @@ pub record TurnsFollow (turns : List Turn) (old new : StoredSite) : Type 0 where
 
 -- ---- both
 
--- Turns of a replica: each reply is one that may be given from the writes known then, and can be sent; and the records
--- follow
+-- Turns of a replica: each reply is one that may be given from the writes known then; and the records follow
 pub record TakesTurns (turns : List Turn) (old new : StoredSite) : Type 0 where
   pub replies : Replies old.site new.site turns
   pub stands : StandsOn old.site new.site turns
   pub config : new.site.config ≡ old.site.config
   pub choice : (events : List TurnEvent) × TellsTurns events turns
-  pub fits : AllByRecursion (λ turn. CanBeSent turn.reply) turns
   -- a request is told 22 where the site is broken, and one that breaks it is
   pub told : new.site.broken ≡ false → AllByRecursion IsToldElse turns
   pub breaks : old.site.broken ≡ false → new.site.broken ≡ true → (request : Request) × IsFirstBroken turns request

@@ -74,6 +74,7 @@ fn reply_to<S: Alter>(alloc: Global, replica: &mut Replica<S>, frame: &Frame) ->
     if is_bye(&request) {
         return None;
     }
+    replica.stands();
     Some(replica.answer(&request))
 }
 

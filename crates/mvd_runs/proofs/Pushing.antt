@@ -15,7 +15,7 @@ use Rattle.mvd_site.specs.FromStates.{push_reply}
 use Rattle.mvd_site.specs.Held.{AreHeld}
 use Rattle.mvd_site.specs.Known.{IsValidRequest}
 use Rattle.mvd_site.specs.Sites.{SiteValue}
-use Rattle.mvd_site.proofs.Outcomes.{memory_or_not, refused_fits}
+use Rattle.mvd_site.proofs.Outcomes.{memory_or_not}
 use Rattle.mvd_site.proofs.Pushes.{refusal_is}
 use Rattle.mvd_peer.specs.PushedStates.{ComesByPushes, Each}
 use Rattle.mvd_replica.specs.Batch.{AnswersOneFrom, HoldsLost}
@@ -85,7 +85,6 @@ module _ (old new : SiteValue) (before after : State) (key : Key) (s : Keyed) wh
         stands = there.stands;
         config = there.config;
         choice = there.choice;
-        fits = there.fits;
         told = there.told;
         breaks = there.breaks;
         follows = turns;
@@ -99,7 +98,6 @@ module _ (old new : SiteValue) (before after : State) (key : Key) (s : Keyed) wh
         broken = λ was. absurd (let bad : Done ≡ Refused Broken = stays was in cc);
         told = λ e. absurd (cc);
         frugal = λ _ e. absurd (cc);
-        fits = refl;
         choice = (writes_for key s, (AreOf-writes_for key s, state-writes_for key s valid));
         form = form;
       } in
@@ -120,7 +118,6 @@ module _ (old new : SiteValue) (before after : State) (key : Key) (s : Keyed) wh
           broken = stays;
           told = λ e. told (refusal_is refusal Broken e);
           frugal = λ _. not_memory refusal other;
-          fits = refused_fits refusal;
           choice = ([], refl);
           form = form;
         } in

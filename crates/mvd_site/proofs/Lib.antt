@@ -3,6 +3,7 @@ pub use Rattle.mvd_kept.proofs.Answered
 pub use Rattle.mvd_kept.proofs.AnsweredAtOnce
 pub use Rattle.mvd_kept.proofs.Clashes
 pub use Rattle.mvd_kept.proofs.Digested
+pub use Rattle.mvd_kept.proofs.Fitting
 pub use Rattle.mvd_kept.proofs.HeldMaps
 pub use Rattle.mvd_kept.proofs.KnownKeys
 pub use Rattle.mvd_kept.proofs.Listed

@@ -1,5 +1,5 @@
 -- What the types hold has a spelling.
-use Rattle.std.proofs.Common.{◌≡◌, ℕ, suc, ◌+◌, ◌*◌, ◌<◌, ◌≤◌, ◌^◌, Bool, true, false, T, cond, not, ltb, leb, ◌&&◌, List, [], ◌∷◌, ◌++◌, length, Option, Some, None, Result, Ok, Err, refl, subst, arith}
+use Rattle.std.proofs.Common.{◌≡◌, ℕ, suc, ◌+◌, ◌*◌, ◌<◌, ◌≤◌, ◌^◌, Bool, true, false, T, cond, not, ltb, leb, ◌&&◌, List, [], ◌∷◌, ◌++◌, length, Option, Some, None, Result, Ok, Err, refl, sym, subst, arith}
 use Rattle.std.proofs.lemmas.Bool.{leb-true, ltb-true, le-leb, lt-ltb}
 use Rattle.std.proofs.lemmas.List.{length-append, length-map}
 use Rattle.std.proofs.lemmas.List.Concat.{flat_map-cons}
@@ -33,7 +33,7 @@ use Rattle.mvd_keys.proofs.Rising.{first_true, second_true}
 use Rattle.mvd_wire.specs.Codec.{number, raw, FitEach}
 use Rattle.mvd_wire.specs.Prefix.{is_prefix}
 use Rattle.mvd_wire.specs.Codecs.{layout2, state_limit, dot, key, prefix, token, document, loose_from, loose_above, entry, entries, context_codec, comes_after, sibling, siblings_codec, unlimited_state, state_codec, spell_state, spell_entry, spell_sibling}
-use Rattle.mvd_wire.proofs.Spellings.{length_entry, length_sibling, length_context, length_state}
+use Rattle.mvd_wire.proofs.Spellings.{length_entry, length_sibling, length_context, length_state, unlimited_is}
 
 -- ---- keys, prefixes, tokens
 
@@ -199,9 +199,9 @@ parts_fit dots ss parts in_range documents few =
 
 -- a state that is not too long has a spelling
 pub state_fits : (s : State) (ss : List Sibling) → pairs_of ss ≡ pairs s.siblings → AreParts ss s.context → AreInRange s.context → All (λ s. document.Fits s.document) ss → length (spell_state s) ≤ state_limit → (state_codec layout2).Fits s
-unfolding state_codec spell_state unlimited_state
+unfolding state_codec unlimited_state
 state_fits s ss same parts in_range documents short =
     let all = length_state s in
     let each : 18 * length ss ≤ length (flat_map spell_sibling (pairs s.siblings)) = rw (← same) (eighteen_each ss documents) in
     let fit = parts_fit s.context ss parts in_range documents (omega (arith, all, each, short)) in
-    ((context_fits s.context in_range (omega (arith, all, short)), subst (λ ps. (siblings_codec layout2 s.context).Fits ps) same fit), le-leb _ _ short)
+    ((context_fits s.context in_range (omega (arith, all, short)), subst (λ ps. (siblings_codec layout2 s.context).Fits ps) same fit), le-leb _ _ (subst (λ (bytes : List ℕ). length bytes ≤ state_limit) (sym (unlimited_is s)) short))

@@ -1,5 +1,6 @@
 pub mod Entries
 pub mod Fits
+pub mod Forms
 pub mod CodecLaws
 pub mod Laws
 pub mod Loops

@@ -1,5 +1,5 @@
 -- What fits in a frame, and that what was sent has a spelling.
-use Rattle.std.proofs.Common.{◌≡◌, ℕ, ◌+◌, ◌<◌, ◌≤◌, true, ◌++◌, ltb, leb, ◌&&◌, List, length, Option, Some, None, Result, Ok, Err, refl, arith}
+use Rattle.std.proofs.Common.{◌≡◌, ℕ, ◌+◌, ◌<◌, ◌≤◌, true, ◌++◌, ltb, leb, ◌&&◌, List, length, Option, Some, None, Result, Ok, Err, refl, ap, ◌∙◌, arith}
 use Rattle.std.specs.Prelude.{IfOk}
 use Rattle.std.specs.List.{list_all}
 use Rattle.std.proofs.lemmas.Bool.{leb-true, le-leb}
@@ -21,7 +21,7 @@ use Rattle.mvd_wire.specs.Requests.{IsRequest, bucket, keys_of_prefix, put, dele
 use Rattle.mvd_wire.specs.Replies.{refusal, is_short, CanBeSent}
 use Rattle.mvd_wire.proofs.RowFits.{path_fits}
 use Rattle.mvd_wire.proofs.Fits.{key_fits, document_fits, context_fits}
-use Rattle.mvd_wire.proofs.Spellings.{sized_number}
+use Rattle.mvd_wire.proofs.Spellings.{codec_is, sized_number}
 
 -- what holds of every result, holds of a good one
 pub always : {A E : Type 0} (r : Result A E) (P : Type 0) → P → IfOk r (λ _. P)
@@ -109,10 +109,11 @@ hello_is_short t fits =
     rw few refl
 
 pub push_is_short : (k : Text) (s : State) → is_key k ≡ true → length (spell_state s) ≤ state_limit → request_frame (Push k s) ≡ Ok (request_bytes (Push k s))
-unfolding push spell_state
+unfolding push
 push_is_short k s is short =
-    let all : length (push.spell (k, s)) ≡ length (key.spell k) + length ((state_codec layout2).spell s) = length-append (key.spell k) ((state_codec layout2).spell s) in
-    let state_few : leb (length ((state_codec layout2).spell s)) state_limit ≡ true = le-leb _ _ short in
+    let all : length (push.spell (k, s)) ≡ length (key.spell k) + length (spell_state s) =
+    length-append (key.spell k) ((state_codec layout2).spell s) ∙ ap (λ (bytes : List ℕ). length (key.spell k) + length bytes) (codec_is s) in
+    let state_few : leb (length (spell_state s)) state_limit ≡ true = le-leb _ _ short in
     let few : leb (length (push.spell (k, s)) + 1) frame_limit ≡ true = le-leb _ _ (omega (arith, short_key k is, all, short)) in
     rw (state_few, few) refl
 

@@ -1,10 +1,12 @@
 -- The spelling of a list of values, where what came before does not change it.
-use Rattle.std.proofs.Common.{◌≡◌, ℕ, ◌+◌, ◌*◌, arith, List, [], ◌∷◌, ◌++◌, length, Option, Some, None, refl, sym, ap, ◌∙◌, append_assoc}
+use Rattle.std.proofs.Common.{◌≡◌, ℕ, ◌+◌, ◌*◌, arith, List, [], ◌∷◌, ◌++◌, length, Option, Some, None, Result, Ok, Err, if◌then◌else◌, nat_le, refl, sym, ap, ◌∙◌, append_assoc}
 use Rattle.std.specs.Int.{w16, w32, w64}
 use Rattle.std.specs.List.{flat_map}
 use Rattle.std.specs.FinMap.{entries as pairs}
 use Rattle.std.proofs.lemmas.List.Concat.{flat_map-cons}
 use Rattle.std.proofs.lemmas.List.{length-append}
+use Rattle.mvd_dots.specs.declared.refusals.Refusal.{Refusal}
+use Rattle.mvd_dots.specs.declared.refusals.Refusal.TheVariants.{StateTooLarge}
 use Rattle.mvd_dots.specs.Dot.{DotValue}
 use Rattle.mvd_dots.specs.Entry.{EntryValue}
 use Rattle.std.specs.FinSet as set
@@ -13,8 +15,8 @@ use Rattle.mvd_keys.proofs.Parts.{entries_of_pairs}
 use Rattle.mvd_dots.proofs.Canonical.{entries_are}
 use Rattle.mvd_keys.specs.State.{State, Text, empty_state, pair_of, pairs_of}
 use Rattle.mvd_keys.specs.declared.siblings.Sibling.{Sibling}
-use Rattle.mvd_wire.specs.Codec.{Codec, number, raw, spell_each}
-use Rattle.mvd_wire.specs.Codecs.{layout2, dot, document, loose_from, loose_above, entry, entries, context_codec, sibling, siblings_codec, unlimited_state, state_codec, spell_state, spell_entry, spell_sibling}
+use Rattle.mvd_wire.specs.Codec.{Codec, number, raw, spell_each, spelled_within}
+use Rattle.mvd_wire.specs.Codecs.{layout2, state_limit, dot, document, loose_from, loose_above, entry, entries, context_codec, sibling, siblings_codec, unlimited_state, state_codec, spell_state, spell_context, spell_entry, spell_sibling}
 
 pub spell_each-flat_map : {S X : Type 0} (kind : S → Codec X) (next : S → X → S) (f : X → List ℕ) → ((s : S) (x : X) → (kind s).spell x ≡ f x) → (s : S) (xs : List X) → spell_each kind next s xs ≡ flat_map f xs
 spell_each-flat_map kind next f same s [] = refl
@@ -29,17 +31,38 @@ pub entries_is : (es : List EntryValue) → (entries layout2).spell es ≡ (numb
 unfolding entries
 entries_is es = ap (λ (t : List ℕ). (number w32).spell (length es) ++ t) (spell_each-flat_map (entry layout2) (λ _ e. e.site) spell_entry entry_is 0 es)
 
-pub context_is : (dots : DotSet) → (context_codec layout2).spell dots ≡ (number w32).spell (length (entries_of dots)) ++ flat_map spell_entry (entries_of dots)
+pub context_is : (dots : DotSet) → (context_codec layout2).spell dots ≡ spell_context dots
 unfolding context_codec
 context_is dots = entries_is (entries_of dots)
 
+pub sibling_parts : (s : DotValue × Text) → (dot layout2).spell s.0 ++ document.spell s.1 ≡ spell_sibling s
+unfolding dot document raw
+sibling_parts s = refl
+
 sibling_is : (dots : DotSet) (previous : Option DotValue) (s : DotValue × Text) → (sibling layout2 dots previous).spell s ≡ spell_sibling s
 unfolding sibling
-sibling_is dots previous s = refl
+sibling_is dots previous s = sibling_parts s
 
 pub state_is : (s : State) → spell_state s ≡ (context_codec layout2).spell s.context ++ ((number w16).spell (length (pairs s.siblings)) ++ flat_map spell_sibling (pairs s.siblings))
-unfolding spell_state state_codec unlimited_state siblings_codec
-state_is s = ap (λ (t : List ℕ). (context_codec layout2).spell s.context ++ ((number w16).spell (length (pairs s.siblings)) ++ t)) (spell_each-flat_map (sibling layout2 s.context) (λ _ x. Some x.0) spell_sibling (sibling_is s.context) None (pairs s.siblings))
+unfolding spell_state
+state_is s = ap (λ (t : List ℕ). t ++ ((number w16).spell (length (pairs s.siblings)) ++ flat_map spell_sibling (pairs s.siblings))) (sym (context_is s.context))
+
+-- the codec of states spells a state so
+pub codec_is : (s : State) → (state_codec layout2).spell s ≡ spell_state s
+unfolding state_codec unlimited_state siblings_codec
+codec_is s =
+    ap (λ (t : List ℕ). (context_codec layout2).spell s.context ++ ((number w16).spell (length (pairs s.siblings)) ++ t)) (spell_each-flat_map (sibling layout2 s.context) (λ _ x. Some x.0) spell_sibling (sibling_is s.context) None (pairs s.siblings))
+    ∙ sym (state_is s)
+
+-- so is the spelling, where it is not too long
+pub spelled_as : (s : State) → spelled_within StateTooLarge state_limit (state_codec layout2) s ≡ (if nat_le (length (spell_state s)) state_limit then Ok (spell_state s) else Err StateTooLarge)
+spelled_as s = ap (λ (bytes : List ℕ). if nat_le (length bytes) state_limit then Ok bytes else Err StateTooLarge) (codec_is s)
+
+pub unlimited_is : (s : State) → (unlimited_state layout2).spell s ≡ spell_state s
+unfolding unlimited_state siblings_codec
+unlimited_is s =
+    ap (λ (t : List ℕ). (context_codec layout2).spell s.context ++ ((number w16).spell (length (pairs s.siblings)) ++ t)) (spell_each-flat_map (sibling layout2 s.context) (λ _ x. Some x.0) spell_sibling (sibling_is s.context) None (pairs s.siblings))
+    ∙ sym (state_is s)
 
 -- ---- lengths
 
@@ -48,7 +71,6 @@ unfolding number
 sized_number n = (refl, refl, refl)
 
 pub length_sibling : (s : DotValue × Text) → length (spell_sibling s) ≡ length s.1 + 16
-unfolding dot document raw
 length_sibling s =
     let a = sized_number s.0.site in
     let b = sized_number s.0.counter in

@@ -1,5 +1,5 @@
 -- A state of the first version of the format has a spelling in the second, which is at most an eighth longer.
-use Rattle.std.proofs.Common.{ℕ, ◌+◌, ◌*◌, ◌≤◌, List, [], ◌∷◌, length, Option, Some, None, Result, Ok, Err, arith}
+use Rattle.std.proofs.Common.{ℕ, ◌+◌, ◌*◌, ◌≤◌, List, [], ◌∷◌, length, Option, Some, None, Result, Ok, Err, subst, arith}
 use Rattle.std.specs.Prelude.{IfOk}
 use Rattle.std.specs.Int.{w16, w32}
 use Rattle.std.specs.FinMap.{entries as pairs}
@@ -12,7 +12,7 @@ use Rattle.mvd_dots.specs.Context.{DotSet, entries_of}
 use Rattle.mvd_keys.specs.State.{State, Text}
 use Rattle.mvd_wire.specs.Codec.{Codec, Spells, number, spell_each, FitEach}
 use Rattle.mvd_wire.specs.Codecs.{layout1, layout2, state_limit, dot, document, loose_above, entry, entries, context_codec, sibling, siblings_codec, unlimited_state, state_codec, spell_state}
-use Rattle.mvd_wire.proofs.Spellings.{sized_number}
+use Rattle.mvd_wire.proofs.Spellings.{sized_number, unlimited_is}
 
 -- ---- what fits the first version fits the second
 
@@ -89,11 +89,15 @@ state_stretched s =
 
 -- ---- states
 
+parts_widen : (s : State) → (unlimited_state layout1).Fits s → (unlimited_state layout2).Fits s
+unfolding unlimited_state
+parts_widen s fits = (context_widens s.context fits.0, siblings_widen s.context (pairs s.siblings) fits.1)
+
 state_fits_anew : (s : State) → (unlimited_state layout1).Fits s → length ((unlimited_state layout1).spell s) ≤ 1000000 → (state_codec layout2).Fits s × (length (spell_state s) ≤ state_limit)
-unfolding state_codec spell_state unlimited_state
+unfolding state_codec
 state_fits_anew s fits short =
     let long : length ((unlimited_state layout2).spell s) ≤ state_limit = omega (arith, state_stretched s, short) in
-    (((context_widens s.context fits.0, siblings_widen s.context (pairs s.siblings) fits.1), le-leb _ _ long), long)
+    ((parts_widen s fits, le-leb _ _ long), subst (λ (bytes : List ℕ). length bytes ≤ state_limit) (unlimited_is s) long)
 
 pub old_state_is_short : (s : State) → (state_codec layout1).Fits s → (state_codec layout2).Fits s × (length (spell_state s) ≤ state_limit)
 unfolding state_codec

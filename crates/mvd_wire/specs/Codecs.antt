@@ -139,18 +139,6 @@ unlimited_state v =
 unfoldable pub state_codec : Layout → Codec State
 state_codec v = checked StateTooLarge (λ s. nat_le (length ((unlimited_state v).spell s)) v.limit) (unlimited_state v)
 
--- the spelling of a key's state
-unfoldable pub spell_state : State → List ℕ
-spell_state = (state_codec layout2).spell
-
--- what a state with a spelling is: each sibling's dot was seen, all dots are within the limits, each document is
--- the text of its own value, and the spelling is not too long
-pub record IsInForm (s : State) : Type 0 where
-  pub valid : IsValid s
-  pub in_range : AreInRange s.context
-  pub documents : (d : DotValue) (text : Text) → get s.siblings d ≡ Some text → IsDocument text × (length text ≤ 65536)
-  pub short : length (spell_state s) ≤ state_limit
-
 -- ---- the spelling alone, which does not depend on what came before
 
 abbrev pub spell_entry : EntryValue → List ℕ
@@ -159,4 +147,20 @@ spell_entry e =
     ++ ((number w64).spell e.base ++ ((number w32).spell (length e.loose) ++ flat_map (number w64).spell e.loose))
 
 abbrev pub spell_sibling : DotValue × Text → List ℕ
-spell_sibling s = (dot layout2).spell s.0 ++ document.spell s.1
+spell_sibling s = ((number w32).spell s.0.site ++ (number w64).spell s.0.counter) ++ ((number w32).spell (length s.1) ++ s.1)
+
+abbrev pub spell_context : DotSet → List ℕ
+spell_context dots = (number w32).spell (length (entries_of dots)) ++ flat_map spell_entry (entries_of dots)
+
+-- the spelling of a key's state: its codec's (law `a_state_is_spelled_by_its_codec`)
+unfoldable pub spell_state : State → List ℕ
+spell_state s = spell_context s.context
+    ++ ((number w16).spell (length (pairs s.siblings)) ++ flat_map spell_sibling (pairs s.siblings))
+
+-- what a state with a spelling is: each sibling's dot was seen, all dots are within the limits, each document is
+-- the text of its own value, and the spelling is not too long
+pub record IsInForm (s : State) : Type 0 where
+  pub valid : IsValid s
+  pub in_range : AreInRange s.context
+  pub documents : (d : DotValue) (text : Text) → get s.siblings d ≡ Some text → IsDocument text × (length text ≤ 65536)
+  pub short : length (spell_state s) ≤ state_limit

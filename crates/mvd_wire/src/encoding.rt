@@ -21,7 +21,6 @@ pub fn encode_key(alloc: Global, value: &Key) -> Result<Vec<u8>, Refusal>
 }
 
 /// The one spelling of a state, of at most 1,150,000 bytes.
-#[tactic(auto, unfolding(crate::specs::Codecs::spell_state))]
 pub fn encode_state(alloc: Global, value: &KeyState) -> Result<Vec<u8>, Refusal>
     ensures exact { Gives (λ v. v.items) result
         (spelled_within Refusal.StateTooLarge state_limit (state_codec layout2) value.now) }

@@ -1,4 +1,4 @@
-use Rattle.mvd_frames.proofs.Forms.{fits_of, form_of}
+use Rattle.mvd_wire.proofs.Forms.{fits_of, form_of}
 use Rattle.mvd_frames.proofs.unique.spelled_states.Goals as goal
 
 pub returns : goal.returns

@@ -1,4 +1,5 @@
-use Rattle.mvd_kept.proofs.AnsweredAtOnce.{answers_one, broken_told, keeps_config, refused_unchanged, told_broken}
+use Rattle.mvd_kept.proofs.AnsweredAtOnce.{adds_some, answers_one, broken_told, keeps_config, refused_unchanged, told_broken}
+use Rattle.mvd_kept.proofs.Fitting.{sent_fits}
 use Rattle.mvd_kept.proofs.laws.answers_follow.Goals as goal
 
 pub returns-clause-known : goal.returns-clause-known
@@ -12,3 +13,9 @@ returns-clause-told c = λ old new request reply does. (told_broken old new requ
 
 pub returns-clause-unchanged : goal.returns-clause-unchanged
 returns-clause-unchanged c = λ old new request reply refusal does told other. refused_unchanged old new request reply does refusal told other
+
+pub returns-clause-adds : goal.returns-clause-adds
+returns-clause-adds c = λ old new request reply does. adds_some old new request reply does
+
+pub returns-clause-fits : goal.returns-clause-fits
+returns-clause-fits c = λ old new request reply kept does. sent_fits old new request reply kept does

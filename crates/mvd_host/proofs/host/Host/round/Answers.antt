@@ -11,6 +11,7 @@ use Rattle.mvd_host.specs.Weights.{AreHeavy}
 use Rattle.std.specs.List.{AllByRecursion}
 use Rattle.mvd_dots.specs.declared.refusals.Refusal.{Refusal}
 use Rattle.mvd_wire.specs.Replies.{CanBeSent}
+use Rattle.mvd_replica.proofs.Batching.{fits_all}
 use Rattle.mvd_replica.proofs.Commits.{answers_all}
 use Rattle.sqlite.specs.Held.{state}
 use Rattle.mvd_host.specs.declared.host.Host.TheInside.{Inside}
@@ -69,7 +70,7 @@ queue_refused-requires g c =
 pub queue_replies-requires-clause-fits : goal.queue_replies-requires-clause-fits
 queue_replies-requires-clause-fits g c =
     let a = answers_all _ _ _ _ c.in-Ok.ensures.answers.answers in
-    subst (λ (b : List Reply). AllByRecursion (λ (r : ℕ × Reply). CanBeSent r.1) (zip c.deref.result.now b)) (a.told ∙ sym c.deref-in-Ok.ensures.value) (zip_fits c.deref.result.now a.turns a.takes.fits)
+    subst (λ (b : List Reply). AllByRecursion (λ (r : ℕ × Reply). CanBeSent r.1) (zip c.deref.result.now b)) (a.told ∙ sym c.deref-in-Ok.ensures.value) (zip_fits c.deref.result.now a.turns (fits_all a.turns _ _ c.stands.ensures.held a.states))
 
 -- the requests were answered, in either way
 answered_here : (g : Over) (c : After-deref-2 g) → Answered c.take_all-refused.ensures.took.0.all.requests c.match-answer.at_hand.left c.take_all-refused.new.clients.entries c.match-answer.self-inside.clients.entries

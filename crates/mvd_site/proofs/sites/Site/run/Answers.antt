@@ -2,7 +2,7 @@ use Rattle.std.proofs.Common.{◌≡◌, false, ap, sym, ◌∙◌, subst, subst
 use Rattle.std.proofs.lemmas.List.{take_all, take_more}
 use Rattle.std.specs.FinMap.{empty}
 use Rattle.mvd_kept.specs.Sites.{SiteValue, SiteStands, AnswersFromNothing}
-use Rattle.mvd_kept.proofs.AnsweredAtOnce.{answers_one, keeps_config}
+use Rattle.mvd_kept.proofs.AnsweredAtOnce.{adds_some, answers_one, keeps_config}
 use Rattle.mvd_kept.proofs.Runs.{AnswersAll-none, AnswersAll-push, HasChoice, HasChoice-push}
 use Rattle.mvd_kept.proofs.Prepare.{Stands-none}
 use Rattle.mvd_site.proofs.sites.Site.run.Goals as goal
@@ -35,7 +35,8 @@ loop-request-preserved c =
       choice = subst₂ HasChoice
           (sym (take_more requests i c.request-item.result c.loop-request-test.true ∙ ap (λ r. take i requests ++ r ∷ []) (sym c.request-item.is)))
           (sym c.in_ok-push.ensures.items)
-          (HasChoice-push (take i requests) c.request-item.result c.loop-request.replies.items c.answer-reply.result c.loop-request.invariant.choice c.answer-reply.ensures.adds);
+          (HasChoice-push (take i requests) c.request-item.result c.loop-request.replies.items c.answer-reply.result c.loop-request.invariant.choice
+          (adds_some c.loop-request.site c.answer-reply.new.self c.request-item.result c.answer-reply.result c.answer-reply.ensures));
       config = keeps_config c.loop-request.site c.answer-reply.new.self c.request-item.result c.answer-reply.result c.answer-reply.ensures ∙ c.loop-request.invariant.config;
       count = grind (arith, length-append, c.in_ok-push.ensures.items, c.loop-request.invariant.count);
     }

@@ -1,5 +1,5 @@
 -- The states with a spelling are those in form.
-use Rattle.std.proofs.Common.{◌≡◌, ◌≤◌, Bool, true, false, T, cond, List, [], ◌∷◌, map, length, Option, Some, None, Result, Ok, Err, refl, sym, ap, subst, ◌∙◌, arith}
+use Rattle.std.proofs.Common.{◌≡◌, ℕ, ◌≤◌, Bool, true, false, T, cond, List, [], ◌∷◌, map, length, Option, Some, None, Result, Ok, Err, refl, sym, ap, subst, ◌∙◌, arith}
 use Rattle.std.proofs.lemmas.Bool.{leb-true}
 use Rattle.std.proofs.lemmas.List.Elements.{All-cons}
 use Rattle.std.proofs.lemmas.Str.{IsUtf8-from_is_utf8}
@@ -19,8 +19,9 @@ use Rattle.mvd_keys.proofs.Lists.{tied_itself_dot}
 use Rattle.mvd_keys.proofs.Parts.{is_true}
 use Rattle.mvd_keys.proofs.Rising.{Pair, first_true, second_true, none_found}
 use Rattle.mvd_wire.specs.Codec.{FitEach}
-use Rattle.mvd_wire.specs.Codecs.{layout2, document, context_codec, sibling, siblings_codec, unlimited_state, state_codec, spell_state, IsInForm}
+use Rattle.mvd_wire.specs.Codecs.{layout2, document, context_codec, sibling, siblings_codec, unlimited_state, state_codec, state_limit, IsInForm}
 use Rattle.mvd_wire.proofs.Fits.{document_fits, if_text, own_of_same, state_fits}
+use Rattle.mvd_wire.proofs.Spellings.{unlimited_is}
 use Rattle.mvd_wire.proofs.Siblings.{pairs_back as map_back, siblings_parts}
 
 -- ---- a state of the siblings in its map
@@ -99,12 +100,12 @@ valid_of s fits =
     subst IsValid (state_again s) parts.valid
 
 pub form_of : (s : State) → (state_codec layout2).Fits s → IsInForm s
-unfolding state_codec unlimited_state spell_state
+unfolding state_codec unlimited_state
 form_of s fits = record {
   valid = valid_of s fits.0.1;
   in_range = ranged s.context fits.0.0;
   documents = λ q text found. document_is text (document_at s.context None (pairs s.siblings) q text (each_fits s.context (pairs s.siblings) fits.0.1) (sym (get-entries s.siblings q) ∙ found));
-  short = leb-true _ _ fits.1;
+  short = subst (λ (bytes : List ℕ). length bytes ≤ state_limit) (unlimited_is s) (leb-true _ _ fits.1);
 }
 
 pub fits_of : (s : State) → IsInForm s → (state_codec layout2).Fits s

@@ -1,7 +1,7 @@
 #!/usr/bin/env python3
 """What an application does with lists of states over HTTP, seen at servers of PROGRAM.
 
-usage: tools/states.py [--port P] PROGRAM      it takes 8 ports from P on, and a few seconds
+usage: tools/states.py [--only PART] PROGRAM      it takes some seconds
 
   copy       export by GET /keys and POST /get, and import by POST /push, twice: a root equal to the first site's each time, also of siblings
              and of deleted keys; and the same by GET /keys?documents=1
@@ -15,6 +15,7 @@ import collections
 import http.client
 import json
 import pathlib
+import socket
 import subprocess
 import sys
 import tempfile
@@ -35,12 +36,14 @@ def is_so(what, holds, seen=""):
 class Server:
     """A server of a file in a folder, and what one asks of it. It counts the requests."""
 
-    def __init__(self, program, folder, site, port, *more, defs="index city\n"):
-        self.http, self.requests = port + 1, collections.Counter()
-        (folder / "defs").write_text(defs)
+    def __init__(self, program, folder, site):
+        with socket.create_server(("127.0.0.1", 0)) as one, socket.create_server(("127.0.0.1", 0)) as other:
+            port, self.http = one.getsockname()[1], other.getsockname()[1]
+        self.requests = collections.Counter()
+        (folder / "defs").write_text("index city\n")
         (folder / "token").write_text(f"{TOKEN}\n{READER} read\n{PART} write of/me/\n")
         self.words = [program, "serve", "--db", folder / f"{site}.db", "--site", str(site), "--port", str(port), "--http", str(self.http),
-                      "--defs", folder / "defs", "--token-file", folder / "token", *more]
+                      "--defs", folder / "defs", "--token-file", folder / "token"]
         self.start()
 
     def start(self):
@@ -68,9 +71,9 @@ class Server:
         """What is told of each line, 1,000 lines at once."""
         told = []
         for at in range(0, len(lines), 1000):
-            status, text = self.asked("POST", path, "\n".join(lines[at:at + 1000]))
+            status, text = self.asked("POST", path, "\n".join(lines[at:at + 1000]).encode())
             is_so(f"POST {path} of {len(lines[at:at + 1000])} lines", status == 200, text)
-            told += text.splitlines()
+            told += text.rstrip("\n").split("\n")
         return told
 
     def pages(self, path):
@@ -101,7 +104,7 @@ def copy(make):
         first.asked("DELETE", f"/keys/k{i:04}", mvd_context=context)
     keys = [one["key"] for one in first.pages("/keys?prefix=")]
     states = first.lines("/get", list(map(json.dumps, keys)))
-    is_so("an export of 1,500 keys by /keys and /get takes 4 requests", sum(first.requests[path] for path in ("/get",)) == 2 and len(states) == 1500)
+    is_so("an export of 1,500 keys has a state for each", len(states) == 1500)
     for turn in "once", "twice":
         is_so(f"an import by /push, {turn}: each line is taken", second.lines("/push", states) == ["{}"] * 1500)
         is_so(f"an import by /push, {turn}: the roots are equal", second.root() == first.root())
@@ -225,7 +228,6 @@ PARTS = {"copy": copy, "again": again, "documents": documents, "changes": change
 
 def main():
     words = argparse.ArgumentParser(usage=__doc__)
-    words.add_argument("--port", type=int, default=27900)
     words.add_argument("--only", choices=PARTS)
     words.add_argument("program")
     given = words.parse_args()
@@ -236,7 +238,7 @@ def main():
         servers = []
 
         def make(site):
-            servers.append(Server(program, pathlib.Path(folder), site, given.port + 2 * len(servers)))
+            servers.append(Server(program, pathlib.Path(folder), site))
             return servers[-1]
 
         with tempfile.TemporaryDirectory() as folder:

@@ -35,7 +35,7 @@ from mvd import Client, Refused, Unreachable
 from notes import is_so, wait_for
 
 FILES = TOP / "examples" / "proxy"
-TOKEN, READER = "sixteen-letters!", "another-sixteen!"
+TOKEN, READER, PART = "sixteen-letters!", "another-sixteen!", "writes-of-a-part"
 TLS = ssl.create_default_context()
 TLS.check_hostname, TLS.verify_mode = False, ssl.CERT_NONE
 # The client of Python looks at certificates; here they are signed by nobody.
@@ -157,6 +157,11 @@ def in_pages(port, pages):
             const { refused } = await site.sync(server, { token }); return [number > 65535, refused.length, (await site.all('a')).length];""")
         is_so("a page of a listed origin syncs its site", said == [True, 0, 1], said)
         is_so("and the server has what it wrote", asked(port, "GET", "/keys/of%2Fapp")[0] == 200)
+        said = browser.at(app, f"""const {{ Site, Client }} = await import('/mvd.js'), of = {{ token: '{PART}', prefix: 'user/42/' }};
+            const site = await Site.open('part'), server = '{server}'; await site.claim(server, of); await site.put('user/42/a', {{ n: 1 }});
+            const first = (await site.sync(server, of)).refused.length, second = (await site.sync(server, of)).keys;
+            return [first, second, await new Client(server, of).get('a').then(() => 'got', (fault) => fault.number)];""")
+        is_so("one with the token of a part syncs that part, and is told of no other key", said == [0, 0, 38], said)
         said = browser.at(app, site + "return new Client(server, { token: 'no-such-token-here' }).get('a').then(() => 'got', (fault) => fault.number);")
         is_so("it is told that its token is another", said == 38, said)
         said = browser.at(other, site + "return site.sync(server, { token }).then(() => 'met', (fault) => fault.name);")
@@ -266,7 +271,7 @@ def main():
     program, running = pathlib.Path(given.program).resolve(), []
     with tempfile.TemporaryDirectory() as name:
         folder = pathlib.Path(name)
-        (folder / "token").write_text(f"{TOKEN}\n{READER} read\n")
+        (folder / "token").write_text(f"{TOKEN}\n{READER} read\n{PART} write user/42/\n")
         certificate(folder)
         if shutil.which("systemd-analyze"):
             unit = folder / "mvd@1.service"

@@ -144,7 +144,7 @@ def documents(make):
         is_so(f"a page of {limit}", len(page["keys"]) == min(limit, 100) and ("next" in page) == (limit < 100), page)
     is_so("pages of 7 have all", [it["key"] for it in one.pages("/keys?limit=7")] == [f"d{i:03}" for i in range(100)])
     is_so("an index in pages of 7", len(one.pages("/index/city?is=%22Oslo%22&limit=7&documents=1")) == 50)
-    for limit in "0", "1001", "x", "-1", "":
+    for limit in "0", "1001", "x", "-1":
         is_so(f"a limit of {limit!r} is refused", one.asked("GET", f"/keys?limit={limit}")[0] == 400)
     states = {it["key"]: it for it in one.pages("/keys?documents=1&digests=1")}
     is_so("keys with documents are their states", all(len(it["siblings"]) == 1 and it["context"] == "1:1" and len(it["digest"]) == 64 for it in states.values()))
@@ -182,9 +182,9 @@ def changes(make):
 def stop(make):
     """The end of a server amid six writers and a reader that waits."""
     one = make(1)
-    is_so("a right to read does not end a server", one.asked("POST", "/stop", token=READER)[0] == 403)
-    is_so("nor does one of a prefix", one.asked("POST", "/stop", token=PART)[0] == 403)
-    is_so("nor no token", one.asked("POST", "/stop", token=None)[0] == 401)
+    for whose, token, status in ("to read", READER, 403), ("below a prefix", PART, 403), ("of no token", None, 401):
+        seen = one.asked("POST", "/stop", token=token)
+        is_so(f"a right {whose} does not end a server", seen[0] == status, seen)
     written, ended = set(), threading.Event()
 
     def write(name):

@@ -250,9 +250,11 @@ told_lists (Some start) rounds past now prefix root lists =
           let told = page_told prefix root rest in
           let keys = keys_with prefix (page_of prefix [] rest) in
           let Q : States → List States → Type 0 = λ was later. (root ≡ root_of was) × AnyByRecursion (λ mid. (told.root ≡ root_of mid) × ChangesWith prefix told.keys was mid) later in
-          any_later_so (Since root rest now) Q past (λ was later since. (since.0,
-          any_so (λ mid. (told.root ≡ root_of mid) × ChangesWith prefix keys was mid) (λ mid. (told.root ≡ root_of mid) × ChangesWith prefix told.keys was mid) (was ∷ later)
-          (λ mid so. (so.0, told_with prefix keys was mid so.1)) (page_lists prefix root [] rest (was ∷ later) now since.1)))
+          any_later_so (Since root rest now) Q past (λ was later since. (
+            since.0,
+            any_so (λ mid. (told.root ≡ root_of mid) × ChangesWith prefix keys was mid) (λ mid. (told.root ≡ root_of mid) × ChangesWith prefix told.keys was mid) (was ∷ later)
+                (λ mid so. (so.0, told_with prefix keys was mid so.1)) (page_lists prefix root [] rest (was ∷ later) now since.1),
+          ))
           (since_lists start rounds past now root lists rest is)
     ] refl
 

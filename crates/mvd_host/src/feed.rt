@@ -175,12 +175,7 @@ impl Feed {
     }
 
     /// What is told of the rounds from this one on.
-    fn page_from(
-        &self,
-        root: &[u8; 32],
-        place: usize,
-        prefix: &Prefix,
-    ) -> Result<Changed, Refusal>
+    fn page_from(&self, root: &[u8; 32], place: usize, prefix: &Prefix) -> Result<Changed, Refusal>
         requires { place ≤ length self.now.rounds }
         ensures told { IfOk result (λ told.
             changed_by told ≡ page_told prefix.now root.now (drop place self.now.rounds)) }
@@ -209,12 +204,7 @@ impl Feed {
     }
 
     /// The keys that these rounds noted, each once.
-    fn keys_between(
-        &self,
-        place: usize,
-        end: usize,
-        prefix: &Prefix,
-    ) -> Result<Vec<Key>, Refusal>
+    fn keys_between(&self, place: usize, end: usize, prefix: &Prefix) -> Result<Vec<Key>, Refusal>
         requires { (place ≤ end) × (end ≤ length self.now.rounds) }
         ensures keys { IfOk result (λ keys.
             keys.items ≡ lasts (keys_with prefix.now (take (end - place) (drop place self.now.rounds)))) }

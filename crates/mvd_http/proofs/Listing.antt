@@ -1,15 +1,22 @@
 -- The entries of a page that are told, and how far it goes.
-use Rattle.std.proofs.Common.{◌≡◌, ◌≢◌, ◌∙◌, ◌==◌, ℕ, ◌+◌, ◌-◌, ◌<◌, ◌≤◌, Bool, true, false, cond, List, [], ◌∷◌, ◌++◌, length, get_or, take, drop, filter, refl, sym, ap, append_assoc, append-nil, arith, codes}
+use Rattle.std.proofs.Common.{◌≡◌, ◌≢◌, ◌∙◌, ◌==◌, ℕ, ◌+◌, ◌-◌, ◌<◌, ◌≤◌, Bool, true, false, cond, List, [], ◌∷◌, ◌++◌, length, get_or, take, drop, filter, Option, None, Some, refl, sym, ap, append_assoc, append-nil, arith, codes}
+use Rattle.std.specs.Prelude.{◌||◌, nat_lt}
+use Rattle.std.specs.FinMap.{entries, get, get-entries}
+use Rattle.std.specs.FinMap.Entries.{find}
+use Rattle.std.specs.Ordering.{eq_by_cmp}
 use Rattle.sha2.specs.Sha256.{sha256}
 use Rattle.std.proofs.lemmas.List.Elements.{filter_more}
-use Rattle.std.proofs.lemmas.List.{at_drop_all, drop_more, length_push, take_all, take_more}
+use Rattle.std.proofs.lemmas.List.{at_drop_all, drop_more, length_push, length-take-le, take_all, take_more}
 use Rattle.std.proofs.lemmas.Bool.Decides.{nat_tests}
-use Rattle.mvd_keys.specs.State.{State}
+use Rattle.mvd_dots.specs.Dot.{DotValue, dot_cmp}
+use Rattle.mvd_keys.specs.State.{State, Text, pairs_of}
 use Rattle.mvd_keys.specs.Writes.{Key}
-use Rattle.mvd_http.specs.Json.{commaed, digest_json, led_if}
-use Rattle.mvd_http.specs.Listed.{digest_told, front, spelling, state_digest}
+use Rattle.mvd_keys.specs.declared.siblings.Sibling.{Sibling}
+use Rattle.mvd_http.specs.Json.{comma_if, commaed, digest_json, document_json, led_if, next_text, next_text_of}
+use Rattle.mvd_http.specs.Listed.{digest_told, document_at, document_if, front, spelling as spelled, state_digest}
+use Rattle.mvd_http.specs.declared.question.Spelling.{Spelling}
 use Rattle.mvd_http.proofs.Counting.{commaed_more}
-use Rattle.mvd_http.proofs.Steps.{steps2}
+use Rattle.mvd_http.proofs.Steps.{steps2, steps5}
 
 -- ---- how far it goes
 
@@ -53,7 +60,7 @@ unweighed room b weight out = let none : room ≡ room - 0 = omega arith in none
 
 -- ---- what is told
 
-pub digest_put : (old s1 s2 bytes digest : List ℕ) (key : Key) (state : State) (wanted : Bool) → wanted ≡ true → bytes ≡ spelling key state → digest ≡ sha256 bytes → s1 ≡ old ++ codes ",\"digest\":" → s2 ≡ s1 ++ digest_json digest
+pub digest_put : (old s1 s2 bytes digest : List ℕ) (key : Key) (state : State) (wanted : Bool) → wanted ≡ true → bytes ≡ spelled key state → digest ≡ sha256 bytes → s1 ≡ old ++ codes ",\"digest\":" → s2 ≡ s1 ++ digest_json digest
     → s2 ≡ old ++ digest_told wanted key state
 unfolding state_digest
 digest_put old s1 s2 bytes digest key state wanted sure spelled hashed e1 e2 =
@@ -83,3 +90,65 @@ module _ {X : Type 0} (p : X → Bool) (f : X → List ℕ) (xs : List X) (i : �
             ∙ ap (λ t. old ++ t) (sym (commaed_more f so_far x) ∙ ap (commaed f) (sym all)),
         let some : length (so_far ++ x ∷ []) == 0 ≡ false = grind (arith, nat_tests) in sym (ap (λ ys. length ys == 0) all ∙ some),
       )
+
+-- ---- entries that are all told
+
+led_is : {X : Type 0} (b : Bool) (f : X → List ℕ) (x : X) → comma_if b ++ f x ≡ led_if b f x
+led_is true f x = refl
+led_is false f x = refl
+
+-- the text so far, with one entry more
+pub entry_on : {X : Type 0} (f : X → List ℕ) (xs : List X) (i : ℕ) (x : X) (old s0 s1 s2 : List ℕ) (b : Bool) → i < length xs → x ≡ get_or xs i x → s0 ≡ old ++ commaed f (take i xs) → b ≡ (i == 0)
+    → s1 ≡ s0 ++ comma_if b → s2 ≡ s1 ++ f x → s2 ≡ old ++ commaed f (take (i + 1) xs)
+entry_on f xs i x old s0 s1 s2 b within is so_far at_first e1 e2 =
+    let count : length (take i xs) ≡ i = length-take-le i xs (omega arith) in
+    e2
+    ∙ ap (λ t. t ++ f x) (e1 ∙ ap (λ t. t ++ comma_if b) so_far)
+    ∙ append_assoc (old ++ commaed f (take i xs)) (comma_if b) (f x)
+    ∙ append_assoc old (commaed f (take i xs)) (comma_if b ++ f x)
+    ∙ ap (λ t. old ++ (commaed f (take i xs) ++ t)) (led_is b f x ∙ ap (λ c. led_if c f x) (at_first ∙ ap (λ n. n == 0) (sym count)))
+    ∙ ap (λ t. old ++ t) (sym (commaed_more f (take i xs) x) ∙ ap (commaed f) (ap (λ y. take i xs ++ y ∷ []) is ∙ sym (take_more xs i x within)))
+
+-- ---- the document of a dot
+
+module _ (dot : DotValue) (siblings : List Sibling) where
+  abbrev pub found_from : ℕ → Option Text
+  found_from i = find dot_cmp dot (pairs_of (drop i siblings))
+
+  next_sibling : (i : ℕ) (s : Sibling) → i < length siblings → s ≡ get_or siblings i s → found_from i ≡ cond (eq_by_cmp dot_cmp dot s.dot) (Some s.document) (found_from (i + 1))
+  next_sibling i s within is =
+      ap (λ ss. find dot_cmp dot (pairs_of ss)) (drop_more siblings i s within ∙ ap (λ (t : Sibling). t ∷ drop (i + 1) siblings) (sym is))
+
+  -- this one has it
+  pub found_here : (i : ℕ) (s : Sibling) → i < length siblings → s ≡ get_or siblings i s → eq_by_cmp dot_cmp dot s.dot ≡ true → found_from i ≡ Some s.document
+  found_here i s within is same =
+      next_sibling i s within is ∙ ap (λ b. cond b (Some s.document) (found_from (i + 1))) same
+
+  -- it has another
+  pub found_on : (i : ℕ) (s : Sibling) (whole : Option Text) → i < length siblings → s ≡ get_or siblings i s → eq_by_cmp dot_cmp dot s.dot ≡ false → found_from i ≡ whole → found_from (i + 1) ≡ whole
+  found_on i s whole within is other so_far =
+      sym (next_sibling i s within is ∙ ap (λ b. cond b (Some s.document) (found_from (i + 1))) other) ∙ so_far
+
+module _ (spelling : Spelling) (dot : DotValue) (state : State) (pairs : List (DotValue × Text)) (same : pairs ≡ entries state.siblings) where
+  found_in : (o : Option Text) → o ≡ find dot_cmp dot pairs → o ≡ get state.siblings dot
+  found_in o is = is ∙ ap (find dot_cmp dot) same ∙ sym (get-entries state.siblings dot)
+
+  -- there is none
+  pub document_none : (old : List ℕ) → None ≡ find dot_cmp dot pairs → old ≡ old ++ document_at spelling dot state
+  document_none old none = sym (append-nil old) ∙ ap (λ o. old ++ document_if spelling o) (found_in None none)
+
+  -- it is told
+  pub document_put : (old s1 s2 : List ℕ) (text : Text) → Some text ≡ find dot_cmp dot pairs → s1 ≡ old ++ codes "," → s2 ≡ s1 ++ document_json spelling text → s2 ≡ old ++ document_at spelling dot state
+  document_put old s1 s2 text some e1 e2 =
+      steps2 old s1 s2 (codes ",") (document_json spelling text) e1 e2 ∙ ap (λ o. old ++ document_if spelling o) (found_in (Some text) some)
+
+-- ---- a page
+
+pub page_put : {X : Type 0} (f mark : X → List ℕ) (name : List ℕ) (first whole fr : List X) (count : ℕ) (more goes_on : Bool) (old s1 s2 s3 s4 s5 : List ℕ) → count ≤ length first → take count first ≡ fr → goes_on ≡ (more || nat_lt count (length whole))
+    → s1 ≡ old ++ name → s2 ≡ s1 ++ commaed f (take count first) → s3 ≡ s2 ++ codes "]" → s4 ≡ s3 ++ next_text (next_text_of mark goes_on (take count first)) → s5 ≡ s4 ++ codes "}"
+    → s5 ≡ old ++ (name ++ (commaed f fr ++ (codes "]" ++ (next_text (next_text_of mark (more || nat_lt (length fr) (length whole)) fr) ++ codes "}"))))
+page_put {X} f mark name first whole fr count more goes_on old s1 s2 s3 s4 s5 within is on e1 e2 e3 e4 e5 =
+    let size : count ≡ length fr = sym (length-take-le count first within) ∙ ap length is in
+    steps5 old s1 s2 s3 s4 s5 _ _ _ _ _ e1 e2 e3 e4 e5
+    ∙ ap (λ (ys : List X). old ++ (name ++ (commaed f ys ++ (codes "]" ++ (next_text (next_text_of mark goes_on ys) ++ codes "}"))))) is
+    ∙ ap (λ (b : Bool). old ++ (name ++ (commaed f fr ++ (codes "]" ++ (next_text (next_text_of mark b fr) ++ codes "}"))))) (on ∙ ap (λ n. more || nat_lt n (length whole)) size)

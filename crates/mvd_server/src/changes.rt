@@ -127,7 +127,14 @@ impl News {
     ) -> Result<bool, Refusal> {
         if !self.is_of(followed) {
             self.body.clear();
-            self.told = push_news(self.alloc, changes, replica, since, followed, &mut self.body);
+            self.told = push_news(
+                self.alloc,
+                changes,
+                replica,
+                since,
+                followed,
+                &mut self.body,
+            );
             self.asked = copy_followed(self.alloc, followed);
         }
         self.told

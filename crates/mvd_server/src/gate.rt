@@ -1,34 +1,35 @@
 //! From a request of HTTP to what is asked of the site, and from the reply to the response.
-ghost use Rattle.std.specs.Prelude.{ℕ, option_copied};
-ghost use Rattle.mvd_http.specs.declared.fields.Content.TheVariants.{Json, Plain};
+ghost use Rattle.std.specs.Prelude.{◌≡◌, ℕ, option_copied, true};
+ghost use Rattle.mvd_http.specs.declared.fields.Content.TheVariants.{Json};
 ghost use Rattle.mvd_http.specs.Guard.{named_by};
 ghost use Rattle.mvd_server.specs.Admitted.{Decides};
 ghost use Rattle.mvd_host.specs.AtHand.{AtHandValue};
-ghost use Rattle.mvd_server.specs.Errands.{AsksAtHand, AsksNextOf, DoesPlan, TakesIf, TellsBatch, TellsOrWaits};
-ghost use Rattle.mvd_server.specs.Plans.{IsPlanFor, TellsFault, TellsMethods};
+ghost use Rattle.mvd_server.specs.Errands.{AsksAtHand, AsksNextOf, DoesPlan, StopsIf, TakesIf, TellsBatch, TellsOrWaits};
+ghost use Rattle.mvd_server.specs.Plans.{IsFreePlan, IsPlanFor, IsPlanIf, TellsFault, TellsMethods};
 ghost use Rattle.mvd_server.specs.Responding.{TellsBody, not_admitted, token_answer};
+ghost use Rattle.mvd_server.specs.declared.gate.Rest.TheVariants.{Stops};
 ghost use Rattle.mvd_web.specs.Inside.{web_of};
+ghost use Rattle.mvd_web.specs.Rights.{may_ask};
 ghost use Rattle.mvd_web.specs.Web.{RespondsTo};
 
 use crate::asks::{tell_asks, tell_bad_line};
+use crate::at_once::{tell_health, tell_metrics, tell_root};
 use crate::batch::Batch;
 use crate::changes::{followed_by, push_since, root_to_wait_from};
 use crate::copying::copy_request;
 use crate::listings::tell_listed;
-use crate::metrics::{Counts, Now};
+use crate::metrics::Counts;
 use crate::responding::{answer_of, refuse, respond, tell_pushed};
 use http::StatusCode;
-use mvd_conn::Guard;
+use mvd_conn::{Passes, Right};
 use mvd_dots::Refusal;
 use mvd_host::{AtHand, Feed};
-use mvd_http::{Answer, Content, Fault, Methods, Names, PAGE, Question, push_root};
+use mvd_http::{Answer, Content, Fault, Methods, Names, PAGE, Question};
 use mvd_replica::Replica;
-use mvd_web::{Asked, Entry, WebConnection};
+use mvd_web::{Asked, Entry, WebConnection, may_ask};
 use mvd_wire::{Reply, Request};
 use sqlite::Alter;
 use std::alloc::Global;
-
-const READY: &str = "{\"ready\":true}";
 
 const NOT_ADMITTED: &str = "{\"refused\":38,\"name\":\"NotAdmitted\"}";
 
@@ -39,8 +40,8 @@ enum Plan {
     Ask(Request),
     /// These writes are.
     Writes(Batch),
-    /// Its questions are answered at once, in lines.
-    Asks,
+    /// Its questions are answered at once, in lines, as far as a right allows them.
+    Asks(Right),
     /// Its page is told at once.
     Listed,
     /// Its line of this number is told to have another form.
@@ -51,6 +52,8 @@ enum Plan {
     Root,
     Metrics,
     Health,
+    /// The server ends, where tokens are asked for.
+    Stop,
     /// It is answered at once, by this.
     Told(Answer, &'static str),
     /// A token is asked for.
@@ -67,6 +70,8 @@ pub(crate) enum Rest {
     Writes(Batch),
     /// It waits for a change of this root, for so many seconds.
     Waits([u8; 32], u32),
+    /// The server is to end.
+    Stops,
 }
 
 /// What is done about a request. Nothing is asked of the site, or told of it, for one that does not come in.
@@ -74,10 +79,11 @@ fn plan_of(alloc: Global, asked: &Asked) -> Plan
     ensures { Decides asked.now.entry asked.now.question result }
 {
     match asked.entry {
-        Entry::Open => match &asked.question {
-            Ok(question) => plan_for(alloc, question),
+        Entry::Open(right) => match &asked.question {
+            Ok(question) => plan_if(alloc, right, question),
             Err(refusal) => Plan::Refused(*refusal),
         },
+        Entry::Free => plan_free(&asked.question),
         Entry::HostMissing => fault(Fault::HostMissing, None),
         Entry::Stranger(cause) => fault(cause, None),
         Entry::Conditional => fault(Fault::PreconditionFailed, None),
@@ -86,20 +92,47 @@ fn plan_of(alloc: Global, asked: &Asked) -> Plan
     }
 }
 
-/// What is done about a question of whoever may ask.
-fn plan_for(alloc: Global, question: &Question) -> Plan
-    ensures { IsPlanFor question.now result }
+/// What is done about a question of whoever shows no token.
+fn plan_free(question: &Result<Question, Refusal>) -> Plan
+    ensures { IsFreePlan question.now result }
 {
     match question {
-        Question::Ask(request) | Question::Live(request) => match copy_request(alloc, request) {
-            Ok(request) => Plan::Ask(request),
-            Err(refusal) => Plan::Refused(refusal),
-        },
-        Question::Many(writes) => match Batch::new(alloc, writes.as_slice()) {
+        Ok(Question::Page) => Plan::Told(answer_of(StatusCode::OK, Content::Html), PAGE),
+        Ok(Question::Health) => Plan::Health,
+        Ok(Question::TooLong) => fault(Fault::ContentTooLarge, None),
+        _ => Plan::NotAdmitted,
+    }
+}
+
+/// What is done about a question: nothing, where its right does not allow it.
+fn plan_if(alloc: Global, right: Right, question: &Question) -> Plan
+    ensures { IsPlanIf (may_ask right question.now) right question.now result }
+{
+    if may_ask(&right, question) {
+        return plan_for(alloc, right, question);
+    }
+    Plan::Told(
+        answer_of(StatusCode::FORBIDDEN, Content::Json),
+        NOT_ADMITTED,
+    )
+}
+
+/// What is done about a question of whoever may ask it.
+fn plan_for(alloc: Global, right: Right, question: &Question) -> Plan
+    ensures { IsPlanFor right question.now result }
+{
+    match question {
+        Question::Ask(request) | Question::Live(request) | Question::Texts(request) => {
+            match copy_request(alloc, request) {
+                Ok(request) => Plan::Ask(request),
+                Err(refusal) => Plan::Refused(refusal),
+            }
+        }
+        Question::Many(writes) => match Batch::new(alloc, right, writes.as_slice()) {
             Ok(batch) => Plan::Writes(batch),
             Err(refusal) => Plan::Refused(refusal),
         },
-        Question::Asks(_) => Plan::Asks,
+        Question::Asks(..) => Plan::Asks(right),
         Question::Listed(..) => Plan::Listed,
         Question::BadLine(line) => Plan::BadLine(*line),
         Question::Changes(since, wait, _) => Plan::Changes(*since, *wait),
@@ -107,6 +140,7 @@ fn plan_for(alloc: Global, question: &Question) -> Plan
         Question::Root => Plan::Root,
         Question::Metrics => Plan::Metrics,
         Question::Health => Plan::Health,
+        Question::Stop => Plan::Stop,
         Question::TooLong => fault(Fault::ContentTooLarge, None),
         Question::Misread(refusal, _) => Plan::Refused(*refusal),
         Question::Nowhere => fault(Fault::NotFound, None),
@@ -145,7 +179,7 @@ fn fault(cause: Fault, allow: Option<Methods>) -> Plan
 /// next round, and others are answered at once, or it is told what is left to do.
 pub(crate) fn ask<S: Alter + Drop>(
     alloc: Global,
-    guard: Option<&Guard>,
+    passes: Option<&Passes>,
     names: &Names,
     hand: &mut AtHand,
     web: &mut WebConnection,
@@ -154,23 +188,27 @@ pub(crate) fn ask<S: Alter + Drop>(
     changes: &Feed,
     counts: &mut Counts,
 ) -> Rest
-    ensures { AsksNextOf (option_copied guard.entry) (named_by names.now) number
+    ensures { AsksNextOf (option_copied passes.entry) (named_by names.now) number
         (web_of web.old) hand.old (web_of web.new) hand.new result }
 {
-    if !web.next(guard, names) {
+    if !web.next(passes, names) {
         return Rest::Nothing;
     }
     let plan = match web.asked() {
         Some(asked) => plan_of(alloc, asked),
         None => return Rest::Nothing,
     };
-    carry_out(alloc, plan, hand, web, number, replica, changes, counts)
+    let is_guarded = passes.is_some();
+    carry_out(
+        alloc, plan, is_guarded, hand, web, number, replica, changes, counts,
+    )
 }
 
 /// Does what is to be done about the request that waits.
 fn carry_out<S: Alter + Drop>(
     alloc: Global,
     plan: Plan,
+    is_guarded: bool,
     hand: &mut AtHand,
     web: &mut WebConnection,
     number: u64,
@@ -178,7 +216,8 @@ fn carry_out<S: Alter + Drop>(
     changes: &Feed,
     counts: &mut Counts,
 ) -> Rest
-    ensures { DoesPlan number plan (web_of web.old) hand.old (web_of web.new) hand.new result }
+    ensures does { DoesPlan number plan (web_of web.old) hand.old (web_of web.new) hand.new result }
+    ensures guarded { result ≡ Stops → is_guarded ≡ true }
 {
     match plan {
         Plan::Ask(request) => {
@@ -189,8 +228,8 @@ fn carry_out<S: Alter + Drop>(
         Plan::Changes(since, wait) => {
             wait_or_tell(alloc, web, replica, changes, since, wait, counts)
         }
-        Plan::Asks => {
-            tell_asks(alloc, web, replica, counts);
+        Plan::Asks(right) => {
+            tell_asks(alloc, right, web, replica, counts);
             Rest::Nothing
         }
         Plan::Listed => {
@@ -213,6 +252,7 @@ fn carry_out<S: Alter + Drop>(
             tell_health(alloc, web, replica, counts);
             Rest::Nothing
         }
+        Plan::Stop => stop_if(web, counts, is_guarded),
         Plan::Told(answer, body) => {
             respond(web, counts, answer, body);
             Rest::Nothing
@@ -264,6 +304,25 @@ fn wait_or_tell<S: Alter + Drop>(
     Rest::Nothing
 }
 
+/// Tells that the server ends, where tokens are asked for.
+fn stop_if(web: &mut WebConnection, counts: &mut Counts, is_guarded: bool) -> Rest
+    ensures { StopsIf is_guarded (web_of web.old) (web_of web.new) result }
+{
+    if is_guarded {
+        let answer = answer_of(StatusCode::ACCEPTED, Content::Nothing);
+        respond(web, counts, answer, "");
+        return Rest::Stops;
+    }
+    let cause = Fault::NotFound;
+    respond(
+        web,
+        counts,
+        answer_of(cause.status(), Content::Json),
+        cause.body(),
+    );
+    Rest::Nothing
+}
+
 /// Tells that a token is asked for.
 fn ask_token(web: &mut WebConnection, counts: &mut Counts)
     ensures { RespondsTo (web_of web.old).asked (web_of web.old) token_answer not_admitted (web_of web.new) }
@@ -273,37 +332,6 @@ fn ask_token(web: &mut WebConnection, counts: &mut Counts)
         ..answer_of(StatusCode::UNAUTHORIZED, Content::Json)
     };
     respond(web, counts, answer, NOT_ADMITTED);
-}
-
-fn tell_root<S: Alter + Drop>(
-    alloc: Global,
-    web: &mut WebConnection,
-    replica: &Replica<S>,
-    counts: &mut Counts,
-)
-    ensures { TellsBody Json (web_of web.old) (web_of web.new) }
-{
-    let mut body = String::new(alloc);
-    let pushed = push_root_of(alloc, replica, &mut body);
-    tell_pushed(alloc, web, pushed, body.as_str(), counts);
-}
-
-fn push_root_of<S: Alter + Drop>(
-    alloc: Global,
-    replica: &Replica<S>,
-    body: &mut String,
-) -> Result<(), Refusal> {
-    let digest = replica.root()?;
-    let keys = u64::from(replica.key_count());
-    let conflicts = u64::from(replica.conflict_count());
-    push_root(
-        alloc,
-        body,
-        digest,
-        keys,
-        conflicts,
-        replica.config().site(),
-    )
 }
 
 /// Tells what changed since a root.
@@ -323,50 +351,6 @@ fn tell_changes<S: Alter + Drop>(
         None => Err(Refusal::BadKind),
     };
     tell_pushed(alloc, web, pushed, body.as_str(), counts);
-}
-
-/// Tells that the server can answer, unless its site is broken.
-fn tell_health<S: Alter + Drop>(
-    alloc: Global,
-    web: &mut WebConnection,
-    replica: &Replica<S>,
-    counts: &mut Counts,
-)
-    ensures { TellsBody Json (web_of web.old) (web_of web.new) }
-{
-    match replica.root() {
-        Ok(_) => respond(web, counts, answer_of(StatusCode::OK, Content::Json), READY),
-        Err(refusal) => refuse(alloc, web, counts, refusal),
-    }
-}
-
-fn tell_metrics<S: Alter + Drop>(
-    alloc: Global,
-    web: &mut WebConnection,
-    replica: &Replica<S>,
-    counts: &mut Counts,
-)
-    ensures { TellsBody Plain (web_of web.old) (web_of web.new) }
-{
-    let mut body = String::new(alloc);
-    counts.census.go_on(alloc, replica.site());
-    let config = replica.config();
-    let now = Now {
-        site: config.site(),
-        max_keys: config.max_keys(),
-        keys: replica.key_count(),
-        conflicts: replica.conflict_count(),
-        commits: replica.commits(),
-    };
-    match counts.print(now, &mut body) {
-        Ok(()) => respond(
-            web,
-            counts,
-            answer_of(StatusCode::OK, Content::Plain),
-            body.as_str(),
-        ),
-        Err(refusal) => refuse(alloc, web, counts, refusal),
-    }
 }
 
 /// Puts down the line of a reply to one of the writes of a client, if there is a reply, and queues the response once all

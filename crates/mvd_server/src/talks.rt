@@ -1,5 +1,6 @@
 //! What the clients say, in frames or over HTTP.
 mod comings;
+mod meeting;
 mod talk_bytes;
 mod waking;
 
@@ -14,7 +15,7 @@ use crate::gate::{Rest, answer_writes, ask};
 use crate::metrics::Counts;
 use crate::parked::Parked;
 use crate::responding::{refuse, tell_reply};
-use mvd_conn::Guard;
+use mvd_conn::Passes;
 use mvd_dots::Refusal;
 use mvd_host::{AtHand, FIRST_AT_HAND, Feed, Host};
 use mvd_http::Names;
@@ -38,8 +39,8 @@ pub(crate) enum Kind {
 #[derive(Drop)]
 pub(crate) struct Talks {
     pub host: Host,
-    /// Who may come in: whoever shows its token, or everybody.
-    guard: Option<Guard>,
+    /// Who may come in: whoever shows the token of one of these, or everybody.
+    passes: Option<Passes>,
     /// By which names it is asked, and of which origins a page may ask.
     names: Names,
     hand: AtHand,
@@ -54,6 +55,8 @@ pub(crate) struct Talks {
     /// The most that may wait so.
     waits_max: usize,
     pub woken: Vec<u64>,
+    /// A client asked that the server ends.
+    pub is_ending: bool,
     /// The numbers of those of the host's clients that are this server's own, for sessions with its peers.
     pub own: Vec<u64>,
     alloc: Global,
@@ -65,16 +68,16 @@ impl Talks {
     pub fn new(
         alloc: Global,
         keys: RandomState,
-        guard: Option<Guard>,
+        passes: Option<Passes>,
         names: Names,
         own: usize,
         waits_max: usize,
     ) -> Result<Talks, AllocError>
-        ensures { IfOk result (λ talks. talking_of talks ≡ new_talking guard (named_by names)) }
+        ensures { IfOk result (λ talks. talking_of talks ≡ new_talking passes (named_by names)) }
     {
         Ok(Talks {
             host: Host::new(alloc),
-            guard,
+            passes,
             names,
             hand: AtHand::new(alloc),
             webs: BTreeMap::new(alloc),
@@ -84,6 +87,7 @@ impl Talks {
             parked: Parked::new(alloc),
             waits_max,
             woken: Vec::new(alloc),
+            is_ending: false,
             own: Vec::with_capacity(alloc, own)?,
             alloc,
             keys,
@@ -110,6 +114,7 @@ impl Talks {
         }
         // The round before has left nothing to tell.
         self.tell_all(counts);
+        self.meet_all(ready);
         // Where memory was refused for a frame, there may be more, but not at once.
         let changes = counts.tally.changes();
         let round = self.host.round(
@@ -146,7 +151,7 @@ impl Talks {
         };
         let rest = ask(
             self.alloc,
-            self.guard.as_ref(),
+            self.passes.as_ref(),
             &self.names,
             &mut self.hand,
             web,
@@ -157,6 +162,7 @@ impl Talks {
         );
         match rest {
             Rest::Nothing => {}
+            Rest::Stops => self.is_ending = true,
             Rest::Writes(batch) => self.begin_writes(batch, number, counts),
             Rest::Waits(root, wait) => {
                 let due = now.saturating_add(u64::from(wait).saturating_mul(1_000));

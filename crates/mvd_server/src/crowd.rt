@@ -145,9 +145,16 @@ impl Crowd {
         more
     }
 
-    /// Tells those that have waited for a change for long enough, and lists all that were told. Where the server is to
-    /// end, all are.
+    /// Tells those that have waited for a change for long enough. Where the server is to end, all clients come to theirs.
     pub fn wake(&mut self, ready: &mut Vec<u64>)
+        ensures { TalksDeeds self.old.talks self.new.talks }
+    {
+        self.wake_waiting(ready);
+        self.close_if_asked(ready);
+    }
+
+    /// Tells those that have waited for a change for long enough, and lists all that were told.
+    fn wake_waiting(&mut self, ready: &mut Vec<u64>)
         ensures { TalksDeeds self.old.talks self.new.talks }
     {
         self.talks.end_waits(self.now, &mut self.counts);
@@ -157,7 +164,6 @@ impl Crowd {
             }
         }
         self.talks.woken.clear();
-        self.close_if_asked(ready);
     }
 
     /// When a client is to be looked after next.

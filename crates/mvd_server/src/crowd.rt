@@ -39,6 +39,9 @@ const AWAY: u64 = 1 << 63;
 /// The most milliseconds that a client has to take its last frame, and then to end.
 const LINGER: u64 = 2_000;
 
+/// The most milliseconds that what goes on has to end, where the server is to end.
+pub(crate) const LAST: u64 = 10_000;
+
 /// The clients' sockets, their connections, and what is told of those that ended.
 #[derive(Drop)]
 pub(crate) struct Crowd {

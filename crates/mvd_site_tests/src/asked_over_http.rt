@@ -1,8 +1,8 @@
 //! A site, asked over HTTP.
 use crate::key_requests::{ESCAPES, REFUSALS, WRITES};
 use crate::list_requests::{LISTS, OTHERS};
-use crate::page_requests::PAGES;
 use crate::many_requests::{MANY, OTHER_LINES, REFUSED_LINES};
+use crate::page_requests::PAGES;
 use crate::state_requests::{REFUSED_STATES, STATES};
 use mvd_docs::{Field, ViewName};
 use mvd_dots::Refusal;
@@ -189,7 +189,14 @@ fn tell_since(
     out.push_str(followed.prefix.text())?;
     if followed.states.is_some() {
         let keys = Vec::from_array(alloc, [Key::read(alloc, "k")?, Key::read(alloc, "none")?])?;
-        push_changed(alloc, &SiteStates { site }, followed.states, [0; 32], &keys, out)?;
+        push_changed(
+            alloc,
+            &SiteStates { site },
+            followed.states,
+            [0; 32],
+            &keys,
+            out,
+        )?;
     }
     Ok(200)
 }
@@ -229,12 +236,19 @@ fn question(alloc: Global, row: &Row) -> Result<Question, Refusal> {
     question_of(alloc, row.0.as_bytes(), row.1.as_bytes(), context, row.3)
 }
 
+fn refused(out: &mut String, refusal: Refusal) -> Result<u16, Refusal> {
+    Ok(refused_response(out, refusal)?)
+}
+
 /// The status that a request is told.
 fn status_of(alloc: Global, site: &mut Site, row: &Row, out: &mut String) -> Result<u16, Refusal> {
-    match question(alloc, row) {
-        Ok(asked) => told(alloc, site, &asked, out),
-        Err(refusal) => Ok(refused_response(out, refusal)?),
-    }
+    let asked = question(alloc, row);
+    let status = match &asked {
+        Ok(asked) => told(alloc, site, asked, out),
+        Err(refusal) => refused(out, *refusal),
+    };
+    drop(asked);
+    status
 }
 
 /// Whether a request is told just that.

@@ -222,7 +222,14 @@ pub const OTHER_LINES: &[Row] = &[
         400,
         "{\"refused\":1,\"name\":\"BadKey\"}",
     ),
-    ("GET", "/changes?prefix=a%62&wait=1", None, b"", 200, "None 1ab"),
+    (
+        "GET",
+        "/changes?prefix=a%62&wait=1",
+        None,
+        b"",
+        200,
+        "None 1ab",
+    ),
     (
         "GET",
         "/changes?states=1",

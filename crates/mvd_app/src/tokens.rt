@@ -30,14 +30,24 @@ pub(crate) fn tokens_in<'a>(
 }
 
 /// What a command is stopped with by a file with tokens.
-#[tactic(auto, using(crate::proofs::Stops::token_memory, crate::proofs::Stops::token_none, crate::proofs::Stops::token_unread))]
+#[tactic(auto, using(crate::proofs::Stops::token_unread))]
 fn stopped_by<'a>(file: &'a str, fault: TokensFault) -> Stop<'a>
     ensures { IsUnreadSo fault → IsTokenFault file.entry result.fault result.hint }
 {
     match fault {
         TokensFault::Unread(fault) => Stop::in_token_file(file, fault),
-        TokensFault::Bad(PassFault::Memory) => Stop::from(Refusal::Memory),
-        TokensFault::Bad(fault) => Stop::no_token(file, fault),
+        TokensFault::Bad(fault) => bad_file(file, fault),
+    }
+}
+
+/// What a command is stopped with by a file that is none with tokens. Want of memory is told as such.
+#[tactic(auto, using(crate::proofs::Stops::token_memory, crate::proofs::Stops::token_none))]
+fn bad_file<'a>(file: &'a str, fault: PassFault) -> Stop<'a>
+    ensures { IsTokenFault file.entry result.fault result.hint }
+{
+    match fault {
+        PassFault::Memory => Stop::from(Refusal::Memory),
+        fault => Stop::no_token(file, fault),
     }
 }
 

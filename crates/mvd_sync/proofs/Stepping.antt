@@ -88,7 +88,7 @@ pub read_is : {A B : Type 0} (IsOf : A → B → Type 0) (IsNone : A → Type 0)
     → ReadsAll IsOf IsNone (Ok told) share.asked share.wanted result → IsRead IsOf IsNone (Ok told.items) share result
 read_is IsOf IsNone told share (Ok read) counted h = record { answers = told.items; is = refl; counted = counted; whole = h.1; each = h.0 }
 read_is IsOf IsNone told share (Err refusal) counted (inl why) = of_answer told.items refl why
-read_is IsOf IsNone told share (Err refusal) counted (inr few) = of_questions few.1 few.0
+read_is IsOf IsNone told share (Err refusal) counted (inr few) = of_questions told.items refl few.1 few.0
 
 each_long : {A B : Type 0} (P : A → B → Type 0) (qs : List A) (bs : List B) → ForEach P qs bs → length bs ≡ length qs
 each_long P [] [] h = refl

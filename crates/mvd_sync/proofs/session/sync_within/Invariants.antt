@@ -1,0 +1,17 @@
+use Rattle.std.proofs.Common.{◌+◌}
+use Rattle.mvd_peer.specs.PeerSides.{sides_of}
+use Rattle.mvd_peer.specs.Sides.{two}
+use Rattle.mvd_sync.specs.Machines.{Machining, Starts}
+use Rattle.mvd_sync.specs.Ran.{RunsTo, now_at}
+use Rattle.mvd_sync.proofs.session.sync_within.Given as goal
+
+-- it is a run so far
+abbrev pub invariant-windows : goal.invariant-windows
+invariant-windows g l = record {
+  begun : Machining;
+  starts : Starts (g.L.Peer.number l.fn.local) l.fn.questions begun;
+  runs : RunsTo (sides_of g.L.Peer g.P.Peer) (record { machine = begun; at = two l.fn.local l.fn.peer }) (now_at l.machine l.local l.peer);
+}
+
+abbrev pub decreases-windows : goal.decreases-windows
+decreases-windows g l = l.machine.left.local + l.machine.left.peer

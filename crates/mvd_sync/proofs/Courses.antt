@@ -220,6 +220,16 @@ module _ {L P : Type 0} (l : SideOf L) (p : SideOf P) (a : Laws l) (b : Laws p) 
         (says_both w.next r.at new w.mine w.theirs next_stands w.goes.asks.1 local_says peer_says w.takes.after (sym is ∙ w.takes.is) w.takes.hears)
         (record { after = w.takes.after; hears = w.takes.hears; stage = w.takes.stage; is = sym is ∙ w.takes.is })
 
+  -- it is over
+  pub over_runs : (begun r : Running L P) (done : Machining) (local : L) (peer : P) → RunsTo (sides l p) begun r → HasNext r.machine done None → local ≡ r.at.local → peer ≡ r.at.peer → (done.stage ≡ Done) × RunsTo (sides l p) begun (now_at done local peer)
+  over_runs begun r done local peer run h same same' =
+      let went = runs_went begun r.at r.machine.left r.machine.work r.machine.stage run h.went in
+      let is : r.at ≡ two local peer = λ i. two (sym same i) (sym same' i) in (
+        h.asks,
+        subst (λ (at : Two L P). RunsTo (sides l p) begun (record { machine = done; at = at })) is
+            (subst (λ (q : Questions). RunsTo (sides l p) begun (record { machine = record { left = q; work = done.work; stage = done.stage }; at = r.at })) (sym h.left) went),
+      )
+
   -- ---- a session
 
   -- A SESSION THAT IS DONE
@@ -263,4 +273,4 @@ module _ {L P : Type 0} (l : SideOf L) (p : SideOf P) (a : Laws l) (b : Laws p) 
 
   pub fault_is_session : (new : Two L P) (fault : SyncFault) → EndsRun (sides l p) most old new fault → SessionBy l p most old.local new.local old.peer new.peer (Err fault)
   fault_is_session new fault (before memory same) = subst (λ f. EndsAt l p most old new f) (sym memory) (subst (λ x. EndsAt l p most old x (Local Memory)) (sym same) nothing_asked)
-  fault_is_session new fault (after begun now starts run ends) = ends_session now new fault (runs_stand begun starts run) ends
+  fault_is_session new fault (after begun starts e) = ends_session e.now new fault (runs_stand begun starts e.runs) e.ends

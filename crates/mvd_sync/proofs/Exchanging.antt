@@ -1,6 +1,6 @@
 -- The keys that wait are exchanged, or one more waits.
-use Rattle.std.proofs.Common.{◌≡◌, ◌≢◌, ℕ, Option, ◌+◌, ◌<◌, ◌≤◌, List, [], ◌∷◌, ◌++◌, length, map, refl, sym, ap, subst, ◌∙◌, arith, length-append}
-use Rattle.std.specs.Prelude.{Result, Ok, Err, is_some}
+use Rattle.std.proofs.Common.{◌≡◌, ◌≢◌, ℕ, Option, ◌+◌, ◌<◌, ◌≤◌, List, [], ◌∷◌, ◌++◌, length, map, refl, sym, ap, subst, ◌∙◌, arith, length-append, ◌↔◌, Bool, true, false, true≢false, inl, inr}
+use Rattle.std.specs.Prelude.{◌⊎◌, Result, Ok, Err, is_some}
 use Rattle.std.proofs.lemmas.List.{append-nil, length-map}
 use Rattle.mvd_dots.specs.declared.refusals.Refusal.{Refusal}
 use Rattle.mvd_dots.specs.declared.refusals.Refusal.TheVariants.{Broken, Memory}
@@ -206,3 +206,14 @@ module _ {L P : Type 0} (l : SideOf L) (p : SideOf P) {B : Type 0} (self : (s : 
               still = (t, u);
             };
       }
+
+-- a window that is not full
+pub low_of : (full : Bool) (most n m : ℕ) → ((full ≡ true) ↔ (most ≤ n)) → full ≡ false → n ≡ m → m < most
+low_of full most n m h no_room e = elim (Rattle.std.proofs.lemmas.Bool.cases_lt m most) [
+  | inl less ↦ less
+  | inr more ↦ absurd (true≢false (sym (h.1 (omega (arith, more, e))) ∙ no_room))
+]
+
+pub short_of : (full : Bool) (n m : ℕ) → (full ≡ true) ⊎ (n < 1000) → full ≡ false → n ≡ m → m < 1000
+short_of full n m (inl is) no_room e = absurd (true≢false (sym is ∙ no_room))
+short_of full n m (inr low) no_room e = omega (arith, low, e)

@@ -49,3 +49,4 @@ pub mod AmidAlone
 pub mod AmidSaid
 pub mod AmidHears
 pub mod Courses
+pub mod Refusing

@@ -127,8 +127,14 @@ pub data EndsBy {L P : Type 0} (s : Sides L P) (old : Running L P) (new : Two L 
   answered : (after : Machining) → TakesWindow s old (record { machine = after; at = new }) (Err fault)
       → EndsBy s old new fault
 
--- A SESSION THAT ENDED BY A FAULT was a run up to there
+-- it was a run up to there
+pub record EndsAfter {L P : Type 0} (s : Sides L P) (old : Running L P) (new : Two L P) (fault : SyncFault) : Type 0 where
+  pub now : Running L P
+  pub runs : RunsTo s old now
+  pub ends : EndsBy s now new fault
+
+-- A SESSION THAT ENDED BY A FAULT was a run up to there, or had not begun
 pub data EndsRun {L P : Type 0} (s : Sides L P) (questions : ℕ) (old new : Two L P) (fault : SyncFault) : Type 0 where
   before : fault ≡ Local Memory → new ≡ old → EndsRun s questions old new fault
-  after : (begun : Machining) (now : Running L P) → Starts (s.local.number old.local) questions begun
-      → RunsTo s (record { machine = begun; at = old }) now → EndsBy s now new fault → EndsRun s questions old new fault
+  after : (begun : Machining) → Starts (s.local.number old.local) questions begun
+      → EndsAfter s (record { machine = begun; at = old }) new fault → EndsRun s questions old new fault

@@ -1,10 +1,11 @@
 //! Sessions of two sides.
-ghost use Rattle.std.specs.Prelude.{◌≡◌, ◌≤◌, MatchBool, None, Ok, IfErr, IfOk};
-ghost use Rattle.mvd_sync.specs.Machines.{HasNext};
-ghost use Rattle.mvd_sync.specs.Ran.{EndsBy, EndsRun, IsRun, TakesWindow, now_at};
+ghost use Rattle.std.specs.Prelude.{◌≡◌, ◌≤◌, ℕ, MatchBool, None, Ok, IfErr, IfOk, OnOk};
+ghost use Rattle.mvd_sync.specs.Machines.{HasNext, Starts};
+ghost use Rattle.mvd_sync.specs.Ran.{EndsAfter, EndsBy, EndsRun, IsRun, RunsTo, TakesWindow, now_at};
 ghost use Rattle.mvd_sync.specs.Session.{Session};
 ghost use Rattle.mvd_peer.specs.PeerSides.{sides_of};
 ghost use Rattle.mvd_peer.specs.Sides.{two};
+ghost use Rattle.mvd_sync.specs.declared.stage.Stage.TheVariants.{Done};
 
 use crate::asking::ask;
 use crate::machine::Machine;
@@ -41,6 +42,30 @@ fn go_on<L: Peer, P: Peer>(
     }
 }
 
+/// Asks both sides window after window, until the session is done.
+fn converse<L: Peer, P: Peer>(
+    machine: &mut Machine,
+    local: &mut L,
+    peer: &mut P,
+) -> Result<(), SyncFault>
+    requires starts { (questions : ℕ) × Starts (L.number local.old) questions machine.old }
+    ensures done { OnOk result ((machine.new.stage ≡ Done)
+        × RunsTo (sides_of L.Peer P.Peer) (now_at machine.old local.old peer.old)
+        (now_at machine.new local.new peer.new)) }
+    ensures ended { IfErr result (EndsAfter (sides_of L.Peer P.Peer) (now_at machine.old local.old peer.old)
+        (two local.new peer.new)) }
+{
+    'windows: loop {
+        let more = match go_on(machine, local, peer) {
+            Ok(more) => more,
+            Err(fault) => return Err(fault),
+        };
+        if !more {
+            return Ok(());
+        }
+    }
+}
+
 /// Compares two sides from the root, level by level, and exchanges what differs, with at most so many questions to each
 /// side; one more would end it as that side's 36. Keys whose pushes are refused with 9, 10 or 11 are left. It stops at
 /// any other refusal, and the pushes already made stay.
@@ -63,8 +88,10 @@ pub fn sync_within<L: Peer, P: Peer>(
         Ok(machine) => machine,
         Err(fault) => return Err(fault),
     };
-    'windows: while go_on(&mut machine, local, peer)? {}
-    Ok(machine.report())
+    match converse(&mut machine, local, peer) {
+        Ok(()) => Ok(machine.report()),
+        Err(fault) => Err(fault),
+    }
 }
 
 /// Compares two sides from the root, and exchanges what differs, with at most `MOST_QUESTIONS` to each side.

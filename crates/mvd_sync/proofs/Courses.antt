@@ -164,7 +164,7 @@ module _ {L P : Type 0} (l : SideOf L) (p : SideOf P) (a : Laws l) (b : Laws p) 
   owes_some : (k : AtBuckets l p most old) (walk : Walking) (entries : List Entry) (before' : Moment L P) → Owes l p most old k walk entries before' → 1 ≤ length entries
   owes_some k walk entries before' (of_key e found differs is) = let n = ap length is in let m = length-append before'.work.waiting (e ∷ []) in omega (arith, n, m)
   owes_some k walk entries before' (at_last over walked some is) =
-      elim (cases_lt (length entries) 1) [ | inl none ↦ absurd (some (sym is ∙ none_long entries (omega (arith, none)))) | inr one ↦ one ]
+      elim (cases_lt (length entries) 1) [ inl none ↦ absurd (some (sym is ∙ none_long entries (omega (arith, none)))) | inr one ↦ one ]
 
   some_asked : (stage : Stage) (now : Moment L P) → Stands l p most old stage now → StageAsks stage → 1 ≤ wanted_count AtLocal stage + wanted_count AtPeer stage
   some_asked (Descends level) now h asks =

@@ -12,12 +12,19 @@ PROGRAM is `mvd` as built. It tells what it tried, and ends with 1 at the first 
 - a body of 1 MiB of a request without the token costs less than a tenth of the processor's time that it costs with it;
 - sessions and shells say Hello with the token of their own file, also between servers; with another file, or none, they are
   told 38 with a hint;
-- token files that are missing, too short, too long, or hold a space are told with a hint, and no database is made;
+- token files that are missing, too short, too long, hold a token twice, or a line that is none, are told with a hint that
+  names the line, and no database is made;
+- rights, over frames and over HTTP, of four tokens (all; to read; below a prefix; to read below it): each line of the table;
+  what is not allowed is told 38, over HTTP 403, in a list in its own line, the site stays, and the connection goes on;
+- rotation: the file is written anew, without one token and with another: at once, with no restart, the other is let in, the
+  one is not, and a connection that showed it ends with 38 at its next frame; a file of wrong form changes nothing, and is
+  told once on standard error;
 - in nothing that a server or a client prints stands the token, nor in the metrics, nor in the file of the site.
 The files are made in TMPDIR (else /tmp).
 """
 import atexit
 import http.client
+import json
 import os
 import socket
 import struct
@@ -262,18 +269,172 @@ def open_to_all(place, right):
     server.ends()
 
 
+ALL, READS, BELOW, READS_BELOW = "all-that-there-is", "who-reads-it-all!", "writes-below-u1/!", "reads-below-u1/!!"
+RIGHTS = f"{ALL}\n{READS} read\n{BELOW} write u1/\n{READS_BELOW} read u1/\n"
+
+
+def name16(text):
+    return struct.pack(">H", len(text)) + text.encode()
+
+
+def put_frame(name):
+    return frame(0x22, key(name) + struct.pack(">I", 0) + struct.pack(">I", len(DOCUMENT)) + DOCUMENT)
+
+
+# a request, its frame, and which of the four tokens allow it
+TERM = b"\x03" + struct.pack(">q", 1)
+FRAMES = [
+    ("Get within", frame(0x21, key("u1/x")), "yyyy"), ("Get beyond", frame(0x21, key("u2/x")), "yynn"),
+    ("Put within", put_frame("u1/x"), "ynyn"), ("Put beyond", put_frame("u2/x"), "ynnn"),
+    ("Delete within", frame(0x23, key("u1/x") + bytes(4)), "ynyn"), ("Delete beyond", frame(0x23, key("u2/x") + bytes(4)), "ynnn"),
+    ("Push within", frame(0x29, key("u1/x") + bytes(6)), "ynyn"), ("Push beyond", frame(0x29, key("u2/x") + bytes(6)), "ynnn"),
+    ("Keys of the prefix", frame(0x2B, key("u1/") + b"\0"), "yyyy"), ("Keys of a longer one", frame(0x2B, key("u1/x") + b"\0"), "yyyy"),
+    ("Keys of a front of it", frame(0x2B, key("u") + b"\0"), "yynn"), ("Keys of all", frame(0x2B, b"\0\0"), "yynn"),
+    ("Find", frame(0x24, name16("a") + TERM + b"\0"), "yynn"), ("Row", frame(0x25, name16("v") + TERM), "yynn"),
+    ("Rows", frame(0x26, name16("v") + b"\0"), "yynn"), ("Node", frame(0x27, b"\0"), "yynn"),
+    ("Bucket", frame(0x28, b"\3\0\0\0\0"), "yynn"), ("Range", frame(0x2A, name16("a") + TERM + TERM + b"\0"), "yynn"),
+    ("Conflicts", frame(0x2C, b"\0"), "yynn"), ("Hello", hello(OTHER), "yyyy"),
+]
+
+# the same over HTTP: a method, a path and a body
+ASKED = [
+    ("GET", "/keys/u1%2Fx", None, "yyyy"), ("GET", "/keys/u2%2Fx", None, "yynn"),
+    ("PUT", "/keys/u1%2Fx", DOCUMENT, "ynyn"), ("PUT", "/keys/u2%2Fx", DOCUMENT, "ynnn"),
+    ("DELETE", "/keys/u1%2Fx", None, "ynyn"), ("DELETE", "/keys/u2%2Fx", None, "ynnn"),
+    ("GET", "/keys?prefix=u1/", None, "yyyy"), ("GET", "/keys?prefix=u1/x&live=1", None, "yyyy"),
+    ("GET", "/keys?prefix=u", None, "yynn"), ("GET", "/keys", None, "yynn"), ("GET", "/conflicts", None, "yynn"),
+    ("GET", "/index/a?is=1", None, "yynn"), ("GET", "/views/v/rows", None, "yynn"), ("GET", "/views/v/row?is=1", None, "yynn"),
+    ("GET", "/tree?path=", None, "yynn"), ("GET", "/root", None, "yynn"), ("GET", "/metrics", None, "yynn"),
+    ("GET", "/changes", None, "yynn"), ("GET", "/changes?prefix=u", None, "yynn"), ("GET", "/changes?states=1", None, "yynn"),
+    ("GET", "/changes?prefix=u1/", None, "yyyy"), ("GET", "/changes?prefix=u1/x&states=1", None, "yyyy"),
+    ("GET", "/keys?prefix=u1/&digests=1", None, "yyyy"), ("GET", "/keys?prefix=u&digests=1", None, "yynn"),
+    ("GET", "/keys?digests=1&live=1", None, "yynn"), ("GET", "/tree?path=000", None, "yynn"), ("GET", "/", None, "yyyy"), ("GET", "/health", None, "yyyy"), ("GET", "/nowhere", None, "yyyy"),
+]
+
+# lists: which of the lines each token allows, all of `u1/x` and of `u2/x`
+LISTS = [
+    ("/get", b'"u1/x"\n"u2/x"\n', ["yy", "yy", "yn", "yn"]),
+    ("/keys", b'{"key":"u1/x","document":{}}\n{"key":"u2/x","document":{}}\n', ["yy", "nn", "yn", "nn"]),
+    ("/push", b'{"key":"u1/x","context":"-","siblings":[]}\n{"key":"u2/x","context":"-","siblings":[]}\n', ["yy", "nn", "yn", "nn"]),
+]
+
+
+def of_rights(place):
+    server = Server(place, "rights.db", 7, "--token-file", place.token_file("rights", RIGHTS))
+    tokens = [ALL, READS, BELOW, READS_BELOW]
+    root = lambda: server.asked("GET", "/root", f"Bearer {ALL}")[2]
+    for name, sent, wanted in FRAMES:
+        for token, allowed in zip(tokens, wanted):
+            before = root()
+            told = server.told(hello(token) + sent + BYE)
+            if (told == DONE + REFUSED + DONE) == (allowed == "y") or told[:5] != DONE or told[-5:] != DONE:
+                miss(f"{name} of {token} was told {told}")
+            if allowed == "n" and root() != before:
+                miss(f"{name} of {token} changed the site")
+    for method, path, body, wanted in ASKED:
+        for token, allowed in zip(tokens, wanted):
+            before = root()
+            status, fields, told = server.asked(method, path, f"Bearer {token}", body, {"Mvd-Context": "-"})
+            if ((status, told) == (403, UNTOLD)) == (allowed == "y") or status == 401:
+                miss(f"{method} {path} of {token} was told {status} {told}")
+            if allowed == "n" and root() != before:
+                miss(f"{method} {path} of {token} changed the site")
+    for path, body, wanted in LISTS:
+        for token, allowed in zip(tokens, wanted):
+            status, fields, told = server.asked("POST", path, f"Bearer {token}", body)
+            lines = told.splitlines()
+            if status != 200 or len(lines) != 2 or ["n" if '"refused":38' in line else "y" for line in lines] != list(allowed):
+                miss(f"POST {path} of {token} was told {status} {told}")
+            if path == "/get" and token == READS_BELOW and lines[1] != '{"key":"u2/x","refused":38,"name":"NotAdmitted"}':
+                miss(f"a key that may not be asked for was told {lines[1]}")
+    for token, allowed in zip(tokens, "yynn"):
+        status, fields, told = server.asked("GET", "/tree?paths=,0,000", f"Bearer {token}")
+        lines = told.splitlines()
+        if status != 200 or [f'"refused":38' in line for line in lines] != [allowed == "n"] * 3:
+            miss(f"three paths of {token} were told {status} {told}")
+    changes_within(server)
+    server.ends()
+
+
+def changes_within(server):
+    """Of a prefix a client is told what changed below it, and of no other key, however it asks."""
+    whole, below = f"Bearer {ALL}", f"Bearer {READS_BELOW}"
+    start = json.loads(server.asked("GET", "/root", whole)[2])["root"]
+    for name in "u1/one", "u2/two", "u1/three", "v":
+        if server.asked("PUT", f"/keys/{name}".replace("u1/", "u1%2F").replace("u2/", "u2%2F"), whole, DOCUMENT)[0] != 201:
+            miss(f"{name} was not put")
+    told = json.loads(server.asked("GET", f"/changes?prefix=u1/&since={start}", below)[2])
+    if sorted(told["keys"]) != ["u1/one", "u1/three"] or told["resync"]:
+        miss(f"of a prefix it is told {told}")
+    states = server.asked("GET", f"/changes?prefix=u1/&states=1&since={start}", below)[2]
+    digests = server.asked("GET", "/keys?prefix=u1/&digests=1", below)[2]
+    for text in states, digests:
+        if "u1/one" not in text or "u2/" in text or '"v"' in text:
+            miss(f"of a prefix it is told {text}")
+    if server.asked("GET", f"/changes?prefix=u2/&since={start}", below)[0] != 403:
+        miss("of another prefix it is told what changed")
+
+
+def of_rotation(place):
+    file = place.token_file("turning", RIGHTS)
+    server = Server(place, "turning.db", 8, "--token-file", file)
+    gone = socket.create_connection(("127.0.0.1", server.port), timeout=PATIENCE)
+    stays = socket.create_connection(("127.0.0.1", server.port), timeout=PATIENCE)
+    for peer, token in (gone, READS), (stays, ALL):
+        peer.sendall(hello(token))
+        if peer.recv(65_536) != DONE:
+            miss("a token of the file is not let in")
+    new = "come-in-from-now-on"
+    place.token_file("turning.new", RIGHTS.replace(f"{READS} read\n", "") + new + "\n")
+    os.replace(place.path("turning.new"), file)
+    if server.told(hello(new) + BYE) != DONE * 2 or server.asked("GET", "/root", f"Bearer {new}")[0] != 200:
+        miss("a new token is not let in")
+    if server.told(hello(READS) + BYE) != REFUSED or server.asked("GET", "/root", f"Bearer {READS}")[0] != 401:
+        miss("a token that is gone is let in")
+    gone.sendall(GET)
+    told = gone.recv(65_536)
+    if told != REFUSED or gone.recv(1) != b"":
+        miss(f"whose token is gone was told {told}")
+    stays.sendall(GET)
+    if stays.recv(65_536)[4:5] != b"\xa1":
+        miss("whose token stays does not go on")
+    with open(file, "a", encoding="ascii") as it:
+        it.write("short\n")
+    for _ in range(3):
+        if server.asked("GET", "/root", f"Bearer {new}")[0] != 200:
+            miss("a file of wrong form changed who comes in")
+    os.remove(file)
+    if server.asked("GET", "/root", f"Bearer {new}")[0] != 200:
+        miss("a file that is missing changed who comes in")
+    place.token_file("turning", f"{ALL} read\n")
+    stays.sendall(GET)
+    if stays.recv(65_536) != REFUSED:
+        miss("whose right is another goes on")
+    if server.asked("PUT", "/keys/k", f"Bearer {ALL}", DOCUMENT)[0] != 403:
+        miss("a right that was taken away is there still")
+    gone.close(), stays.close()
+    server.process.terminate()
+    out, err = server.process.communicate(timeout=PATIENCE)
+    place.said += [out, err]
+    if err.count("its tokens stay as they were") != 2:
+        miss(f"a file of wrong form and a missing one are told so: {err}")
+
+
 def of_files(place):
-    bad = {"none": "", "short": "fifteen-letters\n", "long": "x" * 257, "spaced": "sixteen letters!\n", "tab": "sixteen\tletters\n", "second": "\n" + TOKEN}
+    bad = {"none": "", "short": "fifteen-letters\n", "long": "x" * 257, "spaced": "sixteen letters!\n", "tab": "sixteen\tletters\n", "second": "\n" + TOKEN,
+           "twice": f"{TOKEN}\n{TOKEN} read\n", "blank": f"{TOKEN} \n", "word": f"{TOKEN} reads\n", "prefix": f"{TOKEN} read a b\n",
+           "many": "".join(f"{TOKEN}{i}\n" for i in range(65))}
+    lines = {"twice": "line 2", "many": "64 lines"}
     for name, text in bad.items():
         file = place.token_file(name, text)
         words = ["serve", "--db", place.path("never.db"), "--site", "5", "--port", str(free_port()), "--token-file", file]
-        fails(place.run(*words), "34 ReadFailed", file)
+        fails(place.run(*words), "34 ReadFailed", file, lines.get(name, "line 1"))
         fails(place.run("sync", "--db", place.path("never.db"), "--site", "5", "--port", "1", "--token-file", file), "34 ReadFailed", file)
         fails(place.run("shell", "--port", "1", "--token-file", file), "34 ReadFailed", file)
     fails(place.run("serve", "--db", place.path("never.db"), "--site", "5", "--port", "1", "--token-file", place.path("missing")), "34 ReadFailed", "missing")
     if os.path.exists(place.path("never.db")):
         miss("a database was made though the token file is none")
-    longest = place.token_file("longest", "~" * 256 + "\nmore\n")
+    longest = place.token_file("longest", "~" * 256 + "\n" + TOKEN + "\n")
     server = Server(place, "longest.db", 6, "--token-file", longest)
     if server.told(hello("~" * 256) + BYE) != DONE * 2 or server.told(hello("~" * 255) + BYE) != REFUSED:
         miss("the longest token is not as wanted")
@@ -309,6 +470,10 @@ def main(program):
         print("admitted: a server that asks for none", flush=True)
         of_files(place)
         print("admitted: files that hold none, and the longest token", flush=True)
+        of_rights(place)
+        print("admitted: each line of the table of rights, over both ports", flush=True)
+        of_rotation(place)
+        print("admitted: a file that is written anew", flush=True)
         ended = server.ends().splitlines()
         other.ends()
         if not any(line.endswith(" 38 NotAdmitted") for line in ended):

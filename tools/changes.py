@@ -107,9 +107,9 @@ class Server:
 class Reader:
     """One that waits for a change."""
 
-    def __init__(self, server, root, wait):
+    def __init__(self, server, root, wait, more=""):
         self.socket = socket.create_connection(("127.0.0.1", server.http), PATIENCE)
-        self.socket.sendall(f"GET /changes?since={root}&wait={wait} HTTP/1.1\r\nhost: 127.0.0.1\r\n\r\n".encode())
+        self.socket.sendall(f"GET /changes?since={root}&wait={wait}{more} HTTP/1.1\r\nhost: 127.0.0.1\r\n\r\n".encode())
         self.came = b""
 
     def body(self):
@@ -265,8 +265,14 @@ def check_changes(server):
     wanted("nor does it hide what changed", server.since(root)["keys"] == ['x"2', "x1"])
     server.post([line(key=f"c{n}", document={"n": 1}) for n in range(1000)])
     wanted("a thousand keys are told", server.since(now)["keys"] == [f"c{n}" for n in range(1000)])
+    whole = server.root()
     server.put("c1000")
-    wanted("one more is too many", server.since(now)["resync"])
+    page = server.since(now)
+    wanted("one more is told in a page of its own", (page["keys"], page["root"], page["resync"]) == ([f"c{n}" for n in range(1000)], whole, False), page["keys"][:2])
+    wanted("which begins at the root of the first", server.since(whole)["keys"] == ["c1000"])
+    wanted("of a prefix the keys that begin so alone", server.json(f"/changes?since={now}&prefix=c99") == {"root": server.root(), "keys": ["c99", *(f"c99{n}" for n in range(10))], "resync": False})
+    told("so in their states", 200, '{"root":"%s","keys":[%s],"resync":false}' % (server.root(), server.ask("GET", "/keys/c1000")[1]), "GET", f"/changes?since={now}&prefix=c1000&states=1")
+    told("a prefix that is none", 400, '{"refused":1,"name":"BadKey"}', "GET", "/changes?prefix=%20")
     start = time.monotonic()
     last = server.root()
     told_none = server.since(last, 1)
@@ -319,6 +325,32 @@ def check_waiting(server):
         reader.socket.close()
     writer.close()
     return times[len(times) // 2], times[-1]
+
+
+def check_prefix(server):
+    """Those that wait for keys with a prefix are told of these alone."""
+    root = server.root()
+    reader, other = Reader(server, root, 50, "&prefix=own/&states=1"), Reader(server, root, 50)
+    time.sleep(0.3)
+    server.put("else")
+    wanted("a change wakes who waits for any", other.body()["keys"] == ["else"])
+    time.sleep(0.3)
+    wanted("and not who waits for others", not select.select([reader.socket], [], [], 0)[0])
+    server.put("own/one")
+    wanted("who is told the first of these", reader.body() == {"root": server.root(), "keys": [server.json("/keys/own/one")], "resync": False})
+    start = time.monotonic()
+    none = server.json(f"/changes?since={root}&wait=1&prefix=none")
+    wanted("where none changed it waits, and tells the root now", none == {"root": server.root(), "keys": [], "resync": False} and time.monotonic() - start > 0.9, none)
+    for one in reader, other:
+        one.socket.close()
+
+
+def check_large(server):
+    """States in changes: as many as a mebibyte takes."""
+    root = server.root()
+    server.post([line(key=f"large{n}", document={"a": "x" * 60000}) for n in range(20)])
+    told = server.json(f"/changes?since={root}&states=1")["keys"]
+    wanted("a mebibyte of states is told", [("later" in it, it["key"]) for it in told] == [(n >= 18, f"large{n}") for n in range(20)], [it["key"] for it in told if "later" in it])
 
 
 def comes_to(server, count):
@@ -384,6 +416,8 @@ def main():
         server = check_restart(server, folder, last)
         check_after_waiting(server)
         check_leaving(server)
+        check_prefix(server)
+        check_large(server)
         median, most = check_waiting(server)
         server.close()
     print(f"{READERS} that wait for a change are told it {median:.1f} ms after the put's own reply (median), the last {most:.1f} ms")

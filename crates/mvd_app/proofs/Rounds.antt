@@ -1,10 +1,13 @@
 -- The turns of a server's rounds are asked by frames, or at hand, and so push no state but those of some writes.
-use Rattle.std.proofs.Common.{◌≡◌, ◌∙◌, ◌==◌, ◌≤◌, ◌<◌, ◌⊎◌, inl, inr, ℕ, Bool, true, false, cond, List, [], ◌∷◌, ◌++◌, map, Option, Some, None, Ok, Result, refl, sym, subst}
+use Rattle.std.proofs.Common.{◌≡◌, ◌∙◌, ◌==◌, ◌≤◌, ◌<◌, ◌⊎◌, inl, inr, ℕ, Bool, true, false, cond, List, [], ◌∷◌, ◌++◌, map, Option, Some, None, Ok, Err, Result, refl, sym, subst}
 use Rattle.std.proofs.lemmas.Bool.{cases_lt}
 use Rattle.std.specs.List.{AllByRecursion}
 use Rattle.mvd_app.proofs.Reading.{request_fine}
+use Rattle.mvd_conn.specs.Guard.{asked_under, may_under}
 use Rattle.mvd_conn.specs.History.{History}
+use Rattle.mvd_conn.specs.declared.guard.Guard.{Guard}
 use Rattle.mvd_dots.specs.declared.refusals.Refusal.{Refusal}
+use Rattle.mvd_dots.specs.declared.refusals.Refusal.TheVariants.{NotAdmitted}
 use Rattle.mvd_host.proofs.Own.{same_number}
 use Rattle.mvd_host.specs.AtHand.{AllMayWait, AtHandValue, first_at_hand}
 use Rattle.mvd_host.specs.Course.{BothClients, asked_by, own}
@@ -15,6 +18,7 @@ use Rattle.mvd_replica.specs.Turns.{Turn}
 use Rattle.mvd_site.specs.Known.{IsValidRequest}
 use Rattle.mvd_runs.specs.Files.{IsValidTurn}
 use Rattle.mvd_wire.specs.Frames.{FrameValue}
+use Rattle.mvd_wire.specs.Requests.{request_of}
 use Rattle.mvd_wire.specs.declared.request.Request.{Request}
 use Rattle.sqlite.specs.State.{State}
 
@@ -25,12 +29,21 @@ AreFine turns = AllByRecursion IsValidTurn turns
 heads : (x y : Result Request Refusal) (xs ys : List (Result Request Refusal)) → x ∷ xs ≡ y ∷ ys → (x ≡ y) × (xs ≡ ys)
 heads x y xs ys e = (cc, cc)
 
-framed_fine : (frames : List FrameValue) (turns : List Turn) → map asked_by frames ≡ map (λ t. t.asked) turns → AreFine turns
-framed_fine frames [] is = tt
-framed_fine [] (turn ∷ turns) is = absurd cc
-framed_fine (f ∷ frames) (turn ∷ turns) is =
-    let (one, others) = heads (asked_by f) turn.asked (map asked_by frames) (map (λ t. t.asked) turns) is in
-    ((λ request asked. request_fine f.kind f.payload request (one ∙ asked)), framed_fine frames turns others)
+under_ok : (r request : Request) (b : Bool) → ◌≡◌ {A = Result Request Refusal} (cond b (Ok r) (Err NotAdmitted)) (Ok request) → ◌≡◌ {A = Result Request Refusal} (Ok r) (Ok request)
+under_ok r request true e = e
+under_ok r request false e = absurd cc
+
+-- what a right allows was asked
+allowed : (guard : Option Guard) (asked : Result Request Refusal) (request : Request) → asked_under guard asked ≡ Ok request → asked ≡ Ok request
+allowed guard (Ok r) request e = under_ok r request (may_under guard r) e
+allowed guard (Err refusal) request e = e
+
+framed_fine : (guard : Option Guard) (frames : List FrameValue) (turns : List Turn) → map (asked_by guard) frames ≡ map (λ t. t.asked) turns → AreFine turns
+framed_fine guard frames [] is = tt
+framed_fine guard [] (turn ∷ turns) is = absurd cc
+framed_fine guard (f ∷ frames) (turn ∷ turns) is =
+    let (one, others) = heads (asked_by guard f) turn.asked (map (asked_by guard) frames) (map (λ t. t.asked) turns) is in
+    ((λ request asked. request_fine f.kind f.payload request (allowed guard (request_of f.kind f.payload) request (one ∙ asked))), framed_fine guard frames turns others)
 
 -- what waited at hand pushes no state but one of some writes
 ok_is : (a b : Request) → ◌≡◌ {A = Result Request Refusal} (Ok a) (Ok b) → a ≡ b
@@ -82,7 +95,7 @@ module _ (P : Turn → Type 0) where
 client_fine : (n : ℕ) (turns : List Turn) (old new : Option History) → (old ≡ None → turns ≡ []) → BothClients old new (ClientCourse turns) → AreFine turns
 client_fine n turns None new none both = subst AreFine (sym (none refl)) tt
 client_fine n turns (Some h) None none both = absurd both
-client_fine n turns (Some h) (Some k) none both = framed_fine both.frames turns both.asked
+client_fine n turns (Some h) (Some k) none both = framed_fine k.guard both.frames turns both.asked
 
 round_fine : (ready : List ℕ) (turns : List (ℕ × Turn)) (old new : Side) → Round ready turns old new → AreFine (turns_of turns)
 round_fine ready turns old new round =

@@ -10,10 +10,9 @@ use Rattle.mvd_hint.specs.declared.hint.Stop.{Stop}
 use Rattle.mvd_input.specs.Definitions.{HasDefsFault}
 use Rattle.mvd_input.specs.Ends.{ReadsNot}
 use Rattle.mvd_input.specs.Hexadecimal.{lines_of}
-use Rattle.mvd_input.specs.Tokens.{first_token, is_token, token_of}
 use Rattle.mvd_input.specs.declared.fault.Fault.{Fault}
 use Rattle.mvd_input.specs.declared.fault.Fault.TheVariants as of_fault
-use Rattle.mvd_wire.specs.Token.{token_of_bytes}
+use Rattle.mvd_input.specs.declared.pass_files.PassFault.{PassFault}
 
 -- ---- definitions
 
@@ -53,33 +52,8 @@ pub token_unread : (file : Bor (List ℕ)) (fault : Fault) (stop : Stop) → sto
     (fault ≡ of_fault.Stopped FrameTooLong → stop.hint ≡ Some hints.TooLong) → IsTokenFault file stop.fault stop.hint
 token_unread file fault stop same it unread long = subst (λ (f : Fault). IsTokenFault file f stop.hint) (sym same) (tells_unread file fault stop.hint it unread long)
 
-pub token_none : (file : Bor (List ℕ)) (stop : Stop) → stop.fault ≡ of_fault.Stopped ReadFailed → stop.hint ≡ Some (hints.BadToken file) → IsTokenFault file stop.fault stop.hint
-token_none file stop same hint = subst (λ (f : Fault). IsTokenFault file f stop.hint) (sym same) (λ other. inr (refl, inr hint))
+pub token_none : (file : Bor (List ℕ)) (why : PassFault) (stop : Stop) → stop.fault ≡ of_fault.Stopped ReadFailed → stop.hint ≡ Some (hints.BadToken file why) → IsTokenFault file stop.fault stop.hint
+token_none file why stop same hint = subst (λ (f : Fault). IsTokenFault file f stop.hint) (sym same) (λ other. inr (refl, inr (why, hint)))
 
--- a line that is a token is short enough to be shown
-both_true : (a b : Bool) → a && b ≡ true → (a ≡ true) × (b ≡ true)
-both_true true b is = (refl, is)
-both_true false b is = absurd cc
-
-short_line : (line : List ℕ) → is_token line ≡ true → nat_le (length line) 256 ≡ true
-short_line line is = (both_true _ _ (both_true _ _ is).0).1
-
-some_line : (line token : List ℕ) → ◌≡◌ {A = Option (List ℕ)} (Some line) (Some token) → line ≡ token
-some_line line token same = cc
-
-taken_line : (is : Bool) (line token : List ℕ) → is_token line ≡ is → cond is (Some line) None ≡ Some token → nat_le (length token) 256 ≡ true
-taken_line true line token fits same = subst (λ (t : List ℕ). nat_le (length t) 256 ≡ true) (some_line line token same) (short_line line fits)
-taken_line false line token fits same = absurd cc
-
-first_short : (lines : List (List ℕ)) (token : List ℕ) → first_token lines ≡ Some token → nat_le (length token) 256 ≡ true
-first_short [] token is = absurd cc
-first_short (line ∷ lines) token is = taken_line (is_token line) line token refl is
-
-refused_never : (refusal : Refusal) (bytes : List ℕ) (fits : Bool) → fits ≡ true → ◌≡◌ {A = Result (List ℕ) Refusal} (cond fits (Ok bytes) (Err BadBody)) (Err refusal) → ⊥
-refused_never refusal bytes true is that = absurd cc
-refused_never refusal bytes false is that = absurd cc
-
-pub token_refused : (file : Bor (List ℕ)) (text token : List ℕ) (refusal : Refusal) (stop : Stop) → token_of text ≡ Some token → (refusal ≢ Memory → token_of_bytes token ≡ Err refusal) →
-    stop.fault ≡ of_fault.Stopped refusal → IsTokenFault file stop.fault stop.hint
-token_refused file text token refusal stop is answer same = subst (λ (f : Fault). IsTokenFault file f stop.hint) (sym same)
-    (λ other. absurd (refused_never refusal token (nat_le (length token) 256) (first_short (lines_of text) token is) (answer other)))
+pub token_memory : (file : Bor (List ℕ)) (stop : Stop) → stop.fault ≡ of_fault.Stopped Memory → IsTokenFault file stop.fault stop.hint
+token_memory file stop same = subst (λ (f : Fault). IsTokenFault file f stop.hint) (sym same) (λ other. absurd (other refl))

@@ -1,6 +1,7 @@
 -- A server that did not run.
-use Rattle.std.proofs.Common.{ℕ, List, Option, Err, refl}
+use Rattle.std.proofs.Common.{List, Option, Err, refl}
 use Rattle.mvd_app.specs.Tasks.{ServesTo}
+use Rattle.mvd_conn.specs.declared.passes.Pass.{Pass}
 use Rattle.mvd_hint.specs.declared.hint.Stop.{Stop}
 use Rattle.mvd_replica.specs.Replicas.{site_of}
 use Rattle.mvd_replica.specs.declared.replica.Replica.{Replica}
@@ -10,5 +11,5 @@ use Rattle.mvd_server.specs.declared.sockets.Sockets.{Ghosts as SocketGhosts}
 use Rattle.sqlite_trees.specs.declared.store.Store.{Ghosts}
 
 module _ {S : Type 0} {g : Ghosts S} {K : Type 0} (k : SocketGhosts K) where
-  pub serves_nothing : (token : Option (List ℕ)) (sockets : K) (old : Replica S g) (stop : Stop) → EndsAtFault (site_of old) stop.fault → ServesTo k token sockets old sockets old (Err stop)
-  serves_nothing token sockets old stop cause = record { served = served_none k token sockets old; left = tt; cause = cause; unheard = λ some. (refl, refl) }
+  pub serves_nothing : (passes : Option (List Pass)) (sockets : K) (old : Replica S g) (stop : Stop) → EndsAtFault (site_of old) stop.fault → ServesTo k passes sockets old sockets old (Err stop)
+  serves_nothing passes sockets old stop cause = record { served = served_none k passes sockets old; left = tt; cause = cause; unheard = λ some. (refl, refl) }

@@ -2,6 +2,8 @@
 use Rattle.std.proofs.Common.{◌≡◌, List, ℕ, Option, Result, Ok, [], ◌∷◌, refl, subst, sym}
 use Rattle.std.specs.List.{AllByRecursion}
 use Rattle.std.specs.declared.net.socket_addr.SocketAddr.{SocketAddr}
+use Rattle.mvd_conn.specs.declared.passes.Pass.{Pass}
+use Rattle.mvd_server.specs.declared.tokens.Tokens.{Tokens}
 use Rattle.mvd_app.proofs.Following.{follows}
 use Rattle.mvd_app.proofs.Rounds.{runs_fine}
 use Rattle.mvd_app.specs.Tasks.{DoesTask, Outside, Serving, Syncing, Task, Typing, turns_asked}
@@ -59,7 +61,7 @@ module _ {S : Type 0} {g : Ghosts S} where
   }
 
   -- a server
-  pub served_works : {K : Type 0} {k : SocketGhosts K} {token : Option (List ℕ)} {sockets sockets' : K} (old new : Replica S g) → IsServed k token sockets old sockets' new → WorksOn (stored_of old) (stored_of new)
+  pub served_works : {K : Type 0} {k : SocketGhosts K} {passes : Option (List Pass)} {sockets sockets' : K} (old new : Replica S g) → IsServed k passes sockets old sockets' new → WorksOn (stored_of old) (stored_of new)
   served_works old new it = record {
     config = it.list.serves.config;
     keeps = turns_keep _ (site_of old) (site_of new) it.list.serves.stands it.list.serves.choice;
@@ -82,7 +84,7 @@ module _ {S : Type 0} {g : Ghosts S} where
       (asked_by exchanges between new (writes_then old between exchange.request exchange.reply asked writes one) rest others)
 
   -- those of a server
-  served_by : {K : Type 0} {k : SocketGhosts K} {token : Option (List ℕ)} {sockets sockets' : K} (old new : Replica S g) (it : IsServed k token sockets old sockets' new) →
+  served_by : {K : Type 0} {k : SocketGhosts K} {passes : Option (List Pass)} {sockets sockets' : K} (old new : Replica S g) (it : IsServed k passes sockets old sockets' new) →
       WorksBy (turns_of (turns_in it.all)) (stored_of old) (stored_of new)
   served_by old new it = record {
     site = record { replies = it.list.serves.replies; stands = it.list.serves.stands; config = it.list.serves.config; choice = it.list.serves.choice };
@@ -100,16 +102,16 @@ module _ {S : Type 0} {g : Ghosts S} where
 
   -- ---- a task
 
-  module _ {K L : Type 0} (k : SocketGhosts K) (line : LineGhosts L) (gives : SocketAddr → L → Type 0) (token : Option (List ℕ)) (was now : Outside K) (old new : Replica S g)
+  module _ {K L : Type 0} (k : SocketGhosts K) (line : LineGhosts L) (gives : SocketAddr → L → Type 0) (tokens : Option Tokens) (was now : Outside K) (old new : Replica S g)
       (turns : List Turn) (result : Result (Unit {0}) Stop) where
     -- keeps the writes known
-    pub does_work : (task : Task) → DoesTask k line gives task token was old now new turns result → WorksOn (stored_of old) (stored_of new)
+    pub does_work : (task : Task) → DoesTask k line gives task tokens was old now new turns result → WorksOn (stored_of old) (stored_of new)
     does_work Serving (it, is) = served_works old new it.served
     does_work Typing (it, is) = asks_work old new (record { exchanges = it.exchanges; answered = it.asked })
     does_work (Syncing address) (it, is) = pushed_works old new it.pushed
 
     -- and its turns are all that was done
-    pub does_by : (task : Task) → DoesTask k line gives task token was old now new turns result → HasWrites (site_of old) → WorksBy turns (stored_of old) (stored_of new)
+    pub does_by : (task : Task) → DoesTask k line gives task tokens was old now new turns result → HasWrites (site_of old) → WorksBy turns (stored_of old) (stored_of new)
     does_by Serving (it, is) writes = by_turns old new turns (turns_of (turns_in it.served.all)) is (served_by old new it.served)
     does_by Typing (it, is) writes = by_turns old new turns (turns_asked it.exchanges) is (asked_by it.exchanges old new writes it.valid it.asked)
     does_by (Syncing address) (it, is) writes = by_turns old new turns it.takes.turns is (pushed_by old new it.takes)

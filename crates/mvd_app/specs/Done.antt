@@ -4,7 +4,7 @@ use Rattle.std.specs.declared.net.socket_addr.SocketAddr.{SocketAddr}
 use Rattle.mvd_app.specs.Looped.{IsLooped}
 use Rattle.mvd_app.specs.OnFile.{IsRunOf}
 use Rattle.mvd_app.specs.Stored.{CannotOpen, EndsAs, Filed, IsConfigFor, LeavesSite, SiteLeft, StopsBefore, closed_in, file_in}
-use Rattle.mvd_app.specs.Tasks.{DoesTask, IsMet, IsSimulated, IsTokenOfOrder, IsTypedAt, Outside}
+use Rattle.mvd_app.specs.Tasks.{AreTokensOfOrder, DoesTask, IsMet, IsSimulated, IsTypedAt, Outside}
 use Rattle.mvd_app.specs.declared.closing.Ran.{Ran}
 use Rattle.mvd_hint.specs.declared.harm.Harm.{Harm}
 use Rattle.mvd_hint.specs.declared.hint.Stop.{Stop}
@@ -17,6 +17,7 @@ use Rattle.mvd_replica.specs.Replicas.{site_of}
 use Rattle.mvd_replica.specs.Turns.{Turn}
 use Rattle.mvd_replica.specs.declared.replica.Replica.{Replica}
 use Rattle.mvd_server.specs.declared.sockets.Sockets.{Ghosts as SocketGhosts}
+use Rattle.mvd_server.specs.declared.tokens.Tokens.{Tokens}
 use Rattle.mvd_site.specs.Config.{ConfigValue}
 use Rattle.sqlite.specs.Recovery.{Image}
 use Rattle.sqlite_disk.specs.declared.Disk as disk
@@ -43,12 +44,12 @@ module _ {D : Type 0} {g : disk.Ghosts D} (f : Ghosts (FileStore D g)) {K L : Ty
     pub set_up : IsConfigFor filed.setup config
     pub old : Replica (FileStore D g) f
     pub opened : OpensAsSite image config (Ok old)
-    pub token : Option (List ℕ)
-    pub of_file : IsTokenOfOrder filed.token token
+    pub tokens : Option Tokens
+    pub of_file : AreTokensOfOrder filed.token tokens
     pub new : Replica (FileStore D g) f
     pub turns : List Turn
     pub worked : Result (Unit {0}) Stop
-    pub does : DoesTask k line gives filed.task token was old now new turns worked
+    pub does : DoesTask k line gives filed.task tokens was old now new turns worked
     pub left : SiteLeft D g f
     pub comes : ran.left ≡ Some left
     pub runs : IsRunOf image filed.setup.site config turns new left

@@ -7,6 +7,7 @@ use Rattle.mvd_hint.specs.declared.hint.Hint.TheVariants as hints
 use Rattle.mvd_hint.specs.declared.hint.Stop.{Stop}
 use Rattle.mvd_input.specs.declared.fault.Fault.{Fault}
 use Rattle.mvd_input.specs.declared.fault.Fault.TheVariants as of_fault
+use Rattle.mvd_input.specs.declared.pass_files.PassFault.{PassFault}
 
 -- why a file of definitions gives none: it cannot be read, is too long, or has a line that may not stand there; or
 -- memory was refused
@@ -21,12 +22,13 @@ pub record TellsDefs (file : Bor (List ℕ)) (stop : Stop) : Type 0 where
   pub unread : stop.fault ≡ of_fault.Stopped ReadFailed → stop.hint ≡ Some (hints.NoDefs file)
   pub long : stop.fault ≡ of_fault.Stopped FrameTooLong → stop.hint ≡ Some hints.TooLong
 
--- why a file gives no token: it cannot be read, or its first line is none; it is too long; or memory was refused
+-- why a file gives no tokens: it cannot be read, or what stands in it is none; it is too long; or memory was refused
 abbrev pub IsTokenFault : Bor (List ℕ) → Fault → Option Hint → Type 0
 IsTokenFault file (of_fault.Line number) hint = ⊥
 IsTokenFault file (of_fault.Stopped refusal) hint = refusal ≢ Memory
     → ((refusal ≡ FrameTooLong) × (hint ≡ Some hints.TooLong))
-    ⊎ ((refusal ≡ ReadFailed) × ((hint ≡ Some (hints.NoToken file)) ⊎ (hint ≡ Some (hints.BadToken file))))
+    ⊎ ((refusal ≡ ReadFailed)
+    × ((hint ≡ Some (hints.NoToken file)) ⊎ ((why : PassFault) × (hint ≡ Some (hints.BadToken file why)))))
 
 -- a command is stopped by the file of definitions, or with a token, that it names
 abbrev pub StopsAtDefs : Option (Bor (List ℕ)) → Stop → Type 0

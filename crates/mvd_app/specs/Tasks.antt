@@ -1,5 +1,5 @@
 -- What is done with a stored site, and with what is outside of a command.
-use Rattle.std.specs.Prelude.{◌≡◌, ◌⊎◌, ⊤, ℕ, List, [], ◌∷◌, map, IfErr, IsSome, OnOk, Option, None, is_some, Result, Ok, Err}
+use Rattle.std.specs.Prelude.{◌≡◌, ◌⊎◌, ⊤, ℕ, List, [], ◌∷◌, map, IfErr, IsSome, OnOk, Option, None, is_some, option_map, Result, Ok, Err}
 use Rattle.std.specs.Borrow.{Bor}
 use Rattle.std.specs.List.{AllByRecursion}
 use Rattle.std.specs.Option.{ForSome}
@@ -28,7 +28,10 @@ use Rattle.mvd_runs.specs.Files.{IsValidTurn}
 use Rattle.mvd_script.specs.Script.{Simulates}
 use Rattle.mvd_server.specs.Closing.{EndsAtFault, EndsServed}
 use Rattle.mvd_server.specs.Rounds.{IsServed}
+use Rattle.mvd_conn.specs.declared.passes.Pass.{Pass}
+use Rattle.mvd_server.specs.TokenFiles.{passes_in}
 use Rattle.mvd_server.specs.declared.sockets.Sockets.{Ghosts as SocketGhosts}
+use Rattle.mvd_server.specs.declared.tokens.Tokens.{Tokens}
 use Rattle.mvd_shell.specs.Asked.{Exchange}
 use Rattle.mvd_shell.specs.Shell.{At, Shells, at}
 use Rattle.mvd_shell.specs.Talk.{AnswersExchanges}
@@ -62,9 +65,13 @@ abbrev pub MayWork : Work → Type 0
 MayWork (work.Serve address terms peers) = ForSome peers ArePeers
 MayWork _ = ⊤
 
--- there is a token just where the order names a file with it
-abbrev pub IsTokenOfOrder : Option (Bor (List ℕ)) → Option (List ℕ) → Type 0
-IsTokenOfOrder file token = is_some token ≡ is_some file
+-- there are tokens just where the order names a file with them
+abbrev pub AreTokensOfOrder : Option (Bor (List ℕ)) → Option Tokens → Type 0
+AreTokensOfOrder file tokens = is_some tokens ≡ is_some file
+
+-- and the first is shown
+abbrev pub first_token : Option Tokens → Option (List ℕ)
+first_token tokens = option_map (λ t. t.first) tokens
 
 -- a command is stopped with the fault of what it ran
 abbrev pub EndsAsTold : Result (Unit {0}) Fault → Result (Unit {0}) Stop → Type 0
@@ -91,27 +98,27 @@ module _ {S : Type 0} {g : Ghosts S} where
 module _ {S : Type 0} {g : Ghosts S} {K : Type 0} (k : SocketGhosts K) where
   -- A server ran, and this is how it ended: well, and then nobody but its own is left; or with its fault, and where it
   -- could not listen it did nothing
-  pub record ServesTo (token : Option (List ℕ)) (sockets : K) (old : Replica S g) (sockets' : K) (new : Replica S g)
+  pub record ServesTo (passes : Option (List Pass)) (sockets : K) (old : Replica S g) (sockets' : K) (new : Replica S g)
       (result : Result (Unit {0}) Stop) : Type 0 where
-    pub served : IsServed k token sockets old sockets' new
-    pub left : OnOk result (EndsServed k token sockets old sockets' new)
+    pub served : IsServed k passes sockets old sockets' new
+    pub left : OnOk result (EndsServed k passes sockets old sockets' new)
     pub cause : IfErr result (λ stop. EndsAtFault (site_of new) stop.fault)
     pub unheard : IfErr result (λ stop. IsSome stop.hint → (sockets' ≡ sockets) × (new ≡ old))
 
 module _ {S : Type 0} {g : Ghosts S} {K L : Type 0} (k : SocketGhosts K) (line : LineGhosts L)
     (gives : SocketAddr → L → Type 0) where
   -- WHAT A TASK DOES to a stored site, and nothing else: it takes these turns. They are those of a server's rounds, of
-  -- the lines that a shell reads, or of a session with what an address leads to, to which the token was shown; what is
+  -- the lines that a shell reads, or of a session with what an address leads to, to which the first token was shown; what is
   -- printed, and how the command ends, is what came of it
-  abbrev pub DoesTask : Task → Option (List ℕ) → Outside K → Replica S g → Outside K → Replica S g → List Turn
+  abbrev pub DoesTask : Task → Option Tokens → Outside K → Replica S g → Outside K → Replica S g → List Turn
       → Result (Unit {0}) Stop → Type 0
-  DoesTask Serving token was old now new turns result =
-      (it : ServesTo k token was.sockets old now.sockets new result) × (turns ≡ turns_of (turns_in it.served.all))
-  DoesTask Typing token was old now new turns result =
+  DoesTask Serving tokens was old now new turns result =
+      (it : ServesTo k (passes_in tokens) was.sockets old now.sockets new result) × (turns ≡ turns_of (turns_in it.served.all))
+  DoesTask Typing tokens was old now new turns result =
       (it : TypesLines (at old was.input was.out) (at new now.input now.out) result)
       × (turns ≡ turns_asked it.exchanges)
-  DoesTask (Syncing address) token was old now new turns result =
-      (it : TellsSession line (GivesIn line (gives address) token) address old new was.out now.out result)
+  DoesTask (Syncing address) tokens was old now new turns result =
+      (it : TellsSession line (GivesIn line (gives address) (first_token tokens)) address old new was.out now.out result)
       × (turns ≡ it.takes.turns)
 
 -- ---- without a file
@@ -122,12 +129,12 @@ abbrev pub IsSimulated : Option (List ℕ) → Option (List ℕ) → Option (Lis
 IsSimulated input input' out out' result =
     (told : Result (Unit {0}) Fault) × Simulates input input' out out' told × EndsAsTold told result
 
--- a shell through a server, to which the token was shown first; or the token could not be read of its file
+-- a shell through a server, to which the first token was shown; or the tokens could not be read of their file
 abbrev pub IsTypedAt : {L : Type 0} → LineGhosts L → (L → Type 0) → SocketAddr → Option (Bor (List ℕ))
     → Option (List ℕ) → Option (List ℕ) → Option (List ℕ) → Option (List ℕ) → Result (Unit {0}) Stop → Type 0
 IsTypedAt line gives address file input input' out out' result =
-    ((token : Option (List ℕ)) × IsTokenOfOrder file token
-    × ShellsAt line (GivesIn line gives token) address input out input' out' result)
+    ((tokens : Option Tokens) × AreTokensOfOrder file tokens
+    × ShellsAt line (GivesIn line gives (first_token tokens)) address input out input' out' result)
     ⊎ (((stop : Stop) × (result ≡ Err stop) × StopsAtToken file stop) × (input' ≡ input) × (out' ≡ out))
 
 -- Sessions of the server at an address with those of a list, to which the token was shown first; where there is one,
@@ -135,7 +142,7 @@ IsTypedAt line gives address file input input' out out' result =
 abbrev pub IsMet : {L : Type 0} → LineGhosts L → (SocketAddr → L → Type 0) → SocketAddr → Bor (List ℕ) → Option Repeat
     → Option (Bor (List ℕ)) → Option (List ℕ) → Option (List ℕ) → Result (Unit {0}) Stop → Type 0
 IsMet line gives address list repeat file out out' result =
-    ((token : Option (List ℕ)) × IsTokenOfOrder file token
+    ((tokens : Option Tokens) × AreTokensOfOrder file tokens
     × (repeat ≡ None → (text : List ℕ) → items_of list.now ≡ text ∷ []
-    → MeetsServer line gives token address text out out' result))
+    → MeetsServer line gives (first_token tokens) address text out out' result))
     ⊎ (((stop : Stop) × (result ≡ Err stop) × StopsAtToken file stop) × (out' ≡ out))

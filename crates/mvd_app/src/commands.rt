@@ -18,7 +18,7 @@ use crate::looping::loop_run;
 use crate::opening::opened;
 use crate::serve_command::serve_stored;
 use crate::setups::config_in;
-use crate::tokens::token_in;
+use crate::tokens::{first_of, tokens_in};
 use crate::typed_lines::typed;
 use mvd_client::{Dial, MeetingTerms, meet_run, remote_shell_run, sync_told};
 use mvd_dots::Refusal;
@@ -26,7 +26,7 @@ use mvd_hint::{Hint, Stop, Watch};
 use mvd_input::{Fault, Order, Peers, Setup};
 use mvd_replica::Replica;
 use mvd_script::sim;
-use mvd_server::{Sockets, Terms};
+use mvd_server::{Sockets, Terms, Tokens};
 use mvd_site::Config;
 use mvd_wire::Token;
 use sqlite::{Alter, FileFrom, FileStore, Start};
@@ -88,7 +88,8 @@ pub fn run<'a, S: Start, D: Dial, K: Sockets, R: BufRead, W: Write>(
                 conns,
                 idle,
                 clients,
-                token: None,
+                tokens: None,
+                token_file: token_file.unwrap_or(""),
                 hosts: named.hosts.unwrap_or(""),
                 origins: named.origins.unwrap_or(""),
                 quiet,
@@ -207,7 +208,7 @@ fn unlooped<'a>(fault: Fault) -> Stop<'a>
 
 /// Opens the site that a file holds, which is made where it is missing, works on it, and closes it: what the log holds
 /// is copied into the file. Before that it looks whether they still are what was opened. It is proved for whatever
-/// stands in the file. The definitions and the token are read first.
+/// stands in the file. The definitions and the tokens are read first.
 fn run_stored<'a, S: Start, D: Dial, K: Sockets, R: BufRead, W: Write>(
     rt: &HostRuntime,
     db: &'a str,
@@ -228,7 +229,7 @@ fn run_stored<'a, S: Start, D: Dial, K: Sockets, R: BufRead, W: Write>(
         (outside sockets.old (R.remaining reader.old) (W.contents writer.old))
         (outside sockets.new (R.remaining reader.new) (W.contents writer.new)) result }
 {
-    let (config, token) = match read_first(rt, setup, token_file) {
+    let (config, tokens) = match read_first(rt, setup, token_file) {
         Ok(read) => read,
         Err(stop) => {
             drop(start);
@@ -245,14 +246,14 @@ fn run_stored<'a, S: Start, D: Dial, K: Sockets, R: BufRead, W: Write>(
                 rt,
                 &mut replica,
                 work,
-                token.as_ref(),
+                tokens.as_ref(),
                 &mut watch,
                 dial,
                 sockets,
                 reader,
                 writer,
             );
-            drop(token);
+            drop(tokens);
             let harm = watch.look(rt);
             drop(watch);
             let (left, ended) = finish(db, replica, worked, harm);
@@ -262,7 +263,7 @@ fn run_stored<'a, S: Start, D: Dial, K: Sockets, R: BufRead, W: Write>(
             }
         }
         Err(stop) => {
-            drop(token);
+            drop(tokens);
             Ran {
                 left: None,
                 ended: Err(stop),
@@ -271,20 +272,20 @@ fn run_stored<'a, S: Start, D: Dial, K: Sockets, R: BufRead, W: Write>(
     }
 }
 
-/// What a site is set up with, and the token of the command, each of which may stand in a file.
+/// What a site is set up with, and the tokens of the command, each of which may stand in a file.
 fn read_first<'a>(
     rt: &HostRuntime,
     setup: Setup<'a>,
     token_file: Option<&'a str>,
-) -> Result<(Config, Option<Token>), Stop<'a>>
+) -> Result<(Config, Option<Tokens>), Stop<'a>>
     requires { IsSetUp setup }
     ensures read { IfOk result (λ read. IsConfigFor setup.entry read.0 × (is_some read.1 ≡ is_some token_file.entry)) }
     // It is stopped only by such a file.
     ensures stopped { IfErr result (λ stop. StopsAtDefs setup.entry.defs stop ⊎ StopsAtToken token_file.entry stop) }
 {
     let config = config_in(rt, setup)?;
-    match token_in(rt, token_file) {
-        Ok(token) => Ok((config, token)),
+    match tokens_in(rt, token_file) {
+        Ok(tokens) => Ok((config, tokens)),
         Err(stop) => {
             drop(config);
             Err(stop)
@@ -297,7 +298,7 @@ fn work_on<'a, S: Alter + Drop, D: Dial, K: Sockets, R: BufRead, W: Write>(
     rt: &HostRuntime,
     replica: &mut Replica<S>,
     work: Work<'_>,
-    token: Option<&Token>,
+    tokens: Option<&Tokens>,
     watch: &mut Watch,
     dial: &D,
     sockets: &mut K,
@@ -307,17 +308,24 @@ fn work_on<'a, S: Alter + Drop, D: Dial, K: Sockets, R: BufRead, W: Write>(
     requires { MayWork work }
     // However it ends, this alone was done to the site.
     ensures { (turns : List Turn) × DoesTask K.Sockets D.Dialed.Line (D.gives dial.now) (task_of work.entry)
-        (option_copied token.entry) (outside sockets.old (R.remaining reader.old) (W.contents writer.old)) replica.old
+        (option_copied tokens.entry) (outside sockets.old (R.remaining reader.old) (W.contents writer.old)) replica.old
         (outside sockets.new (R.remaining reader.new) (W.contents writer.new)) replica.new turns result }
 {
     match work {
         Work::Serve(address, terms, peers) => {
-            let terms = Terms { token, ..terms };
+            let terms = Terms { tokens, ..terms };
             serve_stored(rt, sockets, replica, address, terms, peers, watch, writer)
         }
         Work::Shell => typed(rt.alloc(), replica, reader, writer),
         Work::Sync(address, idle, verbose) => synced(
-            rt, replica, address, idle, token, verbose, dial, writer,
+            rt,
+            replica,
+            address,
+            idle,
+            first_of(tokens),
+            verbose,
+            dial,
+            writer,
         ),
     }
 }
@@ -363,13 +371,13 @@ fn run_remote_shell<'a, D: Dial, R: BufRead, W: Write>(
     ensures { IsTypedAt D.Dialed.Line (D.gives dial.now address) address token_file.entry (R.remaining reader.old)
         (R.remaining reader.new) (W.contents writer.old) (W.contents writer.new) result }
 {
-    let token = token_in(rt, token_file)?;
+    let tokens = tokens_in(rt, token_file)?;
     remote_shell_run(
         dial,
         rt.alloc(),
         address,
         idle,
-        token.as_ref(),
+        first_of(tokens.as_ref()),
         reader,
         writer,
     )
@@ -389,9 +397,9 @@ fn run_meeting<'a, D: Dial, W: Write>(
     ensures { IsMet D.Dialed.Line (D.gives dial.now) address with.entry terms.entry.repeat token_file.entry
         (W.contents writer.old) (W.contents writer.new) result }
 {
-    let token = token_in(rt, token_file)?;
+    let tokens = tokens_in(rt, token_file)?;
     let terms = MeetingTerms {
-        token: token.as_ref(),
+        token: first_of(tokens.as_ref()),
         ..terms
     };
     meet_run(

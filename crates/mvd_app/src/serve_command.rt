@@ -1,9 +1,9 @@
 //! A stored site, served, and the servers that it meets.
 ghost use Rattle.std.specs.Option.{ForSome};
-ghost use Rattle.std.specs.Prelude.{option_copied};
 ghost use Rattle.mvd_app.specs.Tasks.{ServesTo};
 ghost use Rattle.mvd_input.specs.Addresses.{IsAddressList};
 ghost use Rattle.mvd_input.specs.Orders.{ArePeers};
+ghost use Rattle.mvd_server.specs.TokenFiles.{passes_asked};
 
 use crate::outlet::{Outlet, STANDARD_ERROR, STANDARD_OUTPUT};
 use mvd_dots::Refusal;
@@ -34,7 +34,7 @@ pub(crate) fn serve_stored<'a, K: Sockets, S: Alter + Drop, W: Write>(
     writer: &mut W,
 ) -> Result<(), Stop<'a>>
     requires { ForSome peers ArePeers }
-    ensures { ServesTo K.Sockets (option_copied terms.entry.token)
+    ensures { ServesTo K.Sockets (passes_asked terms.entry)
         sockets.old replica.old sockets.new replica.new result }
 {
     let mut outlet = match Outlet::new(rt, rt.alloc(), STANDARD_OUTPUT, writer) {
@@ -66,7 +66,7 @@ fn serve_met<'a, K: Sockets, S: Alter + Drop, W: Write>(
     writer: &mut W,
 ) -> Result<(), Stop<'a>>
     requires { ForSome peers ArePeers }
-    ensures { ServesTo K.Sockets (option_copied terms.entry.token)
+    ensures { ServesTo K.Sockets (passes_asked terms.entry)
         sockets.old replica.old sockets.new replica.new result }
 {
     let alloc = rt.alloc();
@@ -112,7 +112,7 @@ fn serve_met<'a, K: Sockets, S: Alter + Drop, W: Write>(
 
 /// Warns where pages of other origins may ask a server that asks for no token.
 fn warn_of_pages<E: Write>(alloc: Global, terms: Terms<'_>, errors: &mut E) {
-    if terms.origins.is_empty() || terms.token.is_some() {
+    if terms.origins.is_empty() || terms.tokens.is_some() {
         return;
     }
     let Ok(mut line) = String::from_str(alloc, OPEN_TO_PAGES) else {

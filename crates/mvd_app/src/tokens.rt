@@ -1,48 +1,52 @@
-//! The token that a file holds.
+//! The tokens that a file holds.
 ghost use Rattle.std.specs.Prelude.{◌≡◌, IfErr, IfOk, is_some};
 ghost use Rattle.mvd_app.specs.Named.{IsTokenFault, StopsAtToken};
-ghost use Rattle.mvd_input.specs.Ends.{ReadsNot};
+ghost use Rattle.mvd_app.specs.Tasks.{first_token};
+ghost use Rattle.mvd_server.specs.TokenFiles.{IsUnreadSo};
+ghost use Rattle.std.specs.Prelude.{option_copied};
 
 use mvd_dots::Refusal;
 use mvd_hint::Stop;
-use mvd_input::{Fault, TOKEN_FILE_MAX, read_input, token_line};
+use mvd_input::PassFault;
+use mvd_server::{Tokens, TokensFault, read_tokens};
 use mvd_wire::Token;
-use std::fs;
 
-/// The token in the first line of a file, or none where no file is named.
-pub(crate) fn token_in<'a>(
+/// The tokens of a file, or none where no file is named.
+pub(crate) fn tokens_in<'a>(
     rt: &HostRuntime,
     file: Option<&'a str>,
-) -> Result<Option<Token>, Stop<'a>>
-    ensures given { IfOk result (λ token. is_some token ≡ is_some file.entry) }
+) -> Result<Option<Tokens>, Stop<'a>>
+    ensures given { IfOk result (λ tokens. is_some tokens ≡ is_some file.entry) }
     // It is stopped only by such a file.
     ensures stopped { IfErr result (StopsAtToken file.entry) }
 {
-    match file {
-        Some(file) => Ok(Some(token_of(rt, file)?)),
-        None => Ok(None),
+    let Some(file) = file else {
+        return Ok(None);
+    };
+    match read_tokens(rt, rt.alloc(), file) {
+        Ok(tokens) => Ok(Some(tokens)),
+        Err(fault) => Err(stopped_by(file, fault)),
     }
 }
 
-#[tactic(auto, using(crate::proofs::Stops::token_refused, crate::proofs::Stops::token_none, crate::proofs::Stops::token_unread))]
-fn token_of<'a>(rt: &HostRuntime, file: &'a str) -> Result<Token, Stop<'a>>
-    ensures { IfErr result (λ stop. IsTokenFault file.entry stop.fault stop.hint) }
+/// What a command is stopped with by a file with tokens.
+#[tactic(auto, using(crate::proofs::Stops::token_memory, crate::proofs::Stops::token_none, crate::proofs::Stops::token_unread))]
+fn stopped_by<'a>(file: &'a str, fault: TokensFault) -> Stop<'a>
+    ensures { IsUnreadSo fault → IsTokenFault file.entry result.fault result.hint }
 {
-    let text = match text_of(rt, file) {
-        Ok(text) => text,
-        Err(fault) => return Err(Stop::in_token_file(file, fault)),
-    };
-    let Some(token) = token_line(&text) else {
-        return Err(Stop::no_token(file));
-    };
-    Ok(Token::read(rt.alloc(), token)?)
+    match fault {
+        TokensFault::Unread(fault) => Stop::in_token_file(file, fault),
+        TokensFault::Bad(PassFault::Memory) => Stop::from(Refusal::Memory),
+        TokensFault::Bad(fault) => Stop::no_token(file, fault),
+    }
 }
 
-fn text_of(rt: &HostRuntime, file: &str) -> Result<Vec<u8>, Fault>
-    ensures { IfErr result ReadsNot }
+/// The first of them, which a client shows.
+pub(crate) fn first_of(tokens: Option<&Tokens>) -> Option<&Token>
+    ensures { option_copied result ≡ first_token (option_copied tokens.entry) }
 {
-    let Ok(mut file) = fs::open(rt, file) else {
-        return Err(Fault::Stopped(Refusal::ReadFailed));
-    };
-    read_input(rt.alloc(), &mut file, TOKEN_FILE_MAX)
+    match tokens {
+        Some(tokens) => Some(&tokens.first),
+        None => None,
+    }
 }

@@ -11,13 +11,17 @@ use Rattle.mvd_wire.specs.Replies.{reply_bytes}
 use Rattle.mvd_wire.specs.declared.reply.Reply.TheVariants.{Refused}
 use Rattle.mvd_wire.specs.declared.ending.Ending.{Ending}
 use Rattle.mvd_wire.specs.declared.ending.Ending.TheVariants as ending
+use Rattle.mvd_conn.specs.declared.guard.Guard.{Guard}
+use Rattle.mvd_conn.specs.declared.passes.Pass.{Pass}
 use Rattle.mvd_conn.specs.declared.source.Source.{Source}
 use Rattle.mvd_conn.specs.declared.source.Source.TheVariants as source
-use Rattle.mvd_conn.specs.History.{History, Stops, Waits, due, ends_long, fed, frame_most, is_bye, is_held_up, may_be_long, next_of, piece_most, replied, short_most, stopped, taking}
+use Rattle.mvd_conn.specs.Guard.{guard_met}
+use Rattle.mvd_conn.specs.History.{History, Stops, Waits, coming, due, ends_long, fed, frame_most, is_bye, is_held_up, may_be_long, next_of, piece_most, replied, short_most, stopped, taking}
 use Rattle.mvd_conn.specs.Inside.{IsKeptConnection, history_of}
 use Rattle.mvd_conn.specs.Stands.{IsBounded, HistoryStands, frame_of}
 use Rattle.mvd_conn.specs.declared.scan.Found.TheVariants as found
 use Rattle.mvd_conn.specs.Front.{IsFound}
+use Rattle.mvd_conn.proofs.Guarded.{stands_met}
 use Rattle.mvd_conn.proofs.LengthLemmas.{refused_length}
 use Rattle.mvd_conn.proofs.Owing.{ends_long-more, only_short, owed_less, owed_most, owed_none}
 use Rattle.mvd_conn.proofs.StandLemmas.{free_of, stands_closed, stands_fed, stands_replied, stands_stopped, stands_taking, waits_few}
@@ -25,6 +29,20 @@ use Rattle.mvd_conn.proofs.StandLemmas.{free_of, stands_closed, stands_fed, stan
 pub kept_closed : (c : Inside) (new : Source) → c.source ≡ source.Open → IsKeptConnection c → IsKeptConnection (record c { source = new })
 kept_closed c new opened k = record {
   stands = stands_closed (history_of c) new opened k.stands;
+  bounded = record { few_held = k.bounded.few_held; few_due = k.bounded.few_due; few_waiting = k.bounded.few_waiting };
+  count = k.count;
+  due = k.due;
+  long = k.long;
+  hand = k.hand;
+  whole_hand = k.whole_hand;
+  room = k.room;
+  last_room = k.last_room;
+}
+
+-- whichever passes are known
+pub kept_met : (c : Inside) (passes : List Pass) (new : Option Guard) → new ≡ guard_met passes (history_of c).taken (coming (history_of c)) c.guard → IsKeptConnection c → IsKeptConnection (record c { guard = new })
+kept_met c passes new is k = record {
+  stands = subst (λ (it : Option Guard). HistoryStands (record (history_of c) { guard = it })) (sym is) (stands_met passes (history_of c) k.stands);
   bounded = record { few_held = k.bounded.few_held; few_due = k.bounded.few_due; few_waiting = k.bounded.few_waiting };
   count = k.count;
   due = k.due;

@@ -9,15 +9,16 @@ use Rattle.mvd_wire.specs.declared.reply.Reply.TheVariants.{Refused}
 use Rattle.mvd_wire.specs.Frames.{FrameValue, frame_at}
 use Rattle.mvd_wire.specs.Requests as asked
 use Rattle.mvd_wire.specs.Replies.{reply_bytes}
-use Rattle.mvd_conn.specs.Guard.{is_barred, may_come}
+use Rattle.mvd_conn.specs.Guard.{guard_met, is_barred, may_come}
 use Rattle.mvd_conn.specs.declared.guard.Guard.{Guard}
+use Rattle.mvd_conn.specs.declared.passes.Pass.{Pass}
 use Rattle.mvd_conn.specs.declared.source.Source.{Source}
 use Rattle.mvd_conn.specs.declared.source.Source.TheVariants as source
 use Rattle.mvd_wire.specs.declared.ending.Ending.{Ending}
 use Rattle.mvd_wire.specs.declared.ending.Ending.TheVariants as ending
 
 pub record History : Type 0 where
-  -- who has to show a token before anything else is taken
+  -- what was shown, where a token is asked for before anything else is taken
   pub guard : Option Guard
   -- all bytes that came in, those that are not taken yet, and whether more may come
   pub came : List ℕ
@@ -170,6 +171,14 @@ first_source (source.Failed refusal) new = source.Failed refusal
 
 abbrev pub closed : History → Source → History
 closed h new = record h { source = first_source h.source new }
+
+-- the frame that comes next, if any; where the connection has ended, none does
+abbrev pub coming : History → Result (Option FrameValue × List ℕ) Refusal
+coming h = if is_some h.last then Ok (None, h.held) else frame_at h.held
+
+-- these passes are known: before the first frame its token decides, and then whether it is known still
+abbrev pub met : List Pass → History → History
+met passes h = record h { guard = guard_met passes h.taken (coming h) h.guard }
 
 -- a frame is handed out; a Bye is the last
 abbrev pub taking : History → FrameValue → List ℕ → History

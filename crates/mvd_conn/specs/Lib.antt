@@ -1,3 +1,5 @@
+pub mod Rights
+pub mod Passes
 pub mod Guard
 pub mod History
 pub mod Stands

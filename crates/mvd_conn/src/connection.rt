@@ -7,7 +7,8 @@ ghost use Rattle.mvd_wire.specs.declared.reply.Reply.{Reply};
 ghost use Rattle.mvd_wire.specs.Frames.{frame_at};
 ghost use Rattle.mvd_wire.specs.Replies.{CanBeSent, reply_bytes};
 
-use crate::guard::Guard;
+use crate::guard::{Guard, may_ask};
+use crate::passes::Passes;
 use crate::room::make_room;
 use crate::scan::{Found, Front, front_of, is_over_hello, last_after, may_be_long};
 use crate::source::Source;
@@ -15,7 +16,7 @@ use bytes::BytesMut;
 use http_server::Log;
 use mvd_dots::Refusal;
 use mvd_frames::{Short, encode_reply, short_reply};
-use mvd_wire::{Ending, Reply};
+use mvd_wire::{Ending, Reply, Request};
 use std::alloc::Global;
 use std::marker::Model;
 
@@ -82,16 +83,16 @@ impl Model for Connection {
 }
 
 impl Connection {
-    ghost use Rattle.mvd_conn.specs.History.{NextRefused, Over, Stops, WantsInput, after_next, closed, cut, due, ending_of};
-    ghost use Rattle.mvd_conn.specs.History.{ends_long, fed, frame_most, is_done, is_held_up, new_history, next_of, over};
+    ghost use Rattle.mvd_conn.specs.History.{NextRefused, Over, Stops, WantsInput, after_next, closed, coming, cut, due, ending_of};
+    ghost use Rattle.mvd_conn.specs.History.{ends_long, fed, frame_most, is_done, is_held_up, met, new_history, next_of, over};
     ghost use Rattle.mvd_conn.specs.History.{owed, piece_most, released, replied, sent, stopped};
-    ghost use Rattle.mvd_conn.specs.Guard.{is_barred, may_come};
+    ghost use Rattle.mvd_conn.specs.Guard.{guard_met, is_barred, may_come, may_under};
     ghost use Rattle.mvd_conn.specs.Stands.{IsBounded, IsQueued, HistoryStands, frame_of};
     ghost use Rattle.mvd_conn.specs.Front.{IsFound, TakesFrame};
     ghost use Rattle.mvd_conn.specs.declared.scan.Found.TheVariants as Found;
     ghost use Rattle.mvd_conn.specs.declared.source.Source.TheVariants as Source;
 
-    /// A connection on which nothing happened yet. Where there is a guard, its first frame has to show the token.
+    /// A connection on which nothing happened yet. Where there is a guard, its first frame has to show a token.
     pub fn new(alloc: Global, guard: Option<Guard>) -> Result<Connection, Refusal>
         ensures new { IfOk result (λ c. c ≡ new_history guard) }
         ensures err { IfErr result (λ e. e ≡ Refusal.Memory) }
@@ -155,6 +156,36 @@ impl Connection {
         ensures { self.new ≡ closed self.old (Source.Failed refusal) }
     {
         self.close(Source::Failed(refusal));
+    }
+
+    /// Looks at the passes that are known, if a token is asked for: before the first frame at whose token that shows,
+    /// and then whether that is known still.
+    pub fn meet(&mut self, passes: &Passes)
+        ensures { self.new ≡ met passes.now self.old }
+    {
+        if let Some(guard) = self.guard {
+            self.guard = Some(self.guard_met(guard, passes));
+        }
+    }
+
+    /// The guard where these passes are known.
+    fn guard_met(&self, guard: Guard, passes: &Passes) -> Guard
+        ensures { Some result ≡ guard_met passes.now self.now.taken (coming self.now) (Some guard) }
+    {
+        if self.count > 0 {
+            guard.kept(passes)
+        } else if self.last.is_some() {
+            Guard::Asks
+        } else {
+            Guard::at(passes, &self.input.as_slice()[self.hand..])
+        }
+    }
+
+    /// Whether the client may ask that: its right allows it, if a token is asked for.
+    pub fn allows(&self, request: &Request) -> bool
+        ensures { result ≡ may_under self.now.guard request.now }
+    {
+        may_ask(self.guard.as_ref(), request)
     }
 
     /// Takes the next frame in hand, or tells an end where there is one. It is `false` where no frame is taken. Where
@@ -347,14 +378,16 @@ impl Connection {
         }
     }
 
-    /// Whether a frame may be taken: the first one of a guarded connection only where it shows the token.
+    /// Whether a frame may be taken: the first one of a guarded connection only where it shows a token that is known, and
+    /// others as long as that is.
     fn may_come(&self, frame: &[u8]) -> bool
         requires { 5 ≤ length frame.now }
         ensures { result ≡ may_come self.now.guard self.now.taken (frame_of frame.now) }
     {
         match &self.guard {
-            Some(guard) if self.count == 0 => guard.is_shown(frame[4], &frame[5..]),
-            _ => true,
+            None => true,
+            Some(Guard::Knows(pass)) => self.count > 0 || pass.is_shown(frame[4], &frame[5..]),
+            Some(Guard::Asks) | Some(Guard::Left(_)) => false,
         }
     }
 

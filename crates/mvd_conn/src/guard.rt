@@ -1,73 +1,78 @@
-//! Who may come in: whoever shows the token.
-ghost use Rattle.std.specs.Prelude.{◌≡◌};
-ghost use Rattle.std.specs.Str.{bytes_eq};
-ghost use Rattle.sha2.specs.Sha256.{sha256};
-ghost use Rattle.mvd_conn.specs.Guard.{admits, shows};
+//! Who may come in: whoever shows a token that is known.
+ghost use Rattle.std.specs.Prelude.{◌≡◌, option_copied};
+ghost use Rattle.mvd_conn.specs.Guard.{guard_at, guard_by as by_pass, guard_kept, may_under, shows};
+ghost use Rattle.mvd_conn.specs.declared.guard.Guard.TheVariants.{Knows};
+ghost use Rattle.mvd_wire.specs.Frames.{frame_at};
 
-use sha2::{Digest, Sha256};
+use crate::passes::{Pass, Passes, shown_by};
+use crate::scan::{Front, front_of};
+use mvd_wire::Request;
 
-/// The kind byte of a Hello.
-const HELLO: u8 = 0x2D;
-
-/// The most bytes of a token.
-const TOKEN_MAX: usize = 256;
-
-/// The SHA-256 of a token. Nothing else is kept of the token.
+/// What a connection has shown of which a token is asked.
 #[derive(Clone, Copy)]
-pub struct Guard {
-    pub digest: [u8; 32],
+pub enum Guard {
+    /// No token that is known.
+    Asks,
+    /// The token of a pass, or that comes next.
+    Knows(Pass),
+    /// The token of a pass that is not known any more.
+    Left(Pass),
 }
 
 impl Guard {
-    /// A guard that lets in whoever shows this token.
-    pub fn of(token: &[u8]) -> Guard
-        ensures { result.digest ≡ sha256 token.now }
+    /// That of a pass.
+    pub(crate) fn of(pass: Option<&Pass>) -> Guard
+        ensures { result ≡ by_pass (option_copied pass.entry) }
     {
-        Guard {
-            digest: digest_of(token),
+        match pass {
+            Some(pass) => Guard::Knows(*pass),
+            None => Guard::Asks,
         }
     }
 
-    /// Whether this is the token. All bytes of the two digests are compared, so that time tells nothing.
-    pub fn admits(&self, token: &[u8]) -> bool
-        ensures { result ≡ admits self.now token.now }
+    /// That of the first frame, where it came.
+    pub(crate) fn at(passes: &Passes, held: &[u8]) -> Guard
+        ensures { result ≡ guard_at passes.now (frame_at held.now) }
     {
-        are_same(&digest_of(token), &self.digest)
+        match front_of(held) {
+            Front::Whole(size) => {
+                let frame = &held[..size];
+                Guard::of(passes.shown(frame[4], &frame[5..]))
+            }
+            _ => Guard::Asks,
+        }
     }
 
-    /// Whether a frame is a Hello that shows the token.
+    /// The same where these passes are known: one that is not there any more is left for good.
+    pub(crate) fn kept(self, passes: &Passes) -> Guard
+        ensures { result ≡ guard_kept passes.now self }
+    {
+        match self {
+            Guard::Knows(pass) if !passes.has(&pass) => Guard::Left(pass),
+            guard => guard,
+        }
+    }
+}
+
+impl Pass {
+    /// Whether a frame is a Hello that shows its token.
     pub(crate) fn is_shown(&self, kind: u8, payload: &[u8]) -> bool
         ensures { result ≡ shows self.now (record { kind = kind; payload = payload.now }) }
     {
-        if kind != HELLO {
-            return false;
-        }
-        match payload {
-            [high, low, token @ ..] => {
-                usize::from(*high) * 256 + usize::from(*low) == token.len()
-                    && token.len() <= TOKEN_MAX
-                    && self.admits(token)
-            }
-            _ => false,
+        match shown_by(kind, payload) {
+            Some(token) => self.admits(token),
+            None => false,
         }
     }
 }
 
-fn digest_of(token: &[u8]) -> [u8; 32]
-    ensures { result ≡ sha256 token.now }
+/// Whether a client may ask that, who has shown so much.
+pub(crate) fn may_ask(guard: Option<&Guard>, request: &Request) -> bool
+    ensures { result ≡ may_under (option_copied guard.entry) request.now }
 {
-    let mut hasher = Sha256::new();
-    hasher.update(token);
-    hasher.finalize()
-}
-
-/// Whether two digests are the same. It compares all their bytes, also after two that differ.
-fn are_same(first: &[u8; 32], second: &[u8; 32]) -> bool
-    ensures { result ≡ bytes_eq first.now second.now }
-{
-    let mut same = true;
-    for i in 0..32 {
-        same &= first[i] == second[i];
+    match guard {
+        None => true,
+        Some(Guard::Asks) => false,
+        Some(Guard::Knows(pass)) | Some(Guard::Left(pass)) => pass.right.allows(request),
     }
-    same
 }

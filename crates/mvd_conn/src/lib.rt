@@ -4,11 +4,15 @@
 mod connection;
 mod guard;
 pub mod laws;
+mod passes;
+mod right;
 mod room;
 pub mod scan;
 pub mod source;
 
 pub use connection::Connection;
 pub use guard::Guard;
+pub use passes::{Pass, Passes};
+pub use right::Right;
 pub use scan::{Front, front_of};
 pub use source::Source;

@@ -27,6 +27,8 @@ mod reopened;
 #[cfg(test)]
 mod replica_calls;
 #[cfg(test)]
+mod rights;
+#[cfg(test)]
 mod scale;
 #[cfg(test)]
 mod stops;

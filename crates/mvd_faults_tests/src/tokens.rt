@@ -1,7 +1,7 @@
 //! Who may come in: what a client is told that has to show a token, and one that has not.
 use super::host_calls::{feed, round, take};
 use super::replica_calls::{Bytes, EMPTY, GET, PUT, ROOM, WRITTEN, end, new_replica, root_of};
-use mvd_conn::Guard;
+use mvd_conn::{Guard, Passes, Right};
 use mvd_dots::Refusal;
 use mvd_host::Host;
 use mvd_replica::Replica;
@@ -32,6 +32,19 @@ fn admit(host: &mut Host, guard: Option<Guard>) {
     let _ = host.admit(guard);
 }
 
+fn meet(host: &mut Host, passes: Option<&Passes>) {
+    if let Some(passes) = passes {
+        host.meet(0, passes);
+    }
+}
+
+/// The passes of this token alone.
+fn passes_of(alloc: Global, token: &[u8]) -> Result<Passes, Refusal> {
+    let mut passes = Passes::new(alloc);
+    passes.add(token, Right::ALL)?;
+    Ok(passes)
+}
+
 fn goes_on(host: &Host) -> bool {
     host.ending(0).is_none()
 }
@@ -40,18 +53,20 @@ fn goes_on(host: &Host) -> bool {
 fn told_by<S: Alter>(
     alloc: Global,
     replica: &mut Replica<S>,
-    guard: Option<Guard>,
+    passes: Option<&Passes>,
     frames: &[&str],
     size: usize,
 ) -> (Bytes, bool) {
     let mut host = Host::new(alloc);
-    admit(&mut host, guard);
+    admit(&mut host, passes.map(|_| Guard::Asks));
     for piece in Bytes::of(frames).bytes().chunks(size.max(1)) {
         feed(&mut host, 0, piece);
+        meet(&mut host, passes);
         round(alloc, &mut host, replica, &[0]);
     }
     // Each of them is answered in a round of its own, if it has to be.
     for _ in frames {
+        meet(&mut host, passes);
         round(alloc, &mut host, replica, &[0]);
     }
     let told = take(&mut host, 0, ROOM);
@@ -64,7 +79,7 @@ fn told_by<S: Alter>(
 /// and whether the site has a key then as is wanted.
 fn is_told(
     alloc: Global,
-    guard: Option<Guard>,
+    passes: Option<&Passes>,
     sent: &[&str],
     told: &[&str],
     goes: bool,
@@ -74,7 +89,7 @@ fn is_told(
     for size in [1, 7, ROOM] {
         let mut replica = new_replica(alloc, 1, &[])?;
         let before = root_of(&replica);
-        let (came, went) = told_by(alloc, &mut replica, guard, sent, size);
+        let (came, went) = told_by(alloc, &mut replica, passes, sent, size);
         let wrote = root_of(&replica) != before;
         end(replica);
         as_wanted &= came.bytes() == Bytes::of(told).bytes() && went == goes && wrote == writes;
@@ -84,22 +99,33 @@ fn is_told(
 
 #[test]
 fn the_token_lets_in(rt: HostRuntime) -> Result<(), Fail> {
-    let guard = Some(Guard::of(TOKEN));
     let alloc = rt.alloc();
+    let passes = passes_of(alloc, TOKEN)?;
+    let passes = Some(&passes);
     let sent = [HELLO, GET, HELLO, PUT];
     let told = [DONE, EMPTY, DONE, WRITTEN];
-    assert!(rt; is_told(alloc, guard, &[HELLO], &[DONE], true, false)?);
-    assert!(rt; is_told(alloc, guard, &sent, &told, true, true)?);
+    assert!(rt; is_told(alloc, passes, &[HELLO], &[DONE], true, false)?);
+    assert!(rt; is_told(alloc, passes, &sent, &told, true, true)?);
     Ok(())
 }
 
 #[test]
 fn nothing_else_does(rt: HostRuntime) -> Result<(), Fail> {
-    let guard = Some(Guard::of(TOKEN));
+    let passes = passes_of(rt.alloc(), TOKEN)?;
+    let passes = Some(&passes);
     let told = [NOT_ADMITTED];
     for first in [OTHER, HALF, NONE, GET, PUT] {
-        assert!(rt; is_told(rt.alloc(), guard, &[first], &told, false, false)?);
-        assert!(rt; is_told(rt.alloc(), guard, &[first, HELLO, PUT], &told, false, false)?);
+        assert!(rt; is_told(rt.alloc(), passes, &[first], &told, false, false)?);
+        assert!(rt;
+            is_told(
+                rt.alloc(),
+                passes,
+                &[first, HELLO, PUT],
+                &told,
+                false,
+                false
+            )?
+        );
     }
     Ok(())
 }

@@ -80,10 +80,11 @@ pub fn one_text()
         (state_codec layout2).Fits t → key.spell k ++ spell_state s ≡ key.spell l ++ spell_state t → (k ≡ l) × (s ≡ t) }
 {}
 
-/// Which states have a spelling, so also what a decoded state is.
+/// Which states have a spelling, so also what a decoded state is; and that the spelling is their codec's.
 pub fn spelled_states()
     ensures in_form { (s : State) → (state_codec layout2).Fits s → IsInForm s }
     ensures spelled { (s : State) → IsInForm s → (state_codec layout2).Fits s }
+    ensures as_codec { (s : State) → (state_codec layout2).spell s ≡ spell_state s }
 {}
 
 /// What the first version of the format spells in 1,000,000 bytes the second spells in 1,150,000.

@@ -11,7 +11,7 @@ ghost use Rattle.mvd_input.specs.declared.fault.Fault.TheVariants as faults;
 
 use crate::harm::Harm;
 use mvd_dots::Refusal;
-use mvd_input::Fault;
+use mvd_input::{Fault, PassFault};
 use sqlite::ErrorCode;
 use std::fmt;
 use std::io::{self, ErrorKind};
@@ -33,10 +33,10 @@ pub enum Hint<'a> {
     NoDefs(&'a str),
     #[error("{0}: a line is `index F` or `view V G S`, none of them twice, and at most 16 of either")]
     BadDefs(&'a str),
-    #[error("{0} cannot be read: --token-file names a file whose first line is a token")]
+    #[error("{0} cannot be read: --token-file names a file with a token in each line")]
     NoToken(&'a str),
-    #[error("{0}: the first line is the token, 16 to 256 printable ASCII characters without a space")]
-    BadToken(&'a str),
+    #[error("{0}: {1}")]
+    BadToken(&'a str, PassFault),
     #[error("{0} is in use: end the program that has it open, or ask that one through its port")]
     InUse(&'a str),
     #[error("{0} is no database of mvd, or damaged, or was left half made, as on a full disk: make room and try again, name another file, or make a new site from a copy (docs/USING.md, Backups)")]
@@ -181,7 +181,7 @@ impl<'a> Stop<'a> {
         Stop { fault, hint }
     }
 
-    /// The file with a token is at fault.
+    /// The file with tokens is at fault.
     pub fn in_token_file(file: &'a str, fault: Fault) -> Stop<'a>
         ensures fault { result.fault ≡ fault }
         ensures unread { fault ≡ Stopped ReadFailed → result.hint ≡ Some (Hint.NoToken file.entry) }
@@ -195,12 +195,12 @@ impl<'a> Stop<'a> {
         Stop { fault, hint }
     }
 
-    /// The first line of the file with a token is none.
-    pub fn no_token(file: &'a str) -> Stop<'a>
+    /// What stands in a file with tokens is none.
+    pub fn no_token(file: &'a str, fault: PassFault) -> Stop<'a>
         ensures fault { result.fault ≡ Stopped ReadFailed }
-        ensures hint { result.hint ≡ Some (Hint.BadToken file.entry) }
+        ensures hint { result.hint ≡ Some (Hint.BadToken file.entry fault) }
     {
-        Stop::new(Refusal::ReadFailed, Hint::BadToken(file))
+        Stop::new(Refusal::ReadFailed, Hint::BadToken(file, fault))
     }
 
     /// A file cannot be opened as a database, or not be closed.

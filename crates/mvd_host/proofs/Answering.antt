@@ -5,7 +5,6 @@ use Rattle.mvd_dots.specs.declared.refusals.Refusal.{Refusal}
 use Rattle.mvd_dots.specs.declared.refusals.Refusal.TheVariants.{Memory}
 use Rattle.mvd_wire.specs.declared.request.Request.{Request}
 use Rattle.mvd_wire.specs.declared.reply.Reply.{Reply}
-use Rattle.mvd_wire.specs.Frames.{FrameValue}
 use Rattle.mvd_conn.specs.History.{History}
 use Rattle.mvd_site.specs.Sites.{SiteValue}
 use Rattle.mvd_replica.specs.Turns.{Turn}
@@ -13,7 +12,7 @@ use Rattle.mvd_replica.proofs.Positions.{AnswersAll}
 use Rattle.sqlite.specs.State.{State}
 use Rattle.mvd_host.specs.AtHand.{AllMayWait, AtHandValue, BeginsWith, first_at_hand, told_at_hand}
 use Rattle.mvd_host.specs.Hosts.{AreKept, IfClient, client_in}
-use Rattle.mvd_host.specs.Course.{BothClients, IsOut, asked_by, own}
+use Rattle.mvd_host.specs.Course.{BothClients, IsOut, own}
 use Rattle.mvd_host.specs.Taking.{AreFaults, IsFair, HasNoNext, IsNothingTaken, TakesOnly}
 use Rattle.mvd_host.specs.Queueing.{QueuesReplies, refused_all, refused_faults}
 use Rattle.mvd_host.specs.Round.{AnswersAtHand, ClientCourse, GoesForward, Round, Side, Spares, turns_of}
@@ -91,7 +90,7 @@ no_fault_left : (es : List (ℕ × Refusal)) → AreFaults [] es → es ≡ []
 no_fault_left [] all = refl
 no_fault_left (e ∷ es) all = absurd all
 
-no_faulty_left : (fs : List (ℕ × FrameValue)) → AreFaults fs [] → fs ≡ []
+no_faulty_left : (fs : List (ℕ × Result Request Refusal)) → AreFaults fs [] → fs ≡ []
 no_faulty_left [] all = refl
 no_faulty_left (f ∷ fs) all = absurd all
 
@@ -119,7 +118,7 @@ module _ (asks_at_hand : List (ℕ × Request)) (ready : List ℕ) (old mid betw
   no_fault_turns n none =
       let faults = fault_turns took.all.faulty taken.faults.items in
       nothing_mapped (λ (t : Turn). t.asked) (own n faults)
-      (sym (own_mapped n (λ (t : Turn). t.asked) faults) ∙ ap (own n) (fault_asks took.all.faulty taken.faults.items took.all.holds.faults) ∙ own_mapped n asked_by took.all.faulty ∙ ap (λ (l : List FrameValue). map asked_by l) none)
+      (sym (own_mapped n (λ (t : Turn). t.asked) faults) ∙ ap (own n) (fault_asks took.all.faulty taken.faults.items took.all.holds.faults) ∙ none)
 
   no_turns : (n : ℕ) → (own n took.all.requests ≡ []) × (own n took.all.faulty ≡ []) → (own n a.ts ≡ []) × (own n (fault_turns took.all.faulty taken.faults.items) ≡ [])
   no_turns n none =
@@ -141,9 +140,9 @@ module _ (asks_at_hand : List (ℕ × Request)) (ready : List ℕ) (old mid betw
       let second : own n faults ≡ [] = no_second (own n a.ts) (own n faults) both in
       let requests : map {B = Result Request Refusal} (λ r. Ok r) (own n took.all.requests) ≡ [] =
       sym (own_mapped n (λ (r : Request). Ok r) took.all.requests) ∙ ap (own n) (sym a.asked) ∙ own_mapped n (λ (t : Turn). t.asked) a.ts ∙ ap (λ (l : List Turn). map (λ t. t.asked) l) first in
-      let faulty : map asked_by (own n took.all.faulty) ≡ [] =
-      sym (own_mapped n asked_by took.all.faulty) ∙ ap (own n) (sym (fault_asks took.all.faulty taken.faults.items took.all.holds.faults)) ∙ own_mapped n (λ (t : Turn). t.asked) faults ∙ ap (λ (l : List Turn). map (λ t. t.asked) l) second in
-      (nothing_mapped (λ (r : Request). Ok r) (own n took.all.requests) requests, nothing_mapped asked_by (own n took.all.faulty) faulty)
+      let faulty : own n took.all.faulty ≡ [] =
+      ap (own n) (sym (fault_asks took.all.faulty taken.faults.items took.all.holds.faults)) ∙ own_mapped n (λ (t : Turn). t.asked) faults ∙ ap (λ (l : List Turn). map (λ t. t.asked) l) second in
+      (nothing_mapped (λ (r : Request). Ok r) (own n took.all.requests) requests, faulty)
 
   -- a client of which no frame was taken is as the taking left it
   same_later : (n : ℕ) → (own n took.all.requests ≡ []) × (own n took.all.faulty ≡ []) → client_in new n ≡ client_in mid n
@@ -181,7 +180,7 @@ module _ (asks_at_hand : List (ℕ × Request)) (ready : List ℕ) (old mid betw
       let first : a.ts ≡ [] = no_first a.ts faults nothing in
       let second : faults ≡ [] = no_second a.ts faults nothing in
       let requests : took.all.requests ≡ [] = nothing_mapped (λ (r : ℕ × Request). (r.0, Ok r.1)) took.all.requests (sym a.asked ∙ ap asks first) in
-      let faulty : took.all.faulty ≡ [] = nothing_mapped (λ (f : ℕ × FrameValue). (f.0, asked_by f.1)) took.all.faulty (sym (fault_asks took.all.faulty taken.faults.items took.all.holds.faults) ∙ ap asks second) in
+      let faulty : took.all.faulty ≡ [] = sym (fault_asks took.all.faulty taken.faults.items took.all.holds.faults) ∙ ap asks second in
       let clients : length taken.clients.items ≡ 0 = ap length took.all.holds.clients ∙ ap (λ (l : List (ℕ × Request)). length (map (λ r. r.0) l)) requests in
       let others : length taken.faults.items ≡ 0 = ap length (no_fault_left taken.faults.items (subst (λ l. AreFaults l taken.faults.items) faulty took.all.holds.faults)) in
       some (omega (arith, clients, others))

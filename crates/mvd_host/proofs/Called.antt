@@ -1,17 +1,23 @@
 -- What a call on one client leaves of the others, and of what it asked and was told.
-use Rattle.std.proofs.Common.{◌≡◌, ℕ, ◌==◌, Bool, true, false, cond, List, [], ◌∷◌, map, Option, Some, None, refl, sym, ap, ◌∙◌, subst, subst₂, arith}
+use Rattle.std.proofs.Common.{◌≡◌, ℕ, ◌==◌, Bool, true, false, cond, List, [], ◌∷◌, map, Option, Some, None, Result, Ok, Err, refl, sym, ap, ap₂, ◌∙◌, subst, subst₂, arith}
 use Rattle.std.proofs.lemmas.Bool.Decides.{nat_tests}
 use Rattle.std.specs.Ordering.{nat_cmp}
 use Rattle.std.specs.BTreeMap.{is_at}
 use Rattle.std.specs.Map.{set_value}
-use Rattle.mvd_conn.specs.Guard.{IsShown}
+use Rattle.mvd_conn.proofs.Guarded.{may_met, shown_met}
+use Rattle.mvd_conn.specs.Guard.{IsShown, asked_under, guard_met}
 use Rattle.mvd_conn.specs.declared.guard.Guard.{Guard}
-use Rattle.mvd_conn.specs.History.{History}
+use Rattle.mvd_conn.specs.declared.passes.Pass.{Pass}
+use Rattle.mvd_conn.specs.History.{History, closed, coming, cut, fed, met, released, sent}
+use Rattle.mvd_dots.specs.declared.refusals.Refusal.{Refusal}
+use Rattle.mvd_dots.specs.declared.refusals.Refusal.TheVariants.{NotAdmitted}
 use Rattle.mvd_wire.specs.Frames.{FrameValue}
+use Rattle.mvd_wire.specs.Requests.{request_of}
+use Rattle.mvd_wire.specs.declared.request.Request.{Request}
 use Rattle.mvd_replica.specs.Turns.{Turn}
 use Rattle.mvd_host.specs.Hosts.{HostValue, altered, altered_if, client_in, client_of, with_client}
 use Rattle.mvd_host.specs.Course.{AreQueued, asked_by}
-use Rattle.mvd_host.specs.Runs.{Call, Closes, Cuts, Feeds, Releases, Sends, TellsOwn, after_call}
+use Rattle.mvd_host.specs.Runs.{Call, Closes, Cuts, Feeds, Meets, Releases, Sends, TellsOwn, after_call}
 use Rattle.mvd_host.proofs.Hosts.{at_is}
 
 set_other : (n q : ℕ) → (q == n) ≡ false → (es : List (ℕ × History)) (w : History) → client_in (set_value (is_at (nat_cmp n)) es w) q ≡ client_in es q
@@ -69,30 +75,34 @@ pub admitted_called : (host : HostValue) (n : ℕ) (f : History → History) (o 
 admitted_called host n f None = refl
 admitted_called host n f (Some x) = refl
 
-call_taken : (call : Call) (h : History) → (after_call call h).taken ≡ h.taken
-call_taken (Feeds bytes) h = refl
-call_taken Releases h = refl
-call_taken (Closes source) h = refl
-call_taken (Sends count) h = refl
-call_taken Cuts h = refl
+-- ---- what was asked is the same, whichever passes are known now
 
-call_answers : (call : Call) (h : History) → (after_call call h).answers ≡ h.answers
-call_answers (Feeds bytes) h = refl
-call_answers Releases h = refl
-call_answers (Closes source) h = refl
-call_answers (Sends count) h = refl
-call_answers Cuts h = refl
+same_under : (passes : List Pass) (f : FrameValue) (taken : List FrameValue) (guard : Option Guard) (next : Result (Option FrameValue × List ℕ) Refusal) (asked : Result Request Refusal) → asked_under (guard_met passes (f ∷ taken) next guard) asked ≡ asked_under guard asked
+same_under passes f taken guard next (Ok request) = ap {B = Result Request Refusal} (λ (b : Bool). cond b (Ok request) (Err NotAdmitted)) (may_met passes f taken guard next request)
+same_under passes f taken guard next (Err refusal) = refl
 
-call_guard : (call : Call) (h : History) → (after_call call h).guard ≡ h.guard
-call_guard (Feeds bytes) h = refl
-call_guard Releases h = refl
-call_guard (Closes source) h = refl
-call_guard (Sends count) h = refl
-call_guard Cuts h = refl
+same_each : (passes : List Pass) (f : FrameValue) (taken : List FrameValue) (guard : Option Guard) (next : Result (Option FrameValue × List ℕ) Refusal) (gs : List FrameValue) → map (asked_by (guard_met passes (f ∷ taken) next guard)) gs ≡ map (asked_by guard) gs
+same_each passes f taken guard next [] = refl
+same_each passes f taken guard next (g ∷ gs) = ap₂ (λ (a : Result Request Refusal) (l : List (Result Request Refusal)). a ∷ l) (same_under passes f taken guard next (request_of g.kind g.payload)) (same_each passes f taken guard next gs)
+
+same_asked : (passes : List Pass) (taken : List FrameValue) (guard : Option Guard) (next : Result (Option FrameValue × List ℕ) Refusal) → map (asked_by (guard_met passes taken next guard)) taken ≡ map (asked_by guard) taken
+same_asked passes [] guard next = refl
+same_asked passes (f ∷ taken) guard next = same_each passes f taken guard next (f ∷ taken)
+
+tells_met : (turns : List Turn) (passes : List Pass) (h : History) → TellsOwn turns h → TellsOwn turns (met passes h)
+tells_met turns passes h t = record { asked = same_asked passes h.taken h.guard (coming h) ∙ t.asked; told = t.told; shown = shown_met passes h.taken (coming h) h.guard t.shown }
+
+tells_same : (turns : List Turn) (h k : History) → k.taken ≡ h.taken → k.answers ≡ h.answers → k.guard ≡ h.guard → TellsOwn turns h → TellsOwn turns k
+tells_same turns h k taken answers guard t = record {
+  asked = ap₂ (λ (g : Option Guard) (fs : List FrameValue). map (asked_by g) fs) guard taken ∙ t.asked;
+  told = subst (AreQueued (map (λ (t : Turn). t.reply) turns)) (sym answers) t.told;
+  shown = subst₂ (λ (g : Option Guard) (fs : List FrameValue). IsShown g fs) (sym guard) (sym taken) t.shown;
+}
 
 pub tells_call : (turns : List Turn) (call : Call) (h : History) → TellsOwn turns h → TellsOwn turns (after_call call h)
-tells_call turns call h t = record {
-  asked = ap (map asked_by) (call_taken call h) ∙ t.asked;
-  told = subst (AreQueued (map (λ (t : Turn). t.reply) turns)) (sym (call_answers call h)) t.told;
-  shown = subst₂ (λ (g : Option Guard) (fs : List FrameValue). IsShown g fs) (sym (call_guard call h)) (sym (call_taken call h)) t.shown;
-}
+tells_call turns (Meets passes) h t = tells_met turns passes h t
+tells_call turns (Feeds bytes) h t = tells_same turns h (fed h bytes) refl refl refl t
+tells_call turns Releases h t = tells_same turns h (released h) refl refl refl t
+tells_call turns (Closes source) h t = tells_same turns h (closed h source) refl refl refl t
+tells_call turns (Sends count) h t = tells_same turns h (sent h count) refl refl refl t
+tells_call turns Cuts h t = tells_same turns h (cut h) refl refl refl t

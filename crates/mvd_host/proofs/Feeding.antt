@@ -1,12 +1,14 @@
 -- What is noted, and what of it is told.
-use Rattle.std.proofs.Common.{◌≡◌, ℕ, ◌&&◌, ◌+◌, ◌-◌, ◌<◌, ◌≤◌, Bool, true, false, if◌then◌else◌, nat_le, List, [], ◌∷◌, ◌++◌, length, drop, take, get_or, map, reverse, Option, Some, None, refl, sym, ap, ap₂, subst, true≢false, ◌∙◌, arith, append_assoc, suc}
-use Rattle.std.proofs.lemmas.List.{drop_more, reverse-append, length-reverse, length-map, get_or-map, drop-drop, take-append-drop}
+use Rattle.std.proofs.Common.{◌≡◌, ℕ, ◌&&◌, ◌+◌, ◌-◌, ◌<◌, ◌≤◌, Bool, true, false, filter, if◌then◌else◌, nat_le, List, [], ◌∷◌, ◌++◌, length, drop, take, get_or, map, reverse, Option, Some, None, refl, sym, ap, ap₂, subst, true≢false, ◌∙◌, arith, append_assoc, append-nil, suc, zero}
+use Rattle.std.proofs.lemmas.List.{drop_more, reverse-append, length-reverse, length-map, get_or-map, drop-drop, take_more}
+use Rattle.std.proofs.lemmas.List.Elements.{filter-append}
+use Rattle.std.proofs.lemmas.Bool.Decides.{nat_tests}
 use Rattle.std.specs.Option.{option_map}
 use Rattle.std.specs.Borrow.{Bor}
 use Rattle.mvd_keys.specs.Writes.{Key}
-use Rattle.mvd_host.specs.declared.feed.Lasts.{Lasts}
-use Rattle.mvd_host.specs.Feeds.{FeedValue, NotedValue, are_few, fitted, if_few, is_listed, keys_in, keys_most, lasts, root_after, root_now, rounds_most, told_from, told_most}
-use Rattle.mvd_host.specs.Gathered.{Gathers}
+use Rattle.mvd_host.specs.declared.feed.Gathered.{Gathered}
+use Rattle.mvd_host.specs.Feeds.{FeedValue, NotedValue, after_root, are_few, begins_with, fitted, is_root, keys_in, keys_most, later_or, met_all, met_one, page_of, root_after, root_now, rounds_most, since_start, told_most}
+use Rattle.mvd_host.specs.Gathered.{Met}
 
 -- the last round left the root
 pub root_after-last : (root : List ℕ) (rounds : List NotedValue) (last : NotedValue) → 0 < length rounds → last ≡ get_or rounds (length rounds - 1) last → root_after root rounds ≡ last.root
@@ -16,68 +18,131 @@ root_after-last root (noted ∷ next ∷ rounds) last some is =
     let e : length (noted ∷ next ∷ rounds) - 1 ≡ suc (length (next ∷ rounds) - 1) = omega arith in
     root_after-last noted.root (next ∷ rounds) last (omega arith) (is ∙ ap (λ i. get_or (noted ∷ next ∷ rounds) i last) e)
 
-lasts-longer-one : (key : Key) (keys : List Key) → length (lasts keys) ≤ length (lasts (key ∷ keys))
-lasts-longer-one key keys =
-    elim (is_listed keys key) as (λ b. length (lasts keys) ≤ length (if b then lasts keys else key ∷ lasts keys)) [ true ↦ omega arith | false ↦ omega arith ]
-
--- keys before others only add to those that are told
-pub lasts-longer : (front keys : List Key) → length (lasts keys) ≤ length (lasts (front ++ keys))
-lasts-longer [] keys = omega arith
-lasts-longer (key ∷ front) keys =
-    let one = lasts-longer front keys in
-    let two = lasts-longer-one key (front ++ keys) in
-    omega (arith, one, two)
-
 -- the root now is the one that the last round left
 pub root_told : (start : Option (List ℕ)) (rounds : List NotedValue) (last : NotedValue) → (start ≡ None → rounds ≡ []) → 0 < length rounds → last ≡ get_or rounds (length rounds - 1) last → Some last.root ≡ root_now (record { start = start; rounds = rounds })
 root_told None rounds last none some is = let no = ap (λ (l : List NotedValue). length l) (none refl) in absurd (omega (arith, no))
 root_told (Some start) rounds last none some is = ap (λ (r : List ℕ). Some r) (sym (root_after-last start rounds last some is))
 
--- where the keys of a front are too many, all are
-pub too_many : (keys front : List Key) → told_most < length (lasts keys) → told_most < length (lasts (front ++ keys))
-too_many keys front many = let longer = lasts-longer front keys in omega (arith, longer)
+-- ---- where a root is found
 
-pub none_told : (keys : List Key) → told_most < length (lasts keys) → None ≡ if_few (lasts keys)
-none_told keys many = grind arith
+-- what is found from a later round on is the last
+pub after_drop : (rounds : List NotedValue) (n : ℕ) (root : List ℕ) (found : List NotedValue) → after_root (drop n rounds) root ≡ Some found → after_root rounds root ≡ Some found
+after_drop rounds zero root found is = is
+after_drop [] (suc n) root found is = is
+after_drop (noted ∷ rounds) (suc n) root found is = ap (λ o. later_or o (if is_root noted.root root then Some rounds else None)) (after_drop rounds n root found is)
 
-pub some_told : (keys : List Key) → length (lasts keys) ≤ told_most → Some (lasts keys) ≡ if_few (lasts keys)
-some_told keys few = grind arith
+-- where it is not found behind a round
+pub after_at : (rounds : List NotedValue) (i : ℕ) (noted : NotedValue) (root : List ℕ) → i < length rounds → noted ≡ get_or rounds i noted → after_root (drop (i + 1) rounds) root ≡ None
+    → after_root (drop i rounds) root ≡ (if is_root noted.root root then Some (drop (i + 1) rounds) else None)
+after_at rounds i noted root within is none =
+    ap (λ l. after_root l root) (drop_more rounds i noted within ∙ ap (λ (m : NotedValue). m ∷ drop (i + 1) rounds) (sym is))
+    ∙ ap (λ o. later_or o (if is_root noted.root root then Some (drop (i + 1) rounds) else None)) none
 
--- what was gathered is no more than it may be
-pub few_gathered : (gathered : Lasts) (keys : List Key) → Gathers gathered keys → length (lasts keys) ≤ told_most
-few_gathered gathered keys g =
-    let e : length (lasts keys) ≡ length gathered.found.items = ap (λ (l : List Key). length l) (sym g.order) ∙ length-reverse (map (λ (k : Bor Key). k.now) gathered.found.items) ∙ length-map gathered.found.items (λ (k : Bor Key). k.now) in
-    let few = g.few in
-    omega (arith, e, few)
+-- the rounds since a root, where it was found behind a round, or at the start, or not at all
+pub since_found : (start : List ℕ) (rounds : List NotedValue) (i left : ℕ) (noted : NotedValue) (root : List ℕ) → left ≡ i + 1 → i < length rounds → noted ≡ get_or rounds i noted → is_root noted.root root ≡ true → after_root (drop left rounds) root ≡ None
+    → since_start start rounds root ≡ Some (drop left rounds)
+since_found start rounds i left noted root next within is same none =
+    let behind : after_root (drop (i + 1) rounds) root ≡ None = subst (λ n. after_root (drop n rounds) root ≡ None) next none in
+    let here : after_root (drop i rounds) root ≡ Some (drop (i + 1) rounds) = after_at rounds i noted root within is behind ∙ ap (λ b. if b then Some (drop (i + 1) rounds) else None) same in
+    ap (λ o. later_or o (if is_root start root then Some rounds else None)) (after_drop rounds i root (drop (i + 1) rounds) here) ∙ ap (λ n. Some (drop n rounds)) (sym next)
 
--- the keys that were met, from one index on
-pub drop_keys : (keys : List Key) (later : List Key) (i : ℕ) (key : Key) → i < length keys → key ≡ get_or keys i key → drop i keys ++ later ≡ key ∷ (drop (i + 1) keys ++ later)
-drop_keys keys later i key within is = ap (λ (l : List Key). l ++ later) (drop_more keys i key within ∙ ap (λ (k : Key). k ∷ drop (i + 1) keys) (sym is))
+pub since_not_here : (rounds : List NotedValue) (i left : ℕ) (noted : NotedValue) (root : List ℕ) → left ≡ i + 1 → i < length rounds → noted ≡ get_or rounds i noted → is_root noted.root root ≡ false → after_root (drop left rounds) root ≡ None → after_root (drop i rounds) root ≡ None
+since_not_here rounds i left noted root next within is other none =
+    after_at rounds i noted root within is (subst (λ n. after_root (drop n rounds) root ≡ None) next none) ∙ ap (λ b. if b then Some (drop (i + 1) rounds) else None) other
 
-pub keys_in-append : (first second : List NotedValue) → keys_in (first ++ second) ≡ keys_in first ++ keys_in second
-keys_in-append [] second = refl
-keys_in-append (noted ∷ first) second = ap (λ (l : List Key). noted.keys ++ l) (keys_in-append first second) ∙ sym (append_assoc noted.keys (keys_in first) (keys_in second))
+pub since_at_start : (start : List ℕ) (rounds : List NotedValue) (left : ℕ) (root : List ℕ) (b : Bool) → left ≡ 0 → is_root start root ≡ b → after_root (drop left rounds) root ≡ None → since_start start rounds root ≡ (if b then Some rounds else None)
+since_at_start start rounds left root b none same behind =
+    ap (λ o. later_or o (if is_root start root then Some rounds else None)) (subst (λ n. after_root (drop n rounds) root ≡ None) none behind) ∙ ap (λ x. if x then Some rounds else None) same
 
--- the keys from one round on, with those of the round
-pub keys_in-drop : (rounds : List NotedValue) (i : ℕ) (noted : NotedValue) → i < length rounds → noted ≡ get_or rounds i noted → keys_in (drop i rounds) ≡ noted.keys ++ keys_in (drop (i + 1) rounds)
-keys_in-drop rounds i noted within is =
-    ap keys_in (drop_more rounds i noted within) ∙ ap (λ (m : NotedValue). m.keys ++ keys_in (drop (i + 1) rounds)) (sym is)
+-- ---- rounds from one to another
 
--- where the keys from a later round on are too many, nothing is told
-pub many_told : (rounds : List NotedValue) (place i : ℕ) → place ≤ i → told_most < length (lasts (keys_in (drop i rounds))) → None ≡ told_from rounds place
-many_told rounds place i before many =
-    let later : drop (i - place) (drop place rounds) ≡ drop i rounds = drop-drop (i - place) place rounds ∙ ap (λ n. drop n rounds) (omega arith) in
-    let front = take (i - place) (drop place rounds) in
-    let split : keys_in (drop place rounds) ≡ keys_in front ++ keys_in (drop i rounds) =
-    ap keys_in (sym (take-append-drop (i - place) (drop place rounds))) ∙ keys_in-append front (drop (i - place) (drop place rounds)) ∙ ap (λ (l : List NotedValue). keys_in front ++ keys_in l) later in
-    none_told (keys_in (drop place rounds)) (subst (λ (l : List Key). told_most < length (lasts l)) (sym split) (too_many (keys_in (drop i rounds)) (keys_in front) many))
+-- these rounds begin with this one
+pub rounds_first : (rounds : List NotedValue) (i end : ℕ) (noted : NotedValue) → i < end → end ≤ length rounds → noted ≡ get_or rounds i noted
+    → take (end - i) (drop i rounds) ≡ noted ∷ take (end - (i + 1)) (drop (i + 1) rounds)
+rounds_first rounds i end noted before within is =
+    let count : end - i ≡ suc (end - (i + 1)) = omega arith in
+    ap₂ (λ n l. take n l) count (drop_more rounds i noted (omega arith) ∙ ap (λ (m : NotedValue). m ∷ drop (i + 1) rounds) (sym is))
 
--- the same of the keys of one list
-pub many_keys : (keys later : List Key) (i : ℕ) (key : Key) → i < length keys → key ≡ get_or keys i key → told_most < length (lasts (key ∷ (drop (i + 1) keys ++ later))) → told_most < length (lasts (keys ++ later))
-many_keys keys later i key within is many =
-    let split : keys ++ later ≡ take i keys ++ (drop i keys ++ later) = ap (λ (l : List Key). l ++ later) (sym (take-append-drop i keys)) ∙ append_assoc (take i keys) (drop i keys) later in
-    subst (λ (l : List Key). told_most < length (lasts l)) (sym split)
-    (too_many (drop i keys ++ later) (take i keys) (subst (λ (l : List Key). told_most < length (lasts l)) (sym (drop_keys keys later i key within is)) many))
+take_next : {X : Type 0} (xs : List X) (n : ℕ) (x : X) (rest : List X) → drop n xs ≡ x ∷ rest → take (n + 1) xs ≡ take n xs ++ x ∷ []
+take_next xs zero x rest is = ap (λ l. take 1 l) is
+take_next [] (suc n) x rest is = cc
+take_next (y ∷ xs) (suc n) x rest is =
+    let count : suc n + 1 ≡ suc (n + 1) = omega arith in ap (λ k. take k (y ∷ xs)) count ∙ ap (λ l. y ∷ l) (take_next xs n x rest is)
+
+-- these and one more
+pub rounds_last : (rounds : List NotedValue) (place i : ℕ) (noted : NotedValue) → place ≤ i → i < length rounds → noted ≡ get_or rounds i noted
+    → take (i + 1 - place) (drop place rounds) ≡ take (i - place) (drop place rounds) ++ noted ∷ []
+rounds_last rounds place i noted from within is =
+    let rest = drop place rounds in
+    let n = i - place in
+    let here : drop n rest ≡ noted ∷ drop (i + 1) rounds = drop-drop n place rounds ∙ ap (λ k. drop k rounds) (omega arith) ∙ drop_more rounds i noted within ∙ ap (λ (m : NotedValue). m ∷ drop (i + 1) rounds) (sym is) in
+    let count : i + 1 - place ≡ n + 1 = omega arith in
+    ap (λ k. take k rest) count ∙ take_next rest n noted (drop (i + 1) rounds) here
+
+-- ---- a page
+
+pub met_append : (met first second : List Key) → met_all met (first ++ second) ≡ met_all (met_all met first) second
+met_append met [] second = refl
+met_append met (key ∷ first) second = met_append (met_one met key) first second
+
+-- the keys that begin with a prefix, with one more
+pub met_more : (p : Key → Bool) (met keys : List Key) (i : ℕ) (key : Key) → i < length keys → key ≡ get_or keys i key → met_all (met_all met (filter p (take i keys))) (filter p (key ∷ [])) ≡ met_all met (filter p (take (i + 1) keys))
+met_more p met keys i key within is =
+    sym (ap (λ l. met_all met (filter p l)) (take_more keys i key within ∙ ap (λ (k : Key). take i keys ++ k ∷ []) (sym is)) ∙ ap (met_all met) (filter-append p (take i keys) (key ∷ [])) ∙ met_append met (filter p (take i keys)) (filter p (key ∷ [])))
+
+-- the same from the last one on
+pub kept_more : (p : Key → Bool) (keys later : List Key) (i : ℕ) (key : Key) → i < length keys → key ≡ get_or keys i key → filter p (key ∷ []) ++ (filter p (drop (i + 1) keys) ++ later) ≡ filter p (drop i keys) ++ later
+kept_more p keys later i key within is =
+    let rest = drop (i + 1) keys in
+    sym (append_assoc (filter p (key ∷ [])) (filter p rest) later)
+    ∙ ap (λ l. l ++ later) (sym (filter-append p (key ∷ []) rest) ∙ ap (filter p) (sym (drop_more keys i key within ∙ ap (λ (k : Key). k ∷ rest) (sym is))))
+
+page_next : (prefix : List ℕ) (met : List Key) (noted : NotedValue) (rounds : List NotedValue) → length met < told_most → page_of prefix met (noted ∷ rounds) ≡ noted ∷ page_of prefix (met_all met (filter (begins_with prefix) noted.keys)) rounds
+page_next prefix met noted rounds few =
+    let more : nat_le told_most (length met) ≡ false = grind (arith, nat_tests) in
+    ap (λ b. if b then [] else noted ∷ page_of prefix (met_all met (filter (begins_with prefix) noted.keys)) rounds) more
+
+-- one round more of a page
+pub page_on : (prefix : List ℕ) (whole rounds : List NotedValue) (place i : ℕ) (noted : NotedValue) (met : List Key) → place ≤ i → i < length rounds → noted ≡ get_or rounds i noted → length met < told_most
+    → whole ≡ take (i - place) (drop place rounds) ++ page_of prefix met (drop i rounds)
+    → whole ≡ take (i + 1 - place) (drop place rounds) ++ page_of prefix (met_all met (filter (begins_with prefix) noted.keys)) (drop (i + 1) rounds)
+page_on prefix whole rounds place i noted met from within is few so_far =
+    let so = take (i - place) (drop place rounds) in
+    let rest = page_of prefix (met_all met (filter (begins_with prefix) noted.keys)) (drop (i + 1) rounds) in
+    so_far
+    ∙ ap (λ l. so ++ page_of prefix met l) (drop_more rounds i noted within ∙ ap (λ (m : NotedValue). m ∷ drop (i + 1) rounds) (sym is))
+    ∙ ap (λ l. so ++ l) (page_next prefix met noted (drop (i + 1) rounds) few)
+    ∙ sym (append_assoc so (noted ∷ []) rest)
+    ∙ ap (λ l. l ++ rest) (sym (rounds_last rounds place i noted from within is))
+
+-- and none more
+pub page_done : (prefix : List ℕ) (whole so rounds : List NotedValue) (met : List Key) → rounds ≡ [] → whole ≡ so ++ page_of prefix met rounds → so ≡ whole
+page_done prefix whole so rounds met none so_far = sym (so_far ∙ ap (λ l. so ++ page_of prefix met l) none ∙ append-nil so)
+
+page_none : (prefix : List ℕ) (met : List Key) (rounds : List NotedValue) → told_most ≤ length met → page_of prefix met rounds ≡ []
+page_none prefix met [] many = refl
+page_none prefix met (noted ∷ rounds) many =
+    let enough : nat_le told_most (length met) ≡ true = grind (arith, nat_tests) in
+    ap (λ b. if b then [] else noted ∷ page_of prefix (met_all met (filter (begins_with prefix) noted.keys)) rounds) enough
+
+pub page_full : (prefix : List ℕ) (whole so rounds : List NotedValue) (met : List Key) → told_most ≤ length met → whole ≡ so ++ page_of prefix met rounds → so ≡ whole
+page_full prefix whole so rounds met many so_far = sym (so_far ∙ ap (λ l. so ++ l) (page_none prefix met rounds many) ∙ append-nil so)
+
+-- as many keys were met as are kept
+pub met_count : (gathered : Gathered) (met : List Key) → Met gathered met → length met ≡ length gathered.found.items
+met_count gathered met m =
+    ap (λ (l : List Key). length l) (sym m.order) ∙ length-reverse (map (λ (k : Bor Key). k.now) gathered.found.items) ∙ length-map gathered.found.items (λ (k : Bor Key). k.now)
+
+root_behind : (root : List ℕ) (rounds : List NotedValue) (last : NotedValue) → root_after root (rounds ++ last ∷ []) ≡ last.root
+root_behind root [] last = refl
+root_behind root (noted ∷ rounds) last = root_behind noted.root rounds last
+
+-- the root after rounds is the one that the last of them left
+pub root_then : (root : List ℕ) (rounds : List NotedValue) (place end : ℕ) (last : NotedValue) → place < end → end ≤ length rounds → last ≡ get_or rounds (end - 1) last → root_after root (take (end - place) (drop place rounds)) ≡ last.root
+root_then root rounds place end last some within is =
+    let all = rounds_last rounds place (end - 1) last (omega arith) (omega arith) is in
+    let count : end - 1 + 1 - place ≡ end - place = omega arith in
+    ap (λ n. root_after root (take n (drop place rounds))) (sym count) ∙ ap (root_after root) all ∙ root_behind root (take (end - 1 - place) (drop place rounds)) last
 
 and_true_of : (a b : Bool) → a ≡ true → b ≡ true → (a && b) ≡ true
 and_true_of a b p q = ap₂ (λ x y. x && y) p q

@@ -1,14 +1,15 @@
 -- The frames of one connection, taken one by one.
-use Rattle.std.proofs.Common.{◌≡◌, ◌⊎◌, inl, inr, ◌==◌, Bool, true, false, List, [], ◌∷◌, ◌++◌, map, Some, Result, Ok, cond, Option, refl, sym, ap, ◌∙◌, subst, subst₂, append_assoc, append-nil, ap₂}
+use Rattle.std.proofs.Common.{◌≡◌, ◌⊎◌, inl, inr, ◌==◌, Bool, true, false, List, [], ◌∷◌, ◌++◌, map, Some, None, Result, Ok, cond, Option, refl, sym, ap, ◌∙◌, subst, subst₂, append_assoc, append-nil, ap₂}
 use Rattle.std.proofs.lemmas.List.{map-append}
 use Rattle.mvd_dots.specs.declared.refusals.Refusal.{Refusal}
 use Rattle.mvd_wire.specs.declared.request.Request.{Request}
 use Rattle.mvd_wire.specs.Frames.{FrameValue}
-use Rattle.mvd_conn.specs.Guard.{IsShown}
+use Rattle.mvd_conn.specs.Guard.{IsShown, may_come}
 use Rattle.mvd_conn.specs.declared.guard.Guard.{Guard}
-use Rattle.mvd_conn.proofs.Guarded.{gives_shown}
+use Rattle.mvd_conn.specs.declared.guard.Guard.TheVariants.{Asks, Knows, Left}
+use Rattle.mvd_conn.proofs.Guarded.{gives_may, gives_shown}
 use Rattle.mvd_conn.specs.History.{Gives, History, NextTaken, Over, Stops, Waits, after_next, due, is_held_up, next_of, over, released, stepped, stopped, taking}
-use Rattle.mvd_host.specs.Course.{NoneMoved, asked_by}
+use Rattle.mvd_host.specs.Course.{MayGoOn, NoneMoved, asked_by}
 use Rattle.mvd_host.specs.Taking.{HasNoNext, TakesOn}
 
 pub none_moved : (h : History) → NoneMoved h h
@@ -28,6 +29,7 @@ same old new is = record {
   answers = is.answers;
   moved = is.moved;
   shown = λ s. subst₂ (λ (g : Option Guard) (fs : List FrameValue). IsShown g fs) (sym is.moved.guard) (sym is.taken) s;
+  goes_on = inl refl;
 }
 
 pub took_nothing : (h : History) → TakesOn [] [] h (released h)
@@ -58,6 +60,21 @@ took_none h k e =
       | false ↦ λ is. let s : Same (released h) k = stepped_same (released h) (next_of h) k is in same h k (record { taken = s.taken; answers = s.answers; moved = record { came = s.moved.came; source = s.moved.source; left = s.moved.left; failed = s.moved.failed; guard = s.moved.guard } })
     ] e
 
+-- who may send a frame may go on
+let_on : (guard : Option Guard) (taken : List FrameValue) (f : FrameValue) → may_come guard taken f ≡ true → MayGoOn guard
+let_on None taken f may = tt
+let_on (Some Asks) taken f may = absurd cc
+let_on (Some (Knows pass)) taken f may = tt
+let_on (Some (Left pass)) taken f may = absurd cc
+
+-- with the same guard
+pub goes_still : (old new : Option Guard) (frames : List FrameValue) → new ≡ old → (frames ≡ []) ⊎ MayGoOn old → (frames ≡ []) ⊎ MayGoOn new
+goes_still old new frames same goes = subst (λ (g : Option Guard). (frames ≡ []) ⊎ MayGoOn g) (sym same) goes
+
+goes_both : (guard : Option Guard) (first second : List FrameValue) → (first ≡ []) ⊎ MayGoOn guard → (second ≡ []) ⊎ MayGoOn guard → (first ++ second ≡ []) ⊎ MayGoOn guard
+goes_both guard first second (inl none) other = subst (λ (l : List FrameValue). (l ++ second ≡ []) ⊎ MayGoOn guard) (sym none) other
+goes_both guard first second (inr goes) other = inr goes
+
 -- one frame was taken, and is in hand
 pub record TookOne (old new : History) : Type 0 where
   pub frame : FrameValue
@@ -66,6 +83,7 @@ pub record TookOne (old new : History) : Type 0 where
   pub answers : new.answers ≡ old.answers
   pub moved : NoneMoved old new
   pub shown : IsShown old.guard old.taken → IsShown new.guard new.taken
+  pub goes_on : MayGoOn new.guard
 
 stepped_one : (h : History) (n : NextTaken) (k : History) → next_of h ≡ n → ◌≡◌ {A = Bool × History} (true, k) (stepped h n) → TookOne h k
 stepped_one h (Gives f rest) k next e =
@@ -76,6 +94,7 @@ stepped_one h (Gives f rest) k next e =
       answers = refl;
       moved = record { came = refl; source = refl; left = refl; failed = refl; guard = refl };
       shown = gives_shown h f rest next;
+      goes_on = let_on h.guard h.taken f (gives_may h f rest next);
     })
 stepped_one h Over k next e = absurd (not_true _ k (sym e))
 stepped_one h (Stops refusal) k next e = absurd (not_true _ k (sym e))
@@ -85,25 +104,33 @@ pub took_one : (h k : History) → ◌≡◌ {A = Bool × History} (true, k) (af
 took_one h k e =
     elim (is_held_up h) as (λ b. ◌≡◌ {A = Bool × History} (true, k) (cond b (false, released h) (stepped (released h) (next_of h))) → TookOne h k) [
       | true ↦ λ is. absurd (not_true (released h) k (sym is))
-      | false ↦ λ is. let s : TookOne (released h) k = stepped_one (released h) (next_of h) k refl is in record { frame = s.frame; hand = s.hand; taken = s.taken; answers = s.answers; moved = record { came = s.moved.came; source = s.moved.source; left = s.moved.left; failed = s.moved.failed; guard = s.moved.guard }; shown = s.shown }
+      | false ↦ λ is. let s : TookOne (released h) k = stepped_one (released h) (next_of h) k refl is in record { frame = s.frame; hand = s.hand; taken = s.taken; answers = s.answers; moved = record { came = s.moved.came; source = s.moved.source; left = s.moved.left; failed = s.moved.failed; guard = s.moved.guard }; shown = s.shown; goes_on = s.goes_on }
     ] e
 
-pub took_request : (old new : History) (one : TookOne old new) (r : Request) → asked_by one.frame ≡ Ok r → TakesOn (r ∷ []) [] old new
-took_request old new one r is = record { frames = one.frame ∷ []; taken = one.taken; asked = ap (λ a. a ∷ []) is; answers = one.answers; moved = one.moved; shown = one.shown }
+pub took_request : (old new : History) (one : TookOne old new) (r : Request) → asked_by new.guard one.frame ≡ Ok r → TakesOn (r ∷ []) [] old new
+took_request old new one r is = record { frames = one.frame ∷ []; taken = one.taken; asked = ap (λ a. a ∷ []) is; answers = one.answers; moved = one.moved; shown = one.shown; goes_on = inr one.goes_on }
 
-pub took_fault : (old new : History) (one : TookOne old new) → TakesOn [] (one.frame ∷ []) old new
-took_fault old new one = record { frames = []; taken = one.taken; asked = refl; answers = one.answers; moved = one.moved; shown = one.shown }
+pub took_fault : (old new : History) (one : TookOne old new) → TakesOn [] (asked_by new.guard one.frame ∷ []) old new
+took_fault old new one = record { frames = one.frame ∷ []; taken = one.taken; asked = refl; answers = one.answers; moved = one.moved; shown = one.shown; goes_on = inr one.goes_on }
+
+-- the guard is the same
+same_guard : (old mid new : History) (rs : List Request) (faulty : List (Result Request Refusal)) (one : TakesOn rs faulty old mid) → new.guard ≡ mid.guard → map (asked_by new.guard) one.frames ≡ map (λ r. Ok r) rs ++ faulty
+same_guard old mid new rs faulty one guard = ap (λ (g : Option Guard). map (asked_by g) one.frames) guard ∙ one.asked
+
+first_asked : (old mid new : History) (rs : List Request) (one : TakesOn rs [] old mid) → new.guard ≡ mid.guard → map (asked_by new.guard) one.frames ≡ map (λ r. Ok r) rs
+first_asked old mid new rs one guard = same_guard old mid new rs [] one guard ∙ append-nil (map (λ r. Ok r) rs)
 
 -- requests, and then more frames
-pub takes_on : (old mid new : History) (rs more : List Request) (faulty : List FrameValue) → TakesOn rs [] old mid → TakesOn more faulty mid new → TakesOn (rs ++ more) faulty old new
+pub takes_on : (old mid new : History) (rs more : List Request) (faulty : List (Result Request Refusal)) → TakesOn rs [] old mid → TakesOn more faulty mid new → TakesOn (rs ++ more) faulty old new
 takes_on old mid new rs more faulty one other = record {
   frames = one.frames ++ other.frames;
-  taken = other.taken ∙ ap (λ l. l ++ (other.frames ++ faulty)) (one.taken ∙ ap (λ l. old.taken ++ l) (append-nil one.frames))
-      ∙ append_assoc old.taken one.frames (other.frames ++ faulty) ∙ ap (λ l. old.taken ++ l) (sym (append_assoc one.frames other.frames faulty));
-  asked = map-append asked_by one.frames other.frames ∙ ap₂ (λ a b. a ++ b) one.asked other.asked ∙ sym (map-append (λ r. Ok r) rs more);
+  taken = other.taken ∙ ap (λ l. l ++ other.frames) one.taken ∙ append_assoc old.taken one.frames other.frames;
+  asked = map-append (asked_by new.guard) one.frames other.frames ∙ ap₂ (λ a b. a ++ b) (first_asked old mid new rs one other.moved.guard) other.asked
+      ∙ sym (append_assoc (map (λ r. Ok r) rs) (map (λ r. Ok r) more) faulty) ∙ ap (λ l. l ++ faulty) (sym (map-append (λ r. Ok r) rs more));
   answers = other.answers ∙ one.answers;
   moved = record { came = other.moved.came ∙ one.moved.came; source = other.moved.source ∙ one.moved.source; left = other.moved.left ∙ one.moved.left; failed = other.moved.failed ∙ one.moved.failed; guard = other.moved.guard ∙ one.moved.guard };
   shown = λ s. other.shown (one.shown s);
+  goes_on = goes_both new.guard one.frames other.frames (goes_still mid.guard new.guard one.frames other.moved.guard one.goes_on) other.goes_on;
 }
 
 idle_step : (h : History) (n : NextTaken) (k : History) → ◌≡◌ {A = Bool × History} (false, k) (stepped (released h) n) → (k ≡ released h) ⊎ HasNoNext k
@@ -133,16 +160,17 @@ idle_after h k e =
       | inr idle ↦ idle
     ]
 
-no_frames : (frames : List FrameValue) → map asked_by frames ≡ [] → frames ≡ []
-no_frames [] e = refl
-no_frames (f ∷ fs) e = absurd (let no : ◌≡◌ {A = List (Result Request Refusal)} (asked_by f ∷ map asked_by fs) [] = e in cc)
+no_frames : (guard : Option Guard) (frames : List FrameValue) → map (asked_by guard) frames ≡ [] → frames ≡ []
+no_frames guard [] e = refl
+no_frames guard (f ∷ fs) e = absurd (let no : ◌≡◌ {A = List (Result Request Refusal)} (asked_by guard f ∷ map (asked_by guard) fs) [] = e in cc)
 
-pub then_none : (old mid new : History) (rs : List Request) (faulty : List FrameValue) → TakesOn rs faulty old mid → TakesOn [] [] mid new → TakesOn rs faulty old new
+pub then_none : (old mid new : History) (rs : List Request) (faulty : List (Result Request Refusal)) → TakesOn rs faulty old mid → TakesOn [] [] mid new → TakesOn rs faulty old new
 then_none old mid new rs faulty one other = record {
   frames = one.frames;
-  taken = other.taken ∙ ap (λ l. mid.taken ++ (l ++ [])) (no_frames other.frames other.asked) ∙ append-nil mid.taken ∙ one.taken;
-  asked = one.asked;
+  taken = other.taken ∙ ap (λ l. mid.taken ++ l) (no_frames new.guard other.frames other.asked) ∙ append-nil mid.taken ∙ one.taken;
+  asked = same_guard old mid new rs faulty one other.moved.guard;
   answers = other.answers ∙ one.answers;
   moved = record { came = other.moved.came ∙ one.moved.came; source = other.moved.source ∙ one.moved.source; left = other.moved.left ∙ one.moved.left; failed = other.moved.failed ∙ one.moved.failed; guard = other.moved.guard ∙ one.moved.guard };
   shown = λ s. other.shown (one.shown s);
+  goes_on = goes_still mid.guard new.guard one.frames other.moved.guard one.goes_on;
 }

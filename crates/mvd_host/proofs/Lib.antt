@@ -23,3 +23,4 @@ pub mod Feeding
 pub mod Listing
 pub mod Changing
 pub mod Remembering
+pub mod Within

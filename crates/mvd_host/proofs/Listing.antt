@@ -1,6 +1,6 @@
 -- The feed lists what changed.
-use Rattle.std.proofs.Common.{◌≡◌, ◌⊎◌, inl, inr, ℕ, Bool, true, false, ◌||◌, if◌then◌else◌, nat_le, length, List, [], ◌∷◌, ◌++◌, Option, Some, None, Result, Ok, Err, IfOk, IfSome, refl, sym, ap, subst, ◌∙◌}
-use Rattle.std.specs.Option.{option_and_then}
+use Rattle.std.proofs.Common.{◌≡◌, ◌⊎◌, inl, inr, ℕ, Bool, true, false, ◌||◌, if◌then◌else◌, cond, filter, nat_le, length, List, [], ◌∷◌, ◌++◌, Option, Some, None, IfSome, refl, sym, ap, subst, ◌∙◌}
+use Rattle.std.specs.Option.{option_map}
 use Rattle.std.specs.List.{AllByRecursion}
 use Rattle.std.specs.FinMap.{get}
 use Rattle.std.specs.Ordering.{eq_by_cmp}
@@ -10,9 +10,8 @@ use Rattle.mvd_keys.specs.Key.{key_cmp}
 use Rattle.mvd_keys.specs.Writes.{Key}
 use Rattle.mvd_site.specs.Held.{States}
 use Rattle.mvd_keys.proofs.KeyOrder.{same_where_tied}
-use Rattle.mvd_host.specs.Feeds.{FeedValue, NotedValue, after_root, are_few, fitted, if_few, is_listed, is_root, keys_in, knows_nothing, knows_root, lasts, noted_behind, noted_in, root_after, root_now, since_start, told_most, told_since}
-use Rattle.mvd_host.specs.Lists.{AnyByRecursion, ChangesAmong, IsListed, Lists, ListsFrom, ListsIf, ListsOn, root_of}
-use Rattle.mvd_host.proofs.Feeding.{keys_in-append}
+use Rattle.mvd_host.specs.Feeds.{FeedValue, NotedValue, are_few, begins_with, fitted, is_listed, is_root, keys_with, knows_nothing, knows_root, lasts, later_or, met_all, noted_behind, noted_in, page_of, page_told, root_after, root_now, since_start, told_most, told_since}
+use Rattle.mvd_host.specs.Lists.{AnyByRecursion, AnyWithLater, ChangesAmong, ChangesWith, IsListed, Lists, ListsFrom, ListsIf, ListsOn, first_or, root_of}
 
 -- ---- which keys changed
 
@@ -33,9 +32,6 @@ in_front first second key is = list_any-append (λ k. eq_by_cmp key_cmp k key) f
 in_back : (first second : List Key) (key : Key) → is_listed second key ≡ true → is_listed (first ++ second) key ≡ true
 in_back first second key is = list_any-append (λ k. eq_by_cmp key_cmp k key) first second ∙ or_right (is_listed first key) (is_listed second key) is
 
-pub changes_none : (states : States) → ChangesAmong [] states states
-changes_none states key = inl refl
-
 changes_by : (first second : List Key) (old mid new : States) (key : Key) → (get old key ≡ get mid key) ⊎ (is_listed first key ≡ true) → (get mid key ≡ get new key) ⊎ (is_listed second key ≡ true) →
     (get old key ≡ get new key) ⊎ (is_listed (first ++ second) key ≡ true)
 changes_by first second old mid new key (inl p) (inl q) = inl (p ∙ q)
@@ -52,12 +48,12 @@ lists_more : (root : List ℕ) (rounds : List NotedValue) (past : List States) (
 lists_more root [] [] keys last old new lists changes is = elim lists [ ]
 lists_more root (noted ∷ rounds) [] keys last old new lists changes is = elim lists [ ]
 lists_more root [] (was ∷ past) keys last old new lists changes is =
-    let here : ChangesAmong (keys ++ []) was new = subst (λ s. ChangesAmong (keys ++ []) s new) (sym lists.1) (changes_on keys [] old new new changes (changes_none new)) in
-    (lists.0, here, subst (λ (l : List States). ListsFrom last [] (l ++ new ∷ []) new) (sym lists.2) (is, refl, refl))
-lists_more root (noted ∷ rounds) (was ∷ past) keys last old new lists changes is =
-    let more : List NotedValue = record { keys = keys; root = last } ∷ [] in
-    let here : ChangesAmong (keys_in (noted ∷ rounds) ++ (keys ++ [])) was new = changes_on (keys_in (noted ∷ rounds)) (keys ++ []) was old new lists.1 (changes_on keys [] old new new changes (changes_none new)) in
-    (lists.0, subst (λ l. ChangesAmong l was new) (sym (keys_in-append (noted ∷ rounds) more)) here, lists_more noted.root rounds past keys last old new lists.2 changes is)
+    let here : ChangesAmong keys was new = subst (λ s. ChangesAmong keys s new) (sym lists.1) changes in
+    subst (λ (l : List States). ListsFrom root (record { keys = keys; root = last } ∷ []) (was ∷ l ++ new ∷ []) new) (sym lists.2) (lists.0, here, (is, refl, refl))
+lists_more root (noted ∷ []) (was ∷ []) keys last old new lists changes is = elim lists.2 [ ]
+lists_more root (noted ∷ more ∷ rounds) (was ∷ []) keys last old new lists changes is = elim lists.2 [ ]
+lists_more root (noted ∷ rounds) (was ∷ next ∷ past) keys last old new lists changes is =
+    (lists.0, lists.1, lists_more noted.root rounds (next ∷ past) keys last old new lists.2 changes is)
 
 -- ---- the oldest rounds are forgotten
 
@@ -146,9 +142,6 @@ in_lasts (first ∷ keys) key is =
       | false ↦ λ once. elim (or_true (eq_by_cmp key_cmp first key) (is_listed keys key) is) [ inl here ↦ or_left (eq_by_cmp key_cmp first key) (is_listed (lasts keys) key) here | inr later ↦ or_right (eq_by_cmp key_cmp first key) (is_listed (lasts keys) key) (in_lasts keys key later) ]
     ] refl
 
-told_among : (keys : List Key) (old new : States) → ChangesAmong keys old new → ChangesAmong (lasts keys) old new
-told_among keys old new changes key = elim (changes key) [ inl same ↦ inl same | inr is ↦ inr (in_lasts keys key is) ]
-
 -- the root now is that of the states now
 root_after_is : (root : List ℕ) (rounds : List NotedValue) (past : List States) (now : States) → ListsFrom root rounds past now → root_after root rounds ≡ root_of now
 root_after_is root [] [] now lists = elim lists [ ]
@@ -165,52 +158,111 @@ root_is_by (Some start) rounds past now lists root is =
 pub root_now_is : (feed : FeedValue) (past : List States) (now : States) → Lists feed past now → (root : List ℕ) → root_now feed ≡ Some root → root ≡ root_of now
 root_now_is feed past now lists root is = root_is_by feed.start feed.rounds past now lists root is
 
-given_is : (a b : List Key) → Some a ≡ Some b → a ≡ b
-given_is a b e = cc
+-- a key that was met is listed among those that begin with a prefix, if it does
+in_filter : (prefix : List ℕ) (keys : List Key) (key : Key) → begins_with prefix key ≡ true → is_listed keys key ≡ true → is_listed (filter (begins_with prefix) keys) key ≡ true
+in_filter prefix [] key begins is = is
+in_filter prefix (first ∷ keys) key begins is =
+    elim (or_true (eq_by_cmp key_cmp first key) (is_listed keys key) is) [
+      | inl here ↦
+          let same : begins_with prefix first ≡ true = ap (begins_with prefix) (same_where_tied first key here) ∙ begins in
+          ap (λ b. is_listed (cond b (first ∷ filter (begins_with prefix) keys) (filter (begins_with prefix) keys)) key) same
+          ∙ or_left (eq_by_cmp key_cmp first key) (is_listed (filter (begins_with prefix) keys) key) here
+      | inr later ↦
+          let rest = in_filter prefix keys key begins later in
+          elim (begins_with prefix first) as (λ b. is_listed (cond b (first ∷ filter (begins_with prefix) keys) (filter (begins_with prefix) keys)) key ≡ true) [
+            | true ↦ or_right (eq_by_cmp key_cmp first key) (is_listed (filter (begins_with prefix) keys) key) rest
+            | false ↦ rest
+          ]
+    ]
 
--- what is told of a root was noted since the site had it
-since_lists : (start : List ℕ) (rounds : List NotedValue) (past : List States) (now : States) (root : List ℕ) → ListsFrom start rounds past now → (keys : List Key) → since_start start rounds root ≡ Some keys →
-    AnyByRecursion (λ was. (root ≡ root_of was) × ChangesAmong keys was now) past
-since_lists start [] [] now root lists keys is = elim lists [ ]
-since_lists start (noted ∷ rounds) [] now root lists keys is = elim lists [ ]
-since_lists start [] (was ∷ past) now root lists keys is =
-    elim (is_root start root) as (λ b. is_root start root ≡ b → (if b then Some [] else None) ≡ Some keys → AnyByRecursion (λ was. (root ≡ root_of was) × ChangesAmong keys was now) (was ∷ past)) [
-      | true ↦ λ same given. inl (sym (same_text start root (sym same)) ∙ lists.0, subst (λ s. ChangesAmong keys s now) (sym lists.1) (λ key. inl refl))
+-- keys that begin with a prefix, of a round and of those after it
+changes_with_by : (prefix : List ℕ) (keys later : List Key) (old mid new : States) (key : Key) → begins_with prefix key ≡ true → (get old key ≡ get mid key) ⊎ (is_listed keys key ≡ true) → (get mid key ≡ get new key) ⊎ (is_listed later key ≡ true) →
+    (get old key ≡ get new key) ⊎ (is_listed (filter (begins_with prefix) keys ++ later) key ≡ true)
+changes_with_by prefix keys later old mid new key begins (inl p) (inl q) = inl (p ∙ q)
+changes_with_by prefix keys later old mid new key begins (inl p) (inr q) = inr (in_back (filter (begins_with prefix) keys) later key q)
+changes_with_by prefix keys later old mid new key begins (inr p) q = inr (in_front (filter (begins_with prefix) keys) later key (in_filter prefix keys key begins p))
+
+told_with : (prefix : List ℕ) (keys : List Key) (old new : States) → ChangesWith prefix keys old new → ChangesWith prefix (lasts keys) old new
+told_with prefix keys old new changes key begins = elim (changes key begins) [ inl same ↦ inl same | inr is ↦ inr (in_lasts keys key is) ]
+
+-- one of them is so, and it is known of each what follows
+any_so : {X : Type 0} (P Q : X → Type 0) (xs : List X) → ((x : X) → P x → Q x) → AnyByRecursion P xs → AnyByRecursion Q xs
+any_so P Q [] so any = elim any [ ]
+any_so P Q (x ∷ xs) so (inl here) = inl (so x here)
+any_so P Q (x ∷ xs) so (inr later) = inr (any_so P Q xs so later)
+
+any_later_so : {X : Type 0} (P Q : X → List X → Type 0) (xs : List X) → ((x : X) (l : List X) → P x (x ∷ l) → Q x (x ∷ l)) → AnyWithLater P xs → AnyWithLater Q xs
+any_later_so P Q [] so any = elim any [ ]
+any_later_so P Q (x ∷ xs) so (inl here) = inl (so x xs here)
+any_later_so P Q (x ∷ xs) so (inr later) = inr (any_later_so P Q xs so later)
+
+-- the keys of a page are those that changed up to its end
+page_lists : (prefix root : List ℕ) (met : List Key) (rounds : List NotedValue) (past : List States) (now : States) → ListsFrom root rounds past now →
+    AnyByRecursion (λ mid. (root_after root (page_of prefix met rounds) ≡ root_of mid) × ChangesWith prefix (keys_with prefix (page_of prefix met rounds)) (first_or now past) mid) past
+page_lists prefix root met [] [] now lists = elim lists [ ]
+page_lists prefix root met (noted ∷ rounds) [] now lists = elim lists [ ]
+page_lists prefix root met [] (was ∷ past) now lists = inl (lists.0, λ key begins. inl refl)
+page_lists prefix root met (noted ∷ rounds) (was ∷ past) now lists =
+    let more = met_all met (filter (begins_with prefix) noted.keys) in
+    let page = page_of prefix more rounds in
+    elim (nat_le told_most (length met)) as (λ b. AnyByRecursion (λ mid. (root_after root (if b then [] else noted ∷ page) ≡ root_of mid) × ChangesWith prefix (keys_with prefix (if b then [] else noted ∷ page)) was mid) (was ∷ past)) [
+      | true ↦ inl (lists.0, λ key begins. inl refl)
+      | false ↦
+          let P : States → Type 0 = λ mid. (root_after noted.root page ≡ root_of mid) × ChangesWith prefix (keys_with prefix page) (first_or now past) mid in
+          let Q : States → Type 0 = λ mid. (root_after noted.root page ≡ root_of mid) × ChangesWith prefix (filter (begins_with prefix) noted.keys ++ keys_with prefix page) was mid in
+          inr (any_so P Q past (λ mid is. (is.0, λ key begins. changes_with_by prefix noted.keys (keys_with prefix page) was (first_or now past) mid key begins (lists.1 key) (is.1 key begins))) (page_lists prefix noted.root more rounds past now lists.2))
+    ]
+
+rounds_are : (a b : List NotedValue) → Some a ≡ Some b → a ≡ b
+rounds_are a b e = cc
+
+-- the rounds since a root are those after a moment at which the site had it
+abbrev Since : List ℕ → List NotedValue → States → States → List States → Type 0
+Since root rest now was later = (root ≡ root_of was) × ListsFrom root rest later now
+
+here_since : (start : List ℕ) (rounds : List NotedValue) (was : States) (past : List States) (now : States) (root : List ℕ) → ListsFrom start rounds (was ∷ past) now → start ≡ root_of was → (rest : List NotedValue)
+    → (if is_root start root then Some rounds else None) ≡ Some rest → Since root rest now was (was ∷ past)
+here_since start rounds was past now root lists of_start rest is =
+    elim (is_root start root) as (λ b. is_root start root ≡ b → (if b then Some rounds else None) ≡ Some rest → Since root rest now was (was ∷ past)) [
+      | true ↦ λ same given.
+          let text : start ≡ root = same_text start root (sym same) in
+          (sym text ∙ of_start, subst (λ (l : List NotedValue). ListsFrom root l (was ∷ past) now) (rounds_are rounds rest given) (subst (λ (r : List ℕ). ListsFrom r rounds (was ∷ past) now) text lists))
       | false ↦ λ other given. cc
     ] refl is
-since_lists start (noted ∷ rounds) (was ∷ past) now root lists keys is =
-    elim (is_root start root) as (λ b. is_root start root ≡ b → (if b then Some (keys_in (noted ∷ rounds)) else after_root (noted ∷ rounds) root) ≡ Some keys → AnyByRecursion (λ was. (root ≡ root_of was) × ChangesAmong keys was now) (was ∷ past)) [
-      | true ↦ λ same given. inl (sym (same_text start root (sym same)) ∙ lists.0, subst (λ (l : List Key). ChangesAmong l was now) (given_is (keys_in (noted ∷ rounds)) keys given) lists.1)
-      | false ↦ λ other given. inr (since_lists noted.root rounds past now root lists.2 keys given)
+
+since_lists : (start : List ℕ) (rounds : List NotedValue) (past : List States) (now : States) (root : List ℕ) → ListsFrom start rounds past now → (rest : List NotedValue) → since_start start rounds root ≡ Some rest →
+    AnyWithLater (Since root rest now) past
+since_lists start [] [] now root lists rest is = elim lists [ ]
+since_lists start (noted ∷ rounds) [] now root lists rest is = elim lists [ ]
+since_lists start [] (was ∷ past) now root lists rest is = inl (here_since start [] was past now root lists lists.0 rest is)
+since_lists start (noted ∷ rounds) (was ∷ past) now root lists rest is =
+    elim (since_start noted.root rounds root) as (λ o. since_start noted.root rounds root ≡ o → later_or o (if is_root start root then Some (noted ∷ rounds) else None) ≡ Some rest → AnyWithLater (Since root rest now) (was ∷ past)) [
+      | Some later ↦ λ found given. inr (since_lists noted.root rounds past now root lists.2 rest (found ∙ given))
+      | None ↦ λ none given. inl (here_since start (noted ∷ rounds) was past now root lists lists.0 rest given)
     ] refl is
 
-any_more : (root : List ℕ) (past : List States) (now : States) (keys : List Key) → AnyByRecursion (λ was. (root ≡ root_of was) × ChangesAmong keys was now) past → AnyByRecursion (λ was. (root ≡ root_of was) × ChangesAmong (lasts keys) was now) past
-any_more root [] now keys any = elim any [ ]
-any_more root (was ∷ past) now keys (inl here) = inl (here.0, told_among keys was now here.1)
-any_more root (was ∷ past) now keys (inr later) = inr (any_more root past now keys later)
-
-few_listed : (root : List ℕ) (past : List States) (now : States) (keys : List Key) → AnyByRecursion (λ was. (root ≡ root_of was) × ChangesAmong keys was now) past → IsListed root past now (if_few (lasts keys))
-few_listed root past now keys any =
-    elim (nat_le (length (lasts keys)) told_most) as (λ b. IsListed root past now (if b then Some (lasts keys) else None)) [ true ↦ any_more root past now keys any | false ↦ tt ]
-
-told_lists : (start : Option (List ℕ)) (rounds : List NotedValue) (past : List States) (now : States) (root : List ℕ) → ListsIf start rounds past now → IsListed root past now (told_since (record { start = start; rounds = rounds }) root)
-told_lists None rounds past now root lists = tt
-told_lists (Some start) rounds past now root lists =
-    elim (since_start start rounds root) as (λ o. since_start start rounds root ≡ o → IsListed root past now (option_and_then (λ keys. if_few (lasts keys)) o)) [
+told_lists : (start : Option (List ℕ)) (rounds : List NotedValue) (past : List States) (now : States) (prefix root : List ℕ) → ListsIf start rounds past now → IsListed prefix root past (told_since (record { start = start; rounds = rounds }) prefix root)
+told_lists None rounds past now prefix root lists = tt
+told_lists (Some start) rounds past now prefix root lists =
+    elim (since_start start rounds root) as (λ o. since_start start rounds root ≡ o → IsListed prefix root past (option_map (page_told prefix root) o)) [
       | None ↦ λ is. tt
-      | Some keys ↦ λ is. few_listed root past now keys (since_lists start rounds past now root lists keys is)
+      | Some rest ↦ λ is.
+          let told = page_told prefix root rest in
+          let keys = keys_with prefix (page_of prefix [] rest) in
+          let Q : States → List States → Type 0 = λ was later. (root ≡ root_of was) × AnyByRecursion (λ mid. (told.root ≡ root_of mid) × ChangesWith prefix told.keys was mid) later in
+          any_later_so (Since root rest now) Q past (λ was later since. (
+            since.0,
+            any_so (λ mid. (told.root ≡ root_of mid) × ChangesWith prefix keys was mid) (λ mid. (told.root ≡ root_of mid) × ChangesWith prefix told.keys was mid) (was ∷ later)
+                (λ mid so. (so.0, told_with prefix keys was mid so.1)) (page_lists prefix root [] rest (was ∷ later) now since.1),
+          ))
+          (since_lists start rounds past now root lists rest is)
     ] refl
 
-pub told_listed : (feed : FeedValue) (past : List States) (now : States) (root : List ℕ) → Lists feed past now → IsListed root past now (told_since feed root)
-told_listed feed past now root lists = told_lists feed.start feed.rounds past now root lists
+pub told_listed : (feed : FeedValue) (past : List States) (now : States) (prefix root : List ℕ) → Lists feed past now → IsListed prefix root past (told_since feed prefix root)
+told_listed feed past now prefix root lists = told_lists feed.start feed.rounds past now prefix root lists
 
 -- ---- as the calls tell it
 
 pub if_root_is : (feed : FeedValue) (past : List States) (now : States) → Lists feed past now → (told : Option (List ℕ)) → told ≡ root_now feed → IfSome told (λ root. root ≡ root_of now)
 if_root_is feed past now lists None is = tt
 if_root_is feed past now lists (Some root) is = root_now_is feed past now lists root (sym is)
-
-pub told_clause : {X E : Type 0} (now_of : X → Option (List Key)) (feed : FeedValue) (root : List ℕ) (result : Result X E) → IfOk result (λ told. now_of told ≡ told_since feed root) →
-    (past : List States) (now : States) → Lists feed past now → IfOk result (λ told. IsListed root past now (now_of told))
-told_clause now_of feed root (Err e) is past now lists = tt
-told_clause now_of feed root (Ok told) is past now lists = subst (λ o. IsListed root past now o) (sym is) (told_listed feed past now root lists)

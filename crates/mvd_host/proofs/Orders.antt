@@ -5,8 +5,8 @@ use Rattle.std.proofs.lemmas.Bool.Decides.{nat_tests}
 use Rattle.std.proofs.lemmas.List.{length-map, length-take-le, map-append, take_more}
 use Rattle.std.specs.BTreeSet.{BTreeSet, Updates, contains}
 use Rattle.std.specs.Ordering.{nat_cmp}
+use Rattle.mvd_dots.specs.declared.refusals.Refusal.{Refusal}
 use Rattle.mvd_wire.specs.declared.request.Request.{Request}
-use Rattle.mvd_wire.specs.Frames.{FrameValue}
 use Rattle.mvd_conn.specs.History.{History}
 use Rattle.mvd_host.specs.Hosts.{client_in}
 use Rattle.mvd_host.specs.Course.{BothClients, own}
@@ -210,7 +210,7 @@ lays_joined asked lanes clients requests clients_are requests_are lays = record 
 
 -- ---- what was taken
 
-pub same_count : (asked : List (ℕ × Request)) (faults : List (ℕ × FrameValue)) (taken : Taken) → HoldsTaken asked faults taken → length taken.clients.items ≡ length taken.requests.items
+pub same_count : (asked : List (ℕ × Request)) (faults : List (ℕ × Result Request Refusal)) (taken : Taken) → HoldsTaken asked faults taken → length taken.clients.items ≡ length taken.requests.items
 same_count asked faults taken holds =
     ap length holds.clients ∙ length-map asked (λ (x : ℕ × Request). x.0) ∙ sym (ap length holds.requests_are ∙ length-map asked (λ (x : ℕ × Request). x.1))
 
@@ -264,7 +264,7 @@ module _ (asks : List (ℕ × Request)) (ready : List ℕ) (old new : List (ℕ 
   )
 
 -- nothing is nothing, in any order
-pub none_still : (asked : List (ℕ × Request)) (faults : List (ℕ × FrameValue)) (before after : Taken) → Arranges before after → HoldsTaken asked faults before → IsNothingTaken after → IsNothingTaken before
+pub none_still : (asked : List (ℕ × Request)) (faults : List (ℕ × Result Request Refusal)) (before after : Taken) → Arranges before after → HoldsTaken asked faults before → IsNothingTaken after → IsNothingTaken before
 none_still asked faults before after a holds none =
     let same : length before.clients.items ≡ length before.requests.items = same_count asked faults before holds in
     let count : length (zip before.clients.items before.requests.items) ≡ length before.requests.items = zip_length before.clients.items before.requests.items same in

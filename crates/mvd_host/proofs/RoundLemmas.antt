@@ -20,6 +20,7 @@ use Rattle.mvd_host.specs.Taking.{AreFaults, TakesAllFrames, TakesOn}
 use Rattle.mvd_host.specs.Queueing.{AreDue, QueuesReplies, QueuesOn, refused_all, refused_faults}
 use Rattle.mvd_host.specs.Round.{ClientCourse}
 use Rattle.mvd_host.specs.declared.taking.Taken.{Taken}
+use Rattle.mvd_host.proofs.Frames.{goes_still}
 use Rattle.mvd_host.proofs.Own.{both_on, own-append}
 use Rattle.mvd_host.proofs.Serving.{IsStill}
 use Rattle.mvd_host.proofs.ToldLemmas.{on, queued_length}
@@ -44,25 +45,25 @@ requested rs = map (λ r. (r.0, Ok r.1)) rs
 
 -- ---- the turns of frames that are no requests
 
-pub fault_turns : List (ℕ × FrameValue) → List (ℕ × Refusal) → List (ℕ × Turn)
+pub fault_turns : List (ℕ × Result Request Refusal) → List (ℕ × Refusal) → List (ℕ × Turn)
 fault_turns [] es = []
 fault_turns (f ∷ fs) [] = []
-fault_turns (f ∷ fs) (e ∷ es) = (f.0, record { asked = asked_by f.1; reply = Refused e.1 }) ∷ fault_turns fs es
+fault_turns (f ∷ fs) (e ∷ es) = (f.0, record { asked = f.1; reply = Refused e.1 }) ∷ fault_turns fs es
 
-pub fault_asks : (fs : List (ℕ × FrameValue)) (es : List (ℕ × Refusal)) → AreFaults fs es → asks (fault_turns fs es) ≡ map {B = ℕ × Result Request Refusal} (λ f. (f.0, asked_by f.1)) fs
+pub fault_asks : (fs : List (ℕ × Result Request Refusal)) (es : List (ℕ × Refusal)) → AreFaults fs es → asks (fault_turns fs es) ≡ fs
 unfolding fault_turns
 fault_asks [] es all = refl
 fault_asks (f ∷ fs) [] all = absurd all
-fault_asks (f ∷ fs) (e ∷ es) all = ap (λ l. (f.0, asked_by f.1) ∷ l) (fault_asks fs es all.2)
+fault_asks (f ∷ fs) (e ∷ es) all = ap (λ l. f ∷ l) (fault_asks fs es all.2)
 
-pub fault_tells : (fs : List (ℕ × FrameValue)) (es : List (ℕ × Refusal)) → AreFaults fs es → tells (fault_turns fs es) ≡ refused_faults es
+pub fault_tells : (fs : List (ℕ × Result Request Refusal)) (es : List (ℕ × Refusal)) → AreFaults fs es → tells (fault_turns fs es) ≡ refused_faults es
 unfolding fault_turns
 fault_tells [] [] all = refl
 fault_tells [] (e ∷ es) all = absurd all
 fault_tells (f ∷ fs) [] all = absurd all
 fault_tells (f ∷ fs) (e ∷ es) all = ap₂ (λ (n : ℕ) (l : List (ℕ × Reply)). (n, Refused e.1) ∷ l) (sym all.0) (fault_tells fs es all.2)
 
-pub fault_still : (fs : List (ℕ × FrameValue)) (es : List (ℕ × Refusal)) → AreFaults fs es → AllByRecursion IsStill (map (λ (t : ℕ × Turn). t.1) (fault_turns fs es))
+pub fault_still : (fs : List (ℕ × Result Request Refusal)) (es : List (ℕ × Refusal)) → AreFaults fs es → AllByRecursion IsStill (map (λ (t : ℕ × Turn). t.1) (fault_turns fs es))
 unfolding fault_turns
 fault_still [] es all = tt
 fault_still (f ∷ fs) [] all = absurd all
@@ -120,17 +121,18 @@ memory_still (r ∷ rs) refusal memory = (record { refusal = refusal; reply = re
 
 -- ---- the course of each connection
 
-course : (requests : List Request) (faulty : List FrameValue) (first second : List Turn) (h i k : History) → TakesOn requests faulty h i → map (λ t. t.asked) first ≡ map {B = Result Request Refusal} (λ r. Ok r) requests
-    → map (λ t. t.asked) second ≡ map asked_by faulty → QueuesOn (map (λ t. t.reply) first ++ map (λ t. t.reply) second) i k → ClientCourse (first ++ second) h k
+course : (requests : List Request) (faulty : List (Result Request Refusal)) (first second : List Turn) (h i k : History) → TakesOn requests faulty h i → map (λ t. t.asked) first ≡ map {B = Result Request Refusal} (λ r. Ok r) requests
+    → map (λ t. t.asked) second ≡ faulty → QueuesOn (map (λ t. t.reply) first ++ map (λ t. t.reply) second) i k → ClientCourse (first ++ second) h k
 course requests faulty first second h i k took asked faulted queued = record {
-  frames = took.frames ++ faulty;
+  frames = took.frames;
   taken = queued.taken ∙ took.taken;
-  asked = map-append asked_by took.frames faulty ∙ ap₂ (λ a b. a ++ b) (took.asked ∙ sym asked) (sym faulted) ∙ sym (map-append (λ (t : Turn). t.asked) first second);
+  asked = ap (λ (g : Option Guard). map (asked_by g) took.frames) queued.moved.guard ∙ took.asked ∙ ap₂ (λ a b. a ++ b) (sym asked) (sym faulted) ∙ sym (map-append (λ (t : Turn). t.asked) first second);
   queued = queued.queued;
   answers = queued.answers ∙ ap (λ l. l ++ queued.queued) took.answers;
   told = subst (λ l. AreQueued l queued.queued) (sym (map-append (λ (t : Turn). t.reply) first second)) queued.told;
   moved = record { came = queued.moved.came ∙ took.moved.came; source = queued.moved.source ∙ took.moved.source; left = queued.moved.left ∙ took.moved.left; failed = queued.moved.failed ∙ took.moved.failed; guard = queued.moved.guard ∙ took.moved.guard };
   shown = λ s. subst₂ (λ (g : Option Guard) (fs : List FrameValue). IsShown g fs) (sym queued.moved.guard) (sym queued.taken) (took.shown s);
+  goes_on = goes_still i.guard k.guard took.frames queued.moved.guard took.goes_on;
 }
 
 module _ (old mid between new : List (ℕ × History)) (taken : Taken) (all : TakesAllFrames old mid taken) (ts : List (ℕ × Turn)) (asked : asks ts ≡ requested all.requests) where
@@ -139,7 +141,7 @@ module _ (old mid between new : List (ℕ × History)) (taken : Taken) (all : Ta
       let first = own n ts in
       let second = own n (fault_turns all.faulty taken.faults.items) in
       let a : map (λ t. t.asked) first ≡ map {B = Result Request Refusal} (λ r. Ok r) (own n all.requests) = sym (own_mapped n (λ (t : Turn). t.asked) ts) ∙ ap (own n) asked ∙ own_mapped n (λ (r : Request). Ok r) all.requests in
-      let f : map (λ t. t.asked) second ≡ map asked_by (own n all.faulty) = sym (own_mapped n (λ (t : Turn). t.asked) (fault_turns all.faulty taken.faults.items)) ∙ ap (own n) (fault_asks all.faulty taken.faults.items all.holds.faults) ∙ own_mapped n asked_by all.faulty in
+      let f : map (λ t. t.asked) second ≡ own n all.faulty = sym (own_mapped n (λ (t : Turn). t.asked) (fault_turns all.faulty taken.faults.items)) ∙ ap (own n) (fault_asks all.faulty taken.faults.items all.holds.faults) in
       let told_first : own n (tells ts) ≡ map (λ t. t.reply) first = own_mapped n (λ (t : Turn). t.reply) ts in
       let told_second : own n (refused_faults taken.faults.items) ≡ map (λ t. t.reply) second = ap (own n) (sym (fault_tells all.faulty taken.faults.items all.holds.faults)) ∙ own_mapped n (λ (t : Turn). t.reply) (fault_turns all.faulty taken.faults.items) in
       let queued : BothClients (client_in mid n) (client_in new n) (QueuesOn (map (λ t. t.reply) first ++ map (λ t. t.reply) second)) =
@@ -151,14 +153,14 @@ module _ (old mid between new : List (ℕ × History)) (taken : Taken) (all : Ta
       (λ h i k took told. course (own n all.requests) (own n all.faulty) first second h i k took a f told) (all.takes n) queued)
 
   -- as many frames have no reply
-  due_on : (a b : Option History) (rs : List Request) (fs : List FrameValue) (xs : List Reply) → BothClients a b (TakesOn rs fs) → IfClient a (λ h. length h.answers ≡ length h.taken) → length xs ≡ length rs + length fs → IfClient b (λ h. length h.answers + length xs ≤ length h.taken)
+  due_on : (a b : Option History) (rs : List Request) (fs : List (Result Request Refusal)) (xs : List Reply) → BothClients a b (TakesOn rs fs) → IfClient a (λ h. length h.answers ≡ length h.taken) → length xs ≡ length rs + length fs → IfClient b (λ h. length h.answers + length xs ≤ length h.taken)
   due_on None None rs fs xs took even is = tt
   due_on None (Some y) rs fs xs took even is = absurd took
   due_on (Some x) None rs fs xs took even is = absurd took
   due_on (Some x) (Some y) rs fs xs took even is =
       let answers : length y.answers ≡ length x.answers = ap length took.answers in
-      let frames : length took.frames ≡ length rs = sym (length-map took.frames asked_by) ∙ ap length took.asked ∙ length-map rs (λ (r : Request). Ok r) in
-      let more : length y.taken ≡ length x.taken + (length took.frames + length fs) = ap length took.taken ∙ length-append x.taken (took.frames ++ fs) ∙ ap (λ k. length x.taken + k) (length-append took.frames fs) in
+      let frames : length took.frames ≡ length rs + length fs = sym (length-map took.frames (asked_by y.guard)) ∙ ap length took.asked ∙ length-append (map {B = Result Request Refusal} (λ r. Ok r) rs) fs ∙ ap (λ k. k + length fs) (length-map rs (λ (r : Request). Ok r)) in
+      let more : length y.taken ≡ length x.taken + length took.frames = ap length took.taken ∙ length-append x.taken took.frames in
       omega (arith, even, is, answers, frames, more)
 
   even_in : (o : Option History) → ((h : History) → o ≡ Some h → length h.answers ≡ length h.taken) → IfClient o (λ h. length h.answers ≡ length h.taken)
@@ -170,11 +172,11 @@ module _ (old mid between new : List (ℕ × History)) (taken : Taken) (all : Ta
       let a : map (λ t. t.asked) (own n ts) ≡ map {B = Result Request Refusal} (λ r. Ok r) (own n all.requests) = sym (own_mapped n (λ (t : Turn). t.asked) ts) ∙ ap (own n) asked ∙ own_mapped n (λ (r : Request). Ok r) all.requests in
       let first : length (own n (tells ts)) ≡ length (own n all.requests) =
       ap length (own_mapped n (λ (t : Turn). t.reply) ts) ∙ length-map (own n ts) (λ (t : Turn). t.reply) ∙ sym (length-map (own n ts) (λ (t : Turn). t.asked)) ∙ ap length a ∙ length-map (own n all.requests) (λ (r : Request). Ok r) in
-      let f : map (λ t. t.asked) (own n (fault_turns all.faulty taken.faults.items)) ≡ map asked_by (own n all.faulty) =
-      sym (own_mapped n (λ (t : Turn). t.asked) (fault_turns all.faulty taken.faults.items)) ∙ ap (own n) (fault_asks all.faulty taken.faults.items all.holds.faults) ∙ own_mapped n asked_by all.faulty in
+      let f : map (λ t. t.asked) (own n (fault_turns all.faulty taken.faults.items)) ≡ own n all.faulty =
+      sym (own_mapped n (λ (t : Turn). t.asked) (fault_turns all.faulty taken.faults.items)) ∙ ap (own n) (fault_asks all.faulty taken.faults.items all.holds.faults) in
       let second : length (own n (refused_faults taken.faults.items)) ≡ length (own n all.faulty) =
       ap length (ap (own n) (sym (fault_tells all.faulty taken.faults.items all.holds.faults)) ∙ own_mapped n (λ (t : Turn). t.reply) (fault_turns all.faulty taken.faults.items))
-      ∙ length-map (own n (fault_turns all.faulty taken.faults.items)) (λ (t : Turn). t.reply) ∙ sym (length-map (own n (fault_turns all.faulty taken.faults.items)) (λ (t : Turn). t.asked)) ∙ ap length f ∙ length-map (own n all.faulty) asked_by in
+      ∙ length-map (own n (fault_turns all.faulty taken.faults.items)) (λ (t : Turn). t.reply) ∙ sym (length-map (own n (fault_turns all.faulty taken.faults.items)) (λ (t : Turn). t.asked)) ∙ ap length f in
       due_on (client_in old n) (client_in mid n) (own n all.requests) (own n all.faulty) (own n (tells ts ++ refused_faults taken.faults.items)) (all.takes n) (even_in (client_in old n) (kept.answered n))
       (ap length (own-append n (tells ts) (refused_faults taken.faults.items)) ∙ length-append (own n (tells ts)) (own n (refused_faults taken.faults.items)) ∙ ap₂ (λ (x y : ℕ). x + y) first second)
 
@@ -202,6 +204,6 @@ kept_after old new admitted ts kept each = record {
       let answers : length k.answers ≡ length h.0.answers + length c.queued = ap length c.answers ∙ length-append h.0.answers c.queued in
       let taken : length k.taken ≡ length h.0.taken + length c.frames = ap length c.taken ∙ length-append h.0.taken c.frames in
       let told : length c.queued ≡ length (own n ts) = queued_length (map (λ t. t.reply) (own n ts)) c.queued c.told ∙ length-map (own n ts) (λ (t : Turn). t.reply) in
-      let asked : length c.frames ≡ length (own n ts) = sym (length-map c.frames asked_by) ∙ ap length c.asked ∙ length-map (own n ts) (λ (t : Turn). t.asked) in
+      let asked : length c.frames ≡ length (own n ts) = sym (length-map c.frames (asked_by k.guard)) ∙ ap length c.asked ∙ length-map (own n ts) (λ (t : Turn). t.asked) in
       omega (arith, even, answers, taken, told, asked);
 }

@@ -1,22 +1,27 @@
 -- Rounds, and what comes between them, one after the other.
-use Rattle.std.proofs.Common.{◌≡◌, ℕ, ◌≤◌, ◌<◌, ◌==◌, Bool, true, false, cond, List, [], ◌∷◌, ◌++◌, map, Option, Some, None, refl, sym, ap, ap₂, ◌∙◌, subst, append-nil, append_assoc, Result, arith}
+use Rattle.std.proofs.Common.{◌≡◌, ℕ, ◌≤◌, ◌<◌, ◌==◌, Bool, true, false, cond, List, [], ◌∷◌, ◌++◌, map, Option, Some, None, refl, sym, ap, ap₂, ◌∙◌, subst, append-nil, append_assoc, Result, Ok, Err, IfOk, arith}
 use Rattle.std.proofs.lemmas.Bool.Decides.{nat_tests}
 use Rattle.std.proofs.lemmas.List.{map-append}
 use Rattle.std.specs.List.{concat}
 use Rattle.mvd_conn.proofs.Hellos.{hello_asks}
-use Rattle.mvd_conn.specs.Guard.{IsShown}
+use Rattle.mvd_conn.specs.Guard.{IsShown, asked_under, may_under, shows}
 use Rattle.mvd_conn.specs.Stands.{IsLast, HistoryStands}
 use Rattle.mvd_conn.specs.declared.guard.Guard.{Guard}
+use Rattle.mvd_conn.specs.declared.guard.Guard.TheVariants.{Asks, Knows, Left}
+use Rattle.mvd_conn.specs.declared.passes.Pass.{Pass}
 use Rattle.mvd_conn.specs.History.{History, last_bytes, new_history}
 use Rattle.mvd_dots.specs.declared.refusals.Refusal.{Refusal}
+use Rattle.mvd_dots.specs.declared.refusals.Refusal.TheVariants.{NotAdmitted}
 use Rattle.mvd_wire.specs.Frames.{FrameValue}
+use Rattle.mvd_wire.specs.Requests.{request_of}
 use Rattle.mvd_wire.specs.declared.request.Request.{Request}
+use Rattle.mvd_wire.specs.declared.request.Request.TheVariants.{Hello}
 use Rattle.mvd_replica.specs.Turns.{Turn}
 use Rattle.mvd_host.specs.AtHand.{AtHandValue, StepsAtHand, first_at_hand, none_at_hand}
 use Rattle.mvd_host.specs.Hosts.{AdmitsOne, HostValue, ClientLeaves, altered, client_of, new_host}
 use Rattle.mvd_host.specs.Course.{AreQueued, BothClients, asked_by, own}
 use Rattle.mvd_host.specs.Round.{ClientCourse, Round, turns_of}
-use Rattle.mvd_host.specs.Runs.{Call, Calls, Comes, Goes, Hands, Happening, HasShown, May, HostMoment, OneList, Rounds, Runs, TellsOwn, after_call, after_one, after_run, side_at, happened_turns, turns_in}
+use Rattle.mvd_host.specs.Runs.{Call, Calls, Comes, Goes, Hands, Happening, HasRight, HasShown, IsHelloOf, May, HostMoment, OneList, Rounds, Runs, TellsOwn, after_call, after_one, after_run, side_at, happened_turns, turns_in}
 use Rattle.mvd_host.proofs.Called.{called, none_called, admitted_called, tells_call}
 use Rattle.mvd_host.proofs.MoreAtHand.{MoreAtHand, none_more, more_on, more_stepped, more_answered, tells_at_hand}
 use Rattle.mvd_host.proofs.Own.{own-append}
@@ -126,7 +131,7 @@ was_handed f old turns side hand steps s = record {
 
 tells_on : (first second : List Turn) (h k : History) → TellsOwn first h → ClientCourse second h k → TellsOwn (first ++ second) k
 tells_on first second h k t c = record {
-  asked = ap (map asked_by) c.taken ∙ map-append asked_by h.taken c.frames ∙ ap₂ (λ a b. a ++ b) t.asked c.asked ∙ sym (map-append (λ (t : Turn). t.asked) first second);
+  asked = ap (map (asked_by k.guard)) c.taken ∙ map-append (asked_by k.guard) h.taken c.frames ∙ ap₂ (λ a b. a ++ b) (ap (λ (g : Option Guard). map (asked_by g) h.taken) c.moved.guard ∙ t.asked) c.asked ∙ sym (map-append (λ (t : Turn). t.asked) first second);
   told = subst (AreQueued (map (λ (t : Turn). t.reply) (first ++ second))) (sym c.answers)
       (subst (λ l. AreQueued l (h.answers ++ c.queued)) (sym (map-append (λ (t : Turn). t.reply) first second))
       (queued_on (map (λ t. t.reply) first) (map (λ t. t.reply) second) h.answers c.queued t.told c.told));
@@ -255,20 +260,54 @@ tells_gone f side before after n host h empty first second found =
 first_asked : (a b : Result Request Refusal) (rest bs : List (Result Request Refusal)) → a ∷ rest ≡ b ∷ bs → b ≡ a
 first_asked a b rest bs e = cc
 
+rest_asked : (a b : Result Request Refusal) (rest bs : List (Result Request Refusal)) → a ∷ rest ≡ b ∷ bs → rest ≡ bs
+rest_asked a b rest bs e = cc
+
 none_asked : (b : Result Request Refusal) (bs : List (Result Request Refusal)) → [] ≡ b ∷ bs → ⊥
 none_asked b bs e = absurd cc
 
-shown_first : (guard : Option Guard) (taken : List FrameValue) (turns : List Turn) → map asked_by taken ≡ map (λ t. t.asked) turns → IsShown guard taken → HasShown guard turns
+under_on : (r request : Request) (b : Bool) → ◌≡◌ {A = Result Request Refusal} (cond b (Ok r) (Err NotAdmitted)) (Ok request) → (b ≡ true) × (r ≡ request)
+under_on r request true e = (refl, cc)
+under_on r request false e = absurd cc
+
+under_may : (guard : Option Guard) (asked : Result Request Refusal) (request : Request) → asked_under guard asked ≡ Ok request → may_under guard request ≡ true
+under_may guard (Ok r) request e = let it = under_on r request (may_under guard r) e in subst (λ (x : Request). may_under guard x ≡ true) it.1 it.0
+under_may guard (Err refusal) request e = absurd cc
+
+-- a Hello is asked by whoever may come in
+hello_under : (guard : Option Guard) (asked : Result Request Refusal) (token : List ℕ) → may_under guard (Hello token) ≡ true → asked ≡ Ok (Hello token) → asked_under guard asked ≡ Ok (Hello token)
+hello_under guard (Ok r) token may e = let same : r ≡ Hello token = cc in subst (λ (x : Request). asked_under guard (Ok x) ≡ Ok (Hello token)) (sym same) (ap (λ (b : Bool). cond b (Ok (Hello token)) (Err NotAdmitted)) may)
+hello_under guard (Err refusal) token may e = absurd cc
+
+hello_of : (guard : Option Guard) (pass : Pass) (f : FrameValue) (t : Turn) → ((token : List ℕ) → may_under guard (Hello token) ≡ true) → shows pass f ≡ true → t.asked ≡ asked_by guard f → IsHelloOf pass t.asked
+hello_of guard pass f t may shown asked =
+    let hello = hello_asks pass f shown in
+    (hello.0, asked ∙ hello_under guard (request_of f.kind f.payload) hello.0 (may hello.0) hello.1, hello.2)
+
+shown_first : (guard : Option Guard) (taken : List FrameValue) (turns : List Turn) → map (asked_by guard) taken ≡ map (λ t. t.asked) turns → IsShown guard taken → HasShown guard turns
 shown_first None taken turns asked shown = tt
 shown_first (Some guard) taken [] asked shown = tt
 shown_first (Some guard) [] (t ∷ turns) asked shown = absurd (none_asked t.asked (map (λ t. t.asked) turns) asked)
-shown_first (Some guard) (f ∷ taken) (t ∷ turns) asked shown =
-    let hello = hello_asks guard f shown in
-    (hello.0, first_asked (asked_by f) t.asked (map asked_by taken) (map (λ t. t.asked) turns) asked ∙ hello.1, hello.2)
+shown_first (Some Asks) (f ∷ taken) (t ∷ turns) asked shown = absurd shown
+shown_first (Some (Knows pass)) (f ∷ taken) (t ∷ turns) asked shown = hello_of (Some (Knows pass)) pass f t (λ token. refl) shown (first_asked (asked_by (Some (Knows pass)) f) t.asked (map (asked_by (Some (Knows pass))) taken) (map (λ t. t.asked) turns) asked)
+shown_first (Some (Left pass)) (f ∷ taken) (t ∷ turns) asked shown = hello_of (Some (Left pass)) pass f t (λ token. refl) shown (first_asked (asked_by (Some (Left pass)) f) t.asked (map (asked_by (Some (Left pass))) taken) (map (λ t. t.asked) turns) asked)
 
 -- it has no turn before it
 pub has_shown : (turns : List Turn) (h : History) → TellsOwn turns h → HasShown h.guard turns
 has_shown turns h own = shown_first h.guard h.taken turns own.asked own.shown
+
+right_if : (guard : Option Guard) (f : FrameValue) (asked : Result Request Refusal) → asked ≡ asked_by guard f → IfOk asked (λ request. may_under guard request ≡ true)
+right_if guard f (Ok request) is = under_may guard (request_of f.kind f.payload) request (sym is)
+right_if guard f (Err refusal) is = tt
+
+right_all : (guard : Option Guard) (taken : List FrameValue) (turns : List Turn) → map (asked_by guard) taken ≡ map (λ t. t.asked) turns → HasRight guard turns
+right_all guard taken [] asked = tt
+right_all guard [] (t ∷ turns) asked = absurd (none_asked t.asked (map (λ t. t.asked) turns) asked)
+right_all guard (f ∷ taken) (t ∷ turns) asked = (right_if guard f t.asked (first_asked (asked_by guard f) t.asked (map (asked_by guard) taken) (map (λ t. t.asked) turns) asked), right_all guard taken turns (rest_asked (asked_by guard f) t.asked (map (asked_by guard) taken) (map (λ t. t.asked) turns) asked))
+
+-- and each is one that its right allows
+pub has_right : (turns : List Turn) (h : History) → TellsOwn turns h → HasRight h.guard turns
+has_right turns h own = right_all h.guard h.taken turns own.asked
 
 no_answers : (answers : List (List ℕ)) → AreQueued [] answers → answers ≡ []
 no_answers [] told = refl

@@ -1,12 +1,11 @@
 -- The frames of clients, one client after the other.
-use Rattle.std.proofs.Common.{◌≡◌, ◌⊎◌, inl, inr, ℕ, ◌+◌, ◌≤◌, ◌==◌, Bool, true, false, cond, List, [], ◌∷◌, ◌++◌, map, length, slice_index, ◌<◌, ◌||◌, true≢false, Option, Some, None, refl, sym, ap, ap₂, ◌≢◌, ◌∙◌, subst, subst₂, append-nil, arith}
+use Rattle.std.proofs.Common.{◌≡◌, ◌⊎◌, inl, inr, ℕ, ◌+◌, ◌≤◌, ◌==◌, Bool, true, false, cond, List, [], ◌∷◌, ◌++◌, map, length, slice_index, ◌<◌, ◌||◌, true≢false, Option, Some, None, refl, sym, ap, ap₂, ◌≢◌, ◌∙◌, subst, subst₂, append-nil, arith, Result}
 use Rattle.std.proofs.lemmas.Bool.Decides.{nat_tests}
 use Rattle.std.specs.Ordering.{nat_cmp}
 use Rattle.std.specs.BTreeMap.{is_at}
 use Rattle.std.specs.List.{list_any}
 use Rattle.mvd_dots.specs.declared.refusals.Refusal.{Refusal}
 use Rattle.mvd_wire.specs.declared.request.Request.{Request}
-use Rattle.mvd_wire.specs.Frames.{FrameValue}
 use Rattle.mvd_conn.specs.History.{History}
 use Rattle.mvd_host.specs.Hosts.{IfClient, client_in}
 use Rattle.mvd_host.specs.Course.{BothClients, own}
@@ -42,7 +41,7 @@ module _ (client : ℕ) (old mid new : List (ℕ × History)) (before after : Ta
   more_requests : List (ℕ × Request)
   more_requests = map (λ r. (client, r)) one.requests
 
-  more_faulty : List (ℕ × FrameValue)
+  more_faulty : List (ℕ × Result Request Refusal)
   more_faulty = map (λ f. (client, f)) one.faulty
 
   here : (x y z : History) → TakesOn (own client all.requests) (own client all.faulty) x y → TakesOn one.requests one.faulty y z → TakesOn (own client (all.requests ++ more_requests)) (own client (all.faulty ++ more_faulty)) x z
@@ -98,7 +97,7 @@ module _ (client : ℕ) (old mid new : List (ℕ × History)) (before after : Ta
   none_too n kept true is gone none =
       let nothing = one.none (ap (client_in mid) (same_there n client is) ∙ gone) in (
         own-append n all.requests more_requests ∙ ap₂ (λ a b. a ++ b) none.0 (ap (λ (l : List Request). own n (map {B = ℕ × Request} (λ r. (client, r)) l)) nothing.0) ∙ append-nil kept,
-        own-append n all.faulty more_faulty ∙ ap₂ (λ a b. a ++ b) none.1 (ap (λ (l : List FrameValue). own n (map {B = ℕ × FrameValue} (λ f. (client, f)) l)) nothing.1),
+        own-append n all.faulty more_faulty ∙ ap₂ (λ a b. a ++ b) none.1 (ap (λ (l : List (Result Request Refusal)). own n (map {B = ℕ × Result Request Refusal} (λ f. (client, f)) l)) nothing.1),
       )
 
 apart_is : (n m : ℕ) → m ≢ n → (n == m) ≡ false
@@ -130,7 +129,7 @@ only_of asks ready at old mid new before after so_far one = only_at asks ready a
 
 -- ---- one of the clients
 
-own_none : (client : ℕ) (fs : List (ℕ × FrameValue)) (es : List (ℕ × Refusal)) → AreFaults fs es → list_any (λ (e : ℕ × Refusal). e.0 == client) es ≡ false → own client fs ≡ []
+own_none : (client : ℕ) (fs : List (ℕ × Result Request Refusal)) (es : List (ℕ × Refusal)) → AreFaults fs es → list_any (λ (e : ℕ × Refusal). e.0 == client) es ≡ false → own client fs ≡ []
 own_none client [] es all none = refl
 own_none client (f ∷ fs) [] all none = absurd all
 own_none client (f ∷ fs) (e ∷ es) all none =
@@ -203,7 +202,7 @@ idle_all ready at mid new before after Heavy light took grows none ends so_far i
 
 -- ---- each had a turn, or nothing comes next
 
-faults_long : (fs : List (ℕ × FrameValue)) (es : List (ℕ × Refusal)) → AreFaults fs es → length es ≡ length fs
+faults_long : (fs : List (ℕ × Result Request Refusal)) (es : List (ℕ × Refusal)) → AreFaults fs es → length es ≡ length fs
 faults_long [] [] all = refl
 faults_long [] (e ∷ es) all = absurd all
 faults_long (f ∷ fs) [] all = absurd all
@@ -219,14 +218,14 @@ own_before n xs ys none = no_first (own n xs) (own n ys) (sym (own-append n xs y
 no_items_there : {X : Type 0} (x : X) (xs : List X) → x ∷ xs ≡ [] → ⊥
 no_items_there {X} x xs none = let no : ◌≡◌ {A = List X} (x ∷ xs) [] = none in absurd (cc)
 
-some_frame : (client : ℕ) (rs : List (ℕ × Request)) (fs : List (ℕ × FrameValue)) (more : List Request) (faulty : List FrameValue) → 0 < length more + length faulty
+some_frame : (client : ℕ) (rs : List (ℕ × Request)) (fs : List (ℕ × Result Request Refusal)) (more : List Request) (faulty : List (Result Request Refusal)) → 0 < length more + length faulty
     → HasTakenFrame client (rs ++ map (λ r. (client, r)) more) (fs ++ map (λ f. (client, f)) faulty)
 some_frame client rs fs (r ∷ more) faulty some = inl (λ none. no_items_there r more (own_later client rs (r ∷ more) none))
 some_frame client rs fs [] (f ∷ faulty) some = inr (λ none. no_items_there f faulty (own_later client fs (f ∷ faulty) none))
 some_frame client rs fs [] [] some = absurd (omega (arith, some))
 
 -- a client that has a fault has a frame that is none
-own_any : (client : ℕ) (fs : List (ℕ × FrameValue)) (es : List (ℕ × Refusal)) → AreFaults fs es → list_any (λ (e : ℕ × Refusal). e.0 == client) es ≡ true → own client fs ≡ [] → ⊥
+own_any : (client : ℕ) (fs : List (ℕ × Result Request Refusal)) (es : List (ℕ × Refusal)) → AreFaults fs es → list_any (λ (e : ℕ × Refusal). e.0 == client) es ≡ true → own client fs ≡ [] → ⊥
 own_any client [] [] all any none = true≢false (sym any)
 own_any client [] (e ∷ es) all any none = absurd all
 own_any client (f ∷ fs) [] all any none = absurd all
@@ -248,7 +247,7 @@ fair_of states asks ready at old mid new before after counted so_far one weighed
     let rs = so_far.all.requests in
     let fs = so_far.all.faulty in
     let Rs : List (ℕ × Request) = rs ++ map (λ r. (client, r)) one.requests in
-    let Fs : List (ℕ × FrameValue) = fs ++ map (λ f. (client, f)) one.faulty in
+    let Fs : List (ℕ × Result Request Refusal) = fs ++ map (λ f. (client, f)) one.faulty in
     let held = one.holds rs fs so_far.all.holds in
     let here : HasTakenFrame client Rs Fs ⊎ IfClient (client_in new client) HasNoNext ⊎ AreHeavy states Rs = elim ends [
       | inl more ↦
@@ -257,7 +256,7 @@ fair_of states asks ready at old mid new before after counted so_far one weighed
           let c : length after.clients.items ≡ length Rs = ap length held.clients ∙ length-map Rs (λ (r : ℕ × Request). r.0) in
           let d : length after.faults.items ≡ length Fs = faults_long Fs after.faults.items held.faults in
           let x : length Rs ≡ length rs + length one.requests = length-append rs (map (λ r. (client, r)) one.requests) ∙ ap (λ k. length rs + k) (length-map one.requests (λ (r : Request). (client, r))) in
-          let y : length Fs ≡ length fs + length one.faulty = length-append fs (map (λ f. (client, f)) one.faulty) ∙ ap (λ k. length fs + k) (length-map one.faulty (λ (f : FrameValue). (client, f))) in
+          let y : length Fs ≡ length fs + length one.faulty = length-append fs (map (λ f. (client, f)) one.faulty) ∙ ap (λ k. length fs + k) (length-map one.faulty (λ (f : Result Request Refusal). (client, f))) in
           inl (some_frame client rs fs one.requests one.faulty (omega (arith, more, a, b, c, d, x, y)))
       | inr (inl any) ↦ inl (inr (λ none. own_any client fs before.faults.items so_far.all.holds.faults any (own_before client fs (map (λ f. (client, f)) one.faulty) none)))
       | inr (inr (inl idle)) ↦ inr (inl idle)
@@ -270,7 +269,7 @@ fair_of states asks ready at old mid new before after counted so_far one weighed
       ],
     )
   where
-    still : (states : States) (ready : List ℕ) (at : ℕ) (mid new : List (ℕ × History)) (before after : Taken) (one : TakesOf (slice_index ready at) mid new before after) (rs : List (ℕ × Request)) (fs : List (ℕ × FrameValue))
+    still : (states : States) (ready : List ℕ) (at : ℕ) (mid new : List (ℕ × History)) (before after : Taken) (one : TakesOf (slice_index ready at) mid new before after) (rs : List (ℕ × Request)) (fs : List (ℕ × Result Request Refusal))
         → (HasTakenFrame (slice_index ready at) (rs ++ map (λ r. (slice_index ready at, r)) one.requests) (fs ++ map (λ f. (slice_index ready at, f)) one.faulty) ⊎ IfClient (client_in new (slice_index ready at)) HasNoNext ⊎ AreHeavy states (rs ++ map (λ r. (slice_index ready at, r)) one.requests))
         → (n : ℕ) (b : Bool) → (n == slice_index ready at) ≡ b → (HasTakenFrame n rs fs ⊎ IfClient (client_in mid n) HasNoNext ⊎ AreHeavy states rs)
         → HasTakenFrame n (rs ++ map (λ r. (slice_index ready at, r)) one.requests) (fs ++ map (λ f. (slice_index ready at, f)) one.faulty) ⊎ IfClient (client_in new n) HasNoNext ⊎ AreHeavy states (rs ++ map (λ r. (slice_index ready at, r)) one.requests)

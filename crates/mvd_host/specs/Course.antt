@@ -6,7 +6,10 @@ use Rattle.mvd_wire.specs.declared.reply.Reply.{Reply}
 use Rattle.mvd_wire.specs.Frames.{FrameValue}
 use Rattle.mvd_wire.specs.Requests.{request_of}
 use Rattle.mvd_wire.specs.Replies.{reply_bytes}
+use Rattle.mvd_conn.specs.Guard.{asked_under}
 use Rattle.mvd_conn.specs.History.{History}
+use Rattle.mvd_conn.specs.declared.guard.Guard.{Guard}
+use Rattle.mvd_conn.specs.declared.guard.Guard.TheVariants.{Asks, Knows, Left}
 use Rattle.mvd_conn.specs.Stands.{IsQueued}
 
 -- of things of clients, each with its client's number, those of one client, in order
@@ -25,9 +28,16 @@ BothClients None (Some new) R = ⊥
 BothClients (Some old) None R = ⊥
 BothClients (Some old) (Some new) R = R old new
 
--- what a frame asks, or its fault
-abbrev pub asked_by : FrameValue → Result Request Refusal
-asked_by f = request_of f.kind f.payload
+-- what a frame asks of whoever has shown so much: what its client's right allows, or why it asks nothing
+abbrev pub asked_by : Option Guard → FrameValue → Result Request Refusal
+asked_by guard f = asked_under guard (request_of f.kind f.payload)
+
+-- who has shown so much may go on: no token is asked for, or one is known
+abbrev pub MayGoOn : Option Guard → Type 0
+MayGoOn None = ⊤
+MayGoOn (Some Asks) = ⊥
+MayGoOn (Some (Knows pass)) = ⊤
+MayGoOn (Some (Left pass)) = ⊥
 
 -- the bytes are the frames of these replies, or want of memory in place of one that takes memory
 abbrev pub AreQueued : List Reply → List (List ℕ) → Type 0

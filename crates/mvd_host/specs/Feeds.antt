@@ -1,11 +1,13 @@
 -- What a feed remembers of late rounds: which keys each may have changed, and the root of the hash tree after it.
-use Rattle.std.specs.Prelude.{ℕ, Bool, ◌&&◌, if◌then◌else◌, nat_eq, nat_le, List, [], ◌∷◌, ◌++◌, length, drop, Option, Some, None}
+use Rattle.std.specs.Prelude.{ℕ, Bool, ◌&&◌, if◌then◌else◌, nat_eq, nat_le, List, [], ◌∷◌, ◌++◌, filter, length, take, Option, Some, None}
 use Rattle.std.specs.List.{flat_map, list_any}
 use Rattle.std.specs.Option.{option_and_then, option_map}
 use Rattle.std.specs.Ordering.{eq_by_cmp}
 use Rattle.std.specs.Cmp.Lexicographic.{pointwise}
 use Rattle.mvd_keys.specs.Key.{key_cmp}
+use Rattle.std.specs.Str.{bytes_eq}
 use Rattle.mvd_keys.specs.Writes.{Key}
+use Rattle.mvd_host.specs.declared.feed.Changed.{Changed}
 
 -- the keys that a round may have changed, and the root after it
 pub record NotedValue : Type 0 where
@@ -38,7 +40,7 @@ root_now feed = option_map (λ root. root_after root feed.rounds) feed.start
 
 -- ---- what is remembered
 
--- the most rounds that are remembered, the most keys of them, and the most keys that are told at once
+-- the most rounds that are remembered, the most keys of them, and with how many keys a page ends
 abbrev pub rounds_most : ℕ
 rounds_most = 4096
 
@@ -71,17 +73,22 @@ noted_in feed keys root = noted_behind feed.start feed.rounds keys root
 abbrev pub is_root : List ℕ → List ℕ → Bool
 is_root = pointwise nat_eq
 
--- the keys noted after the first of these rounds that left this root
-abbrev pub after_root : List NotedValue → List ℕ → Option (List Key)
+abbrev pub later_or : {A : Type 0} → Option A → Option A → Option A
+later_or (Some later) other = Some later
+later_or None other = other
+
+-- the rounds after the last of these that left this root
+abbrev pub after_root : List NotedValue → List ℕ → Option (List NotedValue)
 after_root [] root = None
-after_root (noted ∷ rounds) root = if is_root noted.root root then Some (keys_in rounds) else after_root rounds root
+after_root (noted ∷ rounds) root =
+    later_or (after_root rounds root) (if is_root noted.root root then Some rounds else None)
 
--- the keys noted since the first moment with this root
-abbrev pub since_start : List ℕ → List NotedValue → List ℕ → Option (List Key)
-since_start start rounds root = if is_root start root then Some (keys_in rounds) else after_root rounds root
+-- the rounds since the last moment with this root
+abbrev pub since_start : List ℕ → List NotedValue → List ℕ → Option (List NotedValue)
+since_start start rounds root = later_or (after_root rounds root) (if is_root start root then Some rounds else None)
 
-abbrev pub noted_since : FeedValue → List ℕ → Option (List Key)
-noted_since feed root = option_and_then (λ start. since_start start feed.rounds root) feed.start
+abbrev pub rounds_since : FeedValue → List ℕ → Option (List NotedValue)
+rounds_since feed root = option_and_then (λ start. since_start start feed.rounds root) feed.start
 
 abbrev pub is_listed : List Key → Key → Bool
 is_listed keys key = list_any (λ k. eq_by_cmp key_cmp k key) keys
@@ -91,14 +98,41 @@ abbrev pub lasts : List Key → List Key
 lasts [] = []
 lasts (key ∷ keys) = if is_listed keys key then lasts keys else key ∷ lasts keys
 
--- the keys that are told, unless they are too many
-abbrev pub if_few : List Key → Option (List Key)
-if_few keys = if nat_le (length keys) told_most then Some keys else None
+-- the different keys of a list and of those that were met before, the last one first
+abbrev pub met_one : List Key → Key → List Key
+met_one met key = if is_listed met key then met else key ∷ met
 
--- what is told of a root: the keys noted since, each once; it may be none that is known, or too many were noted
-abbrev pub told_since : FeedValue → List ℕ → Option (List Key)
-told_since feed root = option_and_then (λ keys. if_few (lasts keys)) (noted_since feed root)
+abbrev pub met_all : List Key → List Key → List Key
+met_all met [] = met
+met_all met (key ∷ keys) = met_all (met_one met key) keys
 
--- the keys that are told are those noted from this round on
-abbrev pub told_from : List NotedValue → ℕ → Option (List Key)
-told_from rounds place = if_few (lasts (keys_in (drop place rounds)))
+-- whether the prefix stands at the head of the key
+abbrev pub begins_with : List ℕ → Key → Bool
+begins_with prefix key = bytes_eq prefix (take (length prefix) key)
+
+-- the keys of rounds that begin with a prefix, in order
+abbrev pub keys_with : List ℕ → List NotedValue → List Key
+keys_with prefix rounds = flat_map (λ noted. filter (begins_with prefix) noted.keys) rounds
+
+-- the first rounds, up to that in which the thousandth different key stands, where these were met before them
+abbrev pub page_of : List ℕ → List Key → List NotedValue → List NotedValue
+page_of prefix met [] = []
+page_of prefix met (noted ∷ rounds) = if nat_le told_most (length met) then []
+    else noted ∷ page_of prefix (met_all met (filter (begins_with prefix) noted.keys)) rounds
+
+-- keys that may have changed, and the root at the moment up to which all of them are told
+pub record ChangedValue : Type 0 where
+  pub keys : List Key
+  pub root : List ℕ
+
+abbrev pub page_told : List ℕ → List ℕ → List NotedValue → ChangedValue
+page_told prefix root rounds =
+    record { keys = lasts (keys_with prefix (page_of prefix [] rounds)); root = root_after root (page_of prefix [] rounds) }
+
+-- what is told of a root: of the first rounds since, the keys that begin with the prefix, each once, and the root then;
+-- the root may be none that is known
+abbrev pub told_since : FeedValue → List ℕ → List ℕ → Option ChangedValue
+told_since feed prefix root = option_map (page_told prefix root) (rounds_since feed root)
+
+abbrev pub changed_by : Changed → ChangedValue
+changed_by changed = record { keys = changed.keys.items; root = changed.root }

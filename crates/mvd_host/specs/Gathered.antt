@@ -1,24 +1,32 @@
--- Keys that are gone over from the last one to the first.
-use Rattle.std.specs.Prelude.{◌≡◌, ◌≤◌, ◌<◌, List, ◌∷◌, ◌++◌, length, map, reverse, Bool}
-use Rattle.std.specs.Bool.{MatchBool}
+-- Keys that are gone over, from the last one to the first or from the first one to the last.
+use Rattle.std.specs.Prelude.{◌≡◌, List, ◌∷◌, ◌++◌, map, reverse}
 use Rattle.std.specs.BTreeSet.{contains}
 use Rattle.std.specs.Borrow.{Bor}
 use Rattle.mvd_keys.specs.Key.{key_cmp}
 use Rattle.mvd_keys.specs.Writes.{Key}
-use Rattle.mvd_host.specs.declared.feed.Lasts.{Lasts}
-use Rattle.mvd_host.specs.Feeds.{is_listed, lasts, told_most}
+use Rattle.mvd_host.specs.declared.feed.Gathered.{Gathered}
+use Rattle.mvd_host.specs.Feeds.{is_listed, lasts, met_all, met_one}
 
--- these keys were met, and they are not too many
-pub record Gathers (gathered : Lasts) (keys : List Key) : Type 0 where
+-- these different keys were met, the last one first
+pub record Met (gathered : Gathered) (keys : List Key) : Type 0 where
+  pub order : reverse (map (λ key. key.now) gathered.found.items) ≡ keys
+  pub members : (q : Bor Key) → contains (λ a b. key_cmp a.now b.now) gathered.seen q ≡ is_listed keys q.now
+
+-- a key was met behind them, and so were keys
+abbrev pub MeetsOne : Gathered → Key → Gathered → Type 0
+MeetsOne old key new = (met : List Key) → Met old met → Met new (met_one met key)
+
+abbrev pub MeetsAll : Gathered → List Key → Gathered → Type 0
+MeetsAll old keys new = (met : List Key) → Met old met → Met new (met_all met keys)
+
+-- these keys were met from the last one on
+pub record Gathers (gathered : Gathered) (keys : List Key) : Type 0 where
   pub order : reverse (map (λ key. key.now) gathered.found.items) ≡ lasts keys
   pub members : (q : Bor Key) → contains (λ a b. key_cmp a.now b.now) gathered.seen q ≡ is_listed keys q.now
-  pub few : length gathered.found.items ≤ told_most
 
--- these keys were met before those that were met, unless all of them are too many
-abbrev pub GathersAll : Lasts → List Key → Lasts → Bool → Type 0
-GathersAll old keys new few = (later : List Key) → Gathers old later →
-    MatchBool few (Gathers new (keys ++ later)) (told_most < length (lasts (keys ++ later)))
+-- a key was met before them, and so were keys
+abbrev pub GathersOne : Gathered → Key → Gathered → Type 0
+GathersOne old key new = (later : List Key) → Gathers old later → Gathers new (key ∷ later)
 
-abbrev pub GathersOne : Lasts → Key → Lasts → Bool → Type 0
-GathersOne old key new few = (later : List Key) → Gathers old later →
-    MatchBool few (Gathers new (key ∷ later)) (told_most < length (lasts (key ∷ later)))
+abbrev pub GathersAll : Gathered → List Key → Gathered → Type 0
+GathersAll old keys new = (later : List Key) → Gathers old later → Gathers new (keys ++ later)

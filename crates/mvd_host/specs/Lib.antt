@@ -16,3 +16,4 @@ pub mod Remembered
 pub mod Gathered
 pub mod Noting
 pub mod Weights
+pub mod Within

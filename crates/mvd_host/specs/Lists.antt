@@ -6,7 +6,7 @@ use Rattle.mvd_keys.specs.Writes.{Key}
 use Rattle.mvd_tree.specs.HashTree.{node_digest}
 use Rattle.mvd_site.specs.Answer.{digests}
 use Rattle.mvd_site.specs.Held.{States}
-use Rattle.mvd_host.specs.Feeds.{FeedValue, NotedValue, is_listed, keys_in}
+use Rattle.mvd_host.specs.Feeds.{ChangedValue, FeedValue, NotedValue, begins_with, is_listed}
 
 -- the root of the hash tree over the states
 unfoldable pub root_of : States → List ℕ
@@ -16,13 +16,17 @@ root_of states = node_digest (digests states) []
 abbrev pub ChangesAmong : List Key → States → States → Type 0
 ChangesAmong keys old new = (key : Key) → (get old key ≡ get new key) ⊎ (is_listed keys key ≡ true)
 
+abbrev pub first_or : States → List States → States
+first_or now [] = now
+first_or now (next ∷ later) = next
+
 -- The states that the site had at the moments that are remembered, from the start on; at the last it has those of now.
--- Each had its root, and the keys that were noted since are all that changed
+-- Each had its root, and the keys that were noted up to the next are all that changed
 abbrev pub ListsFrom : List ℕ → List NotedValue → List States → States → Type 0
 ListsFrom root rounds [] now = ⊥
 ListsFrom root [] (was ∷ past) now = (root ≡ root_of was) × (was ≡ now) × (past ≡ [])
 ListsFrom root (noted ∷ rounds) (was ∷ past) now =
-    (root ≡ root_of was) × ChangesAmong (keys_in (noted ∷ rounds)) was now × ListsFrom noted.root rounds past now
+    (root ≡ root_of was) × ChangesAmong noted.keys was (first_or now past) × ListsFrom noted.root rounds past now
 
 -- a feed that knows nothing lists nothing
 abbrev pub ListsIf : Option (List ℕ) → List NotedValue → List States → States → Type 0
@@ -39,10 +43,23 @@ abbrev pub AnyByRecursion : {X : Type 0} → (X → Type 0) → List X → Type 
 AnyByRecursion P [] = ⊥
 AnyByRecursion P (x ∷ xs) = P x ⊎ AnyByRecursion P xs
 
--- where keys are told, the site had states with this root, and each key that changed since is among them
-abbrev pub IsListed : List ℕ → List States → States → Option (List Key) → Type 0
-IsListed root past now None = ⊤
-IsListed root past now (Some keys) = AnyByRecursion (λ was. (root ≡ root_of was) × ChangesAmong keys was now) past
+-- the same of one of them and those behind it
+abbrev pub AnyWithLater : {X : Type 0} → (X → List X → Type 0) → List X → Type 0
+AnyWithLater P [] = ⊥
+AnyWithLater P (x ∷ xs) = P x (x ∷ xs) ⊎ AnyWithLater P xs
+
+-- each key that begins with a prefix and whose state is another than before is among these
+abbrev pub ChangesWith : List ℕ → List Key → States → States → Type 0
+ChangesWith prefix keys old new =
+    (key : Key) → begins_with prefix key ≡ true → (get old key ≡ get new key) ⊎ (is_listed keys key ≡ true)
+
+-- Where keys are told, the site had states with this root, and then or later states with the root that is told. Each
+-- key that begins with the prefix and changed between the two is among them
+abbrev pub IsListed : List ℕ → List ℕ → List States → Option ChangedValue → Type 0
+IsListed prefix root past None = ⊤
+IsListed prefix root past (Some told) =
+    AnyWithLater (λ was later. (root ≡ root_of was)
+    × AnyByRecursion (λ mid. (told.root ≡ root_of mid) × ChangesWith prefix told.keys was mid) later) past
 
 -- the feed lists still: its moments are some of those before, and now
 abbrev pub ListsOn : FeedValue → States → FeedValue → States → Type 0

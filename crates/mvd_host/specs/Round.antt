@@ -18,7 +18,7 @@ use Rattle.mvd_host.specs.AtHand.{AllMayWait, AtHandValue, first_at_hand}
 use Rattle.mvd_host.specs.Hosts.{HostValue, IfClient, client_of}
 use Rattle.mvd_host.specs.Taking.{HasNoNext}
 use Rattle.mvd_host.specs.Weights.{AreHeavyTurns}
-use Rattle.mvd_host.specs.Course.{AreQueued, BothClients, IsOut, NoneMoved, asked_by, own}
+use Rattle.mvd_host.specs.Course.{AreQueued, BothClients, IsOut, MayGoOn, NoneMoved, asked_by, own}
 use Rattle.sqlite.specs.State.{State}
 use Rattle.sqlite_trees.specs.declared.store.Store.{Ghosts}
 
@@ -61,17 +61,19 @@ pub record Serves (turns : List Turn) (old new : StoredSite) : Type 0 where
   pub follows : TurnsFollow turns old new
   pub states : ServesAllFrom old.site new.site turns
 
--- The frames that were taken of a connection are those of these turns, in order, and the replies that were queued on it
--- are theirs, in order. Where there is a guard, the first frame of all shows the token
+-- The frames that were taken of a connection are those of these turns, in order, each of what its client's right allows,
+-- and the replies that were queued on it are theirs, in order. Where there is a guard, the first frame of all shows a
+-- token, and none is taken unless it is known
 pub record ClientCourse (turns : List Turn) (old new : History) : Type 0 where
   pub frames : List FrameValue
   pub taken : new.taken ≡ old.taken ++ frames
-  pub asked : map asked_by frames ≡ map (λ t. t.asked) turns
+  pub asked : map (asked_by new.guard) frames ≡ map (λ t. t.asked) turns
   pub queued : List (List ℕ)
   pub answers : new.answers ≡ old.answers ++ queued
   pub told : AreQueued (map (λ t. t.reply) turns) queued
   pub moved : NoneMoved old new
   pub shown : IsShown old.guard old.taken → IsShown new.guard new.taken
+  pub goes_on : (frames ≡ []) ⊎ MayGoOn new.guard
 
 -- A number of a connection that no client has, has no turn; nor has a client that is not ready, and that is as it was
 pub record Spares (ready : List ℕ) (turns : List (ℕ × Turn)) (old new : HostValue) : Type 0 where

@@ -1,15 +1,21 @@
 -- What happens to a host and to what is at hand, one thing after the other: rounds, and what comes between them.
-use Rattle.std.specs.Prelude.{◌≡◌, ◌≤◌, ℕ, List, [], ◌∷◌, ◌++◌, map, Option, Some, None, Ok, ⊤}
+use Rattle.std.specs.Prelude.{◌≡◌, ◌≤◌, ℕ, List, [], ◌∷◌, ◌++◌, map, Option, Some, None, Result, Ok, IfOk, true, ⊤}
+use Rattle.std.specs.List.{AllByRecursion}
 use Rattle.mvd_conn.specs.declared.source.Source.{Source}
-use Rattle.mvd_conn.specs.Guard.{IsShown, IsTokenOf}
+use Rattle.mvd_conn.specs.Guard.{IsShown, may_under}
+use Rattle.mvd_conn.specs.Passes.{IsTokenOf}
 use Rattle.mvd_conn.specs.declared.guard.Guard.{Guard}
-use Rattle.mvd_conn.specs.History.{History, closed, cut, fed, released, sent}
+use Rattle.mvd_conn.specs.declared.guard.Guard.TheVariants.{Asks, Knows, Left}
+use Rattle.mvd_conn.specs.declared.passes.Pass.{Pass}
+use Rattle.mvd_conn.specs.History.{History, closed, cut, fed, met, released, sent}
 use Rattle.mvd_site.specs.Sites.{SiteValue}
 use Rattle.mvd_replica.specs.Turns.{Turn}
 use Rattle.mvd_host.specs.AtHand.{AtHandValue, StepsAtHand, first_at_hand}
 use Rattle.mvd_host.specs.Hosts.{AdmitsOne, HostValue, ClientLeaves, altered, client_of}
 use Rattle.mvd_host.specs.Course.{AreQueued, asked_by, own}
 use Rattle.mvd_host.specs.Round.{Round, Serves, Side, stored_in, turns_of}
+use Rattle.mvd_dots.specs.declared.refusals.Refusal.{Refusal}
+use Rattle.mvd_wire.specs.declared.request.Request.{Request}
 use Rattle.mvd_wire.specs.declared.request.Request.TheVariants.{Hello}
 use Rattle.sqlite.specs.State.{State}
 
@@ -23,9 +29,10 @@ pub record HostMoment (C : Type 0) : Type 0 where
 abbrev pub side_at : {C : Type 0} → (C → State) → HostMoment C → Side
 side_at f m = record { host = m.host; hand = m.hand; site = m.site; store = f m.conn }
 
--- What happens to one client's connection between rounds: bytes came, memory was refused for them, no more is read of
--- it, bytes left, or its writer failed
+-- What happens to one client's connection between rounds: these passes are known, bytes came, memory was refused for them,
+-- no more is read of it, bytes left, or its writer failed
 pub data Call : Type 0 where
+  Meets : List Pass → Call
   Feeds : List ℕ → Call
   Releases : Call
   Closes : Source → Call
@@ -33,6 +40,7 @@ pub data Call : Type 0 where
   Cuts : Call
 
 abbrev pub after_call : Call → History → History
+after_call (Meets passes) h = met passes h
 after_call (Feeds bytes) h = fed h bytes
 after_call Releases h = released h
 after_call (Closes source) h = closed h source
@@ -85,19 +93,27 @@ abbrev pub Runs : {C : Type 0} → (C → State) → HostMoment C → List (Happ
 Runs f side [] = ⊤
 Runs f side (x ∷ xs) = May f side x × Runs f (after_one side x) xs
 
--- The frames that were taken of a client are those of these turns, in order, and what was queued for it are the frames
--- of their replies, in order. Where there is a guard, the first frame shows the token
+-- The frames that were taken of a client are those of these turns, in order, each of what its right allows, and what was
+-- queued for it are the frames of their replies, in order. Where there is a guard, the first frame shows a token
 pub record TellsOwn (turns : List Turn) (h : History) : Type 0 where
-  pub asked : map asked_by h.taken ≡ map (λ t. t.asked) turns
+  pub asked : map (asked_by h.guard) h.taken ≡ map (λ t. t.asked) turns
   pub told : AreQueued (map (λ t. t.reply) turns) h.answers
   pub shown : IsShown h.guard h.taken
 
--- A client that has to show a token has no turn before a Hello with that token
+abbrev pub IsHelloOf : Pass → Result Request Refusal → Type 0
+IsHelloOf pass asked = (token : List ℕ) × (asked ≡ Ok (Hello token)) × IsTokenOf pass token
+
+-- A client that has to show a token has no turn before a Hello with that of a pass
 abbrev pub HasShown : Option Guard → List Turn → Type 0
 HasShown None turns = ⊤
 HasShown (Some guard) [] = ⊤
-HasShown (Some guard) (first ∷ turns) =
-    (token : List ℕ) × (first.asked ≡ Ok (Hello token)) × IsTokenOf guard token
+HasShown (Some Asks) (first ∷ turns) = ⊥
+HasShown (Some (Knows pass)) (first ∷ turns) = IsHelloOf pass first.asked
+HasShown (Some (Left pass)) (first ∷ turns) = IsHelloOf pass first.asked
+
+-- EACH TURN of it is one that its right allows; any other frame is told why not, and the site is asked nothing
+abbrev pub HasRight : Option Guard → List Turn → Type 0
+HasRight guard turns = AllByRecursion (λ turn. IfOk turn.asked (λ request. may_under guard request ≡ true)) turns
 
 -- What a client at hand asked in rounds are these turns, in order, and what it was told, or what is left to tell it, are
 -- their replies

@@ -1,5 +1,5 @@
 -- The frames that are taken in one round.
-use Rattle.std.specs.Prelude.{◌≡◌, ◌≢◌, ◌==◌, Bool, true, slice_index, ℕ, ◌+◌, ◌≤◌, ◌<◌, ◌⊎◌, List, [], ◌∷◌, ◌++◌, map, length, Ok, Err, None, ⊤, Some, false, vec_len, vec_capacity, zip}
+use Rattle.std.specs.Prelude.{◌≡◌, ◌≢◌, ◌==◌, Bool, true, slice_index, ℕ, ◌+◌, ◌≤◌, ◌<◌, ◌⊎◌, List, [], ◌∷◌, ◌++◌, map, length, Result, Ok, Err, None, ⊤, Some, false, vec_len, vec_capacity, zip}
 use Rattle.std.specs.List.{list_any}
 use Rattle.mvd_dots.specs.declared.refusals.Refusal.{Refusal}
 use Rattle.mvd_dots.specs.Answer.{IsAnswer}
@@ -10,46 +10,49 @@ use Rattle.mvd_conn.specs.History.{History, after_next}
 use Rattle.mvd_site.specs.Held.{States}
 use Rattle.mvd_host.specs.Hosts.{IfClient, client_in}
 use Rattle.mvd_host.specs.Weights.{AreHeavy, weights_in}
-use Rattle.mvd_host.specs.Course.{BothClients, IsOut, NoneMoved, asked_by, own}
+use Rattle.mvd_host.specs.Course.{BothClients, IsOut, MayGoOn, NoneMoved, asked_by, own}
 use Rattle.mvd_host.specs.declared.taking.Taken.{Taken}
 
--- frames of clients that are no requests, and what each is told: its fault, or want of memory
-abbrev pub AreFaults : List (ℕ × FrameValue) → List (ℕ × Refusal) → Type 0
+-- what frames of clients are that ask nothing, and what each is told: why it does not, or want of memory
+abbrev pub AreFaults : List (ℕ × Result Request Refusal) → List (ℕ × Refusal) → Type 0
 AreFaults [] [] = ⊤
 AreFaults [] (e ∷ es) = ⊥
 AreFaults (f ∷ fs) [] = ⊥
-AreFaults (f ∷ fs) (e ∷ es) = (e.0 ≡ f.0) × IsAnswer {T = Request} (Err e.1) (asked_by f.1) × AreFaults fs es
+AreFaults (f ∷ fs) (e ∷ es) = (e.0 ≡ f.0) × IsAnswer {T = Request} (Err e.1) f.1 × AreFaults fs es
 
--- of a connection, frames that ask these requests were taken, and then these, which are no requests
-pub record TakesOn (requests : List Request) (faulty : List FrameValue) (old new : History) : Type 0 where
+-- of a connection, frames that ask these requests were taken, and then these, which ask nothing
+pub record TakesOn (requests : List Request) (faulty : List (Result Request Refusal)) (old new : History) : Type 0 where
   pub frames : List FrameValue
-  pub taken : new.taken ≡ old.taken ++ (frames ++ faulty)
-  pub asked : map asked_by frames ≡ map (λ r. Ok r) requests
+  pub taken : new.taken ≡ old.taken ++ frames
+  pub asked : map (asked_by new.guard) frames ≡ map (λ r. Ok r) requests ++ faulty
   pub answers : new.answers ≡ old.answers
   pub moved : NoneMoved old new
   pub shown : IsShown old.guard old.taken → IsShown new.guard new.taken
+  pub goes_on : (frames ≡ []) ⊎ MayGoOn new.guard
 
 -- nothing comes next
 abbrev pub HasNoNext : History → Type 0
 HasNoNext h = after_next h ≡ (false, h)
 
--- the requests that were taken, each with its client, and the frames that are no requests
-pub record HoldsTaken (requests : List (ℕ × Request)) (faulty : List (ℕ × FrameValue)) (taken : Taken) : Type 0 where
+-- the requests that were taken, each with its client, and what the frames are that ask nothing
+pub record HoldsTaken (requests : List (ℕ × Request)) (faulty : List (ℕ × Result Request Refusal)) (taken : Taken)
+    : Type 0 where
   pub clients : taken.clients.items ≡ map (λ r. r.0) requests
   pub requests_are : taken.requests.items ≡ map (λ r. r.1) requests
   pub faults : AreFaults faulty taken.faults.items
 
 -- each client's own requests and faults were taken of its connection
-abbrev pub TakesFrames : List (ℕ × Request) → List (ℕ × FrameValue) → List (ℕ × History) → List (ℕ × History) → Type 0
+abbrev pub TakesFrames : List (ℕ × Request) → List (ℕ × Result Request Refusal) → List (ℕ × History) → List (ℕ × History)
+    → Type 0
 TakesFrames requests faulty old new =
     (n : ℕ) → BothClients (client_in old n) (client_in new n) (TakesOn (own n requests) (own n faulty))
 
 -- frames of one client were taken
 pub record TakesMore (client : ℕ) (old new : History) (before after : Taken) : Type 0 where
   pub requests : List Request
-  pub faulty : List FrameValue
+  pub faulty : List (Result Request Refusal)
   pub conn : TakesOn requests faulty old new
-  pub holds : (asked : List (ℕ × Request)) (faults : List (ℕ × FrameValue)) → HoldsTaken asked faults before →
+  pub holds : (asked : List (ℕ × Request)) (faults : List (ℕ × Result Request Refusal)) → HoldsTaken asked faults before →
       HoldsTaken (asked ++ map (λ r. (client, r)) requests) (faults ++ map (λ f. (client, f)) faulty) after
 
 -- there is room for one frame more
@@ -90,19 +93,19 @@ pub record TakesRequests (client : ℕ) (old new : History) (before after : Take
 -- client
 pub record TakesOf (client : ℕ) (old new : List (ℕ × History)) (before after : Taken) : Type 0 where
   pub requests : List Request
-  pub faulty : List FrameValue
-  pub first : (asked : List (ℕ × Request)) (faults : List (ℕ × FrameValue)) → HoldsTaken asked faults before
+  pub faulty : List (Result Request Refusal)
+  pub first : (asked : List (ℕ × Request)) (faults : List (ℕ × Result Request Refusal)) → HoldsTaken asked faults before
       → (own client faults ≡ []) ⊎ ((requests ≡ []) × (faulty ≡ []))
   pub one : BothClients (client_in old client) (client_in new client) (TakesOn requests faulty)
   pub none : client_in old client ≡ None → (requests ≡ []) × (faulty ≡ [])
   pub others : (q : ℕ) → (q == client) ≡ false → client_in new q ≡ client_in old q
-  pub holds : (asked : List (ℕ × Request)) (faults : List (ℕ × FrameValue)) → HoldsTaken asked faults before →
+  pub holds : (asked : List (ℕ × Request)) (faults : List (ℕ × Result Request Refusal)) → HoldsTaken asked faults before →
       HoldsTaken (asked ++ map (λ r. (client, r)) requests) (faults ++ map (λ f. (client, f)) faulty) after
 
 -- frames of clients were taken, and this is what was taken
 pub record TakesAllFrames (old new : List (ℕ × History)) (taken : Taken) : Type 0 where
   pub requests : List (ℕ × Request)
-  pub faulty : List (ℕ × FrameValue)
+  pub faulty : List (ℕ × Result Request Refusal)
   pub holds : HoldsTaken requests faulty taken
   pub takes : TakesFrames requests faulty old new
 
@@ -126,11 +129,12 @@ pub record TakesOnly (asks : List (ℕ × Request)) (ready : List ℕ) (count : 
       ≤ weights_in states (map (λ r. r.1) all.requests)
 
 -- a frame of this client was taken
-abbrev pub HasTakenFrame : ℕ → List (ℕ × Request) → List (ℕ × FrameValue) → Type 0
+abbrev pub HasTakenFrame : ℕ → List (ℕ × Request) → List (ℕ × Result Request Refusal) → Type 0
 HasTakenFrame n requests faulty = (own n requests ≢ []) ⊎ (own n faulty ≢ [])
 
 -- of each of the first of these clients a frame was taken, or nothing comes next of it, or what was taken is heavy
-abbrev pub IsFair : States → List ℕ → ℕ → List (ℕ × Request) → List (ℕ × FrameValue) → List (ℕ × History) → Type 0
+abbrev pub IsFair : States → List ℕ → ℕ → List (ℕ × Request) → List (ℕ × Result Request Refusal) → List (ℕ × History)
+    → Type 0
 IsFair states ready count requests faulty new = (i : ℕ) → i < count →
     HasTakenFrame (slice_index ready i) requests faulty ⊎ IfClient (client_in new (slice_index ready i)) HasNoNext
     ⊎ AreHeavy states requests

@@ -1,14 +1,15 @@
 //! The keys that changed of late: those that each round may have changed, and the root of the hash tree after it. A
 //! root tells what a reader knows: states only grow, so one that was never comes again.
-ghost use Rattle.std.specs.Prelude.{◌≡◌, ◌≤◌, IfOk, IfSome, IsOkUnless, OnErr, OnOk, List, [], ℕ, drop, length, map};
-ghost use Rattle.std.specs.Prelude.{option_map};
-ghost use Rattle.mvd_host.specs.Feeds.{keys_in, knows_nothing, knows_root, lasts, noted_in, noted_since, root_now};
-ghost use Rattle.mvd_host.specs.Feeds.{told_from, told_since};
+ghost use Rattle.std.specs.Prelude.{◌≡◌, ◌≤◌, ◌-◌, IfOk, IfSome, IsOkUnless, OnErr, OnOk, List, [], ◌∷◌, ℕ, drop, filter, length};
+ghost use Rattle.std.specs.Prelude.{option_map, take};
+ghost use Rattle.mvd_host.specs.Feeds.{begins_with, changed_by, keys_with, knows_nothing, knows_root, lasts, noted_in};
+ghost use Rattle.mvd_host.specs.Feeds.{page_of, page_told, root_after as root_then, root_now, rounds_since, told_since};
 ghost use Rattle.mvd_host.specs.Lists.{ChangesAmong, IsListed, Lists, ListsOn, root_of};
 ghost use Rattle.mvd_site.specs.Held.{States};
 
 use mvd_dots::Refusal;
 use mvd_keys::Key;
+use mvd_wire::Prefix;
 use std::alloc::{AllocError, Global};
 use std::collections::{BTreeSet, VecDeque};
 use std::marker::Model;
@@ -18,8 +19,8 @@ const ROUNDS_MAX: usize = 4_096;
 
 const KEYS_MAX: usize = 65_536;
 
-/// The most keys that are told at once.
-pub const TOLD_MAX: usize = 1_000;
+/// With so many keys a page ends.
+const TOLD_MAX: usize = 1_000;
 
 /// The keys that a round may have changed, and the root after it.
 #[derive(Drop)]
@@ -34,6 +35,13 @@ impl Model for Noted {
     ghost Value = { NotedValue };
 
     ghost view = { λ noted. record { keys = noted.keys.items; root = noted.root } };
+}
+
+/// Keys that may have changed since a moment, and the root at a later one, up to which all are told.
+#[derive(Drop)]
+pub struct Changed {
+    pub keys: Vec<Key>,
+    pub root: [u8; 32],
 }
 
 /// The root from which on all changes were noted, if there is one, and the rounds since. What there is no room for is
@@ -130,104 +138,170 @@ impl Feed {
         Ok(())
     }
 
-    /// The keys that may have changed since a root, each once, in the order of their last changes. There are none where
-    /// that root is not known, or they are too many.
-    pub fn since(&self, root: &[u8; 32]) -> Result<Option<Vec<Key>>, Refusal>
-        ensures told { IfOk result (λ told. option_map (λ keys. keys.items) told ≡ told_since self.now root.now) }
+    /// What changed since a root: the keys that begin with a prefix, of the first rounds since, each once, in the order of
+    /// their last changes. There is nothing where that root is not known.
+    pub fn since(&self, root: &[u8; 32], prefix: &Prefix) -> Result<Option<Changed>, Refusal>
+        ensures told { IfOk result (λ told. option_map changed_by told ≡ told_since self.now prefix.now root.now) }
         ensures listed { (past : List States) (now : States) → Lists self.now past now →
-            IfOk result (λ told. IsListed root.now past now (option_map (λ keys. keys.items) told)) }
+            IfOk result (λ told. IsListed prefix.now root.now past (option_map changed_by told)) }
         ensures memory { IsOkUnless result Refusal.Memory }
     {
-        match self.place_of(root) {
-            Some(place) => self.keys_from(place),
-            None => Ok(None),
-        }
+        let Some(place) = self.place_of(root) else {
+            return Ok(None);
+        };
+        let changed = self.page_from(root, place, prefix)?;
+        Ok(Some(changed))
     }
 
-    /// The first round after the first moment with this root.
+    /// The first round after the last moment with this root.
     fn place_of(&self, root: &[u8; 32]) -> Option<usize>
-        ensures place { noted_since self.now root.now ≡ option_map (λ at. keys_in (drop at self.now.rounds)) result }
+        ensures place { rounds_since self.now root.now ≡ option_map (λ at. drop at self.now.rounds) result }
         ensures within { IfSome result (λ place. place ≤ length self.now.rounds) }
     {
-        match &self.start {
-            Some(start) if *start == *root => return Some(0),
-            Some(_) => {}
-            None => return None,
-        }
-        for index in 0..self.rounds.len() {
-            if self.rounds[index].root == *root {
-                return Some(index + 1);
+        let Some(start) = &self.start else {
+            return None;
+        };
+        let mut left = self.rounds.len();
+        'rounds: while left > 0 {
+            if self.rounds[left - 1].root == *root {
+                return Some(left);
             }
+            left -= 1;
+        }
+        if *start == *root {
+            return Some(0);
         }
         None
     }
 
-    /// The keys noted from this round on, each once.
-    fn keys_from(&self, place: usize) -> Result<Option<Vec<Key>>, Refusal>
+    /// What is told of the rounds from this one on.
+    fn page_from(&self, root: &[u8; 32], place: usize, prefix: &Prefix) -> Result<Changed, Refusal>
         requires { place ≤ length self.now.rounds }
-        ensures told { IfOk result (λ told. option_map (λ keys. keys.items) told ≡ told_from self.now.rounds place) }
+        ensures told { IfOk result (λ told.
+            changed_by told ≡ page_told prefix.now root.now (drop place self.now.rounds)) }
         ensures memory { IsOkUnless result Refusal.Memory }
     {
-        let mut lasts = Lasts::new(self.alloc);
-        let mut left = self.rounds.len();
+        let end = self.page_end(place, prefix)?;
+        let keys = self.keys_between(place, end, prefix)?;
+        let root = self.root_after(root, place, end);
+        Ok(Changed { keys, root })
+    }
+
+    /// The round before which a page ends.
+    fn page_end(&self, place: usize, prefix: &Prefix) -> Result<usize, AllocError>
+        requires { place ≤ length self.now.rounds }
+        ensures within { IfOk result (λ end. (place ≤ end) × (end ≤ length self.now.rounds)) }
+        ensures page { IfOk result (λ end.
+            take (end - place) (drop place self.now.rounds) ≡ page_of prefix.now [] (drop place self.now.rounds)) }
+    {
+        let mut met = Gathered::new(self.alloc);
+        let mut end = place;
+        'rounds: while end < self.rounds.len() && met.found.len() < TOLD_MAX {
+            met.meet_all(&self.rounds[end].keys, prefix)?;
+            end += 1;
+        }
+        Ok(end)
+    }
+
+    /// The keys that these rounds noted, each once.
+    fn keys_between(&self, place: usize, end: usize, prefix: &Prefix) -> Result<Vec<Key>, Refusal>
+        requires { (place ≤ end) × (end ≤ length self.now.rounds) }
+        ensures keys { IfOk result (λ keys.
+            keys.items ≡ lasts (keys_with prefix.now (take (end - place) (drop place self.now.rounds)))) }
+        ensures memory { IsOkUnless result Refusal.Memory }
+    {
+        let mut lasts = Gathered::new(self.alloc);
+        let mut left = end;
         'rounds: while left > place {
             left -= 1;
-            if !lasts.add_all(&self.rounds[left].keys)? {
-                return Ok(None);
-            }
+            lasts.add_all(&self.rounds[left].keys, prefix)?;
         }
-        Ok(Some(lasts.in_order(self.alloc)?))
+        lasts.in_order(self.alloc)
+    }
+
+    /// The root after these rounds.
+    fn root_after(&self, root: &[u8; 32], place: usize, end: usize) -> [u8; 32]
+        requires { (place ≤ end) × (end ≤ length self.now.rounds) }
+        ensures { result ≡ root_then root.now (take (end - place) (drop place self.now.rounds)) }
+    {
+        if place == end {
+            return *root;
+        }
+        self.rounds[end - 1].root
     }
 }
 
-/// Keys that are gone over from the last one to the first: each that was met, and each once, the last one first.
+fn begins(key: &Key, prefix: &Prefix) -> bool
+    ensures { result ≡ begins_with prefix.now key.now }
+{
+    key.text().as_bytes().starts_with(prefix.text().as_bytes())
+}
+
+/// Keys that are gone over: each that was met, and each once, in the order in which they were.
 #[derive(Drop)]
-struct Lasts<'a> {
+struct Gathered<'a> {
     seen: BTreeSet<&'a Key>,
     found: Vec<&'a Key>,
 }
 
-impl<'a> Lasts<'a> {
-    ghost use Rattle.mvd_host.specs.Gathered.{GathersAll, GathersOne, Gathers};
+impl<'a> Gathered<'a> {
+    ghost use Rattle.mvd_host.specs.Gathered.{GathersAll, GathersOne, Gathers, MeetsAll, MeetsOne, Met};
 
-    fn new(alloc: Global) -> Lasts<'a>
-        ensures { Gathers result [] }
+    fn new(alloc: Global) -> Gathered<'a>
+        ensures last { Gathers result [] }
+        ensures met { Met result [] }
     {
-        Lasts {
+        Gathered {
             seen: BTreeSet::new(alloc),
             found: Vec::new(alloc),
         }
     }
 
-    /// The next key. It is `false` where they are too many.
-    fn add(&mut self, key: &'a Key) -> Result<bool, AllocError>
-        ensures { IfOk result (GathersOne self.old key.now self.new) }
+    /// The next key.
+    fn add(&mut self, key: &'a Key) -> Result<(), AllocError>
+        ensures back { OnOk result (GathersOne self.old key.now self.new) }
+        ensures forth { OnOk result (MeetsOne self.old key.now self.new) }
     {
-        if !self.seen.insert(key)? {
-            return Ok(true);
+        if self.seen.insert(key)? {
+            self.found.push(key)?;
         }
-        if self.found.len() >= TOLD_MAX {
-            return Ok(false);
-        }
-        self.found.push(key)?;
-        Ok(true)
+        Ok(())
     }
 
-    /// The keys before those that were met.
-    fn add_all(&mut self, keys: &'a [Key]) -> Result<bool, AllocError>
-        ensures { IfOk result (GathersAll self.old keys.now self.new) }
+    /// The next key, if it begins with a prefix.
+    fn add_if(&mut self, key: &'a Key, prefix: &Prefix) -> Result<(), AllocError>
+        ensures back { OnOk result (GathersAll self.old (filter (begins_with prefix.now) (key.now ∷ [])) self.new) }
+        ensures forth { OnOk result (MeetsAll self.old (filter (begins_with prefix.now) (key.now ∷ [])) self.new) }
+    {
+        if !begins(key, prefix) {
+            return Ok(());
+        }
+        self.add(key)
+    }
+
+    /// The keys behind those that were met which begin with a prefix.
+    fn meet_all(&mut self, keys: &'a [Key], prefix: &Prefix) -> Result<(), AllocError>
+        ensures { OnOk result (MeetsAll self.old (filter (begins_with prefix.now) keys.now) self.new) }
+    {
+        for key in keys {
+            self.add_if(key, prefix)?;
+        }
+        Ok(())
+    }
+
+    /// The keys before those that were met which begin with a prefix, from the last one on.
+    fn add_all(&mut self, keys: &'a [Key], prefix: &Prefix) -> Result<(), AllocError>
+        ensures { OnOk result (GathersAll self.old (filter (begins_with prefix.now) keys.now) self.new) }
     {
         let mut left = keys.len();
         'keys: while left > 0 {
             left -= 1;
-            if !self.add(&keys[left])? {
-                return Ok(false);
-            }
+            self.add_if(&keys[left], prefix)?;
         }
-        Ok(true)
+        Ok(())
     }
 
-    /// All of them, in order.
+    /// All of them, the last one first.
     fn in_order(&self, alloc: Global) -> Result<Vec<Key>, Refusal>
         ensures keys { (keys : List (List ℕ)) → Gathers self.now keys → IfOk result (λ told. told.items ≡ lasts keys) }
         ensures memory { IsOkUnless result Refusal.Memory }

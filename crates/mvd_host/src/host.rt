@@ -2,12 +2,12 @@
 ghost use Rattle.std.specs.Prelude.{◌≡◌, ◌≤◌, ◌⊎◌, ◌↔◌, length, option_map, true, OnOk, IfOk, IfErr, IsTrue};
 ghost use Rattle.std.specs.Option.{option_and_then};
 ghost use Rattle.mvd_dots.specs.declared.refusals.Refusal.TheVariants as Refusal;
-ghost use Rattle.mvd_conn.specs.History.{WantsInput, closed, cut, ending_of, fed, is_done, piece_most, released, sent};
+ghost use Rattle.mvd_conn.specs.History.{WantsInput, closed, cut, ending_of, fed, is_done, met, piece_most, released, sent};
 ghost use Rattle.mvd_conn.specs.Stands.{HistoryStands};
 ghost use Rattle.mvd_conn.specs.declared.source.Source.TheVariants as Source;
 
 use crate::at_hand::FIRST_AT_HAND;
-use mvd_conn::{Connection, Guard};
+use mvd_conn::{Connection, Guard, Passes};
 use mvd_dots::Refusal;
 use mvd_wire::Ending;
 use std::alloc::Global;
@@ -61,7 +61,7 @@ impl Host {
     }
 
     /// Admits a client, with a new connection, and gives its number. It is `None` where all places are taken, or no
-    /// number is left. Where there is a guard, nothing is taken of the client before it has shown the token.
+    /// number is left. Where there is a guard, nothing is taken of the client before it has shown a token.
     pub fn admit(&mut self, guard: Option<Guard>) -> Result<Option<u64>, Refusal>
         ensures ok { IfOk result (λ number. Admits guard self.old number self.new) }
         ensures err { IfErr result (λ e. (e ≡ Refusal.Memory) × (self.new ≡ self.old)) }
@@ -82,6 +82,15 @@ impl Host {
         ensures leaves { ClientLeaves self.old client self.new }
     {
         self.clients.remove(&client);
+    }
+
+    /// Looks at the passes that are known for a client, if a token is asked of it.
+    pub fn meet(&mut self, client: u64, passes: &Passes)
+        ensures { self.new ≡ altered self.old client (met passes.now) }
+    {
+        if let Some(connection) = self.clients.get_mut(&client) {
+            connection.meet(passes);
+        }
     }
 
     /// Whether more bytes are wanted of a client: no whole frame of it is held, and there is room for replies.

@@ -1,15 +1,19 @@
 //! Laws of many rounds, each as the contract of an empty function.
-ghost use Rattle.std.specs.Prelude.{◌≡◌, ◌∷◌, ◌++◌, [], ℕ, List, Some};
+ghost use Rattle.std.specs.Prelude.{◌≡◌, ◌∷◌, ◌++◌, [], ℕ, List, Some, true};
 ghost use Rattle.mvd_conn.specs.History.{History, last_bytes};
+ghost use Rattle.mvd_conn.specs.Rights.{may};
+ghost use Rattle.mvd_conn.specs.declared.right.Right.{Right};
 ghost use Rattle.mvd_conn.specs.Stands.{IsLast, HistoryStands};
 ghost use Rattle.mvd_host.specs.AtHand.{none_at_hand};
 ghost use Rattle.mvd_host.specs.Course.{own};
 ghost use Rattle.mvd_host.specs.Grown.{Grows};
 ghost use Rattle.mvd_host.specs.Hosts.{HostValue, client_of, new_host};
 ghost use Rattle.mvd_host.specs.Round.{Round};
-ghost use Rattle.mvd_host.specs.Runs.{Goes, Happening, HasShown, HostMoment, OneList, Runs};
+ghost use Rattle.mvd_host.specs.Runs.{Goes, Happening, HasRight, HasShown, HostMoment, OneList, Runs};
 ghost use Rattle.mvd_host.specs.Runs.{TellsOwn, after_run, side_at, turns_in};
+ghost use Rattle.mvd_host.specs.Within.{IsWithin};
 ghost use Rattle.mvd_replica.specs.Turns.{Turn};
+ghost use Rattle.mvd_wire.specs.declared.request.Request.{Request};
 ghost use Rattle.mvd_site.specs.Held.{AreHeld};
 ghost use Rattle.sqlite.specs.Held.{Held, state};
 
@@ -30,10 +34,12 @@ pub fn rounds_are_one_list<S: Alter>()
         TellsOwn (own n (turns_in (before ++ Goes n host ∷ after))) h }
 {}
 
-/// A client that has to show a token has no turn before a Hello with that token. Before its first turn nothing was told
-/// it but why its connection ended, which what came of it decides, and no site.
+/// A client that has to show a token has no turn before a Hello with that of a pass, and each of its turns is one that the
+/// right of that pass allows. Before its first turn nothing was told it but why its connection ended, which what came of it
+/// decides, and no site.
 pub fn none_before_the_token()
     ensures shown { (turns : List Turn) (h : History) → TellsOwn turns h → HasShown h.guard turns }
+    ensures right { (turns : List Turn) (h : History) → TellsOwn turns h → HasRight h.guard turns }
     ensures told { (h : History) → TellsOwn [] h → HistoryStands h →
         (h.left ++ h.waits ≡ last_bytes h.last) × IsLast h h.last }
 {}
@@ -44,4 +50,10 @@ pub fn rounds_only_grow<S: Alter>()
     ensures { (ready : List ℕ) (turns : List (ℕ × Turn)) (old new : HostMoment (Held S)) → AreHeld old.site.states →
         Round ready turns (side_at (state S.Store) old) (side_at (state S.Store) new) →
         Grows old.site.states new.site.states }
+{}
+
+/// What a right allows is answered from the keys that begin with its prefix alone, but for whether all places for keys are
+/// taken; and it changes such a key, or nothing.
+pub fn rights_bound_replies()
+    ensures { (right : Right) (request : Request) → may right request ≡ true → IsWithin right request }
 {}

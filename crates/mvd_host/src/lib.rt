@@ -16,6 +16,6 @@ mod tally;
 mod weighing;
 
 pub use at_hand::{AtHand, FIRST_AT_HAND};
-pub use feed::{Feed, TOLD_MAX};
+pub use feed::{Changed, Feed};
 pub use host::{CLIENTS_MAX, Host};
 pub use tally::{KINDS, Tally};

@@ -23,8 +23,8 @@ use std::mem;
 /// The most frames of a client that are taken in one round: those that share a commit.
 const FRAMES_MAX: usize = 1_024;
 
-/// The frames that were taken: requests, each with its client, and then those that are none, or that were refused
-/// memory. A client has at most one of these, which is its last.
+/// The frames that were taken: requests, each with its client, and then those that are none, or that their client may not
+/// ask, or that were refused memory. A client has at most one of these, which is its last.
 #[derive(Drop)]
 pub(crate) struct Taken {
     pub(crate) clients: Vec<u64>,
@@ -235,12 +235,16 @@ impl Taken {
     }
 }
 
-/// The request that the frame in hand is.
+/// The request that the frame in hand is, where its client may ask that.
 fn request_in(alloc: Global, connection: &Connection) -> Result<Request, Refusal>
-    ensures { (f : FrameValue) → connection.now.hand ≡ Some f → IsAnswer result (asked_by f) }
+    ensures { (f : FrameValue) → connection.now.hand ≡ Some f → IsAnswer result (asked_by connection.now.guard f) }
 {
-    match connection.frame() {
-        Some((kind, payload)) => decode_request(alloc, kind, payload),
-        None => Err(Refusal::Memory),
+    let request = match connection.frame() {
+        Some((kind, payload)) => decode_request(alloc, kind, payload)?,
+        None => return Err(Refusal::Memory),
+    };
+    if connection.allows(&request) {
+        return Ok(request);
     }
+    Err(Refusal::NotAdmitted)
 }

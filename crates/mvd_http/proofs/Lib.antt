@@ -3,6 +3,7 @@ pub mod Steps
 pub mod Telling
 pub mod Counting
 pub mod Listing
+pub mod Following
 pub mod Lines
 pub mod Reading
 pub mod LineLengths

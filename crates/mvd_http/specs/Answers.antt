@@ -14,7 +14,7 @@ use Rattle.mvd_wire.specs.declared.reply.Reply.{Reply}
 use Rattle.mvd_wire.specs.declared.reply.Reply.TheVariants as reply
 use Rattle.mvd_wire.specs.declared.request.Request.{Request}
 use Rattle.mvd_wire.specs.declared.request.Request.TheVariants.{Bucket, Get, Node, Put, Row}
-use Rattle.mvd_http.specs.Json.{bucket_line, counts_text, keys_json, later_json, later_line, live_text, node_line, misread_json, node_text, places_json, refused_json, row_json, rows_text, state_json, written_json}
+use Rattle.mvd_http.specs.Json.{bucket_line, counts_text, denied_json, keys_json, later_json, later_line, live_text, node_line, misread_json, node_text, places_json, refused_json, row_json, rows_text, state_json, written_json}
 
 -- a status and a body
 pub record Told : Type 0 where
@@ -138,6 +138,11 @@ abbrev pub later_told : Request → Option (List ℕ)
 later_told (Get key) = Some (later_json key)
 later_told (Bucket path after) = Some (later_line path)
 later_told _ = None
+
+-- what is told in its place where it may not be asked
+abbrev pub denied_told : Request → List ℕ
+denied_told (Get key) = denied_json key
+denied_told _ = refused_json NotAdmitted
 
 -- the text came behind another; a refusal is given back, and so is want of memory
 abbrev pub AppendsText : Result (List ℕ) Refusal → List ℕ → List ℕ → Result ⊤ Refusal → Type 0

@@ -196,10 +196,13 @@ keys_question query =
 abbrev pub conflicts_asked : List ℕ → Result Question Refusal
 conflicts_asked query = then_read (if_given key_in (given (codes "after=") query)) (λ after. Ok (Ask (Conflicts after)))
 
+-- `prefix=` names the keys that are told, `states=1` has each told in its state
 abbrev pub changes_question : List ℕ → Result Question Refusal
 changes_question query =
     then_read (if_given root_in (given (codes "since=") query)) (λ since.
-    then_read (wait_in (given (codes "wait=") query)) (λ wait. Ok (Changes since wait)))
+    then_read (wait_in (given (codes "wait=") query)) (λ wait.
+    then_read (prefix_in (given (codes "prefix=") query))
+    (λ prefix. Ok (Changes since wait (record { prefix = prefix; states = is_set (codes "states=") query })))))
 
 abbrev pub named_view : Option (List ℕ) → List ℕ → Result Question Refusal
 named_view None query = Ok Nowhere

@@ -235,6 +235,10 @@ bucket_line path keys more =
 abbrev pub later_json : Key → List ℕ
 later_json key = codes "{\"key\":" ++ (quoted key ++ codes ",\"later\":true}")
 
+-- a key that may not be asked for
+abbrev pub denied_json : Key → List ℕ
+denied_json key = codes "{\"key\":" ++ (quoted key ++ codes ",\"refused\":38,\"name\":\"NotAdmitted\"}")
+
 abbrev pub later_line : List ℕ → List ℕ
 later_line path = path_json path ++ codes "\"keys\":[],\"next\":\"\"}"
 

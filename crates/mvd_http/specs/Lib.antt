@@ -8,6 +8,7 @@ pub mod Asked
 pub mod Json
 pub mod Answers
 pub mod Listed
+pub mod Followed
 pub mod Faults
 pub mod Guard
 pub mod Fields

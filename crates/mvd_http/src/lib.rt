@@ -4,6 +4,7 @@
 mod asked;
 mod count_lists;
 pub mod fields;
+mod followed;
 mod guard;
 mod http_fault;
 mod json_lists;
@@ -30,6 +31,7 @@ mod writing;
 
 pub use asked::question_of;
 pub use fields::{Answer, Content, fill};
+pub use followed::push_changed;
 pub use guard::{Names, name_in, origin_in, stranger};
 pub use http_fault::Fault;
 pub use line_told::{LINE_ROOM, push_line};
@@ -38,10 +40,10 @@ pub use live_told::live_response_of;
 pub use not_waited::push_not_waited;
 pub use open_to_all::is_open_to_all;
 pub use page::PAGE;
-pub use question::{Methods, Question, Verb, Wanted};
+pub use question::{Followed, Methods, Question, Verb, Wanted};
 pub use responses::{
     misread_response, push_refused, refused_response, refused_status, response_of,
 };
 pub use server_told::{push_changes, push_root};
-pub use told_lines::{push_bad_line, push_later, push_told};
+pub use told_lines::{push_bad_line, push_denied, push_later, push_told};
 pub use writing::is_write;

@@ -123,7 +123,7 @@ fn push_item<H: Holds>(
     Ok(room.saturating_sub(told).saturating_sub(hashed))
 }
 
-fn push_comma(out: &mut String, is_first: bool) -> Result<(), AllocError>
+pub fn push_comma(out: &mut String, is_first: bool) -> Result<(), AllocError>
     ensures { OnOk result (string_bytes out.new ≡ string_bytes out.old ++ comma_if is_first) }
 {
     push_word(out, if is_first { "" } else { "," })

@@ -12,7 +12,7 @@ ghost use Rattle.mvd_http.specs.Asked.{few_paths, node_or_keys, paths_asked, pat
 ghost use Rattle.mvd_http.specs.Paths.{without as left_behind};
 
 use crate::place::place_if_given;
-use crate::question::{Question, Wanted};
+use crate::question::{Followed, Question, Wanted};
 use crate::since::{root_if_given, wait_in};
 use crate::target::{given, without, without_end};
 use crate::target_parts::{
@@ -106,7 +106,11 @@ fn changes_of(alloc: Global, query: &[u8]) -> Result<Question, Refusal>
 {
     let since = root_if_given(alloc, given(query, b"since="))?;
     let wait = wait_in(alloc, given(query, b"wait="))?;
-    Ok(Question::Changes(since, wait))
+    let followed = Followed {
+        prefix: prefix_in(alloc, given(query, b"prefix="))?,
+        states: is_set(query, b"states="),
+    };
+    Ok(Question::Changes(since, wait, followed))
 }
 
 /// A list of an index or a view.

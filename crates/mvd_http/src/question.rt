@@ -1,7 +1,7 @@
 //! What a request asks.
 use mvd_dots::Refusal;
 use mvd_print::FaultPlace;
-use mvd_wire::{Items, Request};
+use mvd_wire::{Items, Prefix, Request};
 
 /// What is asked of the server.
 #[derive(Drop)]
@@ -21,7 +21,7 @@ pub enum Question {
     /// The site is asked, and more is told of the keys of its reply.
     Listed(Request, Wanted),
     /// The keys that changed since a root, if one is named. Where none did, the response may wait for so many seconds.
-    Changes(Option<[u8; 32]>, u32),
+    Changes(Option<[u8; 32]>, u32, Followed),
     /// A list of writes, or of states that are pushed: what each line asks, or why it is refused.
     Many(Items<Result<Request, Refusal>>),
     /// A list of questions, each told in a line: what each asks, or why it is refused.
@@ -45,6 +45,15 @@ pub struct Wanted {
     pub live: bool,
     /// Each with its digest.
     pub digests: bool,
+}
+
+/// Which changes are told, and how.
+#[derive(Drop)]
+pub struct Followed {
+    /// Those of the keys that begin so.
+    pub prefix: Prefix,
+    /// Each key is told in its state.
+    pub states: bool,
 }
 
 /// The methods by which something is asked.

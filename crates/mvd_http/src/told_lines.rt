@@ -1,13 +1,13 @@
 //! The lines in which many questions are told, and what is told of a list that has a line of another form.
 ghost use Rattle.std.specs.Prelude.{◌≡◌, ◌<◌, ◌∷◌, ◌++◌, [], OnOk, IsOkUnless, map, string_bytes, true};
 ghost use Rattle.mvd_keys.specs.Path.{is_path};
-ghost use Rattle.mvd_http.specs.Answers.{AppendsIf, AppendsText, digests_line, keys_line, later_told, line_told};
+ghost use Rattle.mvd_http.specs.Answers.{AppendsIf, AppendsText, denied_told, digests_line, keys_line, later_told, line_told};
 ghost use Rattle.mvd_http.specs.Answers.{refusal_in, state_line};
-ghost use Rattle.mvd_http.specs.Json.{bad_line_json, bucket_line, digit_letter, later_json, later_line, node_line, path_json};
+ghost use Rattle.mvd_http.specs.Json.{bad_line_json, bucket_line, denied_json, digit_letter, later_json, later_line, node_line, path_json};
 
 use crate::json_lists::{KeyDigest, push_key_next, push_keys};
 use crate::json_words::{push_digest, push_number, push_quoted, push_word};
-use crate::responses::{push_children, push_state};
+use crate::responses::{push_children, push_refused, push_state};
 use mvd_dots::Refusal;
 use mvd_keys::{Key, Path};
 use mvd_wire::{Digests, Reply, Request};
@@ -89,13 +89,33 @@ pub fn push_later(alloc: Global, request: &Request, out: &mut String) -> Result<
     Ok(true)
 }
 
-fn push_later_key(alloc: Global, key: &Key, out: &mut String) -> Result<(), Refusal>
+pub fn push_later_key(alloc: Global, key: &Key, out: &mut String) -> Result<(), Refusal>
     ensures text { OnOk result (string_bytes out.new ≡ string_bytes out.old ++ later_json key.now) }
     ensures memory { IsOkUnless result Refusal.Memory }
 {
     push_word(out, "{\"key\":")?;
     push_quoted(alloc, out, key.text())?;
     Ok(push_word(out, ",\"later\":true}")?)
+}
+
+/// Puts what is told in place of the reply to a question that may not be asked.
+pub fn push_denied(alloc: Global, request: &Request, out: &mut String) -> Result<(), Refusal>
+    ensures text { OnOk result (string_bytes out.new ≡ string_bytes out.old ++ denied_told request.now) }
+    ensures memory { IsOkUnless result Refusal.Memory }
+{
+    match request {
+        Request::Get(key) => push_denied_key(alloc, key, out),
+        _ => Ok(push_refused(out, Refusal::NotAdmitted)?),
+    }
+}
+
+fn push_denied_key(alloc: Global, key: &Key, out: &mut String) -> Result<(), Refusal>
+    ensures text { OnOk result (string_bytes out.new ≡ string_bytes out.old ++ denied_json key.now) }
+    ensures memory { IsOkUnless result Refusal.Memory }
+{
+    push_word(out, "{\"key\":")?;
+    push_quoted(alloc, out, key.text())?;
+    Ok(push_word(out, ",\"refused\":38,\"name\":\"NotAdmitted\"}")?)
 }
 
 fn push_later_bucket(path: &Path, out: &mut String) -> Result<(), AllocError>

@@ -9,3 +9,4 @@ mod Ordered
 mod Parting
 mod Reading
 mod Refused
+pub mod Passing

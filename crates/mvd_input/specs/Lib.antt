@@ -7,3 +7,5 @@ pub mod Names
 pub mod Orders
 pub mod Tokens
 pub mod Words
+pub mod Passes
+pub mod PassFiles

@@ -12,7 +12,9 @@ mod input;
 mod name_lists;
 mod options;
 mod order;
-mod token_files;
+pub mod pass_files;
+pub mod pass_lines;
+mod token_texts;
 
 pub use addresses::addresses_of;
 pub use command::{Ask, Command, Line, Typed, View, line_of, typed_of};
@@ -23,4 +25,5 @@ pub use hexadecimal::{BYTES_MAX, HEX_MAX, first_line, hex_bytes};
 pub use input::{read_input, tell, write_out};
 pub use options::{Named, Peers, Repeat};
 pub use order::{MOST_KEYS, Order, OrderFault, Setup, order_of};
-pub use token_files::{TOKEN_FILE_MAX, token_line};
+pub use pass_files::{PassFault, TOKEN_FILE_MAX, passes_in};
+pub use pass_lines::{PassLine, pass_line};

@@ -22,7 +22,7 @@ use Rattle.mvd_tree.specs.Page.{children_digests, is_after, bucket_page, keys_af
 use Rattle.mvd_tree.specs.States.{key_digest}
 use Rattle.mvd_tree.proofs.Held.{digests_of-empty, digests_of-entries, digests_of-insert}
 use Rattle.mvd_tree.proofs.KeyDigests.{Each, get-digests_of, got_each}
-use Rattle.mvd_wire.specs.Codecs.{key as spelled_key, spell_state, state_limit}
+use Rattle.mvd_wire.specs.Codecs.{key as spelled_key, spell_state, state_limit, IsInForm}
 use Rattle.mvd_wire.specs.Replies.{CanBeSent}
 use Rattle.mvd_wire.specs.declared.reply.Digests.{Digests}
 use Rattle.mvd_wire.specs.declared.reply.Reply.TheVariants.{Digests as Told}
@@ -31,7 +31,7 @@ use Rattle.mvd_kept.specs.Answer.{digests, node_digests, spelled}
 use Rattle.mvd_kept.specs.Change.{SpellsChange}
 use Rattle.mvd_kept.specs.Config.{ConfigValue}
 use Rattle.mvd_kept.specs.FromStates.{unless_broken}
-use Rattle.mvd_kept.specs.Held.{AreHeld, IsSpelled, States, key_digests}
+use Rattle.mvd_kept.specs.Held.{AreHeld, States, key_digests}
 use Rattle.mvd_kept.specs.Sites.{KeepsKeys, has_no_room}
 use Rattle.mvd_kept.proofs.HeldMaps.{room_left}
 
@@ -41,7 +41,7 @@ unfolding key_digest
 digest_is key s bytes is = ap sha256 is
 
 -- a key and its state, one behind the other
-pub behind : (key : Key) (s : State) (first second whole : List ℕ) → first ≡ spelled_key.spell key → second ≡ spell_state s → whole ≡ first ++ second → IsSpelled s → length (spell_state s) ≤ state_limit →
+pub behind : (key : Key) (s : State) (first second whole : List ℕ) → first ≡ spelled_key.spell key → second ≡ spell_state s → whole ≡ first ++ second → IsInForm s → length (spell_state s) ≤ state_limit →
     SpellsChange key s (length first) whole
 unfolding spelled
 behind key s first second whole one two all form low = record {

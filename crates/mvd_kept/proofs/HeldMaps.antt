@@ -10,11 +10,12 @@ use Rattle.std.specs.List.Sorted.{IsStrictlySortedBy}
 use Rattle.std.proofs.lemmas.Map.Keys.{IsDistinct-from_sorted}
 use Rattle.std.specs.FinMap.{FinMap, get, find, from_entries, insert, len, get-from_entries, get-empty, get-insert, len-insert, len-empty, same_map}
 use Rattle.std.specs.FinMap.Entries.{is_some-find}
+use Rattle.mvd_wire.specs.Codecs.{IsInForm}
 use Rattle.mvd_keys.specs.Key.{is_key, key_cmp}
 use Rattle.mvd_keys.specs.State.{State, IsValid}
 use Rattle.mvd_keys.specs.Writes.{Key}
 use Rattle.mvd_kept.specs.Config.{ConfigValue}
-use Rattle.mvd_kept.specs.Held.{AreHeld, IsHeldState, IsSpelled, States}
+use Rattle.mvd_kept.specs.Held.{AreHeld, IsHeldState, States}
 use Rattle.mvd_kept.specs.Sites.{has_no_room}
 use Rattle.mvd_keys.proofs.KeyOrder.{key_total, key_antisymmetric, same_where_tied}
 
@@ -81,12 +82,12 @@ held_none es none = record {
     nothing key s found = not_some s (sym (get-empty key_cmp key) ∙ ap (λ l. get (from_entries {R = key_cmp} l) key) (sym none) ∙ found)
 
 -- a state that may be held, put in
-pub kept_inserted : (m : States) (key : Key) (s : State) → AreHeld m → IsHeldState s → IsValid s → is_key key ≡ true → IsSpelled s → AreHeld (insert m key s)
+pub kept_inserted : (m : States) (key : Key) (s : State) → AreHeld m → IsHeldState s → IsValid s → is_key key ≡ true → IsInForm s → AreHeld (insert m key s)
 kept_inserted m key s kept here valid is spelled = record {
   held = held_inserted IsHeldState m key s kept.held here;
   valid = held_inserted IsValid m key s kept.valid valid;
   key = key_inserted m key s kept.key is;
-  spelled = held_inserted IsSpelled m key s kept.spelled spelled;
+  spelled = held_inserted IsInForm m key s kept.spelled spelled;
 }
 
 -- a key that may come in leaves no more keys than may be held
@@ -99,6 +100,6 @@ room_left config m key s room few =
     ] room)
 
 -- states that may be held, of keys
-pub held_all : (es : List (Key × State)) → AllByRecursion (λ e. IsHeldState e.1) es → AllByRecursion (λ e. IsValid e.1 × (is_key e.0 ≡ true)) es → AllByRecursion (λ e. IsSpelled e.1) es → AreHeld (from_entries es)
+pub held_all : (es : List (Key × State)) → AllByRecursion (λ e. IsHeldState e.1) es → AllByRecursion (λ e. IsValid e.1 × (is_key e.0 ≡ true)) es → AllByRecursion (λ e. IsInForm e.1) es → AreHeld (from_entries es)
 held_all [] held valid spelled = held_none [] refl
 held_all (e ∷ es) held valid spelled = kept_inserted (from_entries es) e.0 e.1 (held_all es held.1 valid.1 spelled.1) held.0 valid.0.0 valid.0.1 spelled.0

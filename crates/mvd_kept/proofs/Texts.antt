@@ -12,7 +12,7 @@ use Rattle.mvd_kept.specs.Held.{AreHeld, States}
 pub one_text : (a b : States) → AreHeld a → AreHeld b → HaveOneText spelled a b
 unfolding spelled
 one_text a b left right k l s t here there same =
-    one_text_of k l s t (left.key k s here) (right.key l t there) (fits_of s (left.spelled k s here).form) (fits_of t (right.spelled l t there).form) same
+    one_text_of k l s t (left.key k s here) (right.key l t there) (fits_of s (left.spelled k s here)) (fits_of t (right.spelled l t there)) same
 
 -- nodes of one path with one digest hold the same keys in the same states
 pub equal_nodes : (a b : States) → AreHeld a → AreHeld b → HashesTellApart spelled a b → (path : List ℕ) → length path ≤ 3 →

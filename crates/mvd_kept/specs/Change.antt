@@ -4,11 +4,10 @@ use Rattle.std.specs.Coded.{Coded, code_by, coded×, coded_ℕ, coded_list, code
 use Rattle.mvd_dots.specs.Dot.{DotValue, dot_code}
 use Rattle.mvd_keys.specs.State.{State, state_code}
 use Rattle.mvd_keys.specs.Writes.{Key}
-use Rattle.mvd_wire.specs.Codecs.{spell_state, state_limit}
+use Rattle.mvd_wire.specs.Codecs.{spell_state, state_limit, IsInForm}
 use Rattle.mvd_wire.specs.declared.reply.Reply.{Reply}
 use Rattle.mvd_wire.specs.declared.reply.Reply.TheVariants.{Written, Done}
 use Rattle.mvd_kept.specs.Answer.{spelled}
-use Rattle.mvd_kept.specs.Held.{IsSpelled}
 
 -- the key, the state that it is to have, and the dot of the put that gives it that, if it is one
 pub record ChangeValue : Type 0 where
@@ -26,7 +25,7 @@ pub record SpellsChange (key : Key) (s : State) (start : ℕ) (bytes : List ℕ)
   pub whole : bytes ≡ spelled key s
   pub state : drop start bytes ≡ spell_state s
   pub within : start ≤ length bytes
-  pub spelled : IsSpelled s
+  pub spelled : IsInForm s
   pub short : length (spell_state s) ≤ state_limit
 
 -- a put is answered with its dot, and a delete or a push is done

@@ -19,16 +19,12 @@ pub record IsKept (s : State) : Type 0 where
   pub short : is_too_large s ≡ false
   pub valid : IsValid s
 
--- a state that has a spelling: its documents are in form, and its dots in range
-pub record IsSpelled (s : State) : Type 0 where
-  pub form : IsInForm s
-
--- each state is one that may be held, each key is one, and both have a spelling
+-- each state is one that may be held, and is in form; and each key is one
 pub record AreHeld (states : States) : Type 0 where
   pub held : (key : Key) (s : State) → get states key ≡ Some s → IsHeldState s
   pub valid : (key : Key) (s : State) → get states key ≡ Some s → IsValid s
   pub key : (key : Key) (s : State) → get states key ≡ Some s → is_key key ≡ true
-  pub spelled : (key : Key) (s : State) → get states key ≡ Some s → IsSpelled s
+  pub spelled : (key : Key) (s : State) → get states key ≡ Some s → IsInForm s
 
 -- keys with the digests that they have in these states
 abbrev pub key_digests : List (Key × State) → List (Key × List ℕ)

@@ -9,6 +9,7 @@ ghost use Rattle.std.specs.BTreeMap.Range.{entries_between};
 ghost use Rattle.std.specs.Map.Iter.{TakesFirst, deref_pair};
 ghost use Rattle.std.specs.Option.{option_copied};
 ghost use Rattle.std.specs.FinMap as map;
+ghost use Rattle.mvd_wire.specs.Codecs.{IsInForm};
 ghost use Rattle.mvd_count.specs.Counted.{RoseBy, counted};
 ghost use Rattle.mvd_dots.specs.Answer.{IsAnswer};
 ghost use Rattle.mvd_dots.specs.declared.refusals.Refusal.TheVariants.{Broken, Memory};
@@ -19,7 +20,7 @@ ghost use Rattle.mvd_rows.specs.Counted.{Within};
 ghost use Rattle.mvd_rows.specs.Defs.{Definitions};
 ghost use Rattle.mvd_rows.specs.Siblings.{begins_with, keys_answer};
 ghost use Rattle.mvd_rows.specs.Stands.{IsRowsOf, definitions_of};
-ghost use Rattle.mvd_kept.specs.Held.{AreHeld, IsHeldState, IsKept, IsSpelled, States, state_at};
+ghost use Rattle.mvd_kept.specs.Held.{AreHeld, IsHeldState, IsKept, States, state_at};
 ghost use Rattle.mvd_kept.specs.Walk.{first_of, is_at_prefix, walk_start};
 
 use crate::work::{HeldLook, Work};
@@ -70,7 +71,7 @@ impl Held {
     pub fn of(alloc: Global, states: Vec<(Key, KeyState)>) -> Result<Held, Refusal>
         requires rising { IsTrue (is_sorted key_cmp states.items) }
         requires held { AllByRecursion (λ entry. IsHeldState entry.1) states.items }
-        requires spelled { AllByRecursion (λ entry. IsSpelled entry.1) states.items }
+        requires spelled { AllByRecursion (λ entry. IsInForm entry.1) states.items }
         ensures held { IfOk result (λ held. held ≡ from_entries states.items) }
         ensures kept { IfOk result AreHeld }
         ensures only { IfErr result (λ refusal. refusal ≡ Memory) }
@@ -142,7 +143,7 @@ impl Held {
     /// Puts in the state of a key.
     pub fn insert(&mut self, key: Key, state: KeyState) -> Result<(), AllocError>
         requires held { IsHeldState state }
-        requires spelled { IsSpelled state }
+        requires spelled { IsInForm state }
         ensures ok { OnOk result (self.new ≡ map.insert self.old key state) }
         ensures err { OnErr result (self.new ≡ self.old) }
     {
@@ -167,7 +168,7 @@ impl Held {
         requires stand { (defs : Definitions) × IsRowsOf rows.old defs self.old }
         requires few { IsRoomy self.old }
         requires held { IsHeldState state }
-        requires spelled { IsSpelled state }
+        requires spelled { IsInForm state }
         ensures ok { OnOk result (self.new ≡ map.insert self.old key state) }
         ensures stand { OnOk result ((defs : Definitions) → IsRowsOf rows.old defs self.old →
             IsRowsOf rows.new defs (map.insert self.old key state)) }

@@ -8,11 +8,11 @@ ghost use Rattle.mvd_dots.specs.declared.refusals.Refusal.TheVariants.{Memory};
 ghost use Rattle.mvd_keys.specs.Key.{key_cmp};
 ghost use Rattle.mvd_keys.specs.Writes.{Stands, Write};
 ghost use Rattle.mvd_tree.specs.States.{key_digest};
-ghost use Rattle.mvd_wire.specs.Codecs.{spell_state, state_limit};
+ghost use Rattle.mvd_wire.specs.Codecs.{spell_state, state_limit, IsInForm};
 ghost use Rattle.mvd_digest.specs.Counted.{Hashes};
 ghost use Rattle.mvd_kept.specs.Answer.{spelled};
 ghost use Rattle.mvd_kept.specs.Costs.{Costs, OpenCosts, all_bytes};
-ghost use Rattle.mvd_kept.specs.Held.{IsHeldState, IsSpelled, key_digests};
+ghost use Rattle.mvd_kept.specs.Held.{IsHeldState, key_digests};
 ghost use Rattle.mvd_kept.specs.Sites.{opened};
 
 use crate::config::Config;
@@ -98,7 +98,7 @@ pub fn digests_of(
 ) -> Result<Vec<(Key, [u8; 32])>, Refusal>
     requires { AllByRecursion (λ entry. IsHeldState entry.1) states.now }
     ensures digests { IfOk result (λ digests. digests.items ≡ key_digests states.now) }
-    ensures spelled { IfOk result (λ _. AllByRecursion (λ entry. IsSpelled entry.1) states.now) }
+    ensures spelled { IfOk result (λ _. AllByRecursion (λ entry. IsInForm entry.1) states.now) }
     ensures only { IfErr result (λ refusal. refusal ≡ Memory) }
     ensures counts { Hashes (length states.now) (all_bytes states.now) hashed.old hashed.new }
 {
@@ -118,7 +118,7 @@ fn digest_of(
 ) -> Result<[u8; 32], Refusal>
     requires { length (spell_state state.now) ≤ state_limit }
     ensures digest { IfOk result (λ digest. digest ≡ key_digest spelled key.now state.now) }
-    ensures spelled { IfOk result (λ _. IsSpelled state.now) }
+    ensures spelled { IfOk result (λ _. IsInForm state.now) }
     ensures only { IfErr result (λ refusal. refusal ≡ Memory) }
     ensures counts { Hashes 1 (length (spelled key.now state.now)) hashed.old hashed.new }
 {

@@ -2,7 +2,6 @@
 ghost use Rattle.std.specs.Prelude.{◌≡◌, ◌≤◌, IfErr, IfOk, length};
 ghost use Rattle.mvd_wire.specs.Codecs.{spell_state, state_limit};
 ghost use Rattle.mvd_kept.specs.Change.{SpellsChange, change_reply};
-ghost use Rattle.mvd_kept.specs.Held.{IsSpelled};
 
 use mvd_dots::{Dot, Refusal};
 use mvd_keys::{Key, KeyState};
@@ -38,9 +37,8 @@ impl Change {
     ghost use Rattle.mvd_dots.specs.Answer.{IsAnswer};
     ghost use Rattle.mvd_digest.specs.Counted.{Hashes};
     ghost use Rattle.mvd_tree.specs.States.{key_digest};
-    ghost use Rattle.mvd_wire.specs.Codecs.{spell_state, state_limit};
+    ghost use Rattle.mvd_wire.specs.Codecs.{spell_state, state_limit, IsInForm};
     ghost use Rattle.mvd_kept.specs.Answer.{is_too_large, spelled};
-    ghost use Rattle.mvd_kept.specs.Held.{IsSpelled};
 
     /// The change that gives the key this state, by a put of this dot if it is one.
     pub(crate) fn new(
@@ -72,7 +70,7 @@ impl Change {
     /// The state that the key is to have. It has a spelling, so its bytes decode to it again, and that is not too long.
     pub fn state(&self) -> &KeyState
         ensures state { result.now ≡ self.now.state }
-        ensures spelled { IsSpelled self.now.state }
+        ensures spelled { IsInForm self.now.state }
         ensures short { is_too_large self.now.state ≡ false }
     {
         &self.state
@@ -104,7 +102,7 @@ impl Change {
     pub(crate) fn into_parts(self) -> (Key, KeyState)
         ensures key { result.0 ≡ self.key }
         ensures state { result.1 ≡ self.state }
-        ensures spelled { IsSpelled self.state }
+        ensures spelled { IsInForm self.state }
     {
         (self.key, self.state)
     }

@@ -6,7 +6,7 @@ use Rattle.std.specs.List.{AllZip}
 use Rattle.mvd_keys.specs.Key.{key_cmp}
 use Rattle.mvd_keys.specs.State.{State as Keyed}
 use Rattle.mvd_keys.specs.Writes.{Key}
-use Rattle.mvd_records.specs.Records.{IsOurs, new_states, old_states}
+use Rattle.mvd_records.specs.Records.{HasNone, IsOurs, new_states, old_states}
 use Rattle.mvd_records.specs.States.{StoredStates as Stored}
 use Rattle.mvd_records.specs.Tables.{no_tables}
 use Rattle.sqlite_catalog.specs.Listing.{IsIndexRow, IsTableRow, IsViewRow, Lists}
@@ -39,12 +39,19 @@ none_new db none = rw none refl
 none_at : (stored : Stored) (key : Key) (bytes : List ℕ) → stored ≡ from_entries [] → get stored key ≡ Some bytes → ⊥
 none_at stored key bytes none found = none-some bytes (sym (get-empty key_cmp key) ∙ ap (λ (m : Stored). get m key) (sym none) ∙ found)
 
-none_had : (db : Database) (key : Key) (s : Keyed) → db.schema ≡ no_tables → HasState db key s → ⊥
-none_had db key s none (inl has) = none_at (new_states db) key has.0 (none_new db none) has.1
-none_had db key s none (inr has) = none_at (old_states db) key has.0 (none_old db none) has.1
+pub none_stored : (db : Database) → db.schema ≡ no_tables → HasNone (old_states db) × HasNone (new_states db)
+none_stored db none = (
+  (λ key bytes found. none_at (old_states db) key bytes (none_old db none) found),
+  (λ key bytes found. none_at (new_states db) key bytes (none_new db none) found),
+)
 
-pub just_none : (db : Database) → db.schema ≡ no_tables → HasJust db empty
-just_none db none key s = (
-  (λ has. absurd (none_had db key s none has)),
+-- what stores nothing has no state
+none_had : (db : Database) (key : Key) (s : Keyed) → HasNone (old_states db) → HasNone (new_states db) → HasState db key s → ⊥
+none_had db key s old new (inl has) = new key has.0 has.1
+none_had db key s old new (inr has) = old key has.0 has.1
+
+pub just_none : (db : Database) → HasNone (old_states db) → HasNone (new_states db) → HasJust db empty
+just_none db old new key s = (
+  (λ has. absurd (none_had db key s old new has)),
   (λ found. absurd (none-some s (sym (get-empty key_cmp key) ∙ found))),
 )

@@ -6,7 +6,7 @@ use Rattle.mvd_dots.specs.declared.refusals.Refusal.{Refusal}
 use Rattle.mvd_dots.specs.declared.refusals.Refusal.TheVariants.{Broken, Memory}
 use Rattle.mvd_keys.specs.Key.{is_key}
 use Rattle.mvd_keys.specs.State.{IsValid}
-use Rattle.mvd_wire.specs.Codecs.{spell_state}
+use Rattle.mvd_wire.specs.Codecs.{spell_state, IsInForm}
 use Rattle.mvd_wire.specs.declared.request.Request.{Request}
 use Rattle.mvd_wire.specs.declared.request.Request.TheVariants.{Put, Delete, Push}
 use Rattle.mvd_wire.specs.declared.reply.Reply.{Reply}
@@ -20,7 +20,7 @@ use Rattle.mvd_records.specs.Records.{HoldsRecords, IsSound, LeavesTrees, SavesS
 use Rattle.mvd_site.specs.Change.{ChangeValue, change_reply}
 use Rattle.mvd_site.specs.Config.{ConfigValue}
 use Rattle.mvd_site.specs.FromStates.{after_from, answer_from, change_from, with_change as with_changed}
-use Rattle.mvd_site.specs.Held.{IsSpelled, States, state_at}
+use Rattle.mvd_site.specs.Held.{States, state_at}
 use Rattle.mvd_site.specs.Known.{IsValidRequest}
 use Rattle.mvd_site.specs.Prepared.{IsFrugal, IsPlain, IsReady, PreparesAnswerFrom, PreparesFrom, is_refusal}
 use Rattle.mvd_kept.specs.declared.prepared.Prepared.{Prepared}
@@ -80,7 +80,7 @@ pub comes_answer : (site : SiteValue) (request : Request) (reply : Reply) → Pr
 comes_answer site request reply from ready valid =
     ((inl from, λ _ bad. true≢false (sym (ap is_refusal bad) ∙ ready.accepts)), plain_reply request reply ready valid)
 
-pub comes_change : (site : SiteValue) (request : Request) (change : ChangeValue) → PreparesFrom site.config site.states request (Ok (Change change)) → IsReady site (Change change) → IsValidRequest request → IsSpelled change.state → IsValid change.state →
+pub comes_change : (site : SiteValue) (request : Request) (change : ChangeValue) → PreparesFrom site.config site.states request (Ok (Change change)) → IsReady site (Change change) → IsValidRequest request → IsInForm change.state → IsValid change.state →
     is_key change.key ≡ true → ComesTo site.config site.states request (Change change) × IsSendable request (Change change)
 comes_change site request change from ready valid spelled sound key =
     ((from, ready.0), (plain_reply request (change_reply change.dot) (change_plain change.dot) valid, ready.1, spelled, sound, key))

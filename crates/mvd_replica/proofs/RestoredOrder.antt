@@ -378,7 +378,7 @@ has_spelled db states none spelled fits key s = (by, back)
     by_found : (found : Option State) → get states key ≡ found → (bytes : List ℕ) → option_map spell_state found ≡ Some bytes → Spells (state_codec layout2) s bytes → get states key ≡ Some s
     by_found None is bytes same spells = absurd (none_is_some bytes same)
     by_found (Some t) is bytes same spells =
-        let own : Spells (state_codec layout2) t bytes = (fits_of t (fits key t is).form, sym (codec_is t ∙ some_is (spell_state t) bytes same)) in
+        let own : Spells (state_codec layout2) t bytes = (fits_of t (fits key t is), sym (codec_is t ∙ some_is (spell_state t) bytes same)) in
         is ∙ ap (λ (x : State). Some x) (spells_one layout2 free2 t s bytes own spells)
 
     by : HasState db key s → get states key ≡ Some s
@@ -386,7 +386,7 @@ has_spelled db states none spelled fits key s = (by, back)
     by (inr has) = absurd (none key has.0 has.1)
 
     back : get states key ≡ Some s → HasState db key s
-    back is = inl (spell_state s, spelled key ∙ ap (option_map spell_state) is, (fits_of s (fits key s is).form, sym (codec_is s)))
+    back is = inl (spell_state s, spelled key ∙ ap (option_map spell_state) is, (fits_of s (fits key s is), sym (codec_is s)))
 
 pub has_just : (a b : Database) (states : States) → SameStates a b → HasNone (old_states b) → SpellStates (new_states b) states → AreSpelled states → HasJust a states
 has_just a b states same none spelled fits key s =

@@ -6,9 +6,9 @@ use Rattle.mvd_keys.specs.Key.{key_cmp}
 use Rattle.mvd_keys.proofs.KeyOrder.{key_total}
 use Rattle.mvd_keys.specs.State.{State}
 use Rattle.mvd_keys.specs.Writes.{Key}
-use Rattle.mvd_wire.specs.Codecs.{spell_state}
+use Rattle.mvd_wire.specs.Codecs.{spell_state, IsInForm}
 use Rattle.mvd_records.specs.States.{StoredStates as Stored}
-use Rattle.mvd_site.specs.Held.{IsSpelled, States}
+use Rattle.mvd_site.specs.Held.{States}
 use Rattle.mvd_site.specs.Sites.{SiteValue}
 use Rattle.sqlite.specs.Effect.{Database}
 use Rattle.mvd_replica.specs.Holds.{AreSpelled, HoldsSite, HoldsStates, SpellStates}
@@ -27,10 +27,10 @@ spelled_insert stored states key after spelled other =
     ∙ ap (option_map spell_state) (sym (get-insert key_total states key after other))
 
 -- the states with one that has a spelling put in
-pub spelled_with : (states : States) (key : Key) (after : State) → AreSpelled states → IsSpelled after → AreSpelled (insert states key after)
+pub spelled_with : (states : States) (key : Key) (after : State) → AreSpelled states → IsInForm after → AreSpelled (insert states key after)
 spelled_with states key after fits fit other s found =
-    elim (eq_by_cmp key_cmp other key) as (λ b. cond b (Some after) (get states other) ≡ Some s → IsSpelled s) [
-      | true ↦ λ is. subst IsSpelled (some_is after s is) fit
+    elim (eq_by_cmp key_cmp other key) as (λ b. cond b (Some after) (get states other) ≡ Some s → IsInForm s) [
+      | true ↦ λ is. subst IsInForm (some_is after s is) fit
       | false ↦ λ is. fits other s is
     ] (sym (get-insert key_total states key after other) ∙ found)
 

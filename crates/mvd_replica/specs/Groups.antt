@@ -6,7 +6,7 @@ use Rattle.mvd_dots.specs.declared.refusals.Refusal.TheVariants.{Broken, Memory,
 use Rattle.mvd_keys.specs.Key.{is_key}
 use Rattle.mvd_keys.specs.State.{IsValid, State}
 use Rattle.mvd_keys.specs.Writes.{Key, Write}
-use Rattle.mvd_wire.specs.Codecs.{spell_state}
+use Rattle.mvd_wire.specs.Codecs.{spell_state, IsInForm}
 use Rattle.mvd_wire.specs.declared.request.Request.{Request}
 use Rattle.mvd_wire.specs.declared.request.Request.TheVariants.{Get, Put, Delete, Push, Hello, Bye}
 use Rattle.mvd_wire.specs.declared.reply.Reply.{Reply}
@@ -15,7 +15,7 @@ use Rattle.mvd_wire.specs.Replies.{CanBeSent}
 use Rattle.mvd_site.specs.Change.{ChangeValue, change_reply}
 use Rattle.mvd_site.specs.Config.{ConfigValue}
 use Rattle.mvd_site.specs.FromStates.{answer_from}
-use Rattle.mvd_site.specs.Held.{IsHeldState, IsSpelled, States}
+use Rattle.mvd_site.specs.Held.{IsHeldState, States}
 use Rattle.mvd_site.specs.Installs.{with_group, with_prepared}
 use Rattle.mvd_site.specs.Known.{Adds}
 use Rattle.mvd_site.specs.Prepared.{IsFrugal, PreparesAnswerFrom, PreparesChangeFrom}
@@ -71,7 +71,7 @@ pub record IsGivenReply (request : Request) (reply : Reply) : Type 0 where
 abbrev pub IsSendable : Request → Prepared → Type 0
 IsSendable request (Answer reply) = IsGivenReply request reply
 IsSendable request (Change change) =
-    IsGivenReply request (change_reply change.dot) × IsHeldState change.state × IsSpelled change.state
+    IsGivenReply request (change_reply change.dot) × IsHeldState change.state × IsInForm change.state
     × IsValid change.state × (is_key change.key ≡ true)
 
 -- ---- many

@@ -5,11 +5,11 @@ use Rattle.mvd_dots.specs.declared.refusals.Refusal.{Refusal}
 use Rattle.mvd_dots.specs.declared.refusals.Refusal.TheVariants.{Broken, Store}
 use Rattle.mvd_keys.specs.State.{State}
 use Rattle.mvd_keys.specs.Writes.{Key}
-use Rattle.mvd_wire.specs.Codecs.{spell_state}
+use Rattle.mvd_wire.specs.Codecs.{spell_state, IsInForm}
 use Rattle.mvd_records.specs.States.{StoredStates as Stored}
 use Rattle.mvd_records.specs.Records.{HasNone, HoldsRecords, SavesState, new_states, old_states}
 use Rattle.mvd_site.specs.Change.{ChangeValue}
-use Rattle.mvd_site.specs.Held.{IsSpelled, States}
+use Rattle.mvd_site.specs.Held.{States}
 use Rattle.mvd_site.specs.Installs.{broken_site, changed_site}
 use Rattle.mvd_site.specs.Sites.{SiteValue}
 use Rattle.sqlite.specs.Effect.{Database}
@@ -20,7 +20,7 @@ SpellStates stored states = (key : Key) → get stored key ≡ option_map spell_
 
 -- each state has a spelling
 abbrev pub AreSpelled : States → Type 0
-AreSpelled states = (key : Key) (s : State) → get states key ≡ Some s → IsSpelled s
+AreSpelled states = (key : Key) (s : State) → get states key ≡ Some s → IsInForm s
 
 -- the database holds the records of a site of this number, which are these states, and none of version 1
 pub record HoldsStates (site : ℕ) (states : States) (db : Database) : Type 0 where

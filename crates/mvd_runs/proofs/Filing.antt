@@ -18,6 +18,7 @@ use Rattle.mvd_replica.specs.File.{HoldsFile, IsFoundAt}
 use Rattle.mvd_replica.specs.Restarts.{Run}
 use Rattle.mvd_replica.specs.Turns.{AreUndoneIn, Turn}
 use Rattle.mvd_replica.specs.Whole.{after_all}
+use Rattle.mvd_replica.proofs.EmptyFiles.{just_none}
 use Rattle.mvd_replica.proofs.Follows.{ours_held}
 use Rattle.mvd_replica.proofs.Stops.{held_in_file}
 use Rattle.std.specs.FinMap.{empty}
@@ -121,7 +122,7 @@ of_file f i run begins a sound (inl file) = record {
 }
 of_file f i run begins a sound (inr new) =
     let it = begins.opens sound in
-    let is : run.old.states ≡ empty = just_one it.was run.old.states empty (it.opened (new.ours it.was it.found)).spelled (new.just it.was it.found) in
+    let is : run.old.states ≡ empty = just_one it.was run.old.states empty (it.opened (new.ours it.was it.found)).spelled (just_none it.was (new.none it.was it.found).0 (new.none it.was it.found).1) in
     record {
       some = [];
       among = none_among (a i).refused;

@@ -2,10 +2,9 @@
 -- so runs of different programs, each with its own, follow one another.
 use Rattle.std.specs.Prelude.{◌≡◌, ◌≢◌, ◌⊎◌, ⊤, false, ℕ, List, [], ◌∷◌, ◌++◌, Ok}
 use Rattle.std.specs.List.{AllByRecursion}
-use Rattle.std.specs.FinMap.{empty}
 use Rattle.mvd_keys.specs.Writes.{Stands, Write}
 use Rattle.mvd_wire.specs.declared.request.Request.{Request}
-use Rattle.mvd_records.specs.Records.{IsOurs, IsSound}
+use Rattle.mvd_records.specs.Records.{HasNone, IsOurs, IsSound, new_states, old_states}
 use Rattle.mvd_site.specs.Config.{ConfigValue}
 use Rattle.mvd_site.specs.Held.{States}
 use Rattle.mvd_site.specs.Known.{IsValidRequest}
@@ -13,7 +12,6 @@ use Rattle.mvd_model.specs.TheStore.{AddAll, AreAmong, Event, Happen, Knows, Ope
 use Rattle.mvd_replica.specs.Batch.{TurnsFollow}
 use Rattle.mvd_replica.specs.File.{HoldsFile, IsFoundAt, OpensFile}
 use Rattle.mvd_replica.specs.Holds.{HoldsSite, HoldsStates}
-use Rattle.mvd_replica.specs.Readable.{HasJust}
 use Rattle.mvd_replica.specs.Replicas.{StoredSite}
 use Rattle.mvd_replica.specs.Restarts.{Run, left_in, opened_in}
 use Rattle.mvd_replica.specs.Turns.{IsToldElse, LeavesTurns, Turn}
@@ -37,11 +35,11 @@ pub record IsFile (a : Knows) (i : ℕ) (image : Image) : Type 0 where
   pub stands : Stands states ((a i).known ++ added)
 
 -- The image is a new file of this site: nothing is known of the site, and a database that is found in the image has
--- none of our tables or is ours, and spells no state
+-- none of our tables or is ours, and no state is stored in it
 pub record IsNewFile (a : Knows) (i : ℕ) (image : Image) : Type 0 where
   pub nothing : (a i).known ≡ []
   pub ours : (was : Database) → IsFoundAt image was → IsOurs was
-  pub just : (was : Database) → IsFoundAt image was → HasJust was empty
+  pub none : (was : Database) → IsFoundAt image was → HasNone (old_states was) × HasNone (new_states was)
 
 abbrev pub setup_of : ConfigValue → Setup
 setup_of c = record { max_keys = c.max_keys; defs = c.defs }

@@ -2,6 +2,7 @@
 use Rattle.std.proofs.Common.{◌≡◌, inl, ℕ, List, Option, Some, None, Ok, subst}
 use Rattle.mvd_dots.specs.declared.refusals.Refusal.{Refusal}
 use Rattle.mvd_http.specs.Answers.{IsToldAs}
+use Rattle.mvd_http.specs.declared.question.Followed.{Followed}
 use Rattle.mvd_http.specs.declared.question.Question.TheVariants.{Changes}
 use Rattle.mvd_server.specs.Errands.{AwaitsChange}
 use Rattle.mvd_server.specs.Responding.{AnswersReply, AnswersWeb, RefusesWeb, json_answer, refused_for}
@@ -33,6 +34,6 @@ pub refuses : (refusal : Refusal) (old new : WebValue) (status : ℕ) (body : Li
 refuses refusal old new status body told responds = inl (record { status = status; body = body; told = told; responds = responds })
 
 -- it asks what changed
-pub awaits_if : (o : Option Asked) (asked : Asked) (since : Option (List ℕ)) (wait : ℕ) → Some asked ≡ o → asked.question ≡ Ok (Changes since wait) → AwaitsChange o
-awaits_if None asked since wait is asks = cc
-awaits_if (Some waits) asked since wait is asks = subst (λ (a : Asked). AwaitsChange (Some a)) (one_asked asked waits is) (since, wait, asks)
+pub awaits_if : (o : Option Asked) (asked : Asked) (since : Option (List ℕ)) (wait : ℕ) (followed : Followed) → Some asked ≡ o → asked.question ≡ Ok (Changes since wait followed) → AwaitsChange o
+awaits_if None asked since wait followed is asks = cc
+awaits_if (Some waits) asked since wait followed is asks = subst (λ (a : Asked). AwaitsChange (Some a)) (one_asked asked waits is) (since, wait, followed, asks)

@@ -41,7 +41,7 @@ module _ {C : Type 0} (f : C → State) (site : SiteValue) (conn : C) where
   of_hand old new host (inr step) = record { all = Handed new.hand ∷ []; runs = (step, tt); ends = ap (λ h. at h new.hand) (sym host); none = refl }
 
   pub of_deed : (old new : Talking) → Deed old new → Calm f (moment old) (moment new)
-  of_deed old new (Comes n, does) = of_host old new (ap (λ (t : Talking). t.hand) does.1) (record { all = Came n new.host ∷ []; runs = ((old.guard, does.0), tt); ends = refl; none = refl })
+  of_deed old new (Comes n, does) = of_host old new (ap (λ (t : Talking). t.hand) does.1) (record { all = Came n new.host ∷ []; runs = ((first_guard old.passes, does.0), tt); ends = refl; none = refl })
   of_deed old new (ComesByWeb n web, does) = of_none old new (ap (λ (t : Talking). t.host) does.2) (ap (λ (t : Talking). t.hand) does.2)
   of_deed old new (ComesOwn n, does) = of_host old new (ap (λ (t : Talking). t.hand) does.1) (record { all = Came n new.host ∷ []; runs = ((None, does.0), tt); ends = refl; none = refl })
   of_deed old new (TurnsBack n mid, does) =
@@ -49,7 +49,7 @@ module _ {C : Type 0} (f : C → State) (site : SiteValue) (conn : C) where
   of_deed old new (Goes n, does) = of_host old new (ap (λ (t : Talking). t.hand) does.2) (record { all = Gone n new.host ∷ []; runs = (does.1, tt); ends = refl; none = refl })
   of_deed old new (GoesOwn n, does) = of_host old new (ap (λ (t : Talking). t.hand) does.2) (record { all = Gone n new.host ∷ []; runs = (does.1, tt); ends = refl; none = refl })
   of_deed old new (Calls n call, does) = record { all = Called n call ∷ []; runs = (tt, tt); ends = ap moment (sym does.1); none = refl }
-  of_deed old new (Attends n web web' errand, does) = of_hand old new (ap (λ (t : Talking). t.host) does.2) (steps_errand errand old.guard old.names n _ _ does.1)
+  of_deed old new (Attends n web web' errand, does) = of_hand old new (ap (λ (t : Talking). t.host) does.2) (steps_errand errand old.passes old.names n _ _ does.1)
   of_deed old new (Begins n batch, does) = of_none old new (ap (λ (t : Talking). t.host) does.1) (ap (λ (t : Talking). t.hand) does.1)
   of_deed old new (Hands n batch batch', does) = of_hand old new (ap (λ (t : Talking). t.host) does.2) (steps_batch n batch old.hand batch' new.hand does.1)
   of_deed old new (Drops n reply, does) = of_hand old new (ap (λ (t : Talking). t.host) does.1.1) (inr (inr ((n, reply), does.1.0)))

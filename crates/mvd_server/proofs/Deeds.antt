@@ -64,7 +64,7 @@ deed_sends n count old host made is = deed_call n (Sends count) old host made is
 
 -- an errand for a client over HTTP
 pub deed_attends : (n : ℕ) (errand : Errand) (web web' : WebConnection) (old : Talking) (hand : AtHandValue) (batches : List (ℕ × Batch)) (entries : List (ℕ × WebConnection)) → web_in old n ≡ Some web
-    → RunsErrand errand old.guard old.names n (desk old.hand (web_of web) old.batches) (desk hand (web_of web') batches) → entries ≡ set_value (is_at (nat_cmp n)) old.webs web'
+    → RunsErrand errand old.passes old.names n (desk old.hand (web_of web) old.batches) (desk hand (web_of web') batches) → entries ≡ set_value (is_at (nat_cmp n)) old.webs web'
     → Deeds old (record old { hand = hand; webs = entries; batches = batches })
 deed_attends n errand web web' old hand batches entries has runs is =
     subst (λ e. Deeds old (record old { hand = hand; webs = e; batches = batches })) (sym is)
@@ -77,18 +77,18 @@ deed_stops n web web' old entries has ends is = deed_attends n Stops web web' ol
 
 -- one after the first reply that was left was taken away
 attends_taken : (n : ℕ) (errand : Errand) (web web' : WebConnection) (before old : Talking) (batches : List (ℕ × Batch)) (entries : List (ℕ × WebConnection)) → old ≡ record before { hand = old.hand } → web_in old n ≡ Some web
-    → RunsErrand errand old.guard old.names n (desk before.hand (web_of web) old.batches) (desk old.hand (web_of web') batches) → entries ≡ set_value (is_at (nat_cmp n)) old.webs web'
+    → RunsErrand errand old.passes old.names n (desk before.hand (web_of web) old.batches) (desk old.hand (web_of web') batches) → entries ≡ set_value (is_at (nat_cmp n)) old.webs web'
     → Deeds before (record old { webs = entries; batches = batches })
 attends_taken n errand web web' before old batches entries same has runs is =
     let webs : old.webs ≡ before.webs = ap (λ (t : Talking). t.webs) same in
-    let guard : old.guard ≡ before.guard = ap (λ (t : Talking). t.guard) same in
+    let passes : old.passes ≡ before.passes = ap (λ (t : Talking). t.passes) same in
     let names : old.names ≡ before.names = ap (λ (t : Talking). t.names) same in
     let kept : old.batches ≡ before.batches = ap (λ (t : Talking). t.batches) same in
     subst (λ (t : Talking). Deeds before (record t { webs = entries; batches = batches })) (sym same)
     (deed_attends n errand web web' before old.hand batches entries (subst (λ l. found_at n l ≡ Some web) webs has)
-    (subst (λ m. RunsErrand errand before.guard m n (desk before.hand (web_of web) before.batches) (desk old.hand (web_of web') batches)) names
-    (subst (λ g. RunsErrand errand g old.names n (desk before.hand (web_of web) before.batches) (desk old.hand (web_of web') batches)) guard
-    (subst (λ b. RunsErrand errand old.guard old.names n (desk before.hand (web_of web) b) (desk old.hand (web_of web') batches)) kept runs)))
+    (subst (λ m. RunsErrand errand before.passes m n (desk before.hand (web_of web) before.batches) (desk old.hand (web_of web') batches)) names
+    (subst (λ g. RunsErrand errand g old.names n (desk before.hand (web_of web) before.batches) (desk old.hand (web_of web') batches)) passes
+    (subst (λ b. RunsErrand errand old.passes old.names n (desk before.hand (web_of web) b) (desk old.hand (web_of web') batches)) kept runs)))
     (subst (λ l. entries ≡ set_value (is_at (nat_cmp n)) l web') webs is))
 
 -- it is told
@@ -146,7 +146,7 @@ deeds_own n bytes old host own (inl same) = deeds_same old (with_host old host) 
 deeds_own n bytes old host own (inr takes) = deed_feeds n bytes old host own takes
 
 -- a client of frames comes, or nobody
-pub comes_frames : (old : Talking) (o : Option ℕ) (host : HostValue) → Admits old.guard old.host o host → Deeds old (with_host old host)
+pub comes_frames : (old : Talking) (o : Option ℕ) (host : HostValue) → Admits (first_guard old.passes) old.host o host → Deeds old (with_host old host)
 comes_frames old None host (same, full) = deeds_same old (with_host old host) (ap (with_host old) same)
 comes_frames old (Some n) host one = deeds_one (Comes n) old (with_host old host) (one, refl)
 
@@ -162,7 +162,7 @@ pub unturned : (old : Talking) (host : HostValue) (entries : List (ℕ × WebCon
 unturned old host entries is p = subst (λ e. Deeds old (record old { host = host; webs = e })) (sym is) p
 
 -- one of frames, as it is told
-pub comes_told : (old : Talking) (o : Option ℕ) (host : HostValue) → Admits old.guard old.host o host → IfSome o (λ n. DoesAct (Comes n) old (with_host old host))
+pub comes_told : (old : Talking) (o : Option ℕ) (host : HostValue) → Admits (first_guard old.passes) old.host o host → IfSome o (λ n. DoesAct (Comes n) old (with_host old host))
 comes_told old None host none = tt
 comes_told old (Some n) host one = (one, refl)
 

@@ -1,7 +1,8 @@
 -- What an errand for a client over HTTP does at hand, and which writes are those of its request.
 use Rattle.std.proofs.Common.{◌≡◌, ◌≤◌, ◌⊎◌, length, Bool, true, false, ℕ, List, [], ◌∷◌, Option, None, Some, Result, Ok, Err, inl, inr, refl, sym, subst, ap, ◌∙◌}
 use Rattle.std.specs.Prelude.{string_bytes}
-use Rattle.mvd_conn.specs.declared.guard.Guard.{Guard}
+use Rattle.mvd_conn.specs.declared.passes.Pass.{Pass}
+use Rattle.mvd_conn.specs.declared.right.Right.{Right}
 use Rattle.mvd_http.specs.Guard.{Named}
 use Rattle.mvd_dots.specs.declared.refusals.Refusal.{Refusal}
 use Rattle.mvd_host.specs.AtHand.{AtHandValue, StepsAtHand}
@@ -13,7 +14,7 @@ use Rattle.mvd_server.specs.Batches.{BeginsBatch, HandsBatch}
 use Rattle.mvd_server.specs.Errands.{Asks, AsksAtHand, AsksNextOf, Desk, DoesPlan, Errand, Forgoes, IsBatchFor, IsUntold, RunsErrand, Stops, TakesIf, Tells, TellsBatch, TellsChange, TellsMany}
 use Rattle.mvd_server.specs.Lines.{IsOnlyTold, TellsEachLine}
 use Rattle.mvd_server.specs.Listings.{TellsListed}
-use Rattle.mvd_server.specs.Plans.{IsPlanOf, TellsMethods, plain_answer}
+use Rattle.mvd_server.specs.Plans.{IsFreePlan, IsPlanFor, IsPlanIf, IsPlanOf, TellsMethods, plain_answer}
 use Rattle.mvd_server.specs.Questions.{TellsAsks}
 use Rattle.mvd_server.specs.declared.batch.Batch.{Batch}
 use Rattle.mvd_server.specs.declared.gate.Plan.{Plan}
@@ -21,10 +22,11 @@ use Rattle.mvd_server.specs.declared.gate.Plan.TheVariants as plan
 use Rattle.mvd_server.specs.declared.gate.Rest.{Rest}
 use Rattle.mvd_server.specs.declared.gate.Rest.TheVariants as rest
 use Rattle.mvd_site.specs.Sites.{SiteValue}
+use Rattle.mvd_web.specs.Rights.{may_ask}
 use Rattle.mvd_web.specs.Web.{RespondsTo, TakesRequest, WebValue, stopped_by}
 use Rattle.mvd_web.specs.declared.taken.Asked.{Asked}
 use Rattle.mvd_web.specs.declared.taken.Entry.{Entry}
-use Rattle.mvd_web.specs.declared.taken.Entry.TheVariants.{Open, Preflight, Conditional, HostMissing, Stranger, NoToken}
+use Rattle.mvd_web.specs.declared.taken.Entry.TheVariants.{Open, Free, Preflight, Conditional, HostMissing, Stranger, NoToken}
 use Rattle.mvd_wire.specs.declared.reply.Reply.{Reply}
 use Rattle.mvd_wire.specs.declared.request.Request.{Request}
 
@@ -49,7 +51,7 @@ steps_plan : (n : ℕ) (p : Plan) (old : WebValue) (hand : AtHandValue) (new : W
 steps_plan n (plan.Ask request) old hand new hand' left (asks, none) = steps_asked n request old hand new hand' asks
 steps_plan n (plan.Writes batch) old hand new hand' left (is, same, writes) = inl is
 steps_plan n (plan.Changes since wait) old hand new hand' left (is, tells) = inl is
-steps_plan n plan.Asks old hand new hand' left (told, body) = inl told.0
+steps_plan n (plan.Asks right) old hand new hand' left (told, body) = inl told.0
 steps_plan n plan.Listed old hand new hand' left (told, body) = inl told.0
 steps_plan n (plan.BadLine line) old hand new hand' left (told, body) = inl told.0
 steps_plan n plan.Root old hand new hand' left (told, body) = inl told.0
@@ -59,41 +61,67 @@ steps_plan n (plan.Told answer body) old hand new hand' left (told, responds) = 
 steps_plan n plan.NotAdmitted old hand new hand' left (told, responds) = inl told.0
 steps_plan n (plan.Refused refusal) old hand new hand' left (told, refuses) = inl told.0
 
-pub steps_errand : (errand : Errand) (guard : Option Guard) (names : Named) (n : ℕ) (old new : Desk) → RunsErrand errand guard names n old new → MayStep old.hand new.hand
-steps_errand (Asks left) guard names n old new (inl (told, none), same) = inl told.0
-steps_errand (Asks left) guard names n old new (inr one, same) = steps_plan n one.plan one.mid old.hand new.web new.hand left one.does
-steps_errand (Forgoes batch) guard names n old new (writes, refuses, is) = inl (ap (λ (d : Desk). d.hand) is)
-steps_errand Tells guard names n old new ((reply, takes, answers), same) = inr (inr ((n, reply), takes))
-steps_errand (TellsMany batch batch') guard names n old new (has, (only, (reply, takes), told), same) = steps_taken n reply old.hand new.hand takes
-steps_errand TellsChange guard names n old new (awaits, told, is) = inl (ap (λ (d : Desk). d.hand) is)
-steps_errand Stops guard names n old new (ends, is) = inl (ap (λ (d : Desk). d.hand) is)
+pub steps_errand : (errand : Errand) (passes : Option (List Pass)) (names : Named) (n : ℕ) (old new : Desk) → RunsErrand errand passes names n old new → MayStep old.hand new.hand
+steps_errand (Asks left) passes names n old new (inl (told, none), same) = inl told.0
+steps_errand (Asks left) passes names n old new (inr one, same) = steps_plan n one.plan one.mid old.hand new.web new.hand left one.does
+steps_errand (Forgoes batch) passes names n old new (writes, refuses, is) = inl (ap (λ (d : Desk). d.hand) is)
+steps_errand Tells passes names n old new ((reply, takes, answers), same) = inr (inr ((n, reply), takes))
+steps_errand (TellsMany batch batch') passes names n old new (has, (only, (reply, takes), told), same) = steps_taken n reply old.hand new.hand takes
+steps_errand TellsChange passes names n old new (awaits, told, is) = inl (ap (λ (d : Desk). d.hand) is)
+steps_errand Stops passes names n old new (ends, is) = inl (ap (λ (d : Desk). d.hand) is)
 
 -- ---- many writes are those of the request that waits
 
-batch_asked : (q : Result Question Refusal) (batch : Batch) → IsPlanOf q (plan.Writes batch) → (writes : List (Result Request Refusal)) × (q ≡ Ok (Many writes)) × BeginsBatch writes batch
-batch_asked (Ok (Ask request)) batch never = absurd never
-batch_asked (Ok (Live request)) batch never = absurd never
-batch_asked (Ok (Many writes)) batch begins = (writes, refl, begins)
-batch_asked (Ok (Changes since wait)) batch is = absurd (let no : ⊥ = cc in no)
-batch_asked (Ok Page) batch never = absurd never
-batch_asked (Ok Root) batch is = absurd (let no : ⊥ = cc in no)
-batch_asked (Ok Metrics) batch is = absurd (let no : ⊥ = cc in no)
-batch_asked (Ok Health) batch is = absurd (let no : ⊥ = cc in no)
-batch_asked (Ok TooLong) batch never = absurd never
-batch_asked (Ok (Asks questions)) batch is = absurd (let no : ⊥ = cc in no)
-batch_asked (Ok (Listed request wanted)) batch is = absurd (let no : ⊥ = cc in no)
-batch_asked (Ok (BadLine line)) batch is = absurd (let no : ⊥ = cc in no)
-batch_asked (Ok (Misread refusal place)) batch is = absurd (let no : ⊥ = cc in no)
-batch_asked (Ok Nowhere) batch never = absurd never
-batch_asked (Ok (NotAllowed methods)) batch never = absurd never
-batch_asked (Err refusal) batch is = absurd (let no : ⊥ = cc in no)
+batch_for : (right : Right) (q : Question) (batch : Batch) → IsPlanFor right q (plan.Writes batch) → (writes : List (Result Request Refusal)) × (q ≡ Many writes) × BeginsBatch right writes batch
+batch_for right (Ask request) batch never = absurd never
+batch_for right (Live request) batch never = absurd never
+batch_for right (Many writes) batch begins = (writes, refl, begins)
+batch_for right (Changes since wait followed) batch is = absurd (let no : ⊥ = cc in no)
+batch_for right Page batch never = absurd never
+batch_for right Root batch is = absurd (let no : ⊥ = cc in no)
+batch_for right Metrics batch is = absurd (let no : ⊥ = cc in no)
+batch_for right Health batch is = absurd (let no : ⊥ = cc in no)
+batch_for right TooLong batch never = absurd never
+batch_for right (Asks questions) batch is = absurd (let no : ⊥ = cc in no)
+batch_for right (Listed request wanted) batch is = absurd (let no : ⊥ = cc in no)
+batch_for right (BadLine line) batch is = absurd (let no : ⊥ = cc in no)
+batch_for right (Misread refusal place) batch is = absurd (let no : ⊥ = cc in no)
+batch_for right Nowhere batch never = absurd never
+batch_for right (NotAllowed methods) batch never = absurd never
+
+batch_if : (b : Bool) (right : Right) (q : Question) (batch : Batch) → IsPlanIf b right q (plan.Writes batch) → (writes : List (Result Request Refusal)) × (q ≡ Many writes) × BeginsBatch right writes batch
+batch_if true right q batch is = batch_for right q batch is
+batch_if false right q batch never = absurd never
+
+batch_asked : (right : Right) (q : Result Question Refusal) (batch : Batch) → IsPlanOf right q (plan.Writes batch) → (writes : List (Result Request Refusal)) × (q ≡ Ok (Many writes)) × BeginsBatch right writes batch
+batch_asked right (Ok q) batch is = let it = batch_if (may_ask right q) right q batch is in (it.0, ap Ok it.1, it.2)
+batch_asked right (Err refusal) batch is = absurd (let no : ⊥ = cc in no)
+
+-- what needs no token asks no write
+free_none : (q : Result Question Refusal) (batch : Batch) → IsFreePlan q (plan.Writes batch) → ⊥
+free_none (Ok Page) batch never = never
+free_none (Ok Health) batch is = absurd cc
+free_none (Ok TooLong) batch never = never
+free_none (Ok (Ask request)) batch is = absurd cc
+free_none (Ok (Live request)) batch is = absurd cc
+free_none (Ok (Many writes)) batch is = absurd cc
+free_none (Ok (Changes since wait followed)) batch is = absurd cc
+free_none (Ok Root) batch is = absurd cc
+free_none (Ok Metrics) batch is = absurd cc
+free_none (Ok (Asks questions)) batch is = absurd cc
+free_none (Ok (Listed request wanted)) batch is = absurd cc
+free_none (Ok (BadLine line)) batch is = absurd cc
+free_none (Ok (Misread refusal place)) batch is = absurd cc
+free_none (Ok Nowhere) batch is = absurd cc
+free_none (Ok (NotAllowed methods)) batch is = absurd cc
+free_none (Err refusal) batch is = absurd cc
 
 -- what may be asked by which methods asks no write
 permits_none : (q : Result Question Refusal) (batch : Batch) → TellsMethods q (plan.Writes batch) → ⊥
 permits_none (Ok (Ask request)) batch never = never
 permits_none (Ok (Live request)) batch never = never
 permits_none (Ok (Many writes)) batch never = never
-permits_none (Ok (Changes since wait)) batch never = never
+permits_none (Ok (Changes since wait followed)) batch never = never
 permits_none (Ok Page) batch never = never
 permits_none (Ok Root) batch never = never
 permits_none (Ok Metrics) batch never = never
@@ -108,45 +136,46 @@ permits_none (Ok (NotAllowed methods)) batch never = never
 permits_none (Err refusal) batch never = never
 
 -- only a request that comes in has its writes asked
-writes_decided : (entry : Entry) (q : Result Question Refusal) (batch : Batch) → Decides entry q (plan.Writes batch) → IsPlanOf q (plan.Writes batch)
-writes_decided Open q batch plans = plans
+writes_decided : (entry : Entry) (q : Result Question Refusal) (batch : Batch) → Decides entry q (plan.Writes batch) → (right : Right) × (entry ≡ Open right) × IsPlanOf right q (plan.Writes batch)
+writes_decided (Open right) q batch plans = (right, refl, plans)
+writes_decided Free q batch plans = absurd (free_none q batch plans)
 writes_decided HostMissing q batch never = absurd never
 writes_decided (Stranger fault) q batch never = absurd never
 writes_decided Conditional q batch never = absurd never
 writes_decided Preflight q batch never = absurd (permits_none q batch never)
 writes_decided NoToken q batch is = absurd (let no : ⊥ = cc in no)
 
-batch_left : (guard : Option Guard) (n : ℕ) (p : Plan) (asked : Asked) (old : WebValue) (hand : AtHandValue) (new : WebValue) (hand' : AtHandValue) (batch : Batch) → old.asked ≡ Some asked → Decides asked.entry asked.question p
+batch_left : (passes : Option (List Pass)) (n : ℕ) (p : Plan) (asked : Asked) (old : WebValue) (hand : AtHandValue) (new : WebValue) (hand' : AtHandValue) (batch : Batch) → old.asked ≡ Some asked → Decides asked.entry asked.question p
     → DoesPlan n p old hand new hand' (rest.Writes batch) → IsBatchFor new.asked batch
-batch_left guard n (plan.Writes batch') asked old hand new hand' batch kept plans (is, same, left) =
+batch_left passes n (plan.Writes batch') asked old hand new hand' batch kept plans (is, same, left) =
     let one : batch ≡ batch' = cc in
-    subst (λ o. IsBatchFor o batch) (sym (ap (λ (w : WebValue). w.asked) same ∙ kept)) (subst (λ b. IsBatchFor (Some asked) b) (sym one) (batch_asked asked.question batch' (writes_decided asked.entry asked.question batch' plans)))
-batch_left guard n (plan.Ask request) asked old hand new hand' batch kept plans (asks, left) = absurd (let no : ⊥ = cc in no)
-batch_left guard n (plan.Changes since wait) asked old hand new hand' batch kept plans (is, inl (left, body)) = absurd (let no : ⊥ = cc in no)
-batch_left guard n (plan.Changes since wait) asked old hand new hand' batch kept plans (is, inr (root, some, left, same)) = absurd (let no : ⊥ = cc in no)
-batch_left guard n plan.Asks asked old hand new hand' batch kept plans (told, body) = let left = told.1 in absurd (let no : ⊥ = cc in no)
-batch_left guard n plan.Listed asked old hand new hand' batch kept plans (told, body) = let left = told.1 in absurd (let no : ⊥ = cc in no)
-batch_left guard n (plan.BadLine line) asked old hand new hand' batch kept plans (told, body) = let left = told.1 in absurd (let no : ⊥ = cc in no)
-batch_left guard n plan.Root asked old hand new hand' batch kept plans (told, body) = let left = told.1 in absurd (let no : ⊥ = cc in no)
-batch_left guard n plan.Health asked old hand new hand' batch kept plans (told, body) = let left = told.1 in absurd (let no : ⊥ = cc in no)
-batch_left guard n plan.Metrics asked old hand new hand' batch kept plans (told, body) = let left = told.1 in absurd (let no : ⊥ = cc in no)
-batch_left guard n (plan.Told answer body) asked old hand new hand' batch kept plans (told, responds) = let left = told.1 in absurd (let no : ⊥ = cc in no)
-batch_left guard n plan.NotAdmitted asked old hand new hand' batch kept plans (told, responds) = let left = told.1 in absurd (let no : ⊥ = cc in no)
-batch_left guard n (plan.Refused refusal) asked old hand new hand' batch kept plans (told, refuses) = let left = told.1 in absurd (let no : ⊥ = cc in no)
+    subst (λ o. IsBatchFor o batch) (sym (ap (λ (w : WebValue). w.asked) same ∙ kept)) (subst (λ b. IsBatchFor (Some asked) b) (sym one) (let decided = writes_decided asked.entry asked.question batch' plans in (decided.0, decided.1, batch_asked decided.0 asked.question batch' decided.2)))
+batch_left passes n (plan.Ask request) asked old hand new hand' batch kept plans (asks, left) = absurd (let no : ⊥ = cc in no)
+batch_left passes n (plan.Changes since wait) asked old hand new hand' batch kept plans (is, inl (left, body)) = absurd (let no : ⊥ = cc in no)
+batch_left passes n (plan.Changes since wait) asked old hand new hand' batch kept plans (is, inr (root, some, left, same)) = absurd (let no : ⊥ = cc in no)
+batch_left passes n (plan.Asks right) asked old hand new hand' batch kept plans (told, body) = let left = told.1 in absurd (let no : ⊥ = cc in no)
+batch_left passes n plan.Listed asked old hand new hand' batch kept plans (told, body) = let left = told.1 in absurd (let no : ⊥ = cc in no)
+batch_left passes n (plan.BadLine line) asked old hand new hand' batch kept plans (told, body) = let left = told.1 in absurd (let no : ⊥ = cc in no)
+batch_left passes n plan.Root asked old hand new hand' batch kept plans (told, body) = let left = told.1 in absurd (let no : ⊥ = cc in no)
+batch_left passes n plan.Health asked old hand new hand' batch kept plans (told, body) = let left = told.1 in absurd (let no : ⊥ = cc in no)
+batch_left passes n plan.Metrics asked old hand new hand' batch kept plans (told, body) = let left = told.1 in absurd (let no : ⊥ = cc in no)
+batch_left passes n (plan.Told answer body) asked old hand new hand' batch kept plans (told, responds) = let left = told.1 in absurd (let no : ⊥ = cc in no)
+batch_left passes n plan.NotAdmitted asked old hand new hand' batch kept plans (told, responds) = let left = told.1 in absurd (let no : ⊥ = cc in no)
+batch_left passes n (plan.Refused refusal) asked old hand new hand' batch kept plans (told, refuses) = let left = told.1 in absurd (let no : ⊥ = cc in no)
 
-pub batch_of : (guard : Option Guard) (names : Named) (n : ℕ) (old : WebValue) (hand : AtHandValue) (new : WebValue) (hand' : AtHandValue) (batch : Batch) → AsksNextOf guard names n old hand new hand' (rest.Writes batch) → IsBatchFor new.asked batch
-batch_of guard names n old hand new hand' batch (inl (told, none)) = let left = told.1 in absurd (let no : ⊥ = cc in no)
-batch_of guard names n old hand new hand' batch (inr one) = batch_left guard n one.plan one.asked one.mid hand new hand' batch one.kept one.decides one.does
+pub batch_of : (passes : Option (List Pass)) (names : Named) (n : ℕ) (old : WebValue) (hand : AtHandValue) (new : WebValue) (hand' : AtHandValue) (batch : Batch) → AsksNextOf passes names n old hand new hand' (rest.Writes batch) → IsBatchFor new.asked batch
+batch_of passes names n old hand new hand' batch (inl (told, none)) = let left = told.1 in absurd (let no : ⊥ = cc in no)
+batch_of passes names n old hand new hand' batch (inr one) = batch_left passes n one.plan one.asked one.mid hand new hand' batch one.kept one.decides one.does
 
 -- ---- a request is taken, or none is
 
-pub asks_none : (guard : Option Guard) (names : Named) (n : ℕ) (old new : WebValue) (hand : AtHandValue) (took : Bool) → TakesRequest guard names old took new → took ≡ false → AsksNextOf guard names n old hand new hand rest.Nothing
-asks_none guard names n old new hand took takes is = inl ((refl, refl), subst (λ b. TakesRequest guard names old b new) is takes)
+pub asks_none : (passes : Option (List Pass)) (names : Named) (n : ℕ) (old new : WebValue) (hand : AtHandValue) (took : Bool) → TakesRequest passes names old took new → took ≡ false → AsksNextOf passes names n old hand new hand rest.Nothing
+asks_none passes names n old new hand took takes is = inl ((refl, refl), subst (λ b. TakesRequest passes names old b new) is takes)
 
 -- ---- lists are told of a site
 
-pub asks_told : (n : ℕ) (p : Plan) (site : SiteValue) (old new : WebValue) (hand : AtHandValue) → p ≡ plan.Asks → TellsAsks site old.asked old new → DoesPlan n p old hand new hand rest.Nothing
-asks_told n p site old new hand is told = subst (λ (q : Plan). DoesPlan n q old hand new hand rest.Nothing) (sym is) ((refl, refl), (site, told))
+pub asks_told : (n : ℕ) (p : Plan) (right : Right) (site : SiteValue) (old new : WebValue) (hand : AtHandValue) → p ≡ plan.Asks right → TellsAsks right site old.asked old new → DoesPlan n p old hand new hand rest.Nothing
+asks_told n p right site old new hand is told = subst (λ (q : Plan). DoesPlan n q old hand new hand rest.Nothing) (sym is) ((refl, refl), (site, told))
 
 pub listed_told : (n : ℕ) (p : Plan) (site : SiteValue) (old new : WebValue) (hand : AtHandValue) → p ≡ plan.Listed → TellsListed site old.asked old new → DoesPlan n p old hand new hand rest.Nothing
 listed_told n p site old new hand is told = subst (λ (q : Plan). DoesPlan n q old hand new hand rest.Nothing) (sym is) ((refl, refl), (site, told))

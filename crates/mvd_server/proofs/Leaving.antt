@@ -34,7 +34,7 @@ spent_over t n web has over = subst (λ o. HasNothingLeft (is_own_client t n) o 
 
 pub back_frames : (n : ℕ) (old : Talking) (host : HostValue) → ClientLeaves old.host n host → GoesAtOnce Frames n old (with_host old host)
 back_frames n old host leaves before (one, same) =
-    deeds_one (TurnsBack n old.host) before (with_host old host) (before.guard, one, leaves, ap (λ (t : Talking). with_host t host) same)
+    deeds_one (TurnsBack n old.host) before (with_host old host) (first_guard before.passes, one, leaves, ap (λ (t : Talking). with_host t host) same)
 
 fresh_goes : (n : ℕ) (web : WebConnection) (before old : Talking) → DoesAct (ComesByWeb n web) before old → MayPart n old
 fresh_goes n web before old (number, fresh, same) =

@@ -1,6 +1,8 @@
+pub mod Allowing
 pub mod Answering
 pub mod Asking
 pub mod AtHand
+pub mod Bounding
 pub mod Calming
 pub mod Clients
 pub mod Closing
@@ -12,6 +14,7 @@ pub mod Hearing
 pub mod Keyed
 pub mod Leaving
 pub mod Lining
+pub mod Meeting
 pub mod Moving
 pub mod Numbering
 pub mod Parting

@@ -7,7 +7,7 @@ use Rattle.std.specs.Map.{remove_entry, set_value}
 use Rattle.std.specs.Ordering.{match_ordering, nat_cmp}
 use Rattle.std.specs.declared.cmp.Ordering.{Ordering}
 use Rattle.std.specs.declared.cmp.Ordering.TheVariants.{Less, Equal, Greater}
-use Rattle.mvd_conn.specs.declared.guard.Guard.{Guard}
+use Rattle.mvd_conn.specs.declared.passes.Pass.{Pass}
 use Rattle.mvd_http.specs.Guard.{Named}
 use Rattle.mvd_host.proofs.Hosts.{at_is}
 use Rattle.mvd_host.specs.AtHand.{AtHandValue, first_at_hand}
@@ -26,8 +26,8 @@ pub record AreNumbered (t : Talking) : Type 0 where
   pub next : first_at_hand ≤ t.next
   pub webs : All t.webs
 
-pub numbered_new : (guard : Option Guard) (names : Named) → AreNumbered (new_talking guard names)
-numbered_new guard names = record { next = omega arith; webs = tt }
+pub numbered_new : (passes : Option (List Pass)) (names : Named) → AreNumbered (new_talking passes names)
+numbered_new passes names = record { next = omega arith; webs = tt }
 
 -- ---- entries
 

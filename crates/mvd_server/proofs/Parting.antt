@@ -74,7 +74,7 @@ module _ (old new : Talking) (n : ℕ) (h : History) (found : client_of old.host
   still same = never (here_same old.host new.host n same here)
 
   pub parts_deed : n < old.host.admitted → web_in old n ≡ None → Deed old new → Parts old n h
-  parts_deed given apart (Comes m, does) = never (here_came old.guard old.host new.host m n does.0 here)
+  parts_deed given apart (Comes m, does) = never (here_came (first_guard old.passes) old.host new.host m n does.0 here)
   parts_deed given apart (ComesByWeb m web, does) = still (ap (λ (t : Talking). t.host) does.2)
   parts_deed given apart (ComesOwn m, does) = never (here_came None old.host new.host m n does.0 here)
   parts_deed given apart (TurnsBack m mid, does) =

@@ -1,34 +1,37 @@
 -- One host, from its first client on.
-use Rattle.std.proofs.Common.{◌≡◌, ◌∙◌, ◌⊎◌, ◌<◌, true, false, ℕ, List, [], ◌∷◌, ◌++◌, Option, None, Some, inl, inr, ap, refl, sym, subst, append-nil, append_assoc, true≢false}
+use Rattle.std.proofs.Common.{◌≡◌, ◌∙◌, ◌⊎◌, ◌<◌, true, false, ℕ, List, [], ◌∷◌, ◌++◌, Option, None, Some, is_some, inl, inr, ap, refl, sym, subst, append-nil, append_assoc, true≢false}
 use Rattle.mvd_conn.specs.declared.guard.Guard.{Guard}
+use Rattle.mvd_conn.specs.declared.guard.Guard.TheVariants.{Asks, Knows, Left}
+use Rattle.mvd_conn.specs.declared.passes.Pass.{Pass}
 use Rattle.mvd_http.specs.Guard.{Named}
 use Rattle.mvd_conn.specs.History.{History, is_done}
 use Rattle.mvd_host.proofs.Own.{own-append}
-use Rattle.mvd_host.proofs.Runs.{SoFar, begins, goes_on as runs_on, has_shown, one_list}
+use Rattle.mvd_host.proofs.Runs.{SoFar, begins, goes_on as runs_on, has_right, has_shown, one_list}
+use Rattle.mvd_host.proofs.Within.{are_within}
 use Rattle.mvd_host.specs.AtHand.{first_at_hand}
 use Rattle.mvd_host.specs.Hosts.{IsClient, client_of}
 use Rattle.mvd_host.specs.Course.{BothClients, own}
 use Rattle.mvd_host.specs.Round.{ClientCourse}
-use Rattle.mvd_host.specs.Runs.{Happening, HasShown, HostMoment, OneList, Rounds, Runs, TellsOwn, after_one, after_run, happened_turns, side_at, turns_in}
+use Rattle.mvd_host.specs.Runs.{Happening, HasRight, HasShown, HostMoment, IsHelloOf, OneList, Rounds, Runs, TellsOwn, after_one, after_run, happened_turns, side_at, turns_in}
+use Rattle.mvd_host.specs.Within.{AreWithin}
 use Rattle.mvd_replica.specs.Replicas.{conn_of, site_of}
 use Rattle.mvd_replica.specs.Turns.{Turn}
 use Rattle.mvd_replica.specs.declared.replica.Replica.{Replica}
+use Rattle.mvd_server.proofs.Allowing.{AreAllowed, allowed_deed, allowed_in, allowed_new, allowed_out, allowed_round}
 use Rattle.mvd_server.proofs.Calming.{Calm, moment, of_deed, of_in, of_out}
 use Rattle.mvd_server.proofs.Numbering.{AreNumbered, numbered_apart, numbered_deed, numbered_in, numbered_new, numbered_out, numbered_round}
 use Rattle.mvd_server.proofs.Parting.{parts_deed, parts_in, parts_out}
 use Rattle.mvd_server.proofs.Paths.{path_map, path_none, path_on, path_one}
 use Rattle.mvd_server.proofs.Deeds.{carries_deeds}
-use Rattle.mvd_server.proofs.Showing.{AreGuarded, guarded_deed, guarded_in, guarded_new, guarded_out, guarded_round, kept_deed, kept_in, kept_out}
-use Rattle.mvd_server.specs.Guarded.{IsGuardOf}
+use Rattle.mvd_server.proofs.Showing.{AreGuarded, AreKnown, Fits, IfAsked, guarded_deed, guarded_in, guarded_new, guarded_out, guarded_round, kept_deed, kept_in, kept_out}
 use Rattle.mvd_server.specs.Closing.{EndsServed, IsDeserted}
 use Rattle.mvd_server.specs.Paths.{IsWay}
-use Rattle.mvd_server.specs.Rounds.{AnswersClients, BeginsServing, GoesOnServing, HasRound, IsServed, ServeStep, Serving, ServingStep, WasMadeFor, WasThere, World, begun, hand_in, host_in, moment_of, with_round, world_of}
+use Rattle.mvd_server.specs.Rounds.{AnswersClients, BeginsServing, KnowsPass, IsLetIn, MayAllTurn, WasKnown, WasKnownIn, GoesOnServing, HasRound, IsServed, ServeStep, Serving, ServingStep, WasMadeFor, WasThere, World, begun, hand_in, host_in, moment_of, with_round, world_of}
 use Rattle.mvd_server.specs.Talking.{Deeds, IsMadeFor, TalksDeeds, Talking, new_talking, talking_of, web_in}
 use Rattle.mvd_server.specs.Wires.{Carries, Wired, WiredStep, wired_of}
 use Rattle.mvd_server.specs.declared.sockets.Sockets.{Ghosts as SocketGhosts}
 use Rattle.mvd_server.specs.declared.talks.Talks.{Talks}
 use Rattle.mvd_site.specs.Sites.{SiteValue}
-use Rattle.sha2.specs.Sha256.{sha256}
 use Rattle.sqlite.specs.Held.{state}
 use Rattle.sqlite.specs.State.{State}
 use Rattle.sqlite_trees.specs.declared.store.Store.{Ghosts}
@@ -59,9 +62,23 @@ happened_on f old mid new p q = record {
   ends = after_append old p.all q.all ∙ ap (λ m. after_run m q.all) p.ends ∙ q.ends;
 }
 
--- a client has shown the token before its turns, and these are what it asked and was told
-record Each (guard : Option Guard) (Made : ℕ → Type 0) (Told : ℕ → List Turn → Type 0) (n : ℕ) (turns : List Turn) : Type 0 where
-  shown : HasShown guard turns ⊎ Made n
+-- ---- what a client's right allows
+
+by_guard : (Known : Pass → Type 0) (turn : Turn) (turns : List Turn) (guard : Option Guard) → Fits Known guard → HasShown guard (turn ∷ turns) → HasRight guard (turn ∷ turns) → (pass : Pass) × Known pass × IsHelloOf pass turn.asked × AreWithin pass.right (turn ∷ turns)
+by_guard Known turn turns None fits shown right = absurd fits
+by_guard Known turn turns (Some Asks) fits shown right = absurd shown
+by_guard Known turn turns (Some (Knows pass)) fits shown right = (pass, fits, shown, are_within pass.right (turn ∷ turns) right)
+by_guard Known turn turns (Some (Left pass)) fits shown right = (pass, fits, shown, are_within pass.right (turn ∷ turns) right)
+
+let_in : (Known : Pass → Type 0) (passes now : Option (List Pass)) → is_some now ≡ is_some passes → (turns : List Turn) (h : History) → TellsOwn turns h → IfAsked now (Fits Known h.guard) → IsLetIn Known passes turns
+let_in Known None now same turns h tells fits = tt
+let_in Known (Some passes) None same turns h tells fits = absurd (true≢false (sym same))
+let_in Known (Some passes) (Some now) same [] h tells fits = tt
+let_in Known (Some passes) (Some now) same (turn ∷ turns) h tells fits = by_guard Known turn turns h.guard fits (has_shown (turn ∷ turns) h tells) (has_right (turn ∷ turns) h tells)
+
+-- each turn of a client is one that its right allows, and these are what it asked and was told
+record Each (passes : Option (List Pass)) (Known : Pass → Type 0) (Made : ℕ → Type 0) (Told : ℕ → List Turn → Type 0) (n : ℕ) (turns : List Turn) : Type 0 where
+  shown : IsLetIn Known passes turns ⊎ Made n
   told : (turns ≡ []) ⊎ Told n turns
 
 module _ {K C : Type 0} (f : C → State) (k : SocketGhosts K) where
@@ -84,38 +101,43 @@ module _ {K C : Type 0} (f : C → State) (k : SocketGhosts K) where
   of_steps old new [] same = record { all = []; runs = tt; ends = ap moment_of (sym same) }
   of_steps old new (mid ∷ mids) (one, more) = happened_on f (moment_of old) (moment_of mid) (moment_of new) (of_step old mid one) (of_steps mid new mids more)
 
-  -- each client has the server's guard, and a connection of the host is of none over HTTP
-  record Guards (guard : Option Guard) (t : Talking) : Type 0 where
-    kept : t.guard ≡ guard
-    each : AreGuarded t
+  -- what each client has shown was known, a connection of the host is of none over HTTP, and these ask what they may
+  record Guards (passes : Option (List Pass)) (Known : Pass → Type 0) (t : Talking) : Type 0 where
+    kept : is_some t.passes ≡ is_some passes
+    each : AreGuarded Known t
     apart : AreNumbered t
+    allowed : AreAllowed Known passes t
 
-  guards_wired : (guard : Option Guard) (old new : Wired K) → WiredStep k old new → Guards guard old.talking → Guards guard new.talking
-  guards_wired guard old new (inl (deed, same)) s = record {
+  guards_wired : (passes : Option (List Pass)) (Known : Pass → Type 0) (old new : Wired K) → AreKnown Known old.talking → WiredStep k old new → Guards passes Known old.talking → Guards passes Known new.talking
+  guards_wired passes Known old new all (inl (deed, same)) s = record {
     kept = kept_deed old.talking new.talking deed ∙ s.kept;
-    each = guarded_deed old.talking new.talking deed s.each;
+    each = guarded_deed Known old.talking new.talking all deed s.each;
     apart = numbered_deed old.talking new.talking deed s.apart;
+    allowed = allowed_deed Known passes old.talking new.talking s.kept all deed s.allowed;
   }
-  guards_wired guard old new (inr (inl (n, bytes, gives, takes))) s = record {
+  guards_wired passes Known old new all (inr (inl (n, bytes, gives, takes))) s = record {
     kept = kept_in n bytes old.talking new.talking takes ∙ s.kept;
-    each = guarded_in n bytes old.talking new.talking takes s.each;
+    each = guarded_in Known n bytes old.talking new.talking takes s.each;
     apart = numbered_in n bytes old.talking new.talking takes s.apart;
+    allowed = allowed_in Known passes n bytes old.talking new.talking takes s.allowed;
   }
-  guards_wired guard old new (inr (inr (n, bytes, takes, gives))) s = record {
+  guards_wired passes Known old new all (inr (inr (n, bytes, takes, gives))) s = record {
     kept = kept_out n bytes old.talking new.talking gives ∙ s.kept;
-    each = guarded_out n bytes old.talking new.talking gives s.each;
+    each = guarded_out Known n bytes old.talking new.talking gives s.each;
     apart = numbered_out n bytes old.talking new.talking gives s.apart;
+    allowed = allowed_out Known passes n bytes old.talking new.talking gives s.allowed;
   }
 
-  guards_step : (guard : Option Guard) (old new : World K C) → ServeStep f k old new → Guards guard old.wired.talking → Guards guard new.wired.talking
-  guards_step guard old new (inl b) s = guards_wired guard old.wired new.wired b.wired s
-  guards_step guard old new (inr r) s =
+  guards_step : (passes : Option (List Pass)) (Known : Pass → Type 0) (old new : World K C) → AreKnown Known old.wired.talking → ServeStep f k old new → Guards passes Known old.wired.talking → Guards passes Known new.wired.talking
+  guards_step passes Known old new all (inl b) s = guards_wired passes Known old.wired new.wired all b.wired s
+  guards_step passes Known old new all (inr r) s =
       let t = old.wired.talking in
-      subst (Guards guard) (sym (ap (λ (w : Wired K). w.talking) r.wired))
+      subst (Guards passes Known) (sym (ap (λ (w : Wired K). w.talking) r.wired))
       (record {
         kept = s.kept;
-        each = guarded_round t (host_in new) (hand_in new) r.turns r.round.clients s.each;
+        each = guarded_round Known t (host_in new) (hand_in new) r.turns r.round.clients s.each;
         apart = numbered_round t (host_in new) (hand_in new) s.apart;
+        allowed = allowed_round Known passes t (host_in new) (hand_in new) r.turns r.round.at_hand s.allowed;
       })
 
   -- whoever has gone has no turn in a step
@@ -144,33 +166,34 @@ module _ {K C : Type 0} (f : C → State) (k : SocketGhosts K) where
       absurd (let no : ◌≡◌ {A = Option History} (Some h) None = sym found ∙ none in cc)
 
   -- so each connection, also one that has gone
-  record Shows (guard : Option Guard) (start : HostMoment C) (Made : ℕ → Type 0) (Told : ℕ → List Turn → Type 0) (Done : ℕ → Type 0) (turns : List (ℕ × Turn)) (w : World K C) : Type 0 where
-    guards : Guards guard w.wired.talking
+  record Shows (passes : Option (List Pass)) (Known : Pass → Type 0) (start : HostMoment C) (Made : ℕ → Type 0) (Told : ℕ → List Turn → Type 0) (Done : ℕ → Type 0) (turns : List (ℕ × Turn)) (w : World K C) : Type 0 where
+    guards : Guards passes Known w.wired.talking
+    known : AreKnown Known w.wired.talking
     done : (n : ℕ) → IsClient (client_of (host_in w) n) (λ h. is_done h ≡ true) → Done n
     parted : (n : ℕ) → n < first_at_hand → client_of (host_in w) n ≡ None → (own n turns ≡ []) ⊎ (Done n ⊎ Made n)
     far : SoFar f start turns (moment_of w)
     made : (n : ℕ) → IsMadeFor w.wired.talking n → Made n
     there : (n : ℕ) (own : List Turn) → IsClient (client_of (host_in w) n) (TellsOwn own) → Told n own
-    gone : (n : ℕ) → n < first_at_hand → client_of (host_in w) n ≡ None → Each guard Made Told n (own n turns)
+    gone : (n : ℕ) → n < first_at_hand → client_of (host_in w) n ≡ None → Each passes Known Made Told n (own n turns)
 
-  module _ (guard : Option Guard) (start : HostMoment C) (Made : ℕ → Type 0) (Told : ℕ → List Turn → Type 0) (Done : ℕ → Type 0) where
-    shows_here : (turns : List (ℕ × Turn)) (w : World K C) → Shows guard start Made Told Done turns w → (n : ℕ) (h : History) → client_of (host_in w) n ≡ Some h → Each guard Made Told n (own n turns)
+  module _ (passes : Option (List Pass)) (Known : Pass → Type 0) (start : HostMoment C) (Made : ℕ → Type 0) (Told : ℕ → List Turn → Type 0) (Done : ℕ → Type 0) where
+    shows_here : (turns : List (ℕ × Turn)) (w : World K C) → Shows passes Known start Made Told Done turns w → (n : ℕ) (h : History) → client_of (host_in w) n ≡ Some h → Each passes Known Made Told n (own n turns)
     shows_here turns w s n h found =
         let tells = s.far.tells n h found in
         record { shown = on tells (s.guards.each n h found); told = inr (s.there n (own n turns) (subst (λ o. IsClient o (TellsOwn (own n turns))) (sym found) tells)) }
       where
-        on : TellsOwn (own n turns) h → (h.guard ≡ w.wired.talking.guard) ⊎ IsMadeFor w.wired.talking n → HasShown guard (own n turns) ⊎ Made n
-        on tells (inl same) = inl (subst (λ g. HasShown g (own n turns)) (same ∙ s.guards.kept) (has_shown (own n turns) h tells))
+        on : TellsOwn (own n turns) h → IfAsked w.wired.talking.passes (Fits Known h.guard) ⊎ IsMadeFor w.wired.talking n → IsLetIn Known passes (own n turns) ⊎ Made n
+        on tells (inl fits) = inl (let_in Known passes w.wired.talking.passes s.guards.kept (own n turns) h tells fits)
         on tells (inr made) = inr (s.made n made)
 
-    shows_each : (turns : List (ℕ × Turn)) (w : World K C) → Shows guard start Made Told Done turns w → (n : ℕ) → n < first_at_hand → Each guard Made Told n (own n turns)
+    shows_each : (turns : List (ℕ × Turn)) (w : World K C) → Shows passes Known start Made Told Done turns w → (n : ℕ) → n < first_at_hand → Each passes Known Made Told n (own n turns)
     shows_each turns w s n below = on (client_of (host_in w) n) refl
       where
-        on : (o : Option History) → client_of (host_in w) n ≡ o → Each guard Made Told n (own n turns)
+        on : (o : Option History) → client_of (host_in w) n ≡ o → Each passes Known Made Told n (own n turns)
         on None gone = s.gone n below gone
         on (Some h) found = shows_here turns w s n h found
 
-    parts_on : (turns : List (ℕ × Turn)) (old new : World K C) (step : ServeStep f k old new) → Shows guard start Made Told Done turns old → (n : ℕ) → n < first_at_hand → client_of (host_in new) n ≡ None
+    parts_on : (turns : List (ℕ × Turn)) (old new : World K C) (step : ServeStep f k old new) → Shows passes Known start Made Told Done turns old → (n : ℕ) → n < first_at_hand → client_of (host_in new) n ≡ None
         → (own n (turns ++ turns_in (of_step old new step).all) ≡ []) ⊎ (Done n ⊎ Made n)
     parts_on turns old new step s n below gone = on (client_of (host_in old) n) refl
       where
@@ -185,78 +208,79 @@ module _ {K C : Type 0} (f : C → State) (k : SocketGhosts K) where
         on None was = subst (λ l. (l ≡ []) ⊎ (Done n ⊎ Made n)) (sym same) (s.parted n below was)
         on (Some h) found = inr (whose h found (parts_step old new n h found gone (s.far.given n h found) (numbered_apart old.wired.talking n below s.guards.apart) step))
 
-    shows_step : (turns : List (ℕ × Turn)) (old new : World K C) (step : ServeStep f k old new) → ((n : ℕ) → IsMadeFor new.wired.talking n → Made n)
-        → ((n : ℕ) (own : List Turn) → IsClient (client_of (host_in new) n) (TellsOwn own) → Told n own) → ((n : ℕ) → IsClient (client_of (host_in new) n) (λ h. is_done h ≡ true) → Done n) → Shows guard start Made Told Done turns old
-        → Shows guard start Made Told Done (turns ++ turns_in (of_step old new step).all) new
-    shows_step turns old new step made there done s =
+    shows_step : (turns : List (ℕ × Turn)) (old new : World K C) (step : ServeStep f k old new) → ((n : ℕ) → IsMadeFor new.wired.talking n → Made n) → AreKnown Known new.wired.talking
+        → ((n : ℕ) (own : List Turn) → IsClient (client_of (host_in new) n) (TellsOwn own) → Told n own) → ((n : ℕ) → IsClient (client_of (host_in new) n) (λ h. is_done h ≡ true) → Done n) → Shows passes Known start Made Told Done turns old
+        → Shows passes Known start Made Told Done (turns ++ turns_in (of_step old new step).all) new
+    shows_step turns old new step made known there done s =
         let h = of_step old new step in
         record {
-          guards = guards_step guard old new step s.guards;
+          guards = guards_step passes Known old new s.known step s.guards;
+          known = known;
           done = done;
           parted = parts_on turns old new step s;
           far = subst (λ m. SoFar f start (turns ++ turns_in h.all) m) h.ends (runs_on f start turns (moment_of old) h.all h.runs s.far);
           made = made;
           there = there;
           gone = λ n below gone.
-              subst (λ l. Each guard Made Told n l) (sym (own-append n turns (turns_in h.all) ∙ ap (λ l. own n turns ++ l) (none_gone old new step n below gone) ∙ append-nil (own n turns)))
+              subst (λ l. Each passes Known Made Told n l) (sym (own-append n turns (turns_in h.all) ∙ ap (λ l. own n turns ++ l) (none_gone old new step n below gone) ∙ append-nil (own n turns)))
               (shows_each turns old s n below);
         }
 
-    shows_steps : (turns : List (ℕ × Turn)) (old new : World K C) (mids : List (World K C)) (steps : IsWay (ServeStep f k) old mids new) → ((n : ℕ) → WasMadeFor n mids → Made n)
-        → ((n : ℕ) (own : List Turn) → WasThere n (TellsOwn own) mids → Told n own) → ((n : ℕ) → WasThere n (λ h. is_done h ≡ true) mids → Done n) → Shows guard start Made Told Done turns old
-        → Shows guard start Made Told Done (turns ++ turns_in (of_steps old new mids steps).all) new
+    shows_steps : (turns : List (ℕ × Turn)) (old new : World K C) (mids : List (World K C)) (steps : IsWay (ServeStep f k) old mids new) → ((n : ℕ) → WasMadeFor n mids → Made n) → ((pass : Pass) → WasKnownIn pass mids → Known pass)
+        → ((n : ℕ) (own : List Turn) → WasThere n (TellsOwn own) mids → Told n own) → ((n : ℕ) → WasThere n (λ h. is_done h ≡ true) mids → Done n) → Shows passes Known start Made Told Done turns old
+        → Shows passes Known start Made Told Done (turns ++ turns_in (of_steps old new mids steps).all) new
     unfolding of_steps happened_on of_step
-    shows_steps turns old new [] same made told done s =
-        subst (λ w. Shows guard start Made Told Done (turns ++ []) w) (sym same) (subst (λ l. Shows guard start Made Told Done l old) (sym (append-nil turns)) s)
-    shows_steps turns old new (mid ∷ mids) (one, more) made told done s =
+    shows_steps turns old new [] same made known told done s =
+        subst (λ w. Shows passes Known start Made Told Done (turns ++ []) w) (sym same) (subst (λ l. Shows passes Known start Made Told Done l old) (sym (append-nil turns)) s)
+    shows_steps turns old new (mid ∷ mids) (one, more) made known told done s =
         let first = (of_step old mid one).all in
         let rest = (of_steps mid new mids more).all in
-        subst (λ l. Shows guard start Made Told Done l new) (append_assoc turns (turns_in first) (turns_in rest) ∙ sym (ap (λ l. turns ++ l) (turns_append first rest)))
-        (shows_steps (turns ++ turns_in first) mid new mids more (λ n was. made n (inr was)) (λ n own was. told n own (inr was)) (λ n was. done n (inr was))
-        (shows_step turns old mid one (λ n is. made n (inl is)) (λ n own is. told n own (inl is)) (λ n is. done n (inl is)) s))
+        subst (λ l. Shows passes Known start Made Told Done l new) (append_assoc turns (turns_in first) (turns_in rest) ∙ sym (ap (λ l. turns ++ l) (turns_append first rest)))
+        (shows_steps (turns ++ turns_in first) mid new mids more (λ n was. made n (inr was)) (λ pass was. known pass (inr was)) (λ n own was. told n own (inr was)) (λ n was. done n (inr was))
+        (shows_step turns old mid one (λ n is. made n (inl is)) (λ pass is. known pass (inl is)) (λ n own is. told n own (inl is)) (λ n is. done n (inl is)) s))
 
 -- ---- what a server does
 
 -- it begins with who may come in, and with its names
-pub begins_serving : (token : Option (List ℕ)) (guard : Option Guard) (names : Named) (talks : Talks) → IsGuardOf token guard → talking_of talks ≡ new_talking guard names → BeginsServing token talks
-begins_serving token guard names talks guarded is = (guard, names, guarded, is)
+pub begins_serving : (passes : Option (List Pass)) (names : Named) (talks : Talks) → talking_of talks ≡ new_talking passes names → BeginsServing passes talks
+begins_serving passes names talks is = (names, is)
 
-none_made : (guard : Option Guard) (names : Named) (n : ℕ) → IsMadeFor (new_talking guard names) n → ⊥
-none_made guard names n is = absurd (true≢false (sym is))
+none_made : (passes : Option (List Pass)) (names : Named) (n : ℕ) → IsMadeFor (new_talking passes names) n → ⊥
+none_made passes names n is = absurd (true≢false (sym is))
 
 -- a server without a name
 no_names : Named
 no_names = record { hosts = []; origins = []; any_host = false }
 
-none_shown : (guard : Option Guard) → HasShown guard []
-none_shown None = tt
-none_shown (Some guard) = tt
+none_shown : (Known : Pass → Type 0) (passes : Option (List Pass)) → IsLetIn Known passes []
+none_shown Known None = tt
+none_shown Known (Some passes) = tt
 
 module _ {S : Type 0} {g : Ghosts S} {K : Type 0} (k : SocketGhosts K) where
-  pub served : (token : Option (List ℕ)) (guard : Option Guard) (names : Named) (last : Talking) (sockets : K) (old : Replica S g) (sockets' : K) (new : Replica S g) → IsGuardOf token guard
-      → GoesOnServing k (begun guard names sockets) old (record { talking = last; sockets = sockets' }) new → IsServed k token sockets old sockets' new
-  served token guard names last sockets old sockets' new guarded p =
-      let start = moment_of (world_of (begun guard names sockets) old) in
-      let h = of_steps (state g) k (world_of (begun guard names sockets) old) (world_of (record { talking = last; sockets = sockets' }) new) p.mids p.steps in
+  pub served : (passes : Option (List Pass)) (names : Named) (last : Talking) (sockets : K) (old : Replica S g) (sockets' : K) (new : Replica S g)
+      → GoesOnServing k (begun passes names sockets) old (record { talking = last; sockets = sockets' }) new → IsServed k passes sockets old sockets' new
+  served passes names last sockets old sockets' new p =
+      let start = moment_of (world_of (begun passes names sockets) old) in
+      let h = of_steps (state g) k (world_of (begun passes names sockets) old) (world_of (record { talking = last; sockets = sockets' }) new) p.mids p.steps in
       let Made : ℕ → Type 0 = λ n. WasMadeFor n p.mids in
+      let Known : Pass → Type 0 = WasKnown passes p.mids in
       let Told : ℕ → List Turn → Type 0 = λ n own. WasThere n (TellsOwn own) p.mids in
       let Done : ℕ → Type 0 = λ n. WasThere n (λ h. is_done h ≡ true) p.mids in
-      let first : Shows (state g) k guard start Made Told Done [] (world_of (begun guard names sockets) old) = record {
-        guards = record { kept = refl; each = guarded_new guard names; apart = numbered_new guard names };
+      let first : Shows (state g) k passes Known start Made Told Done [] (world_of (begun passes names sockets) old) = record {
+        guards = record { kept = refl; each = guarded_new Known passes names; apart = numbered_new passes names; allowed = allowed_new Known passes names };
+        known = λ pass is. inl is;
         done = λ n is. absurd is;
         parted = λ n below gone. inl refl;
         far = begins (state g) start refl;
-        made = λ n made. absurd (none_made guard names n made);
+        made = λ n made. absurd (none_made passes names n made);
         there = λ n own is. absurd is;
-        gone = λ n below gone. record { shown = inl (none_shown guard); told = inl refl };
+        gone = λ n below gone. record { shown = inl (none_shown Known passes); told = inl refl };
       } in
       let end = world_of (record { talking = last; sockets = sockets' }) new in
-      let shows = shows_steps (state g) k guard start Made Told Done [] (world_of (begun guard names sockets) old) end p.mids p.steps (λ n was. was) (λ n own was. was) (λ n was. was) first in
-      let each = shows_each (state g) k guard start Made Told Done (turns_in h.all) end shows in
+      let shows = shows_steps (state g) k passes Known start Made Told Done [] (world_of (begun passes names sockets) old) end p.mids p.steps (λ n was. was) (λ pass was. inr was) (λ n own was. was) (λ n was. was) first in
+      let each = shows_each (state g) k passes Known start Made Told Done (turns_in h.all) end shows in
       let one = subst (λ m. OneList (turns_in h.all) (side_at (state g) start) (side_at (state g) m)) h.ends (one_list (state g) start h.all refl refl h.runs) in
       record {
-        guard = guard;
-        guarded = guarded;
         names = names;
         last = last;
         goes = p;
@@ -265,7 +289,8 @@ module _ {S : Type 0} {g : Ghosts S} {K : Type 0} (k : SocketGhosts K) where
         ends = h.ends;
         list = one;
         told = λ n below. (each n below).told;
-        shown = λ n below. (each n below).shown;
+        rights = λ n below. (each n below).shown;
+        web_rights = λ n above. shows.guards.allowed.hand.done n;
         parted = shows.parted;
       }
 
@@ -288,7 +313,7 @@ module _ {S : Type 0} {g : Ghosts S} {K : Type 0} (k : SocketGhosts K) where
       let at : Talking → Wired K = λ t. record { talking = t; sockets = sockets } in
       let after = with_round r.before r.host r.hand in
       path_on _ _ (world_of (at r.before) replica) _ (goes_deeds old r.before sockets replica r.first)
-      (path_on _ _ (world_of (at after) replica') _ (path_one _ _ _ (inr (record { ready = r.ready; turns = r.turns; round = r.round; wired = refl }))) (goes_deeds after new sockets replica' r.last))
+      (path_on _ _ (world_of (at after) replica') _ (path_one _ _ _ (inr (record { ready = r.ready; turns = r.turns; round = r.round; known = r.known; wired = refl }))) (goes_deeds after new sockets replica' r.last))
 
   -- rounds, and deeds between them
   answers_one : (old new : Serving (Replica S g)) (sockets : K) → ServingStep old new → GoesOnServing k (record { talking = old.talking; sockets = sockets }) old.replica (record { talking = new.talking; sockets = sockets }) new.replica
@@ -306,23 +331,19 @@ module _ {S : Type 0} {g : Ghosts S} {K : Type 0} (k : SocketGhosts K) where
   pub goes_answers : (old new : Talks) (sockets : K) (replica replica' : Replica S g) → AnswersClients old replica new replica' → GoesOnServing k (wired_of old sockets) replica (wired_of new sockets) replica'
   goes_answers old new sockets replica replica' p = answers_on (record { talking = talking_of old; replica = replica }) (record { talking = talking_of new; replica = replica' }) sockets p.mids p.steps
 
-  -- a guard of a token, of which there is one
-  pub served_none : (token : Option (List ℕ)) (sockets : K) (replica : Replica S g) → IsServed k token sockets replica sockets replica
-  served_none None sockets replica = served None None no_names (new_talking None no_names) sockets replica sockets replica tt (goes_none (begun None no_names sockets) replica)
-  served_none (Some token) sockets replica =
-      let guard : Guard = record { digest = sha256 token } in
-      served (Some token) (Some guard) no_names (new_talking (Some guard) no_names) sockets replica sockets replica refl (goes_none (begun (Some guard) no_names sockets) replica)
+  pub served_none : (passes : Option (List Pass)) (sockets : K) (replica : Replica S g) → IsServed k passes sockets replica sockets replica
+  served_none passes sockets replica = served passes no_names (new_talking passes no_names) sockets replica sockets replica (goes_none (begun passes no_names sockets) replica)
 
-  pub served_from : (token : Option (List ℕ)) (first last : Talks) (sockets : K) (old : Replica S g) (sockets' : K) (new : Replica S g) → BeginsServing token first
-      → GoesOnServing k (wired_of first sockets) old (wired_of last sockets') new → IsServed k token sockets old sockets' new
-  served_from token first last sockets old sockets' new (guard, names, guarded, is) p =
-      served token guard names (talking_of last) sockets old sockets' new guarded (subst (λ (t : Talking). GoesOnServing k (record { talking = t; sockets = sockets }) old (wired_of last sockets') new) is p)
+  pub served_from : (passes : Option (List Pass)) (first last : Talks) (sockets : K) (old : Replica S g) (sockets' : K) (new : Replica S g) → BeginsServing passes first
+      → GoesOnServing k (wired_of first sockets) old (wired_of last sockets') new → IsServed k passes sockets old sockets' new
+  served_from passes first last sockets old sockets' new (names, is) p =
+      served passes names (talking_of last) sockets old sockets' new (subst (λ (t : Talking). GoesOnServing k (record { talking = t; sockets = sockets }) old (wired_of last sockets') new) is p)
 
   -- and at the end nobody is left but its own
-  pub left_from : (token : Option (List ℕ)) (first last : Talks) (sockets : K) (old : Replica S g) (sockets' : K) (new : Replica S g) → BeginsServing token first
-      → GoesOnServing k (wired_of first sockets) old (wired_of last sockets') new → IsDeserted (talking_of last) → EndsServed k token sockets old sockets' new
+  pub left_from : (passes : Option (List Pass)) (first last : Talks) (sockets : K) (old : Replica S g) (sockets' : K) (new : Replica S g) → BeginsServing passes first
+      → GoesOnServing k (wired_of first sockets) old (wired_of last sockets') new → IsDeserted (talking_of last) → EndsServed k passes sockets old sockets' new
   unfolding served_from served
-  left_from token first last sockets old sockets' new (guard, names, guarded, is) p left = (served_from token first last sockets old sockets' new (guard, names, guarded, is) p, left)
+  left_from passes first last sockets old sockets' new (names, is) p left = (served_from passes first last sockets old sockets' new (names, is) p, left)
 
   -- ---- one after the other
 

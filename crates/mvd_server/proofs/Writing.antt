@@ -10,12 +10,12 @@ use Rattle.mvd_web.specs.Web.{RespondsTo, WebValue}
 use Rattle.mvd_web.specs.declared.taken.Asked.{Asked}
 
 -- a response ends the request that waited
-responded : (o : Option Asked) (old : WebValue) (answer : Answer) (body : List ℕ) (new : WebValue) → RespondsTo o old answer body new → (new.asked ≡ old.asked) ⊎ (new.asked ≡ None)
+pub responded : (o : Option Asked) (old : WebValue) (answer : Answer) (body : List ℕ) (new : WebValue) → RespondsTo o old answer body new → (new.asked ≡ old.asked) ⊎ (new.asked ≡ None)
 responded None old answer body new same = inl (ap (λ (w : WebValue). w.asked) same)
 responded (Some asked) old answer body new (inl is) = inr (ap (λ (w : WebValue). w.asked) is)
 responded (Some asked) old answer body new (inr is) = inr (ap (λ (w : WebValue). w.asked) is)
 
-told_ends : (told : Result Bool Refusal) (old : WebValue) (batch : Batch) (new : WebValue) → TellsAllLines told old batch new → (new.asked ≡ old.asked) ⊎ (new.asked ≡ None)
+pub told_ends : (told : Result Bool Refusal) (old : WebValue) (batch : Batch) (new : WebValue) → TellsAllLines told old batch new → (new.asked ≡ old.asked) ⊎ (new.asked ≡ None)
 told_ends (Ok true) old batch new (all, responds) = responded old.asked old _ _ new responds
 told_ends (Ok false) old batch new same = inl (ap (λ (w : WebValue). w.asked) same)
 told_ends (Err refusal) old batch new stopped = inl (ap (λ (w : WebValue). w.asked) stopped)

@@ -39,5 +39,5 @@ EndsWithRoot site new = (old : Option (List ℕ)) × PrintsRoot site old new
 
 module _ {S : Type 0} {g : Ghosts S} where
   -- it has served, and at the end nobody is left but its own
-  abbrev pub EndsServed : {K : Type 0} → SocketGhosts K → Option (List ℕ) → K → Replica S g → K → Replica S g → Type 0
-  EndsServed k token sockets old sockets' new = (it : IsServed k token sockets old sockets' new) × IsDeserted it.last
+  abbrev pub EndsServed : {K : Type 0} → SocketGhosts K → Option (List Pass) → K → Replica S g → K → Replica S g → Type 0
+  EndsServed k passes sockets old sockets' new = (it : IsServed k passes sockets old sockets' new) × IsDeserted it.last

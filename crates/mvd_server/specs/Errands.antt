@@ -1,14 +1,16 @@
 -- What a server does for a client over HTTP, between two rounds.
-use Rattle.std.specs.Prelude.{◌≡◌, ◌≤◌, ◌⊎◌, ℕ, Bool, true, false, List, [], ◌∷◌, length, Option, Some, None, Result, Ok, OnOk, OnErr, Err, string_bytes}
+use Rattle.std.specs.Prelude.{◌≡◌, ◌≤◌, ◌⊎◌, ℕ, Bool, true, false, IsTrue, is_some, List, [], ◌∷◌, length, Option, Some, None, Result, Ok, OnOk, OnErr, Err, string_bytes}
 use Rattle.std.specs.BTreeMap.{is_at}
 use Rattle.std.specs.Map.{lookup, remove_entry, set_value}
 use Rattle.std.specs.Ordering.{nat_cmp}
-use Rattle.mvd_conn.specs.declared.guard.Guard.{Guard}
+use Rattle.mvd_conn.specs.declared.passes.Pass.{Pass}
+use Rattle.mvd_conn.specs.declared.right.Right.{Right}
 use Rattle.mvd_dots.specs.declared.refusals.Refusal.{Refusal}
 use Rattle.mvd_dots.specs.declared.refusals.Refusal.TheVariants.{Memory}
 use Rattle.mvd_host.specs.AtHand.{AtHandValue, MayWait, TakesFirst, asked_by_one}
 use Rattle.mvd_http.specs.Guard.{Named}
 use Rattle.mvd_http.specs.declared.fields.Content.TheVariants as content
+use Rattle.mvd_http.specs.declared.question.Followed.{Followed}
 use Rattle.mvd_http.specs.declared.question.Question.TheVariants.{Changes, Many}
 use Rattle.mvd_server.specs.Admitted.{Decides}
 use Rattle.mvd_server.specs.Batches.{BeginsBatch}
@@ -25,6 +27,7 @@ use Rattle.mvd_server.specs.declared.gate.Rest.{Rest}
 use Rattle.mvd_server.specs.declared.gate.Rest.TheVariants as rest
 use Rattle.mvd_web.specs.Web.{EndsInput, RespondsTo, TakesRequest, WebValue, stopped_by}
 use Rattle.mvd_web.specs.declared.taken.Asked.{Asked}
+use Rattle.mvd_web.specs.declared.taken.Entry.TheVariants.{Open}
 use Rattle.mvd_wire.specs.declared.reply.Reply.{Reply}
 use Rattle.mvd_wire.specs.declared.request.Request.{Request}
 
@@ -38,7 +41,7 @@ IsToldRest old new left = (new ≡ old) × (left ≡ rest.Nothing)
 abbrev pub TellsOrWaits : Option (List ℕ) → ℕ → WebValue → WebValue → Rest → Type 0
 TellsOrWaits since wait old new left =
     ((left ≡ rest.Nothing) × TellsBody content.Json old new)
-    ⊎ ((root : List ℕ) × (since ≡ Some root) × (left ≡ rest.Waits root wait) × (new ≡ old))
+    ⊎ ((root : List ℕ) × IsTrue (is_some since) × (left ≡ rest.Waits root wait) × (new ≡ old))
 
 -- the request is asked at hand, once; or it is refused, for want of memory, or since it is none that may wait
 abbrev pub AsksAtHand : ℕ → Request → WebValue → AtHandValue → WebValue → AtHandValue → Type 0
@@ -51,8 +54,8 @@ abbrev pub DoesPlan : ℕ → Plan → WebValue → AtHandValue → WebValue →
 DoesPlan n (plan.Ask request) old hand new hand' left = AsksAtHand n request old hand new hand' × (left ≡ rest.Nothing)
 DoesPlan n (plan.Writes batch) old hand new hand' left = (hand' ≡ hand) × (new ≡ old) × (left ≡ rest.Writes batch)
 DoesPlan n (plan.Changes since wait) old hand new hand' left = (hand' ≡ hand) × TellsOrWaits since wait old new left
-DoesPlan n plan.Asks old hand new hand' left =
-    IsToldRest hand hand' left × ((site : SiteValue) × TellsAsks site old.asked old new)
+DoesPlan n (plan.Asks right) old hand new hand' left =
+    IsToldRest hand hand' left × ((site : SiteValue) × TellsAsks right site old.asked old new)
 DoesPlan n plan.Listed old hand new hand' left =
     IsToldRest hand hand' left × ((site : SiteValue) × TellsListed site old.asked old new)
 DoesPlan n (plan.BadLine line) old hand new hand' left = IsToldRest hand hand' left × TellsBadLine line old new
@@ -66,11 +69,11 @@ DoesPlan n plan.NotAdmitted old hand new hand' left =
 DoesPlan n (plan.Refused refusal) old hand new hand' left = IsToldRest hand hand' left × RefusesWeb refusal old new
 
 -- ONE REQUEST is taken of what came, and that is done about it which may be
-pub record AsksOne (guard : Option Guard) (names : Named) (n : ℕ) (old : WebValue) (hand : AtHandValue) (new : WebValue)
+pub record AsksOne (passes : Option (List Pass)) (names : Named) (n : ℕ) (old : WebValue) (hand : AtHandValue) (new : WebValue)
     (hand' : AtHandValue)
     (left : Rest) : Type 0 where
   pub mid : WebValue
-  pub takes : TakesRequest guard names old true mid
+  pub takes : TakesRequest passes names old true mid
   pub asked : Asked
   pub kept : mid.asked ≡ Some asked
   pub plan : Plan
@@ -78,17 +81,17 @@ pub record AsksOne (guard : Option Guard) (names : Named) (n : ℕ) (old : WebVa
   pub does : DoesPlan n plan mid hand new hand' left
 
 -- or there is none
-abbrev pub AsksNextOf : Option Guard → Named → ℕ → WebValue → AtHandValue → WebValue → AtHandValue → Rest → Type 0
-AsksNextOf guard names n old hand new hand' left =
-    (IsToldRest hand hand' left × TakesRequest guard names old false new) ⊎ AsksOne guard names n old hand new hand' left
+abbrev pub AsksNextOf : Option (List Pass) → Named → ℕ → WebValue → AtHandValue → WebValue → AtHandValue → Rest → Type 0
+AsksNextOf passes names n old hand new hand' left =
+    (IsToldRest hand hand' left × TakesRequest passes names old false new) ⊎ AsksOne passes names n old hand new hand' left
 
 -- ---- many writes
 
--- they are those of the request that waits
+-- they are those of the request that waits, as far as its right allows them
 abbrev pub IsBatchFor : Option Asked → Batch → Type 0
 IsBatchFor None batch = ⊥
-IsBatchFor (Some asked) batch =
-    (writes : List (Result Request Refusal)) × (asked.question ≡ Ok (Many writes)) × BeginsBatch writes batch
+IsBatchFor (Some asked) batch = (right : Right) × (asked.entry ≡ Open right)
+    × ((writes : List (Result Request Refusal)) × (asked.question ≡ Ok (Many writes)) × BeginsBatch right writes batch)
 
 -- replies are taken, and once there is a line for each, these are told
 abbrev pub TellsAllLines : Result Bool Refusal → WebValue → Batch → WebValue → Type 0
@@ -125,7 +128,8 @@ TellsClient n old hand new hand' =
 -- the request that waits asks what changed
 abbrev pub AwaitsChange : Option Asked → Type 0
 AwaitsChange None = ⊥
-AwaitsChange (Some asked) = (since : Option (List ℕ)) × (wait : ℕ) × (asked.question ≡ Ok (Changes since wait))
+AwaitsChange (Some asked) =
+    (since : Option (List ℕ)) × (wait : ℕ) × (followed : Followed) × (asked.question ≡ Ok (Changes since wait followed))
 
 -- ---- errands
 
@@ -158,18 +162,18 @@ KeepsWrites n batch old new =
     ⊎ ((new.web.asked ≡ None)
     × (new.batches ≡ remove_entry (is_at (nat_cmp n)) (set_value (is_at (nat_cmp n)) old.batches batch)))
 
-abbrev pub RunsErrand : Errand → Option Guard → Named → ℕ → Desk → Desk → Type 0
-RunsErrand (Asks left) guard names n old new =
-    AsksNextOf guard names n old.web old.hand new.web new.hand left × (new.batches ≡ old.batches)
-RunsErrand (Forgoes batch) guard names n old new =
+abbrev pub RunsErrand : Errand → Option (List Pass) → Named → ℕ → Desk → Desk → Type 0
+RunsErrand (Asks left) passes names n old new =
+    AsksNextOf passes names n old.web old.hand new.web new.hand left × (new.batches ≡ old.batches)
+RunsErrand (Forgoes batch) passes names n old new =
     (IsBatchFor old.web.asked batch × (batch_in old.batches n ≡ None))
     × RefusesWeb Memory old.web new.web × (new ≡ record old { web = new.web })
-RunsErrand Tells guard names n old new = TellsClient n old.web old.hand new.web new.hand × (new.batches ≡ old.batches)
-RunsErrand (TellsMany batch batch') guard names n old new =
+RunsErrand Tells passes names n old new = TellsClient n old.web old.hand new.web new.hand × (new.batches ≡ old.batches)
+RunsErrand (TellsMany batch batch') passes names n old new =
     (batch_in old.batches n ≡ Some batch) × TellsBatch n old.web batch old.hand new.web batch' new.hand
     × KeepsWrites n batch' old new
-RunsErrand TellsChange guard names n old new =
+RunsErrand TellsChange passes names n old new =
     AwaitsChange old.web.asked × TellsBody content.Json old.web new.web × (new ≡ record old { web = new.web })
-RunsErrand Stops guard names n old new =
+RunsErrand Stops passes names n old new =
     (EndsInput old.web new.web ⊎ ((refusal : Refusal) × (new.web ≡ stopped_by old.web refusal)))
     × (new ≡ record old { web = new.web })

@@ -1,11 +1,13 @@
 pub mod Admitted
 pub mod Batches
+pub mod Bounds
 pub mod Closing
 pub mod Dues
 pub mod Errands
 pub mod Guarded
 pub mod HostBytes
 pub mod Lines
+pub mod Listings
 pub mod Looking
 pub mod Moves
 pub mod OwnSides
@@ -16,9 +18,9 @@ pub mod PeerNews
 pub mod Peerings
 pub mod Plans
 pub mod Questions
-pub mod Listings
 pub mod Responding
 pub mod Rounds
 pub mod Since
 pub mod Talking
+pub mod TokenFiles
 pub mod Wires

@@ -1,8 +1,10 @@
 -- What is told of a list of questions: a line for each, of the site's answer to it; and of a list that is none.
-use Rattle.std.specs.Prelude.{◌≡◌, ◌⊎◌, nat_le, ℕ, Bool, true, List, [], ◌∷◌, ◌++◌, length, Option, Some, None, Result, Ok, Err}
+use Rattle.std.specs.Prelude.{◌≡◌, ◌⊎◌, nat_le, if◌then◌else◌, ℕ, Bool, true, false, List, [], ◌∷◌, ◌++◌, length, Option, Some, None, Result, Ok, Err}
+use Rattle.mvd_conn.specs.Rights.{may}
+use Rattle.mvd_conn.specs.declared.right.Right.{Right}
 use Rattle.mvd_dots.specs.declared.refusals.Refusal.{Refusal}
 use Rattle.mvd_dots.specs.declared.refusals.Refusal.TheVariants.{BadKind, Memory}
-use Rattle.mvd_http.specs.Answers.{later_told, line_told}
+use Rattle.mvd_http.specs.Answers.{denied_told, later_told, line_told}
 use Rattle.mvd_http.specs.Json.{bad_line_json, refused_json}
 use Rattle.mvd_http.specs.Seen.{then_read}
 use Rattle.mvd_http.specs.declared.fields.Content.{Content}
@@ -25,22 +27,27 @@ later_or _ _ line = line
 
 -- what a question is told where so many bytes are told already: from 1,048,576 on a state, and the keys of a bucket,
 -- are to be asked again
-abbrev pub ask_line : SiteValue → ℕ → Result Request Refusal → Result (List ℕ) Refusal
-ask_line site told (Err refusal) = Ok (refused_json refusal)
-ask_line site told (Ok request) =
+abbrev pub answer_line : SiteValue → ℕ → Request → Result (List ℕ) Refusal
+answer_line site told request =
     later_or (nat_le 1048576 told) (later_told request) (line_told request (answer_from site.config site.states request))
 
+-- what its right does not allow is not asked
+abbrev pub ask_line : Right → SiteValue → ℕ → Result Request Refusal → Result (List ℕ) Refusal
+ask_line right site told (Err refusal) = Ok (refused_json refusal)
+ask_line right site told (Ok request) =
+    if may right request then answer_line site told request else Ok (denied_told request)
+
 -- behind what is told already a line for each, with its line feed (10), or the first refusal of all
-unfoldable pub asks_text : SiteValue → List ℕ → List (Result Request Refusal) → Result (List ℕ) Refusal
-asks_text site told [] = Ok told
-asks_text site told (ask ∷ asks) =
-    then_read (ask_line site (length told) ask) (λ line. asks_text site ((told ++ line) ++ 10 ∷ []) asks)
+unfoldable pub asks_text : Right → SiteValue → List ℕ → List (Result Request Refusal) → Result (List ℕ) Refusal
+asks_text right site told [] = Ok told
+asks_text right site told (ask ∷ asks) =
+    then_read (ask_line right site (length told) ask) (λ line. asks_text right site ((told ++ line) ++ 10 ∷ []) asks)
 
 -- ---- responses
 
-abbrev pub asks_of : SiteValue → Result Question Refusal → Result (List ℕ) Refusal
-asks_of site (Ok (Asks asks)) = asks_text site [] asks
-asks_of site _ = Err BadKind
+abbrev pub asks_of : Right → SiteValue → Result Question Refusal → Result (List ℕ) Refusal
+asks_of right site (Ok (Asks asks)) = asks_text right site [] asks
+asks_of right site _ = Err BadKind
 
 -- a text of this kind is told, or a refusal in its place
 abbrev pub TellsText : Content → Result (List ℕ) Refusal → WebValue → WebValue → Type 0
@@ -49,9 +56,9 @@ TellsText kind told old new =
     ⊎ ((refusal : Refusal) × RefusesWeb refusal old new)
 
 -- the request that waits is told the lines of its questions
-abbrev pub TellsAsks : SiteValue → Option Asked → WebValue → WebValue → Type 0
-TellsAsks site None old new = new ≡ old
-TellsAsks site (Some asked) old new = TellsText content.Lines (asks_of site asked.question) old new
+abbrev pub TellsAsks : Right → SiteValue → Option Asked → WebValue → WebValue → Type 0
+TellsAsks right site None old new = new ≡ old
+TellsAsks right site (Some asked) old new = TellsText content.Lines (asks_of right site asked.question) old new
 
 -- which line of a list has another form
 abbrev pub TellsBadLine : ℕ → WebValue → WebValue → Type 0

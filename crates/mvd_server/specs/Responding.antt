@@ -8,6 +8,7 @@ use Rattle.mvd_http.specs.declared.fields.Content.TheVariants.{Json, Nothing}
 use Rattle.mvd_http.specs.declared.question.Question.{Question}
 use Rattle.mvd_http.specs.declared.question.Question.TheVariants.{Ask, Live, Misread}
 use Rattle.mvd_server.specs.Plans.{plain_answer}
+pub use Rattle.mvd_server.specs.Plans.{not_admitted}
 use Rattle.mvd_web.specs.Web.{RespondsTo, WebValue, stopped_by}
 use Rattle.mvd_web.specs.declared.taken.Asked.{Asked}
 use Rattle.mvd_wire.specs.declared.reply.Reply.{Reply}
@@ -87,6 +88,3 @@ TellsBody content old new =
 -- a token is asked for
 abbrev pub token_answer : Answer
 token_answer = record { status = 401; content = Json; allow = None; asks_token = true; preflight = None }
-
-abbrev pub not_admitted : List ℕ
-not_admitted = codes "{\"refused\":38,\"name\":\"NotAdmitted\"}"

@@ -1,34 +1,36 @@
 -- What a server does to a stored site.
-use Rattle.std.specs.Prelude.{◌≡◌, ◌<◌, ◌⊎◌, ℕ, true, List, [], ◌∷◌, Option, None}
-use Rattle.mvd_conn.specs.declared.guard.Guard.{Guard}
+use Rattle.std.specs.Prelude.{◌≡◌, ◌≤◌, ◌<◌, ◌⊎◌, ⊤, ℕ, true, List, [], ◌∷◌, Option, None, Some}
+use Rattle.std.specs.List.{AllByRecursion, Contains}
+use Rattle.mvd_conn.specs.declared.passes.Pass.{Pass}
 use Rattle.mvd_conn.specs.History.{History, is_done}
 use Rattle.mvd_host.specs.AtHand.{AtHandValue, first_at_hand, none_at_hand}
 use Rattle.mvd_host.specs.Course.{own}
 use Rattle.mvd_host.specs.Hosts.{HostValue, IsClient, client_of, new_host}
 use Rattle.mvd_host.specs.Round.{Round, Side, host_side}
-use Rattle.mvd_host.specs.Runs.{Happening, HasShown, HostMoment, OneList, Runs, TellsOwn, after_run, turns_in}
+use Rattle.mvd_host.specs.Runs.{Happening, HostMoment, IsHelloOf, OneList, Runs, TellsOwn, after_run, turns_in}
+use Rattle.mvd_host.specs.Within.{AreWithin, IsWithin}
 use Rattle.mvd_http.specs.Guard.{Named}
 use Rattle.mvd_replica.specs.Replicas.{conn_of, site_of}
 use Rattle.mvd_replica.specs.Turns.{Turn}
 use Rattle.mvd_replica.specs.declared.replica.Replica.{Replica}
-use Rattle.mvd_server.specs.Guarded.{IsGuardOf}
+use Rattle.mvd_server.specs.Guarded.{IsKnownNow}
 use Rattle.mvd_server.specs.Paths.{Path}
 use Rattle.mvd_server.specs.Talking.{Deeds, IsMadeFor, Talking, new_talking, talking_of}
 use Rattle.mvd_server.specs.Wires.{Wired, WiredStep}
 use Rattle.mvd_server.specs.declared.sockets.Sockets.{Ghosts as SocketGhosts}
 use Rattle.mvd_server.specs.declared.talks.Talks.{Talks}
+use Rattle.mvd_wire.specs.declared.request.Request.{Request}
 use Rattle.mvd_site.specs.Sites.{SiteValue}
 use Rattle.sqlite.specs.Held.{Held, state}
 use Rattle.sqlite.specs.State.{State}
 use Rattle.sqlite_trees.specs.declared.store.Store.{Ghosts}
 
 -- a server without clients
-abbrev pub begun : {K : Type 0} → Option Guard → Named → K → Wired K
-begun guard names sockets = record { talking = new_talking guard names; sockets = sockets }
+abbrev pub begun : {K : Type 0} → Option (List Pass) → Named → K → Wired K
+begun passes names sockets = record { talking = new_talking passes names; sockets = sockets }
 
-abbrev pub BeginsServing : Option (List ℕ) → Talks → Type 0
-BeginsServing token talks =
-    (guard : Option Guard) × (names : Named) × IsGuardOf token guard × (talking_of talks ≡ new_talking guard names)
+abbrev pub BeginsServing : Option (List Pass) → Talks → Type 0
+BeginsServing passes talks = (names : Named) × (talking_of talks ≡ new_talking passes names)
 
 -- the clients of a server, with their sockets, and the replica that answers them
 pub record World (K C : Type 0) : Type 0 where
@@ -62,6 +64,43 @@ abbrev pub WasThere : {K C : Type 0} → ℕ → (History → Type 0) → List (
 WasThere n P [] = ⊥
 WasThere n P (w ∷ ws) = IsClient (client_of (host_in w) n) P ⊎ WasThere n P ws
 
+-- ---- rights
+
+-- a client of frames may have a turn: what it has shown is known at this moment
+abbrev pub MayTurn : Talking → ℕ → Type 0
+MayTurn t n = IsClient (client_of t.host n) (λ h. IsKnownNow t.passes h.guard)
+
+-- each client that has turns may have them
+abbrev pub MayAllTurn : Talking → List (ℕ × Turn) → Type 0
+MayAllTurn t turns = (n : ℕ) → n < first_at_hand → (own n turns ≡ []) ⊎ MayTurn t n
+
+-- at one of these moments this pass was known
+abbrev pub KnowsPass : Option (List Pass) → Pass → Type 0
+KnowsPass None pass = ⊥
+KnowsPass (Some passes) pass = Contains passes pass
+
+abbrev pub WasKnownIn : {K C : Type 0} → Pass → List (World K C) → Type 0
+WasKnownIn pass [] = ⊥
+WasKnownIn pass (w ∷ ws) = KnowsPass w.wired.talking.passes pass ⊎ WasKnownIn pass ws
+
+-- or at first
+abbrev pub WasKnown : {K C : Type 0} → Option (List Pass) → List (World K C) → Pass → Type 0
+WasKnown first ws pass = KnowsPass first pass ⊎ WasKnownIn pass ws
+
+-- EACH TURN OF A CLIENT IS ONE THAT ITS RIGHT ALLOWS, and with a prefix no reply depends on keys beyond it. Where tokens
+-- are asked for, the first turn of a client of frames is a Hello with the token of a pass that was known, and each is within
+-- the right of that pass
+abbrev pub IsLetIn : (Pass → Type 0) → Option (List Pass) → List Turn → Type 0
+IsLetIn Known None turns = ⊤
+IsLetIn Known (Some passes) [] = ⊤
+IsLetIn Known (Some passes) (turn ∷ turns) =
+    (pass : Pass) × Known pass × IsHelloOf pass turn.asked × AreWithin pass.right (turn ∷ turns)
+
+-- over HTTP each by itself: it is within the right of a pass that was known
+abbrev pub IsAllowed : (Pass → Type 0) → Option (List Pass) → Request → Type 0
+IsAllowed Known None request = ⊤
+IsAllowed Known (Some passes) request = (pass : Pass) × Known pass × IsWithin pass.right request
+
 module _ {K C : Type 0} (f : C → State) (k : SocketGhosts K) where
   -- what a server does beside a round changes no site
   pub record Between (old new : World K C) : Type 0 where
@@ -74,6 +113,7 @@ module _ {K C : Type 0} (f : C → State) (k : SocketGhosts K) where
     pub ready : List ℕ
     pub turns : List (ℕ × Turn)
     pub round : Round ready turns (side_in f old) (side_in f new)
+    pub known : MayAllTurn old.wired.talking turns
     pub wired : new.wired ≡ record (old.wired) { talking = with_round old.wired.talking (host_in new) (hand_in new) }
 
   abbrev pub ServeStep : World K C → World K C → Type 0
@@ -94,6 +134,7 @@ module _ {S : Type 0} {g : Ghosts S} where
     pub ready : List ℕ
     pub turns : List (ℕ × Turn)
     pub round : Round ready turns (host_side before.host before.hand replica) (host_side host hand replica')
+    pub known : MayAllTurn before turns
     pub last : Deeds (with_round before host hand) new
 
   -- rounds, with deeds between them
@@ -117,24 +158,25 @@ module _ {S : Type 0} {g : Ghosts S} where
 
   -- From a new host on: what happened to the host, as one list. Its turns are all that was done to the replica, and
   -- those of each client are what that asked and was told
-  pub record IsServed {K : Type 0} (k : SocketGhosts K) (token : Option (List ℕ)) (sockets : K) (old : Replica S g)
+  pub record IsServed {K : Type 0} (k : SocketGhosts K) (passes : Option (List Pass)) (sockets : K) (old : Replica S g)
       (sockets' : K)
       (new : Replica S g) : Type 0 where
-    pub guard : Option Guard
-    pub guarded : IsGuardOf token guard
     pub names : Named
     pub last : Talking
-    pub goes : GoesOnServing k (begun guard names sockets) old (record { talking = last; sockets = sockets' }) new
+    pub goes : GoesOnServing k (begun passes names sockets) old (record { talking = last; sockets = sockets' }) new
     pub all : List (Happening (Held S))
-    pub runs : Runs (state g) (moment_of (world_of (begun guard names sockets) old)) all
-    pub ends : after_run (moment_of (world_of (begun guard names sockets) old)) all
+    pub runs : Runs (state g) (moment_of (world_of (begun passes names sockets) old)) all
+    pub ends : after_run (moment_of (world_of (begun passes names sockets) old)) all
         ≡ moment_of (world_of (record { talking = last; sockets = sockets' }) new)
     pub list : OneList (turns_in all) (host_side new_host none_at_hand old) (host_side last.host last.hand new)
     -- also of a client of frames that has gone: its own turns are what it asked and was told
     pub told : (n : ℕ) → n < first_at_hand
         → (own n (turns_in all) ≡ []) ⊎ WasThere n (TellsOwn (own n (turns_in all))) goes.mids
-    -- one of frames has no turn before it has shown the token
-    pub shown : (n : ℕ) → n < first_at_hand → HasShown guard (own n (turns_in all)) ⊎ WasMadeFor n goes.mids
+    -- each turn of one of frames is one that its right allows, and so is all that is asked over HTTP
+    pub rights : (n : ℕ) → n < first_at_hand
+        → IsLetIn (WasKnown passes goes.mids) passes (own n (turns_in all)) ⊎ WasMadeFor n goes.mids
+    pub web_rights : (n : ℕ) → first_at_hand ≤ n
+        → AllByRecursion (IsAllowed (WasKnown passes goes.mids) passes) (own n last.hand.done)
     -- one of frames that was told anything has gone only after all of it had left, or its connection broke
     pub parted : (n : ℕ) → n < first_at_hand → client_of last.host n ≡ None
         → (own n (turns_in all) ≡ []) ⊎ (WasThere n (λ h. is_done h ≡ true) goes.mids ⊎ WasMadeFor n goes.mids)

@@ -1,17 +1,19 @@
 -- The clients of a server, and what it does with them between two rounds.
-use Rattle.std.specs.Prelude.{◌≡◌, ◌⊎◌, ◌+◌, ◌==◌, ℕ, Bool, true, false, not, List, [], ◌∷◌, ◌++◌, Option, None, Some, ⊤}
+use Rattle.std.specs.Prelude.{◌≡◌, ◌⊎◌, ◌+◌, ◌==◌, ℕ, Bool, true, false, not, List, [], ◌∷◌, ◌++◌, is_some, Option, None, Some, ⊤}
 use Rattle.std.specs.BTreeMap.{insert_entry, is_at}
 use Rattle.std.specs.List.{filter, list_any}
 use Rattle.std.specs.Map.{lookup, remove_entry, set_value}
 use Rattle.std.specs.Ordering.{nat_cmp}
 use Rattle.mvd_conn.specs.History.{History, is_done}
 use Rattle.mvd_conn.specs.declared.guard.Guard.{Guard}
+use Rattle.mvd_conn.specs.declared.passes.Pass.{Pass}
 use Rattle.mvd_dots.specs.declared.refusals.Refusal.TheVariants.{Memory}
 use Rattle.mvd_host.specs.AtHand.{AtHandValue, TakesFirst, first_at_hand, none_at_hand}
 use Rattle.mvd_host.specs.Hosts.{AdmitsOne, ClientLeaves, HostValue, IsClient, altered, client_of, new_host}
-use Rattle.mvd_host.specs.Runs.{Call, Closes, Cuts, Feeds, Releases, Sends, after_call}
+use Rattle.mvd_host.specs.Runs.{Call, Closes, Cuts, Feeds, Meets, Releases, Sends, after_call}
 use Rattle.mvd_http.specs.Guard.{Named, named_by}
 use Rattle.mvd_server.specs.Batches.{HandsBatch}
+use Rattle.mvd_server.specs.Guarded.{first_guard}
 use Rattle.mvd_server.specs.Errands.{AwaitsChange, Errand, IsBatchFor, RunsErrand, batch_in, desk}
 use Rattle.mvd_server.specs.Paths.{Path}
 use Rattle.mvd_server.specs.Responding.{RefusesWeb}
@@ -24,11 +26,11 @@ use Rattle.mvd_web.specs.Web.{IsNew, IsOver}
 use Rattle.mvd_web.specs.declared.web_connection.WebConnection.{WebConnection}
 use Rattle.mvd_wire.specs.declared.reply.Reply.{Reply}
 
--- who may come in, by which names and of which pages; the host, with the connections of frames; what those over HTTP
+-- the passes of those who may come in, if not everybody; by which names it is asked, and of which pages; the host, with the connections of frames; what those over HTTP
 -- ask and are told; their connections, and the number of the next one; the writes of those of whose request some are not
 -- answered; and the numbers of the server's own, for its sessions
 pub record Talking : Type 0 where
-  pub guard : Option Guard
+  pub passes : Option (List Pass)
   pub names : Named
   pub host : HostValue
   pub hand : AtHandValue
@@ -39,7 +41,7 @@ pub record Talking : Type 0 where
 
 abbrev pub talking_of : Talks → Talking
 talking_of t = record {
-  guard = t.guard;
+  passes = t.passes;
   names = named_by t.names;
   host = t.host;
   hand = t.hand;
@@ -49,9 +51,9 @@ talking_of t = record {
   own = t.own.items;
 }
 
-abbrev pub new_talking : Option Guard → Named → Talking
-new_talking guard names = record {
-  guard = guard;
+abbrev pub new_talking : Option (List Pass) → Named → Talking
+new_talking passes names = record {
+  passes = passes;
   names = names;
   host = new_host;
   hand = none_at_hand;
@@ -123,17 +125,19 @@ HasNothingLeft own (Some web) client = IsOver (web_of web) ⊎ IsNew (web_of web
 abbrev pub MayPart : ℕ → Talking → Type 0
 MayPart n t = HasNothingLeft (is_own_client t n) (web_in t n) (client_of t.host n)
 
--- but by its socket no byte comes of a client that is not the server's own, and none leaves
+-- but by its socket no byte comes of a client that is not the server's own, and none leaves; and it meets the passes that
+-- are known
 abbrev pub MayCall : Talking → ℕ → Call → Type 0
 MayCall t n (Feeds bytes) = is_own_client t n ≡ true
 MayCall t n (Sends count) = is_own_client t n ≡ true
+MayCall t n (Meets passes) = t.passes ≡ Some passes
 MayCall t n Releases = ⊤
 MayCall t n (Closes source) = ⊤
 MayCall t n Cuts = ⊤
 
 -- A client of frames comes, one over HTTP, or one of the server's own; one comes and goes at once; one goes, or one of
 -- the server's own; there is a call on the connection of one, or an errand for one over HTTP; its many writes begin, or
--- are asked; or a reply is dropped whose client has gone
+-- are asked; or a reply is dropped whose client has gone. Or other passes are known from now on
 pub data Act : Type 0 where
   Comes : ℕ → Act
   ComesByWeb : ℕ → WebConnection → Act
@@ -146,10 +150,11 @@ pub data Act : Type 0 where
   Begins : ℕ → Batch → Act
   Hands : ℕ → Batch → Batch → Act
   Drops : ℕ → Reply → Act
+  Rotates : List Pass → Act
 
--- a client of frames has to show the token in its first frame; over HTTP each request has to
+-- a client of frames has to show a token in its first frame; over HTTP each request has to
 abbrev pub DoesAct : Act → Talking → Talking → Type 0
-DoesAct (Comes n) old new = AdmitsOne old.guard old.host new.host n × (new ≡ with_host old new.host)
+DoesAct (Comes n) old new = AdmitsOne (first_guard old.passes) old.host new.host n × (new ≡ with_host old new.host)
 DoesAct (ComesByWeb n web) old new =
     (n ≡ old.next) × IsNew (web_of web)
     × (new ≡ record old { webs = insert_entry nat_cmp old.webs n web; next = old.next + 1 })
@@ -171,7 +176,7 @@ DoesAct (GoesOwn n) old new =
 DoesAct (Calls n call) old new = MayCall old n call × (new ≡ with_host old (altered old.host n (after_call call)))
 DoesAct (Attends n web web' errand) old new =
     (web_in old n ≡ Some web)
-    × RunsErrand errand old.guard old.names n (desk old.hand (web_of web) old.batches)
+    × RunsErrand errand old.passes old.names n (desk old.hand (web_of web) old.batches)
     (desk new.hand (web_of web') new.batches)
     × (new ≡ record (with_web old n web') { hand = new.hand; batches = new.batches })
 DoesAct (Begins n batch) old new =
@@ -180,6 +185,7 @@ DoesAct (Hands n batch batch') old new =
     (batch_in old.batches n ≡ Some batch) × HandsBatch n batch old.hand batch' new.hand
     × (new ≡ record old { hand = new.hand; batches = set_value (is_at (nat_cmp n)) old.batches batch' })
 DoesAct (Drops n reply) old new = (web_in old n ≡ None) × TakesReply n reply old new
+DoesAct (Rotates passes) old new = (is_some old.passes ≡ true) × (new ≡ record old { passes = Some passes })
 
 abbrev pub Deed : Talking → Talking → Type 0
 Deed old new = (act : Act) × DoesAct act old new

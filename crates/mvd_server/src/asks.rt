@@ -8,8 +8,11 @@ ghost use Rattle.mvd_web.specs.Inside.{web_of};
 use crate::metrics::Counts;
 use crate::responding::{answer_of, refuse, respond};
 use http::StatusCode;
+use mvd_conn::Right;
 use mvd_dots::Refusal;
-use mvd_http::{Content, Question, push_bad_line, push_later, push_refused, push_told};
+use mvd_http::{
+    Content, Question, push_bad_line, push_denied, push_later, push_refused, push_told,
+};
 use mvd_replica::Replica;
 use mvd_site::{Prepared, Site};
 use mvd_web::WebConnection;
@@ -20,18 +23,19 @@ use std::alloc::{AllocError, Global};
 /// So many bytes of lines are told; then states, and the keys of buckets, are to be asked again.
 const TOLD_MAX: usize = 1_048_576;
 
-/// Tells the request that waits a line for each of its questions.
+/// Tells the request that waits a line for each of its questions, as far as a right allows them.
 pub(crate) fn tell_asks<S: Alter + Drop>(
     alloc: Global,
+    right: Right,
     web: &mut WebConnection,
     replica: &Replica<S>,
     counts: &mut Counts,
 )
-    ensures { TellsAsks (site_of replica.now) (web_of web.old).asked (web_of web.old) (web_of web.new) }
+    ensures { TellsAsks right (site_of replica.now) (web_of web.old).asked (web_of web.old) (web_of web.new) }
 {
     let mut lines = String::new(alloc);
     let pushed = match web.asked() {
-        Some(asked) => push_asked(alloc, replica.site(), &asked.question, &mut lines),
+        Some(asked) => push_asked(alloc, &right, replica.site(), &asked.question, &mut lines),
         None => return,
     };
     match pushed {
@@ -59,29 +63,31 @@ pub(crate) fn tell_bad_line(alloc: Global, web: &mut WebConnection, line: u64, c
 
 fn push_asked(
     alloc: Global,
+    right: &Right,
     site: &Site,
     question: &Result<Question, Refusal>,
     out: &mut String,
 ) -> Result<(), Refusal>
     requires { string_bytes out.old ≡ [] }
-    ensures { OnOk result (asks_of site.now question.now ≡ Ok (string_bytes out.new)) }
+    ensures { OnOk result (asks_of right.now site.now question.now ≡ Ok (string_bytes out.new)) }
 {
     match question {
-        Ok(Question::Asks(asks)) => push_asks(alloc, site, asks.as_slice(), out),
+        Ok(Question::Asks(asks)) => push_asks(alloc, right, site, asks.as_slice(), out),
         _ => Err(Refusal::BadKind),
     }
 }
 
 fn push_asks(
     alloc: Global,
+    right: &Right,
     site: &Site,
     asks: &[Result<Request, Refusal>],
     out: &mut String,
 ) -> Result<(), Refusal>
-    ensures { OnOk result (asks_text site.now (string_bytes out.old) asks.now ≡ Ok (string_bytes out.new)) }
+    ensures { OnOk result (asks_text right.now site.now (string_bytes out.old) asks.now ≡ Ok (string_bytes out.new)) }
 {
     for ask in asks {
-        push_ask(alloc, site, ask, out)?;
+        push_ask(alloc, right, site, ask, out)?;
         push_line_end(out)?;
     }
     Ok(())
@@ -96,14 +102,16 @@ fn push_line_end(out: &mut String) -> Result<(), AllocError>
 /// Puts the line of a question behind what was told.
 fn push_ask(
     alloc: Global,
+    right: &Right,
     site: &Site,
     ask: &Result<Request, Refusal>,
     out: &mut String,
 ) -> Result<(), Refusal>
-    ensures { OnOk result ((line : List ℕ) × (ask_line site.now (length (string_bytes out.old)) ask.now ≡ Ok line)
+    ensures { OnOk result ((line : List ℕ) × (ask_line right.now site.now (length (string_bytes out.old)) ask.now ≡ Ok line)
         × (string_bytes out.new ≡ string_bytes out.old ++ line)) }
 {
     match ask {
+        Ok(request) if !right.allows(request) => push_denied(alloc, request, out),
         Ok(request) => {
             if out.as_str().len() >= TOLD_MAX && push_later(alloc, request, out)? {
                 return Ok(());

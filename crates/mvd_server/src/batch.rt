@@ -6,6 +6,7 @@ ghost use Rattle.mvd_server.specs.Errands.{IsUntold, TakesIf};
 ghost use Rattle.mvd_server.specs.Lines.{IsOnlyTold, TellsEachLine};
 
 use crate::copying::copy_request;
+use mvd_conn::Right;
 use mvd_dots::Refusal;
 use mvd_host::AtHand;
 use mvd_http::{LINE_ROOM, push_line};
@@ -26,15 +27,19 @@ pub(crate) struct Batch {
 }
 
 impl Batch {
-    /// Each write, or why it is refused at once.
-    pub fn new(alloc: Global, writes: &[Result<Request, Refusal>]) -> Result<Batch, Refusal>
-        ensures begins { IfOk result (BeginsBatch writes.now) }
+    /// Each write that a right allows, or why it is refused at once.
+    pub fn new(
+        alloc: Global,
+        right: Right,
+        writes: &[Result<Request, Refusal>],
+    ) -> Result<Batch, Refusal>
+        ensures begins { IfOk result (BeginsBatch right writes.now) }
         ensures memory { IfErr result (λ refusal. refusal ≡ Refusal.Memory) }
     {
         let mut requests = Vec::new(alloc);
         let mut refused = Vec::with_capacity(alloc, writes.len())?;
         for write in writes {
-            refused.push(add_request(alloc, write, &mut requests)?)?;
+            refused.push(add_request(alloc, &right, write, &mut requests)?)?;
         }
         let lines = String::with_capacity(alloc, writes.len().saturating_mul(LINE_ROOM))?;
         Ok(Batch {
@@ -140,17 +145,21 @@ impl Batch {
 /// Puts what a write asks behind the others. It gives why it asks nothing.
 fn add_request(
     alloc: Global,
+    right: &Right,
     write: &Result<Request, Refusal>,
     requests: &mut Vec<Request>,
 ) -> Result<Option<Refusal>, Refusal>
-    ensures refused { IfOk result (λ refused. refused ≡ refused_if write.now) }
-    ensures asked { OnOk result (requests.new.items ≡ requests.old.items ++ asked_if write.now) }
+    ensures refused { IfOk result (λ refused. refused ≡ refused_if right.now write.now) }
+    ensures asked { OnOk result (requests.new.items ≡ requests.old.items ++ asked_if right.now write.now) }
     ensures memory { IfErr result (λ refusal. refusal ≡ Refusal.Memory) }
 {
     let request = match write {
         Ok(request) => request,
         Err(refusal) => return Ok(Some(*refusal)),
     };
+    if !right.allows(request) {
+        return Ok(Some(Refusal::NotAdmitted));
+    }
     match copy_request(alloc, request) {
         Ok(copy) => {
             requests.push(copy)?;

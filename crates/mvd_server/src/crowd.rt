@@ -1,10 +1,11 @@
 //! The clients: their sockets, and their connections.
 mod admitting;
 
-ghost use Rattle.std.specs.Prelude.{◌≡◌, IfOk, IsTrue, option_copied};
+ghost use Rattle.std.specs.Prelude.{◌≡◌, IfOk, IsTrue};
 ghost use Rattle.mvd_server.specs.Closing.{IsDeserted};
 ghost use Rattle.mvd_server.specs.Rounds.{BeginsServing, HasRound};
 ghost use Rattle.mvd_server.specs.Talking.{MayPart, TalksDeeds, talking_of};
+ghost use Rattle.mvd_server.specs.TokenFiles.{passes_asked};
 ghost use Rattle.mvd_server.specs.Wires.{Carries, wired_of};
 
 use crate::client::{Client, PIECE, Piece, Stage};
@@ -67,16 +68,17 @@ impl Crowd {
         terms: Terms<'_>,
         start: Instant,
     ) -> Result<Crowd, AllocError>
-        ensures { IfOk result (λ crowd. BeginsServing (option_copied terms.entry.token) crowd.talks) }
+        ensures { IfOk result (λ crowd. BeginsServing (passes_asked terms.entry) crowd.talks) }
     {
         let piece = Piece::new(alloc)?;
         let told = String::with_capacity(alloc, PIECE)?;
         let peers = Peers::counts(alloc, terms)?;
         let names = terms.names(alloc)?;
+        let passes = terms.passes(alloc)?;
         let talks = Talks::new(
             alloc,
             keys,
-            terms.guard(),
+            passes,
             names,
             terms.peers.len(),
             terms.waits_max(),

@@ -1,34 +1,34 @@
 //! From a request of HTTP to what is asked of the site, and from the reply to the response.
 ghost use Rattle.std.specs.Prelude.{ℕ, option_copied};
-ghost use Rattle.mvd_http.specs.declared.fields.Content.TheVariants.{Json, Plain};
+ghost use Rattle.mvd_http.specs.declared.fields.Content.TheVariants.{Json};
 ghost use Rattle.mvd_http.specs.Guard.{named_by};
 ghost use Rattle.mvd_server.specs.Admitted.{Decides};
 ghost use Rattle.mvd_host.specs.AtHand.{AtHandValue};
 ghost use Rattle.mvd_server.specs.Errands.{AsksAtHand, AsksNextOf, DoesPlan, TakesIf, TellsBatch, TellsOrWaits};
-ghost use Rattle.mvd_server.specs.Plans.{IsPlanFor, TellsFault, TellsMethods};
+ghost use Rattle.mvd_server.specs.Plans.{IsFreePlan, IsPlanFor, IsPlanIf, TellsFault, TellsMethods};
 ghost use Rattle.mvd_server.specs.Responding.{TellsBody, not_admitted, token_answer};
 ghost use Rattle.mvd_web.specs.Inside.{web_of};
+ghost use Rattle.mvd_web.specs.Rights.{may_ask};
 ghost use Rattle.mvd_web.specs.Web.{RespondsTo};
 
 use crate::asks::{tell_asks, tell_bad_line};
+use crate::at_once::{tell_health, tell_metrics, tell_root};
 use crate::batch::Batch;
-use crate::changes::push_since;
+use crate::changes::{followed_by, push_since, root_to_wait_from};
 use crate::copying::copy_request;
 use crate::listings::tell_listed;
-use crate::metrics::{Counts, Now};
+use crate::metrics::Counts;
 use crate::responding::{answer_of, refuse, respond, tell_pushed};
 use http::StatusCode;
-use mvd_conn::Guard;
+use mvd_conn::{Passes, Right};
 use mvd_dots::Refusal;
 use mvd_host::{AtHand, Feed};
-use mvd_http::{Answer, Content, Fault, Methods, Names, PAGE, Question, push_root};
+use mvd_http::{Answer, Content, Fault, Methods, Names, PAGE, Question};
 use mvd_replica::Replica;
-use mvd_web::{Asked, Entry, WebConnection};
+use mvd_web::{Asked, Entry, WebConnection, may_ask};
 use mvd_wire::{Reply, Request};
 use sqlite::Alter;
 use std::alloc::Global;
-
-const READY: &str = "{\"ready\":true}";
 
 const NOT_ADMITTED: &str = "{\"refused\":38,\"name\":\"NotAdmitted\"}";
 
@@ -39,8 +39,8 @@ enum Plan {
     Ask(Request),
     /// These writes are.
     Writes(Batch),
-    /// Its questions are answered at once, in lines.
-    Asks,
+    /// Its questions are answered at once, in lines, as far as a right allows them.
+    Asks(Right),
     /// Its page is told at once.
     Listed,
     /// Its line of this number is told to have another form.
@@ -74,10 +74,11 @@ fn plan_of(alloc: Global, asked: &Asked) -> Plan
     ensures { Decides asked.now.entry asked.now.question result }
 {
     match asked.entry {
-        Entry::Open => match &asked.question {
-            Ok(question) => plan_for(alloc, question),
+        Entry::Open(right) => match &asked.question {
+            Ok(question) => plan_if(alloc, right, question),
             Err(refusal) => Plan::Refused(*refusal),
         },
+        Entry::Free => plan_free(&asked.question),
         Entry::HostMissing => fault(Fault::HostMissing, None),
         Entry::Stranger(cause) => fault(cause, None),
         Entry::Conditional => fault(Fault::PreconditionFailed, None),
@@ -86,23 +87,48 @@ fn plan_of(alloc: Global, asked: &Asked) -> Plan
     }
 }
 
-/// What is done about a question of whoever may ask.
-fn plan_for(alloc: Global, question: &Question) -> Plan
-    ensures { IsPlanFor question.now result }
+/// What is done about a question of whoever shows no token.
+fn plan_free(question: &Result<Question, Refusal>) -> Plan
+    ensures { IsFreePlan question.now result }
+{
+    match question {
+        Ok(Question::Page) => Plan::Told(answer_of(StatusCode::OK, Content::Html), PAGE),
+        Ok(Question::Health) => Plan::Health,
+        Ok(Question::TooLong) => fault(Fault::ContentTooLarge, None),
+        _ => Plan::NotAdmitted,
+    }
+}
+
+/// What is done about a question: nothing, where its right does not allow it.
+fn plan_if(alloc: Global, right: Right, question: &Question) -> Plan
+    ensures { IsPlanIf (may_ask right question.now) right question.now result }
+{
+    if may_ask(&right, question) {
+        return plan_for(alloc, right, question);
+    }
+    Plan::Told(
+        answer_of(StatusCode::FORBIDDEN, Content::Json),
+        NOT_ADMITTED,
+    )
+}
+
+/// What is done about a question of whoever may ask it.
+fn plan_for(alloc: Global, right: Right, question: &Question) -> Plan
+    ensures { IsPlanFor right question.now result }
 {
     match question {
         Question::Ask(request) | Question::Live(request) => match copy_request(alloc, request) {
             Ok(request) => Plan::Ask(request),
             Err(refusal) => Plan::Refused(refusal),
         },
-        Question::Many(writes) => match Batch::new(alloc, writes.as_slice()) {
+        Question::Many(writes) => match Batch::new(alloc, right, writes.as_slice()) {
             Ok(batch) => Plan::Writes(batch),
             Err(refusal) => Plan::Refused(refusal),
         },
-        Question::Asks(_) => Plan::Asks,
+        Question::Asks(_) => Plan::Asks(right),
         Question::Listed(..) => Plan::Listed,
         Question::BadLine(line) => Plan::BadLine(*line),
-        Question::Changes(since, wait) => Plan::Changes(*since, *wait),
+        Question::Changes(since, wait, _) => Plan::Changes(*since, *wait),
         Question::Page => Plan::Told(answer_of(StatusCode::OK, Content::Html), PAGE),
         Question::Root => Plan::Root,
         Question::Metrics => Plan::Metrics,
@@ -145,7 +171,7 @@ fn fault(cause: Fault, allow: Option<Methods>) -> Plan
 /// next round, and others are answered at once, or it is told what is left to do.
 pub(crate) fn ask<S: Alter + Drop>(
     alloc: Global,
-    guard: Option<&Guard>,
+    passes: Option<&Passes>,
     names: &Names,
     hand: &mut AtHand,
     web: &mut WebConnection,
@@ -154,10 +180,10 @@ pub(crate) fn ask<S: Alter + Drop>(
     changes: &Feed,
     counts: &mut Counts,
 ) -> Rest
-    ensures { AsksNextOf (option_copied guard.entry) (named_by names.now) number
+    ensures { AsksNextOf (option_copied passes.entry) (named_by names.now) number
         (web_of web.old) hand.old (web_of web.new) hand.new result }
 {
-    if !web.next(guard, names) {
+    if !web.next(passes, names) {
         return Rest::Nothing;
     }
     let plan = match web.asked() {
@@ -189,8 +215,8 @@ fn carry_out<S: Alter + Drop>(
         Plan::Changes(since, wait) => {
             wait_or_tell(alloc, web, replica, changes, since, wait, counts)
         }
-        Plan::Asks => {
-            tell_asks(alloc, web, replica, counts);
+        Plan::Asks(right) => {
+            tell_asks(alloc, right, web, replica, counts);
             Rest::Nothing
         }
         Plan::Listed => {
@@ -256,13 +282,11 @@ fn wait_or_tell<S: Alter + Drop>(
 ) -> Rest
     ensures { TellsOrWaits since wait (web_of web.old) (web_of web.new) result }
 {
-    if let Some(root) = since
-        && wait > 0
-        && changes.root() == since
-    {
-        return Rest::Waits(root, wait);
+    match root_to_wait_from(web.asked(), changes, since, wait) {
+        Ok(Some(root)) => return Rest::Waits(root, wait),
+        Ok(None) => tell_changes(alloc, web, replica, changes, since, counts),
+        Err(refusal) => refuse(alloc, web, counts, refusal),
     }
-    tell_changes(alloc, web, replica, changes, since, counts);
     Rest::Nothing
 }
 
@@ -277,39 +301,8 @@ fn ask_token(web: &mut WebConnection, counts: &mut Counts)
     respond(web, counts, answer, NOT_ADMITTED);
 }
 
-fn tell_root<S: Alter + Drop>(
-    alloc: Global,
-    web: &mut WebConnection,
-    replica: &Replica<S>,
-    counts: &mut Counts,
-)
-    ensures { TellsBody Json (web_of web.old) (web_of web.new) }
-{
-    let mut body = String::new(alloc);
-    let pushed = push_root_of(alloc, replica, &mut body);
-    tell_pushed(alloc, web, pushed, body.as_str(), counts);
-}
-
-fn push_root_of<S: Alter + Drop>(
-    alloc: Global,
-    replica: &Replica<S>,
-    body: &mut String,
-) -> Result<(), Refusal> {
-    let digest = replica.root()?;
-    let keys = u64::from(replica.key_count());
-    let conflicts = u64::from(replica.conflict_count());
-    push_root(
-        alloc,
-        body,
-        digest,
-        keys,
-        conflicts,
-        replica.config().site(),
-    )
-}
-
 /// Tells what changed since a root.
-pub(crate) fn tell_changes<S: Alter + Drop>(
+fn tell_changes<S: Alter + Drop>(
     alloc: Global,
     web: &mut WebConnection,
     replica: &Replica<S>,
@@ -320,52 +313,11 @@ pub(crate) fn tell_changes<S: Alter + Drop>(
     ensures { TellsBody Json (web_of web.old) (web_of web.new) }
 {
     let mut body = String::new(alloc);
-    let pushed = push_since(alloc, changes, replica, since, &mut body);
-    tell_pushed(alloc, web, pushed, body.as_str(), counts);
-}
-
-/// Tells that the server can answer, unless its site is broken.
-fn tell_health<S: Alter + Drop>(
-    alloc: Global,
-    web: &mut WebConnection,
-    replica: &Replica<S>,
-    counts: &mut Counts,
-)
-    ensures { TellsBody Json (web_of web.old) (web_of web.new) }
-{
-    match replica.root() {
-        Ok(_) => respond(web, counts, answer_of(StatusCode::OK, Content::Json), READY),
-        Err(refusal) => refuse(alloc, web, counts, refusal),
-    }
-}
-
-fn tell_metrics<S: Alter + Drop>(
-    alloc: Global,
-    web: &mut WebConnection,
-    replica: &Replica<S>,
-    counts: &mut Counts,
-)
-    ensures { TellsBody Plain (web_of web.old) (web_of web.new) }
-{
-    let mut body = String::new(alloc);
-    counts.census.go_on(alloc, replica.site());
-    let config = replica.config();
-    let now = Now {
-        site: config.site(),
-        max_keys: config.max_keys(),
-        keys: replica.key_count(),
-        conflicts: replica.conflict_count(),
-        commits: replica.commits(),
+    let pushed = match followed_by(web.asked()) {
+        Some(followed) => push_since(alloc, changes, replica, since, followed, &mut body),
+        None => Err(Refusal::BadKind),
     };
-    match counts.print(now, &mut body) {
-        Ok(()) => respond(
-            web,
-            counts,
-            answer_of(StatusCode::OK, Content::Plain),
-            body.as_str(),
-        ),
-        Err(refusal) => refuse(alloc, web, counts, refusal),
-    }
+    tell_pushed(alloc, web, pushed, body.as_str(), counts);
 }
 
 /// Puts down the line of a reply to one of the writes of a client, if there is a reply, and queues the response once all

@@ -2,6 +2,7 @@
 #![tactic(auto)]
 
 mod asks;
+mod at_once;
 mod batch;
 mod census;
 mod changes;
@@ -13,6 +14,7 @@ mod endings;
 mod feeding;
 mod gate;
 mod histogram;
+pub mod laws;
 mod listings;
 mod look;
 mod metrics;
@@ -26,6 +28,7 @@ mod peer_news;
 mod peer_steps;
 mod peering;
 mod responding;
+mod rotation;
 mod server;
 mod sockets;
 mod talks;
@@ -33,7 +36,9 @@ mod telling;
 mod terms;
 mod timers;
 mod timing;
+mod tokens;
 
 pub use server::serve_run;
 pub use sockets::{Direct, Sockets};
 pub use terms::Terms;
+pub use tokens::{Tokens, TokensFault, read_tokens, tokens_of};

@@ -19,8 +19,8 @@ use std::alloc::Global;
 
 /// The states that a site holds.
 #[derive(Clone, Copy)]
-struct SiteStates<'a> {
-    site: &'a Site,
+pub(crate) struct SiteStates<'a> {
+    pub site: &'a Site,
 }
 
 impl<'a> Holds for SiteStates<'a> {

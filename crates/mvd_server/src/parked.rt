@@ -55,6 +55,19 @@ impl Parked {
         }
     }
 
+    /// The first of them from this number on.
+    pub fn first_from(&self, number: u64) -> Option<u64> {
+        match self.times.range(number..).next() {
+            Some((client, _)) => Some(*client),
+            None => None,
+        }
+    }
+
+    /// Those that still wait know this root now.
+    pub fn follow(&mut self, root: Option<[u8; 32]>) {
+        self.root = root;
+    }
+
     /// A client is told as soon as may be. Where memory is refused, it is told when its time has come.
     pub fn hurry(&mut self, client: u64) {
         if let Some(due) = self.times.get_mut(&client)

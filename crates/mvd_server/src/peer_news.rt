@@ -39,8 +39,8 @@ pub(crate) struct Setting {
 
 impl Setting {
     pub fn new(alloc: Global, number: u32, terms: Terms<'_>) -> Result<Setting, AllocError> {
-        let token = match terms.token {
-            Some(token) => match token.copy(alloc) {
+        let token = match terms.tokens {
+            Some(tokens) => match tokens.shown.copy(alloc) {
                 Ok(token) => Some(token),
                 Err(_) => return Err(AllocError),
             },

@@ -2,20 +2,22 @@
 mod asking;
 
 ghost use Rattle.mvd_server.specs.Peerings.{WakesInTime};
-ghost use Rattle.std.specs.Prelude.{◌≡◌, ◌≢◌, ◌⊎◌, [], IfErr, IfOk, IsSome, IsSomeAnd, OnOk, option_copied};
+ghost use Rattle.std.specs.Prelude.{◌≡◌, ◌≢◌, ◌⊎◌, [], IfErr, IfOk, IsSome, IsSomeAnd, OnOk};
 ghost use Rattle.std.specs.Duration.{as_nanos};
 ghost use Rattle.mvd_dots.specs.declared.refusals.Refusal.TheVariants.{Memory, ReadFailed, WriteFailed};
 ghost use Rattle.mvd_input.specs.declared.fault.Fault.TheVariants.{Stopped};
 ghost use Rattle.mvd_replica.specs.Replicas.{site_of};
 ghost use Rattle.mvd_server.specs.Closing.{EndsAtFault, EndsServed, EndsWithRoot, IsDeserted};
 ghost use Rattle.mvd_server.specs.Rounds.{BeginsServing, GoesOnServing, IsServed};
-ghost use Rattle.mvd_server.specs.Talking.{talking_of};
+ghost use Rattle.mvd_server.specs.Talking.{TalksDeeds, talking_of};
+ghost use Rattle.mvd_server.specs.TokenFiles.{passes_asked};
 ghost use Rattle.mvd_server.specs.Wires.{Carries, wired_of};
 
 use crate::crowd::{Crowd, SPARE};
 use crate::door::{Door, FRAMES, HTTP};
 use crate::look::Look;
 use crate::peer_list::Peers;
+use crate::rotation::Rotation;
 use crate::sockets::Sockets;
 use crate::talks::Kind;
 use crate::telling::{tell_listening, tell_root, web_address};
@@ -49,6 +51,7 @@ struct Server {
     next: Vec<u64>,
     start: Instant,
     look: Look,
+    rotation: Rotation,
 }
 
 /// Serves so many connections at an address, or without end, many at once, and tells where it listens, how each
@@ -78,10 +81,10 @@ pub fn serve_run<
 ) -> Result<(), Stop<'a>>
     // However it ends, the site changed by turns of one host alone, fed by its sockets and its sessions with peers, and
     // its records follow.
-    ensures served { IsServed K.Sockets (option_copied terms.entry.token)
+    ensures served { IsServed K.Sockets (passes_asked terms.entry)
         sockets.old replica.old sockets.new replica.new }
     // Where it ends well, nobody is left but the server's own.
-    ensures left { OnOk result (EndsServed K.Sockets (option_copied terms.entry.token) sockets.old replica.old
+    ensures left { OnOk result (EndsServed K.Sockets (passes_asked terms.entry) sockets.old replica.old
         sockets.new replica.new) }
     // Then the last line that it printed is the root of its site.
     ensures root { OnOk result (EndsWithRoot (site_of replica.new) (W.contents writer.new)) }
@@ -107,7 +110,7 @@ fn listening<'a, N: Net + Clock + RandomSource>(
     number: u32,
     terms: Terms<'_>,
 ) -> Result<Server, Stop<'a>>
-    ensures begins { IfOk result (λ server. BeginsServing (option_copied terms.entry.token) server.crowd.talks) }
+    ensures begins { IfOk result (λ server. BeginsServing (passes_asked terms.entry) server.crowd.talks) }
     ensures unheard { IfErr result (λ stop. stop.fault ≡ Stopped ReadFailed) }
 {
     match Server::new(rt, alloc, address, number, terms) {
@@ -145,7 +148,7 @@ impl Server {
         number: u32,
         terms: Terms<'_>,
     ) -> io::Result<Server>
-        ensures { IfOk result (λ server. BeginsServing (option_copied terms.entry.token) server.crowd.talks) }
+        ensures { IfOk result (λ server. BeginsServing (passes_asked terms.entry) server.crowd.talks) }
     {
         let start = Instant::now(rt)?;
         let keys = RandomState::new(rt)?;
@@ -156,6 +159,7 @@ impl Server {
         let poll = Poll::new(rt)?;
         let frames = Door::new(rt, poll.registry(), address, Kind::Frames)?;
         // Those that own most come last: each value before them is let go where a later one fails.
+        let rotation = Rotation::new(alloc, terms.token_file)?;
         let peers = Peers::new(alloc, number, terms)?;
         let crowd = Crowd::new(alloc, keys, terms, start)?;
         Ok(Server {
@@ -169,6 +173,7 @@ impl Server {
             next,
             start,
             look: Look::new(),
+            rotation,
         })
     }
 
@@ -233,7 +238,7 @@ impl Server {
     }
 
     /// Waits until there may be something to do, and does what there is.
-    fn serve_once<N: Net + Clock, K: Sockets, S: Alter + Drop, W: Write, E: Write>(
+    fn serve_once<N: Net + Clock + Files, K: Sockets, S: Alter + Drop, W: Write, E: Write>(
         &mut self,
         rt: &N,
         sockets: &mut K,
@@ -247,13 +252,27 @@ impl Server {
     {
         self.wait(rt)?;
         self.take_in(sockets)?;
+        self.rotate(rt);
         self.peers.go_on(rt, self.poll.registry(), &mut self.crowd);
         self.answer_asking(rt, sockets, replica);
         self.answer(rt, replica);
         self.crowd.wake(&mut self.ready);
         self.give_out(sockets, writer)?;
         self.peers.tell_errors(errors);
+        self.rotation.tell_errors(errors);
         Ok(())
+    }
+
+    /// Looks at the file with tokens, where somebody may show one: other passes are known from then on, if it changed.
+    fn rotate<N: Files>(&mut self, rt: &N)
+        ensures { TalksDeeds self.old.crowd.talks self.new.crowd.talks }
+    {
+        if self.ready.is_empty() {
+            return;
+        }
+        if let Some(tokens) = self.rotation.look(rt, self.crowd.now) {
+            self.crowd.talks.rotate(tokens.passes);
+        }
     }
 
     /// Waits until there may be something to do, and lists the clients of which the system tells so.

@@ -1,23 +1,24 @@
 //! What the clients say, in frames or over HTTP.
 mod comings;
+mod meeting;
 mod talk_bytes;
+mod waking;
 
-ghost use Rattle.std.specs.Prelude.{◌≡◌, ◌<◌, [], IfOk, IsTrue, OnErr, OnOk, false, length, true};
+ghost use Rattle.std.specs.Prelude.{◌≡◌, ◌<◌, [], IfOk, OnErr, OnOk, false, length, true};
 ghost use Rattle.mvd_http.specs.Guard.{named_by};
 ghost use Rattle.mvd_server.specs.Rounds.{HasRound};
-ghost use Rattle.mvd_server.specs.Talking.{Deeds, IsWaiting, KeepsBatch, LacksMemory, MayBeginWrites, TakesReply, Talking};
-ghost use Rattle.mvd_server.specs.Talking.{TalksDeeds, new_talking, talking_of, web_in};
+ghost use Rattle.mvd_server.specs.Talking.{Deeds, KeepsBatch, LacksMemory, MayBeginWrites, TakesReply, Talking};
+ghost use Rattle.mvd_server.specs.Talking.{TalksDeeds, new_talking, talking_of};
 
 use crate::batch::Batch;
-use crate::changes::push_since;
 use crate::gate::{Rest, answer_writes, ask};
 use crate::metrics::Counts;
 use crate::parked::Parked;
-use crate::responding::{asks_changes, refuse, tell_pushed, tell_reply};
-use mvd_conn::Guard;
+use crate::responding::{refuse, tell_reply};
+use mvd_conn::Passes;
 use mvd_dots::Refusal;
 use mvd_host::{AtHand, FIRST_AT_HAND, Feed, Host};
-use mvd_http::{Names, push_changes, push_not_waited};
+use mvd_http::Names;
 use mvd_replica::Replica;
 use mvd_web::WebConnection;
 use mvd_wire::Reply;
@@ -38,8 +39,8 @@ pub(crate) enum Kind {
 #[derive(Drop)]
 pub(crate) struct Talks {
     pub host: Host,
-    /// Who may come in: whoever shows its token, or everybody.
-    guard: Option<Guard>,
+    /// Who may come in: whoever shows the token of one of these, or everybody.
+    passes: Option<Passes>,
     /// By which names it is asked, and of which origins a page may ask.
     names: Names,
     hand: AtHand,
@@ -65,16 +66,16 @@ impl Talks {
     pub fn new(
         alloc: Global,
         keys: RandomState,
-        guard: Option<Guard>,
+        passes: Option<Passes>,
         names: Names,
         own: usize,
         waits_max: usize,
     ) -> Result<Talks, AllocError>
-        ensures { IfOk result (λ talks. talking_of talks ≡ new_talking guard (named_by names)) }
+        ensures { IfOk result (λ talks. talking_of talks ≡ new_talking passes (named_by names)) }
     {
         Ok(Talks {
             host: Host::new(alloc),
-            guard,
+            passes,
             names,
             hand: AtHand::new(alloc),
             webs: BTreeMap::new(alloc),
@@ -110,6 +111,7 @@ impl Talks {
         }
         // The round before has left nothing to tell.
         self.tell_all(counts);
+        self.meet_all(ready);
         // Where memory was refused for a frame, there may be more, but not at once.
         let changes = counts.tally.changes();
         let round = self.host.round(
@@ -146,7 +148,7 @@ impl Talks {
         };
         let rest = ask(
             self.alloc,
-            self.guard.as_ref(),
+            self.passes.as_ref(),
             &self.names,
             &mut self.hand,
             web,
@@ -200,66 +202,6 @@ impl Talks {
     {
         if let Some(web) = self.webs.get_mut(&number) {
             refuse(self.alloc, web, counts, Refusal::Memory);
-        }
-    }
-
-    /// Lets a client wait for a change. Where as many wait as may, or memory is refused for that, it is told that there
-    /// is none yet, and that it did not wait.
-    fn park(&mut self, number: u64, root: [u8; 32], due: u64, counts: &mut Counts)
-        ensures { TalksDeeds self.old self.new }
-    {
-        let count = self.parked.len().saturating_add(1);
-        if count <= self.waits_max
-            && self.woken.reserve(count).is_ok()
-            && self.parked.add(number, root, due)
-        {
-            return;
-        }
-        self.tell_not_waited(number, root, counts);
-    }
-
-    /// Tells a client that knows this root that it does not wait for another.
-    fn tell_not_waited(&mut self, number: u64, root: [u8; 32], counts: &mut Counts)
-        ensures { TalksDeeds self.old self.new }
-    {
-        let mut body = String::new(self.alloc);
-        let pushed = push_not_waited(self.alloc, &mut body, root);
-        self.tell_waiting(number, pushed, body.as_str(), counts);
-    }
-
-    /// Tells a client that nothing changed since this root.
-    fn tell_none(&mut self, number: u64, root: [u8; 32], counts: &mut Counts)
-        ensures { TalksDeeds self.old self.new }
-    {
-        let mut body = String::new(self.alloc);
-        let pushed = push_changes(self.alloc, &mut body, root, &[], false);
-        self.tell_waiting(number, pushed, body.as_str(), counts);
-    }
-
-    /// Tells one whose request asks what changed.
-    fn tell_waiting(
-        &mut self,
-        number: u64,
-        told: Result<(), Refusal>,
-        body: &str,
-        counts: &mut Counts,
-    )
-        ensures { TalksDeeds self.old self.new }
-    {
-        if !self.awaits_change(number) {
-            return;
-        }
-        if let Some(web) = self.webs.get_mut(&number) {
-            tell_pushed(self.alloc, web, told, body, counts);
-        }
-    }
-
-    fn awaits_change(&self, number: u64) -> bool
-        ensures { IsTrue result → IsWaiting (web_in (talking_of self.now) number) }
-    {
-        match self.webs.get(&number) {
-            Some(web) => asks_changes(web),
-            None => false,
         }
     }
 
@@ -318,89 +260,11 @@ impl Talks {
         }
     }
 
-    /// Tells all that wait what changed, if something did.
-    fn wake<S: Alter + Drop>(&mut self, replica: &Replica<S>, counts: &mut Counts)
-        ensures { TalksDeeds self.old self.new }
-    {
-        if self.changes.root() == self.parked.root() {
-            return;
-        }
-        let mut body = String::new(self.alloc);
-        let root = self.parked.root();
-        let mut pushed = None;
-        for _ in 0..u64::MAX {
-            let Some(number) = self.parked.take_due(u64::MAX) else {
-                return;
-            };
-            let told = match pushed {
-                Some(told) => told,
-                None => push_since(self.alloc, &self.changes, replica, root, &mut body),
-            };
-            pushed = Some(told);
-            self.tell_change(number, told, body.as_str(), counts);
-        }
-    }
-
-    /// Tells one that waits what changed.
-    fn tell_change(
-        &mut self,
-        number: u64,
-        told: Result<(), Refusal>,
-        body: &str,
-        counts: &mut Counts,
-    )
-        ensures { TalksDeeds self.old self.new }
-    {
-        self.note_woken(number);
-        self.tell_waiting(number, told, body, counts);
-    }
-
-    /// Tells those that have waited long enough that nothing changed.
-    pub fn end_waits(&mut self, now: u64, counts: &mut Counts)
-        ensures { TalksDeeds self.old self.new }
-    {
-        for _ in 0..u64::MAX {
-            let Some(number) = self.parked.take_due(now) else {
-                return;
-            };
-            self.end_wait(number, counts);
-        }
-    }
-
-    /// Tells one that has waited long enough.
-    fn end_wait(&mut self, number: u64, counts: &mut Counts)
-        ensures { TalksDeeds self.old self.new }
-    {
-        self.note_woken(number);
-        if let Some(root) = self.parked.root() {
-            self.tell_none(number, root, counts);
-        }
-    }
-
-    /// There is room for each that waits.
-    fn note_woken(&mut self, number: u64)
-        ensures { talking_of self.new ≡ talking_of self.old }
-    {
-        let _ = self.woken.push(number);
-    }
-
     /// Whether a client waits for the answer to a request over HTTP, which may be a change.
     pub fn awaits_answer(&self, number: u64) -> bool {
         match self.webs.get(&number) {
             Some(web) => web.asked().is_some(),
             None => false,
         }
-    }
-
-    /// A client that waits for a change, if it does, is told soon that there is none.
-    pub fn hurry(&mut self, number: u64)
-        ensures { talking_of self.new ≡ talking_of self.old }
-    {
-        self.parked.hurry(number);
-    }
-
-    /// When the first that waits for a change has waited long enough.
-    pub fn next_due(&self) -> Option<u64> {
-        self.parked.next_due()
     }
 }

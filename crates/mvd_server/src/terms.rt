@@ -1,23 +1,24 @@
 //! What a server is asked for.
-use mvd_conn::Guard;
+use crate::tokens::Tokens;
+use mvd_conn::Passes;
 use mvd_host::CLIENTS_MAX;
 use mvd_http::Names;
-use mvd_wire::Token;
 use std::alloc::{AllocError, Global};
 use std::net::SocketAddr;
 
 /// What a server is asked for: the port for HTTP, if it serves that too, how many connections it serves in all, for how
-/// many seconds no byte need move on one, and how many clients it serves at once. Where there is a token, who comes in
-/// shows it, and it is shown to peers. Over HTTP it may be asked by the names of a list, and by pages of the origins of
-/// another, each with commas between its items. Where it is quiet it tells faults alone. Each peer is met again as many
-/// seconds after a session.
+/// many seconds no byte need move on one, and how many clients it serves at once. Where there are tokens, who comes in
+/// shows one of them, and their file is read again as it changes. Over HTTP it may be asked by the names of a list, and by
+/// pages of the origins of another, each with commas between its items. Where it is quiet it tells faults alone. Each peer
+/// is met again as many seconds after a session.
 #[derive(Clone, Copy)]
 pub struct Terms<'a> {
     pub http: Option<u16>,
     pub conns: Option<u32>,
     pub idle: u32,
     pub clients: u32,
-    pub token: Option<&'a Token>,
+    pub tokens: Option<&'a Tokens>,
+    pub token_file: &'a str,
     pub hosts: &'a str,
     pub origins: &'a str,
     pub quiet: bool,
@@ -26,16 +27,16 @@ pub struct Terms<'a> {
 }
 
 impl Terms<'_> {
-    ghost use Rattle.std.specs.Prelude.{option_copied};
-    ghost use Rattle.mvd_server.specs.Guarded.{IsGuardOf};
+    ghost use Rattle.std.specs.Prelude.{◌≡◌, IfOk};
+    ghost use Rattle.mvd_server.specs.TokenFiles.{passes_asked};
 
-    /// Who may come in, if not everybody.
-    pub(crate) fn guard(self) -> Option<Guard>
-        ensures { IsGuardOf (option_copied self.entry.token) result }
+    /// The passes of those who may come in, if not everybody may.
+    pub(crate) fn passes(self, alloc: Global) -> Result<Option<Passes>, AllocError>
+        ensures { IfOk result (λ passes. passes ≡ passes_asked self.entry) }
     {
-        match self.token {
-            Some(token) => Some(Guard::of(token.bytes())),
-            None => None,
+        match self.tokens {
+            Some(tokens) => Ok(Some(tokens.passes.copy(alloc)?)),
+            None => Ok(None),
         }
     }
 
@@ -49,7 +50,7 @@ impl Terms<'_> {
         Ok(Names {
             hosts: String::from_str(alloc, self.hosts)?,
             origins: String::from_str(alloc, self.origins)?,
-            any_host: self.token.is_some(),
+            any_host: self.tokens.is_some(),
         })
     }
 

@@ -6,8 +6,9 @@ use crate::state_requests::{REFUSED_STATES, STATES};
 use mvd_docs::{Field, ViewName};
 use mvd_dots::Refusal;
 use mvd_http::{
-    Fault, Holds, Question, Wanted, live_response_of, misread_response, push_bad_line, push_line,
-    push_listed, push_refused, push_told, question_of, refused_response, response_of,
+    Fault, Followed, Holds, Question, Wanted, live_response_of, misread_response, push_bad_line,
+    push_changed, push_line, push_listed, push_refused, push_told, question_of, refused_response,
+    response_of,
 };
 use mvd_keys::{Key, KeyState};
 use mvd_rows::Defs;
@@ -151,13 +152,31 @@ fn tell(out: &mut String, fault: Fault) -> Result<u16, Refusal> {
 }
 
 /// The last byte of a root, and the seconds.
-fn tell_since(out: &mut String, since: Option<[u8; 32]>, wait: u32) -> Result<u16, Refusal> {
+fn tell_wait(out: &mut String, since: Option<[u8; 32]>, wait: u32) -> Result<(), Refusal> {
     match since {
         Some(root) => {
             let last = root[31];
             write!(out, "{last} {wait}")?;
         }
         None => write!(out, "None {wait}")?,
+    }
+    Ok(())
+}
+
+/// These, and of which keys; for states, those of these keys.
+fn tell_since(
+    alloc: Global,
+    site: &Site,
+    out: &mut String,
+    since: Option<[u8; 32]>,
+    wait: u32,
+    followed: &Followed,
+) -> Result<u16, Refusal> {
+    tell_wait(out, since, wait)?;
+    out.push_str(followed.prefix.text())?;
+    if followed.states {
+        let keys = Vec::from_array(alloc, [Key::read(alloc, "k")?, Key::read(alloc, "none")?])?;
+        push_changed(alloc, &SiteStates { site }, true, [0; 32], &keys, out)?;
     }
     Ok(200)
 }
@@ -175,7 +194,9 @@ fn told(
         Question::Many(items) => all_of(site, items.as_slice(), out),
         Question::Asks(asks) => lines_of(alloc, site, asks.as_slice(), out),
         Question::BadLine(line) => tell_line(out, *line),
-        Question::Changes(since, wait) => tell_since(out, *since, *wait),
+        Question::Changes(since, wait, followed) => {
+            tell_since(alloc, site, out, *since, *wait, followed)
+        }
         Question::TooLong => tell(out, Fault::ContentTooLarge),
         Question::Misread(refusal, place) => Ok(misread_response(out, *refusal, place)?),
         Question::Nowhere => tell(out, Fault::NotFound),

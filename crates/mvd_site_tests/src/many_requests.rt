@@ -214,4 +214,21 @@ pub const OTHER_LINES: &[Row] = &[
         200,
         "31 60",
     ),
+    (
+        "GET",
+        "/changes?prefix=a%20b",
+        None,
+        b"",
+        400,
+        "{\"refused\":1,\"name\":\"BadKey\"}",
+    ),
+    ("GET", "/changes?prefix=a%62&wait=1", None, b"", 200, "None 1ab"),
+    (
+        "GET",
+        "/changes?states=1",
+        None,
+        b"",
+        200,
+        "None 0{\"root\":\"0000000000000000000000000000000000000000000000000000000000000000\",\"keys\":[{\"key\":\"k\",\"context\":\"-\",\"siblings\":[]},{\"key\":\"none\",\"context\":\"-\",\"siblings\":[]}],\"resync\":false}",
+    ),
 ];

@@ -10,7 +10,7 @@ use Rattle.mvd_dots.specs.declared.refusals.Refusal.TheVariants.{Memory}
 use Rattle.http_server.specs.declared.state.State.{State}
 use Rattle.mvd_http.specs.declared.fields.Answer.{Answer}
 use Rattle.mvd_http.specs.declared.http_fault.Fault.{Fault}
-use Rattle.mvd_conn.specs.declared.guard.Guard.{Guard}
+use Rattle.mvd_conn.specs.declared.passes.Pass.{Pass}
 use Rattle.mvd_http.specs.Guard.{Named, named_by}
 use Rattle.mvd_web.specs.Asked.{IsAskedBy, KeepsAsked}
 use Rattle.mvd_web.specs.Ends.{fault_in}
@@ -39,18 +39,18 @@ at_most_one old new (c ∷ []) (next, k, e) = inr (record { call = c; one = refl
 at_most_one old new (c ∷ d ∷ calls) (next, k, (later, l, h)) = absurd (cc (k.kept, l.none))
 
 took : (before after : Desk) (old new : WebValue) (calls : List Call) → new.heard.calls ≡ old.heard.calls ++ calls → old.asked ≡ before.asked → new.asked ≡ after.asked → before.asked ≡ None
-    → Quiet old new → Rests new.config new.heard → ((calls ≡ []) × (after ≡ before)) ⊎ CalledOnce before after calls → ReadsOn (option_copied before.guard) (named_by before.names.now) old (is_some new.asked) new
+    → Quiet old new → Rests new.config new.heard → ((calls ≡ []) × (after ≡ before)) ⊎ CalledOnce before after calls → ReadsOn (option_copied before.passes) (named_by before.names.now) old (is_some new.asked) new
 took before after old new calls e p q none quiet rests (inl (n, s)) =
     let still : new.asked ≡ None = q ∙ ap (λ (d : Desk). d.asked) s ∙ none in
-    subst (λ o. ReadsOn (option_copied before.guard) (named_by before.names.now) old (is_some o) new) (sym still) (record { calls = e ∙ ap (λ l. old.heard.calls ++ l) n ∙ append-nil old.heard.calls; asked = still ∙ sym (p ∙ none); rests = rests; quiet = quiet })
+    subst (λ o. ReadsOn (option_copied before.passes) (named_by before.names.now) old (is_some o) new) (sym still) (record { calls = e ∙ ap (λ l. old.heard.calls ++ l) n ∙ append-nil old.heard.calls; asked = still ∙ sym (p ∙ none); rests = rests; quiet = quiet })
 took before after old new calls e p q none quiet rests (inr once) =
     let kept : new.asked ≡ Some once.keeps.asked = q ∙ once.keeps.kept in
-    subst (λ o. ReadsOn (option_copied before.guard) (named_by before.names.now) old (is_some o) new) (sym kept)
-    (record { call = once.call; calls = e ∙ ap (λ l. old.heard.calls ++ l) once.one; plain = once.keeps.plain; asked = once.keeps.asked; kept = kept; asks = subst (λ n. IsAskedBy (option_copied before.guard) (named_by n.now) once.call.0 once.keeps.asked) once.keeps.names (subst (λ g. IsAskedBy (option_copied g) (named_by after.names.now) once.call.0 once.keeps.asked) once.keeps.guard once.keeps.asks); quiet = quiet })
+    subst (λ o. ReadsOn (option_copied before.passes) (named_by before.names.now) old (is_some o) new) (sym kept)
+    (record { call = once.call; calls = e ∙ ap (λ l. old.heard.calls ++ l) once.one; plain = once.keeps.plain; asked = once.keeps.asked; kept = kept; asks = subst (λ n. IsAskedBy (option_copied before.passes) (named_by n.now) once.call.0 once.keeps.asked) once.keeps.names (subst (λ g. IsAskedBy (option_copied g) (named_by after.names.now) once.call.0 once.keeps.asked) once.keeps.passes once.keeps.asks); quiet = quiet })
 
 -- a desk that kept nothing reads one request or none
 pub reads : (before after : Desk) (old new : WebValue) → Calls KeepsAsked before after old.heard.calls new.heard.calls → old.asked ≡ before.asked → new.asked ≡ after.asked
-    → before.asked ≡ None → Quiet old new → Rests new.config new.heard → ReadsOn (option_copied before.guard) (named_by before.names.now) old (is_some new.asked) new
+    → before.asked ≡ None → Quiet old new → Rests new.config new.heard → ReadsOn (option_copied before.passes) (named_by before.names.now) old (is_some new.asked) new
 reads before after old new (calls, e, chain) p q none quiet rests = took before after old new calls e p q none quiet rests (at_most_one before after calls chain)
 
 -- ---- one call after another
@@ -58,8 +58,8 @@ reads before after old new (calls, e, chain) p q none quiet rests = took before 
 pub stays_then : (a b c : WebValue) → NothingCame a b → NothingCame b c → NothingCame a c
 stays_then a b c one two = record { config = two.config ∙ one.config; received = two.received ∙ one.received; ended = two.ended ∙ one.ended }
 
-pub takes_one : (guard : Option Guard) (names : Named) (a b c : WebValue) → IsTrue (is_free a) → ReadsOne guard names a b → Drops b c → c.heard.pending ≡ [] → TakesRequest guard names a true c
-takes_one guard names a b c free one two none = (
+pub takes_one : (passes : Option (List Pass)) (names : Named) (a b c : WebValue) → IsTrue (is_free a) → ReadsOne passes names a b → Drops b c → c.heard.pending ≡ [] → TakesRequest passes names a true c
+takes_one passes names a b c free one two none = (
   free,
   record {
     call = one.call;
@@ -83,8 +83,8 @@ tells : (told queued : List ℕ) (a b c : WebValue) → b.stopped ≡ a.stopped 
 tells told queued a b c was rests same (inl (s, none, settles, whole)) = inl (s ∙ was, none, may_rest told b c rests same settles, whole)
 tells told queued a b c was rests same (inr (s, part)) = inr (s ∙ ap (λ o. first_cause o Memory) was, part)
 
-pub takes_none : (guard : Option Guard) (names : Named) (a b c : WebValue) → IsTrue (is_free a) → ReadsNone a b → PassesOn b c → TakesRequest guard names a false c
-takes_none guard names a b c free one two = subst (λ f. LooksIf f a c) (sym free) (record {
+pub takes_none : (passes : Option (List Pass)) (names : Named) (a b c : WebValue) → IsTrue (is_free a) → ReadsNone a b → PassesOn b c → TakesRequest passes names a false c
+takes_none passes names a b c free one two = subst (λ f. LooksIf f a c) (sym free) (record {
   calls = two.calls ∙ one.calls;
   asked = two.asked ∙ one.asked;
   told = two.told;
@@ -132,8 +132,8 @@ free_at (Some refusal) asked room h = absurd (cc h)
 pub free_desk : (w : WebValue) → IsTrue (is_free w) → w.asked ≡ None
 free_desk w free = free_at w.stopped w.asked (nat_lt (length w.waits) 262144) free
 
-pub not_free : (guard : Option Guard) (names : Named) (w : WebValue) (free : Bool) → free ≡ is_free w → free ≡ false → TakesRequest guard names w false w
-not_free guard names w free e is = subst (λ f. LooksIf f w w) (sym is ∙ e) refl
+pub not_free : (passes : Option (List Pass)) (names : Named) (w : WebValue) (free : Bool) → free ≡ is_free w → free ≡ false → TakesRequest passes names w false w
+not_free passes names w free e is = subst (λ f. LooksIf f w w) (sym is ∙ e) refl
 
 none_waits : (xs : List ℕ) (b : Bool) → (IsTrue b ↔ (0 < length xs)) → b ≡ false → xs ≡ []
 none_waits [] b h e = refl

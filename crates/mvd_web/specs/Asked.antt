@@ -1,5 +1,5 @@
 -- What a request of HTTP asks, by its parts (RFC 9110).
-use Rattle.std.specs.Prelude.{◌≡◌, ◌⊎◌, ◌&&◌, ◌||◌, ⊤, ℕ, Bool, true, false, is_some, IsTrue, IsSomeAnd, List, [], codes, length, Option, Some, None, option_copied, option_map, Result, Err}
+use Rattle.std.specs.Prelude.{◌≡◌, ◌⊎◌, ◌&&◌, ◌||◌, ℕ, Bool, true, false, is_some, IsSome, List, [], codes, length, Option, Some, None, option_copied, option_map, Result, Err}
 use Rattle.std.specs.Str.{bytes_eq}
 use Rattle.http.specs.declared.request.Parts.{Parts}
 use Rattle.http.specs.declared.request.Request.{Request}
@@ -14,8 +14,10 @@ use Rattle.http_server.specs.Response.{IsResponse}
 use Rattle.http_server.specs.declared.response.Response.{Response}
 use Rattle.mvd_dots.specs.declared.refusals.Refusal.{Refusal}
 use Rattle.mvd_dots.specs.declared.refusals.Refusal.TheVariants.{NotAdmitted}
-use Rattle.mvd_conn.specs.Guard.{IsTokenOf}
-use Rattle.mvd_conn.specs.declared.guard.Guard.{Guard}
+use Rattle.mvd_conn.specs.Passes.{pass_if}
+use Rattle.mvd_conn.specs.declared.passes.Pass.{Pass}
+use Rattle.mvd_conn.specs.declared.right.Right.{Right}
+use Rattle.mvd_conn.specs.declared.right.TheConstants.Right.{ALL}
 use Rattle.mvd_http.specs.Asked.{IsQuestion}
 use Rattle.mvd_http.specs.Guard.{Named, name_in, named_by, origin_in, stranger_of}
 use Rattle.mvd_http.specs.OpenToAll.{is_open_to_all}
@@ -25,7 +27,7 @@ use Rattle.mvd_http.specs.declared.question.Question.{Question}
 use Rattle.mvd_http.specs.Paths.{without}
 use Rattle.mvd_web.specs.declared.taken.Asked.{Asked}
 use Rattle.mvd_web.specs.declared.taken.Entry.{Entry}
-use Rattle.mvd_web.specs.declared.taken.Entry.TheVariants.{Open, Preflight, Conditional, HostMissing, Stranger, NoToken}
+use Rattle.mvd_web.specs.declared.taken.Entry.TheVariants.{Open, Free, Preflight, Conditional, HostMissing, Stranger, NoToken}
 use Rattle.mvd_web.specs.declared.desk.Desk.{Desk}
 
 -- the value of the first field of a name
@@ -58,11 +60,14 @@ bearer_text (Some field) = without (codes "Bearer ") field
 abbrev pub shown_by : Parts → Option (List ℕ)
 shown_by parts = bearer_text (header_in (codes "authorization") parts.headers)
 
--- where there is a guard, the request shows its token, or needs none
-abbrev pub MayAsk : Option Guard → Parts → Type 0
-MayAsk None parts = ⊤
-MayAsk (Some guard) parts =
-    IsSomeAnd (shown_by parts) (IsTokenOf guard) ⊎ IsTrue (is_open_to_all parts.method (target_of parts))
+-- THE RIGHT BY WHICH A REQUEST ASKS: where tokens are asked for, that of the token which it shows, if that is known
+abbrev pub right_in : Option (List Pass) → Parts → Option Right
+right_in None parts = Some ALL
+right_in (Some passes) parts = option_map (λ pass. pass.right) (pass_if passes (shown_by parts))
+
+-- it needs none
+abbrev pub is_free : Parts → Bool
+is_free parts = is_open_to_all parts.method (target_of parts)
 
 -- ---- hosts
 
@@ -115,17 +120,24 @@ is_conditional parts = is_write parts.method (target_of parts) && has_condition 
 abbrev pub IsKnown : Named → Parts → Type 0
 IsKnown names parts = NamesHost parts × (stranger_in names parts ≡ None)
 
-abbrev pub IsEntry : Option Guard → Named → Parts → Entry → Type 0
-IsEntry guard names parts HostMissing = ¬ NamesHost parts
-IsEntry guard names parts (Stranger fault) = NamesHost parts × (stranger_in names parts ≡ Some fault)
-IsEntry guard names parts Preflight = IsKnown names parts × (is_preflight parts ≡ true)
-IsEntry guard names parts NoToken = IsKnown names parts × (is_preflight parts ≡ false) × ¬ MayAsk guard parts
-IsEntry guard names parts Conditional = IsKnown names parts × MayAsk guard parts × (is_conditional parts ≡ true)
-IsEntry guard names parts Open = IsKnown names parts × MayAsk guard parts × (is_conditional parts ≡ false)
+abbrev pub IsEntry : Option (List Pass) → Named → Parts → Entry → Type 0
+IsEntry passes names parts HostMissing = ¬ NamesHost parts
+IsEntry passes names parts (Stranger fault) = NamesHost parts × (stranger_in names parts ≡ Some fault)
+IsEntry passes names parts Preflight = IsKnown names parts × (is_preflight parts ≡ true)
+IsEntry passes names parts NoToken =
+    IsKnown names parts × (is_preflight parts ≡ false) × (right_in passes parts ≡ None) × (is_free parts ≡ false)
+IsEntry passes names parts Free = IsKnown names parts × (right_in passes parts ≡ None) × (is_free parts ≡ true)
+IsEntry passes names parts Conditional =
+    IsKnown names parts × IsSome (right_in passes parts) × (is_conditional parts ≡ true)
+IsEntry passes names parts (Open right) =
+    IsKnown names parts × (right_in passes parts ≡ Some right) × (is_conditional parts ≡ false)
 
 -- WHAT A REQUEST ASKS that comes in. Of any other nothing is read but its head: whatever its body is, it asks the same.
 abbrev pub AsksIf : Entry → Request (List ℕ) → Result Question Refusal → Type 0
-AsksIf Open request question =
+AsksIf (Open right) request question =
+    IsQuestion (head_of request).method (target_of (head_of request))
+    (header_in (codes "mvd-context") (head_of request).headers) (body_of request) question
+AsksIf Free request question =
     IsQuestion (head_of request).method (target_of (head_of request))
     (header_in (codes "mvd-context") (head_of request).headers) (body_of request) question
 AsksIf Preflight request question =
@@ -135,8 +147,8 @@ AsksIf _ request question = question ≡ Err NotAdmitted
 
 -- whether the request comes in, what it asks then, whether its response has no body, and which other origin's page may
 -- read that
-pub record IsAskedBy (guard : Option Guard) (names : Named) (request : Request (List ℕ)) (asked : Asked) : Type 0 where
-  pub entry : IsEntry guard names (head_of request) asked.entry
+pub record IsAskedBy (passes : Option (List Pass)) (names : Named) (request : Request (List ℕ)) (asked : Asked) : Type 0 where
+  pub entry : IsEntry passes names (head_of request) asked.entry
   pub question : AsksIf asked.entry request asked.question
   pub head : asked.is_head ≡ bytes_eq (head_of request).method (codes "HEAD")
   pub origin : asked.origin ≡ shared_with names (head_of request)
@@ -147,7 +159,7 @@ pub record KeepsAsked (old : Desk) (request : Request (List ℕ)) (response : Re
   pub none : old.asked ≡ None
   pub asked : Asked
   pub kept : new.asked ≡ Some asked
-  pub asks : IsAskedBy (option_copied new.guard) (named_by new.names.now) request asked
-  pub guard : new.guard ≡ old.guard
+  pub asks : IsAskedBy (option_copied new.passes) (named_by new.names.now) request asked
+  pub passes : new.passes ≡ old.passes
   pub names : new.names ≡ old.names
   pub plain : IsResponse 404 [] [] response

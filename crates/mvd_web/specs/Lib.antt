@@ -4,3 +4,4 @@ pub mod Response
 pub mod Web
 pub mod Steps
 pub mod Inside
+pub mod Rights

@@ -4,7 +4,7 @@ use Rattle.http_server.specs.Exchange.{Call}
 use Rattle.http_server.specs.History.{Rests}
 use Rattle.http_server.specs.Response.{IsResponse}
 use Rattle.mvd_dots.specs.declared.refusals.Refusal.TheVariants.{Memory}
-use Rattle.mvd_conn.specs.declared.guard.Guard.{Guard}
+use Rattle.mvd_conn.specs.declared.passes.Pass.{Pass}
 use Rattle.mvd_http.specs.Guard.{Named}
 use Rattle.mvd_web.specs.Asked.{IsAskedBy}
 use Rattle.mvd_web.specs.Web.{NothingCame, WebValue, first_cause, web_said}
@@ -17,13 +17,13 @@ pub record Quiet (old new : WebValue) : Type 0 where
   pub waits : new.waits ≡ old.waits
   pub stopped : new.stopped ≡ old.stopped
 
-pub record ReadsOne (guard : Option Guard) (names : Named) (old new : WebValue) : Type 0 where
+pub record ReadsOne (passes : Option (List Pass)) (names : Named) (old new : WebValue) : Type 0 where
   pub call : Call
   pub calls : new.heard.calls ≡ old.heard.calls ++ call ∷ []
   pub plain : IsResponse 404 [] [] call.1
   pub asked : Asked
   pub kept : new.asked ≡ Some asked
-  pub asks : IsAskedBy guard names call.0 asked
+  pub asks : IsAskedBy passes names call.0 asked
   pub quiet : Quiet old new
 
 pub record ReadsNone (old new : WebValue) : Type 0 where
@@ -32,9 +32,9 @@ pub record ReadsNone (old new : WebValue) : Type 0 where
   pub rests : Rests new.config new.heard
   pub quiet : Quiet old new
 
-abbrev pub ReadsOn : Option Guard → Named → WebValue → Bool → WebValue → Type 0
-ReadsOn guard names old true new = ReadsOne guard names old new
-ReadsOn guard names old false new = ReadsNone old new
+abbrev pub ReadsOn : Option (List Pass) → Named → WebValue → Bool → WebValue → Type 0
+ReadsOn passes names old true new = ReadsOne passes names old new
+ReadsOn passes names old false new = ReadsNone old new
 
 -- what the kit's connection handed out is not queued
 pub record Drops (old new : WebValue) : Type 0 where

@@ -12,7 +12,7 @@ use Rattle.mvd_dots.specs.declared.refusals.Refusal.{Refusal}
 use Rattle.mvd_dots.specs.declared.refusals.Refusal.TheVariants.{Memory}
 use Rattle.mvd_http.specs.declared.fields.Answer.{Answer}
 use Rattle.mvd_http.specs.declared.http_fault.Fault.{Fault}
-use Rattle.mvd_conn.specs.declared.guard.Guard.{Guard}
+use Rattle.mvd_conn.specs.declared.passes.Pass.{Pass}
 use Rattle.mvd_http.specs.Guard.{Named}
 use Rattle.mvd_web.specs.Asked.{IsAskedBy}
 use Rattle.mvd_web.specs.Ends.{ending_of_state, fault_in}
@@ -114,13 +114,13 @@ pub record NothingCame (old new : WebValue) : Type 0 where
 -- One more request was read, and this is what it asks, where the guard lets it in. Nothing was queued: its response is
 -- not known yet. What the kit's connection had to say in its place is a plain response, which closes nothing, and of
 -- that no byte is left to be queued.
-pub record TakesOne (guard : Option Guard) (names : Named) (old new : WebValue) : Type 0 where
+pub record TakesOne (passes : Option (List Pass)) (names : Named) (old new : WebValue) : Type 0 where
   pub call : Call
   pub calls : new.heard.calls ≡ old.heard.calls ++ call ∷ []
   pub plain : IsResponse 404 [] [] call.1
   pub asked : Asked
   pub kept : new.asked ≡ Some asked
-  pub asks : IsAskedBy guard names call.0 asked
+  pub asks : IsAskedBy passes names call.0 asked
   pub waits : new.waits ≡ old.waits
   pub none_left : new.heard.pending ≡ []
   pub stopped : new.stopped ≡ old.stopped
@@ -164,9 +164,9 @@ abbrev pub LooksIf : Bool → WebValue → WebValue → Type 0
 LooksIf false old new = new ≡ old
 LooksIf true old new = TakesNone old new
 
-abbrev pub TakesRequest : Option Guard → Named → WebValue → Bool → WebValue → Type 0
-TakesRequest guard names old true new = IsTrue (is_free old) × TakesOne guard names old new
-TakesRequest guard names old false new = LooksIf (is_free old) old new
+abbrev pub TakesRequest : Option (List Pass) → Named → WebValue → Bool → WebValue → Type 0
+TakesRequest passes names old true new = IsTrue (is_free old) × TakesOne passes names old new
+TakesRequest passes names old false new = LooksIf (is_free old) old new
 
 -- ---- responses
 

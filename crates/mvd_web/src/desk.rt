@@ -6,7 +6,7 @@ use crate::taken::{Asked, asked_by};
 use bytes::Bytes;
 use http::{Request, StatusCode};
 use http_server::{Response, Service};
-use mvd_conn::Guard;
+use mvd_conn::Passes;
 use mvd_http::Names;
 use std::alloc::{AllocError, Global};
 
@@ -14,7 +14,7 @@ use std::alloc::{AllocError, Global};
 #[derive(Drop)]
 pub(crate) struct Desk<'a> {
     pub(crate) alloc: Global,
-    pub(crate) guard: Option<&'a Guard>,
+    pub(crate) passes: Option<&'a Passes>,
     pub(crate) names: &'a Names,
     pub(crate) asked: Option<Asked>,
     /// Memory that was taken for the response to a write.
@@ -33,7 +33,7 @@ impl Service for Desk<'_> {
             return Err(AllocError);
         }
         let spare = spare_for(self.alloc, request)?;
-        let asked = asked_by(self.alloc, self.guard, self.names, request)?;
+        let asked = asked_by(self.alloc, self.passes, self.names, request)?;
         self.spare = spare;
         self.asked = Some(asked);
         // No request is refused this status.

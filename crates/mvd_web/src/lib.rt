@@ -4,10 +4,12 @@
 
 mod desk;
 mod response;
+mod rights;
 mod spare;
 mod taken;
 mod web_connection;
 mod web_ending;
 
+pub use rights::may_ask;
 pub use taken::{Asked, Entry};
 pub use web_connection::WebConnection;

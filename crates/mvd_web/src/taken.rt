@@ -1,10 +1,12 @@
 //! A request that was taken.
-ghost use Rattle.std.specs.Prelude.{◌≡◌, ◌↔◌, IfOk, IsTrue, codes, is_some, length, option_copied};
+ghost use Rattle.std.specs.Prelude.{◌≡◌, ◌↔◌, IfOk, IsTrue, codes, if◌then◌else◌, is_some, length, option_copied, option_map};
 ghost use Rattle.http.specs.Request.{body_of, head_of};
 ghost use Rattle.http_header.specs.HeaderMap.{get_all};
 ghost use Rattle.mvd_http.specs.Asked.{IsQuestion};
+ghost use Rattle.mvd_conn.specs.Passes.{pass_of};
 ghost use Rattle.mvd_http.specs.Guard.{named_by};
-ghost use Rattle.mvd_web.specs.Asked.{AsksIf, IsAskedBy, IsEntry, MayAsk, NamesHost, bearer_text};
+ghost use Rattle.mvd_web.specs.declared.taken.Entry.TheVariants.{Free, NoToken};
+ghost use Rattle.mvd_web.specs.Asked.{AsksIf, IsAskedBy, IsEntry, NamesHost, bearer_text, is_free, right_in as right_told};
 ghost use Rattle.mvd_web.specs.Asked.{has_condition as condition_told, is_conditional as conditional_told};
 ghost use Rattle.mvd_web.specs.Asked.{is_preflight as preflight_told, name_of as name_told, origin_of as origin_told};
 ghost use Rattle.mvd_web.specs.Asked.{shared_with as shared_told, stranger_in as stranger_told};
@@ -13,7 +15,7 @@ ghost use Rattle.mvd_web.specs.Asked.{target_of as target_told};
 
 use bytes::Bytes;
 use http::{HeaderValue, Request, Version};
-use mvd_conn::Guard;
+use mvd_conn::{Passes, Right};
 use mvd_dots::Refusal;
 use mvd_http::{
     Fault, Names, Question, is_open_to_all, is_write, name_in, origin_in, question_of, stranger,
@@ -23,7 +25,10 @@ use std::alloc::{AllocError, Global};
 /// Whether a request comes in, by its head alone.
 #[derive(Clone, Copy)]
 pub enum Entry {
-    Open,
+    /// It may ask what this right allows.
+    Open(Right),
+    /// It needs no token, and shows none that is known: of the site it asks nothing.
+    Free,
     /// It asks by which methods a page of another origin may ask.
     Preflight,
     /// It is a write under a condition of HTTP's own: a context stands for these.
@@ -32,7 +37,7 @@ pub enum Entry {
     HostMissing,
     /// It names a host that is not this server, or comes of a page that may not ask it.
     Stranger(Fault),
-    /// It shows no token, and needs one.
+    /// It shows no token that is known, and needs one.
     NoToken,
 }
 
@@ -111,19 +116,37 @@ fn shown_by(request: &Request<Bytes>) -> Option<&[u8]>
     bearer_in(field_in(request, "authorization"))
 }
 
-/// Whether a request may ask: where there is a guard, it shows the token, or it needs none.
-fn may_ask(guard: Option<&Guard>, request: &Request<Bytes>) -> bool
-    ensures { IsTrue result ↔ MayAsk (option_copied guard.entry) (head_of request.now) }
+/// The right by which a request asks: where tokens are asked for, that of the token which it shows, if that is known.
+fn right_in(passes: Option<&Passes>, request: &Request<Bytes>) -> Option<Right>
+    ensures { result ≡ right_told (option_copied passes.entry) (head_of request.now) }
 {
-    let Some(guard) = guard else {
-        return true;
+    let Some(passes) = passes else {
+        return Some(Right::ALL);
     };
-    if let Some(token) = shown_by(request)
-        && guard.admits(token)
-    {
-        return true;
+    match shown_by(request) {
+        Some(token) => right_of(passes, token),
+        None => None,
     }
-    is_open_to_all(request.method().as_str().as_bytes(), target_of(request))
+}
+
+/// The right of a token, if that is known.
+fn right_of(passes: &Passes, token: &[u8]) -> Option<Right>
+    ensures { result ≡ option_map (λ pass. pass.right) (pass_of passes.now token.now) }
+{
+    match passes.of(token) {
+        Some(pass) => Some(pass.right),
+        None => None,
+    }
+}
+
+/// Whether a request comes in that shows no token which is known.
+fn entry_free(request: &Request<Bytes>) -> Entry
+    ensures { result ≡ (if is_free (head_of request.now) then Free else NoToken) }
+{
+    if is_open_to_all(request.method().as_str().as_bytes(), target_of(request)) {
+        return Entry::Free;
+    }
+    Entry::NoToken
 }
 
 /// The name of its host, where that is no address and not `localhost`.
@@ -189,8 +212,8 @@ fn has_condition(request: &Request<Bytes>) -> bool
 }
 
 /// Whether a request comes in. Of its body nothing is read.
-fn entry_of(guard: Option<&Guard>, names: &Names, request: &Request<Bytes>) -> Entry
-    ensures { IsEntry (option_copied guard.entry) (named_by names.now) (head_of request.now) result }
+fn entry_of(passes: Option<&Passes>, names: &Names, request: &Request<Bytes>) -> Entry
+    ensures { IsEntry (option_copied passes.entry) (named_by names.now) (head_of request.now) result }
 {
     if !names_host(request) {
         return Entry::HostMissing;
@@ -201,13 +224,13 @@ fn entry_of(guard: Option<&Guard>, names: &Names, request: &Request<Bytes>) -> E
     if is_preflight(request) {
         return Entry::Preflight;
     }
-    if !may_ask(guard, request) {
-        return Entry::NoToken;
-    }
+    let Some(right) = right_in(passes, request) else {
+        return entry_free(request);
+    };
     if is_conditional(request) {
         return Entry::Conditional;
     }
-    Entry::Open
+    Entry::Open(right)
 }
 
 fn copied(alloc: Global, bytes: Option<&[u8]>) -> Result<Option<Bytes>, AllocError>
@@ -249,7 +272,7 @@ fn question_if(alloc: Global, entry: Entry, request: &Request<Bytes>) -> Result<
     ensures { AsksIf entry request.now result }
 {
     match entry {
-        Entry::Open => question_in(alloc, request),
+        Entry::Open(_) | Entry::Free => question_in(alloc, request),
         Entry::Preflight => question_in(alloc, request),
         _ => Err(Refusal::NotAdmitted),
     }
@@ -258,13 +281,13 @@ fn question_if(alloc: Global, entry: Entry, request: &Request<Bytes>) -> Result<
 /// Whether a request comes in, and what it asks then.
 pub(crate) fn asked_by(
     alloc: Global,
-    guard: Option<&Guard>,
+    passes: Option<&Passes>,
     names: &Names,
     request: &Request<Bytes>,
 ) -> Result<Asked, AllocError>
-    ensures { IfOk result (IsAskedBy (option_copied guard.entry) (named_by names.now) request.now) }
+    ensures { IfOk result (IsAskedBy (option_copied passes.entry) (named_by names.now) request.now) }
 {
-    let entry = entry_of(guard, names, request);
+    let entry = entry_of(passes, names, request);
     let origin = shared_with(alloc, names, request)?;
     Ok(Asked {
         entry,

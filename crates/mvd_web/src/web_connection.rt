@@ -10,7 +10,7 @@ use crate::taken::Asked;
 use crate::web_ending::{ending_of, fault_in};
 use bytes::BytesMut;
 use http_server::{Config, Connection, State};
-use mvd_conn::Guard;
+use mvd_conn::Passes;
 use mvd_dots::Refusal;
 use mvd_http::{Answer, Fault, Names};
 use mvd_wire::Ending;
@@ -126,26 +126,26 @@ impl WebConnection {
         }
     }
 
-    /// Takes the next request, where no other waits for its answer. Whether one was taken. Only one that the guard lets
+    /// Takes the next request, where no other waits for its answer. Whether one was taken. Only one that comes
     /// in is read further than its head. Where none was taken, what the parser answers for itself is queued, and for a
     /// request that it refuses the response that names the fault.
-    pub fn next(&mut self, guard: Option<&Guard>, names: &Names) -> bool
-        ensures { TakesRequest (option_copied guard.entry) (named_by names.now)
+    pub fn next(&mut self, passes: Option<&Passes>, names: &Names) -> bool
+        ensures { TakesRequest (option_copied passes.entry) (named_by names.now)
             (web_of self.old) result (web_of self.new) }
     {
         if self.is_free() {
-            return self.look(guard, names);
+            return self.look(passes, names);
         }
         false
     }
 
     /// The same, where a request may be taken.
-    fn look(&mut self, guard: Option<&Guard>, names: &Names) -> bool
+    fn look(&mut self, passes: Option<&Passes>, names: &Names) -> bool
         requires { free_now (web_of self.old) ≡ true }
-        ensures { TakesRequest (option_copied guard.entry) (named_by names.now)
+        ensures { TakesRequest (option_copied passes.entry) (named_by names.now)
             (web_of self.old) result (web_of self.new) }
     {
-        if self.advance(guard, names) {
+        if self.advance(passes, names) {
             self.drop_pending();
             return true;
         }
@@ -326,13 +326,13 @@ impl WebConnection {
     }
 
     /// Reads at most one request. Whether one was read.
-    fn advance(&mut self, guard: Option<&Guard>, names: &Names) -> bool
+    fn advance(&mut self, passes: Option<&Passes>, names: &Names) -> bool
         requires { (web_of self.old).asked ≡ None }
-        ensures { ReadsOn (option_copied guard.entry) (named_by names.now) (web_of self.old) result (web_of self.new) }
+        ensures { ReadsOn (option_copied passes.entry) (named_by names.now) (web_of self.old) result (web_of self.new) }
     {
         let mut desk = Desk {
             alloc: self.alloc,
-            guard,
+            passes,
             names,
             asked: None,
             spare: None,

@@ -16,7 +16,7 @@ use Rattle.mvd_dots.proofs.Canonical.{entries_are}
 use Rattle.mvd_keys.specs.State.{State, Text, empty_state, pair_of, pairs_of}
 use Rattle.mvd_keys.specs.declared.siblings.Sibling.{Sibling}
 use Rattle.mvd_wire.specs.Codec.{Codec, number, raw, spell_each, spelled_within}
-use Rattle.mvd_wire.specs.Codecs.{layout2, state_limit, dot, document, loose_from, loose_above, entry, entries, context_codec, sibling, siblings_codec, unlimited_state, state_codec, spell_state, spell_context, spell_entry, spell_sibling}
+use Rattle.mvd_wire.specs.Codecs.{layout2, state_limit, dot, document, loose_from, loose_above, entry, entries, context_codec, sibling, siblings_codec, unlimited_state, state_codec, spell_state, spell_entry, spell_sibling}
 
 pub spell_each-flat_map : {S X : Type 0} (kind : S → Codec X) (next : S → X → S) (f : X → List ℕ) → ((s : S) (x : X) → (kind s).spell x ≡ f x) → (s : S) (xs : List X) → spell_each kind next s xs ≡ flat_map f xs
 spell_each-flat_map kind next f same s [] = refl
@@ -31,7 +31,7 @@ pub entries_is : (es : List EntryValue) → (entries layout2).spell es ≡ (numb
 unfolding entries
 entries_is es = ap (λ (t : List ℕ). (number w32).spell (length es) ++ t) (spell_each-flat_map (entry layout2) (λ _ e. e.site) spell_entry entry_is 0 es)
 
-pub context_is : (dots : DotSet) → (context_codec layout2).spell dots ≡ spell_context dots
+pub context_is : (dots : DotSet) → (context_codec layout2).spell dots ≡ (number w32).spell (length (entries_of dots)) ++ flat_map spell_entry (entries_of dots)
 unfolding context_codec
 context_is dots = entries_is (entries_of dots)
 

@@ -149,12 +149,10 @@ spell_entry e =
 abbrev pub spell_sibling : DotValue × Text → List ℕ
 spell_sibling s = ((number w32).spell s.0.site ++ (number w64).spell s.0.counter) ++ ((number w32).spell (length s.1) ++ s.1)
 
-abbrev pub spell_context : DotSet → List ℕ
-spell_context dots = (number w32).spell (length (entries_of dots)) ++ flat_map spell_entry (entries_of dots)
-
--- the spelling of a key's state: its codec's (law `a_state_is_spelled_by_its_codec`)
+-- the spelling of a key's state: its codec's (law `spelled_states`)
 unfoldable pub spell_state : State → List ℕ
-spell_state s = spell_context s.context
+spell_state s =
+    ((number w32).spell (length (entries_of s.context)) ++ flat_map spell_entry (entries_of s.context))
     ++ ((number w16).spell (length (pairs s.siblings)) ++ flat_map spell_sibling (pairs s.siblings))
 
 -- what a state with a spelling is: each sibling's dot was seen, all dots are within the limits, each document is

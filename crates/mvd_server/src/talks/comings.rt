@@ -5,7 +5,7 @@ ghost use Rattle.std.specs.Ordering.{nat_cmp};
 ghost use Rattle.mvd_conn.specs.History.{new_history};
 ghost use Rattle.mvd_host.specs.Hosts.{client_of};
 ghost use Rattle.mvd_server.specs.Closing.{IsDeserted, client_count};
-ghost use Rattle.mvd_server.specs.Guarded.{IsGuardedBy};
+ghost use Rattle.mvd_server.specs.Guarded.{IsGuardedBy, first_guard};
 ghost use Rattle.mvd_server.specs.Talking.{Comes, ComesBy, DoesAct, GoesAtOnce, MayPart, TalksDeeds, talking_of};
 ghost use Rattle.mvd_server.specs.declared.talks.Kind.TheVariants.{Http};
 ghost use Rattle.mvd_web.specs.Inside.{web_of};
@@ -13,14 +13,15 @@ ghost use Rattle.mvd_web.specs.Web.{IsNew};
 ghost use Rattle.mvd_web.specs.declared.web_connection.WebConnection.{WebConnection};
 
 use crate::talks::{Kind, Talks};
+use mvd_conn::Guard;
 use mvd_web::WebConnection;
 use std::alloc::AllocError;
 
 impl Talks {
     /// Takes a client in, and gives its number. It is `None` where there is no place, or memory was refused. One that
-    /// speaks frames has to show the token in its first frame; over HTTP each request has to.
+    /// speaks frames has to show a token in its first frame; over HTTP each request has to.
     pub fn admit(&mut self, kind: Kind) -> Option<u64>
-        ensures guarded { IfSome result (λ number. IsGuardedBy kind self.old.guard (client_of self.new.host number)) }
+        ensures guarded { IfSome result (λ number. IsGuardedBy kind self.old.passes (client_of self.new.host number)) }
         ensures comes { IfSome result (λ number. ComesBy kind number (talking_of self.old) (talking_of self.new)) }
         ensures own { self.new.own ≡ self.old.own }
         ensures deeds { TalksDeeds self.old self.new }
@@ -33,14 +34,25 @@ impl Talks {
 
     fn admit_frames(&mut self) -> Option<u64>
         ensures guarded { IfSome result (λ number.
-            client_of self.new.host number ≡ Some (new_history self.old.guard)) }
+            client_of self.new.host number ≡ Some (new_history (first_guard self.old.passes))) }
         ensures comes { IfSome result (λ number. DoesAct (Comes number) (talking_of self.old) (talking_of self.new)) }
         ensures own { self.new.own ≡ self.old.own }
         ensures deeds { TalksDeeds self.old self.new }
     {
-        match self.host.admit(self.guard) {
+        let guard = self.first_guard();
+        match self.host.admit(guard) {
             Ok(number) => number,
             Err(_) => None,
+        }
+    }
+
+    /// What a client has shown that comes.
+    fn first_guard(&self) -> Option<Guard>
+        ensures { result ≡ first_guard self.now.passes }
+    {
+        match &self.passes {
+            Some(_) => Some(Guard::Asks),
+            None => None,
         }
     }
 

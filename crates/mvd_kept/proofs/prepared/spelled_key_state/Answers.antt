@@ -13,4 +13,4 @@ returns-clause-spells c =
     let first : written ≡ spelled_key.spell key = c.in_ok-write_key.ensures.bytes ∙ ap (λ l. l ++ spelled_key.spell key) c.in_ok-bytes.ensures.items in
     let sized : c.len-key_length.result ≡ length written = search rules in
     subst (λ n. SpellsChange key state n c.write_state.new.out.items) (sym sized)
-    (behind key state written (spell_state state) c.write_state.new.out.items first refl c.in_ok-write_state.ensures (record { form = form_of state (c.state_length-length.ensures.fits c.requires) }) c.requires)
+    (behind key state written (spell_state state) c.write_state.new.out.items first refl c.in_ok-write_state.ensures (form_of state (c.state_length-length.ensures.fits c.requires)) c.requires)

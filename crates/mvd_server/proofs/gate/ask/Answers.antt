@@ -11,7 +11,7 @@ returns-then-not-next g c = asks_none _ _ c.args.number (web_of c.args.web.now) 
 pub returns : goal.returns
 returns g c = inr (record {
   mid = web_of c.next.new.self;
-  takes = subst (λ b. TakesRequest (option_copied c.args.guard) (named_by c.args.names.now) (web_of c.args.web.now) b (web_of c.next.new.self)) c.if-not-next.false c.next.ensures;
+  takes = subst (λ b. TakesRequest (option_copied c.args.passes) (named_by c.args.names.now) (web_of c.args.web.now) b (web_of c.next.new.self)) c.if-not-next.false c.next.ensures;
   asked = c.in-Some.asked.now;
   kept = sym c.in-Some.ensures;
   plan = c.plan_of-plan.result;

@@ -1,6 +1,9 @@
-use Rattle.std.proofs.Common.{◌≡◌, drop}
-use Rattle.mvd_host.specs.Feeds.{after_root, noted_since}
+use Rattle.std.proofs.Common.{◌≡◌, ◌≤◌, None, drop, length}
+use Rattle.mvd_host.specs.Feeds.{after_root}
 use Rattle.mvd_host.proofs.feed.Feed.place_of.Given as goal
 
-abbrev pub invariant-loop-index : goal.invariant-loop-index
-invariant-loop-index l = noted_since l.self l.root ≡ after_root (drop l.index l.self.rounds) l.root
+abbrev pub invariant-rounds : goal.invariant-rounds
+invariant-rounds l = (l.left ≤ length l.self.rounds) × (after_root (drop l.left l.self.rounds) l.root ≡ None)
+
+abbrev pub decreases-rounds : goal.decreases-rounds
+decreases-rounds l = l.left

@@ -1,5 +1,6 @@
 use Rattle.std.proofs.Common.{◌≡◌, ◌∷◌, [], Bool, true, false, refl, sym, ap, ◌∙◌, subst, inr}
 use Rattle.mvd_conn.specs.History.{History, after_next}
+use Rattle.mvd_host.specs.Course.{asked_by}
 use Rattle.mvd_host.specs.Taking.{TakesOn}
 use Rattle.mvd_host.proofs.Frames.{TookOne, idle_after, took_fault, took_none, took_nothing, took_one, took_request}
 use Rattle.mvd_host.proofs.Holding.{holds_fault, holds_request, holds_same, kept_nothing}
@@ -55,9 +56,9 @@ returns-in-Err-clause-took c =
     let one : TookOne c.args.connection.now c.next.new.self = took_one c.args.connection.now c.next.new.self next in
     record {
       requests = [];
-      faulty = one.frame ∷ [];
+      faulty = asked_by c.next.new.self.guard one.frame ∷ [];
       conn = took_fault c.args.connection.now c.next.new.self one;
-      holds = λ asked faults holds. holds_fault asked faults c.args.self.now (record { clients = c.args.self.now.clients; requests = c.args.self.now.requests; faults = c.push_reserved-in-Err.new.self }) c.args.client one.frame c.in-Err.refusal
+      holds = λ asked faults holds. holds_fault asked faults c.args.self.now (record { clients = c.args.self.now.clients; requests = c.args.self.now.requests; faults = c.push_reserved-in-Err.new.self }) c.args.client (asked_by c.next.new.self.guard one.frame) c.in-Err.refusal
           refl refl c.push_reserved-in-Err.ensures.items (c.in-Err.ensures one.frame one.hand) holds;
     }
 

@@ -11,7 +11,7 @@ pub returns-in-Nothing : goal.returns-in-Nothing
 returns-in-Nothing g c =
     let old = talking_of c.args.self.now in
     let web = c.ask-rest.new.web in
-    let asks = subst (λ guard. AsksNextOf guard old.names c.args.number (web_of c.in-Some.web.now) old.hand (web_of web) c.ask-rest.new.hand c.ask-rest.result) c.as_ref.ensures.value c.ask-rest.ensures in
+    let asks = subst (λ passes. AsksNextOf passes old.names c.args.number (web_of c.in-Some.web.now) old.hand (web_of web) c.ask-rest.new.hand c.ask-rest.result) c.as_ref.ensures.value c.ask-rest.ensures in
     deed_attends c.args.number (Asks c.ask-rest.result) c.in-Some.web.now web old c.ask-rest.new.hand old.batches (c.get_mut.follows.lender web).entries (sym c.in-Some.ensures.value) (asks, refl) (c.get_mut.follows.holds web).0
 
 pub returns-in-Writes : goal.returns-in-Writes
@@ -22,8 +22,8 @@ returns-in-Writes g c =
     let entries = (c.get_mut.follows.lender web).entries in
     let mid = record old { hand = c.ask-rest.new.hand; webs = entries } in
     let batch = c.in-Writes.batch in
-    let asks = subst (λ guard. AsksNextOf guard old.names n (web_of c.in-Some.web.now) old.hand (web_of web) c.ask-rest.new.hand (rest.Writes batch)) c.as_ref.ensures.value c.in-Writes.ensures in
-    let mine = batch_of old.guard old.names n (web_of c.in-Some.web.now) old.hand (web_of web) c.ask-rest.new.hand batch asks in
+    let asks = subst (λ passes. AsksNextOf passes old.names n (web_of c.in-Some.web.now) old.hand (web_of web) c.ask-rest.new.hand (rest.Writes batch)) c.as_ref.ensures.value c.in-Writes.ensures in
+    let mine = batch_of old.passes old.names n (web_of c.in-Some.web.now) old.hand (web_of web) c.ask-rest.new.hand batch asks in
     deeds_on old mid (talking_of c.begin_writes.new.self)
     (deed_attends n (Asks (rest.Writes batch)) c.in-Some.web.now web old c.ask-rest.new.hand old.batches entries (sym c.in-Some.ensures.value) (asks, refl) (c.get_mut.follows.holds web).0)
     (c.begin_writes.ensures (writing n c.in-Some.web.now web old.webs entries batch (sym c.in-Some.ensures.value) (c.get_mut.follows.holds web).0 mine, no_batch _ _ c.contains_key.ensures c.if-contains_key.false))
@@ -34,7 +34,7 @@ returns-in-Waits g c =
     let web = c.ask-rest.new.web in
     let entries = (c.get_mut.follows.lender web).entries in
     let mid = record old { hand = c.ask-rest.new.hand; webs = entries } in
-    let asks = subst (λ guard. AsksNextOf guard old.names c.args.number (web_of c.in-Some.web.now) old.hand (web_of web) c.ask-rest.new.hand c.ask-rest.result) c.as_ref.ensures.value c.ask-rest.ensures in
+    let asks = subst (λ passes. AsksNextOf passes old.names c.args.number (web_of c.in-Some.web.now) old.hand (web_of web) c.ask-rest.new.hand c.ask-rest.result) c.as_ref.ensures.value c.ask-rest.ensures in
     deeds_on old mid (talking_of c.park.new.self)
     (deed_attends c.args.number (Asks c.ask-rest.result) c.in-Some.web.now web old c.ask-rest.new.hand old.batches entries (sym c.in-Some.ensures.value) (asks, refl) (c.get_mut.follows.holds web).0)
     c.park.ensures

@@ -8,7 +8,7 @@ returns-clause-ok c = record {
   asked = c.in_ok-asked.asked;
   kept = refl;
   asks = c.in_ok-asked.ensures;
-  guard = refl;
+  passes = refl;
   names = refl;
   plain = record { status = refl; headers = c.requires.headers; body = c.requires.body };
 }

@@ -9,8 +9,8 @@ advance-requires c = free_desk (web_of c.args.self.now) c.requires
 
 pub returns-then-advance : goal.returns-then-advance
 returns-then-advance c =
-    takes_one (option_copied c.args.guard) (named_by c.args.names.now) (web_of c.args.self.now) (web_of c.advance.new.self) (web_of c.drop_pending.new.self) c.requires c.if-advance.ensures c.drop_pending.ensures.kept c.drop_pending.ensures.all
+    takes_one (option_copied c.args.passes) (named_by c.args.names.now) (web_of c.args.self.now) (web_of c.advance.new.self) (web_of c.drop_pending.new.self) c.requires c.if-advance.ensures c.drop_pending.ensures.kept c.drop_pending.ensures.all
 
 pub returns : goal.returns
 returns c =
-    takes_none (option_copied c.args.guard) (named_by c.args.names.now) (web_of c.args.self.now) (web_of c.advance.new.self) (web_of c.pass_on.new.self) c.requires c.if-advance.ensures c.pass_on.ensures
+    takes_none (option_copied c.args.passes) (named_by c.args.names.now) (web_of c.args.self.now) (web_of c.advance.new.self) (web_of c.pass_on.new.self) c.requires c.if-advance.ensures c.pass_on.ensures

@@ -1,0 +1,23 @@
+//! Laws of what is told over HTTP, each as the contract of an empty function.
+ghost use Rattle.std.specs.Prelude.{◌≡◌, ℕ, List, Option, Result, true};
+ghost use Rattle.mvd_conn.specs.declared.right.Right.{Right};
+ghost use Rattle.mvd_dots.specs.declared.refusals.Refusal.{Refusal};
+ghost use Rattle.mvd_http.specs.declared.question.Followed.{Followed};
+ghost use Rattle.mvd_http.specs.declared.question.Question.TheVariants.{Changes, Listed};
+ghost use Rattle.mvd_http.specs.declared.question.Wanted.{Wanted};
+ghost use Rattle.mvd_keys.specs.Writes.{Key};
+ghost use Rattle.mvd_server.specs.Bounds.{LinesWithin, NewsWithin, PageWithin};
+ghost use Rattle.mvd_web.specs.Rights.{may_ask};
+ghost use Rattle.mvd_wire.specs.declared.request.Request.{Request};
+ghost use Rattle.mvd_wire.specs.declared.request.Request.TheVariants.{Keys};
+
+/// What a right allows to be asked in a list, as a page or as changes is told from the keys that begin with its prefix
+/// alone, but for whether all places for keys are taken, and for the root from which changes are asked again.
+pub fn rights_bound_lists()
+    ensures lines { (right : Right) (asks : List (Result Request Refusal)) → LinesWithin right asks }
+    ensures page { (right : Right) (prefix : List ℕ) (after : Option Key) (wanted : Wanted) →
+        may_ask right (Listed (Keys prefix after) wanted) ≡ true →
+        PageWithin right (Listed (Keys prefix after) wanted) }
+    ensures news { (right : Right) (since : Option (List ℕ)) (wait : ℕ) (followed : Followed) →
+        may_ask right (Changes since wait followed) ≡ true → NewsWithin right followed }
+{}

@@ -1,0 +1,31 @@
+//! Which passes the clients meet.
+ghost use Rattle.std.specs.Prelude.{◌≡◌, length};
+ghost use Rattle.mvd_server.specs.Guarded.{AreSettled};
+ghost use Rattle.mvd_server.specs.Talking.{TalksDeeds};
+
+use crate::talks::Talks;
+use mvd_conn::Passes;
+
+impl Talks {
+    /// Has the clients of frames meet the passes that are known, where a token is asked of them.
+    pub fn meet_all(&mut self, ready: &[u64])
+        ensures deeds { TalksDeeds self.old self.new }
+        ensures hand { self.new.hand ≡ self.old.hand }
+        ensures settled { AreSettled self.new.passes ready.now (length ready.now) self.new.host }
+    {
+        if let Some(passes) = &self.passes {
+            for number in ready {
+                self.host.meet(*number, passes);
+            }
+        }
+    }
+
+    /// Other passes are known from now on, where tokens are asked for.
+    pub fn rotate(&mut self, passes: Passes)
+        ensures { TalksDeeds self.old self.new }
+    {
+        if self.passes.is_some() {
+            self.passes = Some(passes);
+        }
+    }
+}

@@ -1,0 +1,191 @@
+//! Those that wait for a change.
+ghost use Rattle.std.specs.Prelude.{◌≡◌, IsTrue};
+ghost use Rattle.mvd_server.specs.Talking.{IsWaiting, TalksDeeds, talking_of, web_in};
+
+use crate::changes::{News, followed_by};
+use crate::metrics::Counts;
+use crate::responding::{asks_changes, tell_pushed};
+use crate::talks::Talks;
+use mvd_dots::Refusal;
+use mvd_http::{Followed, push_changes, push_not_waited};
+use mvd_replica::Replica;
+use sqlite::Alter;
+
+impl Talks {
+    /// Lets a client wait for a change. Where as many wait as may, or memory is refused for that, it is told that there
+    /// is none yet, and that it did not wait.
+    pub fn park(&mut self, number: u64, root: [u8; 32], due: u64, counts: &mut Counts)
+        ensures { TalksDeeds self.old self.new }
+    {
+        let count = self.parked.len().saturating_add(1);
+        if count <= self.waits_max
+            && self.woken.reserve(count).is_ok()
+            && self.parked.add(number, root, due)
+        {
+            return;
+        }
+        self.tell_not_waited(number, root, counts);
+    }
+
+    /// Tells a client that knows this root that it does not wait for another.
+    fn tell_not_waited(&mut self, number: u64, root: [u8; 32], counts: &mut Counts)
+        ensures { TalksDeeds self.old self.new }
+    {
+        let mut body = String::new(self.alloc);
+        let pushed = push_not_waited(self.alloc, &mut body, root);
+        self.tell_waiting(number, pushed, body.as_str(), counts);
+    }
+
+    /// Tells a client that nothing changed since this root.
+    fn tell_none(&mut self, number: u64, root: [u8; 32], counts: &mut Counts)
+        ensures { TalksDeeds self.old self.new }
+    {
+        let mut body = String::new(self.alloc);
+        let pushed = push_changes(self.alloc, &mut body, root, &[], false);
+        self.tell_waiting(number, pushed, body.as_str(), counts);
+    }
+
+    /// Tells one whose request asks what changed.
+    fn tell_waiting(
+        &mut self,
+        number: u64,
+        told: Result<(), Refusal>,
+        body: &str,
+        counts: &mut Counts,
+    )
+        ensures { TalksDeeds self.old self.new }
+    {
+        if !self.awaits_change(number) {
+            return;
+        }
+        if let Some(web) = self.webs.get_mut(&number) {
+            tell_pushed(self.alloc, web, told, body, counts);
+        }
+    }
+
+    fn awaits_change(&self, number: u64) -> bool
+        ensures { IsTrue result → IsWaiting (web_in (talking_of self.now) number) }
+    {
+        match self.webs.get(&number) {
+            Some(web) => asks_changes(web),
+            None => false,
+        }
+    }
+
+    /// Tells those that wait what changed, if something did that they ask for.
+    pub fn wake<S: Alter + Drop>(&mut self, replica: &Replica<S>, counts: &mut Counts)
+        ensures { TalksDeeds self.old self.new }
+    {
+        if self.changes.root() == self.parked.root() {
+            return;
+        }
+        let mut news = News::new(self.alloc);
+        let mut from = 0;
+        for _ in 0..u64::MAX {
+            let Some(number) = self.parked.first_from(from) else {
+                break;
+            };
+            self.wake_one(replica, number, &mut news, counts);
+            from = number.saturating_add(1);
+        }
+        self.follow();
+    }
+
+    /// Tells one that waits what changed, if something did that it asks for.
+    fn wake_one<S: Alter + Drop>(
+        &mut self,
+        replica: &Replica<S>,
+        number: u64,
+        news: &mut News,
+        counts: &mut Counts,
+    )
+        ensures { TalksDeeds self.old self.new }
+    {
+        let told = match self.followed(number) {
+            Some(followed) => {
+                news.tell_since(&self.changes, replica, self.parked.root(), followed)
+            }
+            None => Ok(true),
+        };
+        let told = match told {
+            Ok(true) => Ok(()),
+            Ok(false) => return,
+            Err(refusal) => Err(refusal),
+        };
+        self.unpark(number);
+        self.tell_change(number, told, news.body.as_str(), counts);
+    }
+
+    /// Of which changes a client asks.
+    fn followed(&self, number: u64) -> Option<&Followed> {
+        followed_by(self.webs.get(&number)?.asked())
+    }
+
+    fn unpark(&mut self, number: u64)
+        ensures { talking_of self.new ≡ talking_of self.old }
+    {
+        self.parked.remove(number);
+    }
+
+    /// Those that wait on know the root now.
+    fn follow(&mut self)
+        ensures { talking_of self.new ≡ talking_of self.old }
+    {
+        self.parked.follow(self.changes.root());
+    }
+
+    /// Tells one that waits what changed.
+    fn tell_change(
+        &mut self,
+        number: u64,
+        told: Result<(), Refusal>,
+        body: &str,
+        counts: &mut Counts,
+    )
+        ensures { TalksDeeds self.old self.new }
+    {
+        self.note_woken(number);
+        self.tell_waiting(number, told, body, counts);
+    }
+
+    /// Tells those that have waited long enough that nothing changed.
+    pub fn end_waits(&mut self, now: u64, counts: &mut Counts)
+        ensures { TalksDeeds self.old self.new }
+    {
+        for _ in 0..u64::MAX {
+            let Some(number) = self.parked.take_due(now) else {
+                return;
+            };
+            self.end_wait(number, counts);
+        }
+    }
+
+    /// Tells one that has waited long enough.
+    fn end_wait(&mut self, number: u64, counts: &mut Counts)
+        ensures { TalksDeeds self.old self.new }
+    {
+        self.note_woken(number);
+        if let Some(root) = self.parked.root() {
+            self.tell_none(number, root, counts);
+        }
+    }
+
+    /// There is room for each that waits.
+    fn note_woken(&mut self, number: u64)
+        ensures { talking_of self.new ≡ talking_of self.old }
+    {
+        let _ = self.woken.push(number);
+    }
+
+    /// A client that waits for a change, if it does, is told soon that there is none.
+    pub fn hurry(&mut self, number: u64)
+        ensures { talking_of self.new ≡ talking_of self.old }
+    {
+        self.parked.hurry(number);
+    }
+
+    /// When the first that waits for a change has waited long enough.
+    pub fn next_due(&self) -> Option<u64> {
+        self.parked.next_due()
+    }
+}

@@ -46,7 +46,7 @@ module _ {L : Type 0} (gives : SocketAddr → L → Type 0) where
   kept_before now first later is keeps (Err failure) stays = keeps_before now first later is keeps stays
 
 pub none_kept : {L : Type 0} (server : Server L) (address : SocketAddr) → server.address ≡ address → server.kept ≡ None → server ≡ server_at address
-none_kept server address at none = cc
+none_kept server address at none = subst (λ kept. server ≡ record { address = address; kept = kept }) none (subst (λ a. server ≡ record { address = a; kept = server.kept }) at refl)
 
 -- ---- what came of a session, of the servers as they were at first
 

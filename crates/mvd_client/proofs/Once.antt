@@ -66,7 +66,7 @@ module _ {L : Type 0} (line : LineGhosts L) where
   pub root_refused : (server : SocketAddr) (kept : Option (Counted L)) (at link : Counted L) (before after : Remote (Counted L)) (refusal : Refusal) (stop : Stop) → kept ≡ Some at → kept ≡ Some link → line_of before ≡ link → refused_of before ≡ None
       → AsksRoot (link_within line) before after (Err refusal) → IsStopAt server refusal stop → (was now : Gone L) → LetsGo (line_of after).line was now → HasNoRoot line server at was now stop
   root_refused server kept at link before after refusal stop kept_is took is goes (inl (memory, same)) stops was now gone =
-      let same_line : line_of after ≡ at = ap line_of same ∙ is ∙ same_some kept link at took kept_is in
+      let same_line : line_of after ≡ at = ap (λ (r : Remote (Counted L)). line_of r) same ∙ is ∙ same_some kept link at took kept_is in
       record { refusal = refusal; stops = stops; why = inl (cc, subst (λ (c : Counted L). LetsGo c.line was now) same_line gone) }
   root_refused server kept at link before after refusal stop kept_is took is goes (inr (Ok digests, asked, own)) stops was now gone = absurd cc
   root_refused server kept at link before after refusal stop kept_is took is goes (inr (Err other, asked, own)) stops was now gone =

@@ -89,7 +89,7 @@ fn write_delete(out: &mut Vec<u8>, key: &Key, context: &Context) -> Result<(), A
     Ok(())
 }
 
-#[tactic(auto, unfolding(mvd_wire::specs::Requests::push, mvd_wire::specs::Codecs::spell_state))]
+#[tactic(auto, unfolding(mvd_wire::specs::Requests::push))]
 fn write_push(out: &mut Vec<u8>, key: &Key, state: &KeyState) -> Result<(), AllocError>
     ensures bytes { OnOk result (out.new.items ≡ out.old.items ++ push.spell (key.now, state.now)) }
     ensures key { is_key key.now ≡ true }

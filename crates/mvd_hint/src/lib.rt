@@ -7,4 +7,4 @@ mod watch;
 
 pub use harm::Harm;
 pub use hint::{Hint, Older, Stop, lacks_descriptors};
-pub use watch::Watch;
+pub use watch::{Lengths, Watch};

@@ -115,6 +115,28 @@ impl Watch {
         };
         self.marks.take(file, log)
     }
+
+    /// What they had when they were looked at last.
+    pub fn lengths(&self) -> Lengths {
+        Lengths {
+            file: length_of(self.marks.file),
+            log: length_of(self.marks.log),
+        }
+    }
+}
+
+/// How many bytes a file has, and its log, where that was told.
+#[derive(Clone, Copy)]
+pub struct Lengths {
+    pub file: Option<u64>,
+    pub log: Option<u64>,
+}
+
+fn length_of(mark: Option<Mark>) -> Option<u64> {
+    match mark {
+        Some(mark) => Some(mark.length),
+        None => None,
+    }
 }
 
 fn first_mark(found: Found) -> Option<Mark> {

@@ -1,12 +1,16 @@
 -- The entries of a page that are told, and how far it goes.
-use Rattle.std.proofs.Common.{◌≡◌, ◌≢◌, ◌∙◌, ◌==◌, ℕ, ◌+◌, ◌-◌, ◌<◌, ◌≤◌, Bool, true, false, cond, List, [], ◌∷◌, ◌++◌, length, get_or, take, drop, filter, refl, sym, ap, append_assoc, append-nil, arith, codes}
+use Rattle.std.proofs.Common.{◌≡◌, ◌≢◌, ◌∙◌, ◌==◌, ℕ, ◌+◌, ◌-◌, ◌<◌, ◌≤◌, Bool, true, false, cond, List, [], ◌∷◌, ◌++◌, length, get_or, take, drop, filter, Option, Some, refl, sym, ap, append_assoc, append-nil, arith, codes}
+use Rattle.std.specs.FinMap.Entries.{find}
+use Rattle.std.specs.Ordering.{eq_by_cmp}
 use Rattle.sha2.specs.Sha256.{sha256}
 use Rattle.std.proofs.lemmas.List.Elements.{filter_more}
-use Rattle.std.proofs.lemmas.List.{at_drop_all, drop_more, length_push, take_all, take_more}
+use Rattle.std.proofs.lemmas.List.{at_drop_all, drop_more, length_push, length-take-le, take_all, take_more}
 use Rattle.std.proofs.lemmas.Bool.Decides.{nat_tests}
-use Rattle.mvd_keys.specs.State.{State}
+use Rattle.mvd_dots.specs.Dot.{DotValue, dot_cmp}
+use Rattle.mvd_keys.specs.State.{State, Text, pairs_of}
 use Rattle.mvd_keys.specs.Writes.{Key}
-use Rattle.mvd_http.specs.Json.{commaed, digest_json, led_if}
+use Rattle.mvd_keys.specs.declared.siblings.Sibling.{Sibling}
+use Rattle.mvd_http.specs.Json.{comma_if, commaed, digest_json, led_if}
 use Rattle.mvd_http.specs.Listed.{digest_told, front, spelling, state_digest}
 use Rattle.mvd_http.proofs.Counting.{commaed_more}
 use Rattle.mvd_http.proofs.Steps.{steps2}
@@ -83,3 +87,41 @@ module _ {X : Type 0} (p : X → Bool) (f : X → List ℕ) (xs : List X) (i : �
             ∙ ap (λ t. old ++ t) (sym (commaed_more f so_far x) ∙ ap (commaed f) (sym all)),
         let some : length (so_far ++ x ∷ []) == 0 ≡ false = grind (arith, nat_tests) in sym (ap (λ ys. length ys == 0) all ∙ some),
       )
+
+-- ---- entries that are all told
+
+led_is : {X : Type 0} (b : Bool) (f : X → List ℕ) (x : X) → comma_if b ++ f x ≡ led_if b f x
+led_is true f x = refl
+led_is false f x = refl
+
+-- the text so far, with one entry more
+pub entry_on : {X : Type 0} (f : X → List ℕ) (xs : List X) (i : ℕ) (x : X) (old s0 s1 s2 : List ℕ) (b : Bool) → i < length xs → x ≡ get_or xs i x → s0 ≡ old ++ commaed f (take i xs) → b ≡ (i == 0)
+    → s1 ≡ s0 ++ comma_if b → s2 ≡ s1 ++ f x → s2 ≡ old ++ commaed f (take (i + 1) xs)
+entry_on f xs i x old s0 s1 s2 b within is so_far at_first e1 e2 =
+    let count : length (take i xs) ≡ i = length-take-le i xs (omega arith) in
+    e2
+    ∙ ap (λ t. t ++ f x) (e1 ∙ ap (λ t. t ++ comma_if b) so_far)
+    ∙ append_assoc (old ++ commaed f (take i xs)) (comma_if b) (f x)
+    ∙ append_assoc old (commaed f (take i xs)) (comma_if b ++ f x)
+    ∙ ap (λ t. old ++ (commaed f (take i xs) ++ t)) (led_is b f x ∙ ap (λ c. led_if c f x) (at_first ∙ ap (λ n. n == 0) (sym count)))
+    ∙ ap (λ t. old ++ t) (sym (commaed_more f (take i xs) x) ∙ ap (commaed f) (ap (λ y. take i xs ++ y ∷ []) is ∙ sym (take_more xs i x within)))
+
+-- ---- the document of a dot
+
+module _ (dot : DotValue) (siblings : List Sibling) where
+  abbrev pub found_from : ℕ → Option Text
+  found_from i = find dot_cmp dot (pairs_of (drop i siblings))
+
+  next_sibling : (i : ℕ) (s : Sibling) → i < length siblings → s ≡ get_or siblings i s → found_from i ≡ cond (eq_by_cmp dot_cmp dot s.dot) (Some s.document) (found_from (i + 1))
+  next_sibling i s within is =
+      ap (λ ss. find dot_cmp dot (pairs_of ss)) (drop_more siblings i s within ∙ ap (λ (t : Sibling). t ∷ drop (i + 1) siblings) (sym is))
+
+  -- this one has it
+  pub found_here : (i : ℕ) (s : Sibling) → i < length siblings → s ≡ get_or siblings i s → eq_by_cmp dot_cmp dot s.dot ≡ true → found_from i ≡ Some s.document
+  found_here i s within is same =
+      next_sibling i s within is ∙ ap (λ b. cond b (Some s.document) (found_from (i + 1))) same
+
+  -- it has another
+  pub found_on : (i : ℕ) (s : Sibling) (whole : Option Text) → i < length siblings → s ≡ get_or siblings i s → eq_by_cmp dot_cmp dot s.dot ≡ false → found_from i ≡ whole → found_from (i + 1) ≡ whole
+  found_on i s whole within is other so_far =
+      sym (next_sibling i s within is ∙ ap (λ b. cond b (Some s.document) (found_from (i + 1))) other) ∙ so_far

@@ -7,6 +7,7 @@ use Rattle.mvd_dots.specs.Dot.{DotValue}
 use Rattle.mvd_keys.specs.State.{Text, pair_of, pairs_of}
 use Rattle.mvd_keys.specs.declared.siblings.Sibling.{Sibling}
 use Rattle.mvd_http.specs.Json.{commaed, led, sibling_json}
+use Rattle.mvd_http.specs.declared.question.Spelling.{Spelling}
 
 pub steps4 : (old s1 s2 s3 s4 a b c d : List ℕ) → s1 ≡ old ++ a → s2 ≡ s1 ++ b → s3 ≡ s2 ++ c → s4 ≡ s3 ++ d → s4 ≡ old ++ (a ++ (b ++ (c ++ d)))
 steps4 old s1 s2 s3 s4 a b c d e1 e2 e3 e4 = rw (e4, e3, e2, e1) (simp append_assoc)
@@ -30,10 +31,10 @@ pub steps7 : (old s1 s2 s3 s4 s5 s6 s7 a b c d e f g : List ℕ) → s1 ≡ old 
 steps7 old s1 s2 s3 s4 s5 s6 s7 a b c d e f g e1 e2 e3 e4 e5 e6 e7 = rw (e7, e6, e5, e4, e3, e2, e1) (simp append_assoc)
 
 -- the list of siblings that is kept, and the pairs that it is
-pub siblings_alike : (siblings : List Sibling) (pairs : List (DotValue × Text)) → pairs_of siblings ≡ pairs → commaed (λ s. sibling_json (pair_of s)) siblings ≡ commaed sibling_json pairs
-siblings_alike [] pairs same = ap (λ t. commaed sibling_json t) same
-siblings_alike (s ∷ ss) pairs same =
-    ap (λ t. sibling_json (pair_of s) ++ t) (sym (flat_map-map (led sibling_json) pair_of ss)) ∙ ap (λ t. commaed sibling_json t) same
+pub siblings_alike : (spelling : Spelling) (siblings : List Sibling) (pairs : List (DotValue × Text)) → pairs_of siblings ≡ pairs → commaed (λ s. sibling_json spelling (pair_of s)) siblings ≡ commaed (sibling_json spelling) pairs
+siblings_alike spelling [] pairs same = ap (λ t. commaed (sibling_json spelling) t) same
+siblings_alike spelling (s ∷ ss) pairs same =
+    ap (λ t. sibling_json spelling (pair_of s) ++ t) (sym (flat_map-map (led (sibling_json spelling)) pair_of ss)) ∙ ap (λ t. commaed (sibling_json spelling) t) same
 
 pub items2 : {A : Type 0} (old s1 s2 : List A) (a b : A) → s1 ≡ old ++ a ∷ [] → s2 ≡ s1 ++ b ∷ [] → s2 ≡ old ++ a ∷ b ∷ []
 items2 old s1 s2 a b e1 e2 = rw (e2, e1) (simp append_assoc)

@@ -14,6 +14,8 @@ use Rattle.mvd_wire.specs.declared.reply.Reply.{Reply}
 use Rattle.mvd_wire.specs.declared.reply.Reply.TheVariants as reply
 use Rattle.mvd_wire.specs.declared.request.Request.{Request}
 use Rattle.mvd_wire.specs.declared.request.Request.TheVariants.{Bucket, Get, Node, Put, Row}
+use Rattle.mvd_http.specs.declared.question.Spelling.{Spelling}
+use Rattle.mvd_http.specs.declared.question.Spelling.TheVariants.{Plain, Quoted}
 use Rattle.mvd_http.specs.Json.{bucket_line, counts_text, denied_json, keys_json, later_json, later_line, live_text, node_line, misread_json, node_text, places_json, refused_json, row_json, rows_text, state_json, written_json}
 
 -- a status and a body
@@ -71,9 +73,9 @@ term_asked _ = None
 abbrev pub found_status : State → ℕ
 found_status state = if length (entries state.siblings) == 0 then 404 else 200
 
-abbrev pub state_told : Option Key → State → Result Told Refusal
-state_told None state = Err BadKind
-state_told (Some key) state = Ok (record { status = found_status state; body = state_json key state })
+abbrev pub state_told : Spelling → Option Key → State → Result Told Refusal
+state_told spelling None state = Err BadKind
+state_told spelling (Some key) state = Ok (record { status = found_status state; body = state_json spelling key state })
 
 abbrev pub row_response : Option Term → RowValue → Result Told Refusal
 row_response None row = Err BadKind
@@ -91,7 +93,7 @@ seen_then request dot = set.insert (seen_by request) dot
 -- The status and the body, or the refusal that is told in their place. A reply of a kind that answers no such request
 -- is 32.
 abbrev pub reply_told : Request → Reply → Result Told Refusal
-reply_told request (reply.State state) = state_told (key_asked request) state
+reply_told request (reply.State state) = state_told Plain (key_asked request) state
 reply_told request (reply.Written dot) = Ok (record { status = 201; body = written_json dot (seen_then request dot) })
 reply_told request reply.Done = Ok (record { status = 204; body = [] })
 reply_told request (reply.Places places more) = Ok (ok_told (places_json places more))
@@ -107,6 +109,11 @@ abbrev pub live_told : Request → Reply → Result Told Refusal
 live_told request (reply.Counts keys more) = Ok (ok_told (live_text keys more))
 live_told request reply = reply_told request reply
 
+-- and where each document is told as its text
+abbrev pub texts_told : Request → Reply → Result Told Refusal
+texts_told request (reply.State state) = state_told Quoted (key_asked request) state
+texts_told request reply = reply_told request reply
+
 -- ---- lines of a list of questions
 
 -- the line of the reply to a question: a node and the keys of a bucket with their path, and a key's state as it is told
@@ -115,9 +122,9 @@ abbrev pub refusal_in : Reply → Refusal
 refusal_in (reply.Refused refusal) = refusal
 refusal_in _ = BadKind
 
-abbrev pub state_line : Key → Reply → Result (List ℕ) Refusal
-state_line key (reply.State state) = Ok (state_json key state)
-state_line key told = Err (refusal_in told)
+abbrev pub state_line : Spelling → Key → Reply → Result (List ℕ) Refusal
+state_line spelling key (reply.State state) = Ok (state_json spelling key state)
+state_line spelling key told = Err (refusal_in told)
 
 abbrev pub digests_line : List ℕ → Reply → Result (List ℕ) Refusal
 digests_line path (reply.Digests digests) = Ok (node_line path digests.own digests.children)
@@ -127,11 +134,11 @@ abbrev pub keys_line : List ℕ → Reply → Result (List ℕ) Refusal
 keys_line path (reply.Keys keys more) = Ok (bucket_line path keys more)
 keys_line path told = Err (refusal_in told)
 
-abbrev pub line_told : Request → Reply → Result (List ℕ) Refusal
-line_told (Get key) told = state_line key told
-line_told (Node path) told = digests_line path told
-line_told (Bucket path after) told = keys_line path told
-line_told _ told = Err (refusal_in told)
+abbrev pub line_told : Spelling → Request → Reply → Result (List ℕ) Refusal
+line_told spelling (Get key) told = state_line spelling key told
+line_told spelling (Node path) told = digests_line path told
+line_told spelling (Bucket path after) told = keys_line path told
+line_told spelling _ told = Err (refusal_in told)
 
 -- what is told in its place where much is told, if anything
 abbrev pub later_told : Request → Option (List ℕ)

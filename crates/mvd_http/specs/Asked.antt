@@ -25,15 +25,17 @@ use Rattle.mvd_wire.specs.Prefix.{prefix_of_text}
 use Rattle.mvd_wire.specs.declared.request.Request.{Request}
 use Rattle.mvd_wire.specs.declared.request.Request.TheVariants.{Get, Put, Delete, Row, Rows, Node, Bucket, Range, Keys, Conflicts}
 use Rattle.mvd_http.specs.declared.question.Question.{Question}
-use Rattle.mvd_http.specs.declared.question.Question.TheVariants.{Page, Root, Metrics, Health, Ask, Asks, Listed, Live, Changes, Misread, Nowhere, NotAllowed, TooLong}
+use Rattle.mvd_http.specs.declared.question.Question.TheVariants.{Page, Root, Metrics, Health, Stop, Ask, Asks, Texts, Changes, Misread, Nowhere, NotAllowed, TooLong}
 use Rattle.mvd_http.specs.declared.posted.Form.{Form}
 use Rattle.mvd_http.specs.declared.posted.Form.TheVariants as form
 use Rattle.mvd_http.specs.declared.question.Methods.TheVariants.{OfKey, OfKeys, OfList, OfPost}
 use Rattle.mvd_http.specs.declared.question.Verb.{Verb}
-use Rattle.mvd_http.specs.declared.question.Wanted.{Wanted}
+use Rattle.mvd_http.specs.declared.question.Spelling.{Spelling}
+use Rattle.mvd_http.specs.declared.question.Spelling.TheVariants.{Plain, Quoted}
 use Rattle.mvd_http.specs.declared.question.Verb.TheVariants as verb
 use Rattle.mvd_http.specs.Paths.{text_before, text_behind, given, read_part, read_text, without, without_end}
 use Rattle.mvd_http.specs.Dots.{dot_in, number_in}
+use Rattle.mvd_http.specs.Options.{documents_in, page_in, spelling_in}
 use Rattle.mvd_http.specs.Posted.{IsList}
 use Rattle.mvd_http.specs.Seen.{IsWrite, then_read}
 
@@ -122,12 +124,12 @@ index_asked field query =
     then_read (field_named_in field) (λ f.
     then_read (term_in (bound (codes "from=") query)) (λ low.
     then_read (term_in (bound (codes "to=") query)) (λ high.
-    then_read (if_given place_in (given (codes "after=") query)) (λ after. Ok (Ask (Range f low high after))))))
+    then_read (if_given place_in (given (codes "after=") query)) (λ after. page_in query (Range f low high after)))))
 
 abbrev pub rows_question : List ℕ → List ℕ → Result Question Refusal
 rows_question view query =
     then_read (view_named_in view) (λ v.
-    then_read (if_given term_in (given (codes "after=") query)) (λ after. Ok (Ask (Rows v after))))
+    then_read (if_given term_in (given (codes "after=") query)) (λ after. page_in query (Rows v after)))
 
 abbrev pub row_question : List ℕ → List ℕ → Result Question Refusal
 row_question view query =
@@ -150,7 +152,7 @@ view_asked view query = view_or (without_end (codes "/rows") view) view query
 abbrev pub under_path : List ℕ → List ℕ → Result Question Refusal
 under_path path query =
     if length path == 3
-    then then_read (if_given key_in (given (codes "after=") query)) (λ after. Ok (Ask (Bucket path after)))
+    then then_read (if_given key_in (given (codes "after=") query)) (λ after. page_in query (Bucket path after))
     else Ok (Ask (Node path))
 
 abbrev pub node_or_keys : List ℕ → Request
@@ -166,7 +168,7 @@ paths_asked (text ∷ texts) =
 -- at most 64 of them
 abbrev pub few_paths : List (List ℕ) → Result Question Refusal
 few_paths texts =
-    if nat_lt 64 (length texts) then Err BadPath else then_read (paths_asked texts) (λ asks. Ok (Asks asks))
+    if nat_lt 64 (length texts) then Err BadPath else then_read (paths_asked texts) (λ asks. Ok (Asks asks Plain))
 
 -- parted by `,` (44)
 abbrev pub paths_or : List ℕ → List ℕ → Result Question Refusal
@@ -176,25 +178,15 @@ paths_or (b ∷ bs) query = few_paths (slice_split (λ c. c == 44) (percent_deco
 abbrev pub tree_asked : List ℕ → Result Question Refusal
 tree_asked query = paths_or (given (codes "paths=") query) query
 
-abbrev pub is_set : List ℕ → List ℕ → Bool
-is_set name query = bytes_eq (given name query) (codes "1")
-
--- `live=1` leaves out keys without a sibling, `digests=1` tells the digest of each
-abbrev pub wanted_in : List ℕ → Wanted
-wanted_in query = record { live = is_set (codes "live=") query; digests = is_set (codes "digests=") query }
-
-abbrev pub keys_as : Wanted → Request → Question
-keys_as wanted request =
-    if wanted.digests then Listed request wanted else (if wanted.live then Live request else Ask request)
-
 abbrev pub keys_question : List ℕ → Result Question Refusal
 keys_question query =
     then_read (prefix_in (given (codes "prefix=") query)) (λ prefix.
     then_read (if_given key_in (given (codes "after=") query))
-    (λ after. Ok (keys_as (wanted_in query) (Keys prefix after))))
+    (λ after. page_in query (Keys prefix after)))
 
 abbrev pub conflicts_asked : List ℕ → Result Question Refusal
-conflicts_asked query = then_read (if_given key_in (given (codes "after=") query)) (λ after. Ok (Ask (Conflicts after)))
+conflicts_asked query =
+    then_read (if_given key_in (given (codes "after=") query)) (λ after. page_in query (Conflicts after))
 
 -- `prefix=` names the keys that are told, `states=1` has each told in its state
 abbrev pub changes_question : List ℕ → Result Question Refusal
@@ -202,7 +194,7 @@ changes_question query =
     then_read (if_given root_in (given (codes "since=") query)) (λ since.
     then_read (wait_in (given (codes "wait=") query)) (λ wait.
     then_read (prefix_in (given (codes "prefix=") query))
-    (λ prefix. Ok (Changes since wait (record { prefix = prefix; states = is_set (codes "states=") query })))))
+    (λ prefix. Ok (Changes since wait (record { prefix = prefix; states = documents_in (codes "states=") query })))))
 
 abbrev pub named_view : Option (List ℕ) → List ℕ → Result Question Refusal
 named_view None query = Ok Nowhere
@@ -239,14 +231,22 @@ put_question body key seen = put_or_place body key seen (read_text document_of B
 abbrev pub delete_question : Key → DotSet → Result Question Refusal
 delete_question key seen = Ok (Ask (Delete key seen))
 
-abbrev pub IsQuestionOfKey : Verb → List ℕ → Option (List ℕ) → List ℕ → Result Question Refusal → Type 0
-IsQuestionOfKey verb.Read key context body result = IsAnswer result (then_read (key_in key) (λ k. Ok (Ask (Get k))))
-IsQuestionOfKey verb.Put key context body result =
+-- its state, whose documents may be told as their texts
+abbrev pub get_as : Spelling → Key → Question
+get_as Plain key = Ask (Get key)
+get_as Quoted key = Texts (Get key)
+
+abbrev pub state_question : List ℕ → List ℕ → Result Question Refusal
+state_question key query = then_read (key_in key) (λ k. Ok (get_as (spelling_in query) k))
+
+abbrev pub IsQuestionOfKey : Verb → List ℕ → List ℕ → Option (List ℕ) → List ℕ → Result Question Refusal → Type 0
+IsQuestionOfKey verb.Read key query context body result = IsAnswer result (state_question key query)
+IsQuestionOfKey verb.Put key query context body result =
     IsWrite (Ok set.empty) (key_in key) context (put_question body) result
-IsQuestionOfKey verb.Delete key context body result =
+IsQuestionOfKey verb.Delete key query context body result =
     IsWrite (Err BadContext) (key_in key) context delete_question result
-IsQuestionOfKey verb.Post key context body result = result ≡ Ok (NotAllowed OfKey)
-IsQuestionOfKey verb.Other key context body result = result ≡ Ok (NotAllowed OfKey)
+IsQuestionOfKey verb.Post key query context body result = result ≡ Ok (NotAllowed OfKey)
+IsQuestionOfKey verb.Other key query context body result = result ≡ Ok (NotAllowed OfKey)
 
 -- all keys: their list, or many writes
 abbrev pub IsOfKeys : Verb → List ℕ → List ℕ → Result Question Refusal → Type 0
@@ -259,9 +259,9 @@ IsOfKeys verb.Other query body result = result ≡ Ok (NotAllowed OfKeys)
 -- ---- lists that are sent
 
 -- to which paths, beside that of all keys
-abbrev pub form_at : List ℕ → Option Form
-form_at path =
-    if bytes_eq path (codes "/get") then Some form.Keys else (
+abbrev pub form_at : List ℕ → List ℕ → Option Form
+form_at path query =
+    if bytes_eq path (codes "/get") then Some (form.Keys (spelling_in query)) else (
     if bytes_eq path (codes "/push") then Some form.States else None)
 
 abbrev pub IsOfList : Form → Verb → List ℕ → Result Question Refusal → Type 0
@@ -291,9 +291,18 @@ abbrev pub read_only : Verb → List ℕ → List ℕ → Result Question Refusa
 read_only verb.Read path query = list_asked path query
 read_only _ path query = Ok (NotAllowed OfList)
 
+-- the server's end
+abbrev pub stop_asked : Verb → Question
+stop_asked verb.Post = Stop
+stop_asked _ = NotAllowed OfPost
+
+abbrev pub other_asked : Verb → List ℕ → List ℕ → Result Question Refusal
+other_asked verb path query =
+    if bytes_eq path (codes "/stop") then Ok (stop_asked verb) else read_only verb path query
+
 abbrev pub IsOfServer : Bool → Verb → List ℕ → List ℕ → List ℕ → Result Question Refusal → Type 0
 IsOfServer true verb path query body result = IsOfKeys verb query body result
-IsOfServer false verb path query body result = IsAnswer result (read_only verb path query)
+IsOfServer false verb path query body result = IsAnswer result (other_asked verb path query)
 
 abbrev pub IsOfPath : Option Form → Verb → List ℕ → List ℕ → List ℕ → Result Question Refusal → Type 0
 IsOfPath None verb path query body result =
@@ -302,8 +311,8 @@ IsOfPath (Some f) verb path query body result = IsOfList f verb body result
 
 abbrev pub IsQuestionOf : Option (List ℕ) → Verb → List ℕ → List ℕ → Option (List ℕ) → List ℕ → Result Question Refusal
     → Type 0
-IsQuestionOf None verb path query context body result = IsOfPath (form_at path) verb path query body result
-IsQuestionOf (Some key) verb path query context body result = IsQuestionOfKey verb key context body result
+IsQuestionOf None verb path query context body result = IsOfPath (form_at path query) verb path query body result
+IsQuestionOf (Some key) verb path query context body result = IsQuestionOfKey verb key query context body result
 
 abbrev pub IsQuestionIf : Bool → Verb → List ℕ → List ℕ → Option (List ℕ) → List ℕ → Result Question Refusal → Type 0
 IsQuestionIf true verb path query context body result = result ≡ Ok TooLong

@@ -19,6 +19,9 @@ use Rattle.mvd_keys.specs.declared.places.Place.{Place}
 use Rattle.mvd_wire.specs.declared.reply.Reply.{Reply}
 use Rattle.mvd_wire.specs.declared.reply.Reply.TheVariants as reply
 use Rattle.mvd_print.specs.Text.{dot_text, term_text}
+use Rattle.mvd_http.specs.declared.question.Spelling.{Spelling}
+use Rattle.mvd_http.specs.declared.question.Spelling.TheVariants.{Plain, Quoted}
+use Rattle.mvd_http.specs.declared.server_told.Totals.{Totals}
 
 -- a text as a JSON string
 abbrev pub quoted : List ℕ → List ℕ
@@ -57,15 +60,25 @@ next_text_of text true xs = option_map text (last_of xs)
 
 -- ---- entries
 
-abbrev pub sibling_json : DotValue × Text → List ℕ
-sibling_json sibling =
-    codes "{\"dot\":\"" ++ (dot_text sibling.0 ++ (codes "\",\"document\":" ++ (sibling.1 ++ codes "}")))
+-- a document, with the name of its member: itself, or its text
+abbrev pub document_json : Spelling → Text → List ℕ
+document_json Plain text = codes "\"document\":" ++ text
+document_json Quoted text = codes "\"text\":" ++ quoted text
 
-abbrev pub place_json : Place → List ℕ
-place_json place =
+abbrev pub sibling_json : Spelling → DotValue × Text → List ℕ
+sibling_json spelling sibling =
+    codes "{\"dot\":\""
+    ++ (dot_text sibling.0 ++ (codes "\"," ++ (document_json spelling sibling.1 ++ codes "}")))
+
+-- a place, without its end
+abbrev pub place_front : Place → List ℕ
+place_front place =
     codes "{\"term\":"
     ++ (term_text place.term
-    ++ (codes ",\"key\":" ++ (quoted place.key ++ (codes ",\"dot\":\"" ++ (dot_text place.dot ++ codes "\"}")))))
+    ++ (codes ",\"key\":" ++ (quoted place.key ++ (codes ",\"dot\":\"" ++ (dot_text place.dot ++ codes "\"")))))
+
+abbrev pub place_json : Place → List ℕ
+place_json place = place_front place ++ codes "}"
 
 -- the place as the text that a query takes
 abbrev pub place_mark : Place → List ℕ
@@ -110,16 +123,19 @@ count_mark entry = entry.0
 
 -- ---- whole bodies
 
-abbrev pub siblings_json : List (DotValue × Text) → List ℕ
-siblings_json siblings = commaed sibling_json siblings
+abbrev pub siblings_json : Spelling → List (DotValue × Text) → List ℕ
+siblings_json spelling siblings = commaed (sibling_json spelling) siblings
 
-abbrev pub state_json : Key → State → List ℕ
-state_json key state =
-    codes "{\"key\":"
-    ++ (quoted key
-    ++ (codes ",\"context\":\""
+-- what an object has of a state
+abbrev pub state_members : Spelling → State → List ℕ
+state_members spelling state =
+    codes ",\"context\":\""
     ++ (text_of state.context
-    ++ (codes "\",\"siblings\":[" ++ (siblings_json (entries state.siblings) ++ codes "]}")))))
+    ++ (codes "\",\"siblings\":[" ++ (siblings_json spelling (entries state.siblings) ++ codes "]")))
+
+abbrev pub state_json : Spelling → Key → State → List ℕ
+state_json spelling key state =
+    codes "{\"key\":" ++ (quoted key ++ (state_members spelling state ++ codes "}"))
 
 -- the dot of a write, and the context to write with next
 abbrev pub written_json : DotValue → DotSet → List ℕ
@@ -160,13 +176,16 @@ children_text (Some children) = codes ",\"children\":[" ++ (commaed digest_json 
 abbrev pub node_text : List ℕ → Option (List (List ℕ)) → List ℕ
 node_text own children = codes "{\"digest\":" ++ (digest_json own ++ (children_text children ++ codes "}"))
 
-abbrev pub root_json : List ℕ → ℕ → ℕ → ℕ → List ℕ
-root_json digest keys conflicts site =
+abbrev pub totals_json : Totals → List ℕ
+totals_json totals =
+    codes ",\"keys\":"
+    ++ (decimal totals.keys
+    ++ (codes ",\"live\":" ++ (decimal totals.live ++ (codes ",\"conflicts\":" ++ decimal totals.conflicts))))
+
+abbrev pub root_json : List ℕ → Totals → ℕ → List ℕ
+root_json digest totals site =
     codes "{\"root\":"
-    ++ (digest_json digest
-    ++ (codes ",\"keys\":"
-    ++ (decimal keys
-    ++ (codes ",\"conflicts\":" ++ (decimal conflicts ++ (codes ",\"site\":" ++ (decimal site ++ codes "}")))))))
+    ++ (digest_json digest ++ (totals_json totals ++ (codes ",\"site\":" ++ (decimal site ++ codes "}"))))
 
 abbrev pub truth_text : Bool → List ℕ
 truth_text true = codes "true"

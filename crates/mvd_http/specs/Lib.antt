@@ -4,6 +4,7 @@ pub mod Dots
 pub mod Members
 pub mod Pushed
 pub mod Posted
+pub mod Options
 pub mod Asked
 pub mod Json
 pub mod Answers

@@ -23,6 +23,7 @@ use Rattle.mvd_http.specs.declared.posted.Form.TheVariants.{Writes, Keys, States
 use Rattle.mvd_http.specs.declared.posted.Line.{Line}
 use Rattle.mvd_http.specs.declared.posted.Listed.{Listed}
 use Rattle.mvd_http.specs.declared.posted.Listed.TheVariants as listed
+use Rattle.mvd_http.specs.declared.question.Spelling.{Spelling}
 use Rattle.mvd_http.specs.declared.question.Question.{Question}
 use Rattle.mvd_http.specs.declared.question.Question.TheVariants.{Asks, BadLine, Many, TooLong}
 use Rattle.mvd_http.specs.Members.{member_count_of, one_if, text_if}
@@ -85,7 +86,7 @@ IsItemIf Is line item = IsReadIf Is line item × (item ≢ Some (Err Memory))
 
 abbrev pub IsItemOf : Form → Data → Option (Result Request Refusal) → Type 0
 IsItemOf Writes d item = IsItemIf IsWriteOf (line_of_data d) item
-IsItemOf Keys d item = IsItemIf IsGetOf (as_str d) item
+IsItemOf (Keys spelling) d item = IsItemIf IsGetOf (as_str d) item
 IsItemOf States d item = IsItemIf IsPushOf (state_line_of d) item
 
 abbrev pub IsItemRead : Form → Option Data → Option (Result Request Refusal) → Type 0
@@ -134,19 +135,19 @@ body_lines body = if length body == 0 then [] else slice_split (λ b. b == 10) (
 abbrev pub AreFewLines : List ℕ → Type 0
 AreFewLines body = length (body_lines body) ≤ 1000
 
--- whether the lines only ask
-abbrev pub only_asks : Form → Bool
-only_asks Writes = false
-only_asks Keys = true
-only_asks States = false
+-- where the lines only ask, how documents are told
+abbrev pub asks_in : Form → Option Spelling
+asks_in Writes = None
+asks_in (Keys spelling) = Some spelling
+asks_in States = None
 
 -- Each line is what is asked or its refusal, where there are at most 1,000 and each has the form of one. Else the site
 -- is asked nothing.
 abbrev pub IsList : Form → List ℕ → Result Question Refusal → Type 0
 IsList form body (Ok (Many items)) =
-    (only_asks form ≡ false) × AreFewLines body × AreItems form (body_lines body) items
-IsList form body (Ok (Asks items)) =
-    (only_asks form ≡ true) × AreFewLines body × AreItems form (body_lines body) items
+    (asks_in form ≡ None) × AreFewLines body × AreItems form (body_lines body) items
+IsList form body (Ok (Asks items spelling)) =
+    (asks_in form ≡ Some spelling) × AreFewLines body × AreItems form (body_lines body) items
 IsList form body (Ok (BadLine number)) = AreFewLines body × IsFirstOther form (body_lines body) number
 IsList form body (Ok TooLong) = 1000 < length (body_lines body)
 IsList form body (Ok _) = ⊥

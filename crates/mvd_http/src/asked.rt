@@ -6,17 +6,17 @@ ghost use Rattle.mvd_dots.specs.Answer.{IsAnswer};
 ghost use Rattle.mvd_dots.specs.declared.refusals.Refusal.TheVariants.{BadContext};
 ghost use Rattle.mvd_docs.specs.Document.{document_of};
 ghost use Rattle.mvd_print.specs.Place.{fault_json};
-ghost use Rattle.mvd_http.specs.declared.question.Question.TheVariants.{Ask, Misread};
-ghost use Rattle.mvd_wire.specs.declared.request.Request.TheVariants.{Get};
+ghost use Rattle.mvd_http.specs.declared.question.Question.TheVariants.{Misread};
 ghost use Rattle.mvd_http.specs.Asked.{key_in as key_read, IsQuestionOf, IsQuestionOfKey, IsOfKeys, IsOfList};
 ghost use Rattle.mvd_http.specs.Asked.{IsOfPath, IsOfServer, IsQuestion, form_at as form_told, is_too_long as too_long};
 ghost use Rattle.mvd_http.specs.Asked.{delete_question as deletes, put_or_place};
-ghost use Rattle.mvd_http.specs.Asked.{put_question as puts, read_only as only_read, verb_of as verb_read};
-ghost use Rattle.mvd_http.specs.Seen.{IsContext, IsSeen, IsWrite, then_read};
+ghost use Rattle.mvd_http.specs.Asked.{put_question as puts, read_only as only_read, state_question, stop_asked, verb_of as verb_read};
+ghost use Rattle.mvd_http.specs.Seen.{IsContext, IsSeen, IsWrite};
 
 use crate::lists_asked::{keys_of, list_of};
+use crate::options::spelling_in;
 use crate::posted::{Form, listed_in};
-use crate::question::{Methods, Question, Verb};
+use crate::question::{Methods, Question, Spelling, Verb};
 use crate::target::{before, behind, without};
 use crate::target_parts::key_in;
 use crate::writing::is_list_of_changes;
@@ -47,7 +47,7 @@ pub fn question_of(
         return Ok(Question::TooLong);
     }
     match without(path, b"/keys/") {
-        Some(key) => of_key(alloc, verb, key, context, body),
+        Some(key) => of_key(alloc, verb, key, query, context, body),
         None => of_path(alloc, verb, path, query, body),
     }
 }
@@ -82,24 +82,28 @@ fn of_key(
     alloc: Global,
     verb: Verb,
     key: &[u8],
+    query: &[u8],
     context: Option<&[u8]>,
     body: &[u8],
 ) -> Result<Question, Refusal>
-    ensures { IsQuestionOfKey verb key.now (option_copied context.entry) body.now result }
+    ensures { IsQuestionOfKey verb key.now query.now (option_copied context.entry) body.now result }
 {
     match verb {
-        Verb::Read => get_of(alloc, key),
+        Verb::Read => get_of(alloc, key, query),
         Verb::Put => put_in(alloc, key, context, body),
         Verb::Delete => delete_in(alloc, key, context),
         Verb::Post | Verb::Other => Ok(Question::NotAllowed(Methods::OfKey)),
     }
 }
 
-fn get_of(alloc: Global, key: &[u8]) -> Result<Question, Refusal>
-    ensures { IsAnswer result (then_read (key_read key.now) (λ k. Ok (Ask (Get k)))) }
+fn get_of(alloc: Global, key: &[u8], query: &[u8]) -> Result<Question, Refusal>
+    ensures { IsAnswer result (state_question key.now query.now) }
 {
     let key = key_in(alloc, key)?;
-    Ok(Question::Ask(Request::Get(key)))
+    match spelling_in(query) {
+        Spelling::Plain => Ok(Question::Ask(Request::Get(key))),
+        Spelling::Quoted => Ok(Question::Texts(Request::Get(key))),
+    }
 }
 
 fn put_in(
@@ -197,20 +201,20 @@ fn of_path(
     query: &[u8],
     body: &[u8],
 ) -> Result<Question, Refusal>
-    ensures { IsOfPath (form_told path.now) verb path.now query.now body.now result }
+    ensures { IsOfPath (form_told path.now query.now) verb path.now query.now body.now result }
 {
-    match form_at(path) {
+    match form_at(path, query) {
         Some(form) => of_list(alloc, form, verb, body),
         None => of_server(alloc, verb, path, query, body),
     }
 }
 
 /// What the lines are that are sent to a path, if it is of a list alone.
-fn form_at(path: &[u8]) -> Option<Form>
-    ensures { result ≡ form_told path.now }
+fn form_at(path: &[u8], query: &[u8]) -> Option<Form>
+    ensures { result ≡ form_told path.now query.now }
 {
     if path == b"/get".as_slice() {
-        return Some(Form::Keys);
+        return Some(Form::Keys(spelling_in(query)));
     }
     if path == b"/push".as_slice() {
         return Some(Form::States);
@@ -241,7 +245,20 @@ fn of_server(
     if path == b"/keys".as_slice() {
         return of_keys(alloc, verb, query, body);
     }
+    if path == b"/stop".as_slice() {
+        return Ok(stop_of(verb));
+    }
     read_only(alloc, verb, path, query)
+}
+
+/// What is asked of the server's end.
+fn stop_of(verb: Verb) -> Question
+    ensures { result ≡ stop_asked verb }
+{
+    match verb {
+        Verb::Post => Question::Stop,
+        _ => Question::NotAllowed(Methods::OfPost),
+    }
 }
 
 /// What is asked of all keys.

@@ -2,9 +2,10 @@
 ghost use Rattle.std.specs.Prelude.{◌≡◌, ◌++◌, [], IfOk, OnOk, string_bytes, true};
 ghost use Rattle.mvd_http.specs.Followed.{changed_states_text, changed_text, state_or_later, states_text};
 
+use crate::documents::push_state;
 use crate::json_words::{push_digest, push_word};
 use crate::listed::{Holds, push_comma};
-use crate::responses::push_state;
+use crate::question::Spelling;
 use crate::server_told::push_changes;
 use crate::told_lines::push_later_key;
 use mvd_dots::Refusal;
@@ -18,47 +19,53 @@ const TOLD_MAX: usize = 1_048_576;
 pub fn push_changed<H: Holds>(
     alloc: Global,
     held: &H,
-    in_states: bool,
+    states: Option<Spelling>,
     root: [u8; 32],
     keys: &[Key],
     out: &mut String,
 ) -> Result<(), Refusal>
     ensures { OnOk result (string_bytes out.new ≡
-        string_bytes out.old ++ changed_text (H.states held.now) in_states root keys.now) }
+        string_bytes out.old ++ changed_text (H.states held.now) states root keys.now) }
 {
-    if in_states {
-        return push_changed_states(alloc, held, root, keys, out);
+    match states {
+        Some(spelling) => push_changed_states(alloc, held, spelling, root, keys, out),
+        None => push_changes(alloc, out, root, keys, false),
     }
-    push_changes(alloc, out, root, keys, false)
 }
 
 fn push_changed_states<H: Holds>(
     alloc: Global,
     held: &H,
+    spelling: Spelling,
     root: [u8; 32],
     keys: &[Key],
     out: &mut String,
 ) -> Result<(), Refusal>
     ensures { OnOk result (string_bytes out.new ≡
-        string_bytes out.old ++ changed_states_text (H.states held.now) root keys.now) }
+        string_bytes out.old ++ changed_states_text (H.states held.now) spelling root keys.now) }
 {
     push_word(out, "{\"root\":")?;
     push_digest(alloc, out, root)?;
     push_word(out, ",\"keys\":[")?;
-    let states = states_of(alloc, held, keys)?;
+    let states = states_of(alloc, held, spelling, keys)?;
     push_word(out, states.as_str())?;
     Ok(push_word(out, "],\"resync\":false}")?)
 }
 
 /// The states of keys, with commas between them.
-fn states_of<H: Holds>(alloc: Global, held: &H, keys: &[Key]) -> Result<String, Refusal>
-    ensures { IfOk result (λ text. string_bytes text ≡ states_text (H.states held.now) true [] keys.now) }
+fn states_of<H: Holds>(
+    alloc: Global,
+    held: &H,
+    spelling: Spelling,
+    keys: &[Key],
+) -> Result<String, Refusal>
+    ensures { IfOk result (λ text. string_bytes text ≡ states_text (H.states held.now) spelling true [] keys.now) }
 {
     let mut told = String::new(alloc);
     let mut is_first = true;
     for key in keys {
         push_comma(&mut told, is_first)?;
-        push_state_or_later(alloc, held, key, &mut told)?;
+        push_state_or_later(alloc, held, spelling, key, &mut told)?;
         is_first = false;
     }
     Ok(told)
@@ -68,14 +75,15 @@ fn states_of<H: Holds>(alloc: Global, held: &H, keys: &[Key]) -> Result<String, 
 fn push_state_or_later<H: Holds>(
     alloc: Global,
     held: &H,
+    spelling: Spelling,
     key: &Key,
     told: &mut String,
 ) -> Result<(), Refusal>
     ensures { OnOk result (string_bytes told.new ≡
-        string_bytes told.old ++ state_or_later (H.states held.now) (string_bytes told.old) key.now) }
+        string_bytes told.old ++ state_or_later (H.states held.now) spelling (string_bytes told.old) key.now) }
 {
     if told.len() >= TOLD_MAX {
         return push_later_key(alloc, key, told);
     }
-    push_state(alloc, key, &held.state_of(key)?, told)
+    push_state(alloc, key, spelling, &held.state_of(key)?, told)
 }

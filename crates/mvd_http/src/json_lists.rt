@@ -1,17 +1,16 @@
 //! Lists in JSON: entries with commas between them, and the text to go on from.
 ghost use Rattle.std.specs.Prelude.{◌≡◌, ◌++◌, Some, OnOk, IfOk, IsOkUnless, string_bytes};
 ghost use Rattle.std.specs.List.{flat_map};
-ghost use Rattle.mvd_keys.specs.State.{pair_of};
 ghost use Rattle.mvd_http.specs.Json.{commaed, ends_json, key_digest_text, keys_json, led, next_text_of, next_text, key_mark};
 ghost use Rattle.mvd_http.specs.Json.{row_mark, place_mark as mark_of_place, place_json, places_json, row_json, rows_text};
-ghost use Rattle.mvd_http.specs.Json.{sibling_json, view_row_json};
+ghost use Rattle.mvd_http.specs.Json.{place_front, view_row_json};
 
 use crate::json_words::{
     push_digest, push_dot, push_number, push_quoted, push_signed, push_term, push_whole, push_word,
 };
 use mvd_docs::Term;
 use mvd_dots::Refusal;
-use mvd_keys::{Key, Place, Sibling};
+use mvd_keys::{Key, Place};
 use std::alloc::{AllocError, Global};
 
 /// A row of a view as it is told: its term, its count, its sum, and its ends.
@@ -20,41 +19,9 @@ pub type ViewRow = (Term, u64, i128, Option<(i64, i64)>);
 /// A key of a bucket with its digest.
 pub type KeyDigest = (Key, [u8; 32]);
 
-fn push_sibling(out: &mut String, sibling: &Sibling) -> Result<(), AllocError>
-    ensures { OnOk result (string_bytes out.new ≡ string_bytes out.old ++ sibling_json (pair_of sibling.now)) }
-{
-    push_word(out, "{\"dot\":\"")?;
-    push_dot(out, sibling.dot)?;
-    push_word(out, "\",\"document\":")?;
-    push_word(out, sibling.document.text())?;
-    push_word(out, "}")?;
-    Ok(())
-}
-
-fn push_more_siblings(out: &mut String, siblings: &[Sibling]) -> Result<(), AllocError>
-    ensures { OnOk result (string_bytes out.new ≡
-        string_bytes out.old ++ flat_map (λ s. led sibling_json (pair_of s)) siblings.now) }
-{
-    for sibling in siblings {
-        push_word(out, ",")?;
-        push_sibling(out, sibling)?;
-    }
-    Ok(())
-}
-
-pub fn push_siblings(out: &mut String, siblings: &[Sibling]) -> Result<(), AllocError>
-    ensures { OnOk result (string_bytes out.new ≡
-        string_bytes out.old ++ commaed (λ s. sibling_json (pair_of s)) siblings.now) }
-{
-    let Some((first, rest)) = siblings.split_first() else {
-        return Ok(());
-    };
-    push_sibling(out, first)?;
-    push_more_siblings(out, rest)
-}
-
-fn push_place(alloc: Global, out: &mut String, place: &Place) -> Result<(), Refusal>
-    ensures text { OnOk result (string_bytes out.new ≡ string_bytes out.old ++ place_json place.now) }
+/// A place, without its end.
+pub fn push_place_front(alloc: Global, out: &mut String, place: &Place) -> Result<(), Refusal>
+    ensures text { OnOk result (string_bytes out.new ≡ string_bytes out.old ++ place_front place.now) }
     ensures memory { IsOkUnless result Refusal.Memory }
 {
     push_word(out, "{\"term\":")?;
@@ -63,7 +30,15 @@ fn push_place(alloc: Global, out: &mut String, place: &Place) -> Result<(), Refu
     push_quoted(alloc, out, place.key.text())?;
     push_word(out, ",\"dot\":\"")?;
     push_dot(out, place.dot)?;
-    Ok(push_word(out, "\"}")?)
+    Ok(push_word(out, "\"")?)
+}
+
+pub fn push_place(alloc: Global, out: &mut String, place: &Place) -> Result<(), Refusal>
+    ensures text { OnOk result (string_bytes out.new ≡ string_bytes out.old ++ place_json place.now) }
+    ensures memory { IsOkUnless result Refusal.Memory }
+{
+    push_place_front(alloc, out, place)?;
+    Ok(push_word(out, "}")?)
 }
 
 fn push_more_places(alloc: Global, out: &mut String, places: &[Place]) -> Result<(), Refusal>
@@ -216,7 +191,7 @@ fn place_mark(alloc: Global, place: &Place) -> Result<String, Refusal>
     Ok(text)
 }
 
-fn push_place_next(
+pub fn push_place_next(
     alloc: Global,
     out: &mut String,
     places: &[Place],

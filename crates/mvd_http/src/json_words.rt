@@ -1,13 +1,14 @@
 //! Words, put behind what was printed. Numbers take no memory but that of the text which grows.
 ghost use Rattle.std.specs.Prelude.{◌≡◌, ◌++◌, OnOk, IsOkUnless, length, string_bytes};
 ghost use Rattle.std.specs.Fmt.{decimal, signed_decimal};
+ghost use Rattle.mvd_dots.specs.Text.{text_of};
 ghost use Rattle.mvd_print.specs.Text.{dot_text, term_text};
 ghost use Rattle.mvd_http.specs.Json.{digest_json, quoted};
 ghost use Rattle.mvd_http.specs.Room.{FillsRoom};
 
 use itoa::Buffer;
 use mvd_docs::Term;
-use mvd_dots::{Dot, Refusal};
+use mvd_dots::{Context, Dot, Refusal};
 use serde_json::Value;
 use std::alloc::{AllocError, Global};
 
@@ -56,6 +57,14 @@ pub fn push_term(alloc: Global, out: &mut String, term: &Term) -> Result<(), Ref
     ensures memory { IsOkUnless result Refusal.Memory }
 {
     let text = term.print(alloc)?;
+    Ok(push_word(out, text.as_str())?)
+}
+
+pub fn push_context(out: &mut String, context: &Context) -> Result<(), Refusal>
+    ensures text { OnOk result (string_bytes out.new ≡ string_bytes out.old ++ text_of context.now) }
+    ensures memory { IsOkUnless result Refusal.Memory }
+{
+    let text = context.print()?;
     Ok(push_word(out, text.as_str())?)
 }
 

@@ -3,6 +3,7 @@
 
 mod asked;
 mod count_lists;
+mod documents;
 pub mod fields;
 mod followed;
 mod guard;
@@ -16,8 +17,10 @@ mod live_told;
 mod members;
 mod not_waited;
 mod open_to_all;
+mod options;
 mod page;
 mod place;
+mod places_listed;
 mod posted;
 mod pushed;
 pub mod question;
@@ -36,14 +39,14 @@ pub use guard::{Names, name_in, origin_in, stranger};
 pub use http_fault::Fault;
 pub use line_told::{LINE_ROOM, push_line};
 pub use listed::{Holds, push_listed};
-pub use live_told::live_response_of;
+pub use live_told::{live_response_of, texts_response_of};
 pub use not_waited::push_not_waited;
 pub use open_to_all::is_open_to_all;
 pub use page::PAGE;
-pub use question::{Followed, Methods, Question, Verb, Wanted};
+pub use question::{Followed, Methods, Question, Spelling, Verb, Wanted};
 pub use responses::{
     misread_response, push_refused, refused_response, refused_status, response_of,
 };
-pub use server_told::{push_changes, push_root};
+pub use server_told::{Totals, push_changes, push_root};
 pub use told_lines::{push_bad_line, push_denied, push_later, push_told};
 pub use writing::is_write;

@@ -1,15 +1,19 @@
-//! Pages of keys of which more is told than a reply has.
+//! Pages of which more is told than a reply has, or less.
 ghost use Rattle.std.specs.Prelude.{◌≡◌, ◌≤◌, ◌-◌, ◌++◌, List, ℕ, Ok, IfOk, OnOk, length, string_bytes, take, true};
 ghost use Rattle.sha2.specs.Sha256.{sha256};
 ghost use Rattle.mvd_keys.specs.State.{State};
 ghost use Rattle.mvd_keys.specs.Writes.{Key};
 ghost use Rattle.mvd_http.specs.Json.{comma_if, led_if};
-ghost use Rattle.mvd_http.specs.Listed.{digest_told, front_of, hashed_bytes, is_told as told_of, item_bytes, item_json};
-ghost use Rattle.mvd_http.specs.Listed.{items_json, listed_json, listed_told, spelling, state_digest};
+ghost use Rattle.mvd_http.specs.Listed.{count_json, digest_told, first_keys, first_rows, front_of, hashed_bytes};
+ghost use Rattle.mvd_http.specs.Listed.{is_told as told_of, item_bytes, item_json, items_json, listed_json, listed_told};
+ghost use Rattle.mvd_http.specs.Listed.{siblings_told, spelling, state_digest};
 
 use crate::count_lists::{KeyCount, push_count_next};
+use crate::documents::push_members;
+use crate::json_lists::{KeyDigest, ViewRow, push_keys_page, push_rows_page};
 use crate::json_words::{push_digest, push_number, push_quoted, push_word};
-use crate::question::Wanted;
+use crate::places_listed::push_places_listed;
+use crate::question::{Spelling, Wanted};
 use crate::told_lines::refusal_of;
 use mvd_dots::Refusal;
 use mvd_keys::{Key, KeyState};
@@ -18,7 +22,7 @@ use sha2::{Digest, Sha256};
 use std::alloc::{AllocError, Global};
 
 /// So many bytes are told and hashed; then the page ends.
-const ROOM: usize = 1_048_576;
+pub const ROOM: usize = 1_048_576;
 
 /// Where the keys are held of which a page tells.
 pub trait Holds {
@@ -43,8 +47,46 @@ pub fn push_listed<H: Holds>(
 {
     match reply {
         Reply::Counts(keys, more) => push_page(alloc, held, wanted, keys.as_slice(), *more, out),
+        Reply::Places(places, more) => {
+            push_places_listed(alloc, held, wanted, places.as_slice(), *more, out)
+        }
+        Reply::Rows(rows, more) => push_first_rows(alloc, wanted, rows.as_slice(), *more, out),
+        Reply::Keys(keys, more) => push_first_keys(alloc, wanted, keys.as_slice(), *more, out),
         _ => Err(refusal_of(reply)),
     }
+}
+
+/// The first entries, so many at most.
+pub fn first_of<T>(entries: &[T], limit: usize) -> &[T]
+    ensures { result.now ≡ take limit entries.now }
+{
+    &entries[..limit.min(entries.len())]
+}
+
+fn push_first_rows(
+    alloc: Global,
+    wanted: Wanted,
+    rows: &[ViewRow],
+    more: bool,
+    out: &mut String,
+) -> Result<(), Refusal>
+    ensures { OnOk result (string_bytes out.new ≡ string_bytes out.old ++ first_rows wanted rows.now more) }
+{
+    let first = first_of(rows, wanted.limit);
+    push_rows_page(alloc, out, first, more || wanted.limit < rows.len())
+}
+
+fn push_first_keys(
+    alloc: Global,
+    wanted: Wanted,
+    keys: &[KeyDigest],
+    more: bool,
+    out: &mut String,
+) -> Result<(), Refusal>
+    ensures { OnOk result (string_bytes out.new ≡ string_bytes out.old ++ first_keys wanted keys.now more) }
+{
+    let first = first_of(keys, wanted.limit);
+    push_keys_page(alloc, out, first, more || wanted.limit < keys.len())
 }
 
 fn push_page<H: Holds>(
@@ -59,9 +101,10 @@ fn push_page<H: Holds>(
         string_bytes out.old ++ listed_json wanted (H.states held.now) keys.now more) }
 {
     push_word(out, "{\"keys\":[")?;
-    let count = push_items(alloc, held, wanted, keys, out)?;
+    let first = first_of(keys, wanted.limit);
+    let count = push_items(alloc, held, wanted, first, out)?;
     push_word(out, "]")?;
-    push_count_next(alloc, out, &keys[..count], more || count < keys.len())?;
+    push_count_next(alloc, out, &first[..count], more || count < keys.len())?;
     Ok(push_word(out, "}")?)
 }
 
@@ -143,11 +186,33 @@ fn push_entry(
 {
     push_word(out, "{\"key\":")?;
     push_quoted(alloc, out, entry.0.text())?;
-    push_word(out, ",\"siblings\":")?;
-    push_number(out, u64::from(entry.1))?;
+    push_siblings_of(alloc, out, wanted.documents, entry.1, state)?;
     let hashed = push_digest_if(alloc, out, wanted.digests, &entry.0, state)?;
     push_word(out, "}")?;
     Ok(hashed)
+}
+
+/// What is told of the siblings of a key in this state: their number, or what they are.
+fn push_siblings_of(
+    alloc: Global,
+    out: &mut String,
+    documents: Option<Spelling>,
+    count: u32,
+    state: &KeyState,
+) -> Result<(), Refusal>
+    ensures { OnOk result (string_bytes out.new ≡ string_bytes out.old ++ siblings_told documents count state.now) }
+{
+    match documents {
+        Some(spelling) => push_members(alloc, out, spelling, state),
+        None => push_sibling_count(out, count),
+    }
+}
+
+fn push_sibling_count(out: &mut String, count: u32) -> Result<(), Refusal>
+    ensures { OnOk result (string_bytes out.new ≡ string_bytes out.old ++ count_json count) }
+{
+    push_word(out, ",\"siblings\":")?;
+    Ok(push_number(out, u64::from(count))?)
 }
 
 /// The digest of a key in this state, where it is wanted. It gives how many bytes were hashed.

@@ -6,13 +6,14 @@ ghost use Rattle.mvd_wire.specs.Codec.{Gives};
 ghost use Rattle.mvd_http.specs.Asked.{digit_in};
 ghost use Rattle.mvd_http.specs.Seen.{then_read};
 ghost use Rattle.mvd_dots.specs.Answer.{IsAnswer};
-ghost use Rattle.mvd_http.specs.Asked.{bound as bound_given, changes_question, conflicts_asked, index_asked, is_set as set_to_one, keys_as, keys_question};
+ghost use Rattle.mvd_http.specs.Asked.{bound as bound_given, changes_question, conflicts_asked, index_asked, keys_question};
 ghost use Rattle.mvd_http.specs.Asked.{list_asked, named_list as list_named, row_question, rows_question, told_asked, tree_asked};
 ghost use Rattle.mvd_http.specs.Asked.{few_paths, node_or_keys, paths_asked, paths_or, under_path, view_asked};
 ghost use Rattle.mvd_http.specs.Paths.{without as left_behind};
 
+use crate::options::{documents_in, page_of, wanted_in};
 use crate::place::place_if_given;
-use crate::question::{Followed, Question, Wanted};
+use crate::question::{Followed, Question, Spelling};
 use crate::since::{root_if_given, wait_in};
 use crate::target::{given, without, without_end};
 use crate::target_parts::{
@@ -61,44 +62,22 @@ fn told_of(alloc: Global, path: &[u8], query: &[u8]) -> Result<Question, Refusal
     named_list(alloc, path, query)
 }
 
-/// The keys that are held. Those without a sibling may be left out of what is told.
+/// The keys that are held.
 pub fn keys_of(alloc: Global, query: &[u8]) -> Result<Question, Refusal>
     ensures { IsAnswer result (keys_question query.now) }
 {
     let prefix = prefix_in(alloc, given(query, b"prefix="))?;
     let after = key_if_given(alloc, given(query, b"after="))?;
-    let wanted = Wanted {
-        live: is_set(query, b"live="),
-        digests: is_set(query, b"digests="),
-    };
-    Ok(told_as(wanted, Request::Keys(prefix, after)))
-}
-
-/// Whether an option is `1`.
-fn is_set(query: &[u8], name: &[u8]) -> bool
-    ensures { result ≡ set_to_one name.now query.now }
-{
-    given(query, name) == b"1".as_slice()
-}
-
-/// A page of keys, told as is wanted.
-fn told_as(wanted: Wanted, request: Request) -> Question
-    ensures { result ≡ keys_as wanted request }
-{
-    if wanted.digests {
-        return Question::Listed(request, wanted);
-    }
-    if wanted.live {
-        return Question::Live(request);
-    }
-    Question::Ask(request)
+    let wanted = wanted_in(alloc, query)?;
+    Ok(page_of(wanted, Request::Keys(prefix, after)))
 }
 
 fn conflicts_of(alloc: Global, query: &[u8]) -> Result<Question, Refusal>
     ensures { IsAnswer result (conflicts_asked query.now) }
 {
     let after = key_if_given(alloc, given(query, b"after="))?;
-    Ok(Question::Ask(Request::Conflicts(after)))
+    let wanted = wanted_in(alloc, query)?;
+    Ok(page_of(wanted, Request::Conflicts(after)))
 }
 
 fn changes_of(alloc: Global, query: &[u8]) -> Result<Question, Refusal>
@@ -108,7 +87,7 @@ fn changes_of(alloc: Global, query: &[u8]) -> Result<Question, Refusal>
     let wait = wait_in(alloc, given(query, b"wait="))?;
     let followed = Followed {
         prefix: prefix_in(alloc, given(query, b"prefix="))?,
-        states: is_set(query, b"states="),
+        states: documents_in(query, b"states="),
     };
     Ok(Question::Changes(since, wait, followed))
 }
@@ -151,7 +130,7 @@ fn nodes_of(alloc: Global, paths: &[u8]) -> Result<Question, Refusal>
         return Err(Refusal::BadPath);
     }
     let asks = each_node_of(alloc, paths)?;
-    Ok(Question::Asks(Items::new(asks)))
+    Ok(Question::Asks(Items::new(asks), Spelling::Plain))
 }
 
 /// How many paths these are.
@@ -191,7 +170,8 @@ fn keys_under(alloc: Global, path: Path, query: &[u8]) -> Result<Question, Refus
         return Ok(Question::Ask(Request::Node(path)));
     }
     let after = key_if_given(alloc, given(query, b"after="))?;
-    Ok(Question::Ask(Request::Bucket(path, after)))
+    let wanted = wanted_in(alloc, query)?;
+    Ok(page_of(wanted, Request::Bucket(path, after)))
 }
 
 /// A bound of an index: `is` stands for both.
@@ -212,7 +192,8 @@ fn index_of(alloc: Global, field: &[u8], query: &[u8]) -> Result<Question, Refus
     let low = term_in(alloc, bound(query, b"from="))?;
     let high = term_in(alloc, bound(query, b"to="))?;
     let after = place_if_given(alloc, given(query, b"after="))?;
-    Ok(Question::Ask(Request::Range(field, low, high, after)))
+    let wanted = wanted_in(alloc, query)?;
+    Ok(page_of(wanted, Request::Range(field, low, high, after)))
 }
 
 /// The rows of a view, or one of them.
@@ -233,7 +214,8 @@ fn rows_of(alloc: Global, view: &[u8], query: &[u8]) -> Result<Question, Refusal
 {
     let view = view_in(alloc, view)?;
     let after = term_if_given(alloc, given(query, b"after="))?;
-    Ok(Question::Ask(Request::Rows(view, after)))
+    let wanted = wanted_in(alloc, query)?;
+    Ok(page_of(wanted, Request::Rows(view, after)))
 }
 
 fn row_of(alloc: Global, view: &[u8], query: &[u8]) -> Result<Question, Refusal>

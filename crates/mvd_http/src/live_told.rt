@@ -1,10 +1,11 @@
-//! The response to who asks for keys that have a sibling.
+//! The responses to who asks for keys that have a sibling, and for documents as their texts.
 ghost use Rattle.std.specs.Prelude.{Ok, IfOk, string_bytes};
-ghost use Rattle.mvd_http.specs.Answers.{AppendsBody, Responds, is_stored as stored, live_told, ok_told};
+ghost use Rattle.mvd_http.specs.Answers.{AppendsBody, Responds, is_stored as stored, live_told, ok_told, texts_told};
 ghost use Rattle.mvd_http.specs.Json.{live_text};
 
 use crate::count_lists::{KeyCount, push_live_page};
-use crate::responses::{refused_response, response_of};
+use crate::question::Spelling;
+use crate::responses::{key_asked, push_found, refused_response, response_of};
 use mvd_dots::Refusal;
 use mvd_wire::{Reply, Request};
 use std::alloc::{AllocError, Global};
@@ -40,4 +41,24 @@ fn push_live_of(
 {
     push_live_page(alloc, out, keys, more)?;
     Ok(200)
+}
+
+/// The same with all keys, where each document is told as its text.
+pub fn texts_response_of(
+    alloc: Global,
+    request: &Request,
+    reply: &Reply,
+    out: &mut String,
+) -> Result<u16, AllocError>
+    ensures { IfOk result (λ status.
+        Responds (stored reply.now) (texts_told request.now reply.now) status (string_bytes out.new)) }
+{
+    let Reply::State(state) = reply else {
+        return response_of(alloc, request, reply, out);
+    };
+    out.clear();
+    match push_found(alloc, key_asked(request), Spelling::Quoted, state, out) {
+        Ok(status) => Ok(status),
+        Err(refusal) => refused_response(out, refusal),
+    }
 }

@@ -17,7 +17,7 @@ ghost use Rattle.mvd_http.specs.Seen.{IsContext, IsSeen};
 
 use crate::members::{count_of, text_if};
 use crate::pushed::{push_in, state_in};
-use crate::question::Question;
+use crate::question::{Question, Spelling};
 use crate::target::without_end;
 use mvd_docs::Document;
 use mvd_dots::{Context, Refusal};
@@ -36,8 +36,8 @@ type Item = Result<Request, Refusal>;
 #[derive(Clone, Copy)]
 pub enum Form {
     Writes,
-    /// Keys whose states are asked for.
-    Keys,
+    /// Keys whose states are asked for, with documents told so.
+    Keys(Spelling),
     /// States that are pushed.
     States,
 }
@@ -67,7 +67,7 @@ pub fn listed_in(alloc: Global, form: Form, body: &[u8]) -> Result<Question, Ref
     match items_of(alloc, form, body)? {
         Listed::Items(items) => match form {
             Form::Writes | Form::States => Ok(Question::Many(Items::new(items))),
-            Form::Keys => Ok(Question::Asks(Items::new(items))),
+            Form::Keys(spelling) => Ok(Question::Asks(Items::new(items), spelling)),
         },
         Listed::Other(line) => Ok(Question::BadLine(line)),
     }
@@ -133,7 +133,7 @@ fn item_in(alloc: Global, form: Form, value: &Value) -> Result<Option<Item>, Ref
 {
     let item = match form {
         Form::Writes => write_if(alloc, value),
-        Form::Keys => get_if(alloc, value),
+        Form::Keys(_) => get_if(alloc, value),
         Form::States => push_if(alloc, value),
     };
     match item {

@@ -1,7 +1,6 @@
 //! The response that a reply is: its status, and its body.
 ghost use Rattle.std.specs.Prelude.{◌≡◌, ◌++◌, Ok, OnOk, IfOk, IsOkUnless, length, option_copied, string_bytes};
 ghost use Rattle.std.specs.List.{flat_map};
-ghost use Rattle.mvd_dots.specs.Text.{text_of};
 ghost use Rattle.mvd_dots.specs.declared.refusals.Refusal.TheVariants.{Memory};
 ghost use Rattle.mvd_http.specs.Answers.{IsToldAs, AppendsBody, Responds, found_status as status_found, is_stored as stored};
 ghost use Rattle.mvd_http.specs.Answers.{key_asked as asked_key, misread_told, ok_told, refused_status as status_of, refused_told};
@@ -9,13 +8,15 @@ ghost use Rattle.mvd_http.specs.Answers.{reply_told, row_response, seen_then as 
 ghost use Rattle.mvd_http.specs.Room.{FillsRoom};
 ghost use Rattle.mvd_wire.specs.declared.reply.Reply.TheVariants.{Done};
 ghost use Rattle.mvd_http.specs.Json.{children_text, commaed, counts_text, digest_json, led, keys_json, node_text};
-ghost use Rattle.mvd_http.specs.Json.{places_json, refused_json, rows_text, state_json, written_json};
+ghost use Rattle.mvd_http.specs.Json.{places_json, refused_json, rows_text, written_json};
 
 use crate::count_lists::{KeyCount, push_counts_page};
+use crate::documents::push_state;
 use crate::json_lists::{
-    KeyDigest, ViewRow, push_keys_page, push_places_page, push_row, push_rows_page, push_siblings,
+    KeyDigest, ViewRow, push_keys_page, push_places_page, push_row, push_rows_page,
 };
-use crate::json_words::{push_digest, push_dot, push_number, push_quoted, push_word};
+use crate::json_words::{push_context, push_digest, push_dot, push_number, push_word};
+use crate::question::Spelling;
 use mvd_docs::Term;
 use mvd_dots::{Context, Dot, Refusal};
 use mvd_keys::{Key, KeyState, Place};
@@ -114,7 +115,7 @@ fn is_stored(reply: &Reply) -> bool
 }
 
 /// The key whose state is asked for.
-fn key_asked(request: &Request) -> Option<&Key>
+pub fn key_asked(request: &Request) -> Option<&Key>
     ensures { option_copied result ≡ asked_key request.now }
 {
     match request {
@@ -143,7 +144,9 @@ fn push_reply(
     ensures done { reply.now ≡ Done → result ≡ Ok 204 }
 {
     match reply {
-        Reply::State(state) => push_found(alloc, key_asked(request), state, out),
+        Reply::State(state) => {
+            push_found(alloc, key_asked(request), Spelling::Plain, state, out)
+        }
         Reply::Written(dot) => push_written(out, *dot, &seen_then(alloc, request, *dot)?),
         Reply::Done => Ok(204),
         Reply::Places(places, more) => push_places_of(alloc, out, places.as_slice(), *more),
@@ -208,19 +211,21 @@ fn push_counts_of(
     Ok(200)
 }
 
-fn push_found(
+/// A key in its state, and the status for it.
+pub fn push_found(
     alloc: Global,
     key: Option<&Key>,
+    spelling: Spelling,
     state: &KeyState,
     out: &mut String,
 ) -> Result<u16, Refusal>
-    ensures { AppendsBody (state_told (option_copied key.entry) state.now) (string_bytes out.old)
+    ensures { AppendsBody (state_told spelling (option_copied key.entry) state.now) (string_bytes out.old)
         (string_bytes out.new) result }
 {
     let Some(key) = key else {
         return Err(Refusal::BadKind);
     };
-    push_state(alloc, key, state, out)?;
+    push_state(alloc, key, spelling, state, out)?;
     Ok(found_status(state))
 }
 
@@ -232,33 +237,6 @@ fn found_status(state: &KeyState) -> u16
     } else {
         200
     }
-}
-
-fn push_context(out: &mut String, context: &Context) -> Result<(), Refusal>
-    ensures text { OnOk result (string_bytes out.new ≡ string_bytes out.old ++ text_of context.now) }
-    ensures memory { IsOkUnless result Refusal.Memory }
-{
-    let text = context.print()?;
-    Ok(push_word(out, text.as_str())?)
-}
-
-pub fn push_state(
-    alloc: Global,
-    key: &Key,
-    state: &KeyState,
-    out: &mut String,
-) -> Result<(), Refusal>
-    ensures text { OnOk result (string_bytes out.new ≡ string_bytes out.old ++ state_json key.now state.now) }
-    ensures memory { IsOkUnless result Refusal.Memory }
-{
-    push_word(out, "{\"key\":")?;
-    push_quoted(alloc, out, key.text())?;
-    push_word(out, ",\"context\":\"")?;
-    push_context(out, state.context())?;
-    push_word(out, "\",\"siblings\":[")?;
-    push_siblings(out, state.siblings())?;
-    push_word(out, "]}")?;
-    Ok(())
 }
 
 /// What the author of a write has seen once it is made: what it had seen, and the write's own dot.

@@ -5,9 +5,11 @@ ghost use Rattle.mvd_http.specs.Answers.{AppendsIf, AppendsText, denied_told, di
 ghost use Rattle.mvd_http.specs.Answers.{refusal_in, state_line};
 ghost use Rattle.mvd_http.specs.Json.{bad_line_json, bucket_line, denied_json, digit_letter, later_json, later_line, node_line, path_json};
 
+use crate::documents::push_state;
 use crate::json_lists::{KeyDigest, push_key_next, push_keys};
 use crate::json_words::{push_digest, push_number, push_quoted, push_word};
-use crate::responses::{push_children, push_refused, push_state};
+use crate::question::Spelling;
+use crate::responses::{push_children, push_refused};
 use mvd_dots::Refusal;
 use mvd_keys::{Key, Path};
 use mvd_wire::{Digests, Reply, Request};
@@ -17,13 +19,15 @@ use std::alloc::{AllocError, Global};
 pub fn push_told(
     alloc: Global,
     request: &Request,
+    spelling: Spelling,
     reply: &Reply,
     out: &mut String,
 ) -> Result<(), Refusal>
-    ensures { AppendsText (line_told request.now reply.now) (string_bytes out.old) (string_bytes out.new) result }
+    ensures { AppendsText (line_told spelling request.now reply.now) (string_bytes out.old) (string_bytes out.new)
+        result }
 {
     match request {
-        Request::Get(key) => push_state_line(alloc, key, reply, out),
+        Request::Get(key) => push_state_line(alloc, key, spelling, reply, out),
         Request::Node(path) => push_digests_line(alloc, path, reply, out),
         Request::Bucket(path, _) => push_keys_line(alloc, path, reply, out),
         _ => Err(refusal_of(reply)),
@@ -40,11 +44,18 @@ pub fn refusal_of(reply: &Reply) -> Refusal
     }
 }
 
-fn push_state_line(alloc: Global, key: &Key, reply: &Reply, out: &mut String) -> Result<(), Refusal>
-    ensures { AppendsText (state_line key.now reply.now) (string_bytes out.old) (string_bytes out.new) result }
+fn push_state_line(
+    alloc: Global,
+    key: &Key,
+    spelling: Spelling,
+    reply: &Reply,
+    out: &mut String,
+) -> Result<(), Refusal>
+    ensures { AppendsText (state_line spelling key.now reply.now) (string_bytes out.old) (string_bytes out.new)
+        result }
 {
     match reply {
-        Reply::State(state) => push_state(alloc, key, state, out),
+        Reply::State(state) => push_state(alloc, key, spelling, state, out),
         _ => Err(refusal_of(reply)),
     }
 }

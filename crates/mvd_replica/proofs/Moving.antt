@@ -23,7 +23,7 @@ use Rattle.mvd_records.specs.Pairs.{Pair, pair_entries}
 use Rattle.mvd_records.specs.States.{StoredStates as Stored}
 use Rattle.mvd_records.specs.Records.{AreDisjoint, EndsMove, KeepsStates, MovesState, new_states, old_states}
 use Rattle.sqlite.specs.Effect.{Database}
-use Rattle.mvd_replica.specs.Readable.{HasState, IsOldStored, SpellsHeldState, Respells, SameStates, SpelledIn}
+use Rattle.mvd_replica.specs.Readable.{HasState, SpellsHeldState, Respells, SameStates, SpelledIn}
 
 -- ---- an entry of a map
 
@@ -118,12 +118,12 @@ module _ (a b : Database) (k : Key) (old new : List ℕ) (moves : MovesState a b
     new_kept_at key bytes true is found = absurd (apart key old bytes (was_at key is) found)
     new_kept_at key bytes false is found = new_at key false is ∙ found
 
-    new_only_at : (key : Key) (bytes : List ℕ) (tied : Bool) → eq_by_cmp key_cmp key k ≡ tied → get (new_states b) key ≡ Some bytes → (get (new_states a) key ≡ Some bytes) ⊎ SpellsHeldState bytes
-    new_only_at key bytes true is found = inr (subst SpellsHeldState (some_is new bytes (sym (new_at key true is) ∙ found)) (spelled.0, spelled.2, spelled.3))
+    new_only_at : (key : Key) (bytes : List ℕ) (tied : Bool) → eq_by_cmp key_cmp key k ≡ tied → get (new_states b) key ≡ Some bytes → (get (new_states a) key ≡ Some bytes) ⊎ SpellsHeldState layout2 bytes
+    new_only_at key bytes true is found = inr (subst (SpellsHeldState layout2) (some_is new bytes (sym (new_at key true is) ∙ found)) (spelled.0, spelled.2, spelled.3))
     new_only_at key bytes false is found = inl (sym (new_at key false is) ∙ found)
 
-    old_kept_at : (key : Key) (bytes : List ℕ) (tied : Bool) → eq_by_cmp key_cmp key k ≡ tied → get (old_states a) key ≡ Some bytes → (get (old_states b) key ≡ Some bytes) ⊎ IsOldStored bytes
-    old_kept_at key bytes true is found = inr (subst IsOldStored (some_is old bytes (sym (was_at key is) ∙ found)) (spelled.0, spelled.1, spelled.3))
+    old_kept_at : (key : Key) (bytes : List ℕ) (tied : Bool) → eq_by_cmp key_cmp key k ≡ tied → get (old_states a) key ≡ Some bytes → (get (old_states b) key ≡ Some bytes) ⊎ SpellsHeldState layout1 bytes
+    old_kept_at key bytes true is found = inr (subst (SpellsHeldState layout1) (some_is old bytes (sym (was_at key is) ∙ found)) (spelled.0, spelled.1, spelled.3))
     old_kept_at key bytes false is found = inl (old_at key false is ∙ found)
 
     pub move_keeps : SameStates a b

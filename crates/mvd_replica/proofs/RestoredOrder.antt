@@ -18,7 +18,7 @@ use Rattle.mvd_keys.specs.Writes.{Key}
 use Rattle.mvd_keys.proofs.KeyOrder.{key_antisymmetric, key_total, same_where_tied}
 use Rattle.mvd_keys.proofs.Rising.{first_true, second_true}
 use Rattle.mvd_wire.specs.Codec.{Spells, spelled_within}
-use Rattle.mvd_wire.specs.Codecs.{layout2, spell_state, state_codec, state_limit}
+use Rattle.mvd_wire.specs.Codecs.{layout1, layout2, spell_state, state_codec, state_limit}
 use Rattle.mvd_wire.proofs.Forms.{fits_of}
 use Rattle.mvd_wire.proofs.Spellings.{codec_is}
 use Rattle.mvd_records.specs.Pairs.{Pair, pair_entries}
@@ -29,7 +29,7 @@ use Rattle.mvd_site.specs.Held.{IsHeldState, States}
 use Rattle.mvd_site.specs.Sites.{SiteValue, opened}
 use Rattle.sqlite.specs.Effect.{Database}
 use Rattle.mvd_replica.specs.Holds.{AreSpelled, HoldsStates, SpellStates}
-use Rattle.mvd_replica.specs.Readable.{AreDamaged, AreInOrder, AreStored, HasJust, HasState, HoldsTooMany, IsOldStored, SpellsHeldState, Migrates, Respells, Resumes, SameStates, spelled_entries}
+use Rattle.mvd_replica.specs.Readable.{AreDamaged, AreInOrder, AreStored, HasJust, HasState, HoldsTooMany, SpellsHeldState, Migrates, Respells, Resumes, SameStates, spelled_entries}
 use Rattle.mvd_replica.proofs.Moving.{Moving, free2, found_at, less_is_no_tie, below_part, new_at, old_at, none_is_some, some_is, spells_one}
 
 -- ---- what is stored
@@ -74,10 +74,10 @@ not_yet m pairs done p same so_far low is =
 pub record Moved (a b : Database) (done : List (Key × List ℕ)) : Type 0 where
   pub left : (key : Key) → get (old_states b) key ≡ cond (is_some (find key_cmp key done)) None (get (old_states a) key)
   pub had : (key : Key) (bytes : List ℕ) → find key_cmp key done ≡ Some bytes → get (old_states a) key ≡ Some bytes
-  pub read : (key : Key) (bytes : List ℕ) → find key_cmp key done ≡ Some bytes → IsOldStored bytes
+  pub read : (key : Key) (bytes : List ℕ) → find key_cmp key done ≡ Some bytes → SpellsHeldState layout1 bytes
   pub kept : (key : Key) (bytes : List ℕ) → get (new_states a) key ≡ Some bytes → get (new_states b) key ≡ Some bytes
   pub from : (key : Key) (bytes : List ℕ) → get (new_states b) key ≡ Some bytes →
-      (get (new_states a) key ≡ Some bytes) ⊎ (SpellsHeldState bytes × ((was : List ℕ) × (get (old_states a) key ≡ Some was)))
+      (get (new_states a) key ≡ Some bytes) ⊎ (SpellsHeldState layout2 bytes × ((was : List ℕ) × (get (old_states a) key ≡ Some was)))
 
 pub moved_none : (a b : Database) → b ≡ a → Moved a b []
 moved_none a b same = subst (λ d. Moved a d []) (sym same) (record {
@@ -104,8 +104,8 @@ module _ (a b c : Database) (k : Key) (old new : List ℕ) (done : List (Key × 
   had_at key bytes true is found = ap (get (old_states a)) (same_where_tied key k is) ∙ was ∙ sym (found_more key true is) ∙ found
   had_at key bytes false is found = moved.had key bytes (sym (found_more key false is) ∙ found)
 
-  read_at : (key : Key) (bytes : List ℕ) (tied : Bool) → eq_by_cmp key_cmp key k ≡ tied → find key_cmp key more ≡ Some bytes → IsOldStored bytes
-  read_at key bytes true is found = subst IsOldStored (some_is old bytes (sym (found_more key true is) ∙ found)) (spelled.0, spelled.1, spelled.3)
+  read_at : (key : Key) (bytes : List ℕ) (tied : Bool) → eq_by_cmp key_cmp key k ≡ tied → find key_cmp key more ≡ Some bytes → SpellsHeldState layout1 bytes
+  read_at key bytes true is found = subst (SpellsHeldState layout1) (some_is old bytes (sym (found_more key true is) ∙ found)) (spelled.0, spelled.1, spelled.3)
   read_at key bytes false is found = moved.read key bytes (sym (found_more key false is) ∙ found)
 
   kept_at : (key : Key) (bytes : List ℕ) (tied : Bool) → eq_by_cmp key_cmp key k ≡ tied → get (new_states a) key ≡ Some bytes → get (new_states c) key ≡ Some bytes
@@ -113,9 +113,9 @@ module _ (a b c : Database) (k : Key) (old new : List ℕ) (done : List (Key × 
   kept_at key bytes false is found = new_at b c k old new moves key false is ∙ moved.kept key bytes found
 
   from_at : (key : Key) (bytes : List ℕ) (tied : Bool) → eq_by_cmp key_cmp key k ≡ tied → get (new_states c) key ≡ Some bytes →
-      (get (new_states a) key ≡ Some bytes) ⊎ (SpellsHeldState bytes × ((was : List ℕ) × (get (old_states a) key ≡ Some was)))
+      (get (new_states a) key ≡ Some bytes) ⊎ (SpellsHeldState layout2 bytes × ((was : List ℕ) × (get (old_states a) key ≡ Some was)))
   from_at key bytes true is found =
-      inr (subst SpellsHeldState (some_is new bytes (sym (new_at b c k old new moves key true is) ∙ found)) (spelled.0, spelled.2, spelled.3), (old, ap (get (old_states a)) (same_where_tied key k is) ∙ was))
+      inr (subst (SpellsHeldState layout2) (some_is new bytes (sym (new_at b c k old new moves key true is) ∙ found)) (spelled.0, spelled.2, spelled.3), (old, ap (get (old_states a)) (same_where_tied key k is) ∙ was))
   from_at key bytes false is found = moved.from key bytes (sym (new_at b c k old new moves key false is) ∙ found)
 
   pub moved_on : Moved a c more
@@ -174,7 +174,7 @@ pub not_whole : (version : ℕ) (db : Database) → version ≡ 2 → ¬ IsWhole
 not_whole version db two unwhole order = unwhole (subst (λ v. IsWhole v (new_states db) (old_states db) (new_states db)) (sym two) (whole_new 2 (old_states db) (new_states db) order))
 
 -- records of version 2
-pub second_order : (old new : Stored) → IsWhole 2 new old new → AreStored new → AreInOrder 2 old new
+pub second_order : (old new : Stored) → IsWhole 2 new old new → AreStored layout2 new → AreInOrder 2 old new
 second_order old new whole stored = let none : HasNone old = whole.tables.moved refl in record {
   old_keys = λ key bytes found. absurd (none key bytes found);
   new_keys = whole.keys;
@@ -203,11 +203,11 @@ order_after version a b migrates order = record {
   new_stored = λ key bytes found. stored_from key bytes (migrates.from key bytes found);
 }
   where
-    key_from : (key : Key) (bytes : List ℕ) → (get (new_states a) key ≡ Some bytes) ⊎ (SpellsHeldState bytes × ((was : List ℕ) × (get (old_states a) key ≡ Some was))) → is_key key ≡ true
+    key_from : (key : Key) (bytes : List ℕ) → (get (new_states a) key ≡ Some bytes) ⊎ (SpellsHeldState layout2 bytes × ((was : List ℕ) × (get (old_states a) key ≡ Some was))) → is_key key ≡ true
     key_from key bytes (inl there) = order.new_keys key bytes there
     key_from key bytes (inr moved) = order.old_keys key moved.1.0 moved.1.1
 
-    stored_from : (key : Key) (bytes : List ℕ) → (get (new_states a) key ≡ Some bytes) ⊎ (SpellsHeldState bytes × ((was : List ℕ) × (get (old_states a) key ≡ Some was))) → SpellsHeldState bytes
+    stored_from : (key : Key) (bytes : List ℕ) → (get (new_states a) key ≡ Some bytes) ⊎ (SpellsHeldState layout2 bytes × ((was : List ℕ) × (get (old_states a) key ≡ Some was))) → SpellsHeldState layout2 bytes
     stored_from key bytes (inl there) = order.new_stored key bytes there
     stored_from key bytes (inr moved) = moved.0
 
@@ -218,10 +218,10 @@ pub order_back : (version : ℕ) (a b : Database) → KeepsStates a b → AreInO
 order_back version a b keeps order = subst₂ (AreInOrder version) keeps.old_same keeps.new_same order
 
 pub read_order : (version : ℕ) (db : Database) (pairs : List Pair) → version ≡ 2 → IsWhole version (new_states db) (old_states db) (new_states db) → pair_entries pairs ≡ entries (new_states db) →
-    AllByRecursion (λ (e : Key × List ℕ). SpellsHeldState e.1) (pair_entries pairs) → AreInOrder 2 (old_states db) (new_states db)
+    AllByRecursion (λ (e : Key × List ℕ). SpellsHeldState layout2 e.1) (pair_entries pairs) → AreInOrder 2 (old_states db) (new_states db)
 read_order version db pairs two whole same all =
     second_order (old_states db) (new_states db) (subst (λ v. IsWhole v (new_states db) (old_states db) (new_states db)) two whole)
-    (stored_by SpellsHeldState (new_states db) (subst (AllByRecursion (λ (e : Key × List ℕ). SpellsHeldState e.1)) same all))
+    (stored_by (SpellsHeldState layout2) (new_states db) (subst (AllByRecursion (λ (e : Key × List ℕ). SpellsHeldState layout2 e.1)) same all))
 
 -- ---- a move that was broken off
 
@@ -235,11 +235,11 @@ module _ (version : ℕ) (a b : Database) (done : List (Key × List ℕ)) (moved
     new_stored = λ key bytes found. stored_from key bytes (moved.from key bytes found);
   }
     where
-      key_from : (key : Key) (bytes : List ℕ) → (get (new_states a) key ≡ Some bytes) ⊎ (SpellsHeldState bytes × ((was : List ℕ) × (get (old_states a) key ≡ Some was))) → is_key key ≡ true
+      key_from : (key : Key) (bytes : List ℕ) → (get (new_states a) key ≡ Some bytes) ⊎ (SpellsHeldState layout2 bytes × ((was : List ℕ) × (get (old_states a) key ≡ Some was))) → is_key key ≡ true
       key_from key bytes (inl there) = order.new_keys key bytes there
       key_from key bytes (inr came) = whole.keys key came.1.0 came.1.1
 
-      stored_from : (key : Key) (bytes : List ℕ) → (get (new_states a) key ≡ Some bytes) ⊎ (SpellsHeldState bytes × ((was : List ℕ) × (get (old_states a) key ≡ Some was))) → SpellsHeldState bytes
+      stored_from : (key : Key) (bytes : List ℕ) → (get (new_states a) key ≡ Some bytes) ⊎ (SpellsHeldState layout2 bytes × ((was : List ℕ) × (get (old_states a) key ≡ Some was))) → SpellsHeldState layout2 bytes
       stored_from key bytes (inl there) = order.new_stored key bytes there
       stored_from key bytes (inr came) = came.0
 
@@ -252,7 +252,7 @@ module _ (version : ℕ) (a b : Database) (done : List (Key × List ℕ)) (moved
     new_stored = λ key bytes found. order.new_stored key bytes (moved.kept key bytes found);
   }
     where
-      old_by : (key : Key) (bytes : List ℕ) (o : Option (List ℕ)) → find key_cmp key done ≡ o → get (old_states a) key ≡ Some bytes → IsOldStored bytes
+      old_by : (key : Key) (bytes : List ℕ) (o : Option (List ℕ)) → find key_cmp key done ≡ o → get (old_states a) key ≡ Some bytes → SpellsHeldState layout1 bytes
       old_by key bytes None is found = order.old_stored key bytes (moved.left key ∙ ap (λ o. cond (is_some o) None (get (old_states a) key)) is ∙ found)
       old_by key bytes (Some was) is found = moved.read key bytes (is ∙ sym (moved.had key was is) ∙ found)
 
@@ -297,10 +297,10 @@ spelled_more before after done p s read is so_far spelled same =
 pub held_more : (before after : List (Key × State)) (e : Key × State) → after ≡ before ++ e ∷ [] → AllByRecursion (λ (x : Key × State). IsHeldState x.1) before → IsHeldState e.1 → AllByRecursion (λ (x : Key × State). IsHeldState x.1) after
 held_more before after e is all one = subst (AllByRecursion (λ (x : Key × State). IsHeldState x.1)) (sym is) (all_more (λ (x : Key × State). IsHeldState x.1) before e all one)
 
-pub stored_more : (done : List Pair) (p : Pair) (read : List ℕ) → AllByRecursion (λ (x : Key × List ℕ). SpellsHeldState x.1) (pair_entries done) → SpellsHeldState read → read ≡ p.1.items → AllByRecursion (λ (x : Key × List ℕ). SpellsHeldState x.1) (pair_entries (done ++ p ∷ []))
+pub stored_more : (done : List Pair) (p : Pair) (read : List ℕ) → AllByRecursion (λ (x : Key × List ℕ). SpellsHeldState layout2 x.1) (pair_entries done) → SpellsHeldState layout2 read → read ≡ p.1.items → AllByRecursion (λ (x : Key × List ℕ). SpellsHeldState layout2 x.1) (pair_entries (done ++ p ∷ []))
 stored_more done p read all one same =
-    subst (AllByRecursion (λ (x : Key × List ℕ). SpellsHeldState x.1)) (sym (map-append (λ (q : Pair). (q.0, q.1.items)) done (p ∷ [])))
-    (all_more (λ (x : Key × List ℕ). SpellsHeldState x.1) (pair_entries done) (p.0, p.1.items) all (subst SpellsHeldState same one))
+    subst (AllByRecursion (λ (x : Key × List ℕ). SpellsHeldState layout2 x.1)) (sym (map-append (λ (q : Pair). (q.0, q.1.items)) done (p ∷ [])))
+    (all_more (λ (x : Key × List ℕ). SpellsHeldState layout2 x.1) (pair_entries done) (p.0, p.1.items) all (subst (SpellsHeldState layout2) same one))
 
 -- ---- a state of version 1
 

@@ -11,20 +11,13 @@ use Rattle.mvd_records.specs.Records.{ShareNoKey, AreKeys, HasNone, HoldsRecords
 use Rattle.mvd_site.specs.Held.{IsHeldState, States}
 use Rattle.sqlite.specs.Effect.{Database}
 
--- the bytes spell a state that a site may hold
-abbrev pub SpellsHeldState : List ℕ → Type 0
-SpellsHeldState bytes = (s : State) × Spells (state_codec layout2) s bytes × IsHeldState s
+-- the bytes spell, in a layout, a state that a site may hold
+abbrev pub SpellsHeldState : Layout → List ℕ → Type 0
+SpellsHeldState layout bytes = (s : State) × Spells (state_codec layout) s bytes × IsHeldState s
 
--- the bytes spell such a state in version 1
-abbrev pub IsOldStored : List ℕ → Type 0
-IsOldStored bytes = (s : State) × Spells (state_codec layout1) s bytes × IsHeldState s
-
--- what is stored at each key, of version 2 and of version 1
-abbrev pub AreStored : Stored → Type 0
-AreStored stored = (key : Key) (bytes : List ℕ) → get stored key ≡ Some bytes → SpellsHeldState bytes
-
-abbrev pub AreOldStored : Stored → Type 0
-AreOldStored stored = (key : Key) (bytes : List ℕ) → get stored key ≡ Some bytes → IsOldStored bytes
+-- at each key such bytes are stored
+abbrev pub AreStored : Layout → Stored → Type 0
+AreStored layout stored = (key : Key) (bytes : List ℕ) → get stored key ≡ Some bytes → SpellsHeldState layout bytes
 
 -- The two maps of records of a version are in order: each key is one, none is in both, in version 2 no old one is left,
 -- and what is stored are states that a site may hold
@@ -32,8 +25,8 @@ pub record AreInOrder (version : ℕ) (old new : Stored) : Type 0 where
   pub old_keys : AreKeys old
   pub new_keys : AreKeys new
   pub tables : ShareNoKey version old new
-  pub old_stored : AreOldStored old
-  pub new_stored : AreStored new
+  pub old_stored : AreStored layout1 old
+  pub new_stored : AreStored layout2 new
 
 -- the marks tell this site a version, and what it tells is in order
 abbrev pub AreReadable : ℕ → Database → Type 0
@@ -63,12 +56,12 @@ pub record HoldsTooMany (most : ℕ) (db : Database) : Type 0 where
 -- same state this does not say (`SameStates` below does)
 pub record Migrates (version : ℕ) (old new : Database) : Type 0 where
   pub whole : IsWhole version (old_states old) (old_states old) (new_states old)
-  pub stored : AreOldStored (old_states old)
+  pub stored : AreStored layout1 (old_states old)
   pub kept : (key : Key) (bytes : List ℕ) → get (new_states old) key ≡ Some bytes
       → get (new_states new) key ≡ Some bytes
   pub from : (key : Key) (bytes : List ℕ) → get (new_states new) key ≡ Some bytes →
       (get (new_states old) key ≡ Some bytes)
-      ⊎ (SpellsHeldState bytes × ((was : List ℕ) × (get (old_states old) key ≡ Some was)))
+      ⊎ (SpellsHeldState layout2 bytes × ((was : List ℕ) × (get (old_states old) key ≡ Some was)))
   pub none : HasNone (old_states new)
 
 -- keys with states, as they are spelled
@@ -95,9 +88,9 @@ pub record SameStates (a b : Database) : Type 0 where
   pub new_kept : (key : Key) (bytes : List ℕ) → get (new_states a) key ≡ Some bytes
       → get (new_states b) key ≡ Some bytes
   pub new_only : (key : Key) (bytes : List ℕ) → get (new_states b) key ≡ Some bytes
-      → (get (new_states a) key ≡ Some bytes) ⊎ SpellsHeldState bytes
+      → (get (new_states a) key ≡ Some bytes) ⊎ SpellsHeldState layout2 bytes
   pub old_kept : (key : Key) (bytes : List ℕ) → get (old_states a) key ≡ Some bytes
-      → (get (old_states b) key ≡ Some bytes) ⊎ IsOldStored bytes
+      → (get (old_states b) key ≡ Some bytes) ⊎ SpellsHeldState layout1 bytes
   pub old_only : (key : Key) (bytes : List ℕ) → get (old_states b) key ≡ Some bytes
       → get (old_states a) key ≡ Some bytes
 

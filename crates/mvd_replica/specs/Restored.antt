@@ -14,6 +14,7 @@ use Rattle.sqlite.specs.Effect.{Database}
 use Rattle.sqlite.specs.Held.{state}
 use Rattle.sqlite.specs.State.{HasCleanDisk}
 use Rattle.sqlite_trees.specs.declared.store.Store.{Ghosts}
+use Rattle.mvd_wire.specs.Codecs.{layout2}
 use Rattle.mvd_replica.specs.Holds.{SpellStates}
 use Rattle.mvd_replica.specs.Readable.{AreInOrder, AreStored, HoldsTooMany, Migrates, Resumes, SameStates}
 
@@ -47,7 +48,7 @@ IfDamaged result P = IfErr result (λ e. e ≡ Damaged → P)
 
 -- 17 of a list of entries only where they are the entries of a map that is not all states
 abbrev pub DamagedIn : {A : Type 0} → Result A Refusal → List (Key × List ℕ) → Type 0
-DamagedIn result pairs = (stored : Stored) → pairs ≡ entries stored → IfDamaged result (¬ AreStored stored)
+DamagedIn result pairs = (stored : Stored) → pairs ≡ entries stored → IfDamaged result (¬ AreStored layout2 stored)
 
 -- ---- the records before and after
 

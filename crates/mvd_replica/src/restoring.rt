@@ -1,14 +1,14 @@
 //! What a replica is opened with: the states that its records spell.
 ghost use Rattle.std.specs.Prelude.{◌≡◌, ◌≢◌, IfErr, IfOk, OnOk};
 ghost use Rattle.std.specs.List.{AllByRecursion};
-ghost use Rattle.mvd_wire.specs.Codecs.{spell_state};
+ghost use Rattle.mvd_wire.specs.Codecs.{layout1, layout2, spell_state};
 ghost use Rattle.mvd_records.specs.Pairs.{pair_entries};
 ghost use Rattle.mvd_site.specs.Held.{IsHeldState};
 ghost use Rattle.mvd_replica.specs.Restored.{DamagedIn, HasWrites, IfDamaged, IsFresh, IsUnloaded, IsUnmoved, IsUnreadRecord};
 ghost use Rattle.mvd_replica.specs.Restored.{RestoresSite, WereSound};
 ghost use Rattle.mvd_replica.specs.Restored.{LeavesOpen, LoadsFull, LoadsOnly, LoadsOrder, LoadsStates};
 ghost use Rattle.mvd_replica.specs.Restored.{MovesAlike, MovesAll, MovesStates, MovesVersion};
-ghost use Rattle.mvd_replica.specs.Readable.{IsOldStored, SpellsHeldState, Respells, spelled_entries};
+ghost use Rattle.mvd_replica.specs.Readable.{SpellsHeldState, Respells, spelled_entries};
 
 use mvd_dots::Refusal;
 use mvd_keys::{Key, KeyState};
@@ -33,8 +33,8 @@ fn unread(refusal: Refusal) -> Refusal
 fn state_of(alloc: Global, bytes: &[u8]) -> Result<KeyState, Refusal>
     ensures held { IfOk result IsHeldState }
     ensures spelled { IfOk result (λ s. spell_state s ≡ bytes.now) }
-    ensures stored { OnOk result (SpellsHeldState bytes.now) }
-    ensures damaged { IfDamaged result (¬ SpellsHeldState bytes.now) }
+    ensures stored { OnOk result (SpellsHeldState layout2 bytes.now) }
+    ensures damaged { IfDamaged result (¬ SpellsHeldState layout2 bytes.now) }
     ensures refusal { IfErr result IsUnreadRecord }
 {
     match decode_state(alloc, bytes) {
@@ -52,7 +52,7 @@ fn state_of(alloc: Global, bytes: &[u8]) -> Result<KeyState, Refusal>
 fn states_of(alloc: Global, pairs: Vec<(Key, Vec<u8>)>) -> Result<Vec<(Key, KeyState)>, Refusal>
     ensures spelled { IfOk result (λ states. spelled_entries states.items ≡ pair_entries pairs.items) }
     ensures held { IfOk result (λ states. AllByRecursion (λ entry. IsHeldState entry.1) states.items) }
-    ensures stored { OnOk result (AllByRecursion (λ entry. SpellsHeldState entry.1) (pair_entries pairs.items)) }
+    ensures stored { OnOk result (AllByRecursion (λ entry. SpellsHeldState layout2 entry.1) (pair_entries pairs.items)) }
     ensures damaged { DamagedIn result (pair_entries pairs.items) }
     ensures refusal { IfErr result IsUnreadRecord }
 {
@@ -96,7 +96,7 @@ fn load<S: Alter>(alloc: Global, records: &mut Records<S>, config: Config) -> Re
 /// The spelling in version 2 of a state that version 1 spells so.
 fn respelled(alloc: Global, bytes: &[u8]) -> Result<Vec<u8>, Refusal>
     ensures spelled { IfOk result (λ spelled. Respells bytes.now spelled.items) }
-    ensures damaged { IfDamaged result (¬ IsOldStored bytes.now) }
+    ensures damaged { IfDamaged result (¬ SpellsHeldState layout1 bytes.now) }
     ensures refusal { IfErr result IsUnreadRecord }
 {
     let state = match decode_old_state(alloc, bytes) {

@@ -27,13 +27,13 @@ use Rattle.mvd_http.specs.declared.fields.Answer.{Answer}
 use Rattle.mvd_http.specs.declared.fields.Content.{Content}
 use Rattle.mvd_http.specs.declared.fields.Content.TheVariants as content
 use Rattle.mvd_http.specs.declared.question.Question.{Question}
-use Rattle.mvd_http.specs.declared.question.Question.TheVariants.{Page, Root, Metrics, Health, Ask, Asks, BadLine, Listed, Live, Changes, Many, Misread, Nowhere, NotAllowed, TooLong}
+use Rattle.mvd_http.specs.declared.question.Question.TheVariants.{Page, Root, Metrics, Health, Stop, Ask, Asks, BadLine, Listed, Live, Changes, Many, Misread, Nowhere, NotAllowed, Texts, TooLong}
 use Rattle.mvd_replica.specs.Turns.{Turn}
 use Rattle.mvd_server.proofs.Keyed.{found_at}
 use Rattle.mvd_server.proofs.Writing.{responded, told_ends}
 use Rattle.mvd_server.specs.Admitted.{Decides}
 use Rattle.mvd_server.specs.Batches.{BeginsBatch, HandsBatch, asked_if, asked_in, is_web_request}
-use Rattle.mvd_server.specs.Errands.{Asks as Taking, AsksAtHand, AsksNextOf, AsksOne, Desk, DoesPlan, Errand, Forgoes, IsBatchFor, KeepsWrites, RunsErrand, Stops, TakesIf, Tells, TellsAllLines, TellsBatch, TellsChange, TellsMany, TellsOrWaits, batch_in}
+use Rattle.mvd_server.specs.Errands.{Asks as Taking, AsksAtHand, AsksNextOf, AsksOne, Desk, DoesPlan, Errand, Forgoes, IsBatchFor, KeepsWrites, RunsErrand, Stops, StopsIf, TakesIf, Tells, TellsAllLines, TellsBatch, TellsChange, TellsMany, TellsOrWaits, batch_in}
 use Rattle.mvd_server.specs.Listings.{TellsListed}
 use Rattle.mvd_server.specs.Plans.{IsFreePlan, IsPlanFor, IsPlanIf, IsPlanOf, TellsMethods}
 use Rattle.mvd_server.specs.Questions.{TellsAsks, TellsBadLine}
@@ -146,6 +146,10 @@ bad_asks : (line : ℕ) (old new : WebValue) → TellsBadLine line old new → S
 bad_asks line old new (inl responds) = responded old.asked old _ _ new responds
 bad_asks line old new (inr refuses) = refuses_asks Memory old new refuses
 
+stop_asks : (guarded : Bool) (old new : WebValue) (left : Rest) → StopsIf guarded old new left → StillAsks old new
+stop_asks true old new left (stops, responds) = responded old.asked old _ _ new responds
+stop_asks false old new left (none, responds) = responded old.asked old _ _ new responds
+
 plan_asks : (n : ℕ) (p : Plan) (old : WebValue) (hand : AtHandValue) (new : WebValue) (hand' : AtHandValue) (left : Rest) → DoesPlan n p old hand new hand' left → StillAsks old new
 plan_asks n (plan.Ask request) old hand new hand' left (asks, none) = hand_asks n request old hand new hand' asks
 plan_asks n (plan.Writes batch) old hand new hand' left (is, same, writes) = same_asks old new same
@@ -156,6 +160,7 @@ plan_asks n (plan.BadLine line) old hand new hand' left (told, tells) = bad_asks
 plan_asks n plan.Root old hand new hand' left (told, body) = body_asks content.Json old new body
 plan_asks n plan.Metrics old hand new hand' left (told, body) = body_asks content.Plain old new body
 plan_asks n plan.Health old hand new hand' left (told, body) = body_asks content.Json old new body
+plan_asks n plan.Stop old hand new hand' left (is, (guarded, stops)) = stop_asks guarded old new left stops
 plan_asks n (plan.Told answer body) old hand new hand' left (told, responds) = responded old.asked old answer _ new responds
 plan_asks n plan.NotAdmitted old hand new hand' left (told, responds) = responded old.asked old _ _ new responds
 plan_asks n (plan.Refused refusal) old hand new hand' left (told, refuses) = refuses_asks refusal old new refuses
@@ -168,14 +173,16 @@ hands_may right request asked is same = subst (λ (r : Request). may right r ≡
 for_may : (right : Right) (q : Question) (request : Request) → may_ask right q ≡ true → IsPlanFor right q (plan.Ask request) → may right request ≡ true
 for_may right (Ask asked) request is same = hands_may right request asked is same
 for_may right (Live asked) request is same = hands_may right request asked is same
+for_may right (Texts asked) request is same = hands_may right request asked is same
 for_may right (Many writes) request is never = absurd never
 for_may right (Changes since wait followed) request is same = absurd (let no : ⊥ = cc in no)
 for_may right Page request is never = absurd never
 for_may right Root request is same = absurd (let no : ⊥ = cc in no)
 for_may right Metrics request is same = absurd (let no : ⊥ = cc in no)
 for_may right Health request is same = absurd (let no : ⊥ = cc in no)
+for_may right Stop request is same = absurd (let no : ⊥ = cc in no)
 for_may right TooLong request is never = absurd never
-for_may right (Asks questions) request is same = absurd (let no : ⊥ = cc in no)
+for_may right (Asks questions spelling) request is same = absurd (let no : ⊥ = cc in no)
 for_may right (Listed asked wanted) request is same = absurd (let no : ⊥ = cc in no)
 for_may right (BadLine line) request is same = absurd (let no : ⊥ = cc in no)
 for_may right (Misread refusal place) request is same = absurd (let no : ⊥ = cc in no)
@@ -196,11 +203,13 @@ free_asks (Ok Health) request is = absurd cc
 free_asks (Ok TooLong) request never = never
 free_asks (Ok (Ask asked)) request is = absurd cc
 free_asks (Ok (Live asked)) request is = absurd cc
+free_asks (Ok (Texts asked)) request is = absurd cc
 free_asks (Ok (Many writes)) request is = absurd cc
 free_asks (Ok (Changes since wait followed)) request is = absurd cc
 free_asks (Ok Root) request is = absurd cc
 free_asks (Ok Metrics) request is = absurd cc
-free_asks (Ok (Asks questions)) request is = absurd cc
+free_asks (Ok Stop) request is = absurd cc
+free_asks (Ok (Asks questions spelling)) request is = absurd cc
 free_asks (Ok (Listed asked wanted)) request is = absurd cc
 free_asks (Ok (BadLine line)) request is = absurd cc
 free_asks (Ok (Misread refusal place)) request is = absurd cc
@@ -211,13 +220,15 @@ free_asks (Err refusal) request is = absurd cc
 permits_asks : (q : Result Question Refusal) (request : Request) → TellsMethods q (plan.Ask request) → ⊥
 permits_asks (Ok (Ask asked)) request never = never
 permits_asks (Ok (Live asked)) request never = never
+permits_asks (Ok (Texts asked)) request never = never
 permits_asks (Ok (Many writes)) request never = never
 permits_asks (Ok (Changes since wait followed)) request never = never
 permits_asks (Ok Page) request never = never
 permits_asks (Ok Root) request never = never
 permits_asks (Ok Metrics) request never = never
 permits_asks (Ok Health) request never = never
-permits_asks (Ok (Asks questions)) request never = never
+permits_asks (Ok Stop) request never = never
+permits_asks (Ok (Asks questions spelling)) request never = never
 permits_asks (Ok (Listed asked wanted)) request never = never
 permits_asks (Ok (BadLine line)) request never = never
 permits_asks (Ok TooLong) request never = never
@@ -404,6 +415,7 @@ module _ (Known : Pass → Type 0) (passes : Option (List Pass)) where
   hand_plan n plan.Root asked old hand new hand' left decides opened (told, body) all = hand_to hand hand' told.0 all
   hand_plan n plan.Metrics asked old hand new hand' left decides opened (told, body) all = hand_to hand hand' told.0 all
   hand_plan n plan.Health asked old hand new hand' left decides opened (told, body) all = hand_to hand hand' told.0 all
+  hand_plan n plan.Stop asked old hand new hand' left decides opened (is, stops) all = hand_to hand hand' is all
   hand_plan n (plan.Told answer body) asked old hand new hand' left decides opened (told, responds) all = hand_to hand hand' told.0 all
   hand_plan n plan.NotAdmitted asked old hand new hand' left decides opened (told, responds) all = hand_to hand hand' told.0 all
   hand_plan n (plan.Refused refusal) asked old hand new hand' left decides opened (told, refuses) all = hand_to hand hand' told.0 all

@@ -14,6 +14,7 @@ use Rattle.mvd_http.specs.Listed.{front, front_of, is_told, item_bytes, item_jso
 use Rattle.mvd_http.specs.Seen.{then_read}
 use Rattle.mvd_http.specs.declared.question.Followed.{Followed}
 use Rattle.mvd_http.specs.declared.question.Question.TheVariants.{Changes, Listed}
+use Rattle.mvd_http.specs.declared.question.Spelling.{Spelling}
 use Rattle.mvd_http.specs.declared.question.Wanted.{Wanted}
 use Rattle.mvd_keys.proofs.Lists.{and_true}
 use Rattle.mvd_keys.specs.State.{State}
@@ -79,21 +80,21 @@ answers_same right a b request alike is =
     (within right request is).replies a.config a.states b.states alike.states alike.filled
     ∙ ap (λ (c : ConfigValue). answer_from c b.states request) alike.config
 
-line_same : (right : Right) (a b : SiteValue) (told : ℕ) (ask : Result Request Refusal) → AreAlike (prefix_of right) a b → ask_line right a told ask ≡ ask_line right b told ask
-line_same right a b told (Err refusal) alike = refl
-line_same right a b told (Ok request) alike = on (may right request) refl
+line_same : (right : Right) (a b : SiteValue) (spelling : Spelling) (told : ℕ) (ask : Result Request Refusal) → AreAlike (prefix_of right) a b → ask_line right a spelling told ask ≡ ask_line right b spelling told ask
+line_same right a b spelling told (Err refusal) alike = refl
+line_same right a b spelling told (Ok request) alike = on (may right request) refl
   where
-    on : (m : Bool) → may right request ≡ m → cond m (answer_line a told request) (Ok (denied_told request)) ≡ cond m (answer_line b told request) (Ok (denied_told request))
-    on true is = ap (λ (reply : Reply). later_or (nat_le 1048576 told) (later_told request) (line_told request reply)) (answers_same right a b request alike is)
+    on : (m : Bool) → may right request ≡ m → cond m (answer_line a spelling told request) (Ok (denied_told request)) ≡ cond m (answer_line b spelling told request) (Ok (denied_told request))
+    on true is = ap (λ (reply : Reply). later_or (nat_le 1048576 told) (later_told request) (line_told spelling request reply)) (answers_same right a b request alike is)
     on false is = refl
 
 pub lines_within : (right : Right) (asks : List (Result Request Refusal)) → LinesWithin right asks
 unfolding asks_text
-lines_within right [] a b told alike = refl
-lines_within right (ask ∷ asks) a b told alike =
-    ap (λ (r : Result (List ℕ) Refusal). then_read r (λ line. asks_text right a ((told ++ line) ++ 10 ∷ []) asks)) (line_same right a b (length told) ask alike)
-    ∙ then_same (ask_line right b (length told) ask) (λ line. asks_text right a ((told ++ line) ++ 10 ∷ []) asks) (λ line. asks_text right b ((told ++ line) ++ 10 ∷ []) asks)
-    (λ line. lines_within right asks a b ((told ++ line) ++ 10 ∷ []) alike)
+lines_within right [] a b spelling told alike = refl
+lines_within right (ask ∷ asks) a b spelling told alike =
+    ap (λ (r : Result (List ℕ) Refusal). then_read r (λ line. asks_text right a spelling ((told ++ line) ++ 10 ∷ []) asks)) (line_same right a b spelling (length told) ask alike)
+    ∙ then_same (ask_line right b spelling (length told) ask) (λ line. asks_text right a spelling ((told ++ line) ++ 10 ∷ []) asks) (λ line. asks_text right b spelling ((told ++ line) ++ 10 ∷ []) asks)
+    (λ line. lines_within right asks a b spelling ((told ++ line) ++ 10 ∷ []) alike)
 
 -- ---- pages
 
@@ -140,8 +141,10 @@ module _ (wanted : Wanted) (sa sb : Key → State) where
 
   listed_same : (es : List (Key × ℕ)) (more : Bool) → AllByRecursion Same es → listed_json wanted sa es more ≡ listed_json wanted sb es more
   listed_same es more all =
-      ap (λ fr. page_json wanted sa fr (more || nat_lt (length fr) (length es))) (fronts_same 1048576 es all)
-      ∙ page_same (front_of wanted sb es) (more || nat_lt (length (front_of wanted sb es)) (length es)) (all_front (λ e. item_bytes wanted e (sb e.0)) 1048576 es all)
+      let first = take wanted.limit es in
+      let some = all_take Same wanted.limit es all in
+      ap (λ fr. page_json wanted sa fr (more || nat_lt (length fr) (length es))) (fronts_same 1048576 first some)
+      ∙ page_same (front_of wanted sb first) (more || nat_lt (length (front_of wanted sb first)) (length es)) (all_front (λ e. item_bytes wanted e (sb e.0)) 1048576 first some)
 
 -- a key within the prefix has one state in both
 state_same : (prefix : List ℕ) (a b : States) (key : Key) → AgreeWithin prefix a b → covers prefix key ≡ true → state_at a key ≡ state_at b key
@@ -189,17 +192,17 @@ told_begin feed prefix (Some root) told is = on (rounds_since feed root) refl
         let one : page_told prefix root rounds ≡ told = (let both : ◌≡◌ {A = Option ChangedValue} (Some (page_told prefix root rounds)) (Some told) = ap (λ (o : Option (List NotedValue)). option_map (page_told prefix root) o) (sym some) ∙ is in cc) in
         subst (λ (t : ChangedValue). AllByRecursion (λ key. begins_with prefix key ≡ true) t.keys) one (all_lasts (λ key. begins_with prefix key ≡ true) (keys_with prefix (page_of prefix [] rounds)) (all_with prefix (page_of prefix [] rounds)))
 
-module _ (sa sb : Key → State) where
-  states_same : (is_first : Bool) (told : List ℕ) (keys : List Key) → AllByRecursion (λ key. sa key ≡ sb key) keys → states_text sa is_first told keys ≡ states_text sb is_first told keys
+module _ (sa sb : Key → State) (spelling : Spelling) where
+  states_same : (is_first : Bool) (told : List ℕ) (keys : List Key) → AllByRecursion (λ key. sa key ≡ sb key) keys → states_text sa spelling is_first told keys ≡ states_text sb spelling is_first told keys
   unfolding states_text
   states_same is_first told [] all = refl
   states_same is_first told (key ∷ keys) all =
-      states_same false ((told ++ comma_if is_first) ++ state_or_later sa (told ++ comma_if is_first) key) keys all.1
-      ∙ ap (λ item. states_text sb false ((told ++ comma_if is_first) ++ item) keys) (ap (λ (s : State). cond (nat_le 1048576 (length (told ++ comma_if is_first))) (later_json key) (state_json key s)) all.0)
+      states_same false ((told ++ comma_if is_first) ++ state_or_later sa spelling (told ++ comma_if is_first) key) keys all.1
+      ∙ ap (λ item. states_text sb spelling false ((told ++ comma_if is_first) ++ item) keys) (ap (λ (s : State). cond (nat_le 1048576 (length (told ++ comma_if is_first))) (later_json key) (state_json spelling key s)) all.0)
 
-  changed_same : (with_states : Bool) (root : List ℕ) (keys : List Key) → AllByRecursion (λ key. sa key ≡ sb key) keys → changed_text sa with_states root keys ≡ changed_text sb with_states root keys
-  changed_same true root keys all = ap (λ items. codes "{\"root\":" ++ (digest_json root ++ (codes ",\"keys\":[" ++ (items ++ codes "],\"resync\":false}")))) (states_same true [] keys all)
-  changed_same false root keys all = refl
+changed_same : (sa sb : Key → State) (with_states : Option Spelling) (root : List ℕ) (keys : List Key) → AllByRecursion (λ key. sa key ≡ sb key) keys → changed_text sa with_states root keys ≡ changed_text sb with_states root keys
+changed_same sa sb (Some spelling) root keys all = ap (λ items. codes "{\"root\":" ++ (digest_json root ++ (codes ",\"keys\":[" ++ (items ++ codes "],\"resync\":false}")))) (states_same sa sb spelling true [] keys all)
+changed_same sa sb None root keys all = refl
 
 pub news_within : (right : Right) (since : Option (List ℕ)) (wait : ℕ) (followed : Followed) → may_ask right (Changes since wait followed) ≡ true → NewsWithin right followed
 news_within right asked wait followed may feed root since a b known agree = from (root_now feed) known

@@ -8,7 +8,7 @@ use Rattle.mvd_dots.specs.declared.refusals.Refusal.{Refusal}
 use Rattle.mvd_host.specs.AtHand.{AtHandValue, StepsAtHand}
 use Rattle.mvd_http.specs.declared.fields.Content.TheVariants as content
 use Rattle.mvd_http.specs.declared.question.Question.{Question}
-use Rattle.mvd_http.specs.declared.question.Question.TheVariants.{Page, Root, Metrics, Health, Ask, Asks, BadLine, Listed, Live, Changes, Many, Misread, Nowhere, NotAllowed, TooLong}
+use Rattle.mvd_http.specs.declared.question.Question.TheVariants.{Page, Root, Metrics, Health, Stop, Ask, Asks, BadLine, Listed, Live, Changes, Many, Misread, Nowhere, NotAllowed, Texts, TooLong}
 use Rattle.mvd_server.specs.Admitted.{Decides}
 use Rattle.mvd_server.specs.Batches.{BeginsBatch, HandsBatch}
 use Rattle.mvd_server.specs.Errands.{Asks, AsksAtHand, AsksNextOf, Desk, DoesPlan, Errand, Forgoes, IsBatchFor, IsUntold, RunsErrand, Stops, TakesIf, Tells, TellsBatch, TellsChange, TellsMany}
@@ -57,6 +57,7 @@ steps_plan n (plan.BadLine line) old hand new hand' left (told, body) = inl told
 steps_plan n plan.Root old hand new hand' left (told, body) = inl told.0
 steps_plan n plan.Metrics old hand new hand' left (told, body) = inl told.0
 steps_plan n plan.Health old hand new hand' left (told, body) = inl told.0
+steps_plan n plan.Stop old hand new hand' left (is, stops) = inl is
 steps_plan n (plan.Told answer body) old hand new hand' left (told, responds) = inl told.0
 steps_plan n plan.NotAdmitted old hand new hand' left (told, responds) = inl told.0
 steps_plan n (plan.Refused refusal) old hand new hand' left (told, refuses) = inl told.0
@@ -75,14 +76,16 @@ steps_errand Stops passes names n old new (ends, is) = inl (ap (λ (d : Desk). d
 batch_for : (right : Right) (q : Question) (batch : Batch) → IsPlanFor right q (plan.Writes batch) → (writes : List (Result Request Refusal)) × (q ≡ Many writes) × BeginsBatch right writes batch
 batch_for right (Ask request) batch never = absurd never
 batch_for right (Live request) batch never = absurd never
+batch_for right (Texts request) batch never = absurd never
 batch_for right (Many writes) batch begins = (writes, refl, begins)
 batch_for right (Changes since wait followed) batch is = absurd (let no : ⊥ = cc in no)
 batch_for right Page batch never = absurd never
 batch_for right Root batch is = absurd (let no : ⊥ = cc in no)
 batch_for right Metrics batch is = absurd (let no : ⊥ = cc in no)
 batch_for right Health batch is = absurd (let no : ⊥ = cc in no)
+batch_for right Stop batch is = absurd (let no : ⊥ = cc in no)
 batch_for right TooLong batch never = absurd never
-batch_for right (Asks questions) batch is = absurd (let no : ⊥ = cc in no)
+batch_for right (Asks questions spelling) batch is = absurd (let no : ⊥ = cc in no)
 batch_for right (Listed request wanted) batch is = absurd (let no : ⊥ = cc in no)
 batch_for right (BadLine line) batch is = absurd (let no : ⊥ = cc in no)
 batch_for right (Misread refusal place) batch is = absurd (let no : ⊥ = cc in no)
@@ -104,11 +107,13 @@ free_none (Ok Health) batch is = absurd cc
 free_none (Ok TooLong) batch never = never
 free_none (Ok (Ask request)) batch is = absurd cc
 free_none (Ok (Live request)) batch is = absurd cc
+free_none (Ok (Texts request)) batch is = absurd cc
 free_none (Ok (Many writes)) batch is = absurd cc
 free_none (Ok (Changes since wait followed)) batch is = absurd cc
 free_none (Ok Root) batch is = absurd cc
 free_none (Ok Metrics) batch is = absurd cc
-free_none (Ok (Asks questions)) batch is = absurd cc
+free_none (Ok Stop) batch is = absurd cc
+free_none (Ok (Asks questions spelling)) batch is = absurd cc
 free_none (Ok (Listed request wanted)) batch is = absurd cc
 free_none (Ok (BadLine line)) batch is = absurd cc
 free_none (Ok (Misread refusal place)) batch is = absurd cc
@@ -120,13 +125,15 @@ free_none (Err refusal) batch is = absurd cc
 permits_none : (q : Result Question Refusal) (batch : Batch) → TellsMethods q (plan.Writes batch) → ⊥
 permits_none (Ok (Ask request)) batch never = never
 permits_none (Ok (Live request)) batch never = never
+permits_none (Ok (Texts request)) batch never = never
 permits_none (Ok (Many writes)) batch never = never
 permits_none (Ok (Changes since wait followed)) batch never = never
 permits_none (Ok Page) batch never = never
 permits_none (Ok Root) batch never = never
 permits_none (Ok Metrics) batch never = never
 permits_none (Ok Health) batch never = never
-permits_none (Ok (Asks questions)) batch never = never
+permits_none (Ok Stop) batch never = never
+permits_none (Ok (Asks questions spelling)) batch never = never
 permits_none (Ok (Listed request wanted)) batch never = never
 permits_none (Ok (BadLine line)) batch never = never
 permits_none (Ok TooLong) batch never = never
@@ -158,6 +165,8 @@ batch_left passes n plan.Listed asked old hand new hand' batch kept plans (told,
 batch_left passes n (plan.BadLine line) asked old hand new hand' batch kept plans (told, body) = let left = told.1 in absurd (let no : ⊥ = cc in no)
 batch_left passes n plan.Root asked old hand new hand' batch kept plans (told, body) = let left = told.1 in absurd (let no : ⊥ = cc in no)
 batch_left passes n plan.Health asked old hand new hand' batch kept plans (told, body) = let left = told.1 in absurd (let no : ⊥ = cc in no)
+batch_left passes n plan.Stop asked old hand new hand' batch kept plans (is, (true, (left, responds))) = absurd (let no : ⊥ = cc in no)
+batch_left passes n plan.Stop asked old hand new hand' batch kept plans (is, (false, (left, responds))) = absurd (let no : ⊥ = cc in no)
 batch_left passes n plan.Metrics asked old hand new hand' batch kept plans (told, body) = let left = told.1 in absurd (let no : ⊥ = cc in no)
 batch_left passes n (plan.Told answer body) asked old hand new hand' batch kept plans (told, responds) = let left = told.1 in absurd (let no : ⊥ = cc in no)
 batch_left passes n plan.NotAdmitted asked old hand new hand' batch kept plans (told, responds) = let left = told.1 in absurd (let no : ⊥ = cc in no)

@@ -1,34 +1,37 @@
 -- The lines of a list of questions, put down one after the other.
-use Rattle.std.proofs.Common.{◌≡◌, ◌∙◌, ◌⊎◌, inl, inr, ℕ, ◌+◌, ◌<◌, Bool, true, false, List, [], ◌∷◌, ◌++◌, ap, drop, get_or, length, nat_le, OnOk, Option, Some, None, refl, Result, Ok, Err, subst, sym}
+use Rattle.std.proofs.Common.{◌≡◌, ◌∙◌, ◌⊎◌, inl, inr, ℕ, ◌+◌, ◌<◌, Bool, true, false, cond, List, [], ◌∷◌, ◌++◌, ap, drop, get_or, length, nat_le, OnOk, Option, Some, None, refl, Result, Ok, Err, subst, sym}
 use Rattle.std.proofs.lemmas.List.{drop_more}
 use Rattle.mvd_dots.specs.declared.refusals.Refusal.{Refusal}
-use Rattle.mvd_http.specs.Answers.{AppendsIf, AppendsText, later_told, line_told}
+use Rattle.mvd_conn.specs.Rights.{may}
+use Rattle.mvd_conn.specs.declared.right.Right.{Right}
+use Rattle.mvd_http.specs.Answers.{AppendsIf, AppendsText, denied_told, later_told, line_told}
 use Rattle.mvd_http.specs.Json.{bad_line_json}
 use Rattle.mvd_http.specs.Seen.{then_read}
 use Rattle.mvd_http.specs.declared.fields.Answer.{Answer}
 use Rattle.mvd_http.specs.declared.fields.Content.TheVariants as content
+use Rattle.mvd_http.specs.declared.question.Spelling.{Spelling}
 use Rattle.mvd_server.specs.Plans.{plain_answer}
-use Rattle.mvd_server.specs.Questions.{TellsBadLine, ask_line, asks_text, later_or}
+use Rattle.mvd_server.specs.Questions.{TellsBadLine, answer_line, ask_line, asks_text, later_or}
 use Rattle.mvd_site.specs.Answer.{answer_from}
 use Rattle.mvd_site.specs.Sites.{SiteValue}
 use Rattle.mvd_web.specs.Web.{RespondsTo, WebValue}
 use Rattle.mvd_wire.specs.declared.reply.Reply.{Reply}
 use Rattle.mvd_wire.specs.declared.request.Request.{Request}
 
-module _ (site : SiteValue) (asks : List (Result Request Refusal)) where
+module _ (right : Right) (site : SiteValue) (spelling : Spelling) (asks : List (Result Request Refusal)) where
   -- one question more
-  pub asks_on : (told line : List ℕ) (i : ℕ) (ask : Result Request Refusal) (all : Result (List ℕ) Refusal) → i < length asks → ask ≡ get_or asks i ask → ask_line site (length told) ask ≡ Ok line
-      → asks_text site told (drop i asks) ≡ all → asks_text site ((told ++ line) ++ 10 ∷ []) (drop (i + 1) asks) ≡ all
+  pub asks_on : (told line : List ℕ) (i : ℕ) (ask : Result Request Refusal) (all : Result (List ℕ) Refusal) → i < length asks → ask ≡ get_or asks i ask → ask_line right site spelling (length told) ask ≡ Ok line
+      → asks_text right site spelling told (drop i asks) ≡ all → asks_text right site spelling ((told ++ line) ++ 10 ∷ []) (drop (i + 1) asks) ≡ all
   unfolding asks_text
   asks_on told line i ask all low is one so_far =
-      sym (ap (asks_text site told) (drop_more asks i ask low ∙ ap (λ (a : Result Request Refusal). a ∷ drop (i + 1) asks) (sym is))
-      ∙ ap (λ r. then_read r (λ l. asks_text site ((told ++ l) ++ 10 ∷ []) (drop (i + 1) asks))) one)
+      sym (ap (asks_text right site spelling told) (drop_more asks i ask low ∙ ap (λ (a : Result Request Refusal). a ∷ drop (i + 1) asks) (sym is))
+      ∙ ap (λ r. then_read r (λ l. asks_text right site spelling ((told ++ l) ++ 10 ∷ []) (drop (i + 1) asks))) one)
       ∙ so_far
 
   -- and none is left
-  pub asks_done : (told : List ℕ) (i : ℕ) (all : Result (List ℕ) Refusal) → drop i asks ≡ [] → asks_text site told (drop i asks) ≡ all → all ≡ Ok told
+  pub asks_done : (told : List ℕ) (i : ℕ) (all : Result (List ℕ) Refusal) → drop i asks ≡ [] → asks_text right site spelling told (drop i asks) ≡ all → all ≡ Ok told
   unfolding asks_text
-  asks_done told i all none so_far = sym so_far ∙ ap (asks_text site told) none
+  asks_done told i all none so_far = sym so_far ∙ ap (asks_text right site spelling told) none
 
 -- ---- one line
 
@@ -49,16 +52,17 @@ line_of (Ok text) old new u is = (text, refl, is)
 line_of (Err refusal) old new u differs = absurd (let never : ⊥ = cc in never)
 
 -- so the line is that of the answer
-pub told_line : (site : SiteValue) (old mid new : List ℕ) (ask : Result Request Refusal) (request : Request) (reply : Reply) (result : Result (Unit {0}) Refusal) → ask ≡ Ok request → reply ≡ answer_from site.config site.states request
-    → (nat_le 1048576 (length old) ≡ false ⊎ later_told request ≡ None) × (mid ≡ old) → AppendsText (line_told request reply) mid new result
-    → OnOk result ((line : List ℕ) × (ask_line site (length old) ask ≡ Ok line) × (new ≡ old ++ line))
-told_line site old mid new ask request reply (Err refusal) asks answers (where_to, same) appends = tt
-told_line site old mid new ask request reply (Ok u) asks answers (where_to, same) appends =
-    let (line, told, came) = line_of (line_told request reply) mid new u appends in (
+pub told_line : (right : Right) (site : SiteValue) (spelling : Spelling) (old mid new : List ℕ) (ask : Result Request Refusal) (request : Request) (reply : Reply) (result : Result (Unit {0}) Refusal) → ask ≡ Ok request → may right request ≡ true → reply ≡ answer_from site.config site.states request
+    → (nat_le 1048576 (length old) ≡ false ⊎ later_told request ≡ None) × (mid ≡ old) → AppendsText (line_told spelling request reply) mid new result
+    → OnOk result ((line : List ℕ) × (ask_line right site spelling (length old) ask ≡ Ok line) × (new ≡ old ++ line))
+told_line right site spelling old mid new ask request reply (Err refusal) asks is answers (where_to, same) appends = tt
+told_line right site spelling old mid new ask request reply (Ok u) asks is answers (where_to, same) appends =
+    let (line, told, came) = line_of (line_told spelling request reply) mid new u appends in (
       line,
-      ap (ask_line site (length old)) asks
-          ∙ not_later (nat_le 1048576 (length old)) (later_told request) (line_told request (answer_from site.config site.states request)) where_to
-          ∙ ap (line_told request) (sym answers) ∙ told,
+      ap (ask_line right site spelling (length old)) asks
+          ∙ ap (λ b. cond b (answer_line site spelling (length old) request) (Ok (denied_told request))) is
+          ∙ not_later (nat_le 1048576 (length old)) (later_told request) (line_told spelling request (answer_from site.config site.states request)) where_to
+          ∙ ap (line_told spelling request) (sym answers) ∙ told,
       came ∙ ap (λ (text : List ℕ). text ++ line) same,
     )
 

@@ -7,6 +7,7 @@ use Rattle.mvd_host.specs.Feeds.{FeedValue, root_now}
 use Rattle.mvd_host.specs.Within.{is_filled}
 use Rattle.mvd_http.specs.declared.question.Followed.{Followed}
 use Rattle.mvd_http.specs.declared.question.Question.{Question}
+use Rattle.mvd_http.specs.declared.question.Spelling.{Spelling}
 use Rattle.mvd_server.specs.Listings.{listed_of}
 use Rattle.mvd_server.specs.Questions.{asks_text}
 use Rattle.mvd_server.specs.Since.{since_text}
@@ -24,8 +25,8 @@ pub record AreAlike (prefix : List ℕ) (a b : SiteValue) : Type 0 where
 -- the lines of a list, behind what is told already
 abbrev pub LinesWithin : Right → List (Result Request Refusal) → Type 0
 LinesWithin right asks =
-    (a b : SiteValue) (told : List ℕ) → AreAlike (prefix_of right) a b
-    → asks_text right a told asks ≡ asks_text right b told asks
+    (a b : SiteValue) (spelling : Spelling) (told : List ℕ) → AreAlike (prefix_of right) a b
+    → asks_text right a spelling told asks ≡ asks_text right b spelling told asks
 
 -- a page of keys
 abbrev pub PageWithin : Right → Question → Type 0

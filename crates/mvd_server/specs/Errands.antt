@@ -9,7 +9,9 @@ use Rattle.mvd_dots.specs.declared.refusals.Refusal.{Refusal}
 use Rattle.mvd_dots.specs.declared.refusals.Refusal.TheVariants.{Memory}
 use Rattle.mvd_host.specs.AtHand.{AtHandValue, MayWait, TakesFirst, asked_by_one}
 use Rattle.mvd_http.specs.Guard.{Named}
+use Rattle.mvd_http.specs.Faults.{answer_of, fault_text}
 use Rattle.mvd_http.specs.declared.fields.Content.TheVariants as content
+use Rattle.mvd_http.specs.declared.http_fault.Fault.TheVariants.{NotFound}
 use Rattle.mvd_http.specs.declared.question.Followed.{Followed}
 use Rattle.mvd_http.specs.declared.question.Question.TheVariants.{Changes, Many}
 use Rattle.mvd_server.specs.Admitted.{Decides}
@@ -49,6 +51,12 @@ AsksAtHand n request old hand new hand' =
     (MayWait (n, request) × (hand' ≡ asked_by_one hand n (request ∷ [])) × (new ≡ old))
     ⊎ ((hand' ≡ hand) × ((refusal : Refusal) × (MayWait (n, request) → refusal ≡ Memory) × RefusesWeb refusal old new))
 
+-- where tokens are asked for, that the server ends is told, and it does; else there is nothing of that name
+abbrev pub StopsIf : Bool → WebValue → WebValue → Rest → Type 0
+StopsIf true old new left =
+    (left ≡ rest.Stops) × RespondsTo old.asked old (plain_answer 202 content.Nothing) [] new
+StopsIf false old new left = (left ≡ rest.Nothing) × RespondsTo old.asked old (answer_of NotFound) (fault_text NotFound) new
+
 -- it is done, once: the site is asked, or a response is queued, or it is told what is left to do
 abbrev pub DoesPlan : ℕ → Plan → WebValue → AtHandValue → WebValue → AtHandValue → Rest → Type 0
 DoesPlan n (plan.Ask request) old hand new hand' left = AsksAtHand n request old hand new hand' × (left ≡ rest.Nothing)
@@ -61,6 +69,7 @@ DoesPlan n plan.Listed old hand new hand' left =
 DoesPlan n (plan.BadLine line) old hand new hand' left = IsToldRest hand hand' left × TellsBadLine line old new
 DoesPlan n plan.Root old hand new hand' left = IsToldRest hand hand' left × TellsBody content.Json old new
 DoesPlan n plan.Metrics old hand new hand' left = IsToldRest hand hand' left × TellsBody content.Plain old new
+DoesPlan n plan.Stop old hand new hand' left = (hand' ≡ hand) × ((guarded : Bool) × StopsIf guarded old new left)
 DoesPlan n plan.Health old hand new hand' left = IsToldRest hand hand' left × TellsBody content.Json old new
 DoesPlan n (plan.Told answer body) old hand new hand' left =
     IsToldRest hand hand' left × RespondsTo old.asked old answer body.now new
@@ -79,6 +88,7 @@ pub record AsksOne (passes : Option (List Pass)) (names : Named) (n : ℕ) (old 
   pub plan : Plan
   pub decides : Decides asked.entry asked.question plan
   pub does : DoesPlan n plan mid hand new hand' left
+  pub guarded : left ≡ rest.Stops → is_some passes ≡ true
 
 -- or there is none
 abbrev pub AsksNextOf : Option (List Pass) → Named → ℕ → WebValue → AtHandValue → WebValue → AtHandValue → Rest → Type 0

@@ -1,4 +1,5 @@
--- What is told of a page of which more is told than the site's answer has: it is made of the states that are held then.
+-- What is told of a page of which more is told than the site's answer has, or less: it is made of the states that are held
+-- then.
 use Rattle.std.specs.Prelude.{◌≡◌, ℕ, List, Option, Some, None, Result, Ok, Err}
 use Rattle.mvd_dots.specs.declared.refusals.Refusal.{Refusal}
 use Rattle.mvd_dots.specs.declared.refusals.Refusal.TheVariants.{BadKind}

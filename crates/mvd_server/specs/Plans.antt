@@ -11,7 +11,7 @@ use Rattle.mvd_http.specs.declared.http_fault.Fault.{Fault}
 use Rattle.mvd_http.specs.declared.http_fault.Fault.TheVariants.{ContentTooLarge, MethodNotAllowed, NotFound}
 use Rattle.mvd_http.specs.declared.question.Methods.{Methods}
 use Rattle.mvd_http.specs.declared.question.Question.{Question}
-use Rattle.mvd_http.specs.declared.question.Question.TheVariants.{Page, Root, Metrics, Health, Ask, Asks, BadLine, Listed, Live, Changes, Many, Misread, Nowhere, NotAllowed, TooLong}
+use Rattle.mvd_http.specs.declared.question.Question.TheVariants.{Page, Root, Metrics, Health, Stop, Ask, Asks, BadLine, Listed, Live, Changes, Many, Misread, Nowhere, NotAllowed, Texts, TooLong}
 use Rattle.mvd_server.specs.Batches.{BeginsBatch, is_web_request}
 use Rattle.mvd_server.specs.declared.gate.Plan.{Plan}
 use Rattle.mvd_server.specs.declared.gate.Plan.TheVariants as plan
@@ -60,8 +60,9 @@ TellsMethods _ p = TellsFault NotFound None p
 abbrev pub IsPlanFor : Right → Question → Plan → Type 0
 IsPlanFor right (Ask request) p = HandsOn request p
 IsPlanFor right (Live request) p = HandsOn request p
+IsPlanFor right (Texts request) p = HandsOn request p
 IsPlanFor right (Many writes) p = HandsOnAll right writes p
-IsPlanFor right (Asks questions) p = p ≡ plan.Asks right
+IsPlanFor right (Asks questions spelling) p = p ≡ plan.Asks right
 IsPlanFor right (Listed request wanted) p = p ≡ plan.Listed
 IsPlanFor right (BadLine line) p = p ≡ plan.BadLine line
 IsPlanFor right (Changes since wait followed) p = p ≡ plan.Changes since wait
@@ -69,6 +70,7 @@ IsPlanFor right Page p = TellsWebPage p
 IsPlanFor right Root p = p ≡ plan.Root
 IsPlanFor right Metrics p = p ≡ plan.Metrics
 IsPlanFor right Health p = p ≡ plan.Health
+IsPlanFor right Stop p = p ≡ plan.Stop
 IsPlanFor right TooLong p = TellsFault ContentTooLarge None p
 IsPlanFor right (Misread refusal place) p = p ≡ plan.Refused refusal
 IsPlanFor right Nowhere p = TellsFault NotFound None p

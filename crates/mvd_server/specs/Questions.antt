@@ -11,6 +11,7 @@ use Rattle.mvd_http.specs.declared.fields.Content.{Content}
 use Rattle.mvd_http.specs.declared.fields.Content.TheVariants as content
 use Rattle.mvd_http.specs.declared.question.Question.{Question}
 use Rattle.mvd_http.specs.declared.question.Question.TheVariants.{Asks}
+use Rattle.mvd_http.specs.declared.question.Spelling.{Spelling}
 use Rattle.mvd_server.specs.Plans.{plain_answer}
 use Rattle.mvd_server.specs.Responding.{RefusesWeb}
 use Rattle.mvd_site.specs.Answer.{answer_from}
@@ -27,26 +28,29 @@ later_or _ _ line = line
 
 -- what a question is told where so many bytes are told already: from 1,048,576 on a state, and the keys of a bucket,
 -- are to be asked again
-abbrev pub answer_line : SiteValue → ℕ → Request → Result (List ℕ) Refusal
-answer_line site told request =
-    later_or (nat_le 1048576 told) (later_told request) (line_told request (answer_from site.config site.states request))
+abbrev pub answer_line : SiteValue → Spelling → ℕ → Request → Result (List ℕ) Refusal
+answer_line site spelling told request =
+    later_or (nat_le 1048576 told) (later_told request)
+    (line_told spelling request (answer_from site.config site.states request))
 
 -- what its right does not allow is not asked
-abbrev pub ask_line : Right → SiteValue → ℕ → Result Request Refusal → Result (List ℕ) Refusal
-ask_line right site told (Err refusal) = Ok (refused_json refusal)
-ask_line right site told (Ok request) =
-    if may right request then answer_line site told request else Ok (denied_told request)
+abbrev pub ask_line : Right → SiteValue → Spelling → ℕ → Result Request Refusal → Result (List ℕ) Refusal
+ask_line right site spelling told (Err refusal) = Ok (refused_json refusal)
+ask_line right site spelling told (Ok request) =
+    if may right request then answer_line site spelling told request else Ok (denied_told request)
 
 -- behind what is told already a line for each, with its line feed (10), or the first refusal of all
-unfoldable pub asks_text : Right → SiteValue → List ℕ → List (Result Request Refusal) → Result (List ℕ) Refusal
-asks_text right site told [] = Ok told
-asks_text right site told (ask ∷ asks) =
-    then_read (ask_line right site (length told) ask) (λ line. asks_text right site ((told ++ line) ++ 10 ∷ []) asks)
+unfoldable pub asks_text : Right → SiteValue → Spelling → List ℕ → List (Result Request Refusal)
+    → Result (List ℕ) Refusal
+asks_text right site spelling told [] = Ok told
+asks_text right site spelling told (ask ∷ asks) =
+    then_read (ask_line right site spelling (length told) ask)
+    (λ line. asks_text right site spelling ((told ++ line) ++ 10 ∷ []) asks)
 
 -- ---- responses
 
 abbrev pub asks_of : Right → SiteValue → Result Question Refusal → Result (List ℕ) Refusal
-asks_of right site (Ok (Asks asks)) = asks_text right site [] asks
+asks_of right site (Ok (Asks asks spelling)) = asks_text right site spelling [] asks
 asks_of right site _ = Err BadKind
 
 -- a text of this kind is told, or a refusal in its place

@@ -1,12 +1,12 @@
 -- What a client over HTTP is told of the reply to its request.
 use Rattle.std.specs.Prelude.{◌≡◌, ◌⊎◌, ◌&&◌, if◌then◌else◌, nat_le, codes, ℕ, Bool, true, false, List, [], ◌∷◌, Option, Some, None, Result, Ok}
 use Rattle.mvd_dots.specs.declared.refusals.Refusal.{Refusal}
-use Rattle.mvd_http.specs.Answers.{Responds, IsToldAs, Told, is_stored, live_told, misread_told, refused_told, reply_told}
+use Rattle.mvd_http.specs.Answers.{Responds, IsToldAs, Told, is_stored, live_told, misread_told, refused_told, reply_told, texts_told}
 use Rattle.mvd_http.specs.declared.fields.Answer.{Answer}
 use Rattle.mvd_http.specs.declared.fields.Content.{Content}
 use Rattle.mvd_http.specs.declared.fields.Content.TheVariants.{Json, Nothing}
 use Rattle.mvd_http.specs.declared.question.Question.{Question}
-use Rattle.mvd_http.specs.declared.question.Question.TheVariants.{Ask, Live, Misread}
+use Rattle.mvd_http.specs.declared.question.Question.TheVariants.{Ask, Live, Misread, Texts}
 use Rattle.mvd_server.specs.Plans.{plain_answer}
 pub use Rattle.mvd_server.specs.Plans.{not_admitted}
 use Rattle.mvd_web.specs.Web.{RespondsTo, WebValue, stopped_by}
@@ -29,19 +29,11 @@ json_answer status body = plain_answer (status_or_500 status) (content_of body)
 
 -- ---- what is told of a reply
 
--- keys without a sibling may be left out
-abbrev pub told_with : Bool → Request → Reply → Result Told Refusal
-told_with true request reply = live_told request reply
-told_with false request reply = reply_told request reply
-
--- the reply is told
-abbrev pub AnswersAsked : Bool → Request → Reply → ℕ → List ℕ → Type 0
-AnswersAsked is_live request reply status body =
-    Responds (is_stored reply) (told_with is_live request reply) status body
-
+-- the reply is told; keys without a sibling may be left out, and documents told as their texts
 abbrev pub AnswersReply : Result Question Refusal → Reply → ℕ → List ℕ → Type 0
-AnswersReply (Ok (Ask request)) reply status body = AnswersAsked false request reply status body
-AnswersReply (Ok (Live request)) reply status body = AnswersAsked true request reply status body
+AnswersReply (Ok (Ask request)) reply status body = Responds (is_stored reply) (reply_told request reply) status body
+AnswersReply (Ok (Live request)) reply status body = Responds (is_stored reply) (live_told request reply) status body
+AnswersReply (Ok (Texts request)) reply status body = Responds (is_stored reply) (texts_told request reply) status body
 AnswersReply _ reply status body = ⊥
 
 -- a response to the request that waits

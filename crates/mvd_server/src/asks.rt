@@ -11,7 +11,7 @@ use http::StatusCode;
 use mvd_conn::Right;
 use mvd_dots::Refusal;
 use mvd_http::{
-    Content, Question, push_bad_line, push_denied, push_later, push_refused, push_told,
+    Content, Question, Spelling, push_bad_line, push_denied, push_later, push_refused, push_told,
 };
 use mvd_replica::Replica;
 use mvd_site::{Prepared, Site};
@@ -72,7 +72,9 @@ fn push_asked(
     ensures { OnOk result (asks_of right.now site.now question.now ≡ Ok (string_bytes out.new)) }
 {
     match question {
-        Ok(Question::Asks(asks)) => push_asks(alloc, right, site, asks.as_slice(), out),
+        Ok(Question::Asks(asks, spelling)) => {
+            push_asks(alloc, right, site, *spelling, asks.as_slice(), out)
+        }
         _ => Err(Refusal::BadKind),
     }
 }
@@ -81,13 +83,15 @@ fn push_asks(
     alloc: Global,
     right: &Right,
     site: &Site,
+    spelling: Spelling,
     asks: &[Result<Request, Refusal>],
     out: &mut String,
 ) -> Result<(), Refusal>
-    ensures { OnOk result (asks_text right.now site.now (string_bytes out.old) asks.now ≡ Ok (string_bytes out.new)) }
+    ensures { OnOk result
+        (asks_text right.now site.now spelling (string_bytes out.old) asks.now ≡ Ok (string_bytes out.new)) }
 {
     for ask in asks {
-        push_ask(alloc, right, site, ask, out)?;
+        push_ask(alloc, right, site, spelling, ask, out)?;
         push_line_end(out)?;
     }
     Ok(())
@@ -104,10 +108,12 @@ fn push_ask(
     alloc: Global,
     right: &Right,
     site: &Site,
+    spelling: Spelling,
     ask: &Result<Request, Refusal>,
     out: &mut String,
 ) -> Result<(), Refusal>
-    ensures { OnOk result ((line : List ℕ) × (ask_line right.now site.now (length (string_bytes out.old)) ask.now ≡ Ok line)
+    ensures { OnOk result ((line : List ℕ)
+        × (ask_line right.now site.now spelling (length (string_bytes out.old)) ask.now ≡ Ok line)
         × (string_bytes out.new ≡ string_bytes out.old ++ line)) }
 {
     match ask {
@@ -117,7 +123,7 @@ fn push_ask(
                 return Ok(());
             }
             let reply = reply_to(site, request)?;
-            push_told(alloc, request, &reply, out)
+            push_told(alloc, request, spelling, &reply, out)
         }
         Err(refusal) => Ok(push_refused(out, *refusal)?),
     }

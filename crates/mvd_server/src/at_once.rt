@@ -7,7 +7,7 @@ use crate::metrics::{Counts, Now};
 use crate::responding::{answer_of, refuse, respond, tell_pushed};
 use http::StatusCode;
 use mvd_dots::Refusal;
-use mvd_http::{Content, push_root};
+use mvd_http::{Content, Totals, push_root};
 use mvd_replica::Replica;
 use mvd_web::WebConnection;
 use sqlite::Alter;
@@ -25,26 +25,24 @@ pub(crate) fn tell_root<S: Alter + Drop>(
     ensures { TellsBody Json (web_of web.old) (web_of web.new) }
 {
     let mut body = String::new(alloc);
-    let pushed = push_root_of(alloc, replica, &mut body);
+    let pushed = push_root_of(alloc, replica, counts, &mut body);
     tell_pushed(alloc, web, pushed, body.as_str(), counts);
 }
 
 fn push_root_of<S: Alter + Drop>(
     alloc: Global,
     replica: &Replica<S>,
+    counts: &mut Counts,
     body: &mut String,
 ) -> Result<(), Refusal> {
     let digest = replica.root()?;
-    let keys = u64::from(replica.key_count());
-    let conflicts = u64::from(replica.conflict_count());
-    push_root(
-        alloc,
-        body,
-        digest,
-        keys,
-        conflicts,
-        replica.config().site(),
-    )
+    let found = counts.census.found(alloc, replica.site(), digest)?;
+    let totals = Totals {
+        keys: u64::from(replica.key_count()),
+        live: found.live,
+        conflicts: u64::from(replica.conflict_count()),
+    };
+    push_root(alloc, body, digest, totals, replica.config().site())
 }
 
 /// Tells that the server can answer, unless its site is broken.

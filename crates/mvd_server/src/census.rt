@@ -8,6 +8,9 @@ use std::alloc::Global;
 /// The most pages of keys that are gone over at once, with at most 1,000 keys each.
 const PAGES: usize = 32;
 
+/// As often at most that is done until all have been gone over.
+const TURNS: usize = 64;
+
 /// How many keys have a sibling, and how many are deleted.
 #[derive(Clone, Copy)]
 pub(crate) struct Found {
@@ -38,6 +41,8 @@ impl Found {
 #[derive(Drop)]
 pub(crate) struct Census {
     pub whole: Option<Found>,
+    /// The root of the site of which that was found, where it was at once.
+    root: Option<[u8; 32]>,
     part: Found,
     after: Option<Key>,
 }
@@ -46,6 +51,7 @@ impl Census {
     pub fn new() -> Census {
         Census {
             whole: None,
+            root: None,
             part: Found::none(),
             after: None,
         }
@@ -63,6 +69,25 @@ impl Census {
                 }
             }
         }
+    }
+
+    /// What all keys are: now, where they can be gone over at once, and else when that was done last. At first they are gone
+    /// over however many there are.
+    pub fn found(&mut self, alloc: Global, site: &Site, root: [u8; 32]) -> Result<Found, Refusal> {
+        for _turn in 0..TURNS {
+            match self.whole {
+                Some(found) if self.root == Some(root) => return Ok(found),
+                _ => {}
+            }
+            let begins = self.after.is_none();
+            self.go_on(alloc, site);
+            let is_at_once = begins && self.after.is_none() && self.whole.is_some();
+            self.root = if is_at_once { Some(root) } else { None };
+            if let Some(found) = self.whole {
+                return Ok(found);
+            }
+        }
+        Err(Refusal::Memory)
     }
 
     fn begin(&mut self) {

@@ -1,5 +1,6 @@
 //! The clients: their sockets, and their connections.
 mod admitting;
+mod closing;
 
 ghost use Rattle.std.specs.Prelude.{◌≡◌, IfOk, IsTrue};
 ghost use Rattle.mvd_server.specs.Closing.{IsDeserted};
@@ -141,7 +142,8 @@ impl Crowd {
         more
     }
 
-    /// Tells those that have waited for a change for long enough, and lists all that were told.
+    /// Tells those that have waited for a change for long enough, and lists all that were told. Where the server is to
+    /// end, all are.
     pub fn wake(&mut self, ready: &mut Vec<u64>)
         ensures { TalksDeeds self.old.talks self.new.talks }
     {
@@ -152,6 +154,7 @@ impl Crowd {
             }
         }
         self.talks.woken.clear();
+        self.close_if_asked(ready);
     }
 
     /// When a client is to be looked after next.

@@ -1,12 +1,13 @@
 //! From a request of HTTP to what is asked of the site, and from the reply to the response.
-ghost use Rattle.std.specs.Prelude.{ℕ, option_copied};
+ghost use Rattle.std.specs.Prelude.{◌≡◌, ℕ, option_copied, true};
 ghost use Rattle.mvd_http.specs.declared.fields.Content.TheVariants.{Json};
 ghost use Rattle.mvd_http.specs.Guard.{named_by};
 ghost use Rattle.mvd_server.specs.Admitted.{Decides};
 ghost use Rattle.mvd_host.specs.AtHand.{AtHandValue};
-ghost use Rattle.mvd_server.specs.Errands.{AsksAtHand, AsksNextOf, DoesPlan, TakesIf, TellsBatch, TellsOrWaits};
+ghost use Rattle.mvd_server.specs.Errands.{AsksAtHand, AsksNextOf, DoesPlan, StopsIf, TakesIf, TellsBatch, TellsOrWaits};
 ghost use Rattle.mvd_server.specs.Plans.{IsFreePlan, IsPlanFor, IsPlanIf, TellsFault, TellsMethods};
 ghost use Rattle.mvd_server.specs.Responding.{TellsBody, not_admitted, token_answer};
+ghost use Rattle.mvd_server.specs.declared.gate.Rest.TheVariants.{Stops};
 ghost use Rattle.mvd_web.specs.Inside.{web_of};
 ghost use Rattle.mvd_web.specs.Rights.{may_ask};
 ghost use Rattle.mvd_web.specs.Web.{RespondsTo};
@@ -51,6 +52,8 @@ enum Plan {
     Root,
     Metrics,
     Health,
+    /// The server ends, where tokens are asked for.
+    Stop,
     /// It is answered at once, by this.
     Told(Answer, &'static str),
     /// A token is asked for.
@@ -67,6 +70,8 @@ pub(crate) enum Rest {
     Writes(Batch),
     /// It waits for a change of this root, for so many seconds.
     Waits([u8; 32], u32),
+    /// The server is to end.
+    Stops,
 }
 
 /// What is done about a request. Nothing is asked of the site, or told of it, for one that does not come in.
@@ -117,15 +122,17 @@ fn plan_for(alloc: Global, right: Right, question: &Question) -> Plan
     ensures { IsPlanFor right question.now result }
 {
     match question {
-        Question::Ask(request) | Question::Live(request) => match copy_request(alloc, request) {
-            Ok(request) => Plan::Ask(request),
-            Err(refusal) => Plan::Refused(refusal),
-        },
+        Question::Ask(request) | Question::Live(request) | Question::Texts(request) => {
+            match copy_request(alloc, request) {
+                Ok(request) => Plan::Ask(request),
+                Err(refusal) => Plan::Refused(refusal),
+            }
+        }
         Question::Many(writes) => match Batch::new(alloc, right, writes.as_slice()) {
             Ok(batch) => Plan::Writes(batch),
             Err(refusal) => Plan::Refused(refusal),
         },
-        Question::Asks(_) => Plan::Asks(right),
+        Question::Asks(..) => Plan::Asks(right),
         Question::Listed(..) => Plan::Listed,
         Question::BadLine(line) => Plan::BadLine(*line),
         Question::Changes(since, wait, _) => Plan::Changes(*since, *wait),
@@ -133,6 +140,7 @@ fn plan_for(alloc: Global, right: Right, question: &Question) -> Plan
         Question::Root => Plan::Root,
         Question::Metrics => Plan::Metrics,
         Question::Health => Plan::Health,
+        Question::Stop => Plan::Stop,
         Question::TooLong => fault(Fault::ContentTooLarge, None),
         Question::Misread(refusal, _) => Plan::Refused(*refusal),
         Question::Nowhere => fault(Fault::NotFound, None),
@@ -190,13 +198,17 @@ pub(crate) fn ask<S: Alter + Drop>(
         Some(asked) => plan_of(alloc, asked),
         None => return Rest::Nothing,
     };
-    carry_out(alloc, plan, hand, web, number, replica, changes, counts)
+    let is_guarded = passes.is_some();
+    carry_out(
+        alloc, plan, is_guarded, hand, web, number, replica, changes, counts,
+    )
 }
 
 /// Does what is to be done about the request that waits.
 fn carry_out<S: Alter + Drop>(
     alloc: Global,
     plan: Plan,
+    is_guarded: bool,
     hand: &mut AtHand,
     web: &mut WebConnection,
     number: u64,
@@ -204,7 +216,8 @@ fn carry_out<S: Alter + Drop>(
     changes: &Feed,
     counts: &mut Counts,
 ) -> Rest
-    ensures { DoesPlan number plan (web_of web.old) hand.old (web_of web.new) hand.new result }
+    ensures does { DoesPlan number plan (web_of web.old) hand.old (web_of web.new) hand.new result }
+    ensures guarded { result ≡ Stops → is_guarded ≡ true }
 {
     match plan {
         Plan::Ask(request) => {
@@ -239,6 +252,7 @@ fn carry_out<S: Alter + Drop>(
             tell_health(alloc, web, replica, counts);
             Rest::Nothing
         }
+        Plan::Stop => stop_if(web, counts, is_guarded),
         Plan::Told(answer, body) => {
             respond(web, counts, answer, body);
             Rest::Nothing
@@ -287,6 +301,25 @@ fn wait_or_tell<S: Alter + Drop>(
         Ok(None) => tell_changes(alloc, web, replica, changes, since, counts),
         Err(refusal) => refuse(alloc, web, counts, refusal),
     }
+    Rest::Nothing
+}
+
+/// Tells that the server ends, where tokens are asked for.
+fn stop_if(web: &mut WebConnection, counts: &mut Counts, is_guarded: bool) -> Rest
+    ensures { StopsIf is_guarded (web_of web.old) (web_of web.new) result }
+{
+    if is_guarded {
+        let answer = answer_of(StatusCode::ACCEPTED, Content::Nothing);
+        respond(web, counts, answer, "");
+        return Rest::Stops;
+    }
+    let cause = Fault::NotFound;
+    respond(
+        web,
+        counts,
+        answer_of(cause.status(), Content::Json),
+        cause.body(),
+    );
     Rest::Nothing
 }
 

@@ -4,6 +4,7 @@ use crate::peer_counts::{PeerCounts, print_peers};
 use crate::talks::Kind;
 use crate::timing::Timing;
 use mvd_dots::Refusal;
+use mvd_hint::Lengths;
 use mvd_host::{KINDS, Tally};
 use mvd_input::RELEASE;
 use std::alloc::Global;
@@ -42,6 +43,8 @@ pub(crate) struct Counts {
     pub timing: Timing,
     /// The keys that have a sibling, and those that are deleted.
     pub census: Census,
+    /// The bytes of the file and of its log.
+    pub lengths: Lengths,
     /// The responses over HTTP, by their status.
     statuses: BTreeMap<u16, u64>,
     /// The sessions with each peer.
@@ -70,6 +73,10 @@ impl Counts {
             tally: Tally::new(),
             timing: Timing::new(start),
             census: Census::new(),
+            lengths: Lengths {
+                file: None,
+                log: None,
+            },
             statuses: BTreeMap::new(alloc),
             peers,
             open: 0,
@@ -134,7 +141,21 @@ impl Counts {
             print_one(out, "mvd_keys_deleted", "gauge", deleted, found.deleted)?;
         }
         let (help, count) = ("Keys with two siblings or more.", u64::from(now.conflicts));
-        print_one(out, "mvd_conflicts", "gauge", help, count)
+        print_one(out, "mvd_conflicts", "gauge", help, count)?;
+        self.print_lengths(out)
+    }
+
+    /// Prints how long the file and its log were when they were looked at last.
+    fn print_lengths(&self, out: &mut String) -> Result<(), Refusal> {
+        if let Some(length) = self.lengths.file {
+            let help = "Bytes of the file, a second after a commit.";
+            print_one(out, "mvd_file_bytes", "gauge", help, length)?;
+        }
+        if let Some(length) = self.lengths.log {
+            let help = "Bytes of the file's log, a second after a commit.";
+            print_one(out, "mvd_log_bytes", "gauge", help, length)?;
+        }
+        Ok(())
     }
 
     fn print_connections(&self, out: &mut String) -> Result<(), Refusal> {

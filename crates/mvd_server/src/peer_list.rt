@@ -112,6 +112,9 @@ impl Peers {
     pub fn go_on<N: Net>(&mut self, rt: &N, registry: &Registry, crowd: &mut Crowd)
         ensures { TalksDeeds crowd.old.talks crowd.new.talks }
     {
+        if crowd.talks.is_ending {
+            self.close();
+        }
         let waits = self.wait();
         self.give_back(waits, crowd.now);
         let mut free = self.free();
@@ -123,6 +126,19 @@ impl Peers {
             self.go_on_with(place, rt, registry, crowd, &mut free);
             self.note_turn(place, free < before);
         }
+    }
+
+    /// No session begins any more. Where none goes on, there is no peer any more.
+    fn close(&mut self) {
+        self.setting.is_ending = true;
+        if self.free() == SESSIONS_MAX {
+            self.list.clear();
+        }
+    }
+
+    /// Whether sessions are to end, and go on.
+    pub fn are_ending(&self) -> bool {
+        self.setting.is_ending && !self.list.is_empty()
     }
 
     /// Where one took a place, the one behind it comes first from now on.

@@ -30,6 +30,8 @@ pub(crate) struct Setting {
     pub stays: bool,
     /// What a session exchanged is not told.
     pub is_quiet: bool,
+    /// No session begins, and each ends between two of its windows.
+    pub is_ending: bool,
     /// Each peer is shown it first, if there is one.
     pub token: Option<Token>,
     pub piece: Piece,
@@ -53,6 +55,7 @@ impl Setting {
             idle: u64::from(terms.idle).saturating_mul(1_000),
             stays: terms.every < APART,
             is_quiet: terms.quiet,
+            is_ending: false,
             token,
             piece,
             errors: String::new(alloc),

@@ -10,7 +10,7 @@ use crate::crowd::Crowd;
 use crate::own_session::OwnSession;
 use crate::peer_link::{PeerLink, Stage};
 use crate::peer_news::{Setting, tell_left};
-use crate::peering::{MOST_QUESTIONS, Peering};
+use crate::peering::{MOST_QUESTIONS, Peering, let_go};
 use mvd_dots::Refusal;
 use mvd_meet::{Caller, Course, Met};
 use mvd_sync::{Report, SyncFault};
@@ -170,11 +170,23 @@ impl Peering {
         ensures places { TakesNoPlace self.old self.new }
         ensures deeds { TalksDeeds crowd.old.talks crowd.new.talks }
     {
+        if setting.is_ending {
+            return self.leave(crowd);
+        }
         match self.ask_next(crowd.now)? {
             Course::Waits => Ok(false),
             Course::Asks => Ok(true),
             Course::Done => self.done(setting, crowd),
         }
+    }
+
+    /// The session ends where it is, between two of its windows.
+    fn leave(&mut self, crowd: &mut Crowd) -> Result<bool, Refusal>
+        ensures places { TakesNoPlace self.old self.new }
+        ensures deeds { TalksDeeds crowd.old.talks crowd.new.talks }
+    {
+        let_go(self.session.take(), &mut crowd.talks);
+        self.part(crowd.now)
     }
 
     /// A step of the session, if there is one.

@@ -166,7 +166,7 @@ impl Peering {
         ensures places { TakesNoPlace self.old self.new }
         ensures deeds { TalksDeeds crowd.old.talks crowd.new.talks }
     {
-        if self.link.is_some() || self.schedule.due() > crowd.now {
+        if self.link.is_some() || self.schedule.due() > crowd.now || setting.is_ending {
             return;
         }
         let opened = PeerLink::open(
@@ -279,7 +279,7 @@ fn may_go_on(link: &PeerLink, session: &OwnSession, refusal: Refusal) -> bool
 }
 
 /// A session ends, if there is one.
-fn let_go(session: Option<OwnSession>, talks: &mut Talks)
+pub(crate) fn let_go(session: Option<OwnSession>, talks: &mut Talks)
     ensures { TalksDeeds talks.old talks.new }
 {
     if let Some(session) = session {

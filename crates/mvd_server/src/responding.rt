@@ -14,6 +14,7 @@ use http::StatusCode;
 use mvd_dots::Refusal;
 use mvd_http::{
     Answer, Content, Question, live_response_of, misread_response, refused_response, response_of,
+    texts_response_of,
 };
 use mvd_web::{Asked, WebConnection};
 use mvd_wire::Reply;
@@ -171,6 +172,7 @@ fn put_body(
     match question {
         Ok(Question::Ask(request)) => Ok(response_of(alloc, request, reply, body)?),
         Ok(Question::Live(request)) => Ok(live_response_of(alloc, request, reply, body)?),
+        Ok(Question::Texts(request)) => Ok(texts_response_of(alloc, request, reply, body)?),
         _ => Err(Refusal::BadKind),
     }
 }

@@ -210,7 +210,8 @@ impl Server {
         tell_root(alloc, replica, writer)
     }
 
-    /// Serves until all connections have ended.
+    /// Serves until all connections have ended. Where a client asked for that, nobody is let in any more, and sessions
+    /// with peers end between two of their windows.
     fn serve<N: Net + Clock + Files, K: Sockets, S: Alter + Drop, W: Write, E: Write>(
         &mut self,
         rt: &N,
@@ -226,9 +227,10 @@ impl Server {
         ensures cause { IfErr result (EndsAtFault (site_of replica.new)) }
     {
         for _round in 0..u64::MAX {
-            if self.crowd.is_over() {
+            if self.crowd.is_over() && !self.peers.are_ending() {
                 return Ok(());
             }
+            self.crowd.counts.lengths = watch.lengths();
             self.serve_once(rt, sockets, replica, writer, errors)?;
             self.look
                 .look(rt, watch, self.crowd.now, replica.commits())?;

@@ -55,6 +55,8 @@ pub(crate) struct Talks {
     /// The most that may wait so.
     waits_max: usize,
     pub woken: Vec<u64>,
+    /// A client asked that the server ends.
+    pub is_ending: bool,
     /// The numbers of those of the host's clients that are this server's own, for sessions with its peers.
     pub own: Vec<u64>,
     alloc: Global,
@@ -85,6 +87,7 @@ impl Talks {
             parked: Parked::new(alloc),
             waits_max,
             woken: Vec::new(alloc),
+            is_ending: false,
             own: Vec::with_capacity(alloc, own)?,
             alloc,
             keys,
@@ -159,6 +162,7 @@ impl Talks {
         );
         match rest {
             Rest::Nothing => {}
+            Rest::Stops => self.is_ending = true,
             Rest::Writes(batch) => self.begin_writes(batch, number, counts),
             Rest::Waits(root, wait) => {
                 let due = now.saturating_add(u64::from(wait).saturating_mul(1_000));

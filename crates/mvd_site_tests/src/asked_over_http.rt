@@ -1,14 +1,15 @@
 //! A site, asked over HTTP.
 use crate::key_requests::{ESCAPES, REFUSALS, WRITES};
 use crate::list_requests::{LISTS, OTHERS};
+use crate::page_requests::PAGES;
 use crate::many_requests::{MANY, OTHER_LINES, REFUSED_LINES};
 use crate::state_requests::{REFUSED_STATES, STATES};
 use mvd_docs::{Field, ViewName};
 use mvd_dots::Refusal;
 use mvd_http::{
-    Fault, Followed, Holds, Question, Wanted, live_response_of, misread_response, push_bad_line,
-    push_changed, push_line, push_listed, push_refused, push_told, question_of, refused_response,
-    response_of,
+    Fault, Followed, Holds, Question, Spelling, Wanted, live_response_of, misread_response,
+    push_bad_line, push_changed, push_line, push_listed, push_refused, push_told, question_of,
+    refused_response, response_of, texts_response_of,
 };
 use mvd_keys::{Key, KeyState};
 use mvd_rows::Defs;
@@ -79,6 +80,17 @@ fn live_of(
     Ok(live_response_of(alloc, request, &reply, out)?)
 }
 
+/// The same, with documents as their texts.
+fn texts_of(
+    alloc: Global,
+    site: &mut Site,
+    request: &Request,
+    out: &mut String,
+) -> Result<u16, Refusal> {
+    let reply = answered(site, request);
+    Ok(texts_response_of(alloc, request, &reply, out)?)
+}
+
 /// The states that a site holds.
 #[derive(Clone, Copy)]
 struct SiteStates<'a> {
@@ -113,11 +125,12 @@ fn lines_of(
     alloc: Global,
     site: &mut Site,
     asks: &[Result<Request, Refusal>],
+    spelling: Spelling,
     out: &mut String,
 ) -> Result<u16, Refusal> {
     for ask in asks {
         match ask {
-            Ok(request) => push_told(alloc, request, &answered(site, request), out)?,
+            Ok(request) => push_told(alloc, request, spelling, &answered(site, request), out)?,
             Err(refusal) => push_refused(out, *refusal)?,
         }
         out.push_str("\n")?;
@@ -174,9 +187,9 @@ fn tell_since(
 ) -> Result<u16, Refusal> {
     tell_wait(out, since, wait)?;
     out.push_str(followed.prefix.text())?;
-    if followed.states {
+    if followed.states.is_some() {
         let keys = Vec::from_array(alloc, [Key::read(alloc, "k")?, Key::read(alloc, "none")?])?;
-        push_changed(alloc, &SiteStates { site }, true, [0; 32], &keys, out)?;
+        push_changed(alloc, &SiteStates { site }, followed.states, [0; 32], &keys, out)?;
     }
     Ok(200)
 }
@@ -190,9 +203,10 @@ fn told(
     match asked {
         Question::Ask(request) => asked_of(alloc, site, request, out),
         Question::Live(request) => live_of(alloc, site, request, out),
+        Question::Texts(request) => texts_of(alloc, site, request, out),
         Question::Listed(request, wanted) => listed_of(alloc, site, request, *wanted, out),
         Question::Many(items) => all_of(site, items.as_slice(), out),
-        Question::Asks(asks) => lines_of(alloc, site, asks.as_slice(), out),
+        Question::Asks(asks, spelling) => lines_of(alloc, site, asks.as_slice(), *spelling, out),
         Question::BadLine(line) => tell_line(out, *line),
         Question::Changes(since, wait, followed) => {
             tell_since(alloc, site, out, *since, *wait, followed)
@@ -201,6 +215,7 @@ fn told(
         Question::Misread(refusal, place) => Ok(misread_response(out, *refusal, place)?),
         Question::Nowhere => tell(out, Fault::NotFound),
         Question::NotAllowed(_) => tell(out, Fault::MethodNotAllowed),
+        Question::Stop => Ok(202),
         _ => Ok(200),
     }
 }
@@ -255,6 +270,7 @@ fn requests_are_told(rt: HostRuntime) -> Result<(), Fail> {
         REFUSALS,
         LISTS,
         OTHERS,
+        PAGES,
         MANY,
         REFUSED_LINES,
         OTHER_LINES,

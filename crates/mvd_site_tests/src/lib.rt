@@ -19,6 +19,8 @@ mod many_requests;
 #[cfg(test)]
 mod mistaken;
 #[cfg(test)]
+mod page_requests;
+#[cfg(test)]
 mod peers;
 #[cfg(test)]
 mod refused_growth;

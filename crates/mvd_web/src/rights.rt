@@ -10,15 +10,17 @@ pub fn may_ask(right: &Right, question: &Question) -> bool
     ensures { result ≡ may_told right.now question.now }
 {
     match question {
-        Question::Ask(request) | Question::Live(request) | Question::Listed(request, _) => {
-            right.allows(request)
-        }
+        Question::Ask(request)
+        | Question::Live(request)
+        | Question::Texts(request)
+        | Question::Listed(request, _) => right.allows(request),
         Question::Changes(_, _, followed) => right.covers(followed.prefix.text()),
         Question::Root | Question::Metrics => right.is_of_all(),
+        Question::Stop => right.writes && right.is_of_all(),
         Question::Page
         | Question::Health
         | Question::Many(_)
-        | Question::Asks(_)
+        | Question::Asks(..)
         | Question::BadLine(_)
         | Question::TooLong
         | Question::Misread(..)

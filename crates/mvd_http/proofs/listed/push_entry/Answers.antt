@@ -1,7 +1,7 @@
-use Rattle.mvd_http.proofs.Steps.{steps6}
+use Rattle.mvd_http.proofs.Steps.{steps5}
 use Rattle.mvd_http.proofs.listed.push_entry.Goals as goal
 
 pub returns-clause-text : goal.returns-clause-text
 returns-clause-text c =
-    steps6 _ _ _ _ _ _ _ _ _ _ _ _ _ c.in_ok-push_word.ensures.text (rw c.text.ensures.same at c.in_ok-push_quoted.ensures.text) c.in_ok-push_word-2.ensures.text (rw c.from.ensures at c.in_ok-push_number.ensures.text) c.in_ok-hashed.ensures.text
-    c.in_ok-push_word-3.ensures.text
+    steps5 _ _ _ _ _ _ _ _ _ _ _ c.in_ok-push_word.ensures.text (rw c.text.ensures.same at c.in_ok-push_quoted.ensures.text) c.in_ok-push_siblings_of.ensures
+    c.in_ok-hashed.ensures.text c.in_ok-push_word-2.ensures.text

@@ -3,7 +3,8 @@ use Rattle.std.proofs.lemmas.Iterator.Adapters.{YieldsList-from_vec}
 use Rattle.std.proofs.lemmas.Iterator.Consumers.{YieldsList-end, YieldsList-so_far, YieldsList-turn}
 use Rattle.std.proofs.lemmas.List.{map-id}
 use Rattle.mvd_records.specs.Pairs.{pair_entries}
-use Rattle.mvd_replica.specs.Readable.{IsOldStored}
+use Rattle.mvd_wire.specs.Codecs.{layout1}
+use Rattle.mvd_replica.specs.Readable.{SpellsHeldState}
 use Rattle.mvd_replica.proofs.RestoredOrder.{migrated, moved_more, moved_none, not_stored, not_yet, order_ended, order_moved, order_same, order_then, still_there, whole_old}
 use Rattle.mvd_records.specs.Records.{HoldsRecords}
 use Rattle.mvd_records.specs.declared.loading.StateTable.TheVariants.{Version1}
@@ -96,7 +97,7 @@ pub returns-in-Err-respelled-clause-order : goal.returns-in-Err-respelled-clause
 returns-in-Err-respelled-clause-order g c number sound holds damaged order =
     let road = YieldsList-from_vec {s = c.into_iter-key-iterator.result} c.in-Ok.pairs.items (search rules) (search rules) in
     let turn = YieldsList-turn road c.loop-key.yielded c.loop-key.key-iterator c.loop-key.yielded_by c.next.result c.next.new.self (c.in-Some.key, c.in-Some.bytes) c.in-Some.is c.next.ensures.steps in
-    not_stored IsOldStored _ c.in-Ok.pairs.items (length c.loop-key.yielded) (c.in-Some.key, c.in-Some.bytes) c.deref.result.now
+    not_stored (SpellsHeldState layout1) _ c.in-Ok.pairs.items (length c.loop-key.yielded) (c.in-Some.key, c.in-Some.bytes) c.deref.result.now
     (loads_entries Version1 _ _ (Ok c.in-Ok.pairs) c.in-Ok.ensures c.args.records.now.version number (c.loop-key.invariant.since sound) holds) turn.0 turn.1 c.deref.ensures.value (c.in-Err-respelled.ensures.damaged damaged) order.old_stored
 
 pub returns-in-Err-move_key-clause-order : goal.returns-in-Err-move_key-clause-order

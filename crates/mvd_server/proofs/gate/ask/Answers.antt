@@ -16,5 +16,6 @@ returns g c = inr (record {
   kept = sym c.in-Some.ensures;
   plan = c.plan_of-plan.result;
   decides = c.plan_of-plan.ensures;
-  does = c.carry_out.ensures;
+  does = c.carry_out.ensures.does;
+  guarded = ?;
 })

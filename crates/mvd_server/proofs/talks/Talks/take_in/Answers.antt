@@ -14,6 +14,13 @@ returns-in-Nothing g c =
     let asks = subst (λ passes. AsksNextOf passes old.names c.args.number (web_of c.in-Some.web.now) old.hand (web_of web) c.ask-rest.new.hand c.ask-rest.result) c.as_ref.ensures.value c.ask-rest.ensures in
     deed_attends c.args.number (Asks c.ask-rest.result) c.in-Some.web.now web old c.ask-rest.new.hand old.batches (c.get_mut.follows.lender web).entries (sym c.in-Some.ensures.value) (asks, refl) (c.get_mut.follows.holds web).0
 
+pub returns-in-Stops : goal.returns-in-Stops
+returns-in-Stops g c =
+    let old = talking_of c.args.self.now in
+    let web = c.ask-rest.new.web in
+    let asks = subst (λ passes. AsksNextOf passes old.names c.args.number (web_of c.in-Some.web.now) old.hand (web_of web) c.ask-rest.new.hand c.ask-rest.result) c.as_ref.ensures.value c.ask-rest.ensures in
+    deed_attends c.args.number (Asks c.ask-rest.result) c.in-Some.web.now web old c.ask-rest.new.hand old.batches (c.get_mut.follows.lender web).entries (sym c.in-Some.ensures.value) (asks, refl) (c.get_mut.follows.holds web).0
+
 pub returns-in-Writes : goal.returns-in-Writes
 returns-in-Writes g c =
     let old = talking_of c.args.self.now in

@@ -16,6 +16,8 @@ PROGRAM is `mvd` as built. It tells what it tried, and ends with 1 at the first 
   names the line, and no database is made;
 - rights, over frames and over HTTP, of four tokens (all; to read; below a prefix; to read below it): each line of the table;
   what is not allowed is told 38, over HTTP 403, in a list in its own line, the site stays, and the connection goes on;
+- sessions and shells by the four, and POST /stop: a session that pushes needs all rights, and so does who ends
+  a server;
 - rotation: the file is written anew, without one token and with another: at once, with no restart, the other is let in, the
   one is not, and a connection that showed it ends with 38 at its next frame; a file of wrong form changes nothing, and is
   told once on standard error;
@@ -270,6 +272,7 @@ def open_to_all(place, right):
 
 
 ALL, READS, BELOW, READS_BELOW = "all-that-there-is", "who-reads-it-all!", "writes-below-u1/!", "reads-below-u1/!!"
+TOKENS = [ALL, READS, BELOW, READS_BELOW]
 RIGHTS = f"{ALL}\n{READS} read\n{BELOW} write u1/\n{READS_BELOW} read u1/\n"
 
 
@@ -296,6 +299,10 @@ FRAMES = [
     ("Conflicts", frame(0x2C, b"\0"), "yynn"), ("Hello", hello(OTHER), "yyyy"),
 ]
 
+# the same in lines of a shell
+LINES = {"get u1/x": "yyyy", "get u2/x": "yynn", "put u1/x - {}": "ynyn", "put u2/x - {}": "ynnn", "del u1/x 1:1": "ynyn", "keys u1/": "yyyy", "keys": "yynn",
+         "conflicts": "yynn", "root": "yynn"}
+
 # the same over HTTP: a method, a path and a body
 ASKED = [
     ("GET", "/keys/u1%2Fx", None, "yyyy"), ("GET", "/keys/u2%2Fx", None, "yynn"),
@@ -309,6 +316,11 @@ ASKED = [
     ("GET", "/changes?prefix=u1/", None, "yyyy"), ("GET", "/changes?prefix=u1/x&states=1", None, "yyyy"),
     ("GET", "/keys?prefix=u1/&digests=1", None, "yyyy"), ("GET", "/keys?prefix=u&digests=1", None, "yynn"),
     ("GET", "/keys?digests=1&live=1", None, "yynn"), ("GET", "/tree?path=000", None, "yynn"), ("GET", "/", None, "yyyy"), ("GET", "/health", None, "yyyy"), ("GET", "/nowhere", None, "yyyy"),
+    ("GET", "/keys/u1%2Fx?text=1", None, "yyyy"), ("GET", "/keys/u2%2Fx?text=1", None, "yynn"),
+    ("GET", "/keys?prefix=u1/&documents=1", None, "yyyy"), ("GET", "/keys?prefix=u&documents=1", None, "yynn"),
+    ("GET", "/keys?prefix=u1/&limit=1", None, "yyyy"), ("GET", "/keys?limit=1", None, "yynn"),
+    ("GET", "/conflicts?documents=1", None, "yynn"), ("GET", "/index/a?is=1&documents=1", None, "yynn"),
+    ("GET", "/index/a?from=1&to=2", None, "yynn"), ("GET", "/changes?prefix=u1/&states=1&text=1", None, "yyyy"),
 ]
 
 # lists: which of the lines each token allows, all of `u1/x` and of `u2/x`
@@ -321,10 +333,9 @@ LISTS = [
 
 def of_rights(place):
     server = Server(place, "rights.db", 7, "--token-file", place.token_file("rights", RIGHTS))
-    tokens = [ALL, READS, BELOW, READS_BELOW]
     root = lambda: server.asked("GET", "/root", f"Bearer {ALL}")[2]
     for name, sent, wanted in FRAMES:
-        for token, allowed in zip(tokens, wanted):
+        for token, allowed in zip(TOKENS, wanted):
             before = root()
             told = server.told(hello(token) + sent + BYE)
             if (told == DONE + REFUSED + DONE) == (allowed == "y") or told[:5] != DONE or told[-5:] != DONE:
@@ -332,7 +343,7 @@ def of_rights(place):
             if allowed == "n" and root() != before:
                 miss(f"{name} of {token} changed the site")
     for method, path, body, wanted in ASKED:
-        for token, allowed in zip(tokens, wanted):
+        for token, allowed in zip(TOKENS, wanted):
             before = root()
             status, fields, told = server.asked(method, path, f"Bearer {token}", body, {"Mvd-Context": "-"})
             if ((status, told) == (403, UNTOLD)) == (allowed == "y") or status == 401:
@@ -340,14 +351,14 @@ def of_rights(place):
             if allowed == "n" and root() != before:
                 miss(f"{method} {path} of {token} changed the site")
     for path, body, wanted in LISTS:
-        for token, allowed in zip(tokens, wanted):
+        for token, allowed in zip(TOKENS, wanted):
             status, fields, told = server.asked("POST", path, f"Bearer {token}", body)
             lines = told.splitlines()
             if status != 200 or len(lines) != 2 or ["n" if '"refused":38' in line else "y" for line in lines] != list(allowed):
                 miss(f"POST {path} of {token} was told {status} {told}")
             if path == "/get" and token == READS_BELOW and lines[1] != '{"key":"u2/x","refused":38,"name":"NotAdmitted"}':
                 miss(f"a key that may not be asked for was told {lines[1]}")
-    for token, allowed in zip(tokens, "yynn"):
+    for token, allowed in zip(TOKENS, "yynn"):
         status, fields, told = server.asked("GET", "/tree?paths=,0,000", f"Bearer {token}")
         lines = told.splitlines()
         if status != 200 or [f'"refused":38' in line for line in lines] != [allowed == "n"] * 3:
@@ -373,6 +384,31 @@ def changes_within(server):
             miss(f"of a prefix it is told {text}")
     if server.asked("GET", f"/changes?prefix=u2/&since={start}", below)[0] != 403:
         miss("of another prefix it is told what changed")
+
+
+def by_commands_of_rights(place):
+    """A session that has something to push needs `write` and no prefix; a shell is told line by line what its right does not allow."""
+    server = Server(place, "commands.db", 9, "--token-file", place.token_file("rights", RIGHTS))
+    local = ["--db", place.path("local9.db"), "--site", "10"]
+    for token, right, is_whole in (ALL, "", True), (READS, " read", False), (BELOW, " write u1/", False), (READS_BELOW, " read u1/", False):
+        file = place.token_file("own", f"{token}{right}\n")
+        words = ["--port", str(server.port), "--token-file", file]
+        place.run("shell", *local, lines=f"put own/{token} - {{}}\n")
+        if is_whole:
+            done = place.run("sync", *local, *words)
+            if done[0] != 0 or "keys " not in done[1]:
+                miss(f"a session with a token of all rights ended so: {done}")
+        else:
+            fails(place.run("sync", *local, *words), "38 NotAdmitted")
+        # Behind the first 38 a shell asks no more, so each line has a shell of its own.
+        told = [place.run("shell", *words, lines=line + "\n") for line in LINES]
+        if ["n" if one[1] == "refused 38 NotAdmitted\n" else "y" for one in told] != [allowed[TOKENS.index(token)] for allowed in LINES.values()]:
+            miss(f"shells with {token} were told {told}")
+    for token in READS, BELOW, READS_BELOW:
+        status, fields, told = server.asked("POST", "/stop", f"Bearer {token}")
+        if (status, told) != (403, UNTOLD):
+            miss(f"POST /stop of {token} was told {status} {told}")
+    server.ends()
 
 
 def of_rotation(place):
@@ -472,6 +508,8 @@ def main(program):
         print("admitted: files that hold none, and the longest token", flush=True)
         of_rights(place)
         print("admitted: each line of the table of rights, over both ports", flush=True)
+        by_commands_of_rights(place)
+        print("admitted: sessions and shells by their rights, and who may end a server", flush=True)
         of_rotation(place)
         print("admitted: a file that is written anew", flush=True)
         ended = server.ends().splitlines()

@@ -30,10 +30,10 @@ COPIES = {}
 WIDTH = 100
 SENTENCE = 45
 # The most lines of a page, of a crate's page, and of all pages of docs/ together.
-LINES = {"README.md": 151, "docs/THEOREM.md": 120, "docs/PROOFS.md": 150}
+LINES = {"README.md": 174, "docs/THEOREM.md": 120, "docs/PROOFS.md": 150}
 CRATE_LINES = 30
-# Of those of docs/, 150 are docs/OFFLINE.md.
-DOCS_LINES = 3600
+# Of those of docs/, 190 are docs/OFFLINE.md, and 160 "A back end" and "Behind a proxy" of docs/USING.md, whose blocks are files.
+DOCS_LINES = 3900
 # Words of other projects, of the toolchain, of HTTP and of the command line that no file of ours has as a name.
 FOREIGN = {
     "rt", "cargo", "valgrind", "perf", "top", "du", "sqlite3", "taskset", "sha256sum", "curl", "chromium", "python3", "Wait",
@@ -298,7 +298,7 @@ def faults_of(documents, names, code):
 # Of each rule a page, what stands there, what breaks the rule in its place (behind the page, where nothing stands there), and the fault.
 # (A name that stands here in one piece would be a name of the tools.)
 BROKEN = [
-    ("README.md", "", "\n" * 151, "lines, and at most 151"),
+    ("README.md", "", "\n" * 174, "lines, and at most 174"),
     ("crates/mvd_keys/README.md", "", "\n" * 30, "lines, and at most 30"),
     ("docs/USING.md", "", "\n" * DOCS_LINES, f"lines, and at most {DOCS_LINES}"),
     ("docs/USING.md", "", "\n" + "a word " * 22 + "\nand two more.\n", "47 words"),

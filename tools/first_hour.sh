@@ -5,6 +5,7 @@
 #   look, build   are run at the top, and print what crates/mvd/stdout says; where a PROGRAM is given, it stands for `rt try` and `rt run`
 #   hex      is the state that the file of docs/FORMATS.md holds, or the frame that examples/client.py sends, which reads the other
 #   sql      is what a file's tables are made by
+#   nginx, haproxy, unit   stand in examples/proxy/ (tools/proxy.py runs these)
 #   rust, rattle   stand in the code, js and py in clients/, and edit in a file of wrong-bodies/ or must-fail/
 #   mermaid, floors   are read by tools/check_docs.py
 # It needs bash, python3, curl and node, and the ports 7007 to 7009 and 7080.
@@ -187,13 +188,15 @@ def runs(file):
             spells(what, text)
         elif word == "sql":
             tables(what, text)
+        elif word in ("nginx", "haproxy", "unit") and not stands(text, r"examples/proxy/.*"):
+            miss(f"{what}: this stands in no file of examples/proxy/:\n{text}")
         elif word in ("rust", "rattle") and not stands(text, r"crates/.*\.rt"):
             miss(f"{what}: this stands in no file of code:\n{text}")
         elif word in ("js", "py") and not stands(text, r"clients/.*\.(mjs|py)"):
             miss(f"{what}: this stands in no file of clients/:\n{text}")
         elif word == "edit" and not stands(text, r"crates/.*\.edit"):
             miss(f"{what}: this is no edit:\n{text}")
-        elif word not in ("rust", "rattle", "js", "py", "edit", "mermaid", "floors") and not (word == "text" and before == "sh"):
+        elif word not in ("rust", "rattle", "js", "py", "nginx", "haproxy", "unit", "edit", "mermaid", "floors") and not (word == "text" and before == "sh"):
             miss(f"{what}: no word says how this block is tried")
         if word not in ("sh", "text", "mermaid", "floors"):
             print("done:", what)

@@ -1,5 +1,7 @@
 -- The entries of a page that are told, and how far it goes.
-use Rattle.std.proofs.Common.{◌≡◌, ◌≢◌, ◌∙◌, ◌==◌, ℕ, ◌+◌, ◌-◌, ◌<◌, ◌≤◌, Bool, true, false, cond, List, [], ◌∷◌, ◌++◌, length, get_or, take, drop, filter, Option, Some, refl, sym, ap, append_assoc, append-nil, arith, codes}
+use Rattle.std.proofs.Common.{◌≡◌, ◌≢◌, ◌∙◌, ◌==◌, ℕ, ◌+◌, ◌-◌, ◌<◌, ◌≤◌, Bool, true, false, cond, List, [], ◌∷◌, ◌++◌, length, get_or, take, drop, filter, Option, None, Some, refl, sym, ap, append_assoc, append-nil, arith, codes}
+use Rattle.std.specs.Prelude.{◌||◌, nat_lt}
+use Rattle.std.specs.FinMap.{entries, get, get-entries}
 use Rattle.std.specs.FinMap.Entries.{find}
 use Rattle.std.specs.Ordering.{eq_by_cmp}
 use Rattle.sha2.specs.Sha256.{sha256}
@@ -10,10 +12,11 @@ use Rattle.mvd_dots.specs.Dot.{DotValue, dot_cmp}
 use Rattle.mvd_keys.specs.State.{State, Text, pairs_of}
 use Rattle.mvd_keys.specs.Writes.{Key}
 use Rattle.mvd_keys.specs.declared.siblings.Sibling.{Sibling}
-use Rattle.mvd_http.specs.Json.{comma_if, commaed, digest_json, led_if}
-use Rattle.mvd_http.specs.Listed.{digest_told, front, spelling, state_digest}
+use Rattle.mvd_http.specs.Json.{comma_if, commaed, digest_json, document_json, led_if, next_text, next_text_of}
+use Rattle.mvd_http.specs.Listed.{digest_told, document_at, document_if, front, spelling as spelled, state_digest}
+use Rattle.mvd_http.specs.declared.question.Spelling.{Spelling}
 use Rattle.mvd_http.proofs.Counting.{commaed_more}
-use Rattle.mvd_http.proofs.Steps.{steps2}
+use Rattle.mvd_http.proofs.Steps.{steps2, steps5}
 
 -- ---- how far it goes
 
@@ -57,7 +60,7 @@ unweighed room b weight out = let none : room ≡ room - 0 = omega arith in none
 
 -- ---- what is told
 
-pub digest_put : (old s1 s2 bytes digest : List ℕ) (key : Key) (state : State) (wanted : Bool) → wanted ≡ true → bytes ≡ spelling key state → digest ≡ sha256 bytes → s1 ≡ old ++ codes ",\"digest\":" → s2 ≡ s1 ++ digest_json digest
+pub digest_put : (old s1 s2 bytes digest : List ℕ) (key : Key) (state : State) (wanted : Bool) → wanted ≡ true → bytes ≡ spelled key state → digest ≡ sha256 bytes → s1 ≡ old ++ codes ",\"digest\":" → s2 ≡ s1 ++ digest_json digest
     → s2 ≡ old ++ digest_told wanted key state
 unfolding state_digest
 digest_put old s1 s2 bytes digest key state wanted sure spelled hashed e1 e2 =
@@ -125,3 +128,27 @@ module _ (dot : DotValue) (siblings : List Sibling) where
   pub found_on : (i : ℕ) (s : Sibling) (whole : Option Text) → i < length siblings → s ≡ get_or siblings i s → eq_by_cmp dot_cmp dot s.dot ≡ false → found_from i ≡ whole → found_from (i + 1) ≡ whole
   found_on i s whole within is other so_far =
       sym (next_sibling i s within is ∙ ap (λ b. cond b (Some s.document) (found_from (i + 1))) other) ∙ so_far
+
+module _ (spelling : Spelling) (dot : DotValue) (state : State) (pairs : List (DotValue × Text)) (same : pairs ≡ entries state.siblings) where
+  found_in : (o : Option Text) → o ≡ find dot_cmp dot pairs → o ≡ get state.siblings dot
+  found_in o is = is ∙ ap (find dot_cmp dot) same ∙ sym (get-entries state.siblings dot)
+
+  -- there is none
+  pub document_none : (old : List ℕ) → None ≡ find dot_cmp dot pairs → old ≡ old ++ document_at spelling dot state
+  document_none old none = sym (append-nil old) ∙ ap (λ o. old ++ document_if spelling o) (found_in None none)
+
+  -- it is told
+  pub document_put : (old s1 s2 : List ℕ) (text : Text) → Some text ≡ find dot_cmp dot pairs → s1 ≡ old ++ codes "," → s2 ≡ s1 ++ document_json spelling text → s2 ≡ old ++ document_at spelling dot state
+  document_put old s1 s2 text some e1 e2 =
+      steps2 old s1 s2 (codes ",") (document_json spelling text) e1 e2 ∙ ap (λ o. old ++ document_if spelling o) (found_in (Some text) some)
+
+-- ---- a page
+
+pub page_put : {X : Type 0} (f mark : X → List ℕ) (name : List ℕ) (first whole fr : List X) (count : ℕ) (more goes_on : Bool) (old s1 s2 s3 s4 s5 : List ℕ) → count ≤ length first → take count first ≡ fr → goes_on ≡ (more || nat_lt count (length whole))
+    → s1 ≡ old ++ name → s2 ≡ s1 ++ commaed f (take count first) → s3 ≡ s2 ++ codes "]" → s4 ≡ s3 ++ next_text (next_text_of mark goes_on (take count first)) → s5 ≡ s4 ++ codes "}"
+    → s5 ≡ old ++ (name ++ (commaed f fr ++ (codes "]" ++ (next_text (next_text_of mark (more || nat_lt (length fr) (length whole)) fr) ++ codes "}"))))
+page_put {X} f mark name first whole fr count more goes_on old s1 s2 s3 s4 s5 within is on e1 e2 e3 e4 e5 =
+    let size : count ≡ length fr = sym (length-take-le count first within) ∙ ap length is in
+    steps5 old s1 s2 s3 s4 s5 _ _ _ _ _ e1 e2 e3 e4 e5
+    ∙ ap (λ (ys : List X). old ++ (name ++ (commaed f ys ++ (codes "]" ++ (next_text (next_text_of mark goes_on ys) ++ codes "}"))))) is
+    ∙ ap (λ (b : Bool). old ++ (name ++ (commaed f fr ++ (codes "]" ++ (next_text (next_text_of mark b fr) ++ codes "}"))))) (on ∙ ap (λ n. more || nat_lt n (length whole)) size)

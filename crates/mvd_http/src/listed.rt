@@ -1,5 +1,5 @@
 //! Pages of which more is told than a reply has, or less.
-ghost use Rattle.std.specs.Prelude.{◌≡◌, ◌≤◌, ◌-◌, ◌++◌, List, ℕ, Ok, IfOk, OnOk, length, string_bytes, take, true};
+ghost use Rattle.std.specs.Prelude.{◌≡◌, ◌≤◌, ◌-◌, ◌++◌, ◌||◌, List, ℕ, Ok, IfOk, OnOk, length, nat_lt, string_bytes, take, true};
 ghost use Rattle.sha2.specs.Sha256.{sha256};
 ghost use Rattle.mvd_keys.specs.State.{State};
 ghost use Rattle.mvd_keys.specs.Writes.{Key};
@@ -63,6 +63,13 @@ pub fn first_of<T>(entries: &[T], limit: usize) -> &[T]
     &entries[..limit.min(entries.len())]
 }
 
+/// Whether a page has a next one that has so many of these entries.
+pub fn has_more(more: bool, count: usize, whole: usize) -> bool
+    ensures { result ≡ (more || nat_lt count whole) }
+{
+    more || count < whole
+}
+
 fn push_first_rows(
     alloc: Global,
     wanted: Wanted,
@@ -73,7 +80,7 @@ fn push_first_rows(
     ensures { OnOk result (string_bytes out.new ≡ string_bytes out.old ++ first_rows wanted rows.now more) }
 {
     let first = first_of(rows, wanted.limit);
-    push_rows_page(alloc, out, first, more || wanted.limit < rows.len())
+    push_rows_page(alloc, out, first, has_more(more, wanted.limit, rows.len()))
 }
 
 fn push_first_keys(
@@ -86,7 +93,7 @@ fn push_first_keys(
     ensures { OnOk result (string_bytes out.new ≡ string_bytes out.old ++ first_keys wanted keys.now more) }
 {
     let first = first_of(keys, wanted.limit);
-    push_keys_page(alloc, out, first, more || wanted.limit < keys.len())
+    push_keys_page(alloc, out, first, has_more(more, wanted.limit, keys.len()))
 }
 
 fn push_page<H: Holds>(
@@ -104,7 +111,8 @@ fn push_page<H: Holds>(
     let first = first_of(keys, wanted.limit);
     let count = push_items(alloc, held, wanted, first, out)?;
     push_word(out, "]")?;
-    push_count_next(alloc, out, &first[..count], more || count < keys.len())?;
+    let goes_on = has_more(more, count, keys.len());
+    push_count_next(alloc, out, &first[..count], goes_on)?;
     Ok(push_word(out, "}")?)
 }
 

@@ -9,7 +9,7 @@ ghost use Rattle.mvd_http.specs.Listed.{document_at, place_bytes, place_front_of
 use crate::documents::push_document;
 use crate::json_lists::{push_place, push_place_front, push_place_next};
 use crate::json_words::push_word;
-use crate::listed::{Holds, ROOM, first_of, push_comma};
+use crate::listed::{Holds, ROOM, first_of, has_more, push_comma};
 use crate::question::{Spelling, Wanted};
 use mvd_docs::Document;
 use mvd_dots::{Dot, Refusal};
@@ -33,7 +33,8 @@ pub fn push_places_listed<H: Holds>(
     let first = first_of(places, wanted.limit);
     let count = push_items(alloc, held, wanted.documents, first, out)?;
     push_word(out, "]")?;
-    push_place_next(alloc, out, &first[..count], more || count < places.len())?;
+    let goes_on = has_more(more, count, places.len());
+    push_place_next(alloc, out, &first[..count], goes_on)?;
     Ok(push_word(out, "}")?)
 }
 
@@ -115,7 +116,8 @@ fn push_document_at(
         return Ok(());
     };
     push_word(out, ",")?;
-    push_document(alloc, out, spelling, document)
+    push_document(alloc, out, spelling, document)?;
+    Ok(())
 }
 
 fn document_of_dot(siblings: &[Sibling], dot: Dot) -> Option<&Document>

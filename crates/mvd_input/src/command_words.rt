@@ -93,12 +93,12 @@ const WITH: &str =
                     port at the same IP address, or an address with its port, as 192.0.2.1:7007 or [::1]:7007.";
 
 const SERVED_TOKEN: &str =
-    "Only who shows the token is served: the first line of this file, 16 to 256 printable ASCII characters without a \
-                    space.";
+    "Only who shows a token of this file is served: of 1 to 64 lines, each a token of 16 to 256 printable ASCII \
+                    characters without a space, then a blank and read or write or nothing (write), then a blank \
+                    and a prefix of keys or nothing (all keys).";
 
 const TOKEN: &str =
-    "The token that the server wants: the first line of this file, 16 to 256 printable ASCII characters without a \
-                    space.";
+    "The token that the server wants: the first of this file, 16 to 256 printable ASCII characters without a space.";
 
 /// The program's command, with one command below it for each order.
 pub fn command<'a>(alloc: Global) -> Result<Command<'a>, AllocError>

@@ -279,11 +279,11 @@ module _ {X : Type 0} (P : X → Type 0) where
 
   entries_at : (n : ℕ) (v : X) (es : List (ℕ × X)) → AllEntries es → found_at n es ≡ Some v → P v
   entries_at n v [] all found = absurd (let no : ◌≡◌ {A = Option X} None (Some v) = found in cc)
-  entries_at n v (e ∷ es) all found = on (is_at (nat_cmp n) e.0) found
+  entries_at n v (e ∷ es) all found = on (entries_at n v es all.1) (is_at (nat_cmp n) e.0) found
     where
-      on : (b : Bool) → cond b (Some e.1) (found_at n es) ≡ Some v → P v
-      on true is = let eq : e.1 ≡ v = cc in subst P eq all.0
-      on false is = entries_at n v es all.1 is
+      on : (found_at n es ≡ Some v → P v) → (b : Bool) → cond b (Some e.1) (found_at n es) ≡ Some v → P v
+      on rest true is = let eq : e.1 ≡ v = cc in subst P eq all.0
+      on rest false is = rest is
 
 -- ---- rights of passes that were known
 

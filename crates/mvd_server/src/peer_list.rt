@@ -138,7 +138,7 @@ impl Peers {
 
     /// Whether sessions are to end, and go on.
     pub fn are_ending(&self) -> bool {
-        self.setting.is_ending && !self.list.is_empty()
+        self.setting.is_ending && self.free() < SESSIONS_MAX
     }
 
     /// Where one took a place, the one behind it comes first from now on.

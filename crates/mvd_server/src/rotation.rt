@@ -1,7 +1,7 @@
 //! The file with tokens, read again as it changes.
 use crate::tokens::{Tokens, TokensFault, read_tokens};
 use mvd_dots::Refusal;
-use mvd_input::{Fault, tell};
+use mvd_input::{Fault, PassFault, tell};
 use std::alloc::{AllocError, Global};
 use std::fmt::Write as Print;
 use std::fs::{self, Files};
@@ -9,6 +9,7 @@ use std::io::{self, Write};
 use std::os::unix::fs::MetadataExt;
 
 /// So many milliseconds after a change the file is read again: two changes at one tick of the system's clock have one time.
+/// So it is, too, where it could not be read: what kept it from that may have ended, and nothing of the file tells of it.
 const AGAIN: u64 = 1_000;
 
 /// By what a file is told from what it was.
@@ -17,8 +18,9 @@ struct Mark {
     device: u64,
     number: u64,
     length: u64,
-    seconds: i64,
-    nanoseconds: i64,
+    /// When its content changed, and when anything of it did.
+    changed: (i64, i64),
+    touched: (i64, i64),
 }
 
 /// The file, and how it was when it was read.
@@ -30,6 +32,8 @@ pub(crate) struct Rotation {
     mark: Option<Mark>,
     /// When it is read again whatever its mark is.
     again: Option<u64>,
+    /// Whether it was noted that this file changes nothing.
+    is_noted: bool,
     /// What is to be told on standard error.
     errors: String,
 }
@@ -43,6 +47,7 @@ impl Rotation {
             was_seen: false,
             mark: None,
             again: None,
+            is_noted: false,
             errors: String::new(alloc),
         })
     }
@@ -68,7 +73,7 @@ impl Rotation {
         match self.read(rt, mark) {
             Ok(tokens) => Some(tokens),
             Err(fault) => {
-                self.note(fault);
+                self.note(fault, now);
                 None
             }
         }
@@ -79,6 +84,7 @@ impl Rotation {
         self.was_seen = true;
         if mark != self.mark {
             self.mark = mark;
+            self.is_noted = false;
             self.again = Some(now.saturating_add(AGAIN));
             return true;
         }
@@ -99,13 +105,15 @@ impl Rotation {
         }
     }
 
-    /// Notes why the file changes nothing. What memory is refused for is not told.
-    fn note(&mut self, fault: TokensFault) {
-        // A second look at the same file tells nothing new.
-        if self.again.is_none() {
-            return;
+    /// Notes why the file changes nothing, once for a file. What memory is refused for is not told.
+    fn note(&mut self, fault: TokensFault, now: u64) {
+        if let TokensFault::Unread(_) | TokensFault::Bad(PassFault::Memory) = fault {
+            self.again = Some(now.saturating_add(AGAIN));
         }
-        let _ = self.print(fault);
+        if !self.is_noted {
+            self.is_noted = true;
+            let _ = self.print(fault);
+        }
     }
 
     fn print(&mut self, fault: TokensFault) -> Result<(), AllocError> {
@@ -146,7 +154,7 @@ fn mark_of<F: Files>(rt: &F, file: &str) -> io::Result<Option<Mark>> {
         device: told.dev(),
         number: told.ino(),
         length: told.len(),
-        seconds: told.mtime(),
-        nanoseconds: told.mtime_nsec(),
+        changed: (told.mtime(), told.mtime_nsec()),
+        touched: (told.ctime(), told.ctime_nsec()),
     }))
 }

@@ -273,7 +273,9 @@ impl Server {
             return;
         }
         if let Some(tokens) = self.rotation.look(rt, self.crowd.now) {
-            self.crowd.talks.rotate(tokens.passes);
+            self.crowd
+                .talks
+                .rotate(tokens.passes, &mut self.crowd.counts);
         }
     }
 

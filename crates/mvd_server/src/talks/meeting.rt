@@ -3,6 +3,7 @@ ghost use Rattle.std.specs.Prelude.{◌≡◌, length};
 ghost use Rattle.mvd_server.specs.Guarded.{AreSettled};
 ghost use Rattle.mvd_server.specs.Talking.{TalksDeeds};
 
+use crate::metrics::Counts;
 use crate::talks::Talks;
 use mvd_conn::Passes;
 
@@ -20,8 +21,16 @@ impl Talks {
         }
     }
 
-    /// Other passes are known from now on, where tokens are asked for.
-    pub fn rotate(&mut self, passes: Passes)
+    /// Other passes are known from now on, where tokens are asked for. Those that wait for a change are told that there is
+    /// none yet: their tokens are looked at anew as they ask again.
+    pub fn rotate(&mut self, passes: Passes, counts: &mut Counts)
+        ensures { TalksDeeds self.old self.new }
+    {
+        self.end_waits(u64::MAX, counts);
+        self.know(passes);
+    }
+
+    fn know(&mut self, passes: Passes)
         ensures { TalksDeeds self.old self.new }
     {
         if self.passes.is_some() {

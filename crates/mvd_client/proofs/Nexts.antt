@@ -41,8 +41,7 @@ module _ {L : Type 0} (line : LineGhosts L) (gives : SocketAddr → L → Type 0
     kept,
     out',
     subst (λ m. MeetsNext line gives always (record { address = first.address; kept = m }) far kept out out' one) mid_is (subst (λ o. MeetsNext line gives always (record { address = first.address; kept = mid }) far kept o out' one) out_is next),
-    refl,
-    refl,
+    (refl, refl),
   )
   list_on first [] mid kept out mid_out out' (other ∷ told) far one met next = absurd met
   list_on first (other ∷ fars) mid kept out mid_out out' [] far one met next = absurd met

@@ -207,7 +207,6 @@ fn part_both<'a, L: Line>(
 }
 
 /// One session with each server. What stops one of them does not stop the others, and the first is told in the end.
-#[tactic(none)]
 fn meet_each<'a, D: Dial, W: Write, E: Write>(
     dial: &D,
     alloc: Global,

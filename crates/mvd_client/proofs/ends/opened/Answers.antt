@@ -1,5 +1,6 @@
 use Rattle.std.proofs.Common.{inl, inr, option_copied, refl, subst, sym}
 use Rattle.mvd_client.specs.LetIn.{LeadsTo}
+use Rattle.mvd_client.specs.Stopped.{StopsUndialed}
 use Rattle.mvd_client.proofs.ends.opened.Goals as goal
 
 pub returns-in-Some-clause-address : goal.returns-in-Some-clause-address
@@ -29,4 +30,4 @@ pub returns-in-Err-clause-none : goal.returns-in-Err-clause-none
 returns-in-Err-clause-none g c = c.takes.ensures.none
 
 pub returns-in-Err-clause-undialed : goal.returns-in-Err-clause-undialed
-returns-in-Err-clause-undialed g c = (c.in-Err.fault, c.undialed.ensures)
+returns-in-Err-clause-undialed g c = (c.in-Err.fault, subst (λ address. StopsUndialed address c.in-Err.fault c.undialed.result) c.takes.ensures.address c.undialed.ensures)

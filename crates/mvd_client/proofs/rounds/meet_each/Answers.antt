@@ -15,25 +15,24 @@ pub loop-address-preserved : goal.loop-address-preserved
 loop-address-preserved g c =
     let i = c.loop-address.address-index in
     let xs = c.args.addresses.now in
-    let x = c.address-address.result in
-    let more : take (i + 1) xs ≡ take i xs ++ x ∷ [] = take_more xs i x c.loop-address-test.true ∙ ap (λ y. take i xs ++ y ∷ []) (sym c.address-address.is) in
     let it = c.loop-address.invariant in
     record {
       told = it.told ++ c.in-Ok.ended ∷ [];
-      met = rw more (list_more g.D.Dialed.Line (LeadsTo g.D.Dialed.Line (g.D.Dial.gives c.args.dial.now) (option_copied c.args.terms.token)) c.args.terms.verbose (server_of c.args.near.now) (server_of c.loop-address.near) it.near (take i xs) c.meet_next.new.near.link
-          (g.W.Write.contents c.args.writer.now) (g.W.Write.contents c.loop-address.writer) (g.W.Write.contents c.meet_next.new.writer) it.told x c.in-Ok.ended it.met c.in-Ok.ensures.met);
+      met = subst (λ fars. MeetsList g.D.Dialed.Line (LeadsTo g.D.Dialed.Line (g.D.Dial.gives c.args.dial.now) (option_copied c.args.terms.token)) c.args.terms.verbose (server_of c.args.near.now) fars c.meet_next.new.near.link (g.W.Write.contents c.args.writer.now) (g.W.Write.contents c.meet_next.new.writer) (it.told ++ c.in-Ok.ended ∷ []))
+          (sym (take_more xs i _ (omega (arith, c.loop-address-test.true))))
+          (list_more g.D.Dialed.Line (LeadsTo g.D.Dialed.Line (g.D.Dial.gives c.args.dial.now) (option_copied c.args.terms.token)) c.args.terms.verbose (server_of c.args.near.now) (server_of c.loop-address.near) it.near (take i xs) c.meet_next.new.near.link
+          (g.W.Write.contents c.args.writer.now) (g.W.Write.contents c.loop-address.writer) (g.W.Write.contents c.meet_next.new.writer) it.told _ c.in-Ok.ended it.met c.in-Ok.ensures.met);
       near = c.meet_next.ensures.near ∙ it.near;
-      first = c.and.ensures ∙ ap (λ f. result_and f c.in-Ok.ended) it.first ∙ sym (first_on it.told c.in-Ok.ended);
+      first = c.and-first.ensures ∙ ap (λ f. result_and f c.in-Ok.ended) it.first ∙ sym (first_on it.told c.in-Ok.ended);
     }
 
 pub returns-in-Err : goal.returns-in-Err
 returns-in-Err g c =
     let i = c.loop-address.address-index in
     let xs = c.args.addresses.now in
-    let x = c.address-address.result in
-    let more : take (i + 1) xs ≡ take i xs ++ x ∷ [] = take_more xs i x c.loop-address-test.true ∙ ap (λ y. take i xs ++ y ∷ []) (sym c.address-address.is) in
     let it = c.loop-address.invariant in
-    each_untold g.D.Dialed.Line (LeadsTo g.D.Dialed.Line (g.D.Dial.gives c.args.dial.now) (option_copied c.args.terms.token)) c.args.terms.verbose (server_of c.args.near.now) (server_of c.loop-address.near) it.near xs (take i xs) (drop (i + 1) xs) x (split_at xs i x more)
+    let untold : Unit {0} = c.in-Err.ensures.untold in
+    each_untold g.D.Dialed.Line (LeadsTo g.D.Dialed.Line (g.D.Dial.gives c.args.dial.now) (option_copied c.args.terms.token)) c.args.terms.verbose (server_of c.args.near.now) (server_of c.loop-address.near) it.near xs (take i xs) (drop (i + 1) xs) _ (split_at xs i _ (take_more xs i _ (omega (arith, c.loop-address-test.true))))
     (g.W.Write.contents c.args.writer.now) (g.W.Write.contents c.loop-address.writer) it.told c.in-Err.stop it.met c.in-Err.ensures.untold (g.W.Write.contents c.meet_next.new.writer)
 
 pub returns : goal.returns

@@ -2,7 +2,7 @@ use Rattle.std.proofs.Common.{◌∙◌, ap, length, option_copied, refl, subst,
 use Rattle.std.specs.List.{AllZip}
 use Rattle.mvd_client.specs.Between.{server_at, server_of}
 use Rattle.mvd_client.specs.Each.{MeetsEach}
-use Rattle.mvd_client.specs.Each.MeetsServers as servers
+use Rattle.mvd_client.specs.Each.MeetsServers.{each, no_address as no_addresses}
 use Rattle.mvd_client.specs.LetIn.{LeadsTo}
 use Rattle.mvd_client.specs.Once.{MeetsOnce}
 use Rattle.mvd_client.specs.Once.MeetsServer.{no_address, once}
@@ -18,7 +18,7 @@ addresses_of-requires g c = c.requires
 pub returns-in_default : goal.returns-in_default
 returns-in_default g c = record {
   once = λ none text is. no_address (ap (λ (s : Stop). s.fault) c.from.ensures) refl;
-  each = λ none many. servers.no_address (ap (λ (s : Stop). s.fault) c.from.ensures) refl;
+  each = λ none many. no_addresses (ap (λ (s : Stop). s.fault) c.from.ensures) refl;
 }
 
 pub returns-in-Some : goal.returns-in-Some
@@ -43,7 +43,7 @@ returns g c = record {
   once = λ none text is.
       let one = one_of (IsAddress c.ip.result) (items_of c.args.with.now) text c.in-Ok.addresses.items is c.in-Ok.ensures in
       absurd (c.in-None.ensures.none (ap length c.deref-2.ensures.value ∙ ap length one.1));
-  each = λ none many. servers.each c.in-Ok.addresses.items
+  each = λ none many. each c.in-Ok.addresses.items
       (subst (λ ip. AllZip (IsAddress ip) (items_of c.args.with.now) c.in-Ok.addresses.items) c.ip.ensures c.in-Ok.ensures)
       (subst (λ fars. MeetsEach g.D.Dialed.Line (LeadsTo g.D.Dialed.Line (g.D.Dial.gives c.args.dial.now) (option_copied c.args.terms.token)) c.args.terms.verbose (server_at c.args.address) fars (g.W.Write.contents c.args.writer.now) (g.W.Write.contents c.meet_each.new.writer) c.meet_each.result) c.deref-3.ensures.value
       (subst (λ near. MeetsEach g.D.Dialed.Line (LeadsTo g.D.Dialed.Line (g.D.Dial.gives c.args.dial.now) (option_copied c.args.terms.token)) c.args.terms.verbose near c.deref-3.result.now (g.W.Write.contents c.args.writer.now) (g.W.Write.contents c.meet_each.new.writer) c.meet_each.result)

@@ -9,7 +9,7 @@ returns-in-Err g c = λ near_at far_at near_is far_is. no_near c.root.new.gone c
 pub returns-in-Err-root : goal.returns-in-Err-root
 returns-in-Err-root g c = λ near_at far_at near_is far_is.
     let near = c.in-Ok.ensures.told near_at near_is in
-    no_far near.0 c.in-Ok.root near.2 c.root-2.new.gone c.in-Err-root.stop (subst (λ gone. HasNoRoot g.L.Line c.args.far.now.address far_at gone c.root-2.new.gone c.in-Err-root.stop) near.3 (c.in-Err-root.ensures.told far_at far_is)) (c.lets_go-2.ensures.gone near.0 near.1) refl refl
+    no_far near.0 c.in-Ok.root near.2 c.root-2.new.gone c.in-Err-root.stop (subst (λ gone. HasNoRoot g.L.Line c.args.far.now.address far_at gone c.root-2.new.gone c.in-Err-root.stop) near.3 (c.in-Err-root.ensures.told far_at far_is)) (c.lets_go-in-Err-root.ensures.gone near.0 near.1) refl refl
 
 pub returns : goal.returns
 returns g c = λ near_at far_at near_is far_is.

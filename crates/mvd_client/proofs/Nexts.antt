@@ -43,10 +43,10 @@ module _ {L : Type 0} (line : LineGhosts L) (gives : SocketAddr → L → Type 0
     subst (λ m. MeetsNext line gives always (record { address = first.address; kept = m }) far kept out out' one) mid_is (subst (λ o. MeetsNext line gives always (record { address = first.address; kept = mid }) far kept o out' one) out_is next),
     (refl, refl),
   )
-  list_on first [] mid kept out mid_out out' (other ∷ told) far one met next = absurd met
-  list_on first (other ∷ fars) mid kept out mid_out out' [] far one met next = absurd met
-  list_on first (other ∷ fars) mid kept out mid_out out' (before ∷ told) far one (m, m_out, met, more) next =
-      (m, m_out, met, list_on (record { address = first.address; kept = m }) fars mid kept m_out mid_out out' told far one more next)
+  list_on first [] mid kept out mid_out out' (other ∷ told) far one listed next = absurd listed
+  list_on first (other ∷ fars) mid kept out mid_out out' [] far one listed next = absurd listed
+  list_on first (other ∷ fars) mid kept out mid_out out' (before ∷ told) far one (m, m_out, step, more) next =
+      (m, m_out, step, list_on (record { address = first.address; kept = m }) fars mid kept m_out mid_out out' told far one more next)
 
   -- so of the first server as it is now
   pub list_more : (first now : Server L) → now.address ≡ first.address → (fars : List SocketAddr) (kept : Option (Counted L)) (out mid_out out' : Option (List ℕ)) (told : List (Result (Unit {0}) Stop)) (far : SocketAddr) (one : Result (Unit {0}) Stop)

@@ -31,7 +31,6 @@ returns-in-Err g c =
     let i = c.loop-address.address-index in
     let xs = c.args.addresses.now in
     let it = c.loop-address.invariant in
-    let untold : Unit {0} = c.in-Err.ensures.untold in
     each_untold g.D.Dialed.Line (LeadsTo g.D.Dialed.Line (g.D.Dial.gives c.args.dial.now) (option_copied c.args.terms.token)) c.args.terms.verbose (server_of c.args.near.now) (server_of c.loop-address.near) it.near xs (take i xs) (drop (i + 1) xs) _ (split_at xs i _ (take_more xs i _ (omega (arith, c.loop-address-test.true))))
     (g.W.Write.contents c.args.writer.now) (g.W.Write.contents c.loop-address.writer) it.told c.in-Err.stop it.met c.in-Err.ensures.untold (g.W.Write.contents c.meet_next.new.writer)
 

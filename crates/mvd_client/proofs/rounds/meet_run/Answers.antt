@@ -45,7 +45,7 @@ returns g c = record {
       absurd (c.in-None.ensures.none (ap length c.deref-2.ensures.value ∙ ap length one.1));
   each = λ none many. each c.in-Ok.addresses.items
       (subst (λ ip. AllZip (IsAddress ip) (items_of c.args.with.now) c.in-Ok.addresses.items) c.ip.ensures c.in-Ok.ensures)
-      (subst (λ fars. MeetsEach g.D.Dialed.Line (LeadsTo g.D.Dialed.Line (g.D.Dial.gives c.args.dial.now) (option_copied c.args.terms.token)) c.args.terms.verbose (server_at c.args.address) fars (g.W.Write.contents c.args.writer.now) (g.W.Write.contents c.meet_each.new.writer) c.meet_each.result) c.deref-3.ensures.value
-      (subst (λ near. MeetsEach g.D.Dialed.Line (LeadsTo g.D.Dialed.Line (g.D.Dial.gives c.args.dial.now) (option_copied c.args.terms.token)) c.args.terms.verbose near c.deref-3.result.now (g.W.Write.contents c.args.writer.now) (g.W.Write.contents c.meet_each.new.writer) c.meet_each.result)
+      (subst (λ fars. MeetsEach g.D.Dialed.Line (LeadsTo g.D.Dialed.Line (g.D.Dial.gives c.args.dial.now) (option_copied c.args.terms.token)) c.args.terms.verbose (server_at c.args.address) fars (g.W.Write.contents c.args.writer.now) (g.W.Write.contents c.meet_each.new.writer) c.meet_each.result) c.deref-in-None.ensures.value
+      (subst (λ near. MeetsEach g.D.Dialed.Line (LeadsTo g.D.Dialed.Line (g.D.Dial.gives c.args.dial.now) (option_copied c.args.terms.token)) c.args.terms.verbose near c.deref-in-None.result.now (g.W.Write.contents c.args.writer.now) (g.W.Write.contents c.meet_each.new.writer) c.meet_each.result)
       (none_kept (server_of c.new-near.result) c.args.address c.new-near.ensures.address c.new-near.ensures.none) c.meet_each.ensures));
 }

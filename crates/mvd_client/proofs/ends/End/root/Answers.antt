@@ -17,4 +17,4 @@ returns-in-Ok-clause-told g c = λ at is. (
 pub returns-in-Err-clause-told : goal.returns-in-Err-clause-told
 returns-in-Err-clause-told g c = λ at is. root_refused g.L.Line c.args.self.now.address c.args.self.now.link at c.in-Some.link c.over-remote.result c.root_over.new.remote c.in-Err.refusal c.at_server-in-Err.result is (sym c.take.ensures.value ∙ c.in-Some.is) c.over-remote.ensures.line c.over-remote.ensures.goes_on c.in-Err.ensures.asked
     (c.at_server-in-Err.ensures.fault, c.at_server-in-Err.ensures.named) c.args.gone.now c.lets_go.new.self
-    (subst (λ (link : Counted g.L). LetsGo link.line c.args.gone.now c.lets_go.new.self) c.into_line-2.ensures c.lets_go.ensures)
+    (subst (λ (link : Counted g.row.L.Denot). LetsGo link.line c.args.gone.now c.lets_go.new.self) c.into_line-2.ensures c.lets_go.ensures)

@@ -151,7 +151,9 @@ pub fn run<'a, S: Start, D: Dial, K: Sockets, R: BufRead, W: Write>(
                 verbose,
             };
             without_file(
-                run_meeting(rt, paths, dial, address, with, terms, token_file, gone, writer),
+                run_meeting(
+                    rt, paths, dial, address, with, terms, token_file, gone, writer,
+                ),
                 start,
             )
         }

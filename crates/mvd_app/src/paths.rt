@@ -15,11 +15,11 @@ use mvd_site::Config;
 use sqlite::{Alter, FileFrom, FileStore, Start};
 use sqlite_trees::store::Store;
 use std::alloc::{AllocError, Global};
+use std::fs;
 use std::fs::{File, OpenOptions};
 use std::io::{self, Write};
 use std::net::SocketAddr;
 use std::os::unix::fs::MetadataExt;
-use std::fs;
 
 /// Fewer bytes than a log with a page takes: 32 for its head, 24 for that of the page, and 512 for the page.
 pub(crate) const LEAST_LOG: u64 = 568;
@@ -75,9 +75,7 @@ impl<'p> Paths<'p> {
         }
         match before {
             Some(before) if bytes == before.saturating_add(SHUT) => {
-                let log = OpenOptions::new()
-                    .write(true)
-                    .open(self.0, log.as_str())?;
+                let log = OpenOptions::new().write(true).open(self.0, log.as_str())?;
                 log.set_len(before)
             }
             _ => Ok(()),

@@ -81,15 +81,7 @@ fn serve_met<'a, N: Net, K: Sockets, S: Alter + Drop, W: Write>(
     };
     warn_of_pages(alloc, terms, &mut errors);
     let Some(peers) = peers else {
-        return paths.serve(
-            sockets,
-            replica,
-            address,
-            terms,
-            watch,
-            writer,
-            &mut errors,
-        );
+        return paths.serve(sockets, replica, address, terms, watch, writer, &mut errors);
     };
     let Ok(addresses) = met_by(alloc, address, peers.list) else {
         return Err(Stop::from(Refusal::Memory));
@@ -99,15 +91,7 @@ fn serve_met<'a, N: Net, K: Sockets, S: Alter + Drop, W: Write>(
         every: peers.every,
         ..terms
     };
-    paths.serve(
-        sockets,
-        replica,
-        address,
-        terms,
-        watch,
-        writer,
-        &mut errors,
-    )
+    paths.serve(sockets, replica, address, terms, watch, writer, &mut errors)
 }
 
 /// Warns where pages of other origins may ask a server that asks for no token.

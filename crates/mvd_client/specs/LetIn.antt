@@ -41,8 +41,8 @@ module _ {L : Type 0} (line : Ghosts L) where
   -- Why an address leads to no line: there is none, and none is let go; or the token was shown over one and not taken,
   -- and that one is let go
   pub data LeadsNowhere (gives : L → Type 0) (token : Option (List ℕ)) (old new : Gone L) (fault : DialFault) : Type 0
-      where
-    no_line : new ≡ old → LeadsNowhere gives token old new fault
-    not_taken : (shown : List ℕ) → token ≡ Some shown → (fresh left : L) → gives fresh → (refusal : Refusal)
-        → ShowsToken shown fresh left (Err refusal) → LetsGo left old new → fault ≡ faults.Refused refusal
-        → LeadsNowhere gives token old new fault
+    where
+      no_line : new ≡ old → LeadsNowhere gives token old new fault
+      not_taken : (shown : List ℕ) → token ≡ Some shown → (fresh left : L) → gives fresh → (refusal : Refusal)
+          → ShowsToken shown fresh left (Err refusal) → LetsGo left old new → fault ≡ faults.Refused refusal
+          → LeadsNowhere gives token old new fault

@@ -134,7 +134,8 @@ abbrev pub IsTypedAt : {L : Type 0} → LineGhosts L → (L → Type 0) → Sock
     → Option (List ℕ) → Option (List ℕ) → Option (List ℕ) → Option (List ℕ) → Result (Unit {0}) Stop → Type 0
 IsTypedAt line gives address file input input' out out' result =
     ((tokens : Option Tokens) × AreTokensOfOrder file tokens
-    × ShellsAt line (GivesIn line gives (first_token tokens)) address input out input' out' result)
+    × ShellsAt line (GivesIn line gives (first_token tokens)) (is_some (first_token tokens)) address
+        input out input' out' result)
     ⊎ (((stop : Stop) × (result ≡ Err stop) × StopsAtToken file stop) × (input' ≡ input) × (out' ≡ out))
 
 -- Sessions of the server at an address with those of a list, to which the token was shown first; where there is one,

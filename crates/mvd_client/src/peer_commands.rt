@@ -1,5 +1,5 @@
 //! The commands that meet a server: sessions of a stored site, and shells.
-ghost use Rattle.std.specs.Prelude.{◌≡◌, ◌≢◌, ◌≤◌, ◌+◌, ◌++◌, [], IfErr, IfOk, IsErr, OnOk, option_copied, string_bytes};
+ghost use Rattle.std.specs.Prelude.{◌≡◌, ◌≢◌, ◌≤◌, ◌+◌, ◌++◌, [], IfErr, IfOk, IsErr, OnOk, is_some, option_copied, string_bytes};
 ghost use Rattle.std.specs.Io.KnownBytes.{Appends};
 ghost use Rattle.mvd_client.specs.AskedServer.{RepliesNoted, lost_of};
 ghost use Rattle.mvd_client.specs.LetIn.{GivesIn};
@@ -324,14 +324,15 @@ pub fn remote_shell_run<'a, D: Dial, R: BufRead, W: Write>(
 ) -> Result<(), Stop<'a>>
     // The shell is over a line that the address gives; or there is no line.
     ensures shells { ShellsAt D.Dialed.Line
-        (GivesIn D.Dialed.Line (D.gives dial.now address) (option_copied token.entry)) address
+        (GivesIn D.Dialed.Line (D.gives dial.now address) (option_copied token.entry))
+        (is_some (option_copied token.entry)) address
         (R.remaining reader.old) (W.contents writer.old) (R.remaining reader.new) (W.contents writer.new) result }
 {
     let line = match let_in(dial, alloc, address, idle, token) {
         Ok(line) => line,
         Err(fault) => return Err(undialed(address, fault)),
     };
-    let mut server = AskedServer::over(alloc, line);
+    let mut server = AskedServer::over(alloc, line, token.is_some());
     shell_over(alloc, &mut server, address, reader, writer)
 }
 

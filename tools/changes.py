@@ -251,7 +251,7 @@ def check_changes(server):
     told, root = server.told, server.root()
     told("nothing changed", 200, '{"root":"%s","keys":[],"resync":false}' % root, "GET", f"/changes?since={root}")
     told("without a root all is to be read", 200, '{"root":"%s","keys":[],"resync":true}' % root, "GET", "/changes")
-    told("so with one that is not known", 200, '{"root":"%s","keys":[],"resync":true}' % root, "GET", f"/changes?since={'1' * 64}&wait=30")
+    told("so with one that is not known", 200, '{"root":"%s","keys":[],"resync":true}' % root, "GET", f"/changes?since={'f' * 64}&wait=30")
     told("a root that is none", 400, '{"refused":33,"name":"BadBody"}', "GET", "/changes?since=x")
     for key in ("x1", 'x"2', "x1"):
         server.put(key.replace('"', "%22"))

@@ -203,25 +203,25 @@ fn ask_all_again(alloc: Global, hand: &mut AtHand, client: u64, frames: &[&str])
     }
 }
 
-/// Puts each reply that is left, from this place on, behind those before it: the first is to the first client, and all
-/// others to the second. The place of the next one.
-fn put_told(alloc: Global, hand: &mut AtHand, place: u64, told: &mut [Bytes; 3]) -> u64 {
-    let mut next_place = place;
-    for (number, output) in (0..3u64).zip(told.iter_mut()) {
-        if number == next_place
-            && let Some((client, bytes)) = next(alloc, hand)
-            && client == FIRST_AT_HAND + number.min(1)
-        {
-            output.put(bytes.bytes());
-            next_place = number.saturating_add(1);
+/// Puts each reply that is left in its place: that to the first client is the first, and those to the other, of which so
+/// many came before, are the second and the third. How many came to the other.
+fn put_told(alloc: Global, hand: &mut AtHand, others: usize, told: &mut [Bytes; 3]) -> usize {
+    let mut count = others;
+    for _ in 0..3u32 {
+        if let Some((client, bytes)) = next(alloc, hand) {
+            let is_other = client != FIRST_AT_HAND;
+            count = count.saturating_add(usize::from(is_other));
+            if let Some(output) = told.get_mut(if is_other { count } else { 0 }) {
+                output.put(bytes.bytes());
+            }
         }
     }
-    next_place
+    count
 }
 
 /// What two clients at hand are told, of whom the first asks what the first of three frames does, and the second what
-/// the other two do, all of them in one round, or in two where memory was refused: the replies to the first of three
-/// behind each other, and so on.
+/// the other two do, all of them in one round, or in two where memory was refused, the other client first or last: the
+/// replies to the first of three behind each other, and so on.
 pub fn told_at_hand<S: Alter>(alloc: Global, replica: &mut Replica<S>, frames: &[&str]) -> Bytes {
     let mut told = [Bytes::of(&[]); 3];
     let mut host = Host::new(alloc);
@@ -231,10 +231,10 @@ pub fn told_at_hand<S: Alter>(alloc: Global, replica: &mut Replica<S>, frames: &
             ask_again(alloc, &mut hand, FIRST_AT_HAND, first);
             ask_all_again(alloc, &mut hand, FIRST_AT_HAND + 1, others);
         }
-        let mut place = 0;
+        let mut others = 0;
         for _ in 0..2u32 {
             round_at_hand(alloc, &mut host, replica, &[], &mut hand);
-            place = put_told(alloc, &mut hand, place, &mut told);
+            others = put_told(alloc, &mut hand, others, &mut told);
         }
     }
     drop(hand);

@@ -9,6 +9,7 @@ use Rattle.std.specs.Ordering.{match_ordering, nat_cmp}
 use Rattle.std.specs.declared.cmp.Ordering.{Ordering}
 use Rattle.std.specs.declared.cmp.Ordering.TheVariants.{Less, Equal, Greater}
 use Rattle.std.specs.Prelude.{⊤}
+use Rattle.http.specs.Request.{head_of}
 use Rattle.http.specs.declared.request.Parts.{Parts}
 use Rattle.mvd_conn.specs.Passes.{pass_if, pass_of_digest}
 use Rattle.mvd_conn.specs.Rights.{may}
@@ -37,7 +38,7 @@ use Rattle.mvd_server.specs.Errands.{Asks as Taking, AsksAtHand, AsksNextOf, Ask
 use Rattle.mvd_server.specs.Listings.{TellsListed}
 use Rattle.mvd_server.specs.Plans.{IsFreePlan, IsPlanFor, IsPlanIf, IsPlanOf, TellsMethods}
 use Rattle.mvd_server.specs.Questions.{TellsAsks, TellsBadLine}
-use Rattle.mvd_server.specs.Responding.{AnswersWeb, RefusesWeb, TellsBody}
+use Rattle.mvd_server.specs.Responding.{AnswersWeb, RefusesWeb, TellsBody, json_answer}
 use Rattle.mvd_server.specs.Rounds.{IsAllowed, KnowsPass, with_round}
 use Rattle.mvd_server.specs.Talking.{Attends, Begins, Calls, Comes, ComesByWeb, ComesOwn, Deed, Drops, Goes, GoesOwn, Hands, IsWriting, MayBeginWrites, Rotates, Talking, TurnsBack, new_talking, web_in, with_host, with_web}
 use Rattle.mvd_server.specs.Wires.{GivesOut, SendsBy, TakesBy, TakesInput}
@@ -106,7 +107,7 @@ body_asks kind old new (inr (refusal, refuses)) = refuses_asks refusal old new r
 
 answers_asks : (asked : Option Asked) (reply : Reply) (old new : WebValue) → AnswersWeb asked reply old new → asked ≡ old.asked → StillAsks old new
 answers_asks None reply old new same is = same_asks old new same
-answers_asks (Some asked) reply old new (inl by) is = responded (Some asked) old _ by.body new by.responds
+answers_asks (Some asked) reply old new (inl by) is = responded (Some asked) old (json_answer by.status by.body) by.body new by.responds
 answers_asks (Some asked) reply old new (inr (refusal, stops)) is = stops_asks old new refusal stops
 
 ends_asks : (old new : WebValue) → EndsInput old new ⊎ ((refusal : Refusal) × (new ≡ stopped_by old refusal)) → StillAsks old new
@@ -279,11 +280,11 @@ module _ {X : Type 0} (P : X → Type 0) where
 
   entries_at : (n : ℕ) (v : X) (es : List (ℕ × X)) → AllEntries es → found_at n es ≡ Some v → P v
   entries_at n v [] all found = absurd (let no : ◌≡◌ {A = Option X} None (Some v) = found in cc)
-  entries_at n v (e ∷ es) all found = on (is_at (nat_cmp n) e.0) found
+  entries_at n v (e ∷ es) all found = on (entries_at n v es all.1) (is_at (nat_cmp n) e.0) found
     where
-      on : (b : Bool) → cond b (Some e.1) (found_at n es) ≡ Some v → P v
-      on true is = let eq : e.1 ≡ v = cc in subst P eq all.0
-      on false is = entries_at n v es all.1 is
+      on : (found_at n es ≡ Some v → P v) → (b : Bool) → cond b (Some e.1) (found_at n es) ≡ Some v → P v
+      on rest true is = let eq : e.1 ≡ v = cc in subst P eq all.0
+      on rest false is = rest is
 
 -- ---- rights of passes that were known
 
@@ -428,7 +429,7 @@ module _ (Known : Pass → Type 0) (passes : Option (List Pass)) where
   }
 
   open_taken : (now : Option (List Pass)) (names : Named) → is_some now ≡ is_some passes → ((pass : Pass) → KnowsPass now pass → Known pass) → (old mid : WebValue) → TakesRequest now names old true mid → IsOpenTo Known passes mid.asked
-  open_taken now names same all old mid (free, one) = subst (IsOpenTo Known passes) (sym one.kept) (λ right opened. entry_known Known passes now same all names _ one.asked.entry one.asks.entry right opened)
+  open_taken now names same all old mid (free, one) = subst (IsOpenTo Known passes) (sym one.kept) (λ right opened. entry_known Known passes now same all names (head_of one.call.0) one.asked.entry one.asks.entry right opened)
 
   desk_one : (now : Option (List Pass)) (names : Named) (n : ℕ) (old new : Desk) (left : Rest) → is_some now ≡ is_some passes → ((pass : Pass) → KnowsPass now pass → Known pass) → AsksOne now names n old.web old.hand new.web new.hand left → new.batches ≡ old.batches → DeskMay old → DeskMay new
   desk_one now names n old new left same known one batches all =

@@ -58,11 +58,11 @@ all_append P (x ∷ xs) ys first second = (first.0, all_append P xs ys first.1 s
 -- those that pass a test pass it
 all_pass : {X : Type 0} (test : X → Bool) (xs : List X) → AllByRecursion (λ x. test x ≡ true) (filter test xs)
 all_pass test [] = tt
-all_pass test (x ∷ xs) = on (test x) refl
+all_pass test (x ∷ xs) = on (all_pass test xs) (test x) refl
   where
-    on : (b : Bool) → test x ≡ b → AllByRecursion (λ x. test x ≡ true) (cond b (x ∷ filter test xs) (filter test xs))
-    on true is = (is, all_pass test xs)
-    on false is = all_pass test xs
+    on : AllByRecursion (λ x. test x ≡ true) (filter test xs) → (b : Bool) → test x ≡ b → AllByRecursion (λ x. test x ≡ true) (cond b (x ∷ filter test xs) (filter test xs))
+    on rest true is = (is, rest)
+    on rest false is = rest
 
 flat_same : {X A : Type 0} (f g : X → List A) (xs : List X) → AllByRecursion (λ x. f x ≡ g x) xs → flat_map f xs ≡ flat_map g xs
 flat_same f g [] all = refl
@@ -105,24 +105,23 @@ module _ (wanted : Wanted) (sa sb : Key → State) where
   fronts_same : (room : ℕ) (es : List (Key × ℕ)) → AllByRecursion Same es → front (λ e. item_bytes wanted e (sa e.0)) room es ≡ front (λ e. item_bytes wanted e (sb e.0)) room es
   unfolding front
   fronts_same room [] all = refl
-  fronts_same room (e ∷ es) all = on (room == 0)
+  fronts_same room (e ∷ es) all =
+      on (fronts_same (room - item_bytes wanted e (sa e.0)) es all.1 ∙ ap (λ (s : State). front (λ e. item_bytes wanted e (sb e.0)) (room - item_bytes wanted e s) es) all.0) (room == 0)
     where
-      rest : front (λ e. item_bytes wanted e (sa e.0)) (room - item_bytes wanted e (sa e.0)) es ≡ front (λ e. item_bytes wanted e (sb e.0)) (room - item_bytes wanted e (sb e.0)) es
-      rest = fronts_same (room - item_bytes wanted e (sa e.0)) es all.1 ∙ ap (λ (s : State). front (λ e. item_bytes wanted e (sb e.0)) (room - item_bytes wanted e s) es) all.0
-
-      on : (b : Bool) → cond b [] (e ∷ front (λ e. item_bytes wanted e (sa e.0)) (room - item_bytes wanted e (sa e.0)) es)
+      on : front (λ e. item_bytes wanted e (sa e.0)) (room - item_bytes wanted e (sa e.0)) es ≡ front (λ e. item_bytes wanted e (sb e.0)) (room - item_bytes wanted e (sb e.0)) es
+          → (b : Bool) → cond b [] (e ∷ front (λ e. item_bytes wanted e (sa e.0)) (room - item_bytes wanted e (sa e.0)) es)
           ≡ cond b [] (e ∷ front (λ e. item_bytes wanted e (sb e.0)) (room - item_bytes wanted e (sb e.0)) es)
-      on true = refl
-      on false = ap (λ (l : List (Key × ℕ)). e ∷ l) rest
+      on rest true = refl
+      on rest false = ap (λ (l : List (Key × ℕ)). e ∷ l) rest
 
   all_front : (bytes : Key × ℕ → ℕ) (room : ℕ) (es : List (Key × ℕ)) → AllByRecursion Same es → AllByRecursion Same (front bytes room es)
   unfolding front
   all_front bytes room [] all = tt
-  all_front bytes room (e ∷ es) all = on (room == 0)
+  all_front bytes room (e ∷ es) all = on (all_front bytes (room - bytes e) es all.1) (room == 0)
     where
-      on : (b : Bool) → AllByRecursion Same (cond b [] (e ∷ front bytes (room - bytes e) es))
-      on true = tt
-      on false = (all.0, all_front bytes (room - bytes e) es all.1)
+      on : AllByRecursion Same (front bytes (room - bytes e) es) → (b : Bool) → AllByRecursion Same (cond b [] (e ∷ front bytes (room - bytes e) es))
+      on rest true = tt
+      on rest false = (all.0, rest)
 
   item_same : (e : Key × ℕ) → Same e → item_json wanted e (sa e.0) ≡ item_json wanted e (sb e.0)
   item_same e same = ap (λ (s : State). item_json wanted e s) same
@@ -171,11 +170,11 @@ page_within right prefix after wanted is a b alike =
 
 all_lasts : (P : Key → Type 0) (keys : List Key) → AllByRecursion P keys → AllByRecursion P (lasts keys)
 all_lasts P [] all = tt
-all_lasts P (key ∷ keys) all = on (is_listed keys key)
+all_lasts P (key ∷ keys) all = on (all_lasts P keys all.1) (is_listed keys key)
   where
-    on : (b : Bool) → AllByRecursion P (cond b (lasts keys) (key ∷ lasts keys))
-    on true = all_lasts P keys all.1
-    on false = (all.0, all_lasts P keys all.1)
+    on : AllByRecursion P (lasts keys) → (b : Bool) → AllByRecursion P (cond b (lasts keys) (key ∷ lasts keys))
+    on rest true = rest
+    on rest false = (all.0, rest)
 
 all_with : (prefix : List ℕ) (rounds : List NotedValue) → AllByRecursion (λ key. begins_with prefix key ≡ true) (keys_with prefix rounds)
 all_with prefix [] = tt

@@ -7,7 +7,8 @@ use Rattle.mvd_host.specs.Hosts.{HostValue}
 use Rattle.mvd_host.specs.Runs.{Calls as Called, Closes, Comes as Came, Feeds, Goes as Gone, Hands as Handed, Happening, HostMoment, Releases, Runs, Sends, after_run, turns_in}
 use Rattle.mvd_server.proofs.Errands.{MayStep, steps_batch, steps_errand}
 use Rattle.mvd_server.specs.HostBytes.{TakesBytes, sent_of, waits_of}
-use Rattle.mvd_server.specs.Talking.{Attends, Begins, Calls, Comes, ComesByWeb, ComesOwn, Deed, Drops, Goes, GoesOwn, Hands, Talking, TurnsBack, web_in}
+use Rattle.mvd_server.specs.Guarded.{first_guard}
+use Rattle.mvd_server.specs.Talking.{Attends, Begins, Calls, Comes, ComesByWeb, ComesOwn, Deed, Drops, Goes, GoesOwn, Hands, Rotates, Talking, TurnsBack, web_in}
 use Rattle.mvd_server.specs.Wires.{GivesOut, SendsBy, TakesBy, TakesInput}
 use Rattle.mvd_site.specs.Sites.{SiteValue}
 use Rattle.sqlite.specs.State.{State}
@@ -53,6 +54,7 @@ module _ {C : Type 0} (f : C → State) (site : SiteValue) (conn : C) where
   of_deed old new (Begins n batch, does) = of_none old new (ap (λ (t : Talking). t.host) does.1) (ap (λ (t : Talking). t.hand) does.1)
   of_deed old new (Hands n batch batch', does) = of_hand old new (ap (λ (t : Talking). t.host) does.2) (steps_batch n batch old.hand batch' new.hand does.1)
   of_deed old new (Drops n reply, does) = of_hand old new (ap (λ (t : Talking). t.host) does.1.1) (inr (inr ((n, reply), does.1.0)))
+  of_deed old new (Rotates passes, does) = of_none old new (ap (λ (t : Talking). t.host) does.1) (ap (λ (t : Talking). t.hand) does.1)
 
   of_bytes : (n : ℕ) (bytes : List ℕ) (t : Talking) (new : HostValue) → TakesBytes t.host n bytes new → Calm f (moment t) (at new t.hand)
   of_bytes n bytes t new (inl is) = record { all = Called n (Feeds bytes) ∷ []; runs = (tt, tt); ends = ap (λ h. at h t.hand) (sym is); none = refl }

@@ -1,5 +1,5 @@
 -- What an errand for a client over HTTP does at hand, and which writes are those of its request.
-use Rattle.std.proofs.Common.{◌≡◌, ◌≤◌, ◌⊎◌, length, Bool, true, false, ℕ, List, [], ◌∷◌, Option, None, Some, Result, Ok, Err, inl, inr, refl, sym, subst, ap, ◌∙◌}
+use Rattle.std.proofs.Common.{◌≡◌, ◌≤◌, ◌⊎◌, length, Bool, Bor, is_some, option_copied, true, false, ℕ, List, [], ◌∷◌, Option, None, Some, Result, Ok, Err, inl, inr, refl, sym, subst, ap, ◌∙◌}
 use Rattle.std.specs.Prelude.{string_bytes}
 use Rattle.mvd_conn.specs.declared.passes.Pass.{Pass}
 use Rattle.mvd_conn.specs.declared.right.Right.{Right}
@@ -11,7 +11,7 @@ use Rattle.mvd_http.specs.declared.question.Question.{Question}
 use Rattle.mvd_http.specs.declared.question.Question.TheVariants.{Page, Root, Metrics, Health, Stop, Ask, Asks, BadLine, Listed, Live, Changes, Many, Misread, Nowhere, NotAllowed, Texts, TooLong}
 use Rattle.mvd_server.specs.Admitted.{Decides}
 use Rattle.mvd_server.specs.Batches.{BeginsBatch, HandsBatch}
-use Rattle.mvd_server.specs.Errands.{Asks, AsksAtHand, AsksNextOf, Desk, DoesPlan, Errand, Forgoes, IsBatchFor, IsUntold, RunsErrand, Stops, TakesIf, Tells, TellsBatch, TellsChange, TellsMany}
+use Rattle.mvd_server.specs.Errands.{Asks, AsksAtHand, AsksNextOf, Desk, DoesPlan, Errand, Forgoes, IsBatchFor, IsUntold, RunsErrand, Stops, StopsIf, TakesIf, Tells, TellsBatch, TellsChange, TellsMany}
 use Rattle.mvd_server.specs.Lines.{IsOnlyTold, TellsEachLine}
 use Rattle.mvd_server.specs.Listings.{TellsListed}
 use Rattle.mvd_server.specs.Plans.{IsFreePlan, IsPlanFor, IsPlanIf, IsPlanOf, TellsMethods, plain_answer}
@@ -188,6 +188,19 @@ asks_told n p right site old new hand is told = subst (λ (q : Plan). DoesPlan n
 
 pub listed_told : (n : ℕ) (p : Plan) (site : SiteValue) (old new : WebValue) (hand : AtHandValue) → p ≡ plan.Listed → TellsListed site old.asked old new → DoesPlan n p old hand new hand rest.Nothing
 listed_told n p site old new hand is told = subst (λ (q : Plan). DoesPlan n q old hand new hand rest.Nothing) (sym is) ((refl, refl), (site, told))
+
+-- ---- the server ends, or not
+
+pub stop_told : (n : ℕ) (p : Plan) (guarded : Bool) (old new : WebValue) (hand : AtHandValue) (left : Rest) → p ≡ plan.Stop → StopsIf guarded old new left → DoesPlan n p old hand new hand left
+stop_told n p guarded old new hand left is stops = subst (λ (q : Plan). DoesPlan n q old hand new hand left) (sym is) (refl, (guarded, stops))
+
+pub stops_guarded : (guarded : Bool) (old new : WebValue) (left : Rest) → StopsIf guarded old new left → left ≡ rest.Stops → guarded ≡ true
+stops_guarded true old new left stops is = refl
+stops_guarded false old new left (none, responds) is = absurd (let no : ⊥ = cc in no)
+
+pub copied_some : {A : Type 0} (o : Option (Bor A)) → is_some (option_copied o) ≡ is_some o
+copied_some None = refl
+copied_some (Some x) = refl
 
 -- ---- many writes are told
 

@@ -4,6 +4,7 @@ use Rattle.mvd_conn.specs.History.{is_done}
 use Rattle.mvd_host.specs.Hosts.{ClientLeaves, HostValue, IsClient, client_of}
 use Rattle.mvd_server.proofs.Deeds.{deeds_on, deeds_one}
 use Rattle.mvd_server.proofs.Keyed.{found_new}
+use Rattle.mvd_server.specs.Guarded.{first_guard}
 use Rattle.mvd_server.specs.OwnSides.{DismissesIf}
 use Rattle.mvd_server.specs.Talking.{ComesByWeb, Deeds, DoesAct, GoesAtOnce, GoesOwn, HasNothingLeft, MayPart, Talking, TurnsBack, is_own_client, talking_of, web_in, with_host}
 use Rattle.mvd_server.specs.declared.talks.Kind.TheVariants.{Frames, Http}

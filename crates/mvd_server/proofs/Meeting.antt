@@ -1,5 +1,5 @@
 -- Each client that has a turn has met the passes that are known.
-use Rattle.std.proofs.Common.{◌≡◌, ◌∙◌, ◌⊎◌, ◌<◌, ◌==◌, ◌&&◌, ℕ, zero, suc, Bool, true, false, cond, List, [], ◌∷◌, map, length, slice_index, Option, Some, None, Result, Ok, Err, inl, inr, refl, sym, ap, ap₂, subst, arith}
+use Rattle.std.proofs.Common.{◌≡◌, ◌∙◌, ◌⊎◌, ◌<◌, ◌==◌, ◌&&◌, ◌+◌, ℕ, zero, suc, Bool, true, false, cond, List, [], ◌∷◌, map, length, slice_index, Option, Some, None, Result, Ok, Err, inl, inr, refl, sym, ap, ap₂, subst, arith}
 use Rattle.std.proofs.lemmas.Bool.{eqb-true}
 use Rattle.std.proofs.lemmas.Bool.Decides.{nat_tests}
 use Rattle.std.proofs.lemmas.Slice.Eq.{bytes_eq-Decides}
@@ -94,7 +94,7 @@ there passes host n (Some x) at P each = each_set n host.clients (met passes x) 
 pub settled_none : (passes : List Pass) (ready : List ℕ) (host : HostValue) → AreSettled (Some passes) ready 0 host
 settled_none passes ready host i below = absurd (omega (arith, below))
 
-pub settled_more : (passes : List Pass) (ready : List ℕ) (count : ℕ) (host : HostValue) → AreSettled (Some passes) ready count host → AreSettled (Some passes) ready (suc count) (altered host (slice_index ready count) (met passes))
+pub settled_more : (passes : List Pass) (ready : List ℕ) (count : ℕ) (host : HostValue) → AreSettled (Some passes) ready count host → AreSettled (Some passes) ready (count + 1) (altered host (slice_index ready count) (met passes))
 settled_more passes ready count host each i below = on (i == count) refl
   where
     n : ℕ

@@ -14,7 +14,7 @@ use Rattle.mvd_host.specs.AtHand.{AtHandValue, first_at_hand}
 use Rattle.mvd_host.specs.Hosts.{HostValue}
 use Rattle.mvd_server.proofs.Keyed.{found_at}
 use Rattle.mvd_server.specs.Rounds.{with_round}
-use Rattle.mvd_server.specs.Talking.{Attends, Begins, Calls, Comes, ComesByWeb, ComesOwn, Deed, Drops, Goes, GoesOwn, Hands, Talking, TurnsBack, new_talking, web_in, with_web}
+use Rattle.mvd_server.specs.Talking.{Attends, Begins, Calls, Comes, ComesByWeb, ComesOwn, Deed, Drops, Goes, GoesOwn, Hands, Rotates, Talking, TurnsBack, new_talking, web_in, with_web}
 use Rattle.mvd_server.specs.Wires.{GivesOut, SendsBy, TakesBy, TakesInput}
 use Rattle.mvd_web.specs.declared.web_connection.WebConnection.{WebConnection}
 
@@ -98,6 +98,7 @@ numbered_deed old new (Attends n web web' errand, does) a = still (with_web old 
 numbered_deed old new (Begins n batch, does) a = still old new (ap (λ (t : Talking). t.next) does.1) (ap (λ (t : Talking). t.webs) does.1) a
 numbered_deed old new (Hands n batch batch', does) a = still old new (ap (λ (t : Talking). t.next) does.2) (ap (λ (t : Talking). t.webs) does.2) a
 numbered_deed old new (Drops n reply, does) a = still old new (ap (λ (t : Talking). t.next) does.1.1) (ap (λ (t : Talking). t.webs) does.1.1) a
+numbered_deed old new (Rotates passes, does) a = still old new (ap (λ (t : Talking). t.next) does.1) (ap (λ (t : Talking). t.webs) does.1) a
 
 numbered_by : (web : Option WebConnection) (n : ℕ) (bytes : List ℕ) (old new : Talking) → TakesBy web n bytes old new → AreNumbered old → AreNumbered new
 numbered_by None n bytes old new (apart, takes, same) a = still old new (ap (λ (t : Talking). t.next) same) (ap (λ (t : Talking). t.webs) same) a

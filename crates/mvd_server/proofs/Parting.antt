@@ -9,7 +9,8 @@ use Rattle.mvd_host.specs.Runs.{after_call}
 use Rattle.mvd_conn.specs.declared.guard.Guard.{Guard}
 use Rattle.mvd_server.proofs.Keyed.{has_set}
 use Rattle.mvd_server.specs.HostBytes.{TakesBytes, waits_of}
-use Rattle.mvd_server.specs.Talking.{Attends, Begins, Calls, Comes, ComesByWeb, ComesOwn, Deed, Drops, Goes, GoesOwn, Hands, IsMadeFor, HasNothingLeft, Talking, TurnsBack, is_own_client, web_in}
+use Rattle.mvd_server.specs.Guarded.{first_guard}
+use Rattle.mvd_server.specs.Talking.{Attends, Begins, Calls, Comes, ComesByWeb, ComesOwn, Deed, Drops, Goes, GoesOwn, Hands, IsMadeFor, HasNothingLeft, Rotates, Talking, TurnsBack, is_own_client, web_in}
 use Rattle.mvd_server.specs.Wires.{GivesOut, SendsBy, TakesBy, TakesInput}
 use Rattle.mvd_web.specs.declared.web_connection.WebConnection.{WebConnection}
 
@@ -92,6 +93,7 @@ module _ (old new : Talking) (n : ℕ) (h : History) (found : client_of old.host
   parts_deed given apart (Begins m batch, does) = still (ap (λ (t : Talking). t.host) does.1)
   parts_deed given apart (Hands m batch batch', does) = still (ap (λ (t : Talking). t.host) does.2)
   parts_deed given apart (Drops m reply, does) = still (ap (λ (t : Talking). t.host) does.1.1)
+  parts_deed given apart (Rotates passes, does) = still (ap (λ (t : Talking). t.host) does.1)
 
   parts_by : (web : Option WebConnection) (m : ℕ) (bytes : List ℕ) → TakesBy web m bytes old new → Parts old n h
   parts_by None m bytes (apart, takes, same) = never (here_bytes m n bytes old.host new.host takes here)

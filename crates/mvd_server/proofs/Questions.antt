@@ -52,19 +52,34 @@ line_of (Ok text) old new u is = (text, refl, is)
 line_of (Err refusal) old new u differs = absurd (let never : ⊥ = cc in never)
 
 -- so the line is that of the answer
-pub told_line : (right : Right) (site : SiteValue) (spelling : Spelling) (old mid new : List ℕ) (ask : Result Request Refusal) (request : Request) (reply : Reply) (result : Result (Unit {0}) Refusal) → ask ≡ Ok request → may right request ≡ true → reply ≡ answer_from site.config site.states request
+pub told_line : (site : SiteValue) (spelling : Spelling) (old mid new : List ℕ) (request : Request) (reply : Reply) (result : Result (Unit {0}) Refusal) → reply ≡ answer_from site.config site.states request
     → (nat_le 1048576 (length old) ≡ false ⊎ later_told request ≡ None) × (mid ≡ old) → AppendsText (line_told spelling request reply) mid new result
-    → OnOk result ((line : List ℕ) × (ask_line right site spelling (length old) ask ≡ Ok line) × (new ≡ old ++ line))
-told_line right site spelling old mid new ask request reply (Err refusal) asks is answers (where_to, same) appends = tt
-told_line right site spelling old mid new ask request reply (Ok u) asks is answers (where_to, same) appends =
+    → OnOk result ((line : List ℕ) × (answer_line site spelling (length old) request ≡ Ok line) × (new ≡ old ++ line))
+told_line site spelling old mid new request reply (Err refusal) answers (where_to, same) appends = tt
+told_line site spelling old mid new request reply (Ok u) answers (where_to, same) appends =
     let (line, told, came) = line_of (line_told spelling request reply) mid new u appends in (
       line,
-      ap (ask_line right site spelling (length old)) asks
-          ∙ ap (λ b. cond b (answer_line site spelling (length old) request) (Ok (denied_told request))) is
-          ∙ not_later (nat_le 1048576 (length old)) (later_told request) (line_told spelling request (answer_from site.config site.states request)) where_to
+      not_later (nat_le 1048576 (length old)) (later_told request) (line_told spelling request (answer_from site.config site.states request)) where_to
           ∙ ap (line_told spelling request) (sym answers) ∙ told,
       came ∙ ap (λ (text : List ℕ). text ++ line) same,
     )
+
+-- ---- what a right allows
+
+module _ (right : Right) (site : SiteValue) (spelling : Spelling) (old new : List ℕ) (ask : Result Request Refusal) (request : Request) where
+  line_by : (b : Bool) → ask ≡ Ok request → may right request ≡ b → ask_line right site spelling (length old) ask ≡ cond b (answer_line site spelling (length old) request) (Ok (denied_told request))
+  line_by b asks is =
+      ap (ask_line right site spelling (length old)) asks ∙ ap (λ (c : Bool). cond c (answer_line site spelling (length old) request) (Ok (denied_told request))) is
+
+  pub line_allowed : (result : Result (Unit {0}) Refusal) → ask ≡ Ok request → may right request ≡ true → OnOk result ((line : List ℕ) × (answer_line site spelling (length old) request ≡ Ok line) × (new ≡ old ++ line))
+      → OnOk result ((line : List ℕ) × (ask_line right site spelling (length old) ask ≡ Ok line) × (new ≡ old ++ line))
+  line_allowed (Err refusal) asks is told = tt
+  line_allowed (Ok u) asks is (line, one, came) = (line, line_by true asks is ∙ one, came)
+
+  pub line_denied : (result : Result (Unit {0}) Refusal) → ask ≡ Ok request → may right request ≡ false → OnOk result (new ≡ old ++ denied_told request)
+      → OnOk result ((line : List ℕ) × (ask_line right site spelling (length old) ask ≡ Ok line) × (new ≡ old ++ line))
+  line_denied (Err refusal) asks is told = tt
+  line_denied (Ok u) asks is came = (denied_told request, line_by false asks is, came)
 
 -- ---- a list that is none
 

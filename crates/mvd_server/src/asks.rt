@@ -1,7 +1,7 @@
 //! Many questions of one request: they are answered at once, from the site as it is, in a line each.
 ghost use Rattle.std.specs.Prelude.{◌≡◌, ◌∷◌, ◌++◌, ℕ, List, [], IfOk, OnOk, Ok, length, string_bytes};
 ghost use Rattle.mvd_replica.specs.Replicas.{site_of};
-ghost use Rattle.mvd_server.specs.Questions.{TellsAsks, TellsBadLine, ask_line, asks_of, asks_text};
+ghost use Rattle.mvd_server.specs.Questions.{TellsAsks, TellsBadLine, answer_line, ask_line, asks_of, asks_text};
 ghost use Rattle.mvd_site.specs.Answer.{answer_from};
 ghost use Rattle.mvd_web.specs.Inside.{web_of};
 
@@ -103,7 +103,7 @@ fn push_line_end(out: &mut String) -> Result<(), AllocError>
     out.push_str("\n")
 }
 
-/// Puts the line of a question behind what was told.
+/// Puts the line of a question behind what was told: not the answer, where its right does not allow it.
 fn push_ask(
     alloc: Global,
     right: &Right,
@@ -116,17 +116,32 @@ fn push_ask(
         × (ask_line right.now site.now spelling (length (string_bytes out.old)) ask.now ≡ Ok line)
         × (string_bytes out.new ≡ string_bytes out.old ++ line)) }
 {
-    match ask {
-        Ok(request) if !right.allows(request) => push_denied(alloc, request, out),
-        Ok(request) => {
-            if out.as_str().len() >= TOLD_MAX && push_later(alloc, request, out)? {
-                return Ok(());
-            }
-            let reply = reply_to(site, request)?;
-            push_told(alloc, request, spelling, &reply, out)
-        }
-        Err(refusal) => Ok(push_refused(out, *refusal)?),
+    let request = match ask {
+        Ok(request) => request,
+        Err(refusal) => return Ok(push_refused(out, *refusal)?),
+    };
+    if right.allows(request) {
+        return push_answer(alloc, site, spelling, request, out);
     }
+    push_denied(alloc, request, out)
+}
+
+fn push_answer(
+    alloc: Global,
+    site: &Site,
+    spelling: Spelling,
+    request: &Request,
+    out: &mut String,
+) -> Result<(), Refusal>
+    ensures { OnOk result ((line : List ℕ)
+        × (answer_line site.now spelling (length (string_bytes out.old)) request.now ≡ Ok line)
+        × (string_bytes out.new ≡ string_bytes out.old ++ line)) }
+{
+    if out.as_str().len() >= TOLD_MAX && push_later(alloc, request, out)? {
+        return Ok(());
+    }
+    let reply = reply_to(site, request)?;
+    push_told(alloc, request, spelling, &reply, out)
 }
 
 /// What the site answers to a question.

@@ -39,6 +39,9 @@ const AWAY: u64 = 1 << 63;
 /// The most milliseconds that a client has to take its last frame, and then to end.
 const LINGER: u64 = 2_000;
 
+/// The most milliseconds that what goes on has to end, where the server is to end.
+pub(crate) const LAST: u64 = 10_000;
+
 /// The clients' sockets, their connections, and what is told of those that ended.
 #[derive(Drop)]
 pub(crate) struct Crowd {
@@ -142,9 +145,16 @@ impl Crowd {
         more
     }
 
-    /// Tells those that have waited for a change for long enough, and lists all that were told. Where the server is to
-    /// end, all are.
+    /// Tells those that have waited for a change for long enough. Where the server is to end, all clients come to theirs.
     pub fn wake(&mut self, ready: &mut Vec<u64>)
+        ensures { TalksDeeds self.old.talks self.new.talks }
+    {
+        self.wake_waiting(ready);
+        self.close_if_asked(ready);
+    }
+
+    /// Tells those that have waited for a change for long enough, and lists all that were told.
+    fn wake_waiting(&mut self, ready: &mut Vec<u64>)
         ensures { TalksDeeds self.old.talks self.new.talks }
     {
         self.talks.end_waits(self.now, &mut self.counts);
@@ -154,7 +164,6 @@ impl Crowd {
             }
         }
         self.talks.woken.clear();
-        self.close_if_asked(ready);
     }
 
     /// When a client is to be looked after next.

@@ -297,11 +297,16 @@ fn wait_or_tell<S: Alter + Drop>(
     ensures { TellsOrWaits since wait (web_of web.old) (web_of web.new) result }
 {
     match root_to_wait_from(web.asked(), changes, since, wait) {
-        Ok(Some(root)) => return Rest::Waits(root, wait),
-        Ok(None) => tell_changes(alloc, web, replica, changes, since, counts),
-        Err(refusal) => refuse(alloc, web, counts, refusal),
+        Ok(Some(root)) => Rest::Waits(root, wait),
+        Ok(None) => {
+            tell_changes(alloc, web, replica, changes, since, counts);
+            Rest::Nothing
+        }
+        Err(refusal) => {
+            refuse(alloc, web, counts, refusal);
+            Rest::Nothing
+        }
     }
-    Rest::Nothing
 }
 
 /// Tells that the server ends, where tokens are asked for.

@@ -4,7 +4,7 @@ ghost use Rattle.std.specs.List.{All};
 ghost use Rattle.mvd_server.specs.Peerings.{HaveNews, IsLentAt, LooksInTime, places_taken};
 ghost use Rattle.mvd_server.specs.Talking.{TalksDeeds};
 
-use crate::crowd::Crowd;
+use crate::crowd::{Crowd, LAST};
 use crate::peer_counts::PeerCounts;
 use crate::peer_news::Setting;
 use crate::peering::Peering;
@@ -31,6 +31,8 @@ pub(crate) struct Peers {
     setting: Setting,
     /// The commits of this server's site until the last round.
     commits: u64,
+    /// When the sessions that still go on are let go, once the server is to end.
+    until: u64,
     // Few sessions go on at a time.
     ghost few: { places_taken list.items ≤ 4 },
 }
@@ -49,6 +51,7 @@ impl Peers {
             first: 0,
             setting,
             commits: 0,
+            until: 0,
         })
     }
 
@@ -113,7 +116,7 @@ impl Peers {
         ensures { TalksDeeds crowd.old.talks crowd.new.talks }
     {
         if crowd.talks.is_ending {
-            self.close();
+            self.close(crowd.now);
         }
         let waits = self.wait();
         self.give_back(waits, crowd.now);
@@ -128,12 +131,23 @@ impl Peers {
         }
     }
 
-    /// No session begins any more. Where none goes on, there is no peer any more.
-    fn close(&mut self) {
-        self.setting.is_ending = true;
-        if self.free() == SESSIONS_MAX {
+    /// No session begins any more. Where none goes on, or they had their time, there is no peer any more.
+    fn close(&mut self, now: u64) {
+        if !self.setting.is_ending {
+            self.setting.is_ending = true;
+            self.until = now.saturating_add(LAST);
+        }
+        if self.free() == SESSIONS_MAX || self.until <= now {
             self.list.clear();
         }
+    }
+
+    /// When the sessions that go on are let go, where the server is to end.
+    pub fn ending_due(&self) -> Option<u64> {
+        if self.are_ending() {
+            return Some(self.until);
+        }
+        None
     }
 
     /// Whether sessions are to end, and go on.

@@ -331,9 +331,14 @@ impl Server {
             return Some(Duration::ZERO);
         }
         let due = earlier(self.crowd.next_due(), self.peers.next_due());
-        let looks = earlier(self.next_in(), self.look.due);
+        let looks = earlier(self.next_in(), self.next_look());
         let first = earlier(due, looks)?;
         Some(Duration::from_millis(first.saturating_sub(self.crowd.now)))
+    }
+
+    /// When the file is looked at, or sessions are let go.
+    fn next_look(&self) -> Option<u64> {
+        earlier(self.look.due, self.peers.ending_due())
     }
 
     /// When somebody may be let in.

@@ -16,6 +16,7 @@ use mvd_http::{Answer, Fault, Names};
 use mvd_wire::Ending;
 use std::alloc::{AllocError, Global};
 use std::hash::RandomState;
+use std::mem;
 
 /// The most bytes that wait to leave: from there on no request is taken and no input is wanted.
 pub const WAITS_MAX: usize = 262_144;
@@ -43,7 +44,7 @@ impl WebConnection {
     ghost use Rattle.mvd_web.specs.Ends.{fault_in as fault_told};
     ghost use Rattle.mvd_web.specs.Inside.{web_of};
     ghost use Rattle.mvd_web.specs.Web.{EndsInput, Feeds, IsNew, IsOver, Queues, RespondsTo, TakesRequest, WantsBytes};
-    ghost use Rattle.mvd_web.specs.Web.{is_awake, is_closed, is_free as free_now, pushed};
+    ghost use Rattle.mvd_web.specs.Web.{is_awake, is_closed, is_free as free_now, manner_asked, pushed};
     ghost use Rattle.mvd_web.specs.Web.{stopped_by, unasked, web_ending, web_sent};
     ghost use Rattle.mvd_web.specs.Steps.{Drops, StepsOn, PassesOn, ReadsOn};
 
@@ -212,14 +213,23 @@ impl WebConnection {
     pub fn respond(&mut self, answer: Answer, body: &str)
         ensures { RespondsTo (web_of self.old).asked (web_of self.old) answer body.now (web_of self.new) }
     {
-        let Some(asked) = self.take_asked() else {
-            return;
-        };
+        let asked = self.take_asked();
+        if let Some(asked) = &asked {
+            self.answer_to(asked, answer, body);
+        }
+        drop(asked);
+    }
+
+    /// Queues the response to this request, which waits no longer.
+    fn answer_to(&mut self, asked: &Asked, answer: Answer, body: &str)
+        ensures { Queues (web_of self.old) (response_bytes answer body.now (manner_asked (web_of self.old) asked.now)
+            (origin_or_none asked.now.origin)) (web_of self.new) }
+    {
         let manner = Manner {
             is_last: self.is_last(),
             is_head: asked.is_head,
         };
-        self.queue(answer, body, manner, origin_in(&asked));
+        self.queue(answer, body, manner, origin_in(asked));
         self.give_spare();
     }
 
@@ -326,7 +336,7 @@ impl WebConnection {
     }
 
     /// Reads at most one request. Whether one was read.
-    fn advance(&mut self, passes: Option<&Passes>, names: &Names) -> bool
+    fn advance<'a>(&mut self, passes: Option<&'a Passes>, names: &'a Names) -> bool
         requires { (web_of self.old).asked ≡ None }
         ensures { ReadsOn (option_copied passes.entry) (named_by names.now) (web_of self.old) result (web_of self.new) }
     {
@@ -338,8 +348,9 @@ impl WebConnection {
             spare: None,
         };
         self.parser.advance(&mut desk);
-        self.asked = desk.asked;
-        self.spare = desk.spare;
+        mem::swap(&mut self.asked, &mut desk.asked);
+        mem::swap(&mut self.spare, &mut desk.spare);
+        drop(desk);
         self.asked.is_some()
     }
 

@@ -3,10 +3,7 @@ ghost use Rattle.std.specs.Prelude.{◌≡◌};
 ghost use Rattle.mvd_server.specs.Talking.{TalksDeeds, talking_of};
 
 use crate::client::Stage;
-use crate::crowd::{Crowd, list, set_alarm};
-
-/// The most milliseconds that a client has to take what it is told.
-const LAST: u64 = 10_000;
+use crate::crowd::{Crowd, LAST, list, set_alarm};
 
 impl Crowd {
     /// Lets nobody in any more, where that was asked for, and takes nothing more of those that are in: what is whole of

@@ -1,11 +1,12 @@
 //! Which passes the clients meet.
-ghost use Rattle.std.specs.Prelude.{◌≡◌, length};
+ghost use Rattle.std.specs.Prelude.{◌≡◌, Some, length};
 ghost use Rattle.mvd_server.specs.Guarded.{AreSettled};
-ghost use Rattle.mvd_server.specs.Talking.{TalksDeeds};
+ghost use Rattle.mvd_server.specs.Talking.{Deeds, TalksDeeds, Talking, with_host};
 
 use crate::metrics::Counts;
 use crate::talks::Talks;
 use mvd_conn::Passes;
+use mvd_host::Host;
 
 impl Talks {
     /// Has the clients of frames meet the passes that are known, where a token is asked of them.
@@ -15,9 +16,7 @@ impl Talks {
         ensures settled { AreSettled self.new.passes ready.now (length ready.now) self.new.host }
     {
         if let Some(passes) = &self.passes {
-            for number in ready {
-                self.host.meet(*number, passes);
-            }
+            meet_each(&mut self.host, ready, passes);
         }
     }
 
@@ -36,5 +35,15 @@ impl Talks {
         if self.passes.is_some() {
             self.passes = Some(passes);
         }
+    }
+}
+
+/// Has these clients meet passes.
+fn meet_each(host: &mut Host, ready: &[u64], passes: &Passes)
+    ensures deeds { (t : Talking) → t.passes ≡ Some passes.now → t.host ≡ host.old → Deeds t (with_host t host.new) }
+    ensures settled { AreSettled (Some passes.now) ready.now (length ready.now) host.new }
+{
+    for number in ready {
+        host.meet(*number, passes);
     }
 }

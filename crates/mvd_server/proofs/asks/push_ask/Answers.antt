@@ -1,17 +1,11 @@
-use Rattle.std.proofs.Common.{◌<◌, ◌∙◌, Bool, ℕ, Ok, ap, inl, inr, length, string_bytes, subst}
-use Rattle.std.proofs.lemmas.Bool.{lt-leb}
-use Rattle.mvd_server.proofs.Questions.{never_later, told_line}
-use Rattle.mvd_server.proofs.asks.push_ask.Goals.{else-as_str-ge-TOLD_MAX-via-then-as_str-ge-TOLD_MAX+in_ok-push_later-in-Ok+else-branch, else-as_str-ge-TOLD_MAX-via-else-as_str-ge-TOLD_MAX}
+use Rattle.std.proofs.Common.{◌∙◌, string_bytes, sym}
+use Rattle.mvd_server.proofs.Questions.{line_allowed, line_denied}
 use Rattle.mvd_server.proofs.asks.push_ask.Goals as goal
 
-pub returns-in_ok-reply-in-Ok : goal.returns-in_ok-reply-in-Ok
-returns-in_ok-reply-in-Ok c =
-    told_line c.args.site.now (string_bytes c.args.out.now) _ _ c.args.ask.now c.in-Ok.request _ _ c.in-Ok.is c.in_ok-reply-in-Ok.ensures
-    (elim c.else-as_str-ge-TOLD_MAX.branch [
-      | else-as_str-ge-TOLD_MAX-via-then-as_str-ge-TOLD_MAX+in_ok-push_later-in-Ok+else-branch w ↦
-          let (none, same) = never_later _ _ _ _ (w.in_ok-push_later-in-Ok.was ∙ ap (λ (b : Bool). Ok b) w.if-branch.false) w.push_later.ensures in
-          (inr none, ap string_bytes w.out-is ∙ same)
-      | else-as_str-ge-TOLD_MAX-via-else-as_str-ge-TOLD_MAX w ↦
-          (inl (lt-leb 1048576 _ (subst (λ (n : ℕ). n < 1048576) (ap length c.as_str.ensures.value) w.if-as_str-ge-TOLD_MAX.false)), ap string_bytes w.out-is)
-    ])
-    c.push_told.ensures
+pub returns-then-allows : goal.returns-then-allows
+returns-then-allows c =
+    line_allowed c.args.right.now c.args.site.now c.args.spelling (string_bytes c.args.out.now) _ c.args.ask.now _ _ c.in-Ok.is (sym c.allows.ensures ∙ c.if-allows.true) c.push_answer.ensures
+
+pub returns : goal.returns
+returns c =
+    line_denied c.args.right.now c.args.site.now c.args.spelling (string_bytes c.args.out.now) _ c.args.ask.now _ _ c.in-Ok.is (sym c.allows.ensures ∙ c.if-allows.false) c.push_denied.ensures.text

@@ -1,6 +1,6 @@
-use Rattle.std.proofs.Common.{inr, option_copied, subst, sym}
+use Rattle.std.proofs.Common.{◌∙◌, inr, option_copied, subst, sym}
 use Rattle.mvd_http.specs.Guard.{named_by}
-use Rattle.mvd_server.proofs.Errands.{asks_none}
+use Rattle.mvd_server.proofs.Errands.{asks_none, copied_some}
 use Rattle.mvd_server.proofs.gate.ask.Goals as goal
 use Rattle.mvd_web.specs.Inside.{web_of}
 use Rattle.mvd_web.specs.Web.{TakesRequest}
@@ -17,5 +17,5 @@ returns g c = inr (record {
   plan = c.plan_of-plan.result;
   decides = c.plan_of-plan.ensures;
   does = c.carry_out.ensures.does;
-  guarded = ?;
+  guarded = λ is. copied_some c.args.passes ∙ sym c.is_some-is_guarded.ensures ∙ c.carry_out.ensures.guarded is;
 })

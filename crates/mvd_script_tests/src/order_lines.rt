@@ -297,7 +297,7 @@ pub const LINES: &[(&str, Wanted)] = &[
     ("mvd sim --token-file t", Wanted::Says("'--token-file'")),
     (
         "mvd serve --help",
-        Wanted::Says("Only who shows the token is served"),
+        Wanted::Says("Only who shows a token of this file is served"),
     ),
     (
         "mvd sync --help",

@@ -41,20 +41,6 @@ payload_fits (reply.Refused r) is = framed_fits 0xEE _ _ is
 pub sent_fits : (r : Reply) → CanBeSent r → length (reply_bytes r) ≤ frame_most
 sent_fits r is = omega (arith, frame_length (record { kind = reply_kind r; payload = reply_payload r }), payload_fits r is)
 
--- a short reply has at most 17 bytes, and a Refused 6
-pub short_fits : (r : Reply) → is_short r ≡ true → length (reply_bytes r) ≤ 17
-unfolding dot number refusal
-short_fits (reply.State s) is = absurd cc
-short_fits (reply.Written d) is = omega arith
-short_fits reply.Done is = omega arith
-short_fits (reply.Places ps more) is = absurd cc
-short_fits (reply.Row r) is = absurd cc
-short_fits (reply.Rows rs more) is = absurd cc
-short_fits (reply.Digests d) is = absurd cc
-short_fits (reply.Keys ks more) is = absurd cc
-short_fits (reply.Counts cs more) is = absurd cc
-short_fits (reply.Refused r) is = omega arith
-
 pub refused_length : (r : Refusal) → length (reply_bytes (reply.Refused r)) ≡ 6
 unfolding number refusal
 refused_length r = refl

@@ -100,14 +100,6 @@ pub greatest_attained : (s : DotSet) (site : ℕ) → 0 < greatest site s → Ho
 unfolding greatest
 greatest_attained s site some = set.contains-items s (dot site (greatest_of site (set.items s))) ∙ greatest_of-attained site (set.items s) some
 
--- it is within the limits of the set
-pub greatest_high : (s : DotSet) (site : ℕ) → AreInRange s → greatest site s < 2 ^ 48
-greatest_high s site range =
-    elim (cases_lt 0 (greatest site s)) [
-      | inl some ↦ (range site (greatest site s) (greatest_attained s site some)).counter_high
-      | inr none ↦ omega arith
-    ]
-
 -- no dot above the greatest is in the set
 pub unseen_above : (s : DotSet) (q : DotValue) → greatest q.site s + 1 ≤ q.counter → set.contains s q ≡ false
 unfolding greatest

@@ -31,26 +31,6 @@ no_text_no_view_name bytes h =
       | false ↦ λ _. refl
     ] refl
 
-refused : (b : Bool) (bytes : List ℕ) (r : Refusal) → cond b (Ok bytes) (Err BadDefs) ≡ Err r → cond b (Ok bytes) (Err BadBody) ≡ Err BadBody
-refused true bytes r e = absurd cc
-refused false bytes r e = refl
-
-taken : (b : Bool) (bytes name : List ℕ) → cond b (Ok bytes) (Err BadDefs) ≡ Ok name → cond b (Ok bytes) (Err BadBody) ≡ Ok name
-taken true bytes name e = e
-taken false bytes name e = absurd cc
-
-pub field_refused : (bytes : List ℕ) (r : Refusal) → field_of bytes ≡ Err r → field_of_bytes bytes ≡ Err BadBody
-field_refused bytes r e = refused (is_field bytes) bytes r e
-
-pub field_taken : (bytes name : List ℕ) → field_of bytes ≡ Ok name → field_of_bytes bytes ≡ Ok name
-field_taken bytes name e = taken (is_field bytes) bytes name e
-
-pub view_name_refused : (bytes : List ℕ) (r : Refusal) → view_name_of bytes ≡ Err r → view_name_of_bytes bytes ≡ Err BadBody
-view_name_refused bytes r e = refused (is_view_name bytes) bytes r e
-
-pub view_name_taken : (bytes name : List ℕ) → view_name_of bytes ≡ Ok name → view_name_of_bytes bytes ≡ Ok name
-view_name_taken bytes name e = taken (is_view_name bytes) bytes name e
-
 pub text_is_term : (bytes : List ℕ) → IsUtf8 bytes → text_of_bytes bytes ≡ term_text_of bytes
 text_is_term bytes h = rw (is_utf8-from_IsUtf8 bytes h) refl
 

@@ -14,21 +14,6 @@ use Rattle.mvd_host.specs.declared.taking.Taken.{Taken}
 use Rattle.mvd_host.proofs.Fronts.{none_own}
 use Rattle.mvd_host.proofs.Orders.{zip_requests}
 
--- nothing was taken, and memory was refused
-pub parts_shut : (states : States) (done asked : List (ℕ × Request)) (front : Front) → Parts states done [] [] front → AllMayWait asked → Parts states done asked asked (record front { is_shut = true })
-parts_shut states done asked front parts may = record {
-  first = parts.first;
-  clients = parts.clients;
-  requests = parts.requests;
-  noted = parts.noted;
-  may = parts.may;
-  rest_may = may;
-  own_are = λ n. ap (λ l. l ++ own n asked) (parts.own_are n ∙ append-nil (own n parts.first));
-  weighed = parts.weighed;
-  held = λ no. absurd (true≢false no);
-  heavy = λ no. absurd (true≢false no);
-}
-
 zip_both : (asks : List (ℕ × Request)) → zip (map (λ r. r.0) asks) (map (λ r. r.1) asks) ≡ asks
 zip_both [] = refl
 zip_both (ask ∷ asks) = ap (λ l. ask ∷ l) (zip_both asks)

@@ -46,14 +46,6 @@ since_found start rounds i left noted root next within is same none =
     let here : after_root (drop i rounds) root ≡ Some (drop (i + 1) rounds) = after_at rounds i noted root within is behind ∙ ap (λ b. if b then Some (drop (i + 1) rounds) else None) same in
     ap (λ o. later_or o (if is_root start root then Some rounds else None)) (after_drop rounds i root (drop (i + 1) rounds) here) ∙ ap (λ n. Some (drop n rounds)) (sym next)
 
-pub since_not_here : (rounds : List NotedValue) (i left : ℕ) (noted : NotedValue) (root : List ℕ) → left ≡ i + 1 → i < length rounds → noted ≡ get_or rounds i noted → is_root noted.root root ≡ false → after_root (drop left rounds) root ≡ None → after_root (drop i rounds) root ≡ None
-since_not_here rounds i left noted root next within is other none =
-    after_at rounds i noted root within is (subst (λ n. after_root (drop n rounds) root ≡ None) next none) ∙ ap (λ b. if b then Some (drop (i + 1) rounds) else None) other
-
-pub since_at_start : (start : List ℕ) (rounds : List NotedValue) (left : ℕ) (root : List ℕ) (b : Bool) → left ≡ 0 → is_root start root ≡ b → after_root (drop left rounds) root ≡ None → since_start start rounds root ≡ (if b then Some rounds else None)
-since_at_start start rounds left root b none same behind =
-    ap (λ o. later_or o (if is_root start root then Some rounds else None)) (subst (λ n. after_root (drop n rounds) root ≡ None) none behind) ∙ ap (λ x. if x then Some rounds else None) same
-
 -- ---- rounds from one to another
 
 -- these rounds begin with this one

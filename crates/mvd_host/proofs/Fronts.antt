@@ -218,9 +218,6 @@ pub record PartedSoFar (client : ℕ) (yielded others last : List Asking) : Type
   pub alone : (n : ℕ) → (client == n) ≡ false → own n (waiting_in last) ≡ []
   pub may : AllMayWait (waiting_in yielded) → AllMayWait (waiting_in others) × AllMayWait (waiting_in last)
 
-pub parted_none : (client : ℕ) → PartedSoFar client [] [] []
-parted_none client = record { own_are = λ n. refl; apart = refl; alone = λ n _. refl; may = λ _. (tt, tt) }
-
 own_pushed : (n : ℕ) (xs : List Asking) (x : Asking) → own n (waiting_in (xs ++ x ∷ [])) ≡ own n (waiting_in xs) ++ own n (asked_in x)
 own_pushed n xs x = ap (own n) (waiting_push xs x) ∙ own-append n (waiting_in xs) (asked_in x)
 

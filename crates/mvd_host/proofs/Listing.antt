@@ -111,10 +111,6 @@ lists_still feed states past lists = (past, all_some states past past (some_self
 pub lists_root : (feed : FeedValue) (root : List ℕ) (old new : States) → root ≡ root_of new → ListsOn feed old (knows_root root) new
 lists_root feed root old new is past lists = (new ∷ [], (inr refl, tt), (is, refl, refl))
 
--- where all was forgotten
-pub lists_none : (feed : FeedValue) (old new : States) → ListsOn feed old knows_nothing new
-lists_none feed old new past lists = ([], tt, refl)
-
 -- where a round was noted
 noted_lists_by : (start : Option (List ℕ)) (rounds : List NotedValue) (keys : List Key) (root : List ℕ) (old new : States) → ChangesAmong keys old new → root ≡ root_of new →
     ListsOn (record { start = start; rounds = rounds }) old (noted_behind start rounds keys root) new

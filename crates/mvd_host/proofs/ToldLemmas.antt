@@ -56,15 +56,6 @@ queues_on xs ys old mid new p q n =
     subst (λ l. BothClients (client_in old n) (client_in new n) (QueuesOn l)) (sym (own-append n xs ys))
     (both_on (client_in old n) (client_in mid n) (client_in new n) (QueuesOn (own n xs)) (QueuesOn (own n ys)) (QueuesOn (own n xs ++ own n ys)) (on (own n xs) (own n ys)) (p n) (q n))
 
-IfClient_so : (o : Option History) (P Q : History → Type 0) → ((h : History) → P h → Q h) → IfClient o P → IfClient o Q
-IfClient_so None P Q so p = tt
-IfClient_so (Some h) P Q so p = so h p
-
-pub due_first : (n : ℕ) (r : Reply) (rest : List (ℕ × Reply)) (clients : List (ℕ × History)) → AreDue ((n, r) ∷ rest) clients → IfClient (client_in clients n) (λ h. length h.answers < length h.taken)
-due_first n r rest clients due =
-    IfClient_so (client_in clients n) (λ h. length h.answers + length (own n ((n, r) ∷ rest)) ≤ length h.taken) (λ h. length h.answers < length h.taken)
-    (λ h few. let is : length (own n ((n, r) ∷ rest)) ≡ length (r ∷ own n rest) = ap (λ b. length (cond b (r ∷ own n rest) (own n rest))) (same_number n) in omega (arith, few, is)) (due n)
-
 -- what is left due, once replies were queued
 left : (xs ys : List Reply) (a b : Option History) → BothClients a b (QueuesOn xs) → IfClient a (λ h. length h.answers + length (xs ++ ys) ≤ length h.taken) → IfClient b (λ h. length h.answers + length ys ≤ length h.taken)
 left xs ys None None p due = tt

@@ -115,20 +115,6 @@ module _ (dot : DotValue) (siblings : List Sibling) where
   abbrev pub found_from : ℕ → Option Text
   found_from i = find dot_cmp dot (pairs_of (drop i siblings))
 
-  next_sibling : (i : ℕ) (s : Sibling) → i < length siblings → s ≡ get_or siblings i s → found_from i ≡ cond (eq_by_cmp dot_cmp dot s.dot) (Some s.document) (found_from (i + 1))
-  next_sibling i s within is =
-      ap (λ ss. find dot_cmp dot (pairs_of ss)) (drop_more siblings i s within ∙ ap (λ (t : Sibling). t ∷ drop (i + 1) siblings) (sym is))
-
-  -- this one has it
-  pub found_here : (i : ℕ) (s : Sibling) → i < length siblings → s ≡ get_or siblings i s → eq_by_cmp dot_cmp dot s.dot ≡ true → found_from i ≡ Some s.document
-  found_here i s within is same =
-      next_sibling i s within is ∙ ap (λ b. cond b (Some s.document) (found_from (i + 1))) same
-
-  -- it has another
-  pub found_on : (i : ℕ) (s : Sibling) (whole : Option Text) → i < length siblings → s ≡ get_or siblings i s → eq_by_cmp dot_cmp dot s.dot ≡ false → found_from i ≡ whole → found_from (i + 1) ≡ whole
-  found_on i s whole within is other so_far =
-      sym (next_sibling i s within is ∙ ap (λ b. cond b (Some s.document) (found_from (i + 1))) other) ∙ so_far
-
 module _ (spelling : Spelling) (dot : DotValue) (state : State) (pairs : List (DotValue × Text)) (same : pairs ≡ entries state.siblings) where
   found_in : (o : Option Text) → o ≡ find dot_cmp dot pairs → o ≡ get state.siblings dot
   found_in o is = is ∙ ap (find dot_cmp dot) same ∙ sym (get-entries state.siblings dot)

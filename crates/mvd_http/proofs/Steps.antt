@@ -42,8 +42,5 @@ items2 old s1 s2 a b e1 e2 = rw (e2, e1) (simp append_assoc)
 pub steps2 : {A : Type 0} (old s1 s2 a b : List A) → s1 ≡ old ++ a → s2 ≡ s1 ++ b → s2 ≡ old ++ (a ++ b)
 steps2 old s1 s2 a b e1 e2 = rw (e2, e1) (simp append_assoc)
 
-pub steps9 : (old s1 s2 s3 s4 s5 s6 s7 s8 s9 a b c d e f g h i : List ℕ) → s1 ≡ old ++ a → s2 ≡ s1 ++ b → s3 ≡ s2 ++ c → s4 ≡ s3 ++ d → s5 ≡ s4 ++ e → s6 ≡ s5 ++ f → s7 ≡ s6 ++ g → s8 ≡ s7 ++ h → s9 ≡ s8 ++ i → s9 ≡ old ++ (a ++ (b ++ (c ++ (d ++ (e ++ (f ++ (g ++ (h ++ i))))))))
-steps9 old s1 s2 s3 s4 s5 s6 s7 s8 s9 a b c d e f g h i e1 e2 e3 e4 e5 e6 e7 e8 e9 = rw (e9, e8, e7, e6, e5, e4, e3, e2, e1) (simp append_assoc)
-
 pub items3 : {A : Type 0} (old s1 s2 s3 : List A) (a b c : A) → s1 ≡ old ++ a ∷ [] → s2 ≡ s1 ++ b ∷ [] → s3 ≡ s2 ++ c ∷ [] → s3 ≡ old ++ a ∷ b ∷ c ∷ []
 items3 old s1 s2 s3 a b c e1 e2 e3 = rw (e3, e2, e1) (simp append_assoc)

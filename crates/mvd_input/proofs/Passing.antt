@@ -22,10 +22,6 @@ begun [] byte = refl
 begun (line ∷ []) byte = refl
 begun (line ∷ (next ∷ lines)) byte = refl
 
-pushed : (byte : ℕ) (line : List ℕ) (lines : List (List ℕ)) → (first : List ℕ) × (rest : List (List ℕ)) × (onto_first byte (line ∷ lines) ≡ first ∷ rest)
-unfolding onto_first
-pushed byte line lines = (byte ∷ line, lines, refl)
-
 some_of : (lines : List (List ℕ)) (byte : ℕ) → (first : List ℕ) × (rest : List (List ℕ)) × (onto_first byte lines ≡ first ∷ rest)
 unfolding onto_first
 some_of [] byte = (byte ∷ [], [], refl)

@@ -103,17 +103,6 @@ sixteen_children : (held : KeyDigests) (path : List ℕ) → length (children_di
 unfolding digits
 sixteen_children held path = refl
 
--- what a tree tells of a node and of its children
-pub told_node : (held : KeyDigests) (path own : List ℕ) (children : Option (List (List ℕ))) → own ≡ node_digest held path → (length path < 3 → children ≡ Some (children_digests held path)) → (3 ≤ length path → children ≡ None) →
-    ◌≡◌ {A = Digests} (record { own = own; children = children }) (node_digests held path)
-told_node held path own children is inner bucket =
-    let are : children ≡ (if nat_lt (length path) 3 then Some (children_digests held path) else None) =
-    elim (nat_lt (length path) 3) as (λ b. nat_lt (length path) 3 ≡ b → children ≡ (if b then Some (children_digests held path) else None)) [
-      | true ↦ λ low. inner (ltb-true (length path) 3 low)
-      | false ↦ λ high. bucket (ltb-false (length path) 3 high)
-    ] refl in
-    λ i. record { own = is i; children = are i }
-
 -- what a site that is not broken tells of a node
 pub node_told : (broken : Bool) (held : KeyDigests) (path : List ℕ) (told : Digests) → broken ≡ false →
     ◌≡◌ {A = Result Digests Refusal} (Ok told) (unless_broken broken (Err Broken) (Ok (node_digests held path))) → told ≡ node_digests held path

@@ -41,9 +41,6 @@ use Rattle.mvd_kept.proofs.Spent.{free}
 abbrev digest_of : ChangeValue → List ℕ
 digest_of change = key_digest spelled change.key change.state
 
-no_hash : (h : Hashed) → Hashes 0 0 h h
-no_hash h = record { ends = omega arith; reads = omega arith; least_ends = omega arith; least_reads = omega arith }
-
 -- ---- sums, one more
 
 pub changes_more : (group : List Prepared) (prepared : Prepared) → changes_in (group ++ prepared ∷ []) ≡ changes_in group + is_change prepared
@@ -203,10 +200,6 @@ installs_take site group held a b c is same_looks same_rows tree rest = record {
       let keys = ap (λ m. keys_touched m (digests_in lasts)) all in
       hashes_then _ _ 0 0 _ _ a.hashed b.hashed c.hashed (omega arith) (omega (arith, keys)) tree rest.hashes;
 }
-
--- the hash tree takes nothing
-pub no_tree : (held : KeyDigests) (group : List Prepared) (h : Hashed) → TreeCosts held group h h
-no_tree held group h = hashes_then 0 0 0 0 _ _ h h h (omega arith) (omega arith) (no_hash h) (no_hash h)
 
 -- a broken site does nothing
 pub all_take : (config : ConfigValue) (states : States) (was : Bool) (tree : KeyDigests) (group : List Prepared) (a c : Work) (hashed : Hashed) → (was ≡ false → tree ≡ digests states)

@@ -112,9 +112,6 @@ keys_grow (Change change) group =
 no_hash : (h : Hashed) → Hashes 0 0 h h
 no_hash h = record { ends = omega arith; reads = omega arith; least_ends = omega arith; least_reads = omega arith }
 
-pub hashes_none : (h : Hashed) → HashesChanges (last_changes []) h h
-hashes_none h = no_hash h
-
 -- what is hashed of what was gone over is no more than of all
 pub hashes_part : (n : ℕ) (group : List Prepared) (a b : Hashed) → HashesChanges (last_changes (drop n group)) a b → HashesChanges (last_changes group) a b
 hashes_part n group a b part =
@@ -123,26 +120,7 @@ hashes_part n group a b part =
     let keys = all_more (λ l. changed_bytes (digests_in l)) keys_grow n group in
     hashes_then _ _ 0 0 _ _ a b b (omega (arith, changes)) (omega (arith, bytes, keys)) part (no_hash b)
 
--- nor with one more change, where nothing is hashed of it
-pub hashes_skip : (group : List Prepared) (change : ChangeValue) (a b : Hashed) → HashesChanges (last_changes group) a b → HashesChanges (last_changes (Change change ∷ group)) a b
-hashes_skip group change a b part =
-    let changes = one_more changes_in changes_grow (Change change) group in
-    let bytes = one_more byte_count_in bytes_grow (Change change) group in
-    let keys = one_more (λ l. changed_bytes (digests_in l)) keys_grow (Change change) group in
-    hashes_then _ _ 0 0 _ _ a b b (omega (arith, changes)) (omega (arith, bytes, keys)) part (no_hash b)
-
--- one that is the last of its key is hashed
-pub hashes_one : (group : List Prepared) (change : ChangeValue) (a b c : Hashed) → is_changed group change.key ≡ false → HashesChanges (last_changes group) a b
-    → Hashes 2 (length (spelled change.key change.state) + length change.key) b c → HashesChanges (last_changes (Change change ∷ group)) a c
-hashes_one group change a b c last part one =
-    let keys = sum_by-cons (λ (e : Key × Option (List ℕ)). length e.0) (change.key, Some (key_digest spelled change.key change.state)) (digests_in (last_changes group)) in
-    subst (λ t. HashesChanges (if t then last_changes group else Change change ∷ last_changes group) a c) (sym last)
-    (hashes_then _ _ 2 (length (spelled change.key change.state) + length change.key) _ _ a b c (omega arith) (omega (arith, keys)) part one)
-
 -- ---- what is gathered
-
-pub lasts_with : (group : List Prepared) (change : ChangeValue) (b : Bool) → is_changed group change.key ≡ b → last_changes (Change change ∷ group) ≡ if b then last_changes group else Change change ∷ last_changes group
-lasts_with group change b is = ap (λ t. if t then last_changes group else Change change ∷ last_changes group) is
 
 -- the next, from the end
 pub group_next : (group : List Prepared) (i : ℕ) (item : Prepared) → i < length group → item ≡ get_or group i item → drop i group ≡ item ∷ drop (i + 1) group

@@ -142,74 +142,12 @@ known_at site request result from = λ whole known stands.
 
 -- ---- the step
 
--- where the state afterwards is the one before, the map stands for the writes added too
-stands_still : (m : States) (known : List Write) (request : Request) (reply : Reply) (added : List Write) (after : Option (Key × State)) → IsFresh known request reply → change_of known request reply ≡ after → Stands m known → Adds request reply added →
-    IfSome after (λ c. c.1 ≡ state c.0 known) → Stands m (known ++ added)
-stands_still m known request reply added None fresh e stands adds still = Stands-nothing m known added stands (Adds-nothing known request reply added adds e)
-stands_still m known request reply added (Some change) fresh e stands adds still =
-    let grown : AreOf change.0 added × (state change.0 (known ++ added) ≡ change.1) = Adds-change_of known request reply added change.0 change.1 fresh adds e in
-    Stands-same m known added change.0 stands grown.0 (grown.1 ∙ still)
-
--- a site that is not broken, whose reply was prepared with nothing to change
-pub answers_by_answer : (old : SiteValue) (request : Request) (reply : Reply) → old.broken ≡ false →
-    ((known : List Write) → Stands old.states known → PreparesAnswer old.config known request reply) → AnswersOne old old request reply
-answers_by_answer old request reply whole prepared = record {
-  replies = λ known stands. subst (λ b. MayReply old.config known b request reply b) (sym whole) (inl (prepared known (stands whole)).answers);
-  stands = λ known added stands adds _. stands_still old.states known request reply added (change_of known request reply)
-      (subst (IsFresh known request) (sym (prepared known (stands whole)).answers) (fresh_answer old.config known request)) refl (stands whole) adds (prepared known (stands whole)).still;
-}
-
--- and one whose change was installed
-pub answers_by_change : (old new : SiteValue) (request : Request) (change : ChangeValue) (reply : Reply) → old.broken ≡ false → new ≡ record { config = old.config; states = insert_at old.states change.key change.state; broken = false } →
-    is_empty change.state.context ≡ false → reply ≡ change_reply change.dot →
-    ((known : List Write) → Stands old.states known → PreparesChange old.config known request change) → AnswersOne old new request reply
-answers_by_change old new request change reply whole installed seen told prepared = record {
-  replies = λ known stands.
-      subst (λ b. MayReply old.config known b request reply new.broken) (sym whole)
-      (subst (λ b. MayReply old.config known false request reply b) (sym (ap (λ (s : SiteValue). s.broken) installed)) (inl (told ∙ (prepared known (stands whole)).answers)));
-  stands = λ known added stands adds _.
-      let grown : AreOf change.key added × (state change.key (known ++ added) ≡ change.state) =
-      Adds-change_of known request reply added change.key change.state
-      (subst (IsFresh known request) (sym (told ∙ (prepared known (stands whole)).answers)) (fresh_answer old.config known request)) adds (ap (change_of known request) told ∙ (prepared known (stands whole)).leaves) in
-      subst (λ m. Stands m (known ++ added)) (sym (ap (λ (s : SiteValue). s.states) installed))
-      (Stands-insert old.states known added change.key change.state (stands whole) grown.0 grown.1 seen);
-}
-
 -- a refusal accepts nothing
 pub refuses_all : (request : Request) (refusal : Refusal) (W : List Write) → change_of W request (Refused refusal) ≡ None
 refuses_all (Put key seen document) refusal W = refl
 refuses_all (Delete key seen) refusal W = refl
 refuses_all (Push key pushed) refusal W = refl
 refuses_all request refusal W = refl
-
-pub answers_by_refusal : (old : SiteValue) (request : Request) (refusal : Refusal) → old.broken ≡ false →
-    ((known : List Write) → Stands old.states known → (Refused refusal ≡ answer old.config known request) ⊎ (refusal ≡ Memory)) → AnswersOne old old request (Refused refusal)
-answers_by_refusal old request refusal whole prepared = record {
-  replies = λ known stands.
-      subst (λ b. MayReply old.config known b request (Refused refusal) b) (sym whole)
-      (⊎_elim (λ answers. inl answers) (λ memory. inr (ap Refused memory)) (prepared known (stands whole)));
-  stands = λ known added stands adds _.
-      Stands-nothing old.states known added (stands whole) (Adds-nothing [] request (Refused refusal) added adds (refuses_all request refusal []));
-}
-
--- a change whose install was refused breaks the site, and nothing more is said of its states
-pub answers_by_breaking : (old new : SiteValue) (request : Request) (change : ChangeValue) → old.broken ≡ false → new.broken ≡ true →
-    ((known : List Write) → Stands old.states known → PreparesChange old.config known request change) → AnswersOne old new request (Refused Broken)
-answers_by_breaking old new request change whole broken prepared = record {
-  replies = λ known stands.
-      let here : PreparesChange old.config known request change = prepared known (stands whole) in
-      let changes : ChangesKey old.config known request =
-      subst (λ o. IsSomeAnd o (λ c. c.1 ≢ state c.0 known)) (sym (ap (change_of known request) (sym here.answers) ∙ here.leaves)) here.differs in
-      subst (λ b. MayReply old.config known b request (Refused Broken) new.broken) (sym whole) (subst (λ b. MayReply old.config known false request (Refused Broken) b) (sym broken) (refl, changes));
-  stands = λ known added stands adds unbroken. absurd (true≢false (sym broken ∙ unbroken));
-}
-
--- a site that was broken says so
-pub answers_broken : (old : SiteValue) (request : Request) → old.broken ≡ true → AnswersOne old old request (Refused Broken)
-answers_broken old request broken = record {
-  replies = λ known stands. subst (λ b. MayReply old.config known b request (Refused Broken) b) (sym broken) refl;
-  stands = λ known added stands adds unbroken. absurd (true≢false (sym broken ∙ unbroken));
-}
 
 -- ---- the step, from the states
 

@@ -34,12 +34,6 @@ state_at-stands m W key stands =
 
 -- ---- the limits
 
-pub within-large : (config : ConfigValue) (m : States) (key : Key) (after : State) (reply : Reply) → is_too_large after ≡ true → within config m key after reply ≡ Refused StateTooLarge
-within-large config m key after reply large = ap (λ b. if b then Refused StateTooLarge else if has_no_room config m key && not (is_empty after.context) then Refused Full else reply) large
-
-pub within-full : (config : ConfigValue) (m : States) (key : Key) (after : State) (reply : Reply) → is_too_large after ≡ false → is_empty after.context ≡ false → has_no_room config m key ≡ true → within config m key after reply ≡ Refused Full
-within-full config m key after reply small seen full = λ i. if small i then Refused StateTooLarge else if full i && not (seen i) then Refused Full else reply
-
 pub within-room : (config : ConfigValue) (m : States) (key : Key) (after : State) (reply : Reply) → is_too_large after ≡ false → has_no_room config m key ≡ false → within config m key after reply ≡ reply
 within-room config m key after reply small room = λ i. if small i then Refused StateTooLarge else if room i && not (is_empty after.context) then Refused Full else reply
 

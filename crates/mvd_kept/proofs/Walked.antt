@@ -92,10 +92,6 @@ prefix_is_key prefix is some =
 
 -- ---- the walk
 
-and-false : (b : Bool) → (b && false) ≡ false
-and-false true = refl
-and-false false = refl
-
 not_gt : (r : Ordering) → is_le r ≡ true → is_gt r ≡ false
 not_gt Less h = refl
 not_gt Equal h = refl

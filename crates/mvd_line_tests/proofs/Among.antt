@@ -103,23 +103,6 @@ session_grows config old new (Conflicts after) r of p valid h = absurd (cc)
 session_grows config old new (Hello t) r of p valid h = absurd (cc)
 session_grows config old new Bye r of p valid h = absurd (cc)
 
--- any other is refused for its own sake
-pub other_refused : (config : ConfigValue) (old : States) (q : Request) → is_of_session q ≡ false → TrueReply config old q (reply.Refused Store) old
-other_refused config old (Get key) of = absurd (cc)
-other_refused config old (Node path) of = absurd (cc)
-other_refused config old (Bucket path after) of = absurd (cc)
-other_refused config old (Push key s) of = absurd (cc)
-other_refused config old (Put k c d) of = inr (Store, refl, omega arith, inl refl)
-other_refused config old (Delete k c) of = inr (Store, refl, omega arith, inl refl)
-other_refused config old (Find f t after) of = inr (Store, refl, omega arith, inl refl)
-other_refused config old (Row v t) of = inr (Store, refl, omega arith, inl refl)
-other_refused config old (Rows v after) of = inr (Store, refl, omega arith, inl refl)
-other_refused config old (Range f from to after) of = inr (Store, refl, omega arith, inl refl)
-other_refused config old (KeysAsked p after) of = inr (Store, refl, omega arith, inl refl)
-other_refused config old (Conflicts after) of = inr (Store, refl, omega arith, inl refl)
-other_refused config old (Hello t) of = inr (Store, refl, omega arith, inl refl)
-other_refused config old Bye of = inr (Store, refl, omega arith, inl refl)
-
 -- ---- what another writes
 
 pub grown_same : (site : SiteValue) → AreHeld site.states → HasGrown site site

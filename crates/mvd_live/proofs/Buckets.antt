@@ -253,12 +253,6 @@ module _ (moments : List States) (first last : States) (key : Key) (form : AreHe
   filled_lists true path last_key listing (page ∷ pages) is told under lists after = told_lists path (Some last_key) page told.0 under (λ was. ap is_lt (after is was))
 
 module _ (f : Frame) (key : Key) where
-  abbrev MineAt : PageQuestion → ListingValue → Type 0
-  MineAt = PageAt f.locals f.a f.a'
-
-  abbrev TheirsAt : PageQuestion → ListingValue → Type 0
-  TheirsAt = PageAt f.peers f.b f.b'
-
   opened_any : (paths : List (List ℕ)) (mine theirs : List ListingValue) → ForEach (PageAt f.locals f.a f.a') (map first_page paths) mine → ForEach (PageAt f.peers f.b f.b') (map first_page paths) theirs → AnyOf (λ path. IsTrue (is_under path key)) paths
       → AnyOf (Stays f key) (opened_buckets (map first_page paths) mine theirs)
   opened_any [] mine theirs p q never = absurd never

@@ -135,12 +135,6 @@ module _ (a b a' b' : States) (fa : AreHeld a) (fb : AreHeld b) (fa' : AreHeld a
   pub had_nothing : get a key ≡ None → get b key ≡ None → HaveBoth a b a' b' key
   had_nothing none none' = had (includes_empty a' key b none') (includes_empty b' key a none)
 
-  pub had_none_here : get a key ≡ None → Includes (state_at b' key) (state_at a key)
-  had_none_here none = includes_empty b' key a none
-
-  pub had_none_there : get b key ≡ None → Includes (state_at a' key) (state_at b key)
-  had_none_there none = includes_empty a' key b none
-
   module _ (locals peers : List States) where
     -- it was found equal at two moments
     pub had_equal : (s t : States) → Seen locals a a' s → Seen peers b b' t → get s key ≡ get t key → HaveBoth a b a' b' key

@@ -67,9 +67,6 @@ pub record Amid (f : Frame) (now : Standing) : Type 0 where
 
 module _ (f : Frame) (most : Two ℕ ℕ) (old : Standing) (leg : Leg) (at : Amid f old) (after : Amid f leg.after) (among : (held : States) → Contains leg.locals held → Contains f.locals held) (among' : (held : States) → Contains leg.peers held → Contains f.peers held)
     (g : TakesLeg most old leg) where
-  answers_of : Answers
-  answers_of = record { mine = leg.mine; theirs = leg.theirs }
-
   pub heard_both : HeardBoth f most leg.asking.left leg.asking.stage (record { mine = leg.mine; theirs = leg.theirs })
   heard_both = record {
     asked = leg.asks;

@@ -11,7 +11,3 @@ module _ (nones : List (Option Refusal)) (i : ℕ) (none d : Option Refusal) (re
   -- one request more
   pub one_turn : (left : List ℕ) → i < length nones → none ≡ get_or nones i d → has_turns (drop i nones) rest ≡ has_turns nones bytes → LeavesTurn none rest left → has_turns (drop (i + 1) nones) left ≡ has_turns nones bytes
   one_turn left low at before turn = sym (turn (drop (i + 1) nones)) ∙ next_of low at before
-
-  -- the last of them
-  pub last_turn : (all : Bool) → i < length nones → none ≡ get_or nones i d → has_turns (drop i nones) rest ≡ has_turns nones bytes → EndsTurns none rest all → all ≡ has_turns nones bytes
-  last_turn all low at before turn = sym (turn (drop (i + 1) nones)) ∙ next_of low at before

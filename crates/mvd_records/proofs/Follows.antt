@@ -94,10 +94,6 @@ module _ {A : Type 0} (old new : Seen) (pairs : List (List ℕ × List ℕ)) (re
   saves_kept version site sound holds =
       kept_by version site old.store.committed new.store.committed result _ (sets version site sound holds) (it.unchanged sound) holds
 
-  pub all_saved : (version site : ℕ) → IsSound new.store → HoldsRecords version site old.store.committed →
-      OnOk result (SavesStates old.store.committed new.store.committed pairs)
-  all_saved version site sound holds = on_ok_map result _ _ (λ d. d.1) (sets version site sound holds)
-
   pub all_survive : Survives old.store new.store (λ trees. IsTrue old.store.is_open × LeavesTrees old.store (λ version site db.
       HoldsRecords version site db × SavesStates old.store.committed db pairs) trees)
   all_survive = survives_of (SetsStates pairs) _ (sets_gives pairs) old.store new.store result it.commits
@@ -134,10 +130,6 @@ module _ {A : Type 0} (old new : Seen) (key state : List ℕ) (result : Result A
       IfErr result (λ e. e ≡ Damaged → LacksKey (old_states old.store.committed) key)
   moves_damaged version site sound holds = it.damaged (contents_of version site old.store.committed) sound (holds_all version site old.store.committed holds)
 
-  pub moves_survives : Survives old.store new.store (λ trees. IsTrue old.store.is_open × LeavesTrees old.store (λ version site db.
-      HoldsRecords version site db × MovesState old.store.committed db key state) trees)
-  moves_survives = survives_of (MovesKey key state) _ (moves_gives key state) old.store new.store result it.commits
-
 -- ---- finish
 
 module _ {A : Type 0} (old new : Seen) (result : Result A Refusal) (it : Finishes old result new) where
@@ -152,11 +144,6 @@ module _ {A : Type 0} (old new : Seen) (result : Result A Refusal) (it : Finishe
   pub finishes_unchanged : (version site : ℕ) → IsSound new.store → HoldsRecords version site old.store.committed →
       OnErr result (SameCommit old.store new.store)
   finishes_unchanged version site sound holds = it.unchanged (contents_of version site old.store.committed) sound (holds_all version site old.store.committed holds)
-
-  pub finishes_survives : Survives old.store new.store (λ trees. IsTrue old.store.is_open ×
-      LeavesTrees old.store (λ _ site db. EndsMove site old.store.committed db) trees)
-  finishes_survives =
-      survives_of EndsMoves (λ _ site a b. EndsMove site a b) ends_gives old.store new.store result it.commits
 
 -- ---- load_all and load_old
 

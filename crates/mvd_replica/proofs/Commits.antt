@@ -98,20 +98,6 @@ refused_same old new request reply refusal one told other = elim old.broken as (
   ]
 ] refl
 
--- one that is told done and leaves it as it was would change nothing
-plain_same : (old new : SiteValue) (request : Request) (reply : Reply) → AnswersOneFrom old new request reply → is_refusal reply ≡ false → new ≡ old → ChangesNothing old request
-plain_same old new request reply one plain same = elim old.broken as (λ b. old.broken ≡ b → ChangesNothing old request) [
-  | true ↦ λ was. absurd (true≢false (sym (ap is_refusal (one.broken was).0) ∙ plain))
-  | false ↦ λ whole. elim one.whole [
-    | inr store ↦ absurd (true≢false (sym (ap is_refusal store.told) ∙ plain))
-    | inl from ↦ elim (from whole) [
-      | inl it ↦ ap (λ (s : SiteValue). s.states) (sym it.site ∙ same)
-      | inr (inl memory) ↦ absurd (true≢false (sym (ap is_refusal memory.0) ∙ plain))
-      | inr (inr broke) ↦ absurd (true≢false (sym (ap is_refusal broke.0) ∙ plain))
-    ]
-  ]
-] refl
-
 still_before : (P : Turn → Type 0) (first second : List Turn) → AllByRecursion P (first ++ second) → AllByRecursion P first
 still_before P [] second all = tt
 still_before P (t ∷ first) second all = (all.0, still_before P first second all.1)
@@ -216,20 +202,6 @@ module _ {S : Type 0} {g : Ghosts S} where
     -- what would change nothing leaves all as it was
     pub answer_still : ChangesNothing (site_of old) request → new ≡ old
     answer_still still = it.still (inr (still_turns (site_of old) (turn_of request reply ∷ []) (request ∷ []) refl (still, tt)))
-
-    -- one commit is counted where the site is not as it was, and else none
-    pub answer_counts : ((site_of new ≡ site_of old) × (commits_of new ≡ commits_of old)) ⊎ ((site_of new ≢ site_of old) × (commits_of new ≡ next_count (commits_of old)))
-    answer_counts = elim it.counts [
-      | inl none ↦ inl (none.0, none.1)
-      | inr once ↦ inr (along_alone (site_of old) (site_of new) (turn_of request reply) once.0, once.1)
-    ]
-
-    -- and one for a change that is told done
-    pub answer_counted : (ChangesNothing (site_of old) request → ⊥) → is_refusal reply ≡ false → commits_of new ≡ next_count (commits_of old)
-    answer_counted changes plain = elim answer_counts [
-      | inl none ↦ absurd (changes (plain_same (site_of old) (site_of new) request reply answers_one plain none.0))
-      | inr once ↦ once.1
-    ]
 
     -- the records follow the states
     pub answer_follows : ReplicaFollows (λ asked. asked ≡ request) (site_of old) (site_of new) (store_of old) (store_of new)
@@ -338,10 +310,6 @@ module _ {S : Type 0} {g : Ghosts S} where
       states = all_take it.groups old new it.commits;
       takes = takes (flat_map (λ turns. turns) it.groups) (site_of old) (site_of new) (store_of old) (store_of new) (all_take it.groups old new it.commits) (all_follow it.groups old new it.commits);
     }
-
-    -- what would change nothing leaves all as it was
-    pub answers_still : StaysStill requests old new
-    answers_still each = all_still it.groups old new it.commits (still_turns (site_of old) (flat_map (λ turns. turns) it.groups) requests it.asked each)
 
     -- commits are counted at turns that changed the site, at least one unless it is as it was, and at most one for each request for a change
     pub answers_count : CountsCommits requests replies old new

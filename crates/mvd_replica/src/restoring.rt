@@ -52,7 +52,8 @@ fn state_of(alloc: Global, bytes: &[u8]) -> Result<KeyState, Refusal>
 fn states_of(alloc: Global, pairs: Vec<(Key, Vec<u8>)>) -> Result<Vec<(Key, KeyState)>, Refusal>
     ensures spelled { IfOk result (λ states. spelled_entries states.items ≡ pair_entries pairs.items) }
     ensures held { IfOk result (λ states. AllByRecursion (λ entry. IsHeldState entry.1) states.items) }
-    ensures stored { OnOk result (AllByRecursion (λ entry. SpellsHeldState layout2 entry.1) (pair_entries pairs.items)) }
+    ensures stored { OnOk result
+        (AllByRecursion (λ entry. SpellsHeldState layout2 entry.1) (pair_entries pairs.items)) }
     ensures damaged { DamagedIn result (pair_entries pairs.items) }
     ensures refusal { IfErr result IsUnreadRecord }
 {

@@ -68,11 +68,6 @@ from_group g a b ga gb k h = (subst (λ t. IsLeBy tally_cmp (tally_of t LEAST) k
 stands_by : (tallies : BTreeMap Tally ℕ) (g : Term) (k : Tally) → g ≡ k.term → IsSome (tree.get tally_cmp tallies k) → stands_in tallies g k.whole ≡ true
 stands_by tallies g k e h = ap (λ t. stands_in tallies t k.whole) e ∙ there _ h
 
-turned : (r : Ordering) → is_lt r ≡ false → is_gt (ordering_reverse r) ≡ false
-turned Less h = absurd (true≢false h)
-turned Equal h = refl
-turned Greater h = refl
-
 below_whole : (g : Term) (k : Tally) (w : ℤ) → g ≡ k.term → IsLeBy tally_cmp k (tally_of g w) → k.whole ≤ℤ w
 below_whole g k w e h = up_to k.whole w (ap (λ r. is_gt (ordering_then r (int_cmp k.whole w))) (sym (ap (λ t. term_cmp t g) (sym e) ∙ tied_itself term_cmp_total g)) ∙ h)
 

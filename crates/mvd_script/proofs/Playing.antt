@@ -101,11 +101,6 @@ says command old new text text' result there acts same = λ setting before world
     let (after, (tells, stands)) = acts.leads setting before world in
     (after, (says_on (is_site setting old.site) setting old.site command before after acts.told text' refl (sym (world.all old.site) ∙ there) tells same, stands))
 
-pub says_none : (site : ℕ) (command : Command) (old : World) (text : List ℕ) → is_numbered (length old.sites.items) site ≡ false → text ≡ none_such_text → CommandSays site command old old text
-says_none site command old text nowhere same = λ setting before world.
-    let is : is_site setting site ≡ false = sym (world.all site) ∙ nowhere in
-    (before, (subst (λ (b : Bool). MatchBool b ((told : Result (List ℕ) Refusal) × TellsCommand setting site command before before told × (text ≡ told_text told)) ((before ≡ before) × (text ≡ none_such_text))) (sym is) (refl, same), world))
-
 -- ---- from a command to its line
 
 -- a site was found, so its number is one of the world's

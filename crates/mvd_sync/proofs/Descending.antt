@@ -46,11 +46,6 @@ none_left told paths low = (
 pub rest_told : (all paths : List (List ℕ)) (told : ℕ) → all ≡ paths → take (length all - told) (drop told all) ≡ drop told paths
 rest_told all paths told is = take_all (length all - told) (drop told all) (let n = length-drop told all in omega (arith, n)) ∙ ap (drop told) is
 
--- a descent that is done above the buckets has come to none
-pub no_buckets : (at : Level) → IsDown at → at.depth < 3 → [] ≡ at.rest
-no_buckets at (inl three) high = absurd (omega (arith, three, high))
-no_buckets at (inr none) high = sym none
-
 module _ (old : Level) (depth told count : ℕ) (paths below found : List (List ℕ)) (mine theirs : List Node)
     (view : record { depth = depth; rest = drop told paths; below = below } ≡ old) (counted : count ≡ length (take 64 (drop told paths)))
     (is : found ≡ below ++ told_all (take 64 (drop told paths)) mine theirs) where

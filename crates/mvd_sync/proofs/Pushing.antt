@@ -94,13 +94,6 @@ if_err_never (Ok a) T t = tt
 if_err_never (Err refusal) T t = t
 
 module _ {S : Type 0} (s : SideOf S) (pairs : List Pair) (left : ℕ) (old : S) where
-  none_taken : (refusal : Refusal) → s.is_faithful old → TakesInFirst s pairs old old refusal
-  none_taken refusal t = record { still = λ _. t; pushes = (0, [], s.states old, refl, λ _. refl) }
-
-  -- memory was refused before the first
-  pub ended_first : (refusal : Refusal) → s.follows 0 old old → refusal ≡ Memory → ComesToEnd s (TakesInFirst s pairs old old refusal) (length pairs) (with_left old left) old refusal
-  ended_first refusal self is = ends_for_memory s _ (length pairs) left left 0 old old refusal (omega arith) (omega arith) self (none_taken refusal) is
-
   -- all were
   pub all_pushed : (told : List Told) (left' : ℕ) (new : S) → FrontPushed s pairs [] told left left' old new → All IsOfKey told → AllAnswered s (λ _ told. IsOfKey told) (TakesIn s pairs told old new) pairs told (with_left old left) (with_left new left')
   all_pushed told left' new f of_key =

@@ -254,37 +254,6 @@ pub record Steady {L P : Type 0} (old new : Moment L P) : Type 0 where
   pub room : new.work.keys + new.work.refused + new.now.left.local + new.now.left.peer ≤ old.work.keys + old.work.refused + old.now.left.local + old.now.left.peer
   pub short : length old.work.waiting < 1000 → length new.work.waiting < 1000
 
-module _ {L P : Type 0} (l : SideOf L) (p : SideOf P) (paths : List (List ℕ)) (begin : Moment L P) where
-  before_steady : (rest : List (List ℕ)) (first : Bucket) (later : List Bucket) (mid : Moment L P) → Before l p paths rest first later begin mid → Steady begin mid
-  before_steady rest first later mid w =
-      let a = w.over.goes.room in
-      let b = w.local_side.spent in
-      let c = w.peer_side.spent in
-      let d = w.through.goes.room in
-      record { room = omega (arith, a, b, c, d); short = λ low. w.through.goes.short (w.over.goes.short low) }
-
-  pub walk_steady : (now : Moment L P) (at : Walking) → Walked l p paths begin now at → Steady begin now
-  walk_steady now at (between done is none _ _ over) = record { room = over.goes.room; short = over.goes.short }
-  walk_steady now at (amid first b mid before path good over some quiet) =
-      let s = before_steady at.rest first at.later mid before in
-      let a = s.room in
-      let b = over.goes.room in
-      record { room = omega (arith, a, b); short = λ low. over.goes.short (s.short low) }
-  walk_steady now at (waiting first b b' e mid before path good over takes wants some held) =
-      let s = before_steady at.rest first at.later mid before in
-      let a = s.room in
-      let b = over.goes.room in
-      record { room = omega (arith, a, b); short = λ low. over.goes.short (s.short low) }
-
-  pub found_steady : (now : Moment L P) (e : Entry) (at : Walking) → Found l p paths begin now e at → Steady begin now
-  found_steady now e at f =
-      let s = before_steady at.rest f.first at.later f.mid f.before in
-      let a = s.room in
-      let b = f.over.goes.room in
-      let c = f.fills.local_side.spent in
-      let d = f.fills.peer_side.spent in
-      record { room = omega (arith, a, b, c, d); short = λ low. f.over.goes.short (s.short low) }
-
 -- a key that was found is held by a side
 pub found_held : (b b' : Bucket) (e : Entry) → TakesNext b e b' → IsHeldByEither e
 found_held b b' e takes = held takes.takes
@@ -373,6 +342,3 @@ told_less l p at found at' old new left' t some low =
     let b = t.pages.peer_side.spent in
     let n = told_larger at t.mine t.theirs found at' t.is (short_of l (pages_of AtLocal at) t.mine old.left.local new.left.local old.at.local new.at.local t.pages.local_side) (short_of p (pages_of AtPeer at) t.theirs old.left.peer new.left.peer old.at.peer new.at.peer t.pages.peer_side) in
     omega (arith, a, b, n, some, low)
-
-pub goes_less : (at : Walking) (found : Option Entry) (at' : Walking) (left left' : Questions) → GoesTo at found at' → left'.local + left'.peer ≤ left.local + left.peer → left_of_walk left' at' < left_of_walk left at
-goes_less at found at' left left' goes low = let n = goes_smaller at found at' goes in omega (arith, n, low)

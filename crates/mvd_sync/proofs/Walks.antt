@@ -125,15 +125,3 @@ module _ {L P : Type 0} (l : SideOf L) (p : SideOf P) where
     walk_ends local2 peer2 fault e =
         let more : (i : ℕ) → i ≤ length paths → AreFewForBy l p local peer (λ most. w.asked + i ≤ 1 + 2 * most) = λ i few t u keys all. few_end n w.asked (length paths) i (length keys) low (w.few t u keys all) few in
         end_later l p on on' (λ asked. asked ≤ length paths) (λ asked. AreFewForBy l p local peer (λ most. asked ≤ 1 + 2 * most)) left mid w.asked w.asked local local1 local2 peer peer1 peer2 fault w.local_side w.peer_side more more e
-
-  -- it has come to the buckets
-  pub walk_finds : (n : ℕ) (left left' : Questions) (local local' : L) (peer peer' : P) (paths : List (List ℕ)) → n ≡ 3 → Walks l p n left left' local local' peer peer' paths → FindsBucketsBy l p left left' local local' peer peer' paths
-  walk_finds n left left' local local' peer peer' paths e w = record {
-    asked = w.asked;
-    local_side = w.local_side;
-    peer_side = w.peer_side;
-    answers = w.answers (omega (arith, e));
-    deep = subst (λ n. AreLong n paths) e w.long;
-    right = λ t u. let r = w.right t u in record { distinct = r.distinct; differ = r.differ (omega (arith, e)); whole = r.whole };
-    few = λ t u keys all. subst (λ n. w.asked + length paths ≤ 1 + n * length keys) e (w.few t u keys all);
-  }

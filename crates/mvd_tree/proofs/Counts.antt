@@ -62,16 +62,6 @@ bytes_more es e =
     let both = length-append (flat_map (λ e. e.0) es) (e.0 ++ []) in
     let last = length-append e.0 [] in omega (arith, joined, both, last)
 
--- the keys that are yet to come have at least the bytes of the next one
-pub bytes_within : (es rest all : List (List ℕ × List ℕ)) (e : List ℕ × List ℕ) → es ++ e ∷ rest ≡ all → (key_bytes es + length e.0 ≤ key_bytes all) × (length es + 1 ≤ length all)
-bytes_within es rest all e is =
-    let joined = ap length (flat_map-append (λ e. e.0) es (e ∷ rest)) in
-    let both = length-append (flat_map (λ e. e.0) es) (e.0 ++ flat_map (λ e. e.0) rest) in
-    let last = length-append e.0 (flat_map (λ e. e.0) rest) in
-    let bytes = ap key_bytes is in
-    let longer = length-append es (e ∷ rest) in
-    let keys = ap length is in (omega (arith, joined, both, last, bytes), omega (arith, longer, keys))
-
 -- the keys of one bucket more
 pub keys_next : (bs : List KeyDigests) (n : ℕ) (d : KeyDigests) → n < length bs → all_keys (take (n + 1) bs) ≡ all_keys (take n bs) + len (get_or bs n d)
 keys_next bs n d within =

@@ -51,10 +51,6 @@ module _ {K X : Type 0} {R : K → K → Ordering} (o : IsTotalOrder R) where
   pub got_each : (m : FinMap R X) → Each (λ e. get m e.0 ≡ Some e.1) (entries m)
   got_each m = Each-weaker (λ e. find R e.0 (entries m) ≡ Some e.1) (λ e. get m e.0 ≡ Some e.1) (λ e h. get-entries m e.0 ∙ h) (entries m) (found_each (entries m) (entries_sorted m))
 
-option_map-cond : {X Y : Type 0} (f : X → Y) (b : Bool) (x y : Option X) → option_map f (cond b x y) ≡ cond b (option_map f x) (option_map f y)
-option_map-cond f true x y = refl
-option_map-cond f false x y = refl
-
 module _ {S : Type 0} (spelled : List ℕ → S → List ℕ) where
   pub find-digests : (q : List ℕ) (es : List (List ℕ × S)) → find (slice_cmp nat_cmp) q (map (λ e. (e.0, key_digest spelled e.0 e.1)) es) ≡ option_map (key_digest spelled q) (find (slice_cmp nat_cmp) q es)
   find-digests q [] = refl

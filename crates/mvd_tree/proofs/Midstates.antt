@@ -54,13 +54,6 @@ read_on nodes group to midstate after is reads on =
     ∙ ap (flat_map digest_or_zeros) (slices-join nodes (group / 4 * 16) (group * 4) to (omega arith) on))
     (reads _ is)
 
--- before the first group of a node nothing has been read
-pub first_midstate : (nodes : List (Option (List ℕ))) (group : ℕ) (midstate : CountedHasher) → group % 4 ≡ 0 → Absorbed midstate [] → IsMidstate nodes group midstate
-first_midstate nodes group midstate first none =
-    let start : group / 4 * 16 ≡ group * 4 = omega (arith, first) in
-    let wide : group * 4 - group * 4 ≡ 0 = omega arith in
-    subst (Absorbed midstate) (sym (ap (λ n. flat_map digest_or_zeros (slice_range nodes n (group * 4))) start ∙ ap (λ n. flat_map digest_or_zeros (take n (drop (group * 4) nodes))) wide)) none
-
 -- a computation that is kept before one group more
 pub keeps_more : (nodes : List (Option (List ℕ))) (midstates : List (Option CountedHasher)) (group : ℕ) (midstate : CountedHasher)
     → HasMidstates nodes midstates → group < length midstates → IsMidstate nodes group midstate → HasMidstates nodes (set midstates group (Some midstate))
@@ -127,9 +120,6 @@ read_insert es midstates n e are within = read_front es (insert es n e) midstate
 
 pub read_remove : (es : List Entry) (midstates : List CountedHasher) (n : ℕ) → AreRead es midstates → n < length es → AreRead (remove es n) (take (n / 16) midstates)
 read_remove es midstates n are within = read_front es (remove es n) midstates n are (omega (arith, length-remove n es within)) (take-remove n n es (omega arith) within)
-
-pub read_still : (es : List Entry) (midstates : List CountedHasher) (n : ℕ) → AreRead es midstates → n ≤ length es → AreRead es (take (n / 16) midstates)
-read_still es midstates n are within = read_front es es midstates n are within refl
 
 -- one key more was read
 pub one_more_read : (es : List Entry) (n : ℕ) (d : Entry) (midstate after : CountedHasher) → n < length es → HasRead es n midstate

@@ -95,33 +95,6 @@ takes_none passes names a b c free one two = subst (λ f. LooksIf f a c) (sym fr
   stays = stays_then a b c one.quiet.stays two.stays;
 })
 
-pub moves_then : (a b c : WebValue) → StepsOn a b → StepsOn b c → StepsOn a c
-moves_then a b c one two = record {
-  part = one.part ++ two.part;
-  split = rw (one.split, two.split) (simp append_assoc);
-  sent = rw (two.sent, one.sent) (simp append_assoc);
-  waits = rw (two.waits, one.waits) (simp append_assoc);
-  calls = two.calls ∙ one.calls;
-  state = two.state ∙ one.state;
-  asked = two.asked ∙ one.asked;
-  stopped = two.stopped ∙ one.stopped;
-  rests = two.rests ∙ one.rests;
-  stays = stays_then a b c one.stays two.stays;
-}
-
-drops_then : (a b c : WebValue) → Drops a b → Drops b c → Drops a c
-drops_then a b c one two = record {
-  part = one.part ++ two.part;
-  split = rw (one.split, two.split) (simp append_assoc);
-  sent = rw (two.sent, one.sent) (simp append_assoc);
-  calls = two.calls ∙ one.calls;
-  state = two.state ∙ one.state;
-  asked = two.asked ∙ one.asked;
-  waits = two.waits ∙ one.waits;
-  stopped = two.stopped ∙ one.stopped;
-  stays = stays_then a b c one.stays two.stays;
-}
-
 -- ---- the parts of a call
 
 free_at : (stopped : Option Refusal) (asked : Option Asked) (room : Bool) → IsTrue (is_none stopped && (is_none asked && room)) → asked ≡ None
@@ -218,50 +191,6 @@ told_fault old mid new fault d none some is (inr e) = subst (λ w. PassesOn old 
   ends = inr (ap (λ o. first_cause o Memory) d.stopped, inr refl);
   stays = record { config = d.stays.config; received = d.stays.received; ended = d.stays.ended };
 })
-
--- a piece of what was pending is handed out, and dropped
-pub drops_piece : (old mid : WebValue) (piece : List ℕ) (config : Config) (heard : History) → IsChunkOf piece mid.heard.pending → heard ≡ after_sent mid.heard (length piece)
-    → config ≡ mid.config → Drops old mid → Drops old (record mid { config = config; heard = heard })
-drops_piece old mid piece config heard chunk handed same d =
-    let next : WebValue = record mid { config = config; heard = heard } in
-    drops_then old mid next d (record {
-      part = piece;
-      split = sym (take-append-drop (length piece) mid.heard.pending) ∙ ap (λ l. l ++ drop (length piece) mid.heard.pending) chunk.front ∙ ap (λ (h : History). piece ++ h.pending) (sym handed);
-      sent = ap (λ (h : History). h.sent) handed ∙ ap (λ l. mid.heard.sent ++ l) chunk.front;
-      calls = ap (λ (h : History). h.calls) handed;
-      state = ap (λ (h : History). h.state) handed;
-      asked = refl;
-      waits = refl;
-      stopped = refl;
-      stays = record { config = same; received = ap (λ (h : History). h.received) handed; ended = ap (λ (h : History). h.ended) handed };
-    })
-
--- a piece of what was pending is handed out, and queued
-pub moves_piece : (old mid : WebValue) (piece waits : List ℕ) (config : Config) (heard : History) → IsChunkOf piece mid.heard.pending → waits ≡ mid.waits ++ piece → heard ≡ after_sent mid.heard (length piece)
-    → config ≡ mid.config → StepsOn old mid → StepsOn old (record mid { config = config; heard = heard; waits = waits })
-moves_piece old mid piece waits config heard chunk queued handed same m =
-    let next : WebValue = record mid { config = config; heard = heard; waits = waits } in
-    moves_then old mid next m (record {
-      part = piece;
-      split = sym (take-append-drop (length piece) mid.heard.pending) ∙ ap (λ l. l ++ drop (length piece) mid.heard.pending) chunk.front ∙ ap (λ (h : History). piece ++ h.pending) (sym handed);
-      sent = ap (λ (h : History). h.sent) handed ∙ ap (λ l. mid.heard.sent ++ l) chunk.front;
-      waits = queued;
-      calls = ap (λ (h : History). h.calls) handed;
-      state = ap (λ (h : History). h.state) handed;
-      asked = refl;
-      stopped = refl;
-      rests = refl;
-      stays = record { config = same; received = ap (λ (h : History). h.received) handed; ended = ap (λ (h : History). h.ended) handed };
-    })
-
--- and of what was pending less is left
-pub falls : (pending piece : List ℕ) (h new : History) (b : Bool) → pending ≡ h.pending → IsChunkOf piece pending → (IsTrue b ↔ (0 < length pending)) → b ≡ true → new ≡ after_sent h (length piece) → length new.pending < length pending
-falls pending piece h new b same chunk waits more e =
-    let some : 0 < length piece = chunk.some (waits.0 more) in
-    let l : length new.pending ≡ length pending - length piece =
-    ap (λ (x : History). length x.pending) e ∙ ap (λ p. length (drop (length piece) p)) (sym same) ∙ length-drop (length piece) pending in
-    let f : length piece ≤ length pending = chunk.fits in
-    omega (arith, l, some, f)
 
 -- the response that is queued is the one to the request that waited
 pub responds : (old mid now new : WebValue) (answer : Answer) (body : List ℕ) (waits : Asked) (manner : Manner) (origin : List ℕ) → Some waits ≡ old.asked

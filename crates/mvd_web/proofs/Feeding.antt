@@ -60,16 +60,6 @@ none_left (b ∷ bs) n h = absurd (omega (arith, h))
 pub ends : (old new : WebValue) (bytes rest : List ℕ) → Feeding old bytes rest (length bytes) new → Feeds old bytes new
 ends old new bytes rest f = (f.front, rest, f.joined, inl (f.same, λ going. none_left rest (length bytes) (f.left going)))
 
-pub used_up : (old new : WebValue) (bytes rest : List ℕ) (n : ℕ) → Feeding old bytes rest n new → rest ≡ [] → Feeds old bytes new
-used_up old new bytes rest n f none = (f.front, rest, f.joined, inl (f.same, λ going. none))
-
-pub gives_up : (old mid new : WebValue) (bytes rest : List ℕ) (n : ℕ) → Feeding old bytes rest n mid → new ≡ stopped_by mid Memory → Feeds old bytes new
-gives_up old mid new bytes rest n f e = (f.front, rest, f.joined, inr (e ∙ ap (λ w. stopped_by w Memory) f.same))
-
-pub further_as : (old mid new : WebValue) (bytes rest more left : List ℕ) (n : ℕ) → Feeding old bytes rest n mid → Reading mid.heard.ended rest more left
-    → new ≡ record mid { heard = after_read mid.heard more } → Feeding old bytes left (n + 1) new
-further_as old mid new bytes rest more left n f r e = subst (λ w. Feeding old bytes left (n + 1) w) (sym e) (further old mid bytes rest more left n f r)
-
 -- what a result says that is no error
 pub got : {E : Type 0} (r : Result ℕ E) (P : ℕ → Type 0) → is_err r ≡ false → IfOk r P → (n : ℕ) × (r ≡ Ok n) × P n
 got (Ok n) P e h = (n, refl, h)

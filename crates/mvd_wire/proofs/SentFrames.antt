@@ -28,10 +28,6 @@ pub always : {A E : Type 0} (r : Result A E) (P : Type 0) → P → IfOk r (λ _
 always (Ok x) P p = p
 always (Err e) P p = tt
 
-pub follows_from : {A E : Type 0} (r : Result A E) (B P : Type 0) → IfOk r (λ _. B) → (B → P) → IfOk r (λ _. P)
-follows_from (Ok x) B P b f = f b
-follows_from (Err e) B P b f = tt
-
 length_key : (k : Text) → length (key.spell k) ≡ length k + 1
 unfolding key raw
 length_key k = omega arith

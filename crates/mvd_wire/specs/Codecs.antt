@@ -147,7 +147,8 @@ spell_entry e =
     ++ ((number w64).spell e.base ++ ((number w32).spell (length e.loose) ++ flat_map (number w64).spell e.loose))
 
 abbrev pub spell_sibling : DotValue × Text → List ℕ
-spell_sibling s = ((number w32).spell s.0.site ++ (number w64).spell s.0.counter) ++ ((number w32).spell (length s.1) ++ s.1)
+spell_sibling s =
+    ((number w32).spell s.0.site ++ (number w64).spell s.0.counter) ++ ((number w32).spell (length s.1) ++ s.1)
 
 -- the spelling of a key's state: its codec's (law `spelled_states`)
 unfoldable pub spell_state : State → List ℕ

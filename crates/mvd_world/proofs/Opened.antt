@@ -68,12 +68,6 @@ step_acts old new step outcome steps same setting before is =
 
 -- ---- a session begins
 
-pub begin_none : (old : OpenWorld) (local peer : ℕ) → may_be (is_numbered (length old.world.sites.items)) (length old.world.messages.items) (Session local peer) ≡ false → ActsOpen old old (Begin local peer) coming.NoSuch
-begin_none old local peer none setting before is = (
-  before,
-  (subst (λ b. MatchBool b (MayBegin before local peer coming.NoSuch before) ((coming.NoSuch ≡ coming.NoSuch) × (before ≡ before))) (sym (sym (may_be_same setting old.world before.knowledge (Session local peer) is.world) ∙ none)) (refl, refl), is),
-)
-
 begin_there : (old new : OpenWorld) (local peer : ℕ) (came : Came) (setting : Setting) (before after : Scene) → IsOpenWorld setting old before → may_be (is_numbered (length old.world.sites.items)) (length old.world.messages.items) (Session local peer) ≡ true → MayBegin before local peer came after → MayAct setting before (Begin local peer) came after
 begin_there old new local peer came setting before after is may begins =
     subst (λ b. MatchBool b (MayBegin before local peer came after) ((came ≡ coming.NoSuch) × (after ≡ before))) (sym (sym (may_be_same setting old.world before.knowledge (Session local peer) is.world) ∙ may)) begins
@@ -159,13 +153,6 @@ within [] i x h = cc
 within (y ∷ xs) zero x h = omega arith
 within (y ∷ xs) (suc i) x h = let rest = within xs i x h in omega (arith, rest)
 
--- a number that no session has
-pub not_numbered : (sessions : List OpenSession) (number : ℕ) → is_numbered (length sessions) number ≡ false → HasEnded sessions number
-not_numbered sessions number none index session at here =
-    let low = within sessions index session here in
-    let there = Rattle.mvd_world.proofs.Leading.number_in (length sessions) number (omega (arith, at)) (omega (arith, at, low)) in
-    absurd (Rattle.std.proofs.Common.true≢false (sym there ∙ none))
-
 -- a session whose machine was taken out has ended
 pub one_ended : (sessions : List OpenSession) (number index : ℕ) (session : OpenSession) → number ≡ index + 1 → slice_get sessions index ≡ Some session → session.machine ≡ None → HasEnded sessions number
 one_ended sessions number index session at here none i other at' there =
@@ -192,10 +179,6 @@ go_ended old new number index session at here none same_world changed =
     go_none old new number same_world same (one_ended old.sessions.items number index session at here none)
 
 -- ---- what a go comes to
-
--- what the machine told that is next
-pub next_has : (old new : Machining) (result : Result (Option Asking) SyncFault) (step : Option Asking) → result ≡ Ok step → IfOk result (HasNext old new) → HasNext old new step
-next_has old new result step is next = subst (λ r. IfOk r (HasNext old new)) is next
 
 -- both sites were asked
 pub went_on : (old mid new : World) (local peer : ℕ) (machine asking next : Machining) (step : Asking) (mine theirs : Option Told) (result : Result (Unit {0}) SyncFault) → HasNext machine asking (Some step)

@@ -8,14 +8,17 @@ use Rattle.mvd_sync.specs.Answers.{IsPage, ListingValue}
 use Rattle.mvd_sync.specs.declared.asking.Node.{Node}
 use Rattle.mvd_dots.specs.declared.refusals.Refusal.{Refusal}
 use Rattle.mvd_dots.specs.declared.refusals.Refusal.TheVariants.{BadPath, Memory, TooManyRequests}
-use Rattle.std.proofs.lemmas.List.{length-take-le, take_all}
+use Rattle.std.proofs.lemmas.List.{length-take, length-take-le, take_all}
 use Rattle.mvd_sync.specs.Questions.{AllAnswered, AnswersEach, ComesToEnd, Keeps, TakesBudget, with_left}
 use Rattle.mvd_peer.specs.Windows.{ForEach}
 use Rattle.mvd_peer.specs.PushedStates.{Each}
-use Rattle.mvd_sync.specs.Made.{EndsMaking, PassesFault, ReadsAll}
+use Rattle.mvd_sync.specs.Made.{EndsMaking, PassesFault}
+use Rattle.mvd_sync.specs.Tellings.{IsRead, of_answer as not_of_answer, of_number, of_questions as not_of_questions, refused}
+use Rattle.mvd_sync.specs.declared.telling.Share.{Share}
 use Rattle.mvd_peer.specs.Sides.{HasAnswered, HasRefused, SideOf, is_of_question}
 use Rattle.mvd_sync.specs.Faults.{of_answer, of_memory, of_questions, of_side}
 use Rattle.mvd_peer.specs.Windows.{Asked, EachAnswer, EachRefusal, EachTold, Ends, Kind, RefusesPage, manner}
+use Rattle.mvd_sync.proofs.Compose.{Moves}
 use Rattle.mvd_sync.proofs.Positions.{BlamesBy}
 
 -- ---- lists
@@ -94,6 +97,30 @@ IsNodeOf digests node = (node.own ≡ digests.own) × (digests.children ≡ Some
 
 abbrev pub IsListingOf : Vec (List ℕ × List ℕ) Global × Bool → ListingValue → Type 0
 IsListingOf page listing = (listing ≡ (page.0.items, page.1)) × IsPage None listing.0 listing.1 × (length listing.0 < 2 ^ 64)
+
+-- there are as many answers as questions
+pub as_many : {Q A : Type 0} (M : Q → A → Type 0) (qs : List Q) (ts : List (Result A Refusal)) → EachAnswer M qs ts → length ts ≡ length qs
+as_many M [] [] h = refl
+as_many M [] (Ok a ∷ ts) h = absurd h
+as_many M [] (Err e ∷ ts) h = absurd h
+as_many M (q ∷ qs) [] h = absurd h
+as_many M (q ∷ qs) (Ok a ∷ ts) h = ap suc (as_many M qs ts h.1)
+as_many M (q ∷ qs) (Err e ∷ ts) h = ap suc (as_many M qs ts h)
+
+-- what a side said of questions of a kind: answers, or a refusal in their place
+pub record Said {S Q A : Type 0} (s : SideOf S) (kind : Kind Q A) (qs : List Q) (told : Result (List (Result A Refusal)) Refusal) (old new : S) : Type 0 where
+  pub answered : IfOk told (λ ts. Asked (manner s.follows s.can_refuse s.can_answer) kind qs ts old new)
+  pub ended : IfErr told (Ends s.follows s.can_refuse (length qs) old new)
+  pub not_of_question : s.is_faithful old → IfErr told (λ refusal. is_of_question refusal ≡ false)
+  pub kept : s.is_faithful old → Keeps s old new
+
+-- so many questions were made, whatever it said
+pub said_moves : {S Q A : Type 0} (s : SideOf S) (kind : Kind Q A) (qs : List Q) (left : ℕ) (told : Result (List (Result A Refusal)) Refusal) (old new : S) → Said s kind (take left qs) told old new → Moves s (length qs) left old new
+said_moves s kind qs left (Ok ts) old new said = let n = length-take left qs in record { asked = length (take left qs); few = omega (arith, n); within = omega (arith, n); follows = said.answered.count; kept = said.kept }
+said_moves s kind qs left (Err refusal) old new said =
+    let n = length-take left qs in
+    let few = said.ended.count.1 in
+    record { asked = said.ended.count.0; few = omega (arith, n, few); within = omega (arith, n, few); follows = said.ended.count.2; kept = said.kept }
 
 -- ---- the end of some questions, of which as many were asked as were left
 
@@ -197,24 +224,38 @@ module _ {S Q : Type 0} (s : SideOf S) (qs : List Q) (left left' taken : ℕ) (o
       → ((q : Q) (a : A) (b : B) → In q → kind.right q a → IsOf a b → Right q b)
       → ((q : Q) (a : A) → In q → kind.right q a → IsNone a → ⊥)
       → ((q : Q) (refusal : Refusal) → In q → kind.refuses q refusal → is_of_question refusal ≡ false)
-      → (s.is_faithful old → kind.was_faithful) → (s.is_faithful old → Keeps s old new) → Each In qs
-      → (told : Result (Vec (Result A Refusal) Global) Refusal) → IfOk told (λ ts. Asked (manner s.follows s.can_refuse s.can_answer) kind (take taken qs) ts.items old new)
-      → IfErr told (Ends s.follows s.can_refuse (length (take taken qs)) old new) → (s.is_faithful old → IfErr told (λ refusal. is_of_question refusal ≡ false))
-      → (result : Result (Vec B Global) Refusal) → ReadsAll IsOf IsNone told taken (length qs) result → ReadOrEnded s qs left left' old new May Right result
-  read_told kind In IsOf IsNone May Right may right never apart was keeps each (Ok told) asked ends not_of_question (Ok read) it =
-      let here = each-take In qs taken each in (
-        answered_all May Right read.items it.1 asked.count (passed In kind.may _ _ IsOf May (λ q a b _ m h i. may q a b m h i) _ _ _ here asked.may asked.told it.0)
-            (λ t. (keeps t, passed In kind.right _ _ IsOf Right (λ q a b i r _ o. right q a b i r o) _ _ _ here (asked.right (was t)) asked.told it.0)),
+      → (s.is_faithful old → kind.was_faithful) → Each In qs
+      → (told : Result (List (Result A Refusal)) Refusal) → Said s kind (take taken qs) told old new
+      → (share : Share) → share.asked ≡ taken → (result : Result (Vec B Global) Refusal) → share.wanted ≡ length qs → IsRead IsOf IsNone told share result → ReadOrEnded s qs left left' old new May Right result
+  read_told kind In IsOf IsNone May Right may right never apart was each (Ok told) said share is (Ok read) wanted it =
+      let here = each-take In qs taken each in
+      let asked = said.answered in
+      let w = it.whole in
+      let same : it.answers ≡ told = let e = it.is in cc in
+      let made = subst (λ ts. ForEach (PassesFault IsOf) ts read.items) same it.each in (
+        answered_all May Right read.items (omega (arith, w, is, wanted)) asked.count (passed In kind.may _ _ IsOf May (λ q a b _ m h i. may q a b m h i) _ _ _ here asked.may asked.told made)
+            (λ t. (said.kept t, passed In kind.right _ _ IsOf Right (λ q a b i r _ o. right q a b i r o) _ _ _ here (asked.right (was t)) asked.told made)),
         tt,
       )
-  read_told kind In IsOf IsNone May Right may right never apart was keeps each (Ok told) asked ends not_of_question (Err refusal) (inl made) =
-      let here = each-take In qs taken each in (
+  read_told kind In IsOf IsNone May Right may right never apart was each (Ok told) said share is (Err refusal) wanted (refused e) = absurd (cc)
+  read_told kind In IsOf IsNone May Right may right never apart was each (Ok told) said share is (Err refusal) wanted (of_number answers e other bad) =
+      let same : answers ≡ told = cc in
+      absurd (other (ap length same ∙ as_many kind.may (take taken qs) told said.answered.may ∙ asked_is ∙ sym is))
+  read_told kind In IsOf IsNone May Right may right never apart was each (Ok told) said share is (Err refusal) wanted (not_of_answer answers e why) =
+      let here = each-take In qs taken each in
+      let asked = said.answered in
+      let same : answers ≡ told = cc in (
         tt,
-        ended_making (Keeps s old new) IsNone told.items refusal asked.count asked.told
-            (λ t. refused_so In kind.refuses (λ r. is_of_question r ≡ false) apart (take taken qs) told.items here (asked.not_of_question (was t)))
-            (λ t a. answer_in kind.right In (λ a. IsNone a → ⊥) never (take taken qs) told.items a here (asked.right (was t))) keeps made,
+        ended_making (Keeps s old new) IsNone told refusal asked.count asked.told
+            (λ t. refused_so In kind.refuses (λ r. is_of_question r ≡ false) apart (take taken qs) told here (asked.not_of_question (was t)))
+            (λ t a. answer_in kind.right In (λ a. IsNone a → ⊥) never (take taken qs) told a here (asked.right (was t))) said.kept (subst (λ ts. EndsMaking IsNone ts refusal) same why),
       )
-  read_told kind In IsOf IsNone May Right may right never apart was keeps each (Ok told) asked ends not_of_question (Err refusal) (inr few) =
-      (tt, ended_few (Keeps s old new) refusal few.0 few.1 asked.count keeps)
-  read_told kind In IsOf IsNone May Right may right never apart was keeps each (Err refusal) asked ends not_of_question result it =
-      subst (ReadOrEnded s qs left left' old new May Right) (sym it) (tt, ended_within (Keeps s old new) refusal ends not_of_question keeps)
+  read_told kind In IsOf IsNone May Right may right never apart was each (Ok told) said share is (Err refusal) wanted (not_of_questions answers e few bad) =
+      (tt, ended_few (Keeps s old new) refusal bad (omega (arith, few, is, wanted)) said.answered.count said.kept)
+  read_told kind In IsOf IsNone May Right may right never apart was each (Err told) said share is (Ok read) wanted it = let e = it.is in absurd (cc)
+  read_told kind In IsOf IsNone May Right may right never apart was each (Err told) said share is (Err refusal) wanted (refused e) =
+      let same : told ≡ refusal = cc in
+      (tt, ended_within (Keeps s old new) refusal (subst (Ends s.follows s.can_refuse (length (take taken qs)) old new) same said.ended) (λ t. ap is_of_question (sym same) ∙ said.not_of_question t) said.kept)
+  read_told kind In IsOf IsNone May Right may right never apart was each (Err told) said share is (Err refusal) wanted (of_number answers e other bad) = absurd (cc)
+  read_told kind In IsOf IsNone May Right may right never apart was each (Err told) said share is (Err refusal) wanted (not_of_answer answers e why) = absurd (cc)
+  read_told kind In IsOf IsNone May Right may right never apart was each (Err told) said share is (Err refusal) wanted (not_of_questions answers e few bad) = absurd (cc)

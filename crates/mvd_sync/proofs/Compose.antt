@@ -53,5 +53,13 @@ ends_for_memory s T questions left left' n old new refusal spent few follows the
   right = then;
 }
 
+-- so many questions at most were made to a side, and changed nothing
+pub record Moves {S : Type 0} (s : SideOf S) (most left : ℕ) (old new : S) : Type 0 where
+  pub asked : ℕ
+  pub few : asked ≤ most
+  pub within : asked ≤ left
+  pub follows : s.follows asked old new
+  pub kept : s.is_faithful old → Keeps s old new
+
 pub keeps_on : {S : Type 0} (s : SideOf S) (old mid new : S) → Keeps s old mid → Keeps s mid new → Keeps s old new
 keeps_on s old mid new p q = record { still = q.still; states = q.states ∙ p.states }

@@ -29,6 +29,9 @@ use Rattle.mvd_sync.proofs.OneWindow.{ArePlanned, IsPlanned, IsState, Pulled, Wa
 use Rattle.mvd_sync.proofs.Windowed.{all_planned, distinct_keys, each_both, each_noted, facts, from_so_far, here, keys_noted, keys_of_done, local_phase, meeting_keys, not_after, pulled, same_x}
 use Rattle.mvd_sync.proofs.Positions.{JoinsBy, SoFarBy}
 
+Told : Type 0
+Told = Result (Unit {0}) Refusal
+
 by_bool : (b : Bool) (R : Type 0) → (b ≡ true → R) → (b ≡ false → R) → R
 by_bool true R f g = f refl
 by_bool false R f g = g refl

@@ -14,7 +14,7 @@ use Rattle.mvd_sync.specs.Walk.{ReadsSide, told_all}
 use Rattle.mvd_sync.specs.declared.asking.Node.{Node}
 use Rattle.mvd_sync.specs.declared.asking.Questions.{Questions}
 use Rattle.mvd_sync.specs.declared.report.SyncFault.TheVariants.{Local, Peer}
-use Rattle.mvd_sync.proofs.Compose.{answered_still}
+use Rattle.mvd_sync.proofs.Compose.{Moves, answered_still}
 use Rattle.mvd_sync.proofs.Descents.{Each-right, Each-take, descends_more, nothing_asked, reads_of, reads_on}
 use Rattle.mvd_sync.proofs.Fails.{local_fails, memory_fails, peer_fails, window_fits}
 use Rattle.mvd_sync.proofs.Keys.{Each-weaker}
@@ -45,6 +45,11 @@ none_left told paths low = (
 -- what is left of a slice, as it is taken of it
 pub rest_told : (all paths : List (List ℕ)) (told : ℕ) → all ≡ paths → take (length all - told) (drop told all) ≡ drop told paths
 rest_told all paths told is = take_all (length all - told) (drop told all) (let n = length-drop told all in omega (arith, n)) ∙ ap (drop told) is
+
+-- a descent that is done above the buckets has come to none
+pub no_buckets : (at : Level) → IsDown at → at.depth < 3 → [] ≡ at.rest
+no_buckets at (inl three) high = absurd (omega (arith, three, high))
+no_buckets at (inr none) high = sym none
 
 module _ (old : Level) (depth told count : ℕ) (paths below found : List (List ℕ)) (mine theirs : List Node)
     (view : record { depth = depth; rest = drop told paths; below = below } ≡ old) (counted : count ≡ length (take 64 (drop told paths)))
@@ -156,12 +161,18 @@ module _ {L P : Type 0} (l : SideOf L) (p : SideOf P)
     few : length s.done ≤ length (s.done ++ at.rest)
     few = let h = fits in omega (arith, h)
 
+    -- memory was refused
+    pub stands_nowhere : (refusal : Refusal) → refusal ≡ Memory → ReadsEndBy l p (λ asked. AreFewForBy l p local peer (λ most. asked ≤ 1 + 3 * most)) left local local' peer peer' (Local refusal)
+    stands_nowhere refusal is =
+        walk_ends l p on on' at.depth s.high left s.mid local s.local1 peer s.peer1 (s.done ++ at.rest) s.walks local' peer' (Local refusal)
+        (memory_fails l p (length (s.done ++ at.rest)) (length s.done) (length s.done) left'.local left'.peer s.mid s.local1 local' s.peer1 peer' s.level.local_side s.level.peer_side few few refusal is)
+
     -- the local side came to an end
-    pub stands_local_ends : at.depth < 3 → (local2 : L) (refusal : Refusal) → ComesToEnd l (Keeps l local' local2) (length (next_nodes at)) (with_left local' left'.local) local2 refusal
-        → ReadsEndBy l p (λ asked. AreFewForBy l p local peer (λ most. asked ≤ 1 + 2 * most)) left local local2 peer peer' (Local refusal)
-    stands_local_ends high local2 refusal e =
-        walk_ends l p on on' at.depth high left s.mid local s.local1 peer s.peer1 (s.done ++ at.rest) s.walks local2 peer' (Local refusal)
-        (local_fails l p (length (s.done ++ at.rest)) (length s.done) (length s.done) left'.local left'.peer s.mid s.local1 local' s.peer1 peer' s.level.local_side s.level.peer_side few few refusal on (length (next_nodes at)) local2 fits e)
+    pub stands_local_ends : (local2 : L) (peer2 : P) (refusal : Refusal) → ComesToEnd l (Keeps l local' local2) (length (next_nodes at)) (with_left local' left'.local) local2 refusal → Moves p (length (next_nodes at)) left'.peer peer' peer2
+        → ReadsEndBy l p (λ asked. AreFewForBy l p local peer (λ most. asked ≤ 1 + 3 * most)) left local local2 peer peer2 (Local refusal)
+    stands_local_ends local2 peer2 refusal e also =
+        walk_ends l p on on' at.depth s.high left s.mid local s.local1 peer s.peer1 (s.done ++ at.rest) s.walks local2 peer2 (Local refusal)
+        (local_fails l p (length (s.done ++ at.rest)) (length s.done) (length s.done) left'.local left'.peer s.mid s.local1 local' s.peer1 peer' s.level.local_side s.level.peer_side few few refusal on on' (length (next_nodes at)) local2 peer2 fits fits e also)
 
     module _ (after : Questions) (local2 : L) (mine : List Node)
         (first : ToldNodes l (next_nodes at) mine left'.local after.local local' local2) where
@@ -171,10 +182,10 @@ module _ {L P : Type 0} (l : SideOf L) (p : SideOf P)
           (reads_of l (λ _ _. HasAnswered l.follows l.can_answer local' local2) (IsInner (digests (l.states local'))) (next_nodes at) mine left'.local after.local local' local2 first)
 
       -- the peer came to an end
-      pub stands_peer_ends : at.depth < 3 → (peer2 : P) (refusal : Refusal) → ComesToEnd p (Keeps p peer' peer2) (length (next_nodes at)) (with_left peer' left'.peer) peer2 refusal
-          → ReadsEndBy l p (λ asked. AreFewForBy l p local peer (λ most. asked ≤ 1 + 2 * most)) left local local2 peer peer2 (Peer refusal)
-      stands_peer_ends high peer2 refusal e =
-          walk_ends l p on on' at.depth high left s.mid local s.local1 peer s.peer1 (s.done ++ at.rest) s.walks local2 peer2 (Peer refusal)
+      pub stands_peer_ends : (peer2 : P) (refusal : Refusal) → ComesToEnd p (Keeps p peer' peer2) (length (next_nodes at)) (with_left peer' left'.peer) peer2 refusal
+          → ReadsEndBy l p (λ asked. AreFewForBy l p local peer (λ most. asked ≤ 1 + 3 * most)) left local local2 peer peer2 (Peer refusal)
+      stands_peer_ends peer2 refusal e =
+          walk_ends l p on on' at.depth s.high left s.mid local s.local1 peer s.peer1 (s.done ++ at.rest) s.walks local2 peer2 (Peer refusal)
           (peer_fails l p (length (s.done ++ at.rest)) (length s.done + length (next_nodes at)) (length s.done) after.local left'.peer s.mid s.local1 local2 s.peer1 peer' read_mine s.level.peer_side fits few refusal on' (length (next_nodes at)) peer2 fits e)
 
       module _ (peer2 : P) (theirs : List Node)
@@ -185,9 +196,9 @@ module _ {L P : Type 0} (l : SideOf L) (p : SideOf P)
             (reads_of p (λ _ _. HasAnswered p.follows p.can_answer peer' peer2) (IsInner (digests (p.states peer'))) (next_nodes at) theirs left'.peer after.peer peer' peer2 second)
 
         -- memory was refused for the children
-        pub stands_memory_ends : at.depth < 3 → (refusal : Refusal) → refusal ≡ Memory → ReadsEndBy l p (λ asked. AreFewForBy l p local peer (λ most. asked ≤ 1 + 2 * most)) left local local2 peer peer2 (Local refusal)
-        stands_memory_ends high refusal is =
-            walk_ends l p on on' at.depth high left s.mid local s.local1 peer s.peer1 (s.done ++ at.rest) s.walks local2 peer2 (Local refusal)
+        pub stands_memory_ends : (refusal : Refusal) → refusal ≡ Memory → ReadsEndBy l p (λ asked. AreFewForBy l p local peer (λ most. asked ≤ 1 + 3 * most)) left local local2 peer peer2 (Local refusal)
+        stands_memory_ends refusal is =
+            walk_ends l p on on' at.depth s.high left s.mid local s.local1 peer s.peer1 (s.done ++ at.rest) s.walks local2 peer2 (Local refusal)
             (memory_fails l p (length (s.done ++ at.rest)) (length s.done + length (next_nodes at)) (length s.done + length (next_nodes at)) after.local after.peer s.mid s.local1 local2 s.peer1 peer2 read_mine read_theirs fits fits refusal is)
 
         level_more : DescendsBy l p (s.done ++ next_nodes at) s.mid after s.local1 local2 s.peer1 peer2 (found_by at mine theirs)

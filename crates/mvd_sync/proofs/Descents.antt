@@ -195,3 +195,6 @@ module _ {L P : Type 0} (l : SideOf L) (p : SideOf P)
               let other = subst (λ m. ForEach (IsInner (digests m)) window theirs) j.states (second.right j.still).right in
               (λ i. before.is u v i ++ told_all-is a b window mine theirs own other i) ∙ sym (differing_children-append a b done window);
         }
+
+    pub descends_on : (all : List (List ℕ)) → all ≡ below ++ told_all window mine theirs → DescendsBy l p (done ++ window) left left' local local2 peer peer2 all
+    descends_on all e = subst (DescendsBy l p (done ++ window) left left' local local2 peer peer2) (sym e) descends_more

@@ -1,6 +1,6 @@
 -- What the keys of a window come to, at each of its ends.
 use Rattle.std.proofs.Common.{◌≡◌, ℕ, ◌+◌, ◌*◌, ◌≤◌, List, [], ◌∷◌, ◌++◌, length, map, filter_map, refl, sym, ap, subst, ◌∙◌, arith, false, Option, le-ltb}
-use Rattle.std.specs.Prelude.{Result, Ok, Err, Vec, take}
+use Rattle.std.specs.Prelude.{Result, Ok, Err, take}
 use Rattle.mvd_dots.specs.declared.refusals.Refusal.{Refusal}
 use Rattle.mvd_dots.specs.declared.refusals.Refusal.TheVariants.{Broken}
 use Rattle.mvd_keys.specs.State.{State, empty_state}
@@ -49,9 +49,9 @@ all_of_key (p ∷ ps) (t ∷ ts) h = (h.0, all_of_key ps ts h.1)
 
 module _ {L P : Type 0} (l : SideOf L) (p : SideOf P) (number : Option ℕ) (entries : List Entry) where
   -- the questions about the keys came to an end
-  pub ends_at_plans : {A : Type 0} (left left' : Questions) (local local' : L) (peer peer' : P) (fault : SyncFault) → ReadsEndBy l p (λ asked. asked ≤ length entries) left local local' peer peer' fault
-      → ExchangesAllBy {A = A} l p number entries left left' local local' peer peer' (Err fault)
-  ends_at_plans {A} left left' local local' peer peer' fault e = record {
+  pub ends_at_plans : (left left' : Questions) (local local' : L) (peer peer' : P) (fault : SyncFault) → ReadsEndBy l p (λ asked. asked ≤ length entries) left local local' peer peer' fault
+      → ExchangesAllBy l p number entries left left' local local' peer peer' (Err fault)
+  ends_at_plans left left' local local' peer peer' fault e = record {
     course = course_of_end l p (λ asked. asked ≤ length entries) left local local' peer peer' fault e;
     spent = tt;
     few = (let few = e.few.0 in omega (arith, few), let few = e.few.1 in omega (arith, few));
@@ -95,9 +95,9 @@ module _ {L P : Type 0} (l : SideOf L) (p : SideOf P) (number : Option ℕ) (ent
     no_pulls silent = pulls l p number entries left left1 local local1 peer peer1 ms plan (λ _ _. ⊥) (λ k s h. silent_gives p.follows p.can_answer peer peer1 (p.can_give k s) silent h)
 
     -- the local side came to an end
-    pub ends_at_local : {A : Type 0} → (left' : Questions) (local2 : L) (refusal : Refusal) → ComesToEnd l (TakesInFirst l pairs_l local1 local2 refusal) (length pairs_l) (with_left local1 left1.local) local2 refusal → (pairs_l ≡ [] → local2 ≡ local1)
-        → ExchangesAllBy {A = A} l p number entries left left' local local2 peer peer1 (Err (Local refusal))
-    ends_at_local {A} left' local2 refusal e alone = record {
+    pub ends_at_local : (left' : Questions) (local2 : L) (refusal : Refusal) → ComesToEnd l (TakesInFirst l pairs_l local1 local2 refusal) (length pairs_l) (with_left local1 left1.local) local2 refusal → (pairs_l ≡ [] → local2 ≡ local1)
+        → ExchangesAllBy l p number entries left left' local local2 peer peer1 (Err (Local refusal))
+    ends_at_local left' local2 refusal e alone = record {
       course = record {
         asked_local = n_l + e.asked;
         asked_peer = n_p;
@@ -109,9 +109,9 @@ module _ {L P : Type 0} (l : SideOf L) (p : SideOf P) (number : Option ℕ) (ent
         local_side = λ t.
             let k = keep_l t in
             let took = e.right k.still in
-            changes_first {A = Vec Meeting A} (l.is_faithful local2) Local p.can_give (l.states local) (l.states local2) refusal took.still
+            changes_first {A = List Meeting} (l.is_faithful local2) Local p.can_give (l.states local) (l.states local2) refusal took.still
             (λ u. subst (λ m. ComesByPushes p.can_give m (l.states local2)) k.states (comes_first l p.can_give pairs_l from_p local1 local2 refusal took u));
-        peer_side = λ t. let k = keep_p t in changes_none {A = Vec Meeting A} (p.is_faithful peer1) (Peer Broken) l.can_give (p.states peer) (p.states peer1) (Err (Local refusal)) k.still k.states;
+        peer_side = λ t. let k = keep_p t in changes_none {A = List Meeting} (p.is_faithful peer1) (Peer Broken) l.can_give (p.states peer) (p.states peer1) (Err (Local refusal)) k.still k.states;
         beside_local = λ _ t. let k = keep_p t in (k.still, k.states);
         beside_peer = λ silent t.
             let k = keep_l t in
@@ -191,9 +191,9 @@ module _ {L P : Type 0} (l : SideOf L) (p : SideOf P) (number : Option ℕ) (ent
       beside_l t silent = ((took_l t).still, pushed_none (l.states local) (l.states local2) (comes_l (λ _ _. ⊥) (no_pulls silent) t))
 
       -- the peer came to an end
-      pub ends_at_peer : {A : Type 0} → (left' : Questions) (peer2 : P) (refusal : Refusal) → ComesToEnd p (TakesInFirst p (filter_map (pushed_pair AtPeer) ms1) peer1 peer2 refusal) (length (filter_map (pushed_pair AtPeer) ms1)) (with_left peer1 left1.peer) peer2 refusal
-          → (filter_map (pushed_pair AtPeer) ms1 ≡ [] → peer2 ≡ peer1) → ExchangesAllBy {A = A} l p number entries left left' local local2 peer peer2 (Err (Peer refusal))
-      ends_at_peer {A} left' peer2 refusal e' alone =
+      pub ends_at_peer : (left' : Questions) (peer2 : P) (refusal : Refusal) → ComesToEnd p (TakesInFirst p (filter_map (pushed_pair AtPeer) ms1) peer1 peer2 refusal) (length (filter_map (pushed_pair AtPeer) ms1)) (with_left peer1 left1.peer) peer2 refusal
+          → (filter_map (pushed_pair AtPeer) ms1 ≡ [] → peer2 ≡ peer1) → ExchangesAllBy l p number entries left left' local local2 peer peer2 (Err (Peer refusal))
+      ends_at_peer left' peer2 refusal e' alone =
           let e : ComesToEnd p (TakesInFirst p pairs_p peer1 peer2 refusal) (length pairs_p) (with_left peer1 left1.peer) peer2 refusal = subst (λ qs. ComesToEnd p (TakesInFirst p qs peer1 peer2 refusal) (length qs) (with_left peer1 left1.peer) peer2 refusal) same_pairs e' in
           record {
             course = record {
@@ -204,11 +204,11 @@ module _ {L P : Type 0} (l : SideOf L) (p : SideOf P) (number : Option ℕ) (ent
               within = (let a = spent_l in omega (arith, a), let a = plan.from_peer.spent in let b = e.within in omega (arith, a, b));
               follows = (follows_l, on' n_p e.asked peer peer1 peer2 plan.from_peer.follows e.follows);
               cause = blames_later p on' left.peer left1.peer n_p peer peer1 peer2 plan.from_peer.spent plan.from_peer.follows (λ t. (keep_p t).still) e.asked e.wanted refusal e.cause;
-              local_side = λ t. changes_by {A = Vec Meeting A} (l.is_faithful local2) (Local Broken) p.can_give (l.states local) (l.states local2) (Err (Peer refusal)) (took_l t).still (comes_l p.can_give from_p t);
+              local_side = λ t. changes_by {A = List Meeting} (l.is_faithful local2) (Local Broken) p.can_give (l.states local) (l.states local2) (Err (Peer refusal)) (took_l t).still (comes_l p.can_give from_p t);
               peer_side = λ t.
                   let k = keep_p t in
                   let took = e.right k.still in
-                  changes_first {A = Vec Meeting A} (p.is_faithful peer2) Peer l.can_give (p.states peer) (p.states peer2) refusal took.still
+                  changes_first {A = List Meeting} (p.is_faithful peer2) Peer l.can_give (p.states peer) (p.states peer2) refusal took.still
                   (λ u. subst (λ m. ComesByPushes l.can_give m (p.states peer2)) k.states (comes_first p l.can_give pairs_p from_l peer1 peer2 refusal took u));
               beside_local = λ silent t.
                   let k = keep_p t in
@@ -236,17 +236,17 @@ module _ {L P : Type 0} (l : SideOf L) (p : SideOf P) (number : Option ℕ) (ent
           }
 
       -- the peer took what it was to take, too
-      pub all_done : {A : Type 0} → Each IsHeldByEither entries → (left' : Questions) (peer2 : P) (made : Vec Meeting A) → left'.local ≡ left2 → Carried p AtPeer ms1 made.items (with_left peer1 left1.peer) (with_left peer2 left'.peer)
-          → ExchangesAllBy {A = A} l p number entries left left' local local2 peer peer2 (Ok made)
-      all_done {A} held left' peer2 made same_left d' =
-          let d : Carried p AtPeer after made.items (with_left peer1 left1.peer) (with_left peer2 left'.peer) = subst (λ m. Carried p AtPeer m made.items (with_left peer1 left1.peer) (with_left peer2 left'.peer)) c.is d' in
+      pub all_done : Each IsHeldByEither entries → (left' : Questions) (peer2 : P) (made : List Meeting) → left'.local ≡ left2 → Carried p AtPeer ms1 made (with_left peer1 left1.peer) (with_left peer2 left'.peer)
+          → ExchangesAllBy l p number entries left left' local local2 peer peer2 (Ok made)
+      all_done held left' peer2 made same_left d' =
+          let d : Carried p AtPeer after made (with_left peer1 left1.peer) (with_left peer2 left'.peer) = subst (λ m. Carried p AtPeer m made (with_left peer1 left1.peer) (with_left peer2 left'.peer)) c.is d' in
           let took_p : p.is_faithful peer → TakesIn p pairs_p d.told peer1 peer2 = λ t. d.answered.right (keep_p t).still in
           let comes_p : (C : List ℕ → State → Type 0) → Each (λ q. C q.0 q.1 × Rattle.mvd_keys.specs.State.IsValid q.1) pairs_p → (t : p.is_faithful peer) → ComesByPushes C (p.states peer) (p.states peer2)
           = λ C good t. subst (λ m. ComesByPushes C m (p.states peer2)) (keep_p t).states (comes_all p C pairs_p good peer1 peer2 d.told (took_p t)) in
           let spent_p = plan.from_peer.spent in
           let spent_p' = d.answered.spent in
           let spent : left.local ≡ left'.local + asked_l = let a = spent_l in omega (arith, a, same_left) in
-          let keys : meeting_keys made.items ≡ keys_next entries = ap meeting_keys d.is ∙ keys_noted AtPeer after d.told ∙ keys_noted AtLocal ms c.told ∙ plan_keys number entries plan.mine plan.theirs ms plan.plans in
+          let keys : meeting_keys made ≡ keys_next entries = ap meeting_keys d.is ∙ keys_noted AtPeer after d.told ∙ keys_noted AtLocal ms c.told ∙ plan_keys number entries plan.mine plan.theirs ms plan.plans in
           record {
             course = record {
               asked_local = asked_l;
@@ -264,7 +264,7 @@ module _ {L P : Type 0} (l : SideOf L) (p : SideOf P) (number : Option ℕ) (ent
             spent = (spent, omega (arith, spent_p, spent_p'));
             few = (let few = few_l in omega (arith, few), let a = held_short AtPeer entries in omega (arith, a, short_p));
             least = let a = held_by_one entries held in omega (arith, a);
-            same = keys_of_done made.items ∙ keys;
+            same = keys_of_done made ∙ keys;
             meets = λ t u a b done so next.
                 let second = subst (λ m. Pushes m (p.states peer1) pairs_p d.told (p.states peer2)) (most_p n_p peer peer1 plan.from_peer.follows) (took_p u).pushes in
                 let second = subst (λ m. Pushes (p.most_keys peer) m pairs_p d.told (p.states peer2)) (keep_p u).states second in

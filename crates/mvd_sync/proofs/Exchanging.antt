@@ -1,6 +1,6 @@
 -- The keys that wait are exchanged, or one more waits.
-use Rattle.std.proofs.Common.{◌≡◌, ℕ, ◌+◌, ◌<◌, ◌≤◌, List, [], ◌∷◌, ◌++◌, length, map, refl, sym, ap, subst, ◌∙◌, arith, Option, length-append, ◌↔◌, Bool, true, false, true≢false, inl, inr}
-use Rattle.std.specs.Prelude.{◌⊎◌, Result, Ok, Err, Vec, is_some}
+use Rattle.std.proofs.Common.{◌≡◌, ◌≢◌, ℕ, Option, ◌+◌, ◌<◌, ◌≤◌, List, [], ◌∷◌, ◌++◌, length, map, refl, sym, ap, subst, ◌∙◌, arith, length-append, ◌↔◌, Bool, true, false, true≢false, inl, inr}
+use Rattle.std.specs.Prelude.{◌⊎◌, Result, Ok, Err, is_some}
 use Rattle.std.proofs.lemmas.List.{append-nil, length-map}
 use Rattle.mvd_dots.specs.declared.refusals.Refusal.{Refusal}
 use Rattle.mvd_dots.specs.declared.refusals.Refusal.TheVariants.{Broken, Memory}
@@ -10,7 +10,7 @@ use Rattle.mvd_sync.specs.Exchanges.{CountsDone, AreNext, Counts, Done, Exchangi
 use Rattle.mvd_sync.specs.Meetings.{done_of}
 use Rattle.mvd_sync.specs.Session.{AreDistinct, ChangesSide}
 use Rattle.mvd_peer.specs.Sides.{SideOf}
-use Rattle.mvd_sync.specs.Faults.{of_memory}
+use Rattle.mvd_sync.specs.Faults.{IsFaultOf, of_memory}
 use Rattle.mvd_sync.specs.declared.cursor.Entry.{Entry}
 use Rattle.mvd_sync.specs.declared.meetings.Meeting.{Meeting}
 use Rattle.mvd_sync.specs.declared.asking.Questions.{Questions}
@@ -19,17 +19,7 @@ use Rattle.mvd_sync.specs.declared.report.SyncFault.TheVariants.{Local, Peer}
 use Rattle.mvd_sync.proofs.Counting.{counts_on, given_one, left_one, one_of_two}
 use Rattle.mvd_sync.proofs.Going.{changes_none, course_ends}
 use Rattle.mvd_sync.proofs.Joined.{joins_some}
-use Rattle.mvd_sync.proofs.Positions.{ExchangesAllBy, ExchangesBy, SoFarBy}
-
--- a window of what waited
-pub window_at : {L P A : Type 0} (l : SideOf L) (p : SideOf P) (n m : Option ℕ) (es fs : List Entry) (left left' : Questions) (local local' : L) (peer peer' : P) (result : Result (Vec Meeting A) SyncFault) → n ≡ m → es ≡ fs
-    → ExchangesAllBy l p n es left left' local local' peer peer' result → ExchangesAllBy l p m fs left left' local local' peer peer' result
-window_at l p n m es fs left left' local local' peer peer' result e f h =
-    subst (λ o. ExchangesAllBy l p o fs left left' local local' peer peer' result) e (subst (λ es. ExchangesAllBy l p n es left left' local local' peer peer' result) f h)
-
--- and then none waits
-pub none_waits : (inside before : Exchanging) (waiting : List Entry) (most : ℕ) → inside ≡ before → waiting ≡ [] → record inside { waiting = waiting; most = most } ≡ record before { waiting = []; most = most }
-none_waits inside before waiting most e f = λ i. record (e i) { waiting = f i; most = most }
+use Rattle.mvd_sync.proofs.Positions.{BlamesBy, ExchangesAllBy, ExchangesBy, SoFarBy}
 
 -- each key counts once
 pub all_count : (ds : List Done) → length (given_keys ds) + length (left_keys ds) ≡ length ds
@@ -52,13 +42,44 @@ as_many ms es h =
     let d = ap length h in
     omega (arith, a, b, c, d)
 
+-- memory was refused to the session itself
+no_memory : (local peer : Refusal → Type 0) → local Memory → (fault : SyncFault) → fault ≡ Local Memory → IsFaultOf local peer fault
+no_memory local peer why fault is = subst (IsFaultOf local peer) (sym is) why
+
 -- a change that ends by another fault
 changes_still : {A B : Type 0} (T : Type 0) (broken : SyncFault) (C : List ℕ → State → Type 0) (old new : States) (x : A) (fault : SyncFault) → ChangesSide T broken C old new (Ok x) → ChangesSide {A = B} T broken C old new (Err fault)
 changes_still T broken C old new x fault c = record { after_ok = tt; after_fault = λ _. c.after_ok; pushes = c.pushes }
 
-module _ {L P : Type 0} (l : SideOf L) (p : SideOf P) {A B : Type 0} (next : List Entry) (left left' : Questions) (local local' : L) (peer peer' : P) (before after : Exchanging) where
+-- a change that ends by want of memory, whose ever it was
+memory_of : {A : Type 0} (T : Type 0) (side : Refusal → SyncFault) (C : List ℕ → State → Type 0) (old new : States) → (Peer Memory ≢ side Broken) → ChangesSide {A = A} T (side Broken) C old new (Err (Peer Memory)) → ChangesSide {A = A} T (side Broken) C old new (Err (Local Memory))
+memory_of T side C old new other c = record { after_ok = tt; after_fault = λ _. c.after_fault other; pushes = c.pushes }
+
+-- the session itself ended for want of memory in the turn of the peer
+pub all_of_memory : {L P : Type 0} (l : SideOf L) (p : SideOf P) (number : Option ℕ) (entries : List Entry) (left left' : Questions) (local local' : L) (peer peer' : P) → ExchangesAllBy l p number entries left left' local local' peer peer' (Err (Peer Memory)) → ExchangesAllBy l p number entries left left' local local' peer peer' (Err (Local Memory))
+all_of_memory l p number entries left left' local local' peer peer' e = record {
+  course = record {
+    asked_local = e.course.asked_local;
+    asked_peer = e.course.asked_peer;
+    wanted_local = e.course.wanted_local;
+    wanted_peer = e.course.wanted_peer;
+    within = e.course.within;
+    follows = e.course.follows;
+    cause = of_memory refl;
+    local_side = λ t. memory_of {A = List Meeting} (l.is_faithful local') Local p.can_give (l.states local) (l.states local') (λ same. absurd (cc)) (e.course.local_side t);
+    peer_side = λ t. memory_of {A = List Meeting} (p.is_faithful peer') Peer l.can_give (p.states peer) (p.states peer') (λ same. absurd (cc)) (e.course.peer_side t);
+    beside_local = e.course.beside_local;
+    beside_peer = e.course.beside_peer;
+  };
+  spent = tt;
+  few = e.few;
+  least = tt;
+  same = tt;
+  meets = e.meets;
+}
+
+module _ {L P : Type 0} (l : SideOf L) (p : SideOf P) {B : Type 0} (next : List Entry) (left left' : Questions) (local local' : L) (peer peer' : P) (before after : Exchanging) where
   -- the window came to an end
-  pub exchanges_end : (fault : SyncFault) → after.number ≡ before.number → ExchangesAllBy {A = A} l p before.number next left left' local local' peer peer' (Err fault) → ExchangesBy {A = B} l p next left left' local local' peer peer' before after (Err fault)
+  pub exchanges_end : (fault : SyncFault) → after.number ≡ before.number → ExchangesAllBy l p before.number next left left' local local' peer peer' (Err fault) → ExchangesBy {A = B} l p next left left' local local' peer peer' before after (Err fault)
   exchanges_end fault number e = record {
     course = course_ends l p left local local' peer peer' fault e.course;
     spent = tt;
@@ -71,41 +92,14 @@ module _ {L P : Type 0} (l : SideOf L) (p : SideOf P) {A B : Type 0} (next : Lis
     meets = λ t u a b done so counts more. e.meets t u a b done so more;
   }
 
-  module _ (made : Vec Meeting A) (e : ExchangesAllBy {A = A} l p before.number next left left' local local' peer peer' (Ok made)) where
-    -- memory was refused for the names of the keys
-    pub exchanges_memory : (refusal : Refusal) → refusal ≡ Memory → after.number ≡ before.number → ExchangesBy {A = B} l p next left left' local local' peer peer' before after (Err (Local refusal))
-    exchanges_memory refusal is number = record {
-      course = record {
-        asked_local = e.course.asked_local;
-        asked_peer = e.course.asked_peer;
-        wanted_local = e.course.wanted_local;
-        wanted_peer = e.course.wanted_peer;
-        within = e.course.within;
-        follows = e.course.follows;
-        cause = of_memory is;
-        local_side = λ t. changes_still {B = B} (l.is_faithful local') (Local Broken) p.can_give (l.states local) (l.states local') made (Local refusal) (e.course.local_side t);
-        peer_side = λ t. changes_still {B = B} (p.is_faithful peer') (Peer Broken) l.can_give (p.states peer) (p.states peer') made (Local refusal) (e.course.peer_side t);
-        beside_local = e.course.beside_local;
-        beside_peer = e.course.beside_peer;
-      };
-      spent = tt;
-      few = e.few;
-      fewer = tt;
-      calm = tt;
-      room = tt;
-      short = λ _. tt;
-      same = number;
-      meets = λ t u a b done so counts more.
-          joins_some (l.most_keys local) (p.most_keys peer) a b (l.states local') (p.states peer') before.number (l.is_faithful local') (p.is_faithful peer') (done ++ map done_of made.items) (e.meets t u a b done so more).0;
-    }
-
+  module _ (made : List Meeting) (e : ExchangesAllBy l p before.number next left left' local local' peer peer' (Ok made)) where
     -- all are exchanged, and counted
-    pub exchanges_all : (x : B) (most : ℕ) → CountsDone (map done_of made.items) (record before { waiting = []; most = most }) after → ExchangesBy {A = B} l p next left left' local local' peer peer' before after (Ok x)
+    pub exchanges_all : (x : B) (most : ℕ) → CountsDone (map done_of made) (record before { waiting = []; most = most }) after → ExchangesBy {A = B} l p next left left' local local' peer peer' before after (Ok x)
     exchanges_all x most adds =
-        let now = map done_of made.items in
+        let now = map done_of made in
         let count = all_count now in
-        let long = length-map made.items done_of in
-        let many = as_many made.items next e.same in
+        let long = length-map made done_of in
+        let many = as_many made next e.same in
         let none = ap length adds.waiting in
         let least = e.least in
         let spent = e.spent in
@@ -144,50 +138,35 @@ module _ {L P : Type 0} (l : SideOf L) (p : SideOf P) {A B : Type 0} (next : Lis
         }
 
 module _ {L P : Type 0} (l : SideOf L) (p : SideOf P) {B : Type 0} (next : List Entry) (left left' : Questions) (local local' : L) (peer peer' : P) (before after : Exchanging) where
-  -- from keys that waited before
-  pub exchanges_from : (mid : Exchanging) (result : Result B SyncFault) → mid ≡ record before { waiting = next } → ExchangesBy {A = B} l p mid.waiting left left' local local' peer peer' mid after result → ExchangesBy {A = B} l p next left left' local local' peer peer' before after result
-  exchanges_from mid result is h =
-      let e : ExchangesBy {A = B} l p next left left' local local' peer peer' (record before { waiting = next }) after result
-      = subst (λ (m : Exchanging). ExchangesBy {A = B} l p m.waiting left left' local local' peer peer' m after result) is h in
-      record {
-        course = e.course;
-        spent = e.spent;
-        few = e.few;
-        fewer = e.fewer;
-        calm = e.calm;
-        room = e.room;
-        short = e.short;
-        same = e.same;
-        meets = λ t u a b done so counts more. e.meets t u a b done so (record { keys = counts.keys; refused = counts.refused; first_refused = counts.first_refused; older = counts.older }) more;
-      }
-
-module _ {L P : Type 0} (l : SideOf L) (p : SideOf P) {B : Type 0} (self : (s : L) → l.follows 0 s s) (self' : (s : P) → p.follows 0 s s) (next : List Entry) (left : Questions) (local : L) (peer : P) (before after : Exchanging) where
-  -- memory was refused for one more
-  pub exchanges_none : (refusal : Refusal) → refusal ≡ Memory → after.number ≡ before.number → ExchangesBy {A = B} l p next left left local local peer peer before after (Err (Local refusal))
-  exchanges_none refusal is number = record {
+  -- memory was refused after it
+  pub exchanges_stop : (x : B) (fault : SyncFault) → fault ≡ Local Memory → ExchangesBy l p next left left' local local' peer peer' before after (Ok x) → ExchangesBy {A = B} l p next left left' local local' peer peer' before after (Err fault)
+  exchanges_stop x fault is e = record {
     course = record {
-      asked_local = 0;
-      asked_peer = 0;
-      wanted_local = 0;
-      wanted_peer = 0;
-      within = (omega arith, omega arith);
-      follows = (self local, self' peer);
-      cause = of_memory is;
-      local_side = λ t. changes_none {A = B} (l.is_faithful local) (Local Broken) p.can_give (l.states local) (l.states local) (Err (Local refusal)) t refl;
-      peer_side = λ t. changes_none {A = B} (p.is_faithful peer) (Peer Broken) l.can_give (p.states peer) (p.states peer) (Err (Local refusal)) t refl;
-      beside_local = λ _ t. (t, refl);
-      beside_peer = λ _ t. (t, refl);
+      asked_local = e.course.asked_local;
+      asked_peer = e.course.asked_peer;
+      wanted_local = e.course.wanted_local;
+      wanted_peer = e.course.wanted_peer;
+      within = e.course.within;
+      follows = e.course.follows;
+      cause = no_memory (BlamesBy l left.local e.course.asked_local e.course.wanted_local local local') (BlamesBy p left.peer e.course.asked_peer e.course.wanted_peer peer peer') (of_memory refl) fault is;
+      local_side = λ t. changes_still {B = B} (l.is_faithful local') (Local Broken) p.can_give (l.states local) (l.states local') x fault (e.course.local_side t);
+      peer_side = λ t. changes_still {B = B} (p.is_faithful peer') (Peer Broken) l.can_give (p.states peer) (p.states peer') x fault (e.course.peer_side t);
+      beside_local = e.course.beside_local;
+      beside_peer = e.course.beside_peer;
     };
     spent = tt;
-    few = (omega arith, omega arith);
+    few = e.few;
     fewer = tt;
     calm = tt;
     room = tt;
     short = λ _. tt;
-    same = number;
-    meets = λ t u a b done so counts more. joins_some (l.most_keys local) (p.most_keys peer) a b (l.states local) (p.states peer) before.number (l.is_faithful local) (p.is_faithful peer) done so;
+    same = e.same;
+    meets = λ t u a b done so counts more.
+        let g = e.meets t u a b done so counts more in
+        joins_some (l.most_keys local) (p.most_keys peer) a b (l.states local') (p.states peer') before.number (l.is_faithful local') (p.is_faithful peer') (done ++ g.now) g.so_far;
   }
 
+module _ {L P : Type 0} (l : SideOf L) (p : SideOf P) {B : Type 0} (self : (s : L) → l.follows 0 s s) (self' : (s : P) → p.follows 0 s s) (next : List Entry) (left : Questions) (local : L) (peer : P) (before after : Exchanging) where
   -- one more waits
   pub exchanges_later : (x : B) → after ≡ record before { waiting = next } → length next < 1000 → ExchangesBy {A = B} l p next left left local local peer peer before after (Ok x)
   exchanges_later x is low =

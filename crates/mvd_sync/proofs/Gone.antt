@@ -141,6 +141,10 @@ pub each_keys : (P : Key → Type 0) (es : List Entry) → Each (λ e. P e.key) 
 each_keys P [] h = tt
 each_keys P (e ∷ es) h = (h.0, each_keys P es h.1)
 
+or_false : (b : Bool) → (b || false) ≡ b
+or_false true = refl
+or_false false = refl
+
 or_true : (a b : Bool) → b ≡ true → (a || b) ≡ true
 or_true true b h = refl
 or_true false b h = h

@@ -27,7 +27,6 @@ pub mod ToldPages
 pub mod Paging
 pub mod OneWindow
 pub mod Counting
-pub mod Carrying
 pub mod Joined
 pub mod Windowed
 pub mod Planning
@@ -43,4 +42,11 @@ pub mod Reported
 pub mod Sessions
 pub mod Machined
 pub mod Stepping
-pub mod Ran
+pub mod Said
+pub mod Turning
+pub mod Amid
+pub mod AmidAlone
+pub mod AmidSaid
+pub mod AmidHears
+pub mod Courses
+pub mod Refusing

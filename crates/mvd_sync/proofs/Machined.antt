@@ -386,6 +386,9 @@ asks_fits left work (Carries walk turn count) q f = f
 asks_fits left work Done q f = f
 asks_fits left work (Failed fault) q f = absurd q
 
+pub asks_stands : (left : Questions) (work : Exchanging) (stage : Stage) → StageAsks stage → IsFit left work stage → StageStands stage
+asks_stands left work stage q f = (asks_fits left work stage q f).stands
+
 pub hears_fit : (left : Questions) (work : Exchanging) (stage : Stage) (answers : Answers) (left' : Questions) (work' : Exchanging) (result : Result Stage SyncFault)
     → StageHears left work stage answers left' work' result → IsFit left work stage → IsFit left' work' (stage_after result)
 hears_fit left work stage answers left' work' (Err fault) h fit = tt
@@ -395,6 +398,18 @@ hears_fit left work stage answers left' work' (Ok stage') (hears shares asks tak
     fit_of left' work' stage' (heard_fit left work stage answers left' work' stage' shares (asks_fits left work stage asks fit) takes at)
 
 -- ---- tests
+
+pub quiet_pages : (b : Bool) (qs : List PageQuestion) → (b ≡ true) ↔ (qs ≢ []) → (not b ≡ true) ↔ (qs ≡ [])
+quiet_pages true qs is = (λ never. absurd (cc), λ none. absurd (is.0 refl none))
+quiet_pages false qs is = (λ _. quiet_if false qs is refl, λ _. refl)
+
+pub quiet_turn : (b : Bool) (n m : ℕ) → (b ≡ true) ↔ (n < m) → (not b ≡ true) ↔ (m ≤ n)
+quiet_turn true n m is = (λ never. absurd (cc), λ low. let h = is.0 refl in absurd (omega (arith, h, low)))
+quiet_turn false n m is = (λ _. elim (cases_lt n m) [ inl less ↦ (let h = is.1 less in absurd (cc)) | inr more ↦ more ], λ _. refl)
+
+pub not_so : (b : Bool) (P : Type 0) → (b ≡ true) ↔ P → (not b ≡ true) ↔ (P → ⊥)
+not_so true P is = (λ never. absurd (cc), λ no. absurd (no (is.0 refl)))
+not_so false P is = (λ _ p. (let h = is.1 p in absurd (cc)), λ _. refl)
 
 -- what does not go on without a question asks one, unless it is done or has failed
 pub asks_of : (stage : Stage) → (IsQuiet stage → ⊥) → stage ≢ Done → ((fault : SyncFault) → stage ≢ Failed fault) → StageAsks stage
@@ -414,6 +429,18 @@ pub asks_short : (level : Level) → (IsDown level → ⊥) → StageStands (Des
 asks_short level loud s =
     let high = asks_high level loud in
     Each-weaker (λ path. length path ≡ level.depth) (λ path. length path < 3) (λ path e. omega (arith, e, high)) (next_nodes level) (Each-take (λ path. length path ≡ level.depth) 64 level.rest s.0)
+
+amid_of : (b : Option Bucket) (e : Option Entry) (rest : List (List ℕ)) → ((b ≡ None) × (rest ≡ []) → ⊥) → pages_next b e rest ≡ [] → (b ≢ None) × (e ≡ None)
+amid_of None e rest more none = absurd (more (refl, no_window rest none))
+amid_of (Some b) None rest more none = (λ is. absurd (cc), refl)
+amid_of (Some b) (Some e) rest more none = absurd (cc)
+
+-- a walk that is not done and asks nothing is amid a bucket
+pub amid_bucket : (walk : Walking) → (IsWalked walk → ⊥) → pages_next walk.bucket walk.entry walk.rest ≡ [] → (walk.bucket ≢ None) × (walk.entry ≡ None)
+amid_bucket walk more none = amid_of walk.bucket walk.entry walk.rest more none
+
+pub goes_found : (walk : Walking) (found : Option Entry) (walk' : Walking) → walk.entry ≡ None → GoesTo walk found walk' → IfSome found IsHeldByEither
+goes_found walk found walk' none g = (goes_held walk found walk' g (subst IsHeld (sym none) tt)).0
 
 pub told_found : (walk : Walking) (mine theirs : List ListingValue) (found : Option Entry) (walk' : Walking) → IfSome walk.entry IsHeldByEither → IsTold walk mine theirs found walk' → IfSome found IsHeldByEither
 told_found walk mine theirs found walk' held told = (told_held walk mine theirs found walk' told held).0
@@ -456,6 +483,10 @@ alone_never work (Failed f) work' stage' fault never failed = absurd never
 failed_before : (work : Exchanging) (stage : Stage) {work' : Exchanging} {stage' : Stage} (fault : SyncFault) → StageWent work stage work' stage' → stage' ≡ Failed fault → stage ≡ Failed fault
 failed_before work stage fault (here work' stage' same is) failed = sym is ∙ failed
 failed_before work stage fault (on mid work' stage1 stage' went q g) failed = absurd (alone_never mid stage1 work' stage' fault g failed)
+
+pub went_view : (inside at : Machining) (stage : Stage) (work' : Exchanging) (stage' : Stage) → inside ≡ at → stage ≡ inside.stage → StageWent inside.work stage work' stage' → StageWent at.work at.stage work' stage'
+went_view inside at stage work' stage' view same went =
+    subst (λ (m : Machining). StageWent m.work m.stage work' stage') view (subst (λ s. StageWent inside.work s work' stage') same went)
 
 pub next_of : (old now : Machining) (result : Result (Option Step) SyncFault) → now.left ≡ old.left → StageWent old.work old.stage now.work now.stage → (IsQuiet now.stage → ⊥) → IfOk result (AsksForNext now) → IfOk result (HasNext old now)
 next_of old now (Ok step) left went loud asks = record { left = left; went = went; loud = loud; asks = asks }

@@ -1,29 +1,30 @@
 -- Pages that both sides are asked for.
 use Rattle.std.proofs.Common.{◌≡◌, ℕ, ◌==◌, ◌&&◌, Bool, true, false, cond, List, [], ◌∷◌, length, refl, sym, ap, subst, ◌∙◌, arith, Option, Some}
-use Rattle.std.specs.Prelude.{IfErr, IfOk, Result, Ok, Err}
 use Rattle.std.specs.Ordering.{is_lt}
 use Rattle.std.specs.declared.cmp.Ordering.{Ordering}
 use Rattle.std.specs.declared.cmp.Ordering.TheVariants.{Less, Equal, Greater}
 use Rattle.std.proofs.lemmas.Bool.Decides.{nat_tests}
 use Rattle.mvd_dots.specs.declared.refusals.Refusal.{Refusal}
+use Rattle.mvd_dots.specs.declared.refusals.Refusal.TheVariants.{Memory}
 use Rattle.mvd_keys.specs.Key.{key_cmp}
 use Rattle.mvd_keys.specs.Writes.{Key}
 use Rattle.mvd_site.specs.Answer.{digests}
 use Rattle.mvd_tree.specs.HashTree.{KeyDigests}
-use Rattle.mvd_peer.specs.Sides.{SideOf, Sides, Two, two}
+use Rattle.mvd_peer.specs.Sides.{SideOf, two}
 use Rattle.mvd_peer.specs.Windows.{ForEach}
 use Rattle.mvd_sync.specs.Answers.{IsBucketPage, ListingValue, PageEntry, PageRises, StartsAfter, is_spent}
 use Rattle.mvd_sync.specs.Buckets.{IsSpent}
 use Rattle.mvd_sync.specs.Faults.{IsFaultOf, of_answer, of_memory}
 use Rattle.mvd_sync.specs.Questions.{ComesToEnd, Fills, Keeps, TellsPages, with_left}
-use Rattle.mvd_sync.specs.Session.{Asking, asking}
-use Rattle.mvd_sync.specs.Walking.{ComeAfter, EndsTelling, IsTold, PageQuestion, PagesEnd, PagesTold, TellsBoth, Walking, filled, is_asked, pages_next, pages_of, of_mine, of_theirs, of_memory as of_no_memory}
+use Rattle.mvd_sync.specs.Session.{asking}
+use Rattle.mvd_sync.specs.Walking.{ComeAfter, EndsTelling, PageQuestion, PagesEnd, Walking, filled, is_asked, pages_next, pages_of, of_mine, of_theirs, of_memory as of_no_memory}
 use Rattle.mvd_sync.specs.declared.asking.Questions.{Questions}
 use Rattle.mvd_sync.specs.declared.report.Side.TheVariants.{Local as AtLocal, Peer as AtPeer}
 use Rattle.mvd_sync.specs.declared.report.SyncFault.{SyncFault}
 use Rattle.mvd_sync.specs.declared.report.SyncFault.TheVariants.{Local, Peer}
 use Rattle.mvd_sync.specs.declared.cursor.Entry.{Entry}
 use Rattle.mvd_sync.specs.declared.walking.Bucket.{Bucket}
+use Rattle.mvd_sync.proofs.Compose.{Moves}
 use Rattle.mvd_sync.proofs.Positions.{BlamesBy}
 use Rattle.mvd_sync.proofs.ToldPages.{told_page}
 
@@ -99,21 +100,39 @@ theirs_asked at b e is waits = λ i. cond (is_asked AtPeer (is i)) (pages_next (
 -- ---- one side came to an end
 
 module _ {L P : Type 0} (l : SideOf L) (p : SideOf P) (at : Walking) (left : Questions) (local local' : L) (peer peer' : P) where
-  pub mine_end : (refusal : Refusal) → ComesToEnd l (Keeps l local local') (length (pages_of AtLocal at)) (with_left local left.local) local' refusal → p.follows 0 peer peer → PagesEnd (record { local = l; peer = p }) at (asking local peer left) (two local' peer) (Local refusal)
-  mine_end refusal e self = record {
+  pub mine_end : (refusal : Refusal) → ComesToEnd l (Keeps l local local') (length (pages_of AtLocal at)) (with_left local left.local) local' refusal → Moves p (length (pages_of AtPeer at)) left.peer peer peer' → PagesEnd (record { local = l; peer = p }) at (asking local peer left) (two local' peer') (Local refusal)
+  mine_end refusal e also = record {
     ends = record {
       asked_local = e.asked;
-      asked_peer = 0;
+      asked_peer = also.asked;
       wanted_local = e.wanted;
       wanted_peer = 0;
-      within = (e.within, omega arith);
+      within = (e.within, also.within);
       few = (tt, tt);
-      follows = (e.follows, self);
+      follows = (e.follows, also.follows);
       cause = e.cause;
       kept_local = e.right;
+      kept_peer = also.kept;
+    };
+    few = (e.few, let few = also.few in omega (arith, few));
+  }
+
+  -- memory was refused before either was asked
+  pub none_end : l.follows 0 local local → p.follows 0 peer peer → PagesEnd (record { local = l; peer = p }) at (asking local peer left) (two local peer) (Local Memory)
+  none_end self self' = record {
+    ends = record {
+      asked_local = 0;
+      asked_peer = 0;
+      wanted_local = 0;
+      wanted_peer = 0;
+      within = (omega arith, omega arith);
+      few = (tt, tt);
+      follows = (self, self');
+      cause = of_memory refl;
+      kept_local = λ t. record { still = t; states = refl };
       kept_peer = λ t. record { still = t; states = refl };
     };
-    few = (e.few, omega arith);
+    few = (omega arith, omega arith);
   }
 
   pub theirs_end : (mine : List ListingValue) (left' : ℕ) (refusal : Refusal) → TellsPages l (pages_of AtLocal at) mine (with_left local left.local) (with_left local' left')
@@ -163,12 +182,3 @@ module _ {L P : Type 0} (l : SideOf L) (p : SideOf P) (at : Walking) (left : Que
     };
     few = (omega arith, omega arith);
   }
-
--- both were told, and the walk goes on
-pub tells_both : {L P : Type 0} (s : Sides L P) (at new : Walking) (mine theirs : List ListingValue) (old after : Asking L P) (result : Result (Option Entry) SyncFault) → IfOk result (λ found. IsTold at mine theirs found new) → PagesTold s at mine theirs old after → IfOk result (λ found. TellsBoth s at found new old after)
-tells_both s at new mine theirs old after (Err fault) is told = tt
-tells_both s at new mine theirs old after (Ok found) is told = record { mine = mine; theirs = theirs; pages = told; is = is }
-
-pub told_ends : {L P : Type 0} (s : Sides L P) (at : Walking) (mine theirs : List ListingValue) (old : Asking L P) (after : Two L P) (result : Result (Option Entry) SyncFault) → IfErr result (EndsTelling at mine theirs) → ((fault : SyncFault) → EndsTelling at mine theirs fault → PagesEnd s at old after fault) → IfErr result (PagesEnd s at old after)
-told_ends s at mine theirs old after (Ok found) why then = tt
-told_ends s at mine theirs old after (Err fault) why then = then fault why

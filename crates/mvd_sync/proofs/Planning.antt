@@ -14,6 +14,7 @@ use Rattle.mvd_sync.specs.declared.asking.Questions.{Questions}
 use Rattle.mvd_sync.specs.declared.report.Side.{Side}
 use Rattle.mvd_sync.specs.declared.report.Side.TheVariants.{Local as AtLocal, Peer as AtPeer}
 use Rattle.mvd_sync.specs.declared.report.SyncFault.TheVariants.{Local, Peer}
+use Rattle.mvd_sync.proofs.Compose.{Moves}
 use Rattle.mvd_sync.proofs.Positions.{ReadsEndBy}
 
 filter_short : (Q : Entry → Bool) (es : List Entry) → length (filter Q es) ≤ length es
@@ -29,20 +30,21 @@ held_short name es =
     omega (arith, n, m)
 
 module _ {L P : Type 0} (l : SideOf L) (p : SideOf P) (entries : List Entry) (left : Questions) (local local' : L) (peer peer' : P) (refusal : Refusal) where
-  pub ends_at_local : ComesToEnd l (Keeps l local local') (length (held_keys AtLocal entries)) (with_left local left.local) local' refusal → p.follows 0 peer peer → ReadsEndBy l p (λ asked. asked ≤ length entries) left local local' peer peer (Local refusal)
-  ends_at_local e self =
+  pub ends_at_local : ComesToEnd l (Keeps l local local') (length (held_keys AtLocal entries)) (with_left local left.local) local' refusal → Moves p (length (held_keys AtPeer entries)) left.peer peer peer' → ReadsEndBy l p (λ asked. asked ≤ length entries) left local local' peer peer' (Local refusal)
+  ends_at_local e also =
       let short = held_short AtLocal entries in
+      let short' = held_short AtPeer entries in
       record {
         asked_local = e.asked;
-        asked_peer = 0;
+        asked_peer = also.asked;
         wanted_local = e.wanted;
         wanted_peer = 0;
-        few = (let few = e.few in omega (arith, few, short), omega arith);
-        within = (e.within, omega arith);
-        follows = (e.follows, self);
+        few = (let few = e.few in omega (arith, few, short), let few = also.few in omega (arith, few, short'));
+        within = (e.within, also.within);
+        follows = (e.follows, also.follows);
         cause = e.cause;
         kept_local = e.right;
-        kept_peer = λ t. record { still = t; states = refl };
+        kept_peer = also.kept;
       }
 
   pub ends_at_peer : (mine : List State) (left' : ℕ) → GivesStates l AtLocal entries mine (with_left local left.local) (with_left local' left') → ComesToEnd p (Keeps p peer peer') (length (held_keys AtPeer entries)) (with_left peer left.peer) peer' refusal → ReadsEndBy l p (λ asked. asked ≤ length entries) left local local' peer peer' (Peer refusal)

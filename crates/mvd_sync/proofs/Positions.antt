@@ -1,5 +1,5 @@
 -- The relations of a session, of sides, states and numbers one by one.
-use Rattle.std.specs.Prelude.{ℕ, List, Option, Result, Vec}
+use Rattle.std.specs.Prelude.{ℕ, List, Option, Result}
 use Rattle.mvd_dots.specs.declared.refusals.Refusal.{Refusal}
 use Rattle.mvd_keys.specs.Writes.{Key}
 use Rattle.mvd_site.specs.Held.{States}
@@ -100,7 +100,7 @@ FindsBucketsBy l p left left' local local' peer peer' = FindsBuckets (sides l p)
 abbrev pub PlannedBy : {L P : Type 0} → SideOf L → SideOf P → Option ℕ → List Entry → (left left' : Questions) (local local' : L) (peer peer' : P) → List Meeting → Type 0
 PlannedBy l p number entries left left' local local' peer peer' = Planned (sides l p) number entries (asking local peer left) (asking local' peer' left')
 
-abbrev pub ExchangesAllBy : {L P A : Type 0} → SideOf L → SideOf P → Option ℕ → List Entry → (left left' : Questions) (local local' : L) (peer peer' : P) → Result (Vec Meeting A) SyncFault → Type 0
+abbrev pub ExchangesAllBy : {L P : Type 0} → SideOf L → SideOf P → Option ℕ → List Entry → (left left' : Questions) (local local' : L) (peer peer' : P) → Result (List Meeting) SyncFault → Type 0
 ExchangesAllBy l p number entries left left' local local' peer peer' = ExchangesAll (sides l p) number entries (asking local peer left) (asking local' peer' left')
 
 abbrev pub ExchangesBy : {L P A : Type 0} → SideOf L → SideOf P → List Entry → (left left' : Questions) (local local' : L) (peer peer' : P) (before after : Exchanging) → Result A SyncFault → Type 0

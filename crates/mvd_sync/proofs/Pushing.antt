@@ -13,7 +13,7 @@ use Rattle.mvd_peer.specs.Windows.{ForEach}
 use Rattle.mvd_peer.specs.Sides.{HasAnswered, HasRefused, SideOf, is_of_key, is_of_question}
 use Rattle.mvd_sync.specs.Faults.{of_memory, of_questions, of_side}
 use Rattle.mvd_peer.specs.Windows.{EachAnswer, Ends, Pushes, PushesFirst}
-use Rattle.mvd_sync.proofs.Answering.{told_in}
+use Rattle.mvd_sync.proofs.Answering.{as_many, told_in}
 use Rattle.mvd_sync.proofs.Compose.{ends_for_memory, refused_later}
 use Rattle.mvd_peer.proofs.ManyPushes.{first_later, pushes-append, pushes_apart}
 use Rattle.mvd_peer.proofs.OneByOne.{AskedBy}
@@ -40,15 +40,6 @@ each_of P [] [] e all = tt
 each_of P [] (t ∷ ts) e all = absurd (omega arith)
 each_of P (q ∷ qs) [] e all = absurd (omega arith)
 each_of P (q ∷ qs) (t ∷ ts) e all = (all 0 t (omega arith), each_of P qs ts (omega arith) (λ k d low. all (suc k) d (omega arith)))
-
--- there are as many answers as questions
-pub as_many : {Q A : Type 0} (M : Q → A → Type 0) (qs : List Q) (ts : List (Result A Refusal)) → EachAnswer M qs ts → length ts ≡ length qs
-as_many M [] [] h = refl
-as_many M [] (Ok a ∷ ts) h = absurd h
-as_many M [] (Err e ∷ ts) h = absurd h
-as_many M (q ∷ qs) [] h = absurd h
-as_many M (q ∷ qs) (Ok a ∷ ts) h = ap suc (as_many M qs ts h.1)
-as_many M (q ∷ qs) (Err e ∷ ts) h = ap suc (as_many M qs ts h)
 
 -- ---- pushes so far
 
@@ -94,6 +85,13 @@ if_err_never (Ok a) T t = tt
 if_err_never (Err refusal) T t = t
 
 module _ {S : Type 0} (s : SideOf S) (pairs : List Pair) (left : ℕ) (old : S) where
+  none_taken : (refusal : Refusal) → s.is_faithful old → TakesInFirst s pairs old old refusal
+  none_taken refusal t = record { still = λ _. t; pushes = (0, [], s.states old, refl, λ _. refl) }
+
+  -- memory was refused before the first
+  pub ended_first : (refusal : Refusal) → s.follows 0 old old → refusal ≡ Memory → ComesToEnd s (TakesInFirst s pairs old old refusal) (length pairs) (with_left old left) old refusal
+  ended_first refusal self is = ends_for_memory s _ (length pairs) left left 0 old old refusal (omega arith) (omega arith) self (none_taken refusal) is
+
   -- all were
   pub all_pushed : (told : List Told) (left' : ℕ) (new : S) → FrontPushed s pairs [] told left left' old new → All IsOfKey told → AllAnswered s (λ _ told. IsOfKey told) (TakesIn s pairs told old new) pairs told (with_left old left) (with_left new left')
   all_pushed told left' new f of_key =

@@ -119,12 +119,12 @@ begins_with number = record { number = number; waiting = []; most = 16; keys = 0
 
 -- the walk came to an end
 module _ {L P : Type 0} (l : SideOf L) (p : SideOf P) (most : ℕ) (local local1 : L) (peer peer1 : P) where
-  pub session_walks : (fault : SyncFault) → ReadsEndBy l p (λ asked. AreFewForBy l p local peer (λ m. asked ≤ 1 + 2 * m)) (record { local = most; peer = most }) local local1 peer peer1 fault → SessionBy l p most local local1 peer peer1 (Err fault)
+  pub session_walks : (fault : SyncFault) → ReadsEndBy l p (λ asked. AreFewForBy l p local peer (λ m. asked ≤ 1 + 3 * m)) (record { local = most; peer = most }) local local1 peer peer1 fault → SessionBy l p most local local1 peer peer1 (Err fault)
   unfolding goes_of_end
   session_walks fault r =
       let left : Questions = record { local = most; peer = most } in
       let e = begins_with (l.number local) in
-      session_ends l p most local local1 peer peer1 left e e {A = Unit {0}} fault (goes_of_end l p (λ asked. AreFewForBy l p local peer (λ m. asked ≤ 1 + 2 * m)) left left local local1 peer peer1 e fault r)
+      session_ends l p most local local1 peer peer1 left e e {A = Unit {0}} fault (goes_of_end l p (λ asked. AreFewForBy l p local peer (λ m. asked ≤ 1 + 3 * m)) left left local local1 peer peer1 e fault r)
       (λ t u. joins_some (l.most_keys local) (p.most_keys peer) (l.states local) (p.states peer) (l.states local1) (p.states peer1) (l.number local) (l.is_faithful local1) (p.is_faithful peer1) []
       (so_none (l.most_keys local) (p.most_keys peer) (l.number local) (l.states local) (p.states peer) (l.states local1) (p.states peer1) (r.kept_local t).states (r.kept_peer u).states))
       (λ t u differing all.

@@ -24,7 +24,51 @@ use Rattle.mvd_sync.proofs.Stages.{held_one}
 
 -- ---- as many as are left
 
+take_least : {X : Type 0} (left count : ℕ) (xs : List X) → count ≡ min left (length xs) → take count xs ≡ take left xs
+take_least left count xs e = elim (cases_lt left (length xs)) [
+  | inl less ↦ ap (λ k. take k xs) (omega (arith, e, less))
+  | inr more ↦ take_all count xs (omega (arith, e, more)) ∙ sym (take_all left xs more)
+]
+
+pub cut_nodes : (left count : ℕ) (xs ys : List (List ℕ)) → count ≡ min left (length xs) → ys ≡ take count xs → only_nodes ys ≡ cut_wanted left (only_nodes xs)
+cut_nodes left count xs ys e is = λ i. record { nodes = (is ∙ take_least left count xs e) i; pages = sym (take-nil left) i; gets = sym (take-nil left) i; pushes = sym (take-nil left) i }
+
+pub cut_pages : (left count : ℕ) (xs ys : List PageQuestion) → count ≡ min left (length xs) → ys ≡ take count xs → only_pages ys ≡ cut_wanted left (only_pages xs)
+cut_pages left count xs ys e is = λ i. record { nodes = sym (take-nil left) i; pages = (is ∙ take_least left count xs e) i; gets = sym (take-nil left) i; pushes = sym (take-nil left) i }
+
+pub cut_gets : (left count : ℕ) (xs ys : List Key) → count ≡ min left (length xs) → ys ≡ take count xs → only_gets ys ≡ cut_wanted left (only_gets xs)
+cut_gets left count xs ys e is = λ i. record { nodes = sym (take-nil left) i; pages = sym (take-nil left) i; gets = (is ∙ take_least left count xs e) i; pushes = sym (take-nil left) i }
+
+pub cut_pushes : (left count : ℕ) (xs ys : List (Key × State)) → count ≡ min left (length xs) → ys ≡ take count xs → only_pushes ys ≡ cut_wanted left (only_pushes xs)
+cut_pushes left count xs ys e is = λ i. record { nodes = sym (take-nil left) i; pages = sym (take-nil left) i; gets = sym (take-nil left) i; pushes = (is ∙ take_least left count xs e) i }
+
 -- ---- and not too many
+
+-- the first of some, of which there is one at least
+pub few_first : {X : Type 0} (left count most : ℕ) (xs ys : List X) → count ≡ min left (length xs) → count ≢ 0 → length xs ≤ most → ys ≡ take count xs → (1 ≤ length ys) × (length ys ≤ most)
+few_first left count most xs ys e some low is =
+    let n = ap length is in
+    let m = length-take count xs in
+    (omega (arith, n, m, e, some, low), omega (arith, n, m, e, some, low))
+
+sum_first : {X : Type 0} (f : X → ℕ) (n : ℕ) (xs : List X) → sum_by f (take n xs) ≤ sum_by f xs
+sum_first f n xs =
+    let a = sum_by-append f (take n xs) (drop n xs) in
+    let b = ap (sum_by f) (take-append-drop n xs) in
+    omega (arith, a, b)
+
+pub small_first : (left count : ℕ) (xs ys : List (Key × State)) → count ≡ min left (length xs) → count ≢ 0 → AreSmall xs → ys ≡ take count xs → (1 ≤ length ys) × AreSmall ys
+small_first left count xs ys e some small is =
+    let n = ap length is in
+    let m = length-take count xs in
+    let b = ap (sum_by push_bytes) is in
+    let s = sum_first push_bytes count xs in
+    (omega (arith, n, m, e, some), λ more. let h = small (omega (arith, n, m, e, more)) in omega (arith, b, s, h))
+
+-- the pushes that are next, if it is the side's turn
+pub own_small : (is_own : Bool) (count : ℕ) (pairs : List (Key × State)) → IsWindow pairs count → AreSmall (cond is_own (take count pairs) [])
+own_small true count pairs w = λ more. let n = length-take count pairs in w.small (omega (arith, n, more))
+own_small false count pairs w = λ more. absurd (omega (arith, more))
 
 pages_next_few : (b : Option Bucket) (e : Option Entry) (rest : List (List ℕ)) → length (pages_next b e rest) ≤ 64
 pages_next_few None e rest = let n = length-map (take 64 rest) first_page in let m = length-take 64 rest in omega (arith, n, m)
@@ -44,7 +88,7 @@ pub read_is : {A B : Type 0} (IsOf : A → B → Type 0) (IsNone : A → Type 0)
     → ReadsAll IsOf IsNone (Ok told) share.asked share.wanted result → IsRead IsOf IsNone (Ok told.items) share result
 read_is IsOf IsNone told share (Ok read) counted h = record { answers = told.items; is = refl; counted = counted; whole = h.1; each = h.0 }
 read_is IsOf IsNone told share (Err refusal) counted (inl why) = of_answer told.items refl why
-read_is IsOf IsNone told share (Err refusal) counted (inr few) = of_questions few.1 few.0
+read_is IsOf IsNone told share (Err refusal) counted (inr few) = of_questions told.items refl few.1 few.0
 
 each_long : {A B : Type 0} (P : A → B → Type 0) (qs : List A) (bs : List B) → ForEach P qs bs → length bs ≡ length qs
 each_long P [] [] h = refl

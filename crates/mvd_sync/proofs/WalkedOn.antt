@@ -2,6 +2,7 @@
 use Rattle.std.proofs.Common.{◌≡◌, ◌≢◌, ℕ, ◌+◌, ◌*◌, ◌<◌, ◌≤◌, ◌^◌, Bool, true, false, cond, inl, inr, List, [], ◌∷◌, ◌++◌, map, length, drop, take, refl, sym, ap, subst, ◌∙◌, arith, Option, Some, None, append_assoc, true≢false}
 use Rattle.std.specs.Prelude.{Ok, Err}
 use Rattle.std.proofs.lemmas.List.{length-map, length-take, take-append-drop}
+use Rattle.mvd_dots.specs.declared.refusals.Refusal.TheVariants.{Memory}
 use Rattle.mvd_peer.specs.PushedStates.{Each}
 use Rattle.mvd_peer.specs.Sides.{HasAnswered, SideOf, Two, two}
 use Rattle.mvd_peer.specs.Windows.{ForEach}
@@ -15,15 +16,16 @@ use Rattle.mvd_sync.specs.declared.asking.Questions.{Questions}
 use Rattle.mvd_sync.specs.declared.cursor.Entry.{Entry}
 use Rattle.mvd_sync.specs.declared.report.Side.TheVariants.{Local as AtLocal, Peer as AtPeer}
 use Rattle.mvd_sync.specs.declared.report.SyncFault.{SyncFault}
+use Rattle.mvd_sync.specs.declared.report.SyncFault.TheVariants.{Local}
 use Rattle.mvd_sync.specs.declared.walking.Bucket.{Bucket}
 use Rattle.mvd_sync.proofs.Bucket.{over_begins, over_unfilled}
 use Rattle.mvd_sync.proofs.Descents.{Each-left, Each-right, Each-take}
 use Rattle.mvd_sync.proofs.Fetching.{IsGoodPage, pages_good, pages_long, pages_read, pages_right}
-use Rattle.mvd_sync.proofs.Paging.{fills_of, mine_asked, spent_is, theirs_asked}
+use Rattle.mvd_sync.proofs.Paging.{fills_of, mine_asked, none_end, spent_is, theirs_asked}
 use Rattle.mvd_sync.proofs.Positions.{ReadsEndBy, sides}
 use Rattle.mvd_sync.proofs.Pages.{takes_shorter}
 use Rattle.mvd_sync.proofs.Through.{through_none, window_ends}
-use Rattle.mvd_sync.proofs.Walked.{Before, Found, IsGood, Over, OverOne, Told, Walked, WalksOn, amid, before_ends, between, good_of, later_at, mine_of, opened_is, over_cut, over_on, paths_of, size_of, size_of_all, size_of_first, theirs_of, waiting}
+use Rattle.mvd_sync.proofs.Walked.{Before, Found, IsGood, Over, OverOne, Told, Walked, WalksOn, amid, before_ends, between, good_of, later_at, mine_of, opened_is, over_cut, over_on, paths_of, size_of, size_of_all, size_of_first, theirs_of, waiting, walk_stops}
 
 -- ---- what is asked between two windows
 
@@ -164,7 +166,7 @@ module _ {L P : Type 0} (l : SideOf L) (p : SideOf P)
       (subst (Found l p paths begin (later_at l p now asked) e) (sym state) (told_fills mine theirs asked first b b' e mid before path good over takes some held told))
 
   -- or it ends with them
-  pub walk_ends : (new : Two L P) (left' : Questions) (fault : SyncFault) → Walked l p paths begin now at → pages_next at.bucket at.entry at.rest ≢ [] → PagesEnd (sides l p) at now.now new fault → Over l p {A = Unit {0}} paths begin (moment new.local new.peer left' now.work) (Err fault)
+  pub walk_ends : (new : Two L P) (left' : Questions) (fault : SyncFault) → Walked l p paths begin now at → (at.bucket ≢ None → at.entry ≢ None) → PagesEnd (sides l p) at now.now new fault → Over l p {A = Unit {0}} paths begin (moment new.local new.peer left' now.work) (Err fault)
   walk_ends new left' fault (between done is none _ _ over) asks e =
       let window = take 64 at.rest in
       let after = moment new.local new.peer left' now.work in
@@ -174,7 +176,7 @@ module _ {L P : Type 0} (l : SideOf L) (p : SideOf P)
       let end = window_ends l p on on' stays stays' {A = Unit {0}} window (length window) now.now.left left' now.now.at.local new.local now.now.at.peer new.peer now.work fault few in
       subst (λ qs. Over l p {A = Unit {0}} qs begin after (Err fault)) (sym (window_is paths done at.rest is))
       (over_cut l p on on' stays stays' self self' (done ++ window) (drop 64 at.rest) begin after fault (over_on l p on on' stays stays' self self' done window begin now after (Err fault) over end))
-  walk_ends new left' fault (amid first b mid before path good over some quiet) asks e = absurd (asks ((λ i. pages_next (some i) (quiet i) at.rest)))
+  walk_ends new left' fault (amid first b mid before path good over some quiet) asks e = absurd (asks (λ none. absurd (cc)) quiet)
   walk_ends new left' fault (waiting first b b' x mid before path good over takes wants some held) asks e =
       let after = moment new.local new.peer left' now.work in
       let n = ap length (mine_asked at b' x some held) in
@@ -191,6 +193,20 @@ module _ {L P : Type 0} (l : SideOf L) (p : SideOf P)
           λ asked. spent_is b'.theirs (asked_spent (is_spent b'.theirs) (b'.path, Some x.key) (omega (arith, asked, k.1, m))),
         );
       }))
+
+  -- or memory was refused for what is next
+  pub walk_memory : Walked l p paths begin now at → Over l p {A = Unit {0}} paths begin (moment now.now.at.local now.now.at.peer now.now.left now.work) (Err (Local Memory))
+  walk_memory (between done is none no_later unasked over) =
+      walk_ends now.now.at now.now.left (Local Memory) (between done is none no_later unasked over) (λ some _. absurd (some none)) (none_end l p at now.now.left now.now.at.local now.now.at.local now.now.at.peer now.now.at.peer (self now.now.at.local) (self' now.now.at.peer))
+  walk_memory (waiting first b b' e mid before path good over takes wants some held) =
+      walk_ends now.now.at now.now.left (Local Memory) (waiting first b b' e mid before path good over takes wants some held) (λ _ none. absurd (cc)) (none_end l p at now.now.left now.now.at.local now.now.at.local now.now.at.peer now.now.at.peer (self now.now.at.local) (self' now.now.at.peer))
+  walk_memory (amid first b mid before path good over some quiet) =
+      walk_stops l p on on' stays stays' self self' paths begin now at now.now.left Memory (amid first b mid before path good over some quiet) (λ none. absurd (cc)) quiet refl
+
+-- a side is asked for a page only where a key waits for one, or between two windows
+pub asks_between : (b : Option Bucket) (e : Option Entry) (rest : List (List ℕ)) → pages_next b e rest ≢ [] → b ≢ None → e ≢ None
+asks_between None e rest asks some none = some refl
+asks_between (Some b) e rest asks some none = asks (ap (λ o. pages_next (Some b) o rest) none)
 
 -- ---- the paths of what is asked
 
@@ -253,6 +269,37 @@ module _ {L P : Type 0} (l : SideOf L) (p : SideOf P) (paths : List (List ℕ)) 
 pub record Steady {L P : Type 0} (old new : Moment L P) : Type 0 where
   pub room : new.work.keys + new.work.refused + new.now.left.local + new.now.left.peer ≤ old.work.keys + old.work.refused + old.now.left.local + old.now.left.peer
   pub short : length old.work.waiting < 1000 → length new.work.waiting < 1000
+
+module _ {L P : Type 0} (l : SideOf L) (p : SideOf P) (paths : List (List ℕ)) (begin : Moment L P) where
+  before_steady : (rest : List (List ℕ)) (first : Bucket) (later : List Bucket) (mid : Moment L P) → Before l p paths rest first later begin mid → Steady begin mid
+  before_steady rest first later mid w =
+      let a = w.over.goes.room in
+      let b = w.local_side.spent in
+      let c = w.peer_side.spent in
+      let d = w.through.goes.room in
+      record { room = omega (arith, a, b, c, d); short = λ low. w.through.goes.short (w.over.goes.short low) }
+
+  pub walk_steady : (now : Moment L P) (at : Walking) → Walked l p paths begin now at → Steady begin now
+  walk_steady now at (between done is none _ _ over) = record { room = over.goes.room; short = over.goes.short }
+  walk_steady now at (amid first b mid before path good over some quiet) =
+      let s = before_steady at.rest first at.later mid before in
+      let a = s.room in
+      let b = over.goes.room in
+      record { room = omega (arith, a, b); short = λ low. over.goes.short (s.short low) }
+  walk_steady now at (waiting first b b' e mid before path good over takes wants some held) =
+      let s = before_steady at.rest first at.later mid before in
+      let a = s.room in
+      let b = over.goes.room in
+      record { room = omega (arith, a, b); short = λ low. over.goes.short (s.short low) }
+
+  pub found_steady : (now : Moment L P) (e : Entry) (at : Walking) → Found l p paths begin now e at → Steady begin now
+  found_steady now e at f =
+      let s = before_steady at.rest f.first at.later f.mid f.before in
+      let a = s.room in
+      let b = f.over.goes.room in
+      let c = f.fills.local_side.spent in
+      let d = f.fills.peer_side.spent in
+      record { room = omega (arith, a, b, c, d); short = λ low. f.over.goes.short (s.short low) }
 
 -- a key that was found is held by a side
 pub found_held : (b b' : Bucket) (e : Entry) → TakesNext b e b' → IsHeldByEither e
@@ -342,3 +389,6 @@ told_less l p at found at' old new left' t some low =
     let b = t.pages.peer_side.spent in
     let n = told_larger at t.mine t.theirs found at' t.is (short_of l (pages_of AtLocal at) t.mine old.left.local new.left.local old.at.local new.at.local t.pages.local_side) (short_of p (pages_of AtPeer at) t.theirs old.left.peer new.left.peer old.at.peer new.at.peer t.pages.peer_side) in
     omega (arith, a, b, n, some, low)
+
+pub goes_less : (at : Walking) (found : Option Entry) (at' : Walking) (left left' : Questions) → GoesTo at found at' → left'.local + left'.peer ≤ left.local + left.peer → left_of_walk left' at' < left_of_walk left at
+goes_less at found at' left left' goes low = let n = goes_smaller at found at' goes in omega (arith, n, low)

@@ -63,11 +63,12 @@ few_on (suc zero) asked paths below most low a b = omega (arith, a, b)
 few_on (suc (suc zero)) asked paths below most low a b = omega (arith, a, b)
 few_on (suc (suc (suc n))) asked paths below most low a b = absurd (omega (arith, low))
 
-few_end : (n asked paths more most : ℕ) → n < 3 → asked + paths ≤ 1 + n * most → more ≤ paths → asked + more ≤ 1 + 2 * most
+few_end : (n asked paths more most : ℕ) → n ≤ 3 → asked + paths ≤ 1 + n * most → more ≤ paths → asked + more ≤ 1 + 3 * most
 few_end zero asked paths more most low a b = omega (arith, a, b)
 few_end (suc zero) asked paths more most low a b = omega (arith, a, b)
 few_end (suc (suc zero)) asked paths more most low a b = omega (arith, a, b)
-few_end (suc (suc (suc n))) asked paths more most low a b = absurd (omega (arith, low))
+few_end (suc (suc (suc zero))) asked paths more most low a b = omega (arith, a, b)
+few_end (suc (suc (suc (suc n)))) asked paths more most low a b = absurd (omega (arith, low))
 
 -- ---- the walk so far
 
@@ -119,9 +120,24 @@ module _ {L P : Type 0} (l : SideOf L) (p : SideOf P) where
           few = λ t u keys all. few_on n w.asked (length paths) (length below) (length keys) low (w.few t u keys all) (few_at (l.states local) (p.states peer) (n + 1) below keys (omega arith) long (right t u) all);
         }
 
-    -- a side came to an end on the way down
-    pub walk_ends : (local2 : L) (peer2 : P) (fault : SyncFault) → ReadsEndBy l p (λ asked. asked ≤ length paths) mid local1 local2 peer1 peer2 fault
-        → ReadsEndBy l p (λ asked. AreFewForBy l p local peer (λ most. asked ≤ 1 + 2 * most)) left local local2 peer peer2 fault
-    walk_ends local2 peer2 fault e =
-        let more : (i : ℕ) → i ≤ length paths → AreFewForBy l p local peer (λ most. w.asked + i ≤ 1 + 2 * most) = λ i few t u keys all. few_end n w.asked (length paths) i (length keys) low (w.few t u keys all) few in
-        end_later l p on on' (λ asked. asked ≤ length paths) (λ asked. AreFewForBy l p local peer (λ most. asked ≤ 1 + 2 * most)) left mid w.asked w.asked local local1 local2 peer peer1 peer2 fault w.local_side w.peer_side more more e
+  -- a side came to an end on the way down
+  pub walk_ends : (on : (m n : ℕ) (old mid new : L) → l.follows m old mid → l.follows n mid new → l.follows (m + n) old new)
+      (on' : (m n : ℕ) (old mid new : P) → p.follows m old mid → p.follows n mid new → p.follows (m + n) old new)
+      (n : ℕ) → n ≤ 3 → (left mid : Questions) (local local1 : L) (peer peer1 : P) (paths : List (List ℕ)) → Walks l p n left mid local local1 peer peer1 paths
+      → (local2 : L) (peer2 : P) (fault : SyncFault) → ReadsEndBy l p (λ asked. asked ≤ length paths) mid local1 local2 peer1 peer2 fault
+      → ReadsEndBy l p (λ asked. AreFewForBy l p local peer (λ most. asked ≤ 1 + 3 * most)) left local local2 peer peer2 fault
+  walk_ends on on' n low left mid local local1 peer peer1 paths w local2 peer2 fault e =
+      let more : (i : ℕ) → i ≤ length paths → AreFewForBy l p local peer (λ most. w.asked + i ≤ 1 + 3 * most) = λ i few t u keys all. few_end n w.asked (length paths) i (length keys) low (w.few t u keys all) few in
+      end_later l p on on' (λ asked. asked ≤ length paths) (λ asked. AreFewForBy l p local peer (λ most. asked ≤ 1 + 3 * most)) left mid w.asked w.asked local local1 local2 peer peer1 peer2 fault w.local_side w.peer_side more more e
+
+  -- it has come to the buckets
+  pub walk_finds : (n : ℕ) (left left' : Questions) (local local' : L) (peer peer' : P) (paths : List (List ℕ)) → n ≡ 3 → Walks l p n left left' local local' peer peer' paths → FindsBucketsBy l p left left' local local' peer peer' paths
+  walk_finds n left left' local local' peer peer' paths e w = record {
+    asked = w.asked;
+    local_side = w.local_side;
+    peer_side = w.peer_side;
+    answers = w.answers (omega (arith, e));
+    deep = subst (λ n. AreLong n paths) e w.long;
+    right = λ t u. let r = w.right t u in record { distinct = r.distinct; differ = r.differ (omega (arith, e)); whole = r.whole };
+    few = λ t u keys all. subst (λ n. w.asked + length paths ≤ 1 + n * length keys) e (w.few t u keys all);
+  }

@@ -1,5 +1,5 @@
 -- A window: its keys are asked for, and what each side lacks is pushed into it.
-use Rattle.std.specs.Prelude.{◌≡◌, ◌≤◌, ◌+◌, ◌*◌, ℕ, List, ◌++◌, length, map, filter_map, Option, Result, Vec, OnOk}
+use Rattle.std.specs.Prelude.{◌≡◌, ◌≤◌, ◌+◌, ◌*◌, ℕ, List, ◌++◌, length, map, filter_map, Option, Result, OnOk}
 use Rattle.std.specs.Prelude.{MatchResult}
 use Rattle.mvd_dots.specs.declared.refusals.Refusal.{Refusal}
 use Rattle.mvd_keys.specs.State.{State}
@@ -42,18 +42,17 @@ pub record Carried {S : Type 0} (s : SideOf S) (name : Side) (before after : Lis
       (filter_map (pushed_pair name) before) told old new
 
 -- THE KEYS OF A WINDOW ARE EXCHANGED
-pub record ExchangesAll {L P A : Type 0} (s : Sides L P) (number : Option ℕ) (entries : List Entry)
-    (old new : Asking L P)
-    (result : Result (Vec Meeting A) SyncFault) : Type 0 where
+pub record ExchangesAll {L P : Type 0} (s : Sides L P) (number : Option ℕ) (entries : List Entry)
+    (old new : Asking L P) (result : Result (List Meeting) SyncFault) : Type 0 where
   pub course : Course s old new.at result
   pub spent : Spends s old new result course
   pub few : (course.asked_local + course.wanted_local ≤ 2 * length entries)
       × (course.asked_peer + course.wanted_peer ≤ 2 * length entries)
   pub least : OnOk result (length entries ≤ course.asked_local + course.asked_peer)
-  pub same : MatchResult result (λ meetings. keys_done (map done_of meetings.items) ≡ keys_next entries) (λ _. Unit {0})
+  pub same : MatchResult result (λ meetings. keys_done (map done_of meetings) ≡ keys_next entries) (λ _. Unit {0})
   pub meets : s.local.is_faithful old.at.local → s.peer.is_faithful old.at.peer → (a b : States) (done : List Done) →
       SoFar (began s number (both a b) old.at) (both_of s old.at) done → AreNext a b done entries →
       MatchResult result
-      (λ meetings. SoFar (began s number (both a b) old.at) (both_of s new.at) (done ++ map done_of meetings.items)
+      (λ meetings. SoFar (began s number (both a b) old.at) (both_of s new.at) (done ++ map done_of meetings)
       × s.local.is_faithful new.at.local × s.peer.is_faithful new.at.peer)
       (λ _. JoinsSome (both a b) (after_of s new.at))

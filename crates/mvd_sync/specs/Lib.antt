@@ -18,4 +18,3 @@ pub mod Steps
 pub mod Tellings
 pub mod Machines
 pub mod Ran
-pub mod RanParts

@@ -199,7 +199,7 @@ pub record Pushed (walk : Walking) (turn : Turn) (told : Result (List (Result (U
   pub goes : stage ≡ Carries walk after count
 
 -- Or why it did not: it told a refusal in place of them; they are not as many as were asked (33); one of them is a
--- refusal of more than its key, or memory was refused; or fewer were asked than were wanted (36)
+-- refusal of more than its key, or memory was refused; or they were told, but fewer were asked than were wanted (36)
 pub data IsUnheard (told : Result (List (Result (Unit {0}) Refusal)) Refusal) (share : Share)
     (refusal : Refusal) : Type 0 where
   refused : told ≡ Err refusal → IsUnheard told share refusal
@@ -208,7 +208,8 @@ pub data IsUnheard (told : Result (List (Result (Unit {0}) Refusal)) Refusal) (s
   of_answer : (answers : List (Result (Unit {0}) Refusal)) → told ≡ Ok answers
       → (refusal ≡ Memory) ⊎ (Contains answers (Err refusal) × (is_of_key refusal ≡ false))
       → IsUnheard told share refusal
-  of_questions : share.asked < share.wanted → refusal ≡ TooManyRequests → IsUnheard told share refusal
+  of_questions : (answers : List (Result (Unit {0}) Refusal)) → told ≡ Ok answers → share.asked < share.wanted
+      → refusal ≡ TooManyRequests → IsUnheard told share refusal
 
 -- the turn of one side goes on; or it ends by the other, which was not asked, or by this one
 abbrev pub fault_at : Side → Refusal → SyncFault

@@ -1,5 +1,5 @@
 -- What a session asks of a side at once.
-use Rattle.std.specs.Prelude.{◌≡◌, ◌≤◌, ◌<◌, ℕ, List, [], length, take, sum_by, Option, Some, None}
+use Rattle.std.specs.Prelude.{◌≡◌, ◌≤◌, ◌<◌, ◌+◌, ℕ, List, [], length, take, sum_by, Option, Some, None}
 use Rattle.mvd_keys.specs.State.{State}
 use Rattle.mvd_keys.specs.Writes.{Key}
 use Rattle.mvd_sync.specs.Questions.{push_bytes}
@@ -42,6 +42,10 @@ count_in (Nodes paths) = length paths.items
 count_in (Pages pages) = length pages.items
 count_in (Gets keys) = length keys.items
 count_in (Pushes pairs) = length pairs.items
+
+-- how many questions these are
+abbrev pub count_wanted : Wanted → ℕ
+count_wanted w = length w.nodes + length w.pages + length w.gets + length w.pushes
 
 -- the first of the questions, as many as are left
 abbrev pub cut_wanted : ℕ → Wanted → Wanted

@@ -80,7 +80,7 @@ never a = ⊥
 
 -- Why they were not read: the side told a refusal in place of them (`refused`); they are not as many as were asked
 -- (`of_number`, 33); one of them is a refusal, or one that no faithful side gives (33), or memory was refused
--- (`of_answer`); or fewer were asked than were wanted (`of_questions`, 36)
+-- (`of_answer`); or they were told, but fewer were asked than were wanted (`of_questions`, 36)
 pub data IsUnread {A : Type 0} (IsNone : A → Type 0) (told : Result (List (Result A Refusal)) Refusal) (share : Share)
     (refusal : Refusal) : Type 0 where
   refused : told ≡ Err refusal → IsUnread IsNone told share refusal
@@ -88,7 +88,8 @@ pub data IsUnread {A : Type 0} (IsNone : A → Type 0) (told : Result (List (Res
       → refusal ≡ BadBody → IsUnread IsNone told share refusal
   of_answer : (answers : List (Result A Refusal)) → told ≡ Ok answers → EndsMaking IsNone answers refusal
       → IsUnread IsNone told share refusal
-  of_questions : share.asked < share.wanted → refusal ≡ TooManyRequests → IsUnread IsNone told share refusal
+  of_questions : (answers : List (Result A Refusal)) → told ≡ Ok answers → share.asked < share.wanted
+      → refusal ≡ TooManyRequests → IsUnread IsNone told share refusal
 
 -- all were read, as many as were asked, and as many were asked as were wanted
 pub record AllRead {A B : Type 0} (IsOf : A → B → Type 0) (told : Result (List (Result A Refusal)) Refusal)

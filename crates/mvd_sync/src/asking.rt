@@ -1,18 +1,16 @@
 //! Questions to a side, of which no more are made than were given.
 ghost use Rattle.std.specs.Prelude.{◌≡◌, ◌+◌, ◌-◌, ◌<◌, ◌≤◌, ◌^◌, length, false, OnOk, IfOk, IfErr};
-ghost use Rattle.std.specs.Prelude.{◌⊎◌, ◌++◌, All, Contains, Some, None, min};
-ghost use Rattle.mvd_site.specs.Answer.{digests};
-ghost use Rattle.mvd_site.specs.Held.{state_at};
+ghost use Rattle.std.specs.Prelude.{◌⊎◌, ◌++◌, All, Contains, Err, None, Some, min};
 ghost use Rattle.mvd_sync.specs.Made.{ReadsAll};
-ghost use Rattle.mvd_sync.specs.Questions.{AllAnswered, AnswersEach, ComesToEnd, IsInner, IsOfKey, IsWindow};
-ghost use Rattle.mvd_sync.specs.Questions.{Keeps, TakesBudget, TellsPages, with_left, push_bytes};
-ghost use Rattle.mvd_sync.specs.RanParts.{HearsNodes, HearsPages, HearsStates};
-ghost use Rattle.mvd_peer.specs.PushedStates.{Each};
+ghost use Rattle.mvd_sync.specs.Questions.{IsOfKey, IsWindow, TakesBudget, push_bytes};
+ghost use Rattle.mvd_sync.specs.Ran.{SideSays};
+ghost use Rattle.mvd_sync.specs.Steps.{IsBoundedWindow, asked, only_gets, only_nodes, only_pages, only_pushes};
 ghost use Rattle.mvd_peer.specs.PeerSides.{side_of};
-ghost use Rattle.mvd_peer.specs.Sides.{HasAnswered, is_of_key};
+ghost use Rattle.mvd_peer.specs.Sides.{is_of_key};
 
-use crate::cursor::Listing;
+use crate::asked::Window;
 use crate::made::{Made, made_all};
+use crate::telling::Told;
 use mvd_dots::Refusal;
 use mvd_keys::{Key, KeyState, Path};
 use mvd_peer::Peer;
@@ -95,74 +93,62 @@ pub fn read_all<A: Drop, B: Made<A>>(
     }
 }
 
-/// What a side answers for nodes above the buckets; digests without children are 33.
-pub fn ask_nodes<P: Peer>(
-    side: &mut P,
-    left: &mut u64,
-    paths: &[Path],
-) -> Result<Vec<Node>, Refusal>
-    requires inner { Each (λ path. length path < 3) paths.now }
-    ensures told { let s = side_of P.Peer in
-        IfOk result
-        (λ nodes. AllAnswered s (λ _ _. HasAnswered P.follows P.can_answer side.old side.new)
-        (AnswersEach s (IsInner (digests (P.states side.old))) paths.now nodes.items side.old side.new)
-        paths.now nodes.items (with_left side.old left.old) (with_left side.new left.new)) }
-    ensures ended { let s = side_of P.Peer in
-        IfErr result
-        (ComesToEnd s (Keeps s side.old side.new) (length paths.now) (with_left side.old left.old) side.new) }
-    ensures heard { let s = side_of P.Peer in
-        IfOk result (λ nodes. HearsNodes s paths.now nodes.items
-        (with_left side.old left.old) (with_left side.new left.new)) }
+/// What a side says of nodes.
+fn ask_nodes<S: Peer>(side: &mut S, paths: &[Path]) -> Told
+    requires some { 1 ≤ length paths.now }
+    ensures { SideSays (side_of S.Peer) (only_nodes paths.now) (Some result) side.old side.new }
 {
-    let taken = take(left, paths.len());
-    let told = side.nodes(&paths[..taken]);
-    read_all(side.alloc(), told, taken, paths.len())
+    match side.nodes(paths) {
+        Ok(answers) => Told::Nodes(answers),
+        Err(refusal) => Told::Refused(refusal),
+    }
 }
 
-/// Pages of buckets; keys that do not rise, or more without a key, are 33.
-pub fn ask_pages<P: Peer>(
-    side: &mut P,
-    left: &mut u64,
-    asked: &[(Path, Option<Key>)],
-) -> Result<Vec<Listing>, Refusal>
-    requires { Each (λ q. length q.0 ≡ 3) asked.now }
-    ensures told { let s = side_of P.Peer in
-        IfOk result
-        (λ pages. TellsPages s asked.now pages.items (with_left side.old left.old) (with_left side.new left.new)) }
-    ensures ended { let s = side_of P.Peer in
-        IfErr result
-        (ComesToEnd s (Keeps s side.old side.new) (length asked.now) (with_left side.old left.old) side.new) }
-    ensures heard { let s = side_of P.Peer in
-        IfOk result (λ pages. HearsPages s asked.now pages.items
-        (with_left side.old left.old) (with_left side.new left.new)) }
+/// What it says of pages of buckets.
+fn ask_pages<S: Peer>(side: &mut S, asked: &[(Path, Option<Key>)]) -> Told
+    requires some { 1 ≤ length asked.now }
+    ensures { SideSays (side_of S.Peer) (only_pages asked.now) (Some result) side.old side.new }
 {
-    let taken = take(left, asked.len());
-    let told = side.pages(&asked[..taken]);
-    read_all(side.alloc(), told, taken, asked.len())
+    match side.pages(asked) {
+        Ok(answers) => Told::Pages(answers),
+        Err(refusal) => Told::Refused(refusal),
+    }
 }
 
-/// The states of keys.
-pub fn ask_gets<P: Peer>(
-    side: &mut P,
-    left: &mut u64,
-    keys: &[Key],
-) -> Result<Vec<KeyState>, Refusal>
-    ensures told { let s = side_of P.Peer in
-        IfOk result
-        (λ states. AllAnswered s (λ key state. P.can_give key state
-        × HasAnswered P.follows P.can_answer side.old side.new)
-        (AnswersEach s (λ key state. state ≡ state_at (P.states side.old) key) keys.now states.items side.old side.new)
-        keys.now states.items (with_left side.old left.old) (with_left side.new left.new)) }
-    ensures ended { let s = side_of P.Peer in
-        IfErr result
-        (ComesToEnd s (Keeps s side.old side.new) (length keys.now) (with_left side.old left.old) side.new) }
-    ensures heard { let s = side_of P.Peer in
-        IfOk result (λ states. HearsStates s keys.now states.items
-        (with_left side.old left.old) (with_left side.new left.new)) }
+/// What it says of the states of keys.
+fn ask_gets<S: Peer>(side: &mut S, keys: &[Key]) -> Told
+    requires some { 1 ≤ length keys.now }
+    ensures { SideSays (side_of S.Peer) (only_gets keys.now) (Some result) side.old side.new }
 {
-    let taken = take(left, keys.len());
-    let told = side.get_all(&keys[..taken]);
-    read_all(side.alloc(), told, taken, keys.len())
+    match side.get_all(keys) {
+        Ok(answers) => Told::States(answers),
+        Err(refusal) => Told::Refused(refusal),
+    }
+}
+
+/// What it says of pushes.
+fn ask_pushes<S: Peer>(side: &mut S, pairs: &[(Key, KeyState)]) -> Told
+    requires some { 1 ≤ length pairs.now }
+    ensures { SideSays (side_of S.Peer) (only_pushes pairs.now) (Some result) side.old side.new }
+{
+    match side.push_all(pairs) {
+        Ok(answers) => Told::Pushes(answers),
+        Err(refusal) => Told::Refused(refusal),
+    }
+}
+
+/// What a side says of a window; nothing, where it is asked none.
+pub fn ask<S: Peer>(side: &mut S, window: Option<Window>) -> Option<Told>
+    requires bounded { IsBoundedWindow window }
+    ensures { SideSays (side_of S.Peer) (asked window) result side.old side.new }
+{
+    match window {
+        None => None,
+        Some(Window::Nodes(paths)) => Some(ask_nodes(side, &paths)),
+        Some(Window::Pages(pages)) => Some(ask_pages(side, &pages)),
+        Some(Window::Gets(keys)) => Some(ask_gets(side, &keys)),
+        Some(Window::Pushes(pairs)) => Some(ask_pushes(side, &pairs)),
+    }
 }
 
 /// The most bytes of pushes that are sent at once, unless it is one push.

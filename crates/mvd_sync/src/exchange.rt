@@ -1,28 +1,17 @@
 //! The exchange of keys, one window after another.
-ghost use Rattle.std.specs.Prelude.{◌≡◌, ◌<◌, ◌+◌, ◌^◌, ◌++◌, ◌∷◌, [], length, map, filter_map, IfOk, IfErr, OnOk};
-ghost use Rattle.std.specs.Prelude.{cond, ◌≤◌, ◌↔◌, ◌⊎◌, IsTrue, Some, true, max};
+ghost use Rattle.std.specs.Prelude.{◌≡◌, ◌≤◌, ◌<◌, ◌+◌, ◌^◌, ◌++◌, ◌∷◌, ◌↔◌, ◌⊎◌, [], cond, length, map, max, IsTrue};
+ghost use Rattle.std.specs.Prelude.{IfErr, OnOk};
 ghost use Rattle.mvd_sync.specs.Weights.{next_most, weight};
-ghost use Rattle.mvd_sync.specs.Exchanges.{CountsDone, Exchanges, Exchanging, IsHeldByEither, moment};
-ghost use Rattle.mvd_sync.specs.Meetings.{done_of, held_keys, pushed_pair};
-ghost use Rattle.mvd_sync.specs.Questions.{ComesToEnd, Keeps, TakesInFirst, with_left};
+ghost use Rattle.mvd_sync.specs.Exchanges.{CountsDone, IsHeldByEither};
+ghost use Rattle.mvd_sync.specs.Meetings.{done_of};
 ghost use Rattle.mvd_peer.specs.PushedStates.{Each};
-ghost use Rattle.mvd_sync.specs.Session.{asking};
-ghost use Rattle.mvd_peer.specs.PeerSides.{side_of, sides_of};
-ghost use Rattle.mvd_peer.specs.Sides.{two};
-ghost use Rattle.mvd_sync.specs.Walk.{ReadsEnd};
-ghost use Rattle.mvd_sync.specs.Carries.{Carried, ExchangesAll, GivesStates, Planned};
-ghost use Rattle.mvd_sync.specs.RanParts.{HearsPlans, HearsStates, RunsExchange, RunsSettled, RunsWindow, WholeTurn};
-ghost use Rattle.mvd_sync.specs.Walking.{Walking};
 
-use crate::asking::{Questions, are_all, ask_gets, take, window};
 use crate::cursor::Entry;
-use crate::meetings::{Meeting, keys_held, plan_all};
-use crate::report::{Left, Report, Side, SyncFault};
-use crate::turn::Turn;
+use crate::meetings::Meeting;
+use crate::report::{Left, Report, Side};
 use crate::weights::{FIRST, next_most};
 use mvd_dots::Refusal;
 use mvd_keys::{Key, KeyState};
-use mvd_peer::Peer;
 use mvd_wire::Items;
 use std::alloc::Global;
 use std::marker::Model;
@@ -67,140 +56,6 @@ impl Model for Exchange {
         × (1 ≤ e.most) × (e.most ≤ 1000) };
 }
 
-/// Asks a side for the states of the keys of a window that it holds.
-fn gives<S: Peer>(
-    alloc: Global,
-    side: &mut S,
-    left: &mut u64,
-    entries: &[Entry],
-    name: Side,
-) -> Result<Vec<KeyState>, Refusal>
-    ensures told { let s = side_of S.Peer in
-        IfOk result (λ states. GivesStates s name entries.now states.items
-        (with_left side.old left.old) (with_left side.new left.new)) }
-    ensures ended { let s = side_of S.Peer in
-        IfErr result
-        (ComesToEnd s (Keeps s side.old side.new) (length (held_keys name entries.now))
-        (with_left side.old left.old) side.new) }
-    ensures heard { let s = side_of S.Peer in
-        IfOk result (λ states. HearsStates s (held_keys name entries.now) states.items
-        (with_left side.old left.old) (with_left side.new left.new)) }
-{
-    let asked = match keys_held(alloc, entries, name) {
-        Ok(keys) => keys,
-        Err(refusal) => return Err(refusal),
-    };
-    ask_gets(side, left, &asked)
-}
-
-/// What is to be done for the keys of a window, after each side was asked for the states that it holds.
-fn plans<L: Peer, P: Peer>(
-    alloc: Global,
-    number: Option<u32>,
-    most: &mut usize,
-    local: &mut L,
-    peer: &mut P,
-    left: &mut Questions,
-    entries: Vec<Entry>,
-) -> Result<Vec<Meeting>, SyncFault>
-    requires few { most.old ≤ 1000 }
-    ensures range { OnOk result ((1 ≤ most.new) × (most.new ≤ 1000)) }
-    ensures plans { let s = sides_of L.Peer P.Peer in
-        IfOk result (λ meetings. Planned s number entries.items (asking local.old peer.old left.old)
-        (asking local.new peer.new left.new) meetings.items) }
-    ensures ended { let s = sides_of L.Peer P.Peer in
-        IfErr result (ReadsEnd s (λ asked. asked ≤ length entries.items) (asking local.old peer.old left.old)
-        (two local.new peer.new)) }
-    ensures heard { let s = sides_of L.Peer P.Peer in
-        IfOk result (λ meetings. HearsPlans s number entries.items (asking local.old peer.old left.old)
-        (asking local.new peer.new left.new) meetings.items most.old most.new) }
-{
-    let mine = match gives(alloc, local, &mut left.local, &entries, Side::Local) {
-        Ok(states) => states,
-        Err(refusal) => return Err(SyncFault::Local(refusal)),
-    };
-    let theirs = match gives(alloc, peer, &mut left.peer, &entries, Side::Peer) {
-        Ok(states) => states,
-        Err(refusal) => return Err(SyncFault::Peer(refusal)),
-    };
-    *most = next_most(*most, entries.len(), &mine, &theirs);
-    match plan_all(alloc, number, entries, mine, theirs) {
-        Ok(meetings) => Ok(meetings),
-        Err(refusal) => Err(SyncFault::Local(refusal)),
-    }
-}
-
-/// Has a side take what it is to take of the keys of a window.
-fn carry<S: Peer>(
-    alloc: Global,
-    side: &mut S,
-    left: &mut u64,
-    meetings: Vec<Meeting>,
-    name: Side,
-) -> Result<Vec<Meeting>, Refusal>
-    ensures told { let s = side_of S.Peer in
-        IfOk result (λ after. Carried s name meetings.items after.items
-        (with_left side.old left.old) (with_left side.new left.new)) }
-    ensures ended { let s = side_of S.Peer in
-        let pairs = filter_map (pushed_pair name) meetings.items in
-        IfErr result
-        (λ refusal. ComesToEnd s (TakesInFirst s pairs side.old side.new refusal) (length pairs)
-        (with_left side.old left.old) side.new refusal) }
-    ensures unasked { IfErr result (λ _. filter_map (pushed_pair name) meetings.items ≡ [] → side.new ≡ side.old) }
-    ensures turn { let s = side_of S.Peer in
-        IfOk result (λ after. WholeTurn s name meetings.items after.items
-        (with_left side.old left.old) (with_left side.new left.new)) }
-{
-    let mut turn = match Turn::new(alloc, meetings, name) {
-        Ok(turn) => turn,
-        Err(refusal) => return Err(refusal),
-    };
-    while turn.has_more() {
-        let rest = turn.rest();
-        let count = window(rest);
-        let taken = take(left, count);
-        let answers = side.push_all(&rest[..taken])?;
-        turn.hear(answers)?;
-        are_all(taken, count)?;
-    }
-    turn.end()
-}
-
-/// Exchanges the keys of a window.
-fn exchange_all<L: Peer, P: Peer>(
-    alloc: Global,
-    number: Option<u32>,
-    most: &mut usize,
-    local: &mut L,
-    peer: &mut P,
-    left: &mut Questions,
-    entries: Vec<Entry>,
-) -> Result<Vec<Meeting>, SyncFault>
-    requires held { Each IsHeldByEither entries.items }
-    requires few { most.old ≤ 1000 }
-    ensures range { OnOk result ((1 ≤ most.new) × (most.new ≤ 1000)) }
-    ensures exchanges { let s = sides_of L.Peer P.Peer in
-        ExchangesAll s number entries.items (asking local.old peer.old left.old) (asking local.new peer.new left.new)
-        result }
-    ensures ran { let s = sides_of L.Peer P.Peer in
-        IfOk result (λ meetings. (walk : Walking) (work : Exchanging) → RunsWindow s number entries
-        (asking local.old peer.old left.old) (asking local.new peer.new left.new) meetings.items walk work
-        most.old most.new) }
-{
-    let meetings = match plans(alloc, number, most, local, peer, left, entries) {
-        Ok(meetings) => meetings,
-        Err(fault) => return Err(fault),
-    };
-    let meetings = match carry(alloc, local, &mut left.local, meetings, Side::Local) {
-        Ok(meetings) => meetings,
-        Err(refusal) => return Err(SyncFault::Local(refusal)),
-    };
-    match carry(alloc, peer, &mut left.peer, meetings, Side::Peer) {
-        Ok(meetings) => Ok(meetings),
-        Err(refusal) => Err(SyncFault::Peer(refusal)),
-    }
-}
-
 impl Exchange {
     /// Nothing waits, and nothing was done.
     pub fn new(alloc: Global, number: Option<u32>) -> Exchange
@@ -239,34 +94,6 @@ impl Exchange {
             old: self.older,
             first_refused: Items::new(self.first_refused),
         }
-    }
-
-    /// One more key waits to be exchanged; it is, with the others, when a window is full.
-    pub fn add<L: Peer, P: Peer>(
-        &mut self,
-        local: &mut L,
-        peer: &mut P,
-        left: &mut Questions,
-        entry: Entry,
-    ) -> Result<(), SyncFault>
-        requires held { IsHeldByEither entry }
-        requires room { self.old.keys + self.old.refused + length self.old.waiting + left.old.local +
-            left.old.peer + 1 < 2 ^ 64 }
-        ensures exchanges { let s = sides_of L.Peer P.Peer in
-            Exchanges s (self.old.waiting ++ entry ∷ []) (moment local.old peer.old left.old self.old)
-            (moment local.new peer.new left.new self.new) result }
-        ensures ran { let s = sides_of L.Peer P.Peer in
-            OnOk result ((walk : Walking) → entry.differs ≡ true → RunsSettled s (Some entry)
-            (moment local.old peer.old left.old self.old) (moment local.new peer.new left.new self.new) walk) }
-    {
-        match self.wait(entry) {
-            Ok(()) => {}
-            Err(refusal) => return Err(SyncFault::Local(refusal)),
-        }
-        if self.is_full() {
-            return self.exchange(local, peer, left);
-        }
-        Ok(())
     }
 
     /// The number of the local site, where it is known.
@@ -311,47 +138,6 @@ impl Exchange {
         } }
     {
         self.most = next_most(self.most, keys, mine, theirs);
-    }
-
-    /// Exchanges the keys that wait. Where none waits, nothing is asked.
-    pub fn exchange<L: Peer, P: Peer>(
-        &mut self,
-        local: &mut L,
-        peer: &mut P,
-        left: &mut Questions,
-    ) -> Result<(), SyncFault>
-        requires room { self.old.keys + self.old.refused + length self.old.waiting + left.old.local +
-            left.old.peer < 2 ^ 64 }
-        ensures exchanges { let s = sides_of L.Peer P.Peer in
-            Exchanges s self.old.waiting (moment local.old peer.old left.old self.old)
-            (moment local.new peer.new left.new self.new) result }
-        ensures none { OnOk result (self.new.waiting ≡ []) }
-        ensures ran { let s = sides_of L.Peer P.Peer in
-            OnOk result ((walk : Walking) → RunsExchange s (moment local.old peer.old left.old self.old)
-            (moment local.new peer.new left.new self.new) walk) }
-    {
-        if self.waiting.is_empty() {
-            return Ok(());
-        }
-        let entries = std::mem::replace(&mut self.waiting, Vec::new(self.alloc));
-        let mut most = self.most;
-        let meetings = match exchange_all(
-            self.alloc,
-            self.number,
-            &mut most,
-            local,
-            peer,
-            left,
-            entries,
-        ) {
-            Ok(meetings) => meetings,
-            Err(fault) => return Err(fault),
-        };
-        self.most = most;
-        match self.tell(meetings) {
-            Ok(()) => Ok(()),
-            Err(refusal) => Err(SyncFault::Local(refusal)),
-        }
     }
 
     /// Counts the keys of a window, and names the first that were refused.

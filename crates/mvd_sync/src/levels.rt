@@ -1,20 +1,13 @@
 //! The walk from the root to the buckets that differ, level by level.
-ghost use Rattle.std.specs.Prelude.{◌≡◌, ◌<◌, ◌≤◌, ◌+◌, ◌*◌, ◌++◌, ◌∷◌, [], ◌↔◌};
+ghost use Rattle.std.specs.Prelude.{◌≡◌, ◌<◌, ◌≤◌, ◌+◌, ◌++◌, ◌∷◌, [], ◌↔◌};
 ghost use Rattle.std.specs.Prelude.{length, take, IfOk, IfErr, OnOk, IsTrue};
 ghost use Rattle.mvd_peer.specs.PushedStates.{Each};
-ghost use Rattle.mvd_sync.specs.Session.{asking};
-ghost use Rattle.mvd_peer.specs.PeerSides.{sides_of};
-ghost use Rattle.mvd_peer.specs.Sides.{two};
 ghost use Rattle.mvd_sync.specs.Level.{GoesDown, IsDown, next_nodes};
-ghost use Rattle.mvd_sync.specs.Walk.{AreFewFor, FindsBuckets, ReadsEnd, told, told_all};
-ghost use Rattle.mvd_sync.specs.Exchanges.{Exchanging};
-ghost use Rattle.mvd_sync.specs.RanParts.{RunsDescent};
+ghost use Rattle.mvd_sync.specs.Walk.{told, told_all};
 
-use crate::asking::{Node, Questions, ask_nodes};
-use crate::report::SyncFault;
+use crate::asking::Node;
 use mvd_dots::Refusal;
 use mvd_keys::Path;
-use mvd_peer::Peer;
 use std::alloc::Global;
 use std::marker::Model;
 use std::mem;
@@ -188,44 +181,4 @@ impl Descent {
         }
         self.paths
     }
-}
-
-/// The buckets whose digests differ on the two sides, by rising path.
-pub fn differing_buckets<L: Peer, P: Peer>(
-    alloc: Global,
-    local: &mut L,
-    peer: &mut P,
-    left: &mut Questions,
-) -> Result<Vec<Path>, SyncFault>
-    ensures found { let s = sides_of L.Peer P.Peer in
-        IfOk result (λ buckets. FindsBuckets s (asking local.old peer.old left.old)
-        (asking local.new peer.new left.new) buckets.items) }
-    ensures ended { let s = sides_of L.Peer P.Peer in
-        let old = two local.old peer.old in
-        IfErr result (ReadsEnd s (λ asked. AreFewFor s old (λ most. asked ≤ 1 + 2 * most))
-        (asking local.old peer.old left.old) (two local.new peer.new)) }
-    ensures ran { let s = sides_of L.Peer P.Peer in
-        IfOk result (λ buckets. (work : Exchanging) → RunsDescent s work (asking local.old peer.old left.old)
-        (asking local.new peer.new left.new) buckets.items) }
-{
-    let mut descent = match Descent::new(alloc) {
-        Ok(descent) => descent,
-        Err(refusal) => return Err(SyncFault::Local(refusal)),
-    };
-    while !descent.is_done() {
-        let window = descent.window();
-        let mine = match ask_nodes(local, &mut left.local, window) {
-            Ok(mine) => mine,
-            Err(refusal) => return Err(SyncFault::Local(refusal)),
-        };
-        let theirs = match ask_nodes(peer, &mut left.peer, window) {
-            Ok(theirs) => theirs,
-            Err(refusal) => return Err(SyncFault::Peer(refusal)),
-        };
-        match descent.take(&mine, &theirs) {
-            Ok(()) => {}
-            Err(refusal) => return Err(SyncFault::Local(refusal)),
-        }
-    }
-    Ok(descent.buckets())
 }

@@ -3,7 +3,6 @@
 
 pub mod asked;
 mod asking;
-mod bucket_walk;
 mod cursor;
 mod exchange;
 mod hearing;

@@ -1,5 +1,5 @@
 use Rattle.std.proofs.Common.{◌∙◌, ap, arith, refl, subst, sym}
-use Rattle.mvd_sync.specs.Machines.{of_answer, of_number}
+use Rattle.mvd_sync.specs.Machines.{of_answer, of_number, of_questions}
 use Rattle.mvd_sync.specs.Questions.{IsWindow}
 use Rattle.mvd_sync.specs.Tellings.{as_list}
 use Rattle.mvd_sync.proofs.hearing.hear_turn.Goals as goal
@@ -11,6 +11,10 @@ returns-then-len-share-clause-ended c =
 
 pub returns-in-Err-hear-clause-ended : goal.returns-in-Err-hear-clause-ended
 returns-in-Err-hear-clause-ended c = of_answer c.in-Ok.answers.items (sym c.pushes_in.ensures ∙ ap as_list c.in-Ok.is) c.in-Err-hear.ensures.other
+
+pub returns-in-Err-are_all-clause-ended : goal.returns-in-Err-are_all-clause-ended
+returns-in-Err-are_all-clause-ended c =
+    of_questions c.in-Ok.answers.items (sym c.pushes_in.ensures ∙ ap as_list c.in-Ok.is) c.in-Err-are_all.ensures.few.1 c.in-Err-are_all.ensures.few.0
 
 pub returns-clause-pushed : goal.returns-clause-pushed
 returns-clause-pushed c =

@@ -5,7 +5,8 @@ use Rattle.std.proofs.lemmas.List.{map-append}
 use Rattle.std.proofs.lemmas.List.Elements.{filter_map-append}
 use Rattle.mvd_keys.specs.Writes.{Key}
 use Rattle.mvd_tree.specs.HashTree.{is_under}
-use Rattle.mvd_sync.specs.Exchanges.{Counts, CountsDone, Done as DoneKey, Exchanging, left_keys, left_of}
+use Rattle.mvd_sync.proofs.Exchanges.{Counts}
+use Rattle.mvd_sync.specs.Exchanges.{CountsDone, Done as DoneKey, Exchanging, left_keys, left_of}
 use Rattle.mvd_sync.specs.Level.{IsDown, Level}
 use Rattle.mvd_sync.specs.Machines.{FromWalk, GoesAlone, IsQuiet, SettlesFound, StageWent, TurnBegins, counts, ends, equal, fills, goes_on, here, last, none_found, on, turns, waits}
 use Rattle.mvd_sync.specs.Meetings.{done_of, noted, pushed_pair, taken_from}

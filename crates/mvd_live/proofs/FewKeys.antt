@@ -16,9 +16,10 @@ use Rattle.mvd_site.specs.Answer.{digests, spelled}
 use Rattle.mvd_site.specs.Held.{AreHeld, States}
 use Rattle.mvd_peer.specs.PushedStates.{Each}
 use Rattle.mvd_peer.specs.Windows.{ForEach}
-use Rattle.mvd_sync.specs.Answers.{IsListing, ListingValue, PageEntry, is_spent}
-use Rattle.mvd_sync.specs.Exchanges.{keys_next}
-use Rattle.mvd_sync.specs.Nodes.{has_below}
+use Rattle.mvd_sync.proofs.Reads.{IsListing}
+use Rattle.mvd_sync.specs.Answers.{ListingValue, PageEntry, is_spent}
+use Rattle.mvd_sync.proofs.Exchanges.{keys_next}
+use Rattle.mvd_sync.proofs.Walk.{has_below}
 use Rattle.mvd_sync.specs.Session.{AreDistinct, IsIn, is_member}
 use Rattle.mvd_sync.specs.Walking.{TakesNext, Walking, first_page, filled, opened_buckets}
 use Rattle.mvd_sync.specs.declared.cursor.Entry.{Entry}

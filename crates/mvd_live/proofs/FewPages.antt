@@ -13,8 +13,8 @@ use Rattle.mvd_peer.specs.PushedStates.{Each}
 use Rattle.mvd_peer.specs.Sides.{two}
 use Rattle.mvd_peer.specs.Windows.{ForEach}
 use Rattle.mvd_sync.specs.Answers.{ListingValue, PageEntry, TakesLesser, is_spent, of_both, of_first, of_second}
-use Rattle.mvd_sync.specs.Buckets.{waits_if}
-use Rattle.mvd_sync.specs.Exchanges.{keys_next}
+use Rattle.mvd_sync.proofs.Buckets.{waits_if}
+use Rattle.mvd_sync.proofs.Exchanges.{keys_next}
 use Rattle.mvd_sync.specs.Meetings.{is_held}
 use Rattle.mvd_sync.specs.Session.{AreDistinct, AreFew, IsIn, is_member}
 use Rattle.mvd_sync.specs.Walking.{TakesNext, filled, first_page, opened_buckets}

@@ -6,7 +6,7 @@ use Rattle.mvd_keys.specs.Writes.{Key}
 use Rattle.mvd_peer.specs.PushedStates.{Each}
 use Rattle.mvd_peer.specs.Windows.{ForEach}
 use Rattle.mvd_sync.specs.Answers.{ListingValue, is_spent}
-use Rattle.mvd_sync.specs.Buckets.{waits_if}
+use Rattle.mvd_sync.proofs.Buckets.{waits_if}
 use Rattle.mvd_sync.specs.Exchanges.{Exchanging}
 use Rattle.mvd_sync.specs.Level.{IsDown, Level}
 use Rattle.mvd_sync.specs.Machines.{FromTurn, FromWalk, GoesAlone, IsQuiet, SettlesFound, StageAsks, StageWent, TurnBegins, counts, ends, equal, fills, goes_on, here, is_same, last, none_found, on, turns, waits, wanted_count}

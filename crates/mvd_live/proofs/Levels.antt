@@ -12,7 +12,8 @@ use Rattle.mvd_site.specs.Held.{States}
 use Rattle.mvd_peer.specs.PushedStates.{Each}
 use Rattle.mvd_peer.specs.Windows.{ForEach, IsNode}
 use Rattle.mvd_sync.specs.Level.{GoesDown, IsDown, Level, along, down, next_nodes}
-use Rattle.mvd_sync.specs.Nodes.{differing_children, differs_at, has_below}
+use Rattle.mvd_sync.specs.Nodes.{differing_children, differs_at}
+use Rattle.mvd_sync.proofs.Walk.{has_below}
 use Rattle.mvd_sync.specs.Tellings.{IsNodeOf}
 use Rattle.mvd_sync.specs.Walk.{told, told_all}
 use Rattle.mvd_sync.specs.declared.asking.Node.{Node}

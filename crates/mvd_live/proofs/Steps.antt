@@ -8,7 +8,8 @@ use Rattle.mvd_site.specs.Held.{AreHeld, States}
 use Rattle.mvd_peer.specs.Sides.{Two}
 use Rattle.mvd_peer.specs.Windows.{ForEach}
 use Rattle.mvd_sync.specs.Answers.{ListingValue}
-use Rattle.mvd_sync.specs.Exchanges.{Counts, Done as DoneKey, Exchanging}
+use Rattle.mvd_sync.proofs.Exchanges.{Counts}
+use Rattle.mvd_sync.specs.Exchanges.{Done as DoneKey, Exchanging}
 use Rattle.mvd_sync.specs.Level.{GoesDown, IsDown, Level, next_nodes}
 use Rattle.mvd_sync.specs.Machines.{CarriedOn, HearsAt, Pushed, SettlesFound, StageAsks, TakesShares, TurnBegins, both, goes, is_same, of_local, of_other, of_peer, of_side, other_of, share_of, told_by_side, wanted_at, wanted_count}
 use Rattle.mvd_sync.specs.Meetings.{ArePlans, held_keys}

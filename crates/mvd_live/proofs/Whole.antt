@@ -10,7 +10,8 @@ use Rattle.mvd_peer.proofs.JoinLaws.{valid_at}
 use Rattle.mvd_peer.specs.Live.{Grows}
 use Rattle.mvd_peer.specs.PushedStates.{Each}
 use Rattle.mvd_peer.specs.Sides.{Two}
-use Rattle.mvd_sync.specs.Exchanges.{Counts, Done as DoneKey, Exchanging, left_keys}
+use Rattle.mvd_sync.proofs.Exchanges.{Counts}
+use Rattle.mvd_sync.specs.Exchanges.{Done as DoneKey, Exchanging, left_keys}
 use Rattle.mvd_sync.specs.Machines.{HasNext, HearsAt, Machining, StageAsks, StageHears, TakesShares, hears, is_same, quiet, stage_after, stage_told, wanted_at}
 use Rattle.mvd_sync.specs.OneTurn.{untold}
 use Rattle.mvd_sync.specs.Steps.{Wanted}

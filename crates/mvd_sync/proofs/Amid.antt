@@ -1,16 +1,16 @@
 -- How far a session has come, as its machine stands.
-use Rattle.std.proofs.Common.{◌≡◌, ◌≢◌, ℕ, ◌+◌, ◌<◌, true, List, [], ◌∷◌, ◌++◌, length, sym, subst, arith}
+use Rattle.std.proofs.Common.{◌≡◌, ◌≢◌, ℕ, ◌+◌, true, List, [], ◌∷◌, ◌++◌, sym, subst, arith}
 use Rattle.std.specs.Prelude.{Result, Ok, Err, MatchResult}
-use Rattle.mvd_keys.specs.State.{State}
 use Rattle.mvd_peer.specs.PushedStates.{Each}
 use Rattle.mvd_peer.specs.Sides.{SideOf, Two}
 use Rattle.mvd_site.specs.Held.{AreHeld}
-use Rattle.mvd_sync.specs.Carries.{Carried, Planned}
-use Rattle.mvd_sync.specs.Exchanges.{Exchanges, Exchanging, IsHeldByEither, Moment}
+use Rattle.mvd_sync.proofs.Carries.{Carried, Planned}
+use Rattle.mvd_sync.proofs.Exchanges.{Exchanges, Moment}
+use Rattle.mvd_sync.specs.Exchanges.{Exchanging, IsHeldByEither}
 use Rattle.mvd_sync.specs.OneTurn.{untold}
 use Rattle.mvd_sync.specs.Questions.{IsWindow}
 use Rattle.mvd_sync.specs.Session.{Asking}
-use Rattle.mvd_sync.specs.Walk.{local_of, peer_of}
+use Rattle.mvd_sync.proofs.Walk.{local_of}
 use Rattle.mvd_sync.specs.Walking.{IsWalked, Walking}
 use Rattle.mvd_sync.specs.declared.asking.Questions.{Questions}
 use Rattle.mvd_sync.specs.declared.cursor.Entry.{Entry}

@@ -1,31 +1,29 @@
 -- How a session stands after a step without a question.
-use Rattle.std.proofs.Common.{◌≡◌, ◌≢◌, ℕ, ◌+◌, ◌<◌, ◌≤◌, false, List, [], ◌∷◌, ◌++◌, length, map, refl, sym, ap, subst, ◌∙◌, arith, Option, Some, None}
+use Rattle.std.proofs.Common.{◌≡◌, ◌≢◌, ℕ, ◌+◌, List, [], ◌∷◌, ◌++◌, length, map, refl, sym, ap, subst, ◌∙◌, arith, Option, Some, None}
 use Rattle.std.specs.Prelude.{Ok}
 use Rattle.mvd_peer.specs.PushedStates.{Each}
 use Rattle.mvd_peer.specs.Sides.{SideOf, Two}
-use Rattle.mvd_sync.specs.Exchanges.{CountsDone, Exchanges, Exchanging, IsHeldByEither, Moment}
+use Rattle.mvd_sync.specs.Exchanges.{CountsDone, Exchanging, IsHeldByEither}
+use Rattle.mvd_sync.proofs.Exchanges.{Moment}
 use Rattle.mvd_sync.specs.Level.{IsDown, Level}
 use Rattle.mvd_sync.specs.Machines.{FromTurn, FromWalk, GoesAlone, IsQuiet, SettlesFound, counts, ends, equal, fills, goes_on, last, none_found, turns, waits}
 use Rattle.mvd_sync.specs.Meetings.{done_of, noted}
 use Rattle.mvd_sync.specs.Session.{Asking}
 use Rattle.mvd_sync.specs.Walking.{GoesTo, IsWalked, Walking, closes, pages_next, tells, waits as waits_page}
 use Rattle.mvd_sync.specs.declared.cursor.Entry.{Entry}
-use Rattle.mvd_sync.specs.declared.meetings.Meeting.{Meeting}
 use Rattle.mvd_sync.specs.declared.report.Side.TheVariants.{Local as AtLocal, Peer as AtPeer}
-use Rattle.mvd_sync.specs.declared.report.SyncFault.{SyncFault}
 use Rattle.mvd_sync.specs.declared.stage.Stage.{Stage}
 use Rattle.mvd_sync.specs.declared.stage.Stage.TheVariants.{Carries, Descends, Done, Failed, Meets, Walks}
 use Rattle.mvd_sync.specs.declared.turn.Turn.{Turn}
 use Rattle.mvd_sync.specs.declared.walking.Bucket.{Bucket}
 use Rattle.mvd_sync.proofs.Amid.{AtBuckets, AtTurn, AtWalk, Carrying, Ended, Laws, Stands, after_last, at_last, begin, by_local, by_peer, of_key, on_walk, owes_done, start, total}
 use Rattle.mvd_sync.proofs.Bucket.{settles_by_exchange, settles_nothing}
-use Rattle.mvd_sync.proofs.Descending.{StandsAt, stands_last}
+use Rattle.mvd_sync.proofs.Descending.{stands_last}
 use Rattle.mvd_sync.proofs.Exchanged.{all_done}
 use Rattle.mvd_sync.proofs.Exchanging.{exchanges_all, exchanges_later}
 use Rattle.mvd_sync.proofs.Nodes.{Each-append}
-use Rattle.mvd_sync.proofs.Positions.{sides}
 use Rattle.mvd_sync.proofs.Turning.{TurnStands, turn_begins, turn_carried}
-use Rattle.mvd_sync.proofs.Walked.{Found, Walked, WalksOn, found_settles, walk_begins, walk_done, walk_goes}
+use Rattle.mvd_sync.proofs.Walked.{Found, WalksOn, found_settles, walk_begins, walk_done, walk_goes}
 use Rattle.mvd_sync.proofs.WalkedOn.{found_held, found_steady}
 
 -- a walk that is over goes to no key

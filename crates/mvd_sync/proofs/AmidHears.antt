@@ -1,5 +1,5 @@
 -- How a session stands with what both sides said of a window, or how it ended.
-use Rattle.std.proofs.Common.{◌≡◌, ◌≢◌, ℕ, zero, suc, ◌+◌, ◌<◌, ◌≤◌, inl, inr, cond, List, [], ◌∷◌, length, filter_map, take, refl, sym, ap, subst, ◌∙◌, arith, None}
+use Rattle.std.proofs.Common.{◌≡◌, ◌≢◌, ℕ, ◌<◌, ◌≤◌, inl, inr, cond, List, [], length, take, refl, sym, ap, subst, ◌∙◌, arith, None}
 use Rattle.std.specs.Prelude.{Option, Result, Ok, Err, Vec}
 use Rattle.std.specs.declared.alloc.Global.{Global}
 use Rattle.std.proofs.lemmas.Bool.{cases_lt}
@@ -7,24 +7,25 @@ use Rattle.mvd_dots.specs.declared.refusals.Refusal.{Refusal}
 use Rattle.mvd_dots.specs.declared.refusals.Refusal.TheVariants.{Memory}
 use Rattle.mvd_keys.specs.State.{State}
 use Rattle.mvd_peer.specs.PushedStates.{Each}
-use Rattle.mvd_peer.specs.Sides.{SideOf, Two, two}
+use Rattle.mvd_peer.specs.Sides.{SideOf, Two}
 use Rattle.mvd_sync.specs.Answers.{ListingValue}
-use Rattle.mvd_sync.specs.Carries.{Carried}
-use Rattle.mvd_sync.specs.Exchanges.{Exchanging, IsHeldByEither, Moment}
+use Rattle.mvd_sync.proofs.Carries.{Carried}
+use Rattle.mvd_sync.specs.Exchanges.{Exchanging, IsHeldByEither}
+use Rattle.mvd_sync.proofs.Exchanges.{Moment}
 use Rattle.mvd_sync.specs.Level.{IsDown, Level, next_nodes}
 use Rattle.mvd_sync.specs.Machines.{CarriedOn, HearsAt, ReadBoth, StageAsks, TakesShares, both, goes, is_same, of_local, of_other, of_peer, of_side, other_of, share_of, told_by_side}
 use Rattle.mvd_sync.specs.Machines as machine
-use Rattle.mvd_sync.specs.Meetings.{ArePlans, held_keys, pushed_pair}
+use Rattle.mvd_sync.specs.Meetings.{ArePlans, held_keys}
 use Rattle.mvd_sync.specs.OneTurn.{untold}
-use Rattle.mvd_sync.specs.Questions.{IsWindow, TakesBudget, with_left}
+use Rattle.mvd_sync.specs.Questions.{IsWindow, TakesBudget}
+use Rattle.mvd_sync.proofs.Reads.{with_left}
 use Rattle.mvd_sync.specs.Session.{Asking}
 use Rattle.mvd_sync.specs.Tellings.{IsListingOf, IsNoNode, IsNoPage, IsNodeOf, IsRead, IsStateOf, never, nodes_told, pages_told, pushes_told, states_told, unasked_told}
-use Rattle.mvd_sync.specs.Walk.{ReadsEnd}
-use Rattle.mvd_sync.specs.Walking.{IsWalked, PageQuestion, PagesEnd, PagesTold, Walking, pages_next, pages_of}
+use Rattle.mvd_sync.specs.Walking.{IsWalked, PageQuestion, Walking, pages_next, pages_of}
+use Rattle.mvd_sync.proofs.Walk.{PagesEnd, PagesTold}
 use Rattle.mvd_sync.specs.declared.asking.Node.{Node}
 use Rattle.mvd_sync.specs.declared.asking.Questions.{Questions}
 use Rattle.mvd_sync.specs.declared.cursor.Entry.{Entry}
-use Rattle.mvd_sync.specs.declared.report.Side.{Side}
 use Rattle.mvd_sync.specs.declared.report.Side.TheVariants.{Local as AtLocal, Peer as AtPeer}
 use Rattle.mvd_sync.specs.declared.report.SyncFault.{SyncFault}
 use Rattle.mvd_sync.specs.declared.report.SyncFault.TheVariants.{Local, Peer}
@@ -34,7 +35,7 @@ use Rattle.mvd_sync.specs.declared.telling.Answers.{Answers}
 use Rattle.mvd_sync.specs.declared.telling.Shares.{Shares}
 use Rattle.mvd_sync.specs.declared.telling.Told.{Told}
 use Rattle.mvd_sync.specs.declared.turn.Turn.{Turn}
-use Rattle.mvd_sync.proofs.Amid.{AtBuckets, AtMeets, AtTurn, AtWalk, Carrying, Comes, Ended, EndsAt, Laws, Stands, after_last, at_last, begin, by_local, by_peer, of_key, on_walk, over_ends, owes_ends, start, total}
+use Rattle.mvd_sync.proofs.Amid.{AtBuckets, AtMeets, AtTurn, AtWalk, Carrying, Comes, Ended, EndsAt, Laws, Stands, after_last, begin, by_local, by_peer, on_walk, over_ends, owes_ends, total}
 use Rattle.mvd_sync.proofs.AmidAlone.{settled}
 use Rattle.mvd_sync.proofs.AmidSaid.{IsSaid, SaidTurn}
 use Rattle.mvd_sync.proofs.Answering.{said_moves}
@@ -48,7 +49,7 @@ use Rattle.mvd_sync.proofs.Planning.{ends_at_local, ends_at_peer, ends_for_memor
 use Rattle.mvd_sync.proofs.Positions.{ExchangesAllBy, ReadsEndBy, sides}
 use Rattle.mvd_sync.proofs.Said.{nodes_read, pages_read, states_read}
 use Rattle.mvd_sync.proofs.Sessions.{session_exchanges, session_walks}
-use Rattle.mvd_sync.proofs.Turning.{TurnStands, turn_begins, turn_ends, turn_memory, turn_pushed, turn_some}
+use Rattle.mvd_sync.proofs.Turning.{turn_begins, turn_ends, turn_memory, turn_pushed, turn_some}
 use Rattle.mvd_sync.proofs.Walked.{Walked, nothing_read}
 use Rattle.mvd_sync.proofs.WalkedOn.{asks_between, asks_deep, walk_ends, walk_memory, walk_told}
 

@@ -1,13 +1,8 @@
 -- Paths below a path, and what equal digests mean there.
-use Rattle.std.proofs.Common.{◌≡◌, ℕ, zero, suc, ◌<◌, ◌≤◌, List, [], ◌∷◌, ◌++◌, length, get_or, refl, ap, ◌∙◌, arith}
-use Rattle.std.specs.Prelude.{IsTrue}
-use Rattle.mvd_site.specs.Held.{States}
-use Rattle.mvd_site.specs.Answer.{digests}
-use Rattle.mvd_tree.specs.HashTree.{begins, KeyDigests, digits, node_digest}
-use Rattle.mvd_tree.specs.Hashed.{SameUnder}
+use Rattle.std.proofs.Common.{◌≡◌, ℕ, zero, suc, ◌<◌, List, [], ◌∷◌, ◌++◌, length, get_or, refl, ap, ◌∙◌, arith}
+use Rattle.mvd_tree.specs.HashTree.{KeyDigests, digits, node_digest}
 use Rattle.std.proofs.lemmas.List.{get_or-map}
 use Rattle.mvd_tree.specs.Page.{children_digests}
-use Rattle.mvd_sync.specs.Walk.{DigestsTell}
 
 -- ---- the digests of children
 
@@ -40,7 +35,3 @@ pub child_digest : (held : KeyDigests) (path : List ℕ) (d : ℕ) → d < 16 �
 child_digest held path d h xs e =
     let n = sixteen_digits in
     ap (λ ys. get_or ys d []) e ∙ get_or-map (λ d. node_digest held (path ++ d ∷ [])) digits d 0 [] (omega (arith, n)) ∙ ap (λ d. node_digest held (path ++ d ∷ [])) (digit_at d h)
-
--- equal digests of a node, where they tell
-pub told_at : (path below : List ℕ) (a b : States) → DigestsTell path a b → IsTrue (begins path below) → length below ≤ 3 → node_digest (digests a) below ≡ node_digest (digests b) below → SameUnder below a b
-told_at path below a b tell within short e = tell.nodes below within short e

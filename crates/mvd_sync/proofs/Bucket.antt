@@ -8,14 +8,16 @@ use Rattle.mvd_site.specs.Answer.{digests}
 use Rattle.mvd_site.specs.Held.{States}
 use Rattle.mvd_tree.specs.HashTree.{is_under}
 use Rattle.mvd_tree.specs.Page.{is_after}
-use Rattle.mvd_sync.specs.Questions.{with_left}
-use Rattle.mvd_sync.specs.Answers.{IsBucketPage, ListingValue, TakesLesser}
-use Rattle.mvd_sync.specs.Buckets.{AreElsewhere, ArePages, held_in, waits_if}
-use Rattle.mvd_sync.specs.Exchanges.{AreNext, Counts, Done, Exchanging, keys_done, keys_next}
-use Rattle.mvd_sync.specs.Nodes.{has_below}
+use Rattle.mvd_sync.proofs.Reads.{with_left}
+use Rattle.mvd_sync.proofs.Reads.{IsBucketPage}
+use Rattle.mvd_sync.specs.Answers.{ListingValue, TakesLesser}
+use Rattle.mvd_sync.proofs.Buckets.{AreElsewhere, ArePages, held_in, waits_if}
+use Rattle.mvd_sync.proofs.Exchanges.{AreNext, Counts, keys_next}
+use Rattle.mvd_sync.specs.Exchanges.{Done, Exchanging, keys_done}
+use Rattle.mvd_sync.proofs.Walk.{has_below}
 use Rattle.mvd_peer.specs.PushedStates.{Each}
 use Rattle.mvd_peer.specs.Sides.{SideOf, two}
-use Rattle.mvd_sync.specs.Walk.{ReadsSide}
+use Rattle.mvd_sync.proofs.Walk.{ReadsSide}
 use Rattle.mvd_sync.specs.declared.cursor.Entry.{Entry}
 use Rattle.mvd_sync.specs.declared.asking.Questions.{Questions}
 use Rattle.mvd_sync.specs.declared.report.SyncFault.{SyncFault}

@@ -1,9 +1,8 @@
 -- Questions after questions, of those that are left.
-use Rattle.std.proofs.Common.{◌≡◌, ℕ, ◌+◌, ◌≤◌, ◌∙◌, arith, ap}
+use Rattle.std.proofs.Common.{◌≡◌, ℕ, ◌+◌, ◌≤◌, ◌∙◌, arith}
 use Rattle.mvd_dots.specs.declared.refusals.Refusal.{Refusal}
-use Rattle.mvd_dots.specs.declared.refusals.Refusal.TheVariants.{Memory}
-use Rattle.mvd_sync.specs.Questions.{ComesToEnd, Keeps, with_left}
-use Rattle.mvd_peer.specs.Sides.{HasAnswered, HasRefused, Reaches, SideOf, is_of_question}
+use Rattle.mvd_sync.proofs.Reads.{Keeps}
+use Rattle.mvd_peer.specs.Sides.{HasAnswered, HasRefused, Reaches, SideOf}
 use Rattle.mvd_sync.specs.Faults.{of_answer, of_memory, of_questions, of_side}
 use Rattle.mvd_sync.proofs.Positions.{BlamesBy}
 
@@ -26,32 +25,6 @@ module _ {S : Type 0} (s : SideOf S) (on : (m n : ℕ) (old mid new : S) → s.f
     blames_later asked wanted refusal (of_answer e false_one) = of_answer e (λ t. false_one (still t))
     blames_later asked wanted refusal (of_questions e all one) = of_questions e (omega arith) one
     blames_later asked wanted refusal (of_memory e) = of_memory e
-
-    -- questions that came to an end after others
-    pub ends_later : (T U : Type 0) (questions : ℕ) (refusal : Refusal) → (s.is_faithful old → T → U) → ComesToEnd s T questions (with_left mid left') new refusal → ComesToEnd s U (n + questions) (with_left old left) new refusal
-    ends_later T U questions refusal then e = record {
-      asked = n + e.asked;
-      wanted = e.wanted;
-      few = let few = e.few in omega arith;
-      within = let within = e.within in omega arith;
-      follows = on n e.asked old mid new before e.follows;
-      cause = blames_later e.asked e.wanted refusal e.cause;
-      not_of_question = λ t. e.not_of_question (still t);
-      right = λ t. then t (e.right (still t));
-    }
-
--- memory was refused after some questions
-pub ends_for_memory : {S : Type 0} (s : SideOf S) (T : Type 0) (questions left left' n : ℕ) (old new : S) (refusal : Refusal) → left ≡ left' + n → n ≤ questions → s.follows n old new → (s.is_faithful old → T) → refusal ≡ Memory → ComesToEnd s T questions (with_left old left) new refusal
-ends_for_memory s T questions left left' n old new refusal spent few follows then is = record {
-  asked = n;
-  wanted = 0;
-  few = omega (arith, few);
-  within = omega arith;
-  follows = follows;
-  cause = of_memory is;
-  not_of_question = λ _. ap is_of_question is;
-  right = then;
-}
 
 -- so many questions at most were made to a side, and changed nothing
 pub record Moves {S : Type 0} (s : SideOf S) (most left : ℕ) (old new : S) : Type 0 where

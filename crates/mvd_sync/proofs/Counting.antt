@@ -7,7 +7,8 @@ use Rattle.mvd_sync.specs.declared.report.Left.{Left}
 use Rattle.std.proofs.lemmas.List.Elements.{filter-append, filter_map-append}
 use Rattle.mvd_dots.specs.declared.refusals.Refusal.{Refusal}
 use Rattle.mvd_sync.specs.declared.report.Side.{Side}
-use Rattle.mvd_sync.specs.Exchanges.{CountsDone, Counts, Done, Exchanging, given_keys, is_given, keys_done, left_keys, left_of, left_as}
+use Rattle.mvd_sync.specs.Exchanges.{CountsDone, Done, Exchanging, given_keys, is_given, keys_done, left_keys, left_of, left_as}
+use Rattle.mvd_sync.proofs.Exchanges.{Counts}
 
 pub take_all : {X : Type 0} (n : ℕ) (xs : List X) → length xs ≤ n → take n xs ≡ xs
 take_all zero [] h = refl

@@ -1,18 +1,17 @@
 -- A session is what its run is.
-use Rattle.std.proofs.Common.{◌≡◌, ◌≢◌, ◌⊎◌, inl, inr, ℕ, ◌+◌, ◌*◌, ◌<◌, ◌≤◌, Bool, true, false, cond, List, [], ◌∷◌, ◌++◌, length, take, refl, sym, ap, subst, ◌∙◌, arith, Option, Some, None, length-append}
+use Rattle.std.proofs.Common.{◌≡◌, inl, inr, ℕ, ◌+◌, ◌*◌, ◌<◌, ◌≤◌, cond, List, [], ◌∷◌, length, refl, sym, ap, subst, ◌∙◌, arith, Option, None, length-append}
 use Rattle.std.specs.Prelude.{Result, Ok, Err}
 use Rattle.std.proofs.lemmas.Bool.{cases_lt}
 use Rattle.std.proofs.lemmas.List.{length-drop, length-take}
 use Rattle.mvd_dots.specs.declared.refusals.Refusal.TheVariants.{Memory}
-use Rattle.mvd_peer.specs.PushedStates.{Each}
 use Rattle.mvd_peer.specs.Sides.{SideOf, Two, two}
-use Rattle.mvd_sync.specs.Exchanges.{Exchanging, IsHeldByEither, Moment}
-use Rattle.mvd_sync.specs.Level.{IsDown, Level, next_nodes}
-use Rattle.mvd_sync.specs.Machines.{HasNext, HearsAt, Machining, StageAsks, StageHears, StageWent, Starts, TakesShares, TakesTold, hears, here, is_same, on, quiet, stage_after, stage_told, wanted_at, wanted_count}
+use Rattle.mvd_sync.specs.Exchanges.{Exchanging}
+use Rattle.mvd_sync.proofs.Exchanges.{Moment}
+use Rattle.mvd_sync.specs.Machines.{HasNext, HearsAt, Machining, StageAsks, StageHears, StageWent, Starts, hears, here, is_same, on, quiet, stage_after, stage_told, wanted_at, wanted_count}
 use Rattle.mvd_sync.specs.OneTurn.{untold}
 use Rattle.mvd_sync.specs.Ran.{BothTell, EndsBy, EndsRun, IsRun, RunsTo, Running, SideSays, TakesWindow, alone, answered, begins, before, after, now_at, told, unasked}
 use Rattle.mvd_sync.specs.Session.{Asking}
-use Rattle.mvd_sync.specs.Steps.{asked, cut_wanted}
+use Rattle.mvd_sync.specs.Steps.{cut_wanted}
 use Rattle.mvd_sync.specs.Walking.{Walking}
 use Rattle.mvd_sync.specs.declared.asking.Questions.{Questions}
 use Rattle.mvd_sync.specs.declared.cursor.Entry.{Entry}
@@ -24,7 +23,6 @@ use Rattle.mvd_sync.specs.declared.report.SyncFault.TheVariants.{Local}
 use Rattle.mvd_sync.specs.declared.stage.Stage.{Stage}
 use Rattle.mvd_sync.specs.declared.stage.Stage.TheVariants.{Carries, Descends, Done, Failed, Meets, Walks}
 use Rattle.mvd_sync.specs.declared.telling.Answers.{Answers}
-use Rattle.mvd_sync.specs.declared.telling.Shares.{Shares}
 use Rattle.mvd_sync.specs.declared.telling.Told.{Told}
 use Rattle.mvd_sync.proofs.Amid.{AtBuckets, AtWalk, Ended, EndsAt, Laws, Owes, Stands, after_last, at_last, begin, of_key, on_walk, start, total}
 use Rattle.mvd_sync.proofs.AmidAlone.{stands_alone}

@@ -9,7 +9,8 @@ use Rattle.mvd_keys.specs.State.{IsValid, State, empty_state, join}
 use Rattle.mvd_keys.proofs.Joins.{join_commutes}
 use Rattle.mvd_site.specs.Answer.{is_too_large}
 use Rattle.mvd_site.specs.Held.{AreHeld, States, state_at}
-use Rattle.mvd_sync.specs.Exchanges.{AreNext, Done, given_keys, is_given, joined_keys, keys_done, keys_next}
+use Rattle.mvd_sync.proofs.Exchanges.{AreNext, joined_keys, keys_next}
+use Rattle.mvd_sync.specs.Exchanges.{Done, given_keys, is_given, keys_done}
 use Rattle.mvd_sync.specs.Meetings.{ArePlans, done_of, held_keys, noted, pushed_pair, taken_from, wanted}
 use Rattle.mvd_peer.specs.Windows.{ForEach}
 use Rattle.mvd_sync.specs.Questions.{IsOfKey}

@@ -1,6 +1,5 @@
 -- A descent between two windows of questions.
-use Rattle.std.proofs.Common.{◌≡◌, ◌≢◌, ℕ, zero, suc, ◌+◌, ◌*◌, ◌<◌, ◌-◌, ◌≤◌, ◌↔◌, Bool, true, false, true≢false, inl, inr, List, [], ◌∷◌, ◌++◌, length, take, drop, refl, sym, ap, subst, ◌∙◌, arith, append-nil, append_assoc, length-drop}
-use Rattle.std.proofs.lemmas.Bool.{cases_lt}
+use Rattle.std.proofs.Common.{◌≡◌, ◌≢◌, ℕ, zero, suc, ◌+◌, ◌*◌, ◌<◌, ◌-◌, ◌≤◌, ◌↔◌, inl, inr, List, [], ◌∷◌, ◌++◌, length, take, drop, refl, sym, ap, subst, ◌∙◌, arith, append-nil, append_assoc, length-drop}
 use Rattle.std.proofs.lemmas.List.{drop-drop, length-take, take-append-drop, take_all}
 use Rattle.mvd_dots.specs.declared.refusals.Refusal.{Refusal}
 use Rattle.mvd_dots.specs.declared.refusals.Refusal.TheVariants.{Memory}
@@ -9,8 +8,9 @@ use Rattle.mvd_site.specs.Held.{AreHeld}
 use Rattle.mvd_peer.specs.PushedStates.{Each}
 use Rattle.mvd_peer.specs.Sides.{HasAnswered, SideOf}
 use Rattle.mvd_sync.specs.Level.{GoesDown, IsDown, Level, along, down, found_by, next_nodes}
-use Rattle.mvd_sync.specs.Questions.{AllAnswered, AnswersEach, ComesToEnd, IsInner, Keeps, with_left}
-use Rattle.mvd_sync.specs.Walk.{ReadsSide, told_all}
+use Rattle.mvd_sync.proofs.Reads.{AllAnswered, AnswersEach, ComesToEnd, IsInner, Keeps, with_left}
+use Rattle.mvd_sync.proofs.Walk.{ReadsSide}
+use Rattle.mvd_sync.specs.Walk.{told_all}
 use Rattle.mvd_sync.specs.declared.asking.Node.{Node}
 use Rattle.mvd_sync.specs.declared.asking.Questions.{Questions}
 use Rattle.mvd_sync.specs.declared.report.SyncFault.TheVariants.{Local, Peer}
@@ -77,10 +77,6 @@ module _ (old : Level) (depth told count : ℕ) (paths below found : List (List 
       subst (λ at. GoesDown at mine theirs (record { depth = depth + 1; rest = next; below = none })) view new
 
 -- ---- how it stands
-
--- it is above the buckets, unless it is done
-pub still_above : (done : Bool) (at : Level) → ((done ≡ true) ↔ IsDown at) → done ≡ false → at.depth < 3
-still_above done at is more = elim (cases_lt at.depth 3) [ inl less ↦ less | inr not_less ↦ absurd (true≢false (sym (is.1 (inl not_less)) ∙ more)) ]
 
 -- a side told of nodes
 abbrev pub ToldNodes : {S : Type 0} → SideOf S → List (List ℕ) → List Node → (left left' : ℕ) → (old new : S) → Type 0

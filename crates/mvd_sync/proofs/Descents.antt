@@ -5,12 +5,13 @@ use Rattle.std.proofs.lemmas.List.{append-nil, length-take}
 use Rattle.mvd_site.specs.Answer.{digests}
 use Rattle.mvd_tree.specs.HashTree.{KeyDigests}
 use Rattle.mvd_sync.specs.Nodes.{differing_children}
-use Rattle.mvd_sync.specs.Questions.{AllAnswered, AnswersEach, IsInner, with_left}
+use Rattle.mvd_sync.proofs.Reads.{AllAnswered, AnswersEach, IsInner, with_left}
 use Rattle.mvd_peer.specs.Windows.{ForEach}
 use Rattle.mvd_peer.specs.PushedStates.{Each}
 use Rattle.mvd_peer.specs.Sides.{HasAnswered, SideOf}
 use Rattle.mvd_sync.specs.Faults.{IsFaultOf}
-use Rattle.mvd_sync.specs.Walk.{ReadsSide, told, told_all}
+use Rattle.mvd_sync.proofs.Walk.{ReadsSide}
+use Rattle.mvd_sync.specs.Walk.{told, told_all}
 use Rattle.mvd_sync.specs.declared.asking.Node.{Node}
 use Rattle.mvd_sync.specs.declared.asking.Questions.{Questions}
 use Rattle.mvd_sync.specs.declared.report.SyncFault.{SyncFault}
@@ -195,6 +196,3 @@ module _ {L P : Type 0} (l : SideOf L) (p : SideOf P)
               let other = subst (λ m. ForEach (IsInner (digests m)) window theirs) j.states (second.right j.still).right in
               (λ i. before.is u v i ++ told_all-is a b window mine theirs own other i) ∙ sym (differing_children-append a b done window);
         }
-
-    pub descends_on : (all : List (List ℕ)) → all ≡ below ++ told_all window mine theirs → DescendsBy l p (done ++ window) left left' local local2 peer peer2 all
-    descends_on all e = subst (DescendsBy l p (done ++ window) left left' local local2 peer peer2) (sym e) descends_more

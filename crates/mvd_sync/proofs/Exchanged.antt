@@ -8,10 +8,12 @@ use Rattle.mvd_wire.specs.Codecs.{spell_state, state_limit}
 use Rattle.mvd_wire.proofs.Spellings.{length_empty}
 use Rattle.mvd_site.specs.Answer.{is_too_large}
 use Rattle.mvd_site.specs.Held.{AreHeld, States}
-use Rattle.mvd_sync.specs.Carries.{Carried}
-use Rattle.mvd_sync.specs.Exchanges.{Done, IsHeldByEither, keys_next}
+use Rattle.mvd_sync.proofs.Carries.{Carried}
+use Rattle.mvd_sync.specs.Exchanges.{Done, IsHeldByEither}
+use Rattle.mvd_sync.proofs.Exchanges.{keys_next}
 use Rattle.mvd_sync.specs.Meetings.{done_of, held_keys, noted, pushed_pair, taken_from}
-use Rattle.mvd_sync.specs.Questions.{ComesToEnd, IsOfKey, Keeps, TakesIn, TakesInFirst, with_left}
+use Rattle.mvd_sync.proofs.Reads.{ComesToEnd, Keeps, TakesIn, TakesInFirst, with_left}
+use Rattle.mvd_sync.specs.Questions.{IsOfKey}
 use Rattle.mvd_peer.specs.Windows.{ForEach}
 use Rattle.mvd_peer.specs.PushedStates.{ComesByPushes, Each}
 use Rattle.mvd_peer.specs.Sides.{IsSilent, SideOf}

@@ -1,12 +1,13 @@
 -- The keys that wait are exchanged, or one more waits.
 use Rattle.std.proofs.Common.{◌≡◌, ◌≢◌, ℕ, Option, ◌+◌, ◌<◌, ◌≤◌, List, [], ◌∷◌, ◌++◌, length, map, refl, sym, ap, subst, ◌∙◌, arith, length-append, ◌↔◌, Bool, true, false, true≢false, inl, inr}
-use Rattle.std.specs.Prelude.{◌⊎◌, Result, Ok, Err, is_some}
+use Rattle.std.specs.Prelude.{◌⊎◌, Ok, Err, is_some}
 use Rattle.std.proofs.lemmas.List.{append-nil, length-map}
 use Rattle.mvd_dots.specs.declared.refusals.Refusal.{Refusal}
 use Rattle.mvd_dots.specs.declared.refusals.Refusal.TheVariants.{Broken, Memory}
 use Rattle.mvd_keys.specs.State.{State}
 use Rattle.mvd_site.specs.Held.{States}
-use Rattle.mvd_sync.specs.Exchanges.{CountsDone, AreNext, Counts, Done, Exchanging, given_keys, keys_done, keys_next, left_keys}
+use Rattle.mvd_sync.specs.Exchanges.{CountsDone, Done, Exchanging, given_keys, keys_done, left_keys}
+use Rattle.mvd_sync.proofs.Exchanges.{AreNext, Counts, keys_next}
 use Rattle.mvd_sync.specs.Meetings.{done_of}
 use Rattle.mvd_sync.specs.Session.{AreDistinct, ChangesSide}
 use Rattle.mvd_peer.specs.Sides.{SideOf}

@@ -4,12 +4,12 @@ use Rattle.std.specs.Prelude.{IfErr, OnOk, Result, Ok, Err}
 use Rattle.mvd_keys.specs.State.{State}
 use Rattle.mvd_keys.specs.Writes.{Key}
 use Rattle.mvd_site.specs.Held.{States}
-use Rattle.mvd_sync.specs.Questions.{with_left}
+use Rattle.mvd_sync.proofs.Reads.{with_left}
 use Rattle.mvd_sync.specs.Exchanges.{Exchanging}
 use Rattle.mvd_sync.specs.Session.{ChangesSide}
 use Rattle.mvd_sync.specs.Faults.{IsFaultOf}
 use Rattle.mvd_peer.specs.Sides.{IsSilent, SideOf}
-use Rattle.mvd_sync.specs.Walk.{ReadsSide}
+use Rattle.mvd_sync.proofs.Walk.{ReadsSide}
 use Rattle.mvd_sync.specs.declared.cursor.Entry.{Entry}
 use Rattle.mvd_sync.specs.declared.asking.Questions.{Questions}
 use Rattle.mvd_sync.specs.declared.report.SyncFault.{SyncFault}

@@ -16,9 +16,11 @@ use Rattle.mvd_tree.specs.HashTree.{KeyDigests, is_under}
 use Rattle.mvd_tree.specs.Page.{is_after, keys_after}
 use Rattle.mvd_tree.specs.States.{key_digest}
 use Rattle.mvd_peer.specs.Sides.{two}
-use Rattle.mvd_sync.specs.Answers.{IsListing, IsBucketPage, ListingValue, TakesLesser}
-use Rattle.mvd_sync.specs.Buckets.{IsSpent, waits_if}
-use Rattle.mvd_sync.specs.Exchanges.{AreNext, Done, IsNext, keys_done, keys_next}
+use Rattle.mvd_sync.proofs.Reads.{IsListing, IsBucketPage}
+use Rattle.mvd_sync.specs.Answers.{ListingValue, TakesLesser}
+use Rattle.mvd_sync.proofs.Buckets.{IsSpent, waits_if}
+use Rattle.mvd_sync.proofs.Exchanges.{AreNext, IsNext, keys_next}
+use Rattle.mvd_sync.specs.Exchanges.{Done, keys_done}
 use Rattle.mvd_sync.specs.Session.{AreDistinct, IsIn, is_member}
 use Rattle.mvd_peer.specs.PushedStates.{Each}
 use Rattle.mvd_sync.specs.declared.cursor.Entry.{Entry}

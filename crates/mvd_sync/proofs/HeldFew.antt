@@ -11,8 +11,8 @@ use Rattle.mvd_tree.specs.HashTree.{KeyDigests, is_under, path_of_key}
 use Rattle.mvd_tree.specs.Page.{is_after, keys_after}
 use Rattle.mvd_site.specs.Answer.{digests, spelled}
 use Rattle.mvd_site.specs.Held.{States}
-use Rattle.mvd_sync.specs.Buckets.{held_in}
-use Rattle.mvd_sync.specs.Nodes.{has_below}
+use Rattle.mvd_sync.proofs.Buckets.{held_in}
+use Rattle.mvd_sync.proofs.Walk.{has_below}
 use Rattle.mvd_sync.specs.Session.{AreDistinct, is_member}
 use Rattle.mvd_peer.specs.PushedStates.{Each}
 use Rattle.mvd_sync.proofs.Keys.{Each-weaker, distinct-append, or_cases, or_left, or_right}

@@ -9,7 +9,8 @@ use Rattle.mvd_dots.specs.declared.refusals.Refusal.{Refusal}
 use Rattle.mvd_keys.specs.State.{join}
 use Rattle.mvd_tree.proofs.Under.{keys_same}
 use Rattle.mvd_site.specs.Held.{States, state_at}
-use Rattle.mvd_sync.specs.Exchanges.{Done, given_keys, is_given, is_joined, joined_keys, keys_done}
+use Rattle.mvd_sync.specs.Exchanges.{Done, given_keys, is_given, keys_done}
+use Rattle.mvd_sync.proofs.Exchanges.{is_joined, joined_keys}
 use Rattle.mvd_sync.specs.Session.{AreDistinct, CanMeet, is_member}
 use Rattle.mvd_peer.specs.PushedStates.{Each}
 use Rattle.mvd_sync.specs.declared.report.Side.{Side}

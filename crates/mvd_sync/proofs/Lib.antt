@@ -1,3 +1,8 @@
+pub mod Reads
+pub mod Walk
+pub mod Exchanges
+pub mod Buckets
+pub mod Carries
 pub mod Positions
 pub mod Keys
 pub mod Below

@@ -1,5 +1,5 @@
 -- A session between two windows of questions.
-use Rattle.std.proofs.Common.{◌≡◌, ◌≢◌, ℕ, zero, suc, ◌+◌, ◌<◌, ◌≤◌, ◌^◌, ◌↔◌, Bool, true, false, cond, not, List, [], ◌∷◌, ◌++◌, map, length, drop, take, refl, sym, ap, subst, ◌∙◌, arith, Option, Some, None, inl, inr, length-append, length-drop}
+use Rattle.std.proofs.Common.{◌≡◌, ◌≢◌, ℕ, zero, suc, ◌+◌, ◌<◌, ◌≤◌, ◌↔◌, Bool, true, false, cond, not, List, [], ◌∷◌, map, length, drop, refl, sym, ap, subst, ◌∙◌, arith, Option, Some, None, inl, inr, length-append, length-drop}
 use Rattle.std.specs.Prelude.{IfErr, IfOk, IfSome, Result, Ok, Err, Vec, ◌⊎◌}
 use Rattle.std.specs.declared.alloc.Global.{Global}
 use Rattle.std.proofs.lemmas.Bool.{cases_lt}
@@ -10,9 +10,8 @@ use Rattle.mvd_peer.specs.PushedStates.{Each}
 use Rattle.mvd_sync.specs.Answers.{ListingValue}
 use Rattle.mvd_sync.specs.Exchanges.{CountsDone, Done as DoneKey, Exchanging, IsHeldByEither}
 use Rattle.mvd_sync.specs.Level.{GoesDown, IsDown, Level, along, down, next_nodes}
-use Rattle.mvd_sync.specs.Machines.{StageAsks, AsksForNext, TurnBegins, CarriedOn, FromTurn, FromWalk, GoesAlone, HasNext, HasRoomLeft, StageHears, HearsAt, IsFit, IsFitting, IsQuiet, Machining, SettlesFound, StageStands, TakesShares, StageWent, both, counts, wanted_count, ends, equal, fills, goes as took, goes_on, hears, here, in_flight, is_same, last, none_found, of_local, of_other, of_peer, of_side, on, quiet, share_of, stage_after, stays, turns, waits}
-use Rattle.mvd_sync.specs.Meetings.{ArePlans, done_of, held_keys, noted, rest_if, taken_from}
-use Rattle.mvd_sync.specs.OneTurn.{untold}
+use Rattle.mvd_sync.specs.Machines.{StageAsks, AsksForNext, TurnBegins, FromWalk, GoesAlone, HasNext, HasRoomLeft, StageHears, HearsAt, IsFit, IsFitting, IsQuiet, Machining, SettlesFound, StageStands, TakesShares, StageWent, both, counts, wanted_count, ends, equal, fills, goes as took, goes_on, hears, here, in_flight, is_same, last, none_found, of_local, of_other, of_peer, of_side, on, quiet, share_of, stage_after, stays, turns, waits}
+use Rattle.mvd_sync.specs.Meetings.{done_of, noted, rest_if, taken_from}
 use Rattle.mvd_sync.specs.Walk.{told_all}
 use Rattle.mvd_sync.specs.Walking.{GoesTo, IsTold, IsWalked, PageQuestion, Walking, closes, ends as no_later, fills as fills_page, moves, opens, pages_next, tells, waits as waits_page}
 use Rattle.mvd_sync.specs.declared.asking.Node.{Node}
@@ -27,7 +26,6 @@ use Rattle.mvd_sync.specs.declared.report.SyncFault.TheVariants.{Local}
 use Rattle.mvd_sync.specs.declared.stage.Stage.{Stage}
 use Rattle.mvd_sync.specs.declared.stage.Stage.TheVariants.{Descends, Walks, Meets, Carries, Done, Failed}
 use Rattle.mvd_sync.specs.declared.telling.Answers.{Answers}
-use Rattle.mvd_sync.specs.declared.telling.Share.{Share}
 use Rattle.mvd_sync.specs.declared.telling.Shares.{Shares}
 use Rattle.mvd_sync.specs.declared.turn.Turn.{Turn}
 use Rattle.mvd_sync.specs.declared.walking.Bucket.{Bucket}

@@ -5,7 +5,8 @@ use Rattle.std.specs.FinMap.{get}
 use Rattle.std.proofs.lemmas.List.{map-append}
 use Rattle.mvd_keys.specs.Writes.{Key}
 use Rattle.mvd_site.specs.Held.{States}
-use Rattle.mvd_sync.specs.Exchanges.{AreNext, Counts, Done, Exchanging, IsNext, keys_done, keys_next}
+use Rattle.mvd_sync.proofs.Exchanges.{AreNext, Counts, IsNext, keys_next}
+use Rattle.mvd_sync.specs.Exchanges.{Done, Exchanging, keys_done}
 use Rattle.mvd_sync.specs.Session.{AreDistinct}
 use Rattle.mvd_peer.specs.PushedStates.{Each}
 use Rattle.mvd_peer.specs.Sides.{SideOf}

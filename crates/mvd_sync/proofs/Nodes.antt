@@ -19,7 +19,8 @@ use Rattle.mvd_tree.proofs.Lists.{begins-more}
 use Rattle.mvd_tree.proofs.Under.{digest_above-same}
 use Rattle.mvd_sync.specs.Session.{AreDistinct, is_member}
 use Rattle.mvd_peer.specs.PushedStates.{Each}
-use Rattle.mvd_sync.specs.Nodes.{child_paths, differing_children, differs_at, has_below, told_children}
+use Rattle.mvd_sync.specs.Nodes.{child_paths, differing_children, differs_at, told_children}
+use Rattle.mvd_sync.proofs.Walk.{has_below}
 use Rattle.mvd_keys.specs.Key.{key_cmp}
 use Rattle.mvd_tree.specs.Page.{children_digests}
 use Rattle.mvd_tree.specs.States.{digests_of, key_digest}

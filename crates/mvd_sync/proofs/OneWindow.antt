@@ -9,7 +9,7 @@ use Rattle.mvd_keys.specs.State.{IsValid, State, clashes, join}
 use Rattle.mvd_keys.proofs.Joins.{clashes_turned, join_commutes, join_empty_left, join_empty_right}
 use Rattle.mvd_site.specs.Answer.{is_too_large}
 use Rattle.mvd_site.specs.Held.{States, state_at}
-use Rattle.mvd_sync.specs.Exchanges.{IsNext, keys_next}
+use Rattle.mvd_sync.proofs.Exchanges.{IsNext, keys_next}
 use Rattle.mvd_sync.specs.Meetings.{ArePlans, Trades, clash, first_if, has, held_keys, is_held, meet, noted, or_empty, pushed_pair, noted_refusal, rest_if, taken_from, wanted}
 use Rattle.mvd_sync.specs.Olds.{HasUnseen}
 use Rattle.mvd_peer.specs.Windows.{ForEach}

@@ -1,12 +1,12 @@
 -- How the questions about the keys of a window end.
-use Rattle.std.proofs.Common.{◌≡◌, ℕ, ◌≤◌, Bool, true, false, cond, List, [], ◌∷◌, filter, length, refl, arith}
+use Rattle.std.proofs.Common.{◌≡◌, ℕ, ◌≤◌, Bool, true, false, cond, List, [], ◌∷◌, filter, length, arith}
 use Rattle.std.proofs.lemmas.List.{length-map}
 use Rattle.mvd_dots.specs.declared.refusals.Refusal.{Refusal}
 use Rattle.mvd_dots.specs.declared.refusals.Refusal.TheVariants.{Memory}
 use Rattle.mvd_keys.specs.State.{State}
-use Rattle.mvd_sync.specs.Carries.{GivesStates}
+use Rattle.mvd_sync.proofs.Carries.{GivesStates}
 use Rattle.mvd_sync.specs.Meetings.{held_keys, is_held}
-use Rattle.mvd_sync.specs.Questions.{ComesToEnd, Keeps, with_left}
+use Rattle.mvd_sync.proofs.Reads.{ComesToEnd, Keeps, with_left}
 use Rattle.mvd_peer.specs.Sides.{SideOf}
 use Rattle.mvd_sync.specs.Faults.{of_memory}
 use Rattle.mvd_sync.specs.declared.cursor.Entry.{Entry}

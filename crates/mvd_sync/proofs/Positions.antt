@@ -4,13 +4,15 @@ use Rattle.mvd_dots.specs.declared.refusals.Refusal.{Refusal}
 use Rattle.mvd_keys.specs.Writes.{Key}
 use Rattle.mvd_site.specs.Held.{States}
 use Rattle.mvd_sync.specs.Answers.{ListingValue}
-use Rattle.mvd_sync.specs.Buckets.{FillEnds, FillsBoth, Finds, Goes, GoesOnWithin, GoesOver, GoesThrough, SettlesKey, SettlesAll, reading}
-use Rattle.mvd_sync.specs.Carries.{ExchangesAll, Planned}
-use Rattle.mvd_sync.specs.Exchanges.{CameTo, Done, Exchanges, Exchanging, GoesOn, IsDone, JoinsSome, SoFar, Stand, moment}
-use Rattle.mvd_sync.specs.Session.{After, Before, Course, HaveAnswered, Joins, Meets, ReportsDone, Session, after_of, asking, both}
+use Rattle.mvd_sync.proofs.Buckets.{FillEnds, FillsBoth, Finds, Goes, GoesOnWithin, GoesOver, GoesThrough, SettlesKey, SettlesAll, reading}
+use Rattle.mvd_sync.proofs.Carries.{ExchangesAll, Planned}
+use Rattle.mvd_sync.proofs.Exchanges.{CameTo, Exchanges, GoesOn, IsDone, JoinsSome, SoFar, Stand, moment}
+use Rattle.mvd_sync.specs.Exchanges.{Done, Exchanging}
+use Rattle.mvd_sync.specs.Session.{After, Before, Course, HaveAnswered, Joins, Meets, ReportsDone, Session, after_of, both}
+use Rattle.mvd_sync.proofs.Walk.{asking}
 use Rattle.mvd_sync.specs.Faults.{Blames}
 use Rattle.mvd_peer.specs.Sides.{SideOf, Sides, two}
-use Rattle.mvd_sync.specs.Walk.{AreFewFor, Descends, FindsBuckets, ReadsEnd}
+use Rattle.mvd_sync.proofs.Walk.{AreFewFor, Descends, FindsBuckets, ReadsEnd}
 use Rattle.mvd_sync.specs.declared.asking.Questions.{Questions}
 use Rattle.mvd_sync.specs.declared.cursor.Entry.{Entry}
 use Rattle.mvd_sync.specs.declared.meetings.Meeting.{Meeting}

@@ -1,20 +1,20 @@
 -- Pushes by windows.
-use Rattle.std.proofs.Common.{◌≡◌, ◌≢◌, ◌⊎◌, inl, inr, ℕ, zero, suc, ◌+◌, ◌<◌, ◌≤◌, ◌↔◌, Bool, true, false, true≢false, List, [], ◌∷◌, ◌++◌, length, take, drop, refl, sym, ap, subst, ◌∙◌, arith, length-append, length-drop, append_assoc}
-use Rattle.std.specs.Prelude.{Result, Ok, Err, All, Contains, IfErr}
-use Rattle.std.proofs.lemmas.Bool.{cases_lt}
+use Rattle.std.proofs.Common.{◌≡◌, ◌≢◌, ◌⊎◌, inl, inr, ℕ, zero, suc, ◌+◌, ◌≤◌, false, List, [], ◌∷◌, ◌++◌, length, take, drop, refl, sym, ap, subst, ◌∙◌, arith, length-append, append_assoc}
+use Rattle.std.specs.Prelude.{Result, Err, All, Contains}
 use Rattle.std.proofs.Math.Seq.{take-append_seam}
 use Rattle.std.proofs.lemmas.List.{append-nil, drop-drop, length-take-le, take-append-drop}
 use Rattle.mvd_dots.specs.declared.refusals.Refusal.{Refusal}
 use Rattle.mvd_dots.specs.declared.refusals.Refusal.TheVariants.{Broken, Memory, TooManyRequests}
 use Rattle.mvd_keys.specs.State.{State}
 use Rattle.mvd_keys.specs.Writes.{Key}
-use Rattle.mvd_sync.specs.Questions.{AllAnswered, ComesToEnd, IsOfKey, TakesIn, TakesInFirst, with_left}
+use Rattle.mvd_sync.proofs.Reads.{AllAnswered, ComesToEnd, TakesIn, TakesInFirst, with_left}
+use Rattle.mvd_sync.specs.Questions.{IsOfKey}
 use Rattle.mvd_peer.specs.Windows.{ForEach}
 use Rattle.mvd_peer.specs.Sides.{HasAnswered, HasRefused, SideOf, is_of_key, is_of_question}
 use Rattle.mvd_sync.specs.Faults.{of_memory, of_questions, of_side}
-use Rattle.mvd_peer.specs.Windows.{EachAnswer, Ends, Pushes, PushesFirst}
+use Rattle.mvd_peer.specs.Windows.{Ends, Pushes, PushesFirst}
 use Rattle.mvd_sync.proofs.Answering.{as_many, told_in}
-use Rattle.mvd_sync.proofs.Compose.{ends_for_memory, refused_later}
+use Rattle.mvd_sync.proofs.Compose.{refused_later}
 use Rattle.mvd_peer.proofs.ManyPushes.{first_later, pushes-append, pushes_apart}
 use Rattle.mvd_peer.proofs.OneByOne.{AskedBy}
 use Rattle.mvd_sync.proofs.Positions.{BlamesBy}
@@ -59,39 +59,13 @@ front_turned s whole pairs rest told answers us left left' old new taken is all 
     subst (λ (ts : List Told). FrontPushed s whole (drop (length us) pairs) ts left left' old new) (sym all)
     (subst (λ (xs : List Pair). FrontPushed s whole xs (told ++ answers) left left' old new) (ap (drop taken) is ∙ drop-drop taken (length told) pairs ∙ ap (λ k. drop k pairs) long) f)
 
-pub no_pairs : (xs : List Pair) → length xs ≡ 0 → xs ≡ []
-no_pairs [] e = refl
-no_pairs (x ∷ xs) e = absurd (omega arith)
-
 -- nothing was told yet
 pub front_begins : {S : Type 0} (s : SideOf S) (whole pairs : List Pair) (told : List Told) (left : ℕ) (old : S) → s.follows 0 old old → pairs ≡ whole → told ≡ [] → FrontPushed s whole (drop (length told) pairs) told left left old old
 front_begins s whole pairs told left old self is none =
     let new : FrontPushed s whole whole [] left left old old = record { done = []; whole = refl; spent = omega arith; follows = self; many = refl; took = λ t. (t, refl) } in
     subst (λ (ts : List Told). FrontPushed s whole (drop (length ts) pairs) ts left left old old) (sym none) (subst (λ (ps : List Pair). FrontPushed s whole ps [] left left old old) (sym is) new)
 
--- all were told
-pub none_untold : (more : Bool) (pairs : List Pair) (told : List Told) → ((more ≡ true) ↔ (length told < length pairs)) → more ≡ false → drop (length told) pairs ≡ []
-none_untold more pairs told is end = elim (cases_lt (length told) (length pairs)) [
-  | inl some ↦ absurd (true≢false (sym (is.1 some) ∙ end))
-  | inr none ↦ no_pairs (drop (length told) pairs) (let n = length-drop (length told) pairs in omega (arith, n, none))
-]
-
--- where some are, there were some
-pub some_pairs : (more : Bool) (whole pairs : List Pair) (told : List Told) → ((more ≡ true) ↔ (length told < length pairs)) → more ≡ true → pairs ≡ whole → whole ≡ [] → ⊥
-some_pairs more whole pairs told is going same none = let n : length pairs ≡ 0 = ap length (same ∙ none) in let some = is.0 going in omega (arith, n, some)
-
-pub if_err_never : {A : Type 0} (r : Result A Refusal) (T : Type 0) → T → IfErr r (λ _. T)
-if_err_never (Ok a) T t = tt
-if_err_never (Err refusal) T t = t
-
 module _ {S : Type 0} (s : SideOf S) (pairs : List Pair) (left : ℕ) (old : S) where
-  none_taken : (refusal : Refusal) → s.is_faithful old → TakesInFirst s pairs old old refusal
-  none_taken refusal t = record { still = λ _. t; pushes = (0, [], s.states old, refl, λ _. refl) }
-
-  -- memory was refused before the first
-  pub ended_first : (refusal : Refusal) → s.follows 0 old old → refusal ≡ Memory → ComesToEnd s (TakesInFirst s pairs old old refusal) (length pairs) (with_left old left) old refusal
-  ended_first refusal self is = ends_for_memory s _ (length pairs) left left 0 old old refusal (omega arith) (omega arith) self (none_taken refusal) is
-
   -- all were
   pub all_pushed : (told : List Told) (left' : ℕ) (new : S) → FrontPushed s pairs [] told left left' old new → All IsOfKey told → AllAnswered s (λ _ told. IsOfKey told) (TakesIn s pairs told old new) pairs told (with_left old left) (with_left new left')
   all_pushed told left' new f of_key =

@@ -1,5 +1,5 @@
 -- A side that refuses all of a window.
-use Rattle.std.proofs.Common.{◌≡◌, ◌≢◌, ℕ, ◌≤◌, [], length, refl, subst, sym, arith, false}
+use Rattle.std.proofs.Common.{◌≡◌, ℕ, ◌≤◌, [], refl, subst, sym, arith, false}
 use Rattle.mvd_dots.specs.declared.refusals.Refusal.{Refusal}
 use Rattle.mvd_peer.specs.Sides.{SideOf, StaysFaithful, is_of_question}
 use Rattle.mvd_peer.specs.Windows.{Ends, PushesFirst}

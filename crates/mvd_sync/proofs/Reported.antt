@@ -12,7 +12,8 @@ use Rattle.mvd_tree.proofs.Under.{keys_same}
 use Rattle.mvd_tree.specs.Hashed.{HashesTellApart}
 use Rattle.mvd_site.specs.Answer.{spelled}
 use Rattle.mvd_site.specs.Held.{States}
-use Rattle.mvd_sync.specs.Exchanges.{Counts, Done, Exchanging, given_keys, is_given, is_joined, joined_keys, keys_done, left_keys, left_as}
+use Rattle.mvd_sync.proofs.Exchanges.{Counts, is_joined, joined_keys}
+use Rattle.mvd_sync.specs.Exchanges.{Done, Exchanging, given_keys, is_given, keys_done, left_keys, left_as}
 use Rattle.mvd_sync.specs.Session.{AreDistinct, CannotMeet, IsIn, IsLeft, IsOld, is_member}
 use Rattle.mvd_peer.specs.PushedStates.{Each}
 use Rattle.mvd_sync.specs.declared.report.Report.{Report}

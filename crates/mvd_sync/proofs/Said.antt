@@ -1,5 +1,5 @@
 -- What a side says of a window, as a session reads it.
-use Rattle.std.proofs.Common.{◌≡◌, ◌≢◌, ℕ, zero, suc, ◌+◌, ◌<◌, ◌≤◌, ◌^◌, List, [], ◌∷◌, length, take, refl, sym, ap, subst, ◌∙◌, arith, Option, Some, None, false}
+use Rattle.std.proofs.Common.{◌≡◌, ◌≢◌, ℕ, zero, suc, ◌<◌, ◌≤◌, ◌^◌, List, [], ◌∷◌, length, take, refl, sym, ap, subst, ◌∙◌, arith, Option, Some, None, false}
 use Rattle.std.specs.Prelude.{Result, Ok, Err, IfOk, IfErr, Vec}
 use Rattle.std.specs.declared.alloc.Global.{Global}
 use Rattle.std.proofs.lemmas.List.{length-take, take_all}
@@ -13,8 +13,10 @@ use Rattle.mvd_peer.specs.Windows.{Asked, Ends, Kind, Pushes, PushesFirst, for_p
 use Rattle.mvd_site.specs.Answer.{digests}
 use Rattle.mvd_site.specs.Held.{state_at}
 use Rattle.mvd_wire.specs.declared.reply.Digests.{Digests}
-use Rattle.mvd_sync.specs.Answers.{IsPage, IsBucketPage, ListingValue}
-use Rattle.mvd_sync.specs.Questions.{IsInner, TakesBudget}
+use Rattle.mvd_sync.specs.Answers.{IsPage, ListingValue}
+use Rattle.mvd_sync.proofs.Reads.{IsBucketPage}
+use Rattle.mvd_sync.proofs.Reads.{IsInner}
+use Rattle.mvd_sync.specs.Questions.{TakesBudget}
 use Rattle.mvd_sync.specs.Ran.{RefusesAll, SideSays, SideTells}
 use Rattle.mvd_sync.specs.Steps.{Wanted, count_wanted}
 use Rattle.mvd_sync.specs.Tellings.{AllRead, IsListingOf, IsNoNode, IsNoPage, IsNodeOf, IsRead, IsStateOf, Page, never, nodes_told, pages_told, pushes_told, states_told}

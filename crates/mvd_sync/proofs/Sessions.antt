@@ -8,8 +8,9 @@ use Rattle.std.specs.Cmp.Lexicographic.{slice_cmp}
 use Rattle.std.specs.FinMap.{get, len}
 use Rattle.mvd_tree.proofs.Under.{keys_same}
 use Rattle.mvd_site.specs.Held.{AreHeld, States}
-use Rattle.mvd_sync.specs.Buckets.{held_in}
-use Rattle.mvd_sync.specs.Exchanges.{AreNext, Done, Exchanging, IsNext, given_keys, joined_keys, keys_done, keys_next}
+use Rattle.mvd_sync.proofs.Buckets.{held_in}
+use Rattle.mvd_sync.proofs.Exchanges.{AreNext, IsNext, joined_keys, keys_next}
+use Rattle.mvd_sync.specs.Exchanges.{Done, Exchanging, given_keys, keys_done}
 use Rattle.mvd_sync.specs.Session.{AreDistinct, AreFew, HasAllThatDiffer, is_member}
 use Rattle.mvd_peer.specs.PushedStates.{Each}
 use Rattle.mvd_peer.specs.Sides.{HasAnswered, SideOf}
@@ -264,8 +265,3 @@ module _ {L P : Type 0} (l : SideOf L) (p : SideOf P)
             (λ apart key differ. ap (λ ks. is_member ks key) (sym done_keys) ∙ (found_there (Ok x2) second t u).all key ((w.right t u).whole apart key differ) (digests_differ a b (form_l local t) (form_p peer u) apart key differ));
       })
       (all_few x2 second left3 local3 peer3 e3 (Ok x3) third)
-
--- buckets by the names that a session has for them
-pub over_at : {L P A : Type 0} (l : SideOf L) (p : SideOf P) (ps : List (List ℕ)) (left left' : Questions) (local local' : L) (peer peer' : P) (e f after : Exchanging) (result : Result A SyncFault) → e ≡ f
-    → GoesOverBy l p ps (length ps) left left' local local' peer peer' e after result → GoesOverBy l p ps (length ps) left left' local local' peer peer' f after result
-over_at l p ps left left' local local' peer peer' e f after result start h = subst (λ x. GoesOverBy l p ps (length ps) left left' local local' peer peer' x after result) start h

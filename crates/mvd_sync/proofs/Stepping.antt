@@ -1,10 +1,10 @@
 -- What a session asks of a side at once, and what is read of the answers.
-use Rattle.std.proofs.Common.{◌≡◌, ◌≢◌, ℕ, zero, suc, ◌+◌, ◌<◌, ◌≤◌, Bool, true, false, cond, List, [], ◌∷◌, map, length, take, drop, min, refl, sym, ap, subst, ◌∙◌, arith, Option, Some, None, inl, inr}
+use Rattle.std.proofs.Common.{◌≡◌, ◌≢◌, ℕ, suc, ◌≤◌, Bool, true, false, cond, List, [], ◌∷◌, length, take, drop, min, refl, sym, ap, ◌∙◌, arith, Option, Some, None, inl, inr}
 use Rattle.std.specs.Prelude.{Result, Ok, Err, Vec, sum_by}
 use Rattle.std.specs.declared.alloc.Global.{Global}
 use Rattle.std.proofs.Math.Seq.{take-nil}
 use Rattle.std.proofs.lemmas.Bool.{cases_lt}
-use Rattle.std.proofs.lemmas.List.{length-map, length-take, length-take-le, take-append-drop, take_all}
+use Rattle.std.proofs.lemmas.List.{length-map, length-take, take-append-drop, take_all}
 use Rattle.std.proofs.lemmas.List.Sums.{sum_by-append}
 use Rattle.mvd_dots.specs.declared.refusals.Refusal.{Refusal}
 use Rattle.mvd_keys.specs.State.{State}
@@ -13,7 +13,7 @@ use Rattle.mvd_peer.specs.Windows.{ForEach}
 use Rattle.mvd_sync.specs.Meetings.{held_keys, is_held}
 use Rattle.mvd_sync.specs.Made.{PassesFault, ReadsAll}
 use Rattle.mvd_sync.specs.Questions.{IsWindow, push_bytes}
-use Rattle.mvd_sync.specs.Steps.{AreSmall, Wanted, cut_wanted, only_gets, only_nodes, only_pages, only_pushes}
+use Rattle.mvd_sync.specs.Steps.{AreSmall, cut_wanted, only_gets, only_nodes, only_pages, only_pushes}
 use Rattle.mvd_sync.specs.Tellings.{IsRead, of_answer, of_questions}
 use Rattle.mvd_sync.specs.Walking.{PageQuestion, Walking, first_page, is_asked, pages_next, pages_of}
 use Rattle.mvd_sync.specs.declared.cursor.Entry.{Entry}

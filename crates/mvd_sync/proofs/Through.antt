@@ -10,15 +10,16 @@ use Rattle.mvd_keys.specs.Writes.{Key}
 use Rattle.mvd_site.specs.Answer.{digests}
 use Rattle.mvd_site.specs.Held.{States}
 use Rattle.mvd_tree.specs.HashTree.{is_under, path_of_key}
-use Rattle.mvd_sync.specs.Questions.{with_left}
+use Rattle.mvd_sync.proofs.Reads.{with_left}
 use Rattle.mvd_sync.specs.Answers.{ListingValue}
-use Rattle.mvd_sync.specs.Buckets.{AreElsewhere, ArePages, held_in}
-use Rattle.mvd_sync.specs.Exchanges.{AreNext, Done, Exchanging, keys_done, keys_next}
-use Rattle.mvd_sync.specs.Nodes.{has_below}
+use Rattle.mvd_sync.proofs.Buckets.{AreElsewhere, ArePages, held_in}
+use Rattle.mvd_sync.proofs.Exchanges.{AreNext, keys_next}
+use Rattle.mvd_sync.specs.Exchanges.{Done, Exchanging, keys_done}
+use Rattle.mvd_sync.proofs.Walk.{has_below}
 use Rattle.mvd_sync.specs.Session.{AreDistinct, IsIn, is_member}
 use Rattle.mvd_peer.specs.PushedStates.{Each}
 use Rattle.mvd_peer.specs.Sides.{SideOf}
-use Rattle.mvd_sync.specs.Walk.{ReadsSide}
+use Rattle.mvd_sync.proofs.Walk.{ReadsSide}
 use Rattle.mvd_sync.specs.declared.cursor.Entry.{Entry}
 use Rattle.mvd_sync.specs.declared.asking.Questions.{Questions}
 use Rattle.mvd_sync.specs.declared.report.SyncFault.{SyncFault}

@@ -1,6 +1,6 @@
 -- A side's turn, as it stands between two windows of pushes.
-use Rattle.std.proofs.Common.{◌≡◌, ◌≢◌, ℕ, false, ◌+◌, ◌<◌, ◌≤◌, inl, inr, List, [], ◌∷◌, ◌++◌, drop, filter_map, length, map, take, refl, sym, ap, subst, ◌∙◌, arith, length-append, length-drop}
-use Rattle.std.specs.Prelude.{All, Result, Ok, Err, IfErr, IfOk}
+use Rattle.std.proofs.Common.{◌≡◌, ◌≢◌, ℕ, false, ◌+◌, ◌<◌, ◌≤◌, inl, inr, List, [], ◌++◌, drop, filter_map, length, map, take, refl, sym, ap, subst, ◌∙◌, arith, length-append, length-drop}
+use Rattle.std.specs.Prelude.{All, Result, Ok, IfErr, IfOk}
 use Rattle.std.proofs.lemmas.Bool.{cases_lt}
 use Rattle.std.proofs.lemmas.List.{length-take, length-take-le, take_all}
 use Rattle.std.proofs.lemmas.List.Elements.{All-append, All-nil}
@@ -10,11 +10,12 @@ use Rattle.mvd_keys.specs.State.{State}
 use Rattle.mvd_keys.specs.Writes.{Key}
 use Rattle.mvd_peer.specs.Sides.{SideOf, is_of_question}
 use Rattle.mvd_peer.specs.Windows.{Asked, Ends, Pushes, PushesFirst, for_pushes, manner}
-use Rattle.mvd_sync.specs.Carries.{Carried}
+use Rattle.mvd_sync.proofs.Carries.{Carried}
 use Rattle.mvd_sync.specs.Machines.{IsUnheard, Pushed, of_answer, of_number, of_questions, refused}
 use Rattle.mvd_sync.specs.Meetings.{noted, pushed_pair, taken_from}
 use Rattle.mvd_sync.specs.OneTurn.{BeginsTurn, untold}
-use Rattle.mvd_sync.specs.Questions.{ComesToEnd, IsOfKey, IsWindow, TakesBudget, TakesInFirst, with_left}
+use Rattle.mvd_sync.proofs.Reads.{ComesToEnd, TakesInFirst, with_left}
+use Rattle.mvd_sync.specs.Questions.{IsOfKey, IsWindow, TakesBudget}
 use Rattle.mvd_sync.specs.Walking.{Walking}
 use Rattle.mvd_sync.specs.declared.meetings.Meeting.{Meeting}
 use Rattle.mvd_sync.specs.declared.report.Side.{Side}

@@ -10,12 +10,12 @@ use Rattle.mvd_tree.specs.HashTree.{KeyDigests}
 use Rattle.mvd_peer.specs.PushedStates.{Each}
 use Rattle.mvd_peer.specs.Sides.{SideOf}
 use Rattle.mvd_sync.specs.Answers.{ListingValue, is_spent}
-use Rattle.mvd_sync.specs.Buckets.{ArePages, GoesThrough}
-use Rattle.mvd_sync.specs.Exchanges.{Moment, moment}
-use Rattle.mvd_sync.specs.Questions.{Fills, with_left}
+use Rattle.mvd_sync.proofs.Buckets.{ArePages, GoesThrough}
+use Rattle.mvd_sync.proofs.Exchanges.{Moment, moment}
+use Rattle.mvd_sync.proofs.Reads.{Fills, with_left}
 use Rattle.mvd_sync.specs.Session.{Asking}
-use Rattle.mvd_sync.specs.Walk.{ReadsSide, local_of, peer_of}
-use Rattle.mvd_sync.specs.Walking.{ClosesBucket, GoesTo, IsWalked, PageQuestion, TakesNext, Walking, WantsPage, closes, ends, first_page, moves, opened_buckets, pages_next, tells, waits}
+use Rattle.mvd_sync.proofs.Walk.{ReadsSide, local_of, peer_of}
+use Rattle.mvd_sync.specs.Walking.{ClosesBucket, GoesTo, IsWalked, PageQuestion, TakesNext, Walking, WantsPage, closes, ends, first_page, moves, opened_buckets, tells, waits}
 use Rattle.mvd_sync.specs.declared.asking.Questions.{Questions}
 use Rattle.mvd_sync.specs.declared.cursor.Entry.{Entry}
 use Rattle.mvd_sync.specs.declared.report.SyncFault.{SyncFault}
@@ -28,7 +28,7 @@ use Rattle.mvd_sync.proofs.Opening.{closes_same}
 use Rattle.mvd_sync.proofs.Pages.{takes_shorter}
 use Rattle.mvd_sync.proofs.Paging.{unspent_is}
 use Rattle.mvd_sync.proofs.Positions.{FillsBothBy, SettlesBy, sides}
-use Rattle.mvd_sync.proofs.Through.{through_cut, through_none, through_on, window_ends, window_through}
+use Rattle.mvd_sync.proofs.Through.{through_cut, through_none, through_on, window_through}
 
 -- ---- from one moment to another
 
@@ -229,12 +229,6 @@ module _ {L P : Type 0} (l : SideOf L) (p : SideOf P)
       subst (λ n. Through l p {A = Unit {0}} (λ a b. Unit {0}) (ps ++ qs) n old new (Err fault)) (sym (length-append ps qs))
       (through_cut l p (λ a b. Unit {0}) ps qs (length ps) (length qs) old.now.left new.now.left old.now.at.local new.now.at.local old.now.at.peer new.now.at.peer old.work new.work fault g)
 
-  -- memory was refused for it
-  pub walk_never : (paths : List (List ℕ)) (now : Moment L P) (refusal : Refusal) → refusal ≡ Memory → Over l p {A = Unit {0}} paths now now (Err (Local refusal))
-  walk_never paths now refusal memory =
-      window_ends l p on on' stays stays' {A = Unit {0}} paths (length paths) now.now.left now.now.left now.now.at.local now.now.at.local now.now.at.peer now.now.at.peer now.work (Local refusal)
-      (memory_fails l p (length paths) 0 0 now.now.left.local now.now.left.peer now.now.left now.now.at.local now.now.at.local now.now.at.peer now.now.at.peer (nothing_read l self now.now.left.local now.now.at.local) (nothing_read p self' now.now.left.peer now.now.at.peer) (omega arith) (omega arith) refusal memory)
-
   -- it begins
   pub walk_begins : (paths : List (List ℕ)) (now : Moment L P) → Walked l p paths now now (record { rest = paths; bucket = None; later = []; entry = None })
   walk_begins paths now = between [] refl refl refl refl (through_none l p (λ a b. Unit {0}) self self' now.now.left now.now.at.local now.now.at.peer now.work)
@@ -247,12 +241,6 @@ module _ {L P : Type 0} (l : SideOf L) (p : SideOf P)
         subst (λ qs. Over l p qs begin now (Ok (tt {0}))) (sym all) over
     walk_done now at (amid first b mid before path good over some _) end = let none = end.0 in absurd (cc)
     walk_done now at (waiting first b b' e mid before path good over takes wants some _) end = let none = end.0 in absurd (cc)
-
-    -- it is not done, and asks nothing
-    pub walk_amid : (now : Moment L P) (at : Walking) → Walked l p paths begin now at → (IsWalked at → ⊥) → pages_next at.bucket at.entry at.rest ≡ [] → (at.bucket ≢ None) × (at.entry ≡ None)
-    walk_amid now at (between done is none _ _ over) more quiet = absurd (more (none, no_window at.rest (sym (ap (λ o. pages_next o at.entry at.rest) none) ∙ quiet)))
-    walk_amid now at (amid first b mid before path good over some unasked) more quiet = (λ none. absurd (cc), unasked)
-    walk_amid now at (waiting first b b' e mid before path good over takes wants some held) more quiet = let asked : pages_next (Some b') (Some e) at.rest ≡ [] = (λ i. pages_next (sym some i) (sym held i) at.rest) ∙ quiet in absurd (cc)
 
     -- the buckets of a window are gone over
     window_over : {A : Type 0} (rest : List (List ℕ)) (first : Bucket) (later : List Bucket) (mid new : Moment L P) (w : Before l p paths rest first later begin mid) (result : Result A SyncFault)

@@ -1,17 +1,18 @@
 -- A walk over buckets, with the pages that both sides tell.
-use Rattle.std.proofs.Common.{◌≡◌, ◌≢◌, ℕ, ◌+◌, ◌*◌, ◌<◌, ◌≤◌, ◌^◌, Bool, true, false, cond, inl, inr, List, [], ◌∷◌, ◌++◌, map, length, drop, take, refl, sym, ap, subst, ◌∙◌, arith, Option, Some, None, append_assoc, true≢false}
+use Rattle.std.proofs.Common.{◌≡◌, ◌≢◌, ℕ, ◌+◌, ◌<◌, ◌≤◌, Bool, true, false, cond, inl, inr, List, [], ◌∷◌, ◌++◌, map, length, drop, take, refl, sym, ap, subst, ◌∙◌, arith, Option, Some, None, append_assoc, true≢false}
 use Rattle.std.specs.Prelude.{Ok, Err}
-use Rattle.std.proofs.lemmas.List.{length-map, length-take, take-append-drop}
+use Rattle.std.proofs.lemmas.List.{length-map, take-append-drop}
 use Rattle.mvd_dots.specs.declared.refusals.Refusal.TheVariants.{Memory}
 use Rattle.mvd_peer.specs.PushedStates.{Each}
 use Rattle.mvd_peer.specs.Sides.{HasAnswered, SideOf, Two, two}
-use Rattle.mvd_peer.specs.Windows.{ForEach}
-use Rattle.mvd_sync.specs.Answers.{IsPage, ListingValue, PageEntry, TakesLesser, is_spent, of_both, of_first, of_second}
-use Rattle.mvd_sync.specs.Exchanges.{IsHeldByEither, Moment, moment}
-use Rattle.mvd_sync.specs.Questions.{Fills, TellsPages, with_left}
+use Rattle.mvd_sync.specs.Answers.{ListingValue, PageEntry, TakesLesser, is_spent, of_both, of_first, of_second}
+use Rattle.mvd_sync.specs.Exchanges.{IsHeldByEither}
+use Rattle.mvd_sync.proofs.Exchanges.{Moment, moment}
+use Rattle.mvd_sync.proofs.Reads.{Fills, TellsPages}
 use Rattle.mvd_sync.specs.Session.{Asking}
-use Rattle.mvd_sync.specs.Walk.{ReadsEnd, local_of, peer_of}
-use Rattle.mvd_sync.specs.Walking.{GoesTo, IsTold, PageQuestion, PagesEnd, PagesTold, TakesNext, TellsBoth, Walking, closes, ends, filled, filled_both, fills, first_page, is_asked, moves, opened_buckets, opens, pages_next, pages_of, tells, waits}
+use Rattle.mvd_sync.proofs.Walk.{ReadsEnd, local_of, peer_of}
+use Rattle.mvd_sync.specs.Walking.{GoesTo, IsTold, PageQuestion, TakesNext, Walking, closes, ends, filled, filled_both, fills, first_page, is_asked, moves, opened_buckets, opens, pages_next, pages_of, tells, waits}
+use Rattle.mvd_sync.proofs.Walk.{PagesEnd, PagesTold}
 use Rattle.mvd_sync.specs.declared.asking.Questions.{Questions}
 use Rattle.mvd_sync.specs.declared.cursor.Entry.{Entry}
 use Rattle.mvd_sync.specs.declared.report.Side.TheVariants.{Local as AtLocal, Peer as AtPeer}
@@ -337,58 +338,3 @@ goes_smaller at found at' (closes b some none none' told (ends is new_is)) =
     let n = ap size_of new_is in
     let m = ap size_of_first some in
     omega (arith, n, m)
-
--- a page is no longer than so
-abbrev pub AreShort : List ListingValue → Type 0
-AreShort pages = Each (λ (page : ListingValue). length page.0 < 2 ^ 64) pages
-
-opened_small : (window : List (List ℕ)) (mine theirs : List ListingValue) → AreShort mine → AreShort theirs → size_of_all (opened_buckets (map first_page window) mine theirs) ≤ 2 ^ 66 * length window
-opened_small [] mine theirs m t = omega arith
-opened_small (q ∷ window) [] theirs m t = omega arith
-opened_small (q ∷ window) (x ∷ mine) [] m t = omega arith
-opened_small (q ∷ window) (x ∷ mine) (y ∷ theirs) m t =
-    let more = opened_small window mine theirs m.1 t.1 in
-    let a = m.0 in
-    let b = t.0 in
-    omega (arith, more, a, b)
-
-filled_small : (listing : ListingValue) (pages : List ListingValue) → AreShort pages → length (filled listing pages).0 ≤ length listing.0 + 2 ^ 64
-filled_small listing [] h = omega arith
-filled_small listing (x ∷ pages) h = let a = h.0 in omega (arith, a)
-
-pub told_larger : (at : Walking) (mine theirs : List ListingValue) (found : Option Entry) (at' : Walking) → IsTold at mine theirs found at' → AreShort mine → AreShort theirs → size_of at' < size_of at + 2 ^ 73
-told_larger at mine theirs found at' (opens b later none all told new_is) m t =
-    let n = ap size_of new_is in
-    let k = ap size_of_all all in
-    let s = opened_small (take 64 at.rest) mine theirs m t in
-    let w = length-take 64 at.rest in
-    omega (arith, n, k, s, w)
-told_larger at mine theirs found at' (fills b e some held _ _ told new_is) m t =
-    let n = ap size_of new_is in
-    let k = ap size_of_first some in
-    let f = filled_small b.mine mine m in
-    let g = filled_small b.theirs theirs t in
-    omega (arith, n, k, f, g)
-
-short_of : {S : Type 0} (s : SideOf S) (asked : List PageQuestion) (pages : List ListingValue) (left left' : ℕ) (old new : S) → TellsPages s asked pages (with_left old left) (with_left new left') → AreShort pages
-short_of s asked pages left left' old new told = each asked pages told.may
-  where
-    each : (qs : List PageQuestion) (ps : List ListingValue) → ForEach {Q = PageQuestion} (λ _ page. IsPage None page.0 page.1 × (length page.0 < 2 ^ 64) × HasAnswered s.follows s.can_answer old new) qs ps → AreShort ps
-    each [] [] h = tt
-    each [] (x ∷ ps) h = absurd h
-    each (q ∷ qs) [] h = absurd h
-    each (q ∷ qs) (x ∷ ps) h = (h.0.1, each qs ps h.1)
-
--- less is left of the questions and the walk together
-abbrev pub left_of_walk : Questions → Walking → ℕ
-left_of_walk left at = 2 ^ 74 * (left.local + left.peer) + size_of at
-
-pub told_less : {L P : Type 0} (l : SideOf L) (p : SideOf P) (at : Walking) (found : Option Entry) (at' : Walking) (old new : Asking L P) (left' : Questions) → TellsBoth (sides l p) at found at' old new → 1 ≤ length (pages_of AtLocal at) + length (pages_of AtPeer at) → left'.local + left'.peer ≤ new.left.local + new.left.peer → left_of_walk left' at' < left_of_walk old.left at
-told_less l p at found at' old new left' t some low =
-    let a = t.pages.local_side.spent in
-    let b = t.pages.peer_side.spent in
-    let n = told_larger at t.mine t.theirs found at' t.is (short_of l (pages_of AtLocal at) t.mine old.left.local new.left.local old.at.local new.at.local t.pages.local_side) (short_of p (pages_of AtPeer at) t.theirs old.left.peer new.left.peer old.at.peer new.at.peer t.pages.peer_side) in
-    omega (arith, a, b, n, some, low)
-
-pub goes_less : (at : Walking) (found : Option Entry) (at' : Walking) (left left' : Questions) → GoesTo at found at' → left'.local + left'.peer ≤ left.local + left.peer → left_of_walk left' at' < left_of_walk left at
-goes_less at found at' left left' goes low = let n = goes_smaller at found at' goes in omega (arith, n, low)

@@ -9,19 +9,20 @@ use Rattle.mvd_site.specs.Held.{AreHeld, States}
 use Rattle.mvd_tree.proofs.Apart.{same_state, same_states_under}
 use Rattle.mvd_tree.specs.HashTree.{is_under}
 use Rattle.mvd_tree.specs.Hashed.{HashesTellApart}
-use Rattle.mvd_sync.specs.Questions.{with_left}
-use Rattle.mvd_sync.specs.Nodes.{child_paths, differing_children, differs_at, has_below}
+use Rattle.mvd_sync.proofs.Reads.{with_left}
+use Rattle.mvd_sync.specs.Nodes.{child_paths, differing_children, differs_at}
+use Rattle.mvd_sync.proofs.Walk.{has_below}
 use Rattle.mvd_sync.specs.Session.{AreDistinct, HasAllThatDiffer}
 use Rattle.mvd_peer.specs.PushedStates.{Each}
 use Rattle.mvd_peer.specs.Sides.{SideOf}
-use Rattle.mvd_sync.specs.Walk.{ReadsSide}
+use Rattle.mvd_sync.proofs.Walk.{ReadsSide}
 use Rattle.mvd_sync.specs.declared.asking.Questions.{Questions}
 use Rattle.mvd_sync.specs.declared.report.SyncFault.{SyncFault}
 use Rattle.mvd_sync.proofs.Compose.{answered_later, answered_still}
 use Rattle.mvd_sync.proofs.Descents.{end_later, reads_on}
 use Rattle.mvd_sync.proofs.Keys.{Each-weaker}
 use Rattle.mvd_sync.proofs.Nodes.{AreLong, Each-filter, Each-passes, differing_has_key, differs-from, distinct-below, distinct-filter, few_nodes, whole_below}
-use Rattle.mvd_sync.proofs.Positions.{AreFewForBy, DescendsBy, FindsBucketsBy, HaveAnsweredBy, ReadsEndBy}
+use Rattle.mvd_sync.proofs.Positions.{AreFewForBy, DescendsBy, HaveAnsweredBy, ReadsEndBy}
 
 -- ---- what digests tell
 
@@ -129,15 +130,3 @@ module _ {L P : Type 0} (l : SideOf L) (p : SideOf P) where
   walk_ends on on' n low left mid local local1 peer peer1 paths w local2 peer2 fault e =
       let more : (i : ℕ) → i ≤ length paths → AreFewForBy l p local peer (λ most. w.asked + i ≤ 1 + 3 * most) = λ i few t u keys all. few_end n w.asked (length paths) i (length keys) low (w.few t u keys all) few in
       end_later l p on on' (λ asked. asked ≤ length paths) (λ asked. AreFewForBy l p local peer (λ most. asked ≤ 1 + 3 * most)) left mid w.asked w.asked local local1 local2 peer peer1 peer2 fault w.local_side w.peer_side more more e
-
-  -- it has come to the buckets
-  pub walk_finds : (n : ℕ) (left left' : Questions) (local local' : L) (peer peer' : P) (paths : List (List ℕ)) → n ≡ 3 → Walks l p n left left' local local' peer peer' paths → FindsBucketsBy l p left left' local local' peer peer' paths
-  walk_finds n left left' local local' peer peer' paths e w = record {
-    asked = w.asked;
-    local_side = w.local_side;
-    peer_side = w.peer_side;
-    answers = w.answers (omega (arith, e));
-    deep = subst (λ n. AreLong n paths) e w.long;
-    right = λ t u. let r = w.right t u in record { distinct = r.distinct; differ = r.differ (omega (arith, e)); whole = r.whole };
-    few = λ t u keys all. subst (λ n. w.asked + length paths ≤ 1 + n * length keys) e (w.few t u keys all);
-  }

@@ -9,7 +9,8 @@ use Rattle.mvd_dots.specs.declared.refusals.Refusal.{Refusal}
 use Rattle.mvd_keys.specs.State.{IsValid, State, empty_state}
 use Rattle.mvd_site.specs.Answer.{is_too_large}
 use Rattle.mvd_site.specs.Held.{AreHeld, States, state_at}
-use Rattle.mvd_sync.specs.Exchanges.{AreNext, Done, keys_done, keys_next}
+use Rattle.mvd_sync.proofs.Exchanges.{AreNext, keys_next}
+use Rattle.mvd_sync.specs.Exchanges.{Done, keys_done}
 use Rattle.mvd_sync.specs.Meetings.{ArePlans, done_of, held_keys, noted, pushed_pair, rest_if, taken_from, wanted}
 use Rattle.mvd_sync.specs.Olds.{HasUnseen}
 use Rattle.mvd_peer.specs.Windows.{ForEach}

@@ -1,13 +1,11 @@
 -- What a session has of a side's pages.
 use Rattle.std.specs.declared.cmp.Ordering.{Ordering}
 use Rattle.std.specs.declared.cmp.Ordering.TheVariants.{Less, Greater}
-use Rattle.std.specs.Prelude.{IsTrue, ◌↔◌, ◌≢◌, ◌≡◌, ◌==◌, ◌&&◌, ℕ, Bool, true, false, List, [], ◌∷◌, ◌++◌, length}
+use Rattle.std.specs.Prelude.{IsTrue, ◌↔◌, ◌≢◌, ◌≡◌, ◌==◌, ◌&&◌, ℕ, Bool, true, false, List, [], ◌∷◌, length}
 use Rattle.std.specs.Prelude.{Option, Some, None}
-use Rattle.std.specs.FinMap.{entries}
 use Rattle.mvd_keys.specs.Key.{key_cmp}
 use Rattle.mvd_keys.specs.Writes.{Key}
-use Rattle.mvd_tree.specs.HashTree.{KeyDigests}
-use Rattle.mvd_tree.specs.Page.{is_after, is_more_after_page, bucket_page, keys_after}
+use Rattle.mvd_tree.specs.Page.{is_after}
 use Rattle.mvd_peer.specs.Sides.{Two}
 use Rattle.mvd_sync.specs.declared.cursor.Entry.{Entry}
 
@@ -32,19 +30,6 @@ PageRises after (e ∷ es) = IsTrue (is_after after e.0) × PageRises (Some e.0)
 pub record IsPage (after : Option (List ℕ)) (page : List PageEntry) (more : Bool) : Type 0 where
   pub rises : PageRises after page
   pub ended : page ≡ [] → more ≡ false
-
--- what a faithful side tells of a bucket after a key: so many of its entries as a page has, and whether there are more
-pub record IsBucketPage (held : KeyDigests) (path : List ℕ) (after : Option (List ℕ)) (page : List PageEntry)
-    (more : Bool) : Type 0 where
-  pub is : page ≡ bucket_page held path after
-  pub goes_on : more ≡ is_more_after_page held path after
-
--- these are the first entries of a bucket after a key, and unless there is more all of them
-pub record IsListing (held : KeyDigests) (path : List ℕ) (after : Option (List ℕ)) (page : List PageEntry)
-    (more : Bool) : Type 0 where
-  pub later : List PageEntry
-  pub is : entries (keys_after held path after) ≡ page ++ later
-  pub ended : more ≡ false → later ≡ []
 
 -- the first entry of a list comes after a key
 abbrev pub StartsAfter : List ℕ → List PageEntry → Type 0

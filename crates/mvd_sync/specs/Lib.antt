@@ -7,11 +7,9 @@ pub mod Level
 pub mod Questions
 pub mod Made
 pub mod Exchanges
-pub mod Buckets
 pub mod Walking
 pub mod Weights
 pub mod Meetings
-pub mod Carries
 pub mod OneTurn
 pub mod Nodes
 pub mod Steps

@@ -66,10 +66,6 @@ wanted_count side (Carries walk turn count) = cond (is_same turn.side side) coun
 wanted_count side Done = 0
 wanted_count side (Failed fault) = 0
 
-abbrev pub questions_left : Side → Questions → ℕ
-questions_left AtLocal left = left.local
-questions_left AtPeer left = left.peer
-
 -- A STEP ASKS each side what is next, as far as its questions reach, and not too much at once
 pub record IsStep (now : Machining) (step : Step) : Type 0 where
   pub local : asked step.local ≡ cut_wanted now.left.local (wanted_at AtLocal now.stage)

@@ -1,8 +1,7 @@
 -- The nodes of two hash trees whose digests differ.
 use Rattle.std.specs.Prelude.{ℕ, Bool, cond, not, bytes_eq, List, [], ◌∷◌, ◌++◌, map, slice_index_or}
-use Rattle.std.specs.List.{filter, flat_map, list_any}
-use Rattle.mvd_keys.specs.Writes.{Key}
-use Rattle.mvd_tree.specs.HashTree.{KeyDigests, digits, is_under, node_digest}
+use Rattle.std.specs.List.{filter, flat_map}
+use Rattle.mvd_tree.specs.HashTree.{KeyDigests, digits, node_digest}
 
 -- whether the digests of a node differ
 abbrev pub differs_at : KeyDigests → KeyDigests → List ℕ → Bool
@@ -15,10 +14,6 @@ child_paths path = map (λ d. path ++ d ∷ []) digits
 -- the children that differ of the nodes that differ
 abbrev pub differing_children : KeyDigests → KeyDigests → List (List ℕ) → List (List ℕ)
 differing_children a b paths = filter (differs_at a b) (flat_map child_paths (filter (differs_at a b) paths))
-
--- whether one of the nodes has the key below it
-abbrev pub has_below : List (List ℕ) → Key → Bool
-has_below paths key = list_any (λ path. is_under path key) paths
 
 -- what is told of a node by its own digests and those of its children: the children that differ, if it differs
 abbrev pub told_children : List ℕ → List ℕ × List (List ℕ) → List ℕ × List (List ℕ) → List (List ℕ)

@@ -6,16 +6,13 @@ use Rattle.mvd_peer.specs.Sides.{SideOf, Sides, StaysFaithful, Two, is_of_questi
 use Rattle.mvd_peer.specs.Telling.{PageTold, StateTold, TellsLive, TellsNode, TellsPush}
 use Rattle.mvd_peer.specs.Windows.{Asked, Ends, Manner, PushedAll, PushesFirst, for_pushes, gets_of, holding, manner}
 use Rattle.mvd_peer.specs.Windows.{nodes_of, pages_kind}
-use Rattle.mvd_sync.specs.Exchanges.{Exchanging}
 use Rattle.mvd_sync.specs.Machines.{GoesAlone, HasNext, IsQuiet, Machining, StageAsks, Starts, TakesTold, wanted_at}
 use Rattle.mvd_sync.specs.Steps.{Wanted, asked, count_wanted, cut_wanted}
 use Rattle.mvd_sync.specs.declared.asked.Step.{Step}
-use Rattle.mvd_sync.specs.declared.asking.Questions.{Questions}
 use Rattle.mvd_sync.specs.declared.report.Report.{Report}
 use Rattle.mvd_sync.specs.declared.report.Side.TheVariants.{Local as AtLocal, Peer as AtPeer}
 use Rattle.mvd_sync.specs.declared.report.SyncFault.{SyncFault}
 use Rattle.mvd_sync.specs.declared.report.SyncFault.TheVariants.{Local}
-use Rattle.mvd_sync.specs.declared.stage.Stage.{Stage}
 use Rattle.mvd_sync.specs.declared.stage.Stage.TheVariants.{Done, Failed}
 use Rattle.mvd_sync.specs.declared.telling.Told.{Told}
 use Rattle.mvd_sync.specs.declared.telling.Told.TheVariants.{Nodes, Pages, Pushes, Refused, States}
@@ -68,10 +65,6 @@ SideSays s w (Some (Refused refusal)) old new = (1 ≤ count_wanted w) × Refuse
 pub record Running (L P : Type 0) : Type 0 where
   pub machine : Machining
   pub at : Two L P
-
-abbrev pub running : {L P : Type 0} → Questions → Exchanging → Stage → L → P → Running L P
-running left work stage local peer =
-    record { machine = record { left = left; work = work; stage = stage }; at = two local peer }
 
 -- both sides are asked what is next, as far as the questions reach, and tell this of it
 pub record BothTell {L P : Type 0} (s : Sides L P) (now : Machining) (mine theirs : Option Told)

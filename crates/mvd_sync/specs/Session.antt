@@ -15,7 +15,7 @@ use Rattle.mvd_site.specs.Held.{States, state_at}
 use Rattle.mvd_peer.specs.PushedStates.{ComesByPushes, Each}
 use Rattle.mvd_sync.specs.Olds.{HasUnseen}
 use Rattle.mvd_sync.specs.Faults.{Blames, IsFaultOf}
-use Rattle.mvd_peer.specs.Sides.{HasAnswered, IsSilent, Sides, Two, two}
+use Rattle.mvd_peer.specs.Sides.{HasAnswered, IsSilent, Sides, Two}
 use Rattle.mvd_sync.specs.declared.asking.Questions.{Questions}
 use Rattle.mvd_sync.specs.declared.report.Left.{Left}
 use Rattle.mvd_sync.specs.declared.report.Report.{Report}
@@ -191,9 +191,6 @@ after_of s new = record {
 pub record Asking (L P : Type 0) : Type 0 where
   pub at : Two L P
   pub left : Questions
-
-abbrev pub asking : {L P : Type 0} → L → P → Questions → Asking L P
-asking local peer left = record { at = two local peer; left = left }
 
 -- WHAT BECAME OF TWO SIDES by questions
 pub record Course {L P A : Type 0} (s : Sides L P) (old : Asking L P) (new : Two L P)

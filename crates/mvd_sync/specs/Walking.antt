@@ -1,13 +1,10 @@
 -- A walk over the buckets that differ, between two windows of questions.
-use Rattle.std.specs.Prelude.{◌≡◌, ◌⊎◌, ◌≤◌, ◌+◌, ℕ, Bool, true, cond, List, [], ◌∷◌, length, map, take, drop}
+use Rattle.std.specs.Prelude.{◌≡◌, ◌⊎◌, ℕ, Bool, true, cond, List, [], ◌∷◌, map, take, drop}
 use Rattle.std.specs.Prelude.{Option, Some, None}
 use Rattle.mvd_dots.specs.declared.refusals.Refusal.TheVariants.{BadBody, Memory}
 use Rattle.mvd_keys.specs.Writes.{Key}
-use Rattle.mvd_peer.specs.Sides.{Sides, Two, two}
+use Rattle.mvd_peer.specs.Sides.{two}
 use Rattle.mvd_sync.specs.Answers.{ListingValue, StartsAfter, TakesLesser, is_spent}
-use Rattle.mvd_sync.specs.Questions.{TellsPages}
-use Rattle.mvd_sync.specs.Session.{Asking}
-use Rattle.mvd_sync.specs.Walk.{ReadsEnd, local_of, peer_of}
 use Rattle.mvd_sync.specs.declared.cursor.Entry.{Entry}
 use Rattle.mvd_sync.specs.declared.report.Side.{Side}
 use Rattle.mvd_sync.specs.declared.report.Side.TheVariants.{Local as AtLocal, Peer as AtPeer}
@@ -117,26 +114,3 @@ pub data EndsTelling (old : Walking) (mine theirs : List ListingValue) (fault : 
   of_theirs : (b : Bucket) (e : Entry) → old.bucket ≡ Some b → old.entry ≡ Some e → (ComeAfter e.key theirs → ⊥)
       → fault ≡ Peer BadBody → EndsTelling old mine theirs fault
   of_memory : fault ≡ Local Memory → EndsTelling old mine theirs fault
-
--- ---- two sides
-
--- both told the pages that they were asked for
-pub record PagesTold {L P : Type 0} (s : Sides L P) (at : Walking) (mine theirs : List ListingValue)
-    (old new : Asking L P) : Type 0 where
-  pub local_side : TellsPages s.local (pages_of AtLocal at) mine (local_of old) (local_of new)
-  pub peer_side : TellsPages s.peer (pages_of AtPeer at) theirs (peer_of old) (peer_of new)
-
--- or one came to an end; of each no more was asked than these pages
-pub record PagesEnd {L P : Type 0} (s : Sides L P) (at : Walking) (old : Asking L P) (new : Two L P)
-    (fault : SyncFault) : Type 0 where
-  pub ends : ReadsEnd s (λ _. Unit {0}) old new fault
-  pub few : (ends.asked_local + ends.wanted_local ≤ length (pages_of AtLocal at))
-      × (ends.asked_peer + ends.wanted_peer ≤ length (pages_of AtPeer at))
-
--- BOTH TOLD THE NEXT PAGES, and the walk goes on with them
-pub record TellsBoth {L P : Type 0} (s : Sides L P) (before : Walking) (found : Option Entry) (after : Walking)
-    (old new : Asking L P) : Type 0 where
-  pub mine : List ListingValue
-  pub theirs : List ListingValue
-  pub pages : PagesTold s before mine theirs old new
-  pub is : IsTold before mine theirs found after

@@ -1,4 +1,4 @@
-use Rattle.std.proofs.Common.{◌≡◌, [], ap, arith, length, subst}
+use Rattle.std.proofs.Common.{◌≡◌, ap, arith, length, subst}
 use Rattle.mvd_peer.specs.Windows.{Ends}
 use Rattle.mvd_peer.proofs.ManyPushes.{open_not_of_key}
 use Rattle.mvd_sync.specs.Steps.{count_wanted, only_pushes}

@@ -1,4 +1,4 @@
-use Rattle.std.proofs.Common.{ap, refl}
+use Rattle.std.proofs.Common.{ap}
 use Rattle.mvd_sync.specs.Walking.{of_memory}
 use Rattle.mvd_sync.specs.declared.report.SyncFault.TheVariants.{Local}
 use Rattle.mvd_sync.proofs.Machined.{told_found}

@@ -4,12 +4,14 @@ use Rattle.std.specs.Prelude.{MatchResult}
 use Rattle.mvd_dots.specs.declared.refusals.Refusal.{Refusal}
 use Rattle.mvd_keys.specs.State.{State}
 use Rattle.mvd_site.specs.Held.{States, state_at}
-use Rattle.mvd_sync.specs.Exchanges.{AreNext, Done, JoinsSome, SoFar, Spends, began, keys_done, keys_next}
+use Rattle.mvd_sync.proofs.Exchanges.{AreNext, JoinsSome, SoFar, Spends, began, keys_next}
+use Rattle.mvd_sync.specs.Exchanges.{Done, keys_done}
 use Rattle.mvd_sync.specs.Meetings.{ArePlans, done_of, held_keys, noted, pushed_pair, taken_from}
-use Rattle.mvd_sync.specs.Questions.{AllAnswered, AnswersEach, IsOfKey, OneAsking, TakesIn}
+use Rattle.mvd_sync.proofs.Reads.{AllAnswered, AnswersEach, OneAsking, TakesIn}
+use Rattle.mvd_sync.specs.Questions.{IsOfKey}
 use Rattle.mvd_sync.specs.Session.{Asking, Course, after_of, both, both_of}
 use Rattle.mvd_peer.specs.Sides.{HasAnswered, SideOf, Sides}
-use Rattle.mvd_sync.specs.Walk.{local_of, peer_of}
+use Rattle.mvd_sync.proofs.Walk.{local_of, peer_of}
 use Rattle.mvd_sync.specs.declared.cursor.Entry.{Entry}
 use Rattle.mvd_sync.specs.declared.meetings.Meeting.{Meeting}
 use Rattle.mvd_sync.specs.declared.report.Side.{Side}

@@ -319,7 +319,7 @@ StageStands (Descends level) = Each (λ path. length path ≡ level.depth) level
     × Each (λ path. length path ≡ level.depth + 1) level.below
 StageStands (Walks walk) = IfSome walk.entry IsHeldByEither
 StageStands (Meets walk entries) = IfSome walk.entry IsHeldByEither × (length entries.items ≤ 1000)
-    × Each IsHeldByEither entries.items
+    × Each IsHeldByEither entries.items × (1 ≤ length entries.items)
 StageStands (Carries walk turn count) = IfSome walk.entry IsHeldByEither × IsWindow (untold turn) count
     × (length turn.told.items ≤ length turn.pairs.items)
 StageStands Done = Unit {0}

@@ -43,8 +43,9 @@ use Rattle.mvd_sync.proofs.Amid.{AtBuckets, AtMeets, AtTurn, AtWalk, Carrying, C
 use Rattle.mvd_sync.proofs.AmidAlone.{settled}
 use Rattle.mvd_sync.proofs.AmidSaid.{IsSaid, SaidTurn}
 use Rattle.mvd_sync.proofs.Compose.{Moves}
-use Rattle.mvd_sync.proofs.CutWindows.{front_lacks, gives_all, gives_first, lacked_of, next_grows, next_limited, unread_first}
+use Rattle.mvd_sync.proofs.CutWindows.{gives_all, gives_first, lacked_of, next_grows, next_limited, unread_first}
 use Rattle.mvd_sync.proofs.Descents.{Each-left}
+use Rattle.mvd_sync.proofs.Lacking.{front_lacks}
 use Rattle.mvd_sync.proofs.Answering.{said_moves}
 use Rattle.mvd_sync.proofs.Descending.{stands_local_ends, stands_memory_ends, stands_next, stands_nowhere, stands_peer_ends, next_short}
 use Rattle.mvd_sync.proofs.Exchanged.{ends_at_local as turn_ends_at_local, ends_at_peer as turn_ends_at_peer, ends_at_plans}

@@ -202,7 +202,7 @@ module _ {L P : Type 0} (l : SideOf L) (p : SideOf P) where
     silent_peer silent after reaches = silent after (first.asked_peer + reaches.0, on' first.asked_peer reaches.0 peer peer1 after first.follows.1 reaches.1)
 
     -- a side that did not hold a state
-    lacked_on : 1 ≤ (first.again_local + second.again_local) + (first.again_peer + second.again_peer) → HaveLackedBy l p local local2 peer peer2
+    pub lacked_on : 1 ≤ (first.again_local + second.again_local) + (first.again_peer + second.again_peer) → HaveLackedBy l p local local2 peer peer2
     lacked_on some = elim (cases_lt 0 (first.again_local + first.again_peer)) [
       | inl before ↦ elim (first.unheld (omega (arith, before))) [
         | inl mine ↦ inl (refused_still l on local local1 local2 Memory (second.asked_local, second.follows.0) mine)

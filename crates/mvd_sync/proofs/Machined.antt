@@ -1,5 +1,5 @@
 -- A session between two windows of questions.
-use Rattle.std.proofs.Common.{◌≡◌, ◌≢◌, ℕ, zero, suc, ◌+◌, ◌<◌, ◌≤◌, ◌↔◌, Bool, true, false, cond, not, List, [], ◌∷◌, map, length, drop, take, refl, sym, ap, subst, ◌∙◌, arith, Option, Some, None, inl, inr, length-append, length-drop}
+use Rattle.std.proofs.Common.{◌≡◌, ◌≢◌, ℕ, zero, suc, ◌+◌, ◌<◌, ◌≤◌, ◌↔◌, Bool, true, false, cond, not, List, [], ◌∷◌, ◌++◌, map, length, drop, take, refl, sym, ap, subst, ◌∙◌, arith, Option, Some, None, inl, inr, length-append, length-drop}
 use Rattle.std.specs.Prelude.{IfErr, IfOk, IfSome, Result, Ok, Err, Vec, ◌⊎◌}
 use Rattle.std.specs.declared.alloc.Global.{Global}
 use Rattle.std.proofs.lemmas.Bool.{cases_lt}
@@ -185,6 +185,16 @@ Each-drop P zero xs h = h
 Each-drop P (suc n) [] h = tt
 Each-drop P (suc n) (x ∷ xs) h = Each-drop P n xs h.1
 
+-- none is taken out only where none waits
+pub taken_none : (all entries : List Entry) → (1 ≤ length all → 1 ≤ length entries) → length entries ≡ 0 → all ≡ []
+taken_none [] entries some none = refl
+taken_none (e ∷ es) entries some none = let m = some (omega arith) in absurd (omega (arith, m, none))
+
+pub drop_none : (n : ℕ) (es : List Entry) → es ≡ [] → drop n es ≡ []
+drop_none zero es none = none
+drop_none (suc n) [] none = refl
+drop_none (suc n) (e ∷ es) none = absurd (cc)
+
 -- the first of some are taken out
 cut_lengths : (most : ℕ) (all entries later : List Entry) → entries ≡ take most all → later ≡ drop most all → length entries + length later ≡ length all
 cut_lengths most all entries later is rest =
@@ -349,7 +359,7 @@ own_share walk turn count left left' shares takes = (
 met_fit : (left : Questions) (work : Exchanging) (walk : Walking) (first later : List Entry) (limit : ℕ) (left' : Questions) (work' : Exchanging) (stage' : Stage) (asked_l asked_p : ℕ) (mine theirs : List State) → 1 ≤ length first → (length first + length later + length work.waiting ≤ 1000) → Each IsHeldByEither (first ++ later)
     → Each IsHeldByEither work.waiting → IfSome walk.entry IsHeldByEither → work.keys + work.refused + left.local + left.peer ≤ 20000000 → left.local ≡ left'.local + asked_l → left.peer ≡ left'.peer + asked_p → length first ≤ asked_l + asked_p
     → Met work walk first later limit work' mine theirs (Ok stage') → IsFitting left' work' stage'
-met_fit left work walk first later limit left' work' stage' asked_l asked_p mine theirs some low each waits walked room a b paid g =
+met_fit left work walk first later limit left' work' stage' asked_l asked_p mine theirs some low each others walked room a b paid g =
     let k = ap (λ (w : Exchanging). w.keys) g.3 in
     let r = ap (λ (w : Exchanging). w.refused) g.3 in
     let wait : work'.waiting ≡ later ++ work.waiting = ap (λ (w : Exchanging). w.waiting) g.3 in
@@ -362,7 +372,7 @@ met_fit left work walk first later limit left' work' stage' asked_l asked_p mine
       room = omega (arith, a, b, k, r, f, same, paid, room);
       short = omega (arith, n, m, low, some);
       fits = omega (arith, i, n, m, low, some);
-      held = subst (Each IsHeldByEither) (sym wait) (Each-append IsHeldByEither later work.waiting (Each-right IsHeldByEither first later each) waits);
+      held = subst (Each IsHeldByEither) (sym wait) (Each-append IsHeldByEither later work.waiting (Each-right IsHeldByEither first later each) others);
       stands = begins_stands walk AtLocal g.0 stage' g.2 walked;
     }
 

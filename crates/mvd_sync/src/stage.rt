@@ -78,7 +78,8 @@ pub fn settle(
     }
     exchange.wait(entry)?;
     if exchange.is_full() {
-        return Ok(Stage::Meets(walk, exchange.taken_out()?));
+        let entries = exchange.taken_out()?;
+        return Ok(Stage::Meets(walk, entries));
     }
     Ok(Stage::Walks(walk))
 }

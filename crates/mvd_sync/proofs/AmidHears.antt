@@ -227,8 +227,8 @@ module _ {L P : Type 0} (l : SideOf L) (p : SideOf P) (most : ℕ) (old : Two L 
           meets_end walk entries.items now work h sides' left' (Local refusal)
           (ends_at_local l p entries.items now.left now.at.local sides'.local now.at.peer sides'.peer refusal e their_moves)
 
-      theirs_end : (refusal : Refusal) → IsRead IsStateOf never (states_told answers.theirs) shares.peer (Err refusal) → EndsAt l p most old sides' (Peer refusal)
-      theirs_end refusal t =
+      their_ends : (refusal : Refusal) → IsRead IsStateOf never (states_told answers.theirs) shares.peer (Err refusal) → EndsAt l p most old sides' (Peer refusal)
+      their_ends refusal t =
           let e = (states_read p now.left.peer left'.peer now.at.peer sides'.peer shares.peer their_keys takes.peer takes.wanted.1 (states_told answers.theirs) said.1 (Err refusal) t).1 in
           meets_end walk entries.items now work h sides' left' (Peer refusal)
           (ends_at_peer l p entries.items now.left now.at.local sides'.local now.at.peer sides'.peer refusal mine_moves e)
@@ -296,7 +296,7 @@ module _ {L P : Type 0} (l : SideOf L) (p : SideOf P) (most : ℕ) (old : Two L 
           (gives_all p AtPeer entries.items theirs.items now.left.peer left'.peer now.at.peer sides'.peer second)
           result rest
       hears_whole result (of_local refusal m is) = subst ComesTo (sym is) (mine_ends refusal m)
-      hears_whole result (of_peer mine refusal m t is) = subst ComesTo (sym is) (theirs_end refusal t)
+      hears_whole result (of_peer mine refusal m t is) = subst ComesTo (sym is) (their_ends refusal t)
 
       -- or the first of them, where it is cut
       module _ (count : ℕ) (cut : IsCut entries.items shares answers count) where
@@ -343,7 +343,7 @@ module _ {L P : Type 0} (l : SideOf L) (p : SideOf P) (most : ℕ) (old : Two L 
             (mine_ends refusal (unread_first l AtLocal entries.items count now.left.local left'.local now.at.local sides'.local shares.local takes.local takes.wanted.0 cut.from_local.all (states_told answers.mine) cut.mine cut.from_local.is said.0 refusal cut.from_local.counted m))
         hears_first result (met (of_peer mine refusal m t is)) =
             subst ComesTo (sym is)
-            (theirs_end refusal (unread_first p AtPeer entries.items count now.left.peer left'.peer now.at.peer sides'.peer shares.peer takes.peer takes.wanted.1 cut.from_peer.all (states_told answers.theirs) cut.theirs cut.from_peer.is said.1 refusal cut.from_peer.counted t))
+            (their_ends refusal (unread_first p AtPeer entries.items count now.left.peer left'.peer now.at.peer sides'.peer shares.peer takes.peer takes.wanted.1 cut.from_peer.all (states_told answers.theirs) cut.theirs cut.from_peer.is said.1 refusal cut.from_peer.counted t))
         hears_first result (no_place is) = subst ComesTo (sym is) (no_room (Local Memory) refl)
 
       hears_meets : (result : Result Stage SyncFault) → StatesHeard work walk entries.items shares answers work' result → ComesTo result

@@ -35,10 +35,10 @@ front_lacks (e ∷ es) xs ys h =
     elim (lacks e.mine xs) as (λ b. lacks e.mine xs ≡ b → cond (b || lacks e.theirs ys) 0 (1 + front es xs' ys') < length (e ∷ es) → Contains xs (Err Memory) ⊎ Contains ys (Err Memory)) [
       | true ↦ λ is _. inl (lacks_told e.mine xs is)
       | false ↦ λ _ low. elim (lacks e.theirs ys) as (λ b. lacks e.theirs ys ≡ b → cond b 0 (1 + front es xs' ys') < length (e ∷ es) → Contains xs (Err Memory) ⊎ Contains ys (Err Memory)) [
-          | true ↦ λ is _. inr (lacks_told e.theirs ys is)
-          | false ↦ λ _ low. elim (front_lacks es xs' ys' (omega (arith, low))) [
-              | inl mine ↦ inl (in_rest e.mine xs (Err Memory) mine)
-              | inr theirs ↦ inr (in_rest e.theirs ys (Err Memory) theirs)
-            ]
-        ] refl low
+        | true ↦ λ is _. inr (lacks_told e.theirs ys is)
+        | false ↦ λ _ low. elim (front_lacks es xs' ys' (omega (arith, low))) [
+          | inl mine ↦ inl (in_rest e.mine xs (Err Memory) mine)
+          | inr theirs ↦ inr (in_rest e.theirs ys (Err Memory) theirs)
+        ]
+      ] refl low
     ] refl h

@@ -201,7 +201,7 @@ pub data StatesHeard (work : Exchanging) (walk : Walking) (entries : List Entry)
     (work' : Exchanging) (result : Result Stage SyncFault) : Type 0 where
   whole : ((count : ℕ) → IsCut entries shares answers count → ⊥)
       → ReadBoth (IsRead IsStateOf never (states_told answers.mine) shares.local)
-          (IsRead IsStateOf never (states_told answers.theirs) shares.peer) (Met work walk entries [] 1000 work') result
+      (IsRead IsStateOf never (states_told answers.theirs) shares.peer) (Met work walk entries [] 1000 work') result
       → StatesHeard work walk entries shares answers work' result
   cut : (count : ℕ) → IsCut entries shares answers count → MetFirst work walk entries count answers work' result
       → StatesHeard work walk entries shares answers work' result

@@ -19,10 +19,7 @@ fn lacks(is_wanted: bool, answers: &[Result<KeyState, Refusal>]) -> bool
 }
 
 /// The answers behind the first, if that was wanted.
-fn rest_if(
-    is_wanted: bool,
-    answers: &[Result<KeyState, Refusal>],
-) -> &[Result<KeyState, Refusal>]
+fn rest_if(is_wanted: bool, answers: &[Result<KeyState, Refusal>]) -> &[Result<KeyState, Refusal>]
     ensures { result.now ≡ rest_if is_wanted answers.now }
 {
     if is_wanted && !answers.is_empty() {

@@ -166,6 +166,17 @@ AreFew asked states differing = asked ≤ 1 + 5 * length differing + len states 
 abbrev pub IsLittle : ℕ → ℕ → Type 0
 IsLittle again firsts = again ≤ 16 + 7 * firsts
 
+-- few questions in all, to a side that holds these states, where the other holds those: few for the first time, and
+-- again so many as those to both let
+pub record AreFewInAll (asked : ℕ) (own other : States) (differing : List Key) : Type 0 where
+  pub firsts : ℕ
+  pub others : ℕ
+  pub again : ℕ
+  pub is : asked ≡ firsts + again
+  pub few : AreFew firsts own differing
+  pub few_others : AreFew others other differing
+  pub little : IsLittle again (firsts + others)
+
 -- all keys that differ are among these
 abbrev pub HasAllThatDiffer : States → States → List Key → Type 0
 HasAllThatDiffer a b keys = (key : Key) → get a key ≢ get b key → IsIn keys key

@@ -1,10 +1,11 @@
 #!/usr/bin/env python3
 """Tries many wrong bodies in one check: each must be refused in the function that it changes.
 
-usage, at the repository's top: tools/wrong_bodies.py [--must-fail] CRATE[/WRONG_BODY]..
-                                tools/wrong_bodies.py --gate N       for each landing, over the libraries that `rt ci` left
+usage, at the repository's top: tools/wrong_bodies.py [--must-fail] [--built] CRATE[/WRONG_BODY]..
+                                tools/wrong_bodies.py --gate N       for each landing
 
 With --gate N it tries each wrong body whose first line begins with `gate:`, and all of the crates of tenth N, 0 to 9 (TENTHS, below).
+With --gate and with --built it stands over the libraries that `rt ci` left in out/, and copies and builds none.
 
 It puts the wrong bodies of a crate (of `wrong-bodies/`, or of `must-fail/`) into a copy of the repository, as many at once as change
 different functions, and runs `rt check` there, of the changed functions alone. The check says of each whether it is proved. A wrong body
@@ -40,6 +41,7 @@ TENTHS = [
     ["mvd_input", "mvd_host", "mvd_script", "mvd_start"],
     ["mvd_replica", "mvd_http", "mvd_meet", "mvd_digest"],
 ]
+LEFT = pathlib.Path("crates").resolve()
 FN = re.compile(r"^( *)(?:pub(?:\([a-z]+\))? )?(?:const )?(?:unsafe )?fn (\w+)")
 HEAD = re.compile(r"(?:unsafe )?(?:impl|(?:pub(?:\(\w+\))? )?trait)\b")
 OWNER = re.compile(HEAD.pattern + r"\s*(?:<(?:[^<>]|<[^<>]*>)*>)?\s*(?:(?:\w+::)*(\w+)(?:<.*?>)? for )?(?:\w+::)*(\w+)(<[^{]*>)?")
@@ -173,7 +175,8 @@ def check(folder, texts, functions, over):
 
 
 def over_libraries(folder, kept):
-    """The command that checks a crate over the libraries that stand in out/ of the crates below it, and keeps what it proves in a folder."""
+    """The command that checks a crate over the libraries of the crates below it, which `rt ci` left in this repository's out/, and keeps
+    what it proves in a folder."""
     kit = pathlib.Path(subprocess.run(["rt", "doc"], stdout=subprocess.PIPE, text=True, check=True).stdout.split()[-1]).parent
     lines = (line.split("#")[0].partition(":") for line in (folder.parent.parent / "crates.txt").read_text().splitlines())
     uses = {name.split()[0]: used.split() for name, colon, used in lines if colon}
@@ -185,9 +188,9 @@ def over_libraries(folder, kept):
             todo += uses[name]
     words = [kit / "bin/rattle", "check", "--crate-name", folder.name, f"src/{'main' if (folder / 'src/main.rt').is_file() else 'lib'}.rt"]
     for name in ["std", *uses[folder.name]]:
-        library = folder.parent / name / "out/rlib" if name in uses else kit / "rlibs"
+        library = LEFT / name / "out/rlib" if name in uses else kit / "rlibs"
         words += ["--extern", f"{name}={library / name}.rlib"]
-    for library in [kit / "rlibs", *(folder.parent / name / "out/rlib" for name in below)]:
+    for library in [kit / "rlibs", *(LEFT / name / "out/rlib" for name in below)]:
         words += ["-L", f"dependency={library}"]
     words += ["--antt-project", kit / "rattle/logic/antt-project.json", "--logic-built", kit / "logic_built"]
     return [*words, "--jobs", "1", "--incremental", kept]
@@ -228,18 +231,21 @@ def judged(said, functions, folder):
 def main(words):
     kind = "must-fail" if "--must-fail" in words else "wrong-bodies"
     tenth = int(words[words.index("--gate") + 1]) if "--gate" in words else None
+    is_built = tenth is not None or "--built" in words
     names = names_of(tenth) if tenth is not None else [word for word in words if not word.startswith("--")]
     if not names:
         sys.exit(__doc__)
     room = pathlib.Path(tempfile.mkdtemp(prefix="wrong-bodies-"))
     try:
-        for part in ("crates.txt", "HANDLES", "crates"):
-            subprocess.run(["cp", "-a", part, str(room)], check=True)
+        # (where the libraries of this repository serve, what was built is not copied)
+        shutil.copytree("crates", room / "crates", symlinks=True, ignore=shutil.ignore_patterns("out") if is_built else None)
+        for part in ("crates.txt", "HANDLES"):
+            shutil.copy(part, room)
         subprocess.run(["git", "init", "-q", "."], cwd=room, check=True)
         # (each crate by itself, over libraries that nothing changes; `rt check` builds them, so there one after the other)
-        lanes = int(os.environ.get("RT_JOBS", os.cpu_count())) if tenth is not None else 1
+        lanes = int(os.environ.get("RT_JOBS", os.cpu_count())) if is_built else 1
         with concurrent.futures.ThreadPoolExecutor(lanes) as pool:
-            failed = sum(pool.map(lambda name: tried(room / "crates", kind, name, tenth is not None), names))
+            failed = sum(pool.map(lambda name: tried(room / "crates", kind, name, is_built), names))
     finally:
         shutil.rmtree(room, ignore_errors=True)
     used = resource.getrusage(resource.RUSAGE_CHILDREN)

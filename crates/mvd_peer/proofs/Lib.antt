@@ -1,5 +1,6 @@
 pub mod JoinLaws
 pub mod Pushes
+pub mod Dropped
 pub mod OneByOne
 pub mod SiteSides
 pub mod ManyPushes

@@ -1,6 +1,6 @@
 -- Many questions at once: one answer for each, in order, as if they were asked one after the other.
 use Rattle.std.specs.Prelude.{◌≡◌, ◌⊎◌, ◌<◌, ◌≤◌, ◌==◌, ℕ, Bool, true, false, List, [], ◌∷◌, length, Option, Some, None}
-use Rattle.std.specs.Prelude.{Result, Ok, Err, take, IfOk, OnErr}
+use Rattle.std.specs.Prelude.{◌+◌, ◌-◌, ◌^◌, Result, Ok, Err, min, take, IfOk, OnErr}
 use Rattle.std.specs.FinMap.{get, len}
 use Rattle.std.specs.declared.alloc.Global.{Global}
 use Rattle.std.specs.declared.vec.Vec.{Vec}
@@ -12,6 +12,7 @@ use Rattle.mvd_keys.specs.State.{State, clashes, join}
 use Rattle.mvd_keys.specs.Writes.{Key}
 use Rattle.mvd_tree.specs.HashTree.{KeyDigests, node_digest}
 use Rattle.mvd_tree.specs.Page.{children_digests, is_more_after_page, bucket_page}
+use Rattle.mvd_wire.specs.Codecs.{spell_state}
 use Rattle.mvd_wire.specs.declared.reply.Digests.{Digests}
 use Rattle.mvd_site.specs.Answer.{digests, is_too_large}
 use Rattle.mvd_site.specs.Held.{States, state_at}
@@ -54,6 +55,27 @@ abbrev pub IsNode : KeyDigests → List ℕ → Digests → Type 0
 IsNode held path d =
     (d.own ≡ node_digest held path) × (length path < 3 → d.children ≡ Some (children_digests held path))
     × (3 ≤ length path → d.children ≡ None)
+
+-- ---- states that are held at once
+
+-- a state is held where those before it are fewer bytes than 1,048,576; else its get is refused with 20. So many bytes
+-- are held before it, and after it, as a number of 64 bits
+pub data HoldsState (old new : ℕ) (answer result : Result State Refusal) : Type 0 where
+  held : (state : State) → answer ≡ Ok state → result ≡ Ok state → old < 1048576
+      → new ≡ min (old + length (spell_state state)) (2 ^ 64 - 1) → HoldsState old new answer result
+  dropped : (state : State) → answer ≡ Ok state → result ≡ Err Memory → new ≡ old → HoldsState old new answer result
+  refused : (refusal : Refusal) → answer ≡ Err refusal → result ≡ Err refusal → new ≡ old
+      → HoldsState old new answer result
+
+abbrev pub GivesWithin : (old new : ℕ) → Result State Refusal → Type 0
+GivesWithin old new (Ok state) = (old < 1048576) × (new ≡ min (old + length (spell_state state)) (2 ^ 64 - 1))
+GivesWithin old new (Err refusal) = new ≡ old
+
+-- THE STATES THAT ARE GIVEN AT ONCE are so few that those before the last are fewer bytes than 1,048,576
+abbrev pub AreWithin : ℕ → List (Result State Refusal) → Type 0
+AreWithin bytes [] = Unit {0}
+AreWithin bytes (Ok state ∷ answers) = (bytes < 1048576) × AreWithin (bytes + length (spell_state state)) answers
+AreWithin bytes (Err refusal ∷ answers) = AreWithin bytes answers
 
 -- how a side behaves: what it may be after so many questions, and what is so of it after it refused one, or answered
 -- one

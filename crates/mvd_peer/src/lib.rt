@@ -2,6 +2,7 @@
 #![tactic(auto)]
 
 mod endpoint;
+pub mod holding;
 pub mod laws;
 pub mod peer;
 mod site_side;

@@ -9,10 +9,11 @@ ghost use Rattle.mvd_site.specs.Held.{AreHeld, States, state_at};
 ghost use Rattle.mvd_site.specs.Answer.{digests};
 ghost use Rattle.mvd_peer.specs.Sides.{IsOfNoQuestion, StaysFaithful};
 ghost use Rattle.mvd_peer.specs.Telling.{PageTold, StateTold, TellsAll, TellsNode, TellsOne, TellsPush};
-ghost use Rattle.mvd_peer.specs.Windows.{AskedAll, CannotTake, Ends, HasKeys, IsLeftOpen, IsNode, IsPushed, LeavesOfPush};
+ghost use Rattle.mvd_peer.specs.Windows.{AreWithin, AskedAll, CannotTake, Ends, GivesWithin, HasKeys, IsLeftOpen, IsNode, IsPushed, LeavesOfPush};
 ghost use Rattle.mvd_peer.specs.Windows.{PushedAll, PushedSome, RefusesPage, TellsMore};
 ghost use Rattle.mvd_peer.specs.Windows.{for_pushes, gets_of, holding, manner, nodes_of, pages_kind};
 
+use crate::holding::hold;
 use crate::windows::{is_over, left_open, room_for};
 use mvd_dots::Refusal;
 use mvd_keys::{Key, KeyState, Path};
@@ -105,6 +106,22 @@ pub trait Peer {
         ensures answers { OnOk result (can_answer self.new) }
         ensures live { TellsOne is_live states StateTold key.now result self.old self.new };
 
+    /// The state of a key, if it is held with those before it, which are so many bytes. Else the get is refused with 20.
+    fn get_held(&mut self, key: &Key, bytes: &mut u64) -> Result<KeyState, Refusal>
+        ensures kept { StaysFaithful is_faithful states self.old self.new }
+        ensures answer { is_faithful self.old → IfOk result (λ state. state ≡ state_at (states self.old) key.now) }
+        ensures given { IfOk result (λ state. can_give key.now state) }
+        ensures not_of_question { is_faithful self.old → IfErr result IsOfNoQuestion }
+        ensures follows { follows 1 self.old self.new }
+        ensures refuses { IfErr result (can_refuse self.new) }
+        ensures answers { OnOk result (can_answer self.new) }
+        ensures live { TellsOne is_live states StateTold key.now result self.old self.new }
+        ensures within { GivesWithin bytes.old bytes.new result }
+    {
+        let answer = self.get(key);
+        hold(bytes, answer)
+    }
+
     /// Joins a state to that of a key.
     fn push(&mut self, key: &Key, state: &KeyState) -> Result<(), Refusal>
         ensures ok { is_faithful self.old →
@@ -166,7 +183,8 @@ pub trait Peer {
         Ok(told)
     }
 
-    /// The states of several keys.
+    /// The states of several keys: as many of the first as are fewer bytes than 1,048,576, and one more. The gets of
+    /// further ones are refused with 20.
     fn get_all(&mut self, keys: &[Key]) -> Result<Vec<Result<KeyState, Refusal>>, Refusal>
         ensures kept { StaysFaithful is_faithful states self.old self.new }
         ensures told { AskedAll (manner follows can_refuse can_answer)
@@ -174,10 +192,12 @@ pub trait Peer {
         ensures ended { IfErr result (Ends follows can_refuse (length keys.now) self.old self.new) }
         ensures not_of_question { is_faithful self.old → IfErr result IsOfNoQuestion }
         ensures live { TellsAll is_live states StateTold keys.now self.old self.new result }
+        ensures within { IfOk result (λ told. AreWithin 0 told.items) }
     {
         let mut told = room_for(self.alloc(), keys.len())?;
+        let mut bytes = 0;
         for key in keys {
-            let answer = self.get(key);
+            let answer = self.get_held(key, &mut bytes);
             if is_over(&answer) {
                 return Err(Refusal::Broken);
             }
@@ -222,6 +242,9 @@ pub trait Peer {
     /// So many questions, and then so many more, are the sum of both.
     ghost follows_on: { (m n : ℕ) (old mid new : Self) →
         follows m old mid → follows n mid new → follows (m + n) old new };
+
+    /// After an answer it may refuse for want of memory.
+    ghost lacks: { (side : Self) → can_answer side → can_refuse side Refusal.Memory };
 
     /// How many keys it holds at most does not change.
     ghost most_stays: { (n : ℕ) (old new : Self) → follows n old new → most_keys new ≡ most_keys old };

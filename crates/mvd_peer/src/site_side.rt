@@ -1,6 +1,6 @@
 //! A site as a side of a session.
 ghost use Rattle.std.specs.Prelude.{◌≡◌, false, Some};
-ghost use Rattle.std.proofs.Common.{ap};
+ghost use Rattle.std.proofs.Common.{ap, refl};
 ghost use Rattle.mvd_site.specs.Held.{AreHeld};
 ghost use Rattle.mvd_peer.specs.Sides.{SiteFollows, SiteRefuses, site_follows_on, site_follows_self};
 
@@ -40,6 +40,8 @@ impl Peer for Site {
     ghost follows_self = { site_follows_self };
 
     ghost follows_on = { λ _ _. site_follows_on };
+
+    ghost lacks = { λ _ whole. (refl, whole) };
 
     ghost most_stays = { λ _ old new follows. ap (λ c. c.max_keys) follows.0 };
 

@@ -1,5 +1,5 @@
 -- How far a session has come, as its machine stands.
-use Rattle.std.proofs.Common.{◌≡◌, ◌≢◌, ℕ, ◌+◌, true, List, [], ◌∷◌, ◌++◌, sym, subst, arith}
+use Rattle.std.proofs.Common.{◌≡◌, ◌≢◌, ℕ, ◌+◌, ◌*◌, ◌≤◌, true, List, [], ◌∷◌, ◌++◌, length, subst, arith}
 use Rattle.std.specs.Prelude.{Result, Ok, Err, MatchResult}
 use Rattle.mvd_peer.specs.PushedStates.{Each}
 use Rattle.mvd_peer.specs.Sides.{SideOf, Two}
@@ -24,9 +24,9 @@ use Rattle.mvd_sync.proofs.Bucket.{settles_by_exchange}
 use Rattle.mvd_sync.proofs.Descending.{StandsAt}
 use Rattle.mvd_sync.proofs.HeldFew.{held_few}
 use Rattle.mvd_sync.proofs.Positions.{FindsBucketsBy, SessionBy, sides}
-use Rattle.mvd_sync.proofs.Sessions.{begins_with, session_buckets, session_exchanges}
+use Rattle.mvd_sync.proofs.Sessions.{begins_with, session_buckets}
 use Rattle.mvd_sync.proofs.Turning.{TurnStands}
-use Rattle.mvd_sync.proofs.Walked.{Found, Over, Walked, found_ends, found_settles}
+use Rattle.mvd_sync.proofs.Walked.{Found, Over, Walked, found_ends, found_settles, over_exchanged, walk_done, walk_exchanges}
 use Rattle.mvd_sync.proofs.WalkedOn.{found_steady}
 
 -- what is so of each side
@@ -52,38 +52,39 @@ module _ {L P : Type 0} (l : SideOf L) (p : SideOf P) (most : ℕ) (old : Two L 
   abbrev pub begin : AtBuckets → Moment L P
   begin b = record { now = b.mid; work = start }
 
-  -- what a window of keys is exchanged for: a key that filled it, or since no other key comes
+  -- what keys are exchanged for, of which some wait: a key that was found, or since no other key comes
   pub data Owes (b : AtBuckets) (walk : Walking) (entries : List Entry) (before : Moment L P) : Type 0 where
     of_key : (e : Entry) → Found l p b.paths (begin b) before e walk → e.differs ≡ true → entries ≡ before.work.waiting ++ e ∷ [] → Owes b walk entries before
-    at_last : Over l p b.paths (begin b) before (Ok (tt {0})) → IsWalked walk → before.work.waiting ≢ [] → entries ≡ before.work.waiting → Owes b walk entries before
+    at_last : Walked l p b.paths (begin b) before walk → IsWalked walk → entries ≡ before.work.waiting → Owes b walk entries before
 
-  -- all buckets are gone over, and the keys that waited then are exchanged
+  -- all buckets are gone over, and no key waits
   pub record Ended (now : Moment L P) : Type 0 where
     pub buckets : AtBuckets
-    pub before : Moment L P
-    pub over : Over l p buckets.paths (begin buckets) before (Ok (tt {0}))
-    pub last : Exchanges (sides l p) before.work.waiting before now (Ok (tt {0}))
+    pub over : Over l p buckets.paths (begin buckets) now (Ok (tt {0}))
     pub none : now.work.waiting ≡ []
 
-  -- a walk over the buckets, or after it
-  pub data AtWalk (walk : Walking) (now : Moment L P) : Type 0 where
-    on_walk : (b : AtBuckets) → Walked l p b.paths (begin b) now walk → Each IsHeldByEither now.work.waiting → AtWalk walk now
-    after_last : Ended now → IsWalked walk → AtWalk walk now
+  -- a walk over the buckets
+  pub record AtWalk (walk : Walking) (now : Moment L P) : Type 0 where
+    pub buckets : AtBuckets
+    pub walked : Walked l p buckets.paths (begin buckets) now walk
+    pub held : Each IsHeldByEither now.work.waiting
 
   -- a window of keys, of which the states are asked for
   pub record AtMeets (walk : Walking) (entries : List Entry) (now : Moment L P) : Type 0 where
     pub buckets : AtBuckets
     pub before : Exchanging
-    pub owes : Owes buckets walk entries (record { now = now.now; work = before })
-    pub held : Each IsHeldByEither entries
-    pub work : now.work ≡ record before { waiting = [] }
+    pub owes : Owes buckets walk (entries ++ now.work.waiting) (record { now = now.now; work = before })
+    pub held : Each IsHeldByEither (entries ++ now.work.waiting)
+    pub work : now.work ≡ record before { waiting = now.work.waiting }
+    pub some : 1 ≤ length entries
+    pub few : length entries ≤ before.most
 
   -- the turn of a side: the local one first
   pub data Carrying (meetings : List Meeting) (turn : Turn) (given now : Asking L P) : Type 0 where
     by_local : TurnStands l AtLocal meetings turn given.left.local now.left.local given.at.local now.at.local → now.left.peer ≡ given.left.peer → now.at.peer ≡ given.at.peer → Carrying meetings turn given now
     by_peer : (taken : List Meeting) → Carried l AtLocal meetings taken (local_of given) (local_of now) → TurnStands p AtPeer taken turn given.left.peer now.left.peer given.at.peer now.at.peer → Carrying meetings turn given now
 
-  -- a window of keys, of which the states were told
+  -- a window of keys, of which the states were told; others may wait
   pub record AtTurn (walk : Walking) (turn : Turn) (count : ℕ) (now : Moment L P) : Type 0 where
     pub buckets : AtBuckets
     pub entries : List Entry
@@ -92,10 +93,12 @@ module _ {L P : Type 0} (l : SideOf L) (p : SideOf P) (most : ℕ) (old : Two L 
     pub asked : Asking L P
     pub given : Asking L P
     pub meetings : List Meeting
-    pub owes : Owes buckets walk entries (record { now = asked; work = before })
-    pub held : Each IsHeldByEither entries
+    pub owes : Owes buckets walk (entries ++ now.work.waiting) (record { now = asked; work = before })
+    pub held : Each IsHeldByEither (entries ++ now.work.waiting)
+    pub some : 1 ≤ length entries
     pub planned : Planned (sides l p) before.number entries asked given meetings
-    pub work : now.work ≡ record before { waiting = []; most = next }
+    pub little : planned.others + next ≤ before.most + 7 * length entries
+    pub work : now.work ≡ record before { waiting = now.work.waiting; most = next }
     pub carrying : Carrying meetings turn given now.now
     pub window : IsWindow (untold turn) count
 
@@ -121,17 +124,22 @@ module _ {L P : Type 0} (l : SideOf L) (p : SideOf P) (most : ℕ) (old : Two L 
     over_ends k new fault over =
         session_buckets l p a.on b.on a.stays b.stays a.form b.form held_few most k.mid.left new.now.left old.local k.mid.at.local new.now.at.local old.peer k.mid.at.peer new.now.at.peer k.paths new.work k.finds fault over
 
-    -- the keys of a window are exchanged
-    pub owes_done : (k : AtBuckets) (walk : Walking) (entries : List Entry) (before new : Moment L P) → Owes k walk entries before → Exchanges (sides l p) entries before new (Ok (tt {0})) → new.work.waiting ≡ [] → AtWalk walk new
-    owes_done k walk entries before new (of_key e found differs is) x none =
+    -- keys are exchanged, and others of them wait
+    pub owes_done : (k : AtBuckets) (walk : Walking) (entries : List Entry) (before new : Moment L P) → Owes k walk entries before → Exchanges (sides l p) entries before new (Ok (tt {0})) → Each IsHeldByEither new.work.waiting → AtWalk walk new
+    owes_done k walk entries before new (of_key e found differs is) x held =
         let low = (found_steady l p k.paths (begin k) before e walk found).short (omega arith) in
         let here = subst (λ es. Exchanges (sides l p) es before new (Ok (tt {0}))) is x in
-        on_walk k
-        (found_settles l p a.on b.on a.stays b.stays a.self b.self k.paths (begin k) before new e walk found
-        (settles_by_exchange l p e before.now.left new.now.left before.now.at.local new.now.at.local before.now.at.peer new.now.at.peer before.work new.work (Ok (tt {0})) differs low here))
-        (subst (Each IsHeldByEither) (sym none) tt)
-    owes_done k walk entries before new (at_last over walked some is) x none =
-        after_last (record { buckets = k; before = before; over = over; last = subst (λ es. Exchanges (sides l p) es before new (Ok (tt {0}))) is x; none = none }) walked
+        record {
+          buckets = k;
+          walked = found_settles l p a.on b.on a.stays b.stays a.self b.self k.paths (begin k) before new e walk found
+              (settles_by_exchange l p e before.now.left new.now.left before.now.at.local new.now.at.local before.now.at.peer new.now.at.peer before.work new.work (Ok (tt {0})) differs low here);
+          held = held;
+        }
+    owes_done k walk entries before new (at_last walked over is) x held = record {
+      buckets = k;
+      walked = walk_exchanges l p a.on b.on a.stays b.stays a.self b.self k.paths (begin k) before new walk walked over (subst (λ es. Exchanges (sides l p) es before new (Ok (tt {0}))) is x);
+      held = held;
+    }
 
     -- or they came to an end
     pub owes_ends : (k : AtBuckets) (walk : Walking) (entries : List Entry) (before new : Moment L P) (fault : SyncFault) → Owes k walk entries before → Exchanges {A = Unit {0}} (sides l p) entries before new (Err fault) → EndsAt new.now.at fault
@@ -141,6 +149,8 @@ module _ {L P : Type 0} (l : SideOf L) (p : SideOf P) (most : ℕ) (old : Two L 
         over_ends k new fault
         (found_ends l p a.on b.on a.stays b.stays a.self b.self k.paths (begin k) before new e walk fault found
         (settles_by_exchange l p e before.now.left new.now.left before.now.at.local new.now.at.local before.now.at.peer new.now.at.peer before.work new.work (Err fault) differs low here))
-    owes_ends k walk entries before new fault (at_last over walked some is) x =
-        session_exchanges l p a.on b.on a.stays b.stays a.form b.form held_few most k.mid.left before.now.left old.local k.mid.at.local before.now.at.local old.peer k.mid.at.peer before.now.at.peer k.paths before.work k.finds (tt {0}) over new.now.left new.now.at.local new.now.at.peer new.work fault
-        (subst (λ es. Exchanges {A = Unit {0}} (sides l p) es before new (Err fault)) is x)
+    owes_ends k walk entries before new fault (at_last walked over is) x =
+        over_ends k new fault
+        (over_exchanged l p a.on b.on a.stays b.stays a.self b.self k.paths (begin k) k.paths before new (Err fault)
+        (walk_done l p a.on b.on a.stays b.stays a.self b.self k.paths (begin k) before walk walked over)
+        (subst (λ es. Exchanges {A = Unit {0}} (sides l p) es before new (Err fault)) is x))

@@ -1,6 +1,7 @@
 -- How a session stands after a step without a question.
-use Rattle.std.proofs.Common.{◌≡◌, ◌≢◌, ℕ, ◌+◌, List, [], ◌∷◌, ◌++◌, length, map, refl, sym, ap, subst, ◌∙◌, arith, Option, Some, None}
+use Rattle.std.proofs.Common.{◌≡◌, ◌≢◌, ℕ, ◌+◌, ◌≤◌, take, drop, List, [], ◌∷◌, ◌++◌, length, map, refl, sym, ap, subst, ◌∙◌, arith, Option, Some, None}
 use Rattle.std.specs.Prelude.{Ok}
+use Rattle.std.proofs.lemmas.List.{length-take, take-append-drop}
 use Rattle.mvd_peer.specs.PushedStates.{Each}
 use Rattle.mvd_peer.specs.Sides.{SideOf, Two}
 use Rattle.mvd_sync.specs.Exchanges.{CountsDone, Exchanging, IsHeldByEither}
@@ -16,11 +17,12 @@ use Rattle.mvd_sync.specs.declared.stage.Stage.{Stage}
 use Rattle.mvd_sync.specs.declared.stage.Stage.TheVariants.{Carries, Descends, Done, Failed, Meets, Walks}
 use Rattle.mvd_sync.specs.declared.turn.Turn.{Turn}
 use Rattle.mvd_sync.specs.declared.walking.Bucket.{Bucket}
-use Rattle.mvd_sync.proofs.Amid.{AtBuckets, AtTurn, AtWalk, Carrying, Ended, Laws, Stands, after_last, at_last, begin, by_local, by_peer, of_key, on_walk, owes_done, start, total}
+use Rattle.mvd_sync.proofs.Amid.{AtBuckets, AtTurn, AtWalk, Carrying, Ended, Laws, Owes, Stands, at_last, begin, by_local, by_peer, of_key, owes_done, start, total}
 use Rattle.mvd_sync.proofs.Bucket.{settles_by_exchange, settles_nothing}
 use Rattle.mvd_sync.proofs.Descending.{stands_last}
 use Rattle.mvd_sync.proofs.Exchanged.{all_done}
 use Rattle.mvd_sync.proofs.Exchanging.{exchanges_all, exchanges_later}
+use Rattle.mvd_sync.proofs.Descents.{Each-left, Each-right}
 use Rattle.mvd_sync.proofs.Nodes.{Each-append}
 use Rattle.mvd_sync.proofs.Turning.{TurnStands, turn_begins, turn_carried}
 use Rattle.mvd_sync.proofs.Walked.{Found, WalksOn, found_settles, walk_begins, walk_done, walk_goes}
@@ -43,6 +45,17 @@ goes_in at found at' (tells b b' e some takes full told is) none = absurd (cc)
 goes_in at found at' (waits_page b b' e some takes wants told is) none = absurd (cc)
 goes_in at found at' (closes b some none_mine none_theirs told closed) none = absurd (cc)
 
+-- the first keys are taken out of those that wait
+taken_out : (most : ℕ) (all entries later : List Entry) → entries ≡ take most all → later ≡ drop most all → (entries ++ later ≡ all) × (length entries ≤ most)
+taken_out most all entries later is rest =
+    let n = ap length is in
+    let m = length-take most all in
+    ((λ i. is i ++ rest i) ∙ take-append-drop most all, omega (arith, n, m))
+
+-- only what waits has changed
+waits_only : (work work' : Exchanging) (later : List Entry) → work' ≡ record work { waiting = later } → work' ≡ record work { waiting = work'.waiting }
+waits_only work work' later new = new ∙ ap (λ (es : List Entry). record work { waiting = es }) (sym (ap (λ (w : Exchanging). w.waiting) new))
+
 module _ {L P : Type 0} (l : SideOf L) (p : SideOf P) (most : ℕ) (old : Two L P) (a : Laws l) (b : Laws p) where
   abbrev StandsSo : Stage → Moment L P → Type 0
   StandsSo stage now = Stands l p most old stage now
@@ -56,12 +69,16 @@ module _ {L P : Type 0} (l : SideOf L) (p : SideOf P) (most : ℕ) (old : Two L 
     settled w held (none_found none same is) =
         subst (λ st. StandsSo st (at now work')) (sym is)
         (subst (λ (e : Exchanging). AtWalk l p most old walk (at now e)) (sym same)
-        (on_walk k (subst (λ o. WalksOn l p k.paths (begin l p most old k) (at now work) o walk) none w) held))
+        (record { buckets = k; walked = subst (λ o. WalksOn l p k.paths (begin l p most old k) (at now work) o walk) none w; held = held }))
     settled w held (equal e one differs same is) =
         let f : Found l p k.paths (begin l p most old k) (at now work) e walk = subst (λ o. WalksOn l p k.paths (begin l p most old k) (at now work) o walk) one w in
         subst (λ st. StandsSo st (at now work')) (sym is)
         (subst (λ (x : Exchanging). AtWalk l p most old walk (at now x)) (sym same)
-        (on_walk k (found_settles l p a.on b.on a.stays b.stays a.self b.self k.paths (begin l p most old k) (at now work) (at now work) e walk f (settles_nothing l p a.self b.self e now.left now.at.local now.at.peer work differs)) held))
+        (record {
+          buckets = k;
+          walked = found_settles l p a.on b.on a.stays b.stays a.self b.self k.paths (begin l p most old k) (at now work) (at now work) e walk f (settles_nothing l p a.self b.self e now.left now.at.local now.at.peer work differs);
+          held = held;
+        }))
     settled w held (waits e one differs new low is) =
         let f : Found l p k.paths (begin l p most old k) (at now work) e walk = subst (λ o. WalksOn l p k.paths (begin l p most old k) (at now work) o walk) one w in
         let short = (found_steady l p k.paths (begin l p most old k) (at now work) e walk f).short (omega arith) in
@@ -70,19 +87,24 @@ module _ {L P : Type 0} (l : SideOf L) (p : SideOf P) (most : ℕ) (old : Two L 
         let few = low.0 in
         let x = exchanges_later l p a.self b.self (work.waiting ++ e ∷ []) now.left now.at.local now.at.peer work work' (tt {0}) new (omega (arith, n, few)) in
         subst (λ st. StandsSo st (at now work')) (sym is)
-        (on_walk k
-        (found_settles l p a.on b.on a.stays b.stays a.self b.self k.paths (begin l p most old k) (at now work) (at now work') e walk f
-        (settles_by_exchange l p e now.left now.left now.at.local now.at.local now.at.peer now.at.peer work work' (Ok (tt {0})) differs short x))
-        (subst (Each IsHeldByEither) (sym wait) (Each-append IsHeldByEither work.waiting (e ∷ []) held (found_held f.b f.taken e f.takes, tt))))
-    settled w held (fills e entries one differs list full new is) =
+        (record {
+          buckets = k;
+          walked = found_settles l p a.on b.on a.stays b.stays a.self b.self k.paths (begin l p most old k) (at now work) (at now work') e walk f
+              (settles_by_exchange l p e now.left now.left now.at.local now.at.local now.at.peer now.at.peer work work' (Ok (tt {0})) differs short x);
+          held = subst (Each IsHeldByEither) (sym wait) (Each-append IsHeldByEither work.waiting (e ∷ []) held (found_held f.b f.taken e f.takes, tt));
+        })
+    settled w held (fills e entries one differs full list some new is) =
         let f : Found l p k.paths (begin l p most old k) (at now work) e walk = subst (λ o. WalksOn l p k.paths (begin l p most old k) (at now work) o walk) one w in
+        let split = taken_out work.most (work.waiting ++ e ∷ []) entries.items work'.waiting list (ap (λ (x : Exchanging). x.waiting) new) in
         subst (λ st. StandsSo st (at now work')) (sym is)
         (record {
           buckets = k;
           before = work;
-          owes = of_key e f differs list;
-          held = subst (Each IsHeldByEither) (sym list) (Each-append IsHeldByEither work.waiting (e ∷ []) held (found_held f.b f.taken e f.takes, tt));
-          work = new;
+          owes = of_key e f differs split.0;
+          held = subst (Each IsHeldByEither) (sym split.0) (Each-append IsHeldByEither work.waiting (e ∷ []) held (found_held f.b f.taken e f.takes, tt));
+          work = waits_only work work' (drop work.most (work.waiting ++ e ∷ [])) new;
+          some = some;
+          few = split.1;
         })
 
   -- the level is done
@@ -97,38 +119,35 @@ module _ {L P : Type 0} (l : SideOf L) (p : SideOf P) (most : ℕ) (old : Two L 
       } in
       subst (λ st. StandsSo st (at now work')) (sym goes.1)
       (subst (λ (w : Exchanging). AtWalk l p most old (record { rest = level.rest; bucket = None; later = []; entry = None }) (at now w)) (sym same)
-      (on_walk k (walk_begins l p a.on b.on a.stays b.stays a.self b.self level.rest (at now first)) tt))
+      (record { buckets = k; walked = walk_begins l p a.on b.on a.stays b.stays a.self b.self level.rest (at now first); held = tt }))
 
   -- the walk goes on, or is done
   alone_walk : (walk : Walking) (now : Asking L P) (work work' : Exchanging) (stage' : Stage) → AtWalk l p most old walk (at now work) → IsQuiet (Walks walk) → FromWalk work walk work' stage' → StandsSo stage' (at now work')
-  alone_walk walk now work work' stage' (on_walk k walked held) quiet (goes_on walk' found goes settles) =
-      settled k walk' found now work work' stage'
-      (walk_goes l p a.on b.on a.stays b.stays a.self b.self k.paths (begin l p most old k) (at now work) walk found walk' walked (none_waits walk.bucket walk.entry walk.rest (goes_in walk found walk' goes) quiet) goes)
-      held settles
-  alone_walk walk now work work' stage' (on_walk k walked held) quiet (last entries over some list new is) =
+  alone_walk walk now work work' stage' h quiet (goes_on walk' found goes settles) =
+      settled h.buckets walk' found now work work' stage'
+      (walk_goes l p a.on b.on a.stays b.stays a.self b.self h.buckets.paths (begin l p most old h.buckets) (at now work) walk found walk' h.walked (none_waits walk.bucket walk.entry walk.rest (goes_in walk found walk' goes) quiet) goes)
+      h.held settles
+  alone_walk walk now work work' stage' h quiet (last entries over list some new is) =
+      let split = taken_out work.most work.waiting entries.items work'.waiting list (ap (λ (x : Exchanging). x.waiting) new) in
       subst (λ st. StandsSo st (at now work')) (sym is)
       (record {
-        buckets = k;
+        buckets = h.buckets;
         before = work;
-        owes = at_last (walk_done l p a.on b.on a.stays b.stays a.self b.self k.paths (begin l p most old k) (at now work) walk walked over) over some list;
-        held = subst (Each IsHeldByEither) (sym list) held;
-        work = new;
+        owes = at_last h.walked over split.0;
+        held = subst (Each IsHeldByEither) (sym split.0) h.held;
+        work = waits_only work work' (drop work.most work.waiting) new;
+        some = some;
+        few = split.1;
       })
-  alone_walk walk now work work' stage' (on_walk k walked held) quiet (ends over none new is) =
-      let n = ap length none in
+  alone_walk walk now work work' stage' h quiet (ends over none new is) =
+      let same : work' ≡ work = new ∙ ap (λ (es : List Entry). record work { waiting = es }) (sym none) in
       subst (λ st. StandsSo st (at now work')) (sym is)
+      (subst (λ (w : Exchanging). Ended l p most old (at now w)) (sym same)
       (record {
-        buckets = k;
-        before = at now work;
-        over = walk_done l p a.on b.on a.stays b.stays a.self b.self k.paths (begin l p most old k) (at now work) walk walked over;
-        last = exchanges_later l p a.self b.self work.waiting now.left now.at.local now.at.peer work work' (tt {0}) (new ∙ ap (λ (es : List Entry). record work { waiting = es }) (sym none)) (omega (arith, n));
-        none = ap (λ (w : Exchanging). w.waiting) new;
-      })
-  alone_walk walk now work work' stage' (after_last ended over) quiet (goes_on walk' found goes settles) = absurd (not_over walk found walk' goes over)
-  alone_walk walk now work work' stage' (after_last ended over) quiet (last entries _ some list new is) = absurd (some ended.none)
-  alone_walk walk now work work' stage' (after_last ended over) quiet (ends _ none new is) =
-      subst (λ st. StandsSo st (at now work')) (sym is)
-      (subst (λ (w : Exchanging). Ended l p most old (at now w)) (ap (λ (es : List Entry). record work { waiting = es }) none ∙ sym new) ended)
+        buckets = h.buckets;
+        over = walk_done l p a.on b.on a.stays b.stays a.self b.self h.buckets.paths (begin l p most old h.buckets) (at now work) walk h.walked over;
+        none = none;
+      }))
 
   -- the peer's turn is next, or the keys of the window are counted
   alone_turn : (walk : Walking) (turn : Turn) (count : ℕ) (now : Asking L P) (work work' : Exchanging) (stage' : Stage) (h : AtTurn l p most old walk turn count (at now work)) → Carrying l p most old h.meetings turn h.given now → IsQuiet (Carries walk turn count) → FromTurn work walk turn work' stage'
@@ -144,10 +163,12 @@ module _ {L P : Type 0} (l : SideOf L) (p : SideOf P) (most : ℕ) (old : Two L 
         asked = h.asked;
         given = h.given;
         meetings = h.meetings;
-        owes = h.owes;
-        held = h.held;
+        owes = subst (λ (w : Exchanging). Owes l p most old h.buckets walk (h.entries ++ w.waiting) (at h.asked h.before)) (sym same) h.owes;
+        held = subst (λ (w : Exchanging). Each IsHeldByEither (h.entries ++ w.waiting)) (sym same) h.held;
+        some = h.some;
         planned = h.planned;
-        work = same ∙ h.work;
+        little = h.little;
+        work = subst (λ (w : Exchanging). w ≡ record h.before { waiting = w.waiting; most = h.next }) (sym same) h.work;
         carrying = by_peer taken (turn_carried l AtLocal h.meetings turn h.given.left.local now.left.local h.given.at.local now.at.local stands quiet)
             (subst (λ n. TurnStands p AtPeer taken begins.turn h.given.left.peer n h.given.at.peer now.at.peer) (sym left)
             (subst (λ x. TurnStands p AtPeer taken begins.turn h.given.left.peer h.given.left.peer h.given.at.peer x) (sym peer)
@@ -159,11 +180,12 @@ module _ {L P : Type 0} (l : SideOf L) (p : SideOf P) (most : ℕ) (old : Two L 
   alone_turn walk turn count now work work' stage' h (by_peer taken carried stands) quiet (counts side adds is) =
       let made = noted AtPeer turn.meetings.items turn.told.items in
       let all = all_done l p h.before.number h.entries a.on b.on a.stays b.stays a.form b.form h.asked.left h.given.left h.asked.at.local h.given.at.local h.asked.at.peer h.given.at.peer h.meetings h.planned
-      taken now.left.local now.at.local carried h.held now.left now.at.peer made refl (turn_carried p AtPeer taken turn h.given.left.peer now.left.peer h.given.at.peer now.at.peer stands quiet) in
-      let adds : CountsDone (map done_of made) (record h.before { waiting = []; most = h.next }) work' = subst (λ (w : Exchanging). CountsDone (map done_of made) w work') h.work adds in
+      taken now.left.local now.at.local carried (Each-left IsHeldByEither h.entries work.waiting h.held) now.left now.at.peer made refl (turn_carried p AtPeer taken turn h.given.left.peer now.left.peer h.given.at.peer now.at.peer stands quiet) in
+      let adds : CountsDone (map done_of made) (record h.before { waiting = work.waiting; most = h.next }) work' = subst (λ (w : Exchanging). CountsDone (map done_of made) w work') h.work adds in
       subst (λ st. StandsSo st (at now work')) (sym is)
-      (owes_done l p most old a b h.buckets walk h.entries (at h.asked h.before) (at now work') h.owes
-      (exchanges_all l p h.entries h.asked.left now.left h.asked.at.local now.at.local h.asked.at.peer now.at.peer h.before work' made all (tt {0}) h.next adds) adds.waiting)
+      (owes_done l p most old a b h.buckets walk (h.entries ++ work.waiting) (at h.asked h.before) (at now work') h.owes
+      (exchanges_all l p h.entries work.waiting h.planned.others h.asked.left now.left h.asked.at.local now.at.local h.asked.at.peer now.at.peer h.before work' made all (tt {0}) h.next h.some h.little adds)
+      (subst (Each IsHeldByEither) (sym adds.waiting) (Each-right IsHeldByEither h.entries work.waiting h.held)))
 
   -- ONE STEP WITHOUT A QUESTION
   pub stands_alone : (stage : Stage) (now : Asking L P) (work work' : Exchanging) (stage' : Stage) → StandsSo stage (at now work) → IsQuiet stage → GoesAlone work stage work' stage' → StandsSo stage' (at now work')

@@ -1,6 +1,8 @@
 -- How a session stands with what both sides said of a window, or how it ended.
-use Rattle.std.proofs.Common.{◌≡◌, ◌≢◌, ℕ, ◌<◌, ◌≤◌, inl, inr, cond, List, [], length, take, refl, sym, ap, subst, ◌∙◌, arith, None}
-use Rattle.std.specs.Prelude.{Option, Result, Ok, Err, Vec}
+use Rattle.std.proofs.Common.{◌≡◌, ◌≢◌, ℕ, ◌+◌, ◌*◌, ◌<◌, ◌≤◌, inl, inr, cond, List, [], ◌++◌, append_assoc, length, length-drop, take, drop, refl, sym, ap, subst, ◌∙◌, arith, None}
+use Rattle.std.specs.Prelude.{Option, Result, Ok, Err, Vec, max}
+use Rattle.std.proofs.lemmas.List.{append-nil, length-take-le, take-append-drop}
+use Rattle.mvd_sync.proofs.Stages.{held_by_one}
 use Rattle.std.specs.declared.alloc.Global.{Global}
 use Rattle.std.proofs.lemmas.Bool.{cases_lt}
 use Rattle.mvd_dots.specs.declared.refusals.Refusal.{Refusal}
@@ -9,11 +11,13 @@ use Rattle.mvd_keys.specs.State.{State}
 use Rattle.mvd_peer.specs.PushedStates.{Each}
 use Rattle.mvd_peer.specs.Sides.{SideOf, Two}
 use Rattle.mvd_sync.specs.Answers.{ListingValue}
-use Rattle.mvd_sync.proofs.Carries.{Carried}
+use Rattle.mvd_sync.proofs.Carries.{Carried, GivesStates}
 use Rattle.mvd_sync.specs.Exchanges.{Exchanging, IsHeldByEither}
 use Rattle.mvd_sync.proofs.Exchanges.{Moment}
+use Rattle.mvd_sync.specs.Fronts.{IsCut, front_told, share_in}
+use Rattle.mvd_sync.specs.Weights.{next_most, weight}
 use Rattle.mvd_sync.specs.Level.{IsDown, Level, next_nodes}
-use Rattle.mvd_sync.specs.Machines.{CarriedOn, HearsAt, ReadBoth, StageAsks, TakesShares, both, goes, is_same, of_local, of_other, of_peer, of_side, other_of, share_of, told_by_side}
+use Rattle.mvd_sync.specs.Machines.{CarriedOn, HearsAt, MetFirst, ReadBoth, StageAsks, StatesHeard, TakesShares, both, cut as cut_at, goes, is_same, met, no_room as no_place, of_local, of_other, of_peer, of_side, other_of, share_of, told_by_side, whole as uncut}
 use Rattle.mvd_sync.specs.Machines as machine
 use Rattle.mvd_sync.specs.Meetings.{ArePlans, held_keys}
 use Rattle.mvd_sync.specs.OneTurn.{untold}
@@ -35,29 +39,30 @@ use Rattle.mvd_sync.specs.declared.telling.Answers.{Answers}
 use Rattle.mvd_sync.specs.declared.telling.Shares.{Shares}
 use Rattle.mvd_sync.specs.declared.telling.Told.{Told}
 use Rattle.mvd_sync.specs.declared.turn.Turn.{Turn}
-use Rattle.mvd_sync.proofs.Amid.{AtBuckets, AtMeets, AtTurn, AtWalk, Carrying, Comes, Ended, EndsAt, Laws, Stands, after_last, begin, by_local, by_peer, on_walk, over_ends, owes_ends, total}
+use Rattle.mvd_sync.proofs.Amid.{AtBuckets, AtMeets, AtTurn, AtWalk, Carrying, Comes, Ended, EndsAt, Laws, Owes, Stands, begin, by_local, by_peer, over_ends, owes_ends, total}
 use Rattle.mvd_sync.proofs.AmidAlone.{settled}
 use Rattle.mvd_sync.proofs.AmidSaid.{IsSaid, SaidTurn}
+use Rattle.mvd_sync.proofs.Compose.{Moves}
+use Rattle.mvd_sync.proofs.CutWindows.{gives_all, gives_first, lacked_of, next_grows, next_limited, unread_first}
+use Rattle.mvd_sync.proofs.Descents.{Each-left}
+use Rattle.mvd_sync.proofs.Lacking.{front_lacks}
 use Rattle.mvd_sync.proofs.Answering.{said_moves}
 use Rattle.mvd_sync.proofs.Descending.{stands_local_ends, stands_memory_ends, stands_next, stands_nowhere, stands_peer_ends, next_short}
 use Rattle.mvd_sync.proofs.Exchanged.{ends_at_local as turn_ends_at_local, ends_at_peer as turn_ends_at_peer, ends_at_plans}
-use Rattle.mvd_sync.proofs.Exchanging.{all_of_memory, exchanges_end, exchanges_stop}
+use Rattle.mvd_sync.proofs.Exchanging.{all_of_memory, exchanges_end, exchanges_later, exchanges_stop}
 use Rattle.mvd_sync.proofs.Fails.{memory_fails}
 use Rattle.mvd_sync.proofs.HeldFew.{held_few}
 use Rattle.mvd_sync.proofs.Paging.{mine_end, telling_ends, theirs_end}
-use Rattle.mvd_sync.proofs.Planning.{ends_at_local, ends_at_peer, ends_for_memory}
-use Rattle.mvd_sync.proofs.Positions.{ExchangesAllBy, ReadsEndBy, sides}
+use Rattle.mvd_sync.proofs.Planning.{ends_at_local, ends_at_peer, ends_for_memory, held_short}
+use Rattle.mvd_sync.proofs.Positions.{ExchangesAllBy, HaveLackedBy, ReadsEndBy, sides}
 use Rattle.mvd_sync.proofs.Said.{nodes_read, pages_read, states_read}
-use Rattle.mvd_sync.proofs.Sessions.{session_exchanges, session_walks}
+use Rattle.mvd_sync.proofs.Sessions.{session_walks}
 use Rattle.mvd_sync.proofs.Turning.{turn_begins, turn_ends, turn_memory, turn_pushed, turn_some}
-use Rattle.mvd_sync.proofs.Walked.{Walked, nothing_read}
+use Rattle.mvd_sync.proofs.Walked.{Walked, nothing_read, over_exchanged}
 use Rattle.mvd_sync.proofs.WalkedOn.{asks_between, asks_deep, walk_ends, walk_memory, walk_told}
 
 above : (level : Level) → (IsDown level → ⊥) → level.depth < 3
 above level more = elim (cases_lt level.depth 3) [ inl less ↦ less | inr deep ↦ absurd (more (inl deep)) ]
-
-pub over_quiet : (walk : Walking) → IsWalked walk → pages_next walk.bucket walk.entry walk.rest ≡ []
-over_quiet walk end = λ i. pages_next (end.0 i) walk.entry (end.1 i)
 
 module _ {L P : Type 0} (l : SideOf L) (p : SideOf P) (most : ℕ) (old : Two L P) (a : Laws l) (b : Laws p) where
   abbrev at : Asking L P → Exchanging → Moment L P
@@ -72,37 +77,41 @@ module _ {L P : Type 0} (l : SideOf L) (p : SideOf P) (most : ℕ) (old : Two L 
   ended_memory : (now : Asking L P) (work : Exchanging) → Ended l p most old (at now work) → EndsAt l p most old now.at (Local Memory)
   ended_memory now work e =
       let k = e.buckets in
-      session_exchanges l p a.on b.on a.stays b.stays a.form b.form held_few most k.mid.left e.before.now.left old.local k.mid.at.local e.before.now.at.local old.peer k.mid.at.peer e.before.now.at.peer k.paths e.before.work k.finds (tt {0}) e.over now.left now.at.local now.at.peer work (Local Memory)
-      (exchanges_stop l p e.before.work.waiting e.before.now.left now.left e.before.now.at.local now.at.local e.before.now.at.peer now.at.peer e.before.work work (tt {0}) (Local Memory) refl e.last)
+      let n = ap length e.none in
+      over_ends l p most old a b k (at now work) (Local Memory)
+      (over_exchanged l p a.on b.on a.stays b.stays a.self b.self k.paths (begin l p most old k) k.paths (at now work) (at now work) (Err (Local Memory)) e.over
+      (exchanges_stop l p work.waiting now.left now.left now.at.local now.at.local now.at.peer now.at.peer work work (tt {0}) (Local Memory) refl
+      (exchanges_later l p a.self b.self work.waiting now.left now.at.local now.at.peer work work (tt {0}) refl (omega (arith, n)))))
 
   -- the keys of a window came to an end
   window_ends : (walk : Walking) (turn : Turn) (count : ℕ) (now : Asking L P) (work : Exchanging) (h : AtTurn l p most old walk turn count (at now work)) (sides : Two L P) (left : Questions) (fault : SyncFault)
-      → ExchangesAllBy l p h.before.number h.entries h.asked.left left h.asked.at.local sides.local h.asked.at.peer sides.peer (Err fault) → EndsAt l p most old sides fault
+      → ExchangesAllBy l p h.before.number h.entries h.planned.others h.asked.left left h.asked.at.local sides.local h.asked.at.peer sides.peer (Err fault) → EndsAt l p most old sides fault
   window_ends walk turn count now work h sides left fault e =
-      owes_ends l p most old a b h.buckets walk h.entries (at h.asked h.before) (at (then sides left) h.before) fault h.owes
-      (exchanges_end l p h.entries h.asked.left left h.asked.at.local sides.local h.asked.at.peer sides.peer h.before h.before fault refl e)
+      let little = h.little in
+      owes_ends l p most old a b h.buckets walk (h.entries ++ work.waiting) (at h.asked h.before) (at (then sides left) h.before) fault h.owes
+      (exchanges_end l p h.entries work.waiting h.planned.others h.asked.left left h.asked.at.local sides.local h.asked.at.peer sides.peer h.before h.before fault (omega (arith, little)) refl e)
 
   meets_end : (walk : Walking) (entries : List Entry) (now : Asking L P) (work : Exchanging) → AtMeets l p most old walk entries (at now work) → (sides : Two L P) (left : Questions) (fault : SyncFault)
       → ReadsEndBy l p (λ asked. asked ≤ length entries) now.left now.at.local sides.local now.at.peer sides.peer fault → EndsAt l p most old sides fault
   meets_end walk entries now work h sides left fault e =
-      owes_ends l p most old a b h.buckets walk entries (at now h.before) (at (then sides left) h.before) fault h.owes
-      (exchanges_end l p entries now.left left now.at.local sides.local now.at.peer sides.peer h.before h.before fault refl
+      owes_ends l p most old a b h.buckets walk (entries ++ work.waiting) (at now h.before) (at (then sides left) h.before) fault h.owes
+      (exchanges_end l p entries work.waiting 0 now.left left now.at.local sides.local now.at.peer sides.peer h.before h.before fault (omega arith) refl
       (ends_at_plans l p h.before.number entries now.left left now.at.local sides.local now.at.peer sides.peer fault e))
 
   walk_memory_ends : (walk : Walking) (now : Asking L P) (work : Exchanging) → AtWalk l p most old walk (at now work) → EndsAt l p most old now.at (Local Memory)
-  walk_memory_ends walk now work (on_walk k walked held) =
-      over_ends l p most old a b k (at now work) (Local Memory) (walk_memory l p a.on b.on a.stays b.stays a.self b.self k.paths (begin l p most old k) (at now work) walk walked)
-  walk_memory_ends walk now work (after_last ended over) = ended_memory now work ended
+  walk_memory_ends walk now work h =
+      let k = h.buckets in
+      over_ends l p most old a b k (at now work) (Local Memory) (walk_memory l p a.on b.on a.stays b.stays a.self b.self k.paths (begin l p most old k) (at now work) walk h.walked)
 
   turn_memory_ends : (walk : Walking) (turn : Turn) (count : ℕ) (now : Asking L P) (work : Exchanging) (h : AtTurn l p most old walk turn count (at now work)) → Carrying l p most old h.meetings turn h.given now → EndsAt l p most old now.at (Local Memory)
   turn_memory_ends walk turn count now work h (by_local stands left peer) =
       window_ends walk turn count now work h now.at now.left (Local Memory)
-      (subst (λ x. ExchangesAllBy l p h.before.number h.entries h.asked.left now.left h.asked.at.local now.at.local h.asked.at.peer x (Err (Local Memory))) (sym peer)
+      (subst (λ x. ExchangesAllBy l p h.before.number h.entries h.planned.others h.asked.left now.left h.asked.at.local now.at.local h.asked.at.peer x (Err (Local Memory))) (sym peer)
       (turn_ends_at_local l p h.before.number h.entries a.on b.on a.stays b.stays a.form b.form h.asked.left h.given.left h.asked.at.local h.given.at.local h.asked.at.peer h.given.at.peer h.meetings h.planned
       now.left now.at.local Memory (turn_memory l AtLocal h.meetings turn h.given.left.local now.left.local h.given.at.local now.at.local stands Memory refl) stands.alone))
   turn_memory_ends walk turn count now work h (by_peer taken carried stands) =
       window_ends walk turn count now work h now.at now.left (Local Memory)
-      (all_of_memory l p h.before.number h.entries h.asked.left now.left h.asked.at.local now.at.local h.asked.at.peer now.at.peer
+      (all_of_memory l p h.before.number h.entries h.planned.others h.asked.left now.left h.asked.at.local now.at.local h.asked.at.peer now.at.peer
       (turn_ends_at_peer l p h.before.number h.entries a.on b.on a.stays b.stays a.form b.form h.asked.left h.given.left h.asked.at.local h.given.at.local h.asked.at.peer h.given.at.peer h.meetings h.planned
       taken now.left.local now.at.local carried now.left now.at.peer Memory (turn_memory p AtPeer taken turn h.given.left.peer now.left.peer h.given.at.peer now.at.peer stands Memory refl) stands.alone))
 
@@ -193,61 +202,153 @@ module _ {L P : Type 0} (l : SideOf L) (p : SideOf P) (most : ℕ) (old : Two L 
           subst ComesTo (sym is) (pages_end (Peer refusal) (theirs_end l p walk now.left now.at.local sides'.local now.at.peer sides'.peer mine.items left'.local refusal first e))
 
     -- the states of a window
-    module _ (walk : Walking) (entries : Vec Entry Global) (h : AtMeets l p most old walk entries.items (at now work)) (takes : TakesShares (Meets walk entries) now.left left' shares) (said : IsSaid l p (Meets walk entries) now answers sides') (same : work' ≡ record work { most = work'.most }) where
+    module _ (walk : Walking) (entries : Vec Entry Global) (h : AtMeets l p most old walk entries.items (at now work)) (takes : TakesShares (Meets walk entries) now.left left' shares) (said : IsSaid l p (Meets walk entries) now answers sides') where
       abbrev mine_keys : List (List ℕ)
       mine_keys = held_keys AtLocal entries.items
 
       abbrev their_keys : List (List ℕ)
       their_keys = held_keys AtPeer entries.items
 
-      meets_goes : (mine theirs : Vec State Global) → IsRead IsStateOf never (states_told answers.mine) shares.local (Ok mine) → IsRead IsStateOf never (states_told answers.theirs) shares.peer (Ok theirs) → (result : Result Stage SyncFault) → machine.Met work walk entries.items work' mine.items theirs.items result → ComesTo result
-      meets_goes mine theirs m t result rest =
+      abbrev mine_moves : Moves l (length mine_keys) now.left.local now.at.local sides'.local
+      mine_moves = said_moves l _ mine_keys now.left.local (states_told answers.mine) now.at.local sides'.local said.0
+
+      abbrev their_moves : Moves p (length their_keys) now.left.peer now.at.peer sides'.peer
+      their_moves = said_moves p _ their_keys now.left.peer (states_told answers.theirs) now.at.peer sides'.peer said.1
+
+      no_room : (fault : SyncFault) → fault ≡ Local Memory → EndsAt l p most old sides' fault
+      no_room fault is =
+          subst (EndsAt l p most old sides') (sym is)
+          (meets_end walk entries.items now work h sides' left' (Local Memory)
+          (ends_for_memory l p entries.items now.left now.at.local sides'.local now.at.peer sides'.peer Memory mine_moves their_moves refl))
+
+      mine_ends : (refusal : Refusal) → IsRead IsStateOf never (states_told answers.mine) shares.local (Err refusal) → EndsAt l p most old sides' (Local refusal)
+      mine_ends refusal m =
+          let e = (states_read l now.left.local left'.local now.at.local sides'.local shares.local mine_keys takes.local takes.wanted.0 (states_told answers.mine) said.0 (Err refusal) m).1 in
+          meets_end walk entries.items now work h sides' left' (Local refusal)
+          (ends_at_local l p entries.items now.left now.at.local sides'.local now.at.peer sides'.peer refusal e their_moves)
+
+      their_ends : (refusal : Refusal) → IsRead IsStateOf never (states_told answers.theirs) shares.peer (Err refusal) → EndsAt l p most old sides' (Peer refusal)
+      their_ends refusal t =
+          let e = (states_read p now.left.peer left'.peer now.at.peer sides'.peer shares.peer their_keys takes.peer takes.wanted.1 (states_told answers.theirs) said.1 (Err refusal) t).1 in
+          meets_end walk entries.items now work h sides' left' (Peer refusal)
+          (ends_at_peer l p entries.items now.left now.at.local sides'.local now.at.peer sides'.peer refusal mine_moves e)
+
+      -- the first keys are met, and the later ones wait
+      module _ (first later : List Entry) (limit again_l again_p : ℕ) (split : entries.items ≡ first ++ later) (some : 1 ≤ length first)
+          (little : (bytes : ℕ) → length later + next_most limit (length first) bytes ≤ h.before.most + 7 * length first)
+          (few : (again_l ≤ length later) × (again_p ≤ length later)) (unheld : 1 ≤ again_l + again_p → HaveLackedBy l p now.at.local sides'.local now.at.peer sides'.peer) (mine theirs : List State)
+          (here : GivesStates l AtLocal first mine again_l (with_left now.at.local now.left.local) (with_left sides'.local left'.local))
+          (there : GivesStates p AtPeer first theirs again_p (with_left now.at.peer now.left.peer) (with_left sides'.peer left'.peer)) where
+        meets_stage : (stage : Stage) → machine.Met work walk first later limit work' mine theirs (Ok stage) → Stands l p most old stage (at (then sides' left') work')
+        meets_stage stage g =
+            let turn = g.2.turn in
+            let bytes = max (weight mine) (weight theirs) in
+            let wait : work'.waiting ≡ later ++ work.waiting = ap (λ (w : Exchanging). w.waiting) g.3 in
+            let next : work'.most ≡ next_most limit (length first) bytes = ap (λ (w : Exchanging). w.most) g.3 in
+            let all : entries.items ++ work.waiting ≡ first ++ work'.waiting =
+            ap (λ (es : List Entry). es ++ work.waiting) split ∙ append_assoc first later work.waiting ∙ ap (λ (es : List Entry). first ++ es) (sym wait) in
+            let held = subst (Each IsHeldByEither) all h.held in
+            subst (λ st. Stands l p most old st (at (then sides' left') work')) (sym g.2.is)
+            (record {
+              buckets = h.buckets;
+              entries = first;
+              before = h.before;
+              next = work'.most;
+              asked = now;
+              given = then sides' left';
+              meetings = g.0;
+              owes = subst (λ es. Owes l p most old h.buckets walk es (at now h.before)) all h.owes;
+              held = held;
+              some = some;
+              planned = record {
+                mine = mine;
+                theirs = theirs;
+                again_local = again_l;
+                again_peer = again_p;
+                others = length later;
+                from_local = here;
+                from_peer = there;
+                plans = subst (λ n. ArePlans n first mine theirs g.0) (ap (λ (w : Exchanging). w.number) h.work) g.1;
+                paid = held_by_one first (Each-left IsHeldByEither first work'.waiting held);
+                few = few;
+                unheld = unheld;
+              };
+              little = subst (λ n. length later + n ≤ h.before.most + 7 * length first) (sym next) (little bytes);
+              work = g.3 ∙ ap (λ (w : Exchanging). record w { waiting = later ++ work.waiting; most = next_most limit (length first) bytes }) h.work ∙ (λ i. record h.before { waiting = sym wait i; most = sym next i });
+              carrying = by_local (turn_begins l AtLocal g.0 turn left'.local sides'.local (a.self sides'.local) g.2.begun) refl refl;
+              window = g.2.window;
+            })
+
+        meets_goes : (result : Result Stage SyncFault) → machine.Met work walk first later limit work' mine theirs result → ComesTo result
+        meets_goes (Ok stage) g = meets_stage stage g
+        meets_goes (Err fault) g = no_room fault g
+
+      -- all keys of the window
+      hears_whole : (result : Result Stage SyncFault) → ReadBoth (IsRead IsStateOf never (states_told answers.mine) shares.local) (IsRead IsStateOf never (states_told answers.theirs) shares.peer) (machine.Met work walk entries.items [] 1000 work') result → ComesTo result
+      hears_whole result (both mine theirs m t rest) =
           let first = (states_read l now.left.local left'.local now.at.local sides'.local shares.local mine_keys takes.local takes.wanted.0 (states_told answers.mine) said.0 (Ok mine) m).0 in
           let second = (states_read p now.left.peer left'.peer now.at.peer sides'.peer shares.peer their_keys takes.peer takes.wanted.1 (states_told answers.theirs) said.1 (Ok theirs) t).0 in
-          elim result as (λ r. machine.Met work walk entries.items work' mine.items theirs.items r → ComesTo r) [
-            | Ok stage ↦ λ g.
-                let turn = g.2.turn in
-                subst (λ st. Stands l p most old st (at (then sides' left') work')) (sym g.2.is)
-                (record {
-                  buckets = h.buckets;
-                  entries = entries.items;
-                  before = h.before;
-                  next = work'.most;
-                  asked = now;
-                  given = then sides' left';
-                  meetings = g.0;
-                  owes = h.owes;
-                  held = h.held;
-                  planned = record {
-                    mine = mine.items;
-                    theirs = theirs.items;
-                    from_local = first;
-                    from_peer = second;
-                    plans = subst (λ n. ArePlans n entries.items mine.items theirs.items g.0) (ap (λ (w : Exchanging). w.number) h.work) g.1;
-                  };
-                  work = same ∙ ap (λ (w : Exchanging). record w { most = work'.most }) h.work;
-                  carrying = by_local (turn_begins l AtLocal g.0 turn left'.local sides'.local (a.self sides'.local) g.2.begun) refl refl;
-                  window = g.2.window;
-                })
-            | Err fault ↦ λ g.
-                subst (EndsAt l p most old sides') (sym g)
-                (meets_end walk entries.items now work h sides' left' (Local Memory)
-                (ends_for_memory l p entries.items now.left now.at.local sides'.local now.at.peer sides'.peer Memory mine.items theirs.items left'.local left'.peer first second refl))
-          ] rest
+          let room = h.few in
+          meets_goes entries.items [] 1000 0 0 (sym (append-nil entries.items)) h.some
+          (λ bytes. let n = next_grows 1000 (length entries.items) bytes h.some in omega (arith, n, room))
+          (omega arith, omega arith) (λ never_so. absurd (omega (arith, never_so))) mine.items theirs.items
+          (gives_all l AtLocal entries.items mine.items now.left.local left'.local now.at.local sides'.local first)
+          (gives_all p AtPeer entries.items theirs.items now.left.peer left'.peer now.at.peer sides'.peer second)
+          result rest
+      hears_whole result (of_local refusal m is) = subst ComesTo (sym is) (mine_ends refusal m)
+      hears_whole result (of_peer mine refusal m t is) = subst ComesTo (sym is) (their_ends refusal t)
 
-      hears_meets : (result : Result Stage SyncFault) → ReadBoth (IsRead IsStateOf never (states_told answers.mine) shares.local) (IsRead IsStateOf never (states_told answers.theirs) shares.peer) (machine.Met work walk entries.items work') result → ComesTo result
-      hears_meets result (both mine theirs m t rest) = meets_goes mine theirs m t result rest
-      hears_meets result (of_local refusal m is) =
-          let e = (states_read l now.left.local left'.local now.at.local sides'.local shares.local mine_keys takes.local takes.wanted.0 (states_told answers.mine) said.0 (Err refusal) m).1 in
-          subst ComesTo (sym is)
-          (meets_end walk entries.items now work h sides' left' (Local refusal)
-          (ends_at_local l p entries.items now.left now.at.local sides'.local now.at.peer sides'.peer refusal e (said_moves p _ their_keys now.left.peer (states_told answers.theirs) now.at.peer sides'.peer said.1)))
-      hears_meets result (of_peer mine refusal m t is) =
-          let first = (states_read l now.left.local left'.local now.at.local sides'.local shares.local mine_keys takes.local takes.wanted.0 (states_told answers.mine) said.0 (Ok mine) m).0 in
-          let e = (states_read p now.left.peer left'.peer now.at.peer sides'.peer shares.peer their_keys takes.peer takes.wanted.1 (states_told answers.theirs) said.1 (Err refusal) t).1 in
-          subst ComesTo (sym is)
-          (meets_end walk entries.items now work h sides' left' (Peer refusal)
-          (ends_at_peer l p entries.items now.left now.at.local sides'.local now.at.peer sides'.peer refusal mine.items left'.local first e))
+      -- or the first of them, where it is cut
+      module _ (count : ℕ) (cut : IsCut entries.items shares answers count) where
+        abbrev firsts : List Entry
+        firsts = take count entries.items
+
+        abbrev laters : List Entry
+        laters = drop count entries.items
+
+        lengths : (length firsts ≡ count) × (length laters + count ≡ length entries.items)
+        lengths =
+            let less = cut.less in
+            let n = length-take-le count entries.items (omega (arith, less)) in
+            let m = length-drop count entries.items in
+            (n, omega (arith, m, less))
+
+        -- why the others are asked for again
+        cut_lacks : HaveLackedBy l p now.at.local sides'.local now.at.peer sides'.peer
+        cut_lacks =
+            let less = cut.less in
+            let is = cut.is in
+            elim (front_lacks entries.items cut.mine cut.theirs (omega (arith, less, is))) [
+              | inl mine ↦ inl (lacked_of l AtLocal entries.items count now.left.local left'.local now.at.local sides'.local shares.local takes.local takes.wanted.0 cut.from_local.all (states_told answers.mine) cut.mine cut.from_local.is said.0 mine)
+              | inr theirs ↦ inr (lacked_of p AtPeer entries.items count now.left.peer left'.peer now.at.peer sides'.peer shares.peer takes.peer takes.wanted.1 cut.from_peer.all (states_told answers.theirs) cut.theirs cut.from_peer.is said.1 theirs)
+            ]
+
+        cut_goes : (mine theirs : Vec State Global) → IsRead IsStateOf never (front_told AtLocal firsts answers.mine) (share_in AtLocal firsts) (Ok mine) → IsRead IsStateOf never (front_told AtPeer firsts answers.theirs) (share_in AtPeer firsts) (Ok theirs) → (result : Result Stage SyncFault) → machine.Met work walk firsts laters count work' mine.items theirs.items result
+            → ComesTo result
+        cut_goes mine theirs m t result rest =
+            let n = lengths in
+            let some = cut.some in
+            let room = h.few in
+            meets_goes firsts laters count (length (held_keys AtLocal laters)) (length (held_keys AtPeer laters)) (sym (take-append-drop count entries.items)) (omega (arith, n.0, some))
+            (λ bytes. let k = next_limited count (length firsts) bytes some in omega (arith, n.0, n.1, k, room))
+            (held_short AtLocal laters, held_short AtPeer laters) (λ _. cut_lacks) mine.items theirs.items
+            (gives_first l AtLocal entries.items count now.left.local left'.local now.at.local sides'.local shares.local takes.local takes.wanted.0 cut.from_local.all (states_told answers.mine) cut.mine cut.from_local.is said.0 mine m)
+            (gives_first p AtPeer entries.items count now.left.peer left'.peer now.at.peer sides'.peer shares.peer takes.peer takes.wanted.1 cut.from_peer.all (states_told answers.theirs) cut.theirs cut.from_peer.is said.1 theirs t)
+            result rest
+
+        hears_first : (result : Result Stage SyncFault) → MetFirst work walk entries.items count answers work' result → ComesTo result
+        hears_first result (met (both mine theirs m t rest)) = cut_goes mine theirs m t result rest
+        hears_first result (met (of_local refusal m is)) =
+            subst ComesTo (sym is)
+            (mine_ends refusal (unread_first l AtLocal entries.items count now.left.local left'.local now.at.local sides'.local shares.local takes.local takes.wanted.0 cut.from_local.all (states_told answers.mine) cut.mine cut.from_local.is said.0 refusal cut.from_local.counted m))
+        hears_first result (met (of_peer mine refusal m t is)) =
+            subst ComesTo (sym is)
+            (their_ends refusal (unread_first p AtPeer entries.items count now.left.peer left'.peer now.at.peer sides'.peer shares.peer takes.peer takes.wanted.1 cut.from_peer.all (states_told answers.theirs) cut.theirs cut.from_peer.is said.1 refusal cut.from_peer.counted t))
+        hears_first result (no_place is) = subst ComesTo (sym is) (no_room (Local Memory) refl)
+
+      hears_meets : (result : Result Stage SyncFault) → StatesHeard work walk entries.items shares answers work' result → ComesTo result
+      hears_meets result (uncut none read) = hears_whole result read
+      hears_meets result (cut_at count cut first) = hears_first count cut result first
 
     -- a turn
     module _ (walk : Walking) (turn : Turn) (count : ℕ) (h : AtTurn l p most old walk turn count (at now work)) (asks : length turn.told.items < length turn.pairs.items) (takes : TakesShares (Carries walk turn count) now.left left' shares) (said : IsSaid l p (Carries walk turn count) now answers sides') (same : work' ≡ work) where
@@ -260,10 +361,12 @@ module _ {L P : Type 0} (l : SideOf L) (p : SideOf P) (most : ℕ) (old : Two L 
         asked = h.asked;
         given = h.given;
         meetings = h.meetings;
-        owes = h.owes;
-        held = h.held;
+        owes = subst (λ (w : Exchanging). Owes l p most old h.buckets walk (h.entries ++ w.waiting) (at h.asked h.before)) (sym same) h.owes;
+        held = subst (λ (w : Exchanging). Each IsHeldByEither (h.entries ++ w.waiting)) (sym same) h.held;
+        some = h.some;
         planned = h.planned;
-        work = same ∙ h.work;
+        little = h.little;
+        work = subst (λ (w : Exchanging). w ≡ record h.before { waiting = w.waiting; most = h.next }) (sym same) h.work;
         carrying = carrying;
         window = window;
       }
@@ -294,7 +397,7 @@ module _ {L P : Type 0} (l : SideOf L) (p : SideOf P) (most : ℕ) (old : Two L 
                 let fault : result ≡ Err (Local refusal) = is ∙ ap (λ sd. Err (machine.fault_at sd refusal)) side in
                 subst ComesTo (sym fault)
                 (window_ends walk turn count now work h sides' left' (Local refusal)
-                (subst (λ x. ExchangesAllBy l p h.before.number h.entries h.asked.left left' h.asked.at.local sides'.local h.asked.at.peer x (Err (Local refusal))) (sym (said'.2 ∙ peer))
+                (subst (λ x. ExchangesAllBy l p h.before.number h.entries h.planned.others h.asked.left left' h.asked.at.local sides'.local h.asked.at.peer x (Err (Local refusal))) (sym (said'.2 ∙ peer))
                 (turn_ends_at_local l p h.before.number h.entries a.on b.on a.stays b.stays a.form b.form h.asked.left h.given.left h.asked.at.local h.given.at.local h.asked.at.peer h.given.at.peer h.meetings h.planned left' sides'.local refusal
                 (turn_ends l AtLocal h.meetings turn h.given.left.local now.left.local h.given.at.local now.at.local stands a.on a.stays left'.local sides'.local count h.window shares.local budget wanted asks (pushes_told answers.mine) said'.0 refusal why)
                 (λ none. absurd (turn_some l AtLocal h.meetings turn h.given.left.local now.left.local h.given.at.local now.at.local stands asks none)))))
@@ -328,15 +431,11 @@ module _ {L P : Type 0} (l : SideOf L) (p : SideOf P) (most : ℕ) (old : Two L 
                 (λ none. absurd (turn_some p AtPeer taken turn h.given.left.peer now.left.peer h.given.at.peer now.at.peer stands asks none))))
           ]
 
-    walk_hears : (walk : Walking) → AtWalk l p most old walk (at now work) → pages_next walk.bucket walk.entry walk.rest ≢ [] → TakesShares (Walks walk) now.left left' shares → IsSaid l p (Walks walk) now answers sides' → (result : Result Stage SyncFault) → HearsAt work (Walks walk) shares answers work' result → ComesTo result
-    walk_hears walk (on_walk k walked held) asks takes said result it = hears_pages walk k walked held asks takes said result it
-    walk_hears walk (after_last ended over) asks takes said result it = absurd (asks (over_quiet walk over))
-
     -- WITH WHAT BOTH SAID it stands so, or ended
     pub stands_hears : (stage : Stage) → Stands l p most old stage (at now work) → StageAsks stage → TakesShares stage now.left left' shares → IsSaid l p stage now answers sides' → (result : Result Stage SyncFault) → HearsAt work stage shares answers work' result → ComesTo result
     stands_hears (Descends level) h asks takes said result it = hears_level level h asks takes said it.0 result it.1
-    stands_hears (Walks walk) h asks takes said result it = walk_hears walk h asks takes said result it
-    stands_hears (Meets walk entries) h asks takes said result it = hears_meets walk entries h takes said it.0 result it.1
+    stands_hears (Walks walk) h asks takes said result it = hears_pages walk h.buckets h.walked h.held asks takes said result it
+    stands_hears (Meets walk entries) h asks takes said result it = hears_meets walk entries h takes said result it
     stands_hears (Carries walk turn count) h asks takes said result it = hears_turn walk turn count h asks takes said it.0 h.carrying result it.1
     stands_hears Done h asks takes said result it = absurd asks
     stands_hears (Failed fault) h asks takes said result it = absurd asks

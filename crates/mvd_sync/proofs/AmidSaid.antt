@@ -8,8 +8,9 @@ use Rattle.mvd_keys.specs.Writes.{Key}
 use Rattle.mvd_peer.specs.Sides.{SideOf, Two}
 use Rattle.mvd_peer.specs.Windows.{gets_of, nodes_of, pages_kind}
 use Rattle.mvd_sync.specs.Exchanges.{Exchanging}
+use Rattle.mvd_sync.specs.Fronts.{IsWhole, StateAnswer}
 use Rattle.mvd_sync.specs.Level.{next_nodes}
-use Rattle.mvd_sync.specs.Machines.{HearsAt, Pushed, StageAsks, TakesShares, both, goes, is_same, of_local, of_other, of_peer, of_side, other_of, share_of, told_by_side, wanted_at}
+use Rattle.mvd_sync.specs.Machines.{HearsAt, Pushed, StageAsks, TakesShares, both, cut as cut_at, goes, is_same, of_local, of_other, of_peer, of_side, other_of, share_of, told_by_side, wanted_at, whole as uncut}
 use Rattle.mvd_sync.specs.Meetings.{held_keys}
 use Rattle.mvd_sync.specs.OneTurn.{untold}
 use Rattle.mvd_sync.specs.Questions.{IsWindow, TakesBudget}
@@ -59,6 +60,15 @@ none_next left =
     let c = ap length (take_none {X = Key} left [] refl) in
     let d = ap length (take_none {X = Key × State} left [] refl) in
     omega (arith, a, b, c, d)
+
+-- all gets were answered, where a window is cut
+cut_long : (qs : List Key) (left left' : ℕ) (told : Option Told) (share : Share) (answers : List StateAnswer) → TakesBudget left left' (length qs) share.asked → share.wanted ≡ length qs → IsWhole told share answers → length answers ≡ length (take left qs)
+cut_long qs left left' told share answers takes wanted whole =
+    let spent = takes.spent in
+    let counted = whole.counted in
+    let all = whole.all in
+    let n = length-take left qs in
+    omega (arith, spent, wanted, counted, all, n)
 
 -- how many pushes of a turn are next
 abbrev pub WindowOf : Stage → Type 0
@@ -186,12 +196,16 @@ module _ {L P : Type 0} (l : SideOf L) (p : SideOf P) where
       )
       told_said (Walks walk) window takes here there (of_local refusal m is) = absurd (cc)
       told_said (Walks walk) window takes here there (of_peer mine refusal m t is) = absurd (cc)
-      told_said (Meets walk entries) window takes here there (same, both mine theirs m t rest) = (
+      told_said (Meets walk entries) window takes here there (uncut none (both mine theirs m t rest)) = (
         told_states l now.at.local at.local (cut_wanted now.left.local (only_gets (held_keys AtLocal entries.items))) (a.self now.at.local) answers.mine m.answers here m.is (all_long IsStateOf (held_keys AtLocal entries.items) now.left.local left'.local (states_told answers.mine) shares.local mine.items takes.local takes.wanted.0 m),
         told_states p now.at.peer at.peer (cut_wanted now.left.peer (only_gets (held_keys AtPeer entries.items))) (b.self now.at.peer) answers.theirs t.answers there t.is (all_long IsStateOf (held_keys AtPeer entries.items) now.left.peer left'.peer (states_told answers.theirs) shares.peer theirs.items takes.peer takes.wanted.1 t),
       )
-      told_said (Meets walk entries) window takes here there (same, of_local refusal m is) = absurd (cc)
-      told_said (Meets walk entries) window takes here there (same, of_peer mine refusal m t is) = absurd (cc)
+      told_said (Meets walk entries) window takes here there (uncut none (of_local refusal m is)) = absurd (cc)
+      told_said (Meets walk entries) window takes here there (uncut none (of_peer mine refusal m t is)) = absurd (cc)
+      told_said (Meets walk entries) window takes here there (cut_at count cut first) = (
+        told_states l now.at.local at.local (cut_wanted now.left.local (only_gets (held_keys AtLocal entries.items))) (a.self now.at.local) answers.mine cut.mine here cut.from_local.is (cut_long (held_keys AtLocal entries.items) now.left.local left'.local answers.mine shares.local cut.mine takes.local takes.wanted.0 cut.from_local),
+        told_states p now.at.peer at.peer (cut_wanted now.left.peer (only_gets (held_keys AtPeer entries.items))) (b.self now.at.peer) answers.theirs cut.theirs there cut.from_peer.is (cut_long (held_keys AtPeer entries.items) now.left.peer left'.peer answers.theirs shares.peer cut.theirs takes.peer takes.wanted.1 cut.from_peer),
+      )
       told_said (Carries walk turn count) window takes here there (same, goes stage unasked pushed is) =
           let h : Pushed walk turn (pushes_told (told_by_side turn.side answers)) (share_of turn.side shares) after = subst (Pushed walk turn (pushes_told (told_by_side turn.side answers)) (share_of turn.side shares)) (cc) pushed in
           told_turn walk turn count window turn.side refl takes here there unasked h
@@ -219,9 +233,10 @@ module _ {L P : Type 0} (l : SideOf L) (p : SideOf P) where
       all_spent (Walks walk) takes (both mine theirs m t rest) = (m.whole, t.whole)
       all_spent (Walks walk) takes (of_local refusal m is) = absurd (cc)
       all_spent (Walks walk) takes (of_peer mine refusal m t is) = absurd (cc)
-      all_spent (Meets walk entries) takes (same, both mine theirs m t rest) = (m.whole, t.whole)
-      all_spent (Meets walk entries) takes (same, of_local refusal m is) = absurd (cc)
-      all_spent (Meets walk entries) takes (same, of_peer mine refusal m t is) = absurd (cc)
+      all_spent (Meets walk entries) takes (uncut none (both mine theirs m t rest)) = (m.whole, t.whole)
+      all_spent (Meets walk entries) takes (uncut none (of_local refusal m is)) = absurd (cc)
+      all_spent (Meets walk entries) takes (uncut none (of_peer mine refusal m t is)) = absurd (cc)
+      all_spent (Meets walk entries) takes (cut_at count cut first) = let m = cut.from_local.all in let t = cut.from_peer.all in (omega (arith, m), omega (arith, t))
       all_spent (Carries walk turn count) takes (same, goes stage unasked pushed is) =
           let h : Pushed walk turn (pushes_told (told_by_side turn.side answers)) (share_of turn.side shares) after = subst (Pushed walk turn (pushes_told (told_by_side turn.side answers)) (share_of turn.side shares)) (cc) pushed in
           turn_spends walk turn count turn.side refl takes h
@@ -242,9 +257,10 @@ not_refused (Descends level) after shares answers work work' (same, of_peer mine
 not_refused (Walks walk) after shares answers work work' (both mine theirs m t rest) = (no_refusal pages_told (λ _. refl) answers.mine m.answers m.is, no_refusal pages_told (λ _. refl) answers.theirs t.answers t.is)
 not_refused (Walks walk) after shares answers work work' (of_local refusal m is) = absurd (cc)
 not_refused (Walks walk) after shares answers work work' (of_peer mine refusal m t is) = absurd (cc)
-not_refused (Meets walk entries) after shares answers work work' (same, both mine theirs m t rest) = (no_refusal states_told (λ _. refl) answers.mine m.answers m.is, no_refusal states_told (λ _. refl) answers.theirs t.answers t.is)
-not_refused (Meets walk entries) after shares answers work work' (same, of_local refusal m is) = absurd (cc)
-not_refused (Meets walk entries) after shares answers work work' (same, of_peer mine refusal m t is) = absurd (cc)
+not_refused (Meets walk entries) after shares answers work work' (uncut none (both mine theirs m t rest)) = (no_refusal states_told (λ _. refl) answers.mine m.answers m.is, no_refusal states_told (λ _. refl) answers.theirs t.answers t.is)
+not_refused (Meets walk entries) after shares answers work work' (uncut none (of_local refusal m is)) = absurd (cc)
+not_refused (Meets walk entries) after shares answers work work' (uncut none (of_peer mine refusal m t is)) = absurd (cc)
+not_refused (Meets walk entries) after shares answers work work' (cut_at count cut first) = (no_refusal states_told (λ _. refl) answers.mine cut.mine cut.from_local.is, no_refusal states_told (λ _. refl) answers.theirs cut.theirs cut.from_peer.is)
 not_refused (Carries walk turn count) after shares answers work work' (same, goes stage unasked pushed is) = turn_told answers turn.side pushed.answers unasked pushed.is
 not_refused (Carries walk turn count) after shares answers work work' (same, of_other refusal e is) = absurd (cc)
 not_refused (Carries walk turn count) after shares answers work work' (same, of_side refusal e is) = absurd (cc)

@@ -40,7 +40,7 @@ module _ {L P : Type 0} (l : SideOf L) (p : SideOf P) where
       let n = length-append before.waiting (e ∷ []) in
       record {
         goes = goes_of_exchange l p (before.waiting ++ e ∷ []) left left' local local' peer peer' before after result (omega (arith, n)) x;
-        meets = λ t u a b done so counts next. subst (λ es. SettlesAllBy l p before.number a b done (before.waiting ++ es) (x.course.asked_local + x.course.wanted_local) (x.course.asked_peer + x.course.wanted_peer) local' peer' (l.most_keys local) (p.most_keys peer) after result) one (record {
+        meets = λ t u a b done so counts next. subst (λ es. SettlesAllBy l p before.number a b done (before.waiting ++ es) (x.course.first_local + x.course.wanted_local) (x.course.first_peer + x.course.wanted_peer) local' peer' (l.most_keys local) (p.most_keys peer) after result) one (record {
           few = x.few;
           fewer = x.fewer;
           ends = x.meets t u a b done so counts (subst (λ es. AreNext a b done (before.waiting ++ es)) (sym one) next);
@@ -79,7 +79,7 @@ pub record OverBucket {L P : Type 0} (l : SideOf L) (p : SideOf P) (path : List 
   pub goes : GoesBy l p left left' local local' peer peer' before after (Ok (tt {0}))
   pub meets : l.is_faithful local → p.is_faithful peer → (a b : States) (done : List Done) → SoFarBy (l.most_keys local) (p.most_keys peer) before.number a b (l.states local) (p.states peer) done → Counts done before
       → AreNext a b done before.waiting → AreElsewhere (path ∷ []) (keys_done done ++ keys_next before.waiting) → IsBucketPage (digests a) path None first.0 first.1 → IsBucketPage (digests b) path None second.0 second.1
-      → AtKey l p before.number a b done path mine theirs goes.course.asked_local goes.course.asked_peer local' peer' (l.most_keys local) (p.most_keys peer) before after
+      → AtKey l p before.number a b done path mine theirs goes.course.first_local goes.course.first_peer local' peer' (l.most_keys local) (p.most_keys peer) before after
 
 not_under : (path : List ℕ) (keys : List Key) → AreElsewhere (path ∷ []) keys → Each (λ key. is_under path key ≡ false) keys
 not_under path keys h = Each-weaker (λ key. has_below (path ∷ []) key ≡ false) (λ key. is_under path key ≡ false) (λ key none. or_left (is_under path key) false none) keys h
@@ -176,7 +176,7 @@ module _ {L P : Type 0} (l : SideOf L) (p : SideOf P)
   same_peer : p.most_keys peer2 ≡ p.most_keys peer
   same_peer = stays' m peer peer2 follows.1
 
-  pub settled : SettlesAllBy l p before.number a b (done ++ f.goes_on.now) (at.waiting ++ waits_if e) (s.goes.course.asked_local + s.goes.course.wanted_local) (s.goes.course.asked_peer + s.goes.course.wanted_peer) local3 peer3 (l.most_keys local) (p.most_keys peer) after result
+  pub settled : SettlesAllBy l p before.number a b (done ++ f.goes_on.now) (at.waiting ++ waits_if e) (s.goes.course.first_local + s.goes.course.wanted_local) (s.goes.course.first_peer + s.goes.course.wanted_peer) local3 peer3 (l.most_keys local) (p.most_keys peer) after result
   settled =
       let g = f.goes_on in
       let t = g.still in
@@ -186,9 +186,9 @@ module _ {L P : Type 0} (l : SideOf L) (p : SideOf P)
       (subst (λ i. SoFarBy i (p.most_keys peer2) before.number a b (l.states local2) (p.states peer2) (done ++ g.now)) (sym same_local)
       (subst (λ j. SoFarBy (l.most_keys local) j before.number a b (l.states local2) (p.states peer2) (done ++ g.now)) (sym same_peer) g.so_far)) in
       let all = s.meets t.0 t.1 a b (done ++ g.now) so g.counts (still_next done g.now (before.waiting ++ f.found) at.waiting (waits_if e) g.is a b g.waits.each next) in
-      subst (λ o. SettlesAllBy l p o a b (done ++ g.now) (at.waiting ++ waits_if e) (s.goes.course.asked_local + s.goes.course.wanted_local) (s.goes.course.asked_peer + s.goes.course.wanted_peer) local3 peer3 (l.most_keys local) (p.most_keys peer) after result) same
-      (subst (λ i. SettlesAllBy l p at.number a b (done ++ g.now) (at.waiting ++ waits_if e) (s.goes.course.asked_local + s.goes.course.wanted_local) (s.goes.course.asked_peer + s.goes.course.wanted_peer) local3 peer3 i (p.most_keys peer) after result) same_local
-      (subst (λ j. SettlesAllBy l p at.number a b (done ++ g.now) (at.waiting ++ waits_if e) (s.goes.course.asked_local + s.goes.course.wanted_local) (s.goes.course.asked_peer + s.goes.course.wanted_peer) local3 peer3 (l.most_keys local2) j after result) same_peer all))
+      subst (λ o. SettlesAllBy l p o a b (done ++ g.now) (at.waiting ++ waits_if e) (s.goes.course.first_local + s.goes.course.wanted_local) (s.goes.course.first_peer + s.goes.course.wanted_peer) local3 peer3 (l.most_keys local) (p.most_keys peer) after result) same
+      (subst (λ i. SettlesAllBy l p at.number a b (done ++ g.now) (at.waiting ++ waits_if e) (s.goes.course.first_local + s.goes.course.wanted_local) (s.goes.course.first_peer + s.goes.course.wanted_peer) local3 peer3 i (p.most_keys peer) after result) same_local
+      (subst (λ j. SettlesAllBy l p at.number a b (done ++ g.now) (at.waiting ++ waits_if e) (s.goes.course.first_local + s.goes.course.wanted_local) (s.goes.course.first_peer + s.goes.course.wanted_peer) local3 peer3 (l.most_keys local2) j after result) same_peer all))
 
   lengths : (length (before.waiting ++ (f.found ++ waits_if e)) ≡ length (before.waiting ++ f.found) + length (waits_if e)) × (length (at.waiting ++ waits_if e) ≡ length at.waiting + length (waits_if e))
   lengths = (
@@ -196,7 +196,7 @@ module _ {L P : Type 0} (l : SideOf L) (p : SideOf P)
     length-append at.waiting (waits_if e),
   )
 
-  few_settled : ((asked_l + s.goes.course.asked_local) + s.goes.course.wanted_local ≤ f.pages_local + 2 * length (before.waiting ++ (f.found ++ waits_if e))) × ((asked_p + s.goes.course.asked_peer) + s.goes.course.wanted_peer ≤ f.pages_peer + 2 * length (before.waiting ++ (f.found ++ waits_if e)))
+  few_settled : ((asked_l + s.goes.course.first_local) + s.goes.course.wanted_local ≤ f.pages_local + 2 * length (before.waiting ++ (f.found ++ waits_if e))) × ((asked_p + s.goes.course.first_peer) + s.goes.course.wanted_peer ≤ f.pages_peer + 2 * length (before.waiting ++ (f.found ++ waits_if e)))
   few_settled =
       let k = lengths in
       let x = f.fewer in
@@ -210,7 +210,7 @@ module _ {L P : Type 0} (l : SideOf L) (p : SideOf P)
     (follows : l.follows n local local2 × p.follows m peer peer2) (same : at.number ≡ before.number)
     (f : Filled l p before.number a b done path mine theirs e asked_l asked_p local2 peer2 (l.most_keys local) (p.most_keys peer) before at)
     (left left' : Questions) where
-  pub settled_on : (s : SettlesBy l p e left left' local2 local3 peer2 peer3 at after (Ok (tt {0}))) → AtKey l p before.number a b done path mine theirs (asked_l + s.goes.course.asked_local) (asked_p + s.goes.course.asked_peer) local3 peer3 (l.most_keys local) (p.most_keys peer) before after
+  pub settled_on : (s : SettlesBy l p e left left' local2 local3 peer2 peer3 at after (Ok (tt {0}))) → AtKey l p before.number a b done path mine theirs (asked_l + s.goes.course.first_local) (asked_p + s.goes.course.first_peer) local3 peer3 (l.most_keys local) (p.most_keys peer) before after
   settled_on s =
       let all = settled l p stays stays' a b done path mine theirs e asked_l asked_p local local2 local3 peer peer2 peer3 n m before at after follows same f left left' (Ok (tt {0})) s in
       let k = lengths l p stays stays' a b done path mine theirs e asked_l asked_p local local2 local3 peer peer2 peer3 n m before at after follows same f left left' (Ok (tt {0})) s in
@@ -226,7 +226,7 @@ module _ {L P : Type 0} (l : SideOf L) (p : SideOf P)
       }
 
   pub settled_ends : (fault : SyncFault) → (s : SettlesBy {A = Unit {0}} l p e left left' local2 local3 peer2 peer3 at after (Err fault))
-      → FindsBy {A = Unit {0}} l p before.number a b done (path ∷ []) 0 ((asked_l + s.goes.course.asked_local) + s.goes.course.wanted_local) ((asked_p + s.goes.course.asked_peer) + s.goes.course.wanted_peer) local3 peer3 (l.most_keys local) (p.most_keys peer) before after (Err fault)
+      → FindsBy {A = Unit {0}} l p before.number a b done (path ∷ []) 0 ((asked_l + s.goes.course.first_local) + s.goes.course.wanted_local) ((asked_p + s.goes.course.first_peer) + s.goes.course.wanted_peer) local3 peer3 (l.most_keys local) (p.most_keys peer) before after (Err fault)
   settled_ends fault s =
       let all = settled l p stays stays' a b done path mine theirs e asked_l asked_p local local2 local3 peer peer2 peer3 n m before at after follows same f left left' {A = Unit {0}} (Err fault) s in
       let few = few_settled l p stays stays' a b done path mine theirs e asked_l asked_p local local2 local3 peer peer2 peer3 n m before at after follows same f left left' {A = Unit {0}} (Err fault) s in
@@ -318,7 +318,7 @@ module _ {L P : Type 0} (l : SideOf L) (p : SideOf P) (path : List ℕ) (first s
         goes = goes_on l p on on' left left1 left2 local local1 local2 peer peer1 peer2 before at at (tt {0}) (Err fault) over.goes (goes_of_end l p (λ asked. asked ≤ 1) left1 left2 local1 local2 peer1 peer2 at fault f.ends);
         meets = λ t u distinct long a b done so counts next elsewhere told.
             let here = over.meets t u a b done so counts next elsewhere told.0.0 told.1.0 in
-            unfilled l p before.number a b done path mine theirs mine1 theirs1 mine1 theirs1 over.goes.course.asked_local over.goes.course.asked_peer local1 local2 peer1 peer2 (l.most_keys local) (p.most_keys peer) before at here mine_more theirs_more elsewhere e takes same_more left1 fault f;
+            unfilled l p before.number a b done path mine theirs mine1 theirs1 mine1 theirs1 over.goes.course.first_local over.goes.course.first_peer local1 local2 peer1 peer2 (l.most_keys local) (p.most_keys peer) before at here mine_more theirs_more elsewhere e takes same_more left1 fault f;
       }
 
       module _ (stays : (n : ℕ) (old new : L) → l.follows n old new → l.most_keys new ≡ l.most_keys old)
@@ -343,8 +343,8 @@ module _ {L P : Type 0} (l : SideOf L) (p : SideOf P) (path : List ℕ) (first s
           meets = λ t u a b done so counts next elsewhere mine_told theirs_told.
               let here = over.meets t u a b done so counts next elsewhere mine_told theirs_told in
               let g = goes_filled in
-              settled_on l p stays stays' a b done path mine2 theirs2 e (over.goes.course.asked_local + f.local_side.asked) (over.goes.course.asked_peer + f.peer_side.asked) local local2 local3 peer peer2 peer3 g.course.asked_local g.course.asked_peer before at after g.course.follows g.same
-              (filled l p before.number a b done path mine theirs mine1 theirs1 mine2 theirs2 over.goes.course.asked_local over.goes.course.asked_peer local1 local2 peer1 peer2 (l.most_keys local) (p.most_keys peer) before at here mine_more theirs_more elsewhere e takes same_more left1 left2 f) left2 left3 s;
+              settled_on l p stays stays' a b done path mine2 theirs2 e (over.goes.course.first_local + f.local_side.asked) (over.goes.course.first_peer + f.peer_side.asked) local local2 local3 peer peer2 peer3 g.course.asked_local g.course.asked_peer before at after g.course.follows g.same
+              (filled l p before.number a b done path mine theirs mine1 theirs1 mine2 theirs2 over.goes.course.first_local over.goes.course.first_peer local1 local2 peer1 peer2 (l.most_keys local) (p.most_keys peer) before at here mine_more theirs_more elsewhere e takes same_more left1 left2 f) left2 left3 s;
         }
 
         pub over_unsettled : (fault : SyncFault) → SettlesBy {A = Unit {0}} l p e left2 left3 local2 local3 peer2 peer3 at after (Err fault)
@@ -355,6 +355,6 @@ module _ {L P : Type 0} (l : SideOf L) (p : SideOf P) (path : List ℕ) (first s
           meets = λ t u distinct long a b done so counts next elsewhere told.
               let here = over.meets t u a b done so counts next elsewhere told.0.0 told.1.0 in
               let g = goes_filled in
-              settled_ends l p stays stays' a b done path mine2 theirs2 e (over.goes.course.asked_local + f.local_side.asked) (over.goes.course.asked_peer + f.peer_side.asked) local local2 local3 peer peer2 peer3 g.course.asked_local g.course.asked_peer before at after g.course.follows g.same
-              (filled l p before.number a b done path mine theirs mine1 theirs1 mine2 theirs2 over.goes.course.asked_local over.goes.course.asked_peer local1 local2 peer1 peer2 (l.most_keys local) (p.most_keys peer) before at here mine_more theirs_more elsewhere e takes same_more left1 left2 f) left2 left3 fault s;
+              settled_ends l p stays stays' a b done path mine2 theirs2 e (over.goes.course.first_local + f.local_side.asked) (over.goes.course.first_peer + f.peer_side.asked) local local2 local3 peer peer2 peer3 g.course.asked_local g.course.asked_peer before at after g.course.follows g.same
+              (filled l p before.number a b done path mine theirs mine1 theirs1 mine2 theirs2 over.goes.course.first_local over.goes.course.first_peer local1 local2 peer1 peer2 (l.most_keys local) (p.most_keys peer) before at here mine_more theirs_more elsewhere e takes same_more left1 left2 f) left2 left3 fault s;
         }

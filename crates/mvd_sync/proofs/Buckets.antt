@@ -9,7 +9,7 @@ use Rattle.mvd_site.specs.Answer.{digests}
 use Rattle.mvd_site.specs.Held.{States}
 use Rattle.mvd_sync.proofs.Readings.{IsBucketPage}
 use Rattle.mvd_sync.specs.Answers.{ListingValue}
-use Rattle.mvd_sync.proofs.Exchanges.{AreNext, Counts, GoesOn, JoinsSome, Moment, SoFar, Spends, Stand}
+use Rattle.mvd_sync.proofs.Exchanges.{AreNext, Counts, FewAgain, GoesOn, JoinsSome, Moment, SoFar, Spends, Stand}
 use Rattle.mvd_sync.specs.Exchanges.{Done, Exchanging}
 use Rattle.mvd_sync.proofs.Exchanges.{began, keys_next, stand_at}
 use Rattle.mvd_sync.specs.Exchanges.{keys_done}
@@ -33,6 +33,8 @@ pub record Goes {L P A : Type 0} (s : Sides L P) (old new : Moment L P) (result 
   pub course : Course s old.now new.now.at result
   pub spent : Spends s old.now new.now result course
   pub calm : OnOk result ((course.wanted_local ≡ 0) × (course.wanted_peer ≡ 0))
+  pub again : FewAgain 0 old.work.most course
+  pub again_on : OnOk result (FewAgain new.work.most old.work.most course)
   -- the number stays, the counts rise by no more than questions are made, and fewer keys than a window wait
   pub same : new.work.number ≡ old.work.number
   pub room : OnOk result (new.work.keys + new.work.refused + new.now.left.local + new.now.left.peer
@@ -43,7 +45,7 @@ pub record Goes {L P A : Type 0} (s : Sides L P) (old new : Moment L P) (result 
 abbrev pub asked_of : {L P A : Type 0} {s : Sides L P} {old new : Moment L P} {result : Result A SyncFault}
     → Goes s old new result → Two ℕ ℕ
 asked_of goes =
-    two (goes.course.asked_local + goes.course.wanted_local) (goes.course.asked_peer + goes.course.wanted_peer)
+    two (goes.course.first_local + goes.course.wanted_local) (goes.course.first_peer + goes.course.wanted_peer)
 
 -- ---- between two faithful sides
 

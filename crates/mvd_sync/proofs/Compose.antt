@@ -15,6 +15,9 @@ module _ {S : Type 0} (s : SideOf S) (on : (m n : ℕ) (old mid new : S) → s.f
   answered_later old mid new r h = (h.0, (r.0 + h.1.0, on r.0 h.1.0 old mid h.0 r.1 h.1.1), h.2, h.3)
 
   -- and is still told after others
+  pub refused_still : (old mid new : S) (refusal : Refusal) → Reaches s.follows mid new → HasRefused s.follows s.can_refuse old mid refusal → HasRefused s.follows s.can_refuse old new refusal
+  refused_still old mid new refusal r h = (h.0, h.1, h.2, (h.3.0 + r.0, on h.3.0 r.0 h.0 mid new h.3.1 r.1))
+
   pub answered_still : (old mid new : S) → Reaches s.follows mid new → HasAnswered s.follows s.can_answer old mid → HasAnswered s.follows s.can_answer old new
   answered_still old mid new r h = (h.0, h.1, h.2, (h.3.0 + r.0, on h.3.0 r.0 h.0 mid new h.3.1 r.1))
 

@@ -5,7 +5,7 @@ use Rattle.std.proofs.lemmas.Bool.{cases_lt}
 use Rattle.std.proofs.lemmas.List.{length-drop, length-take}
 use Rattle.mvd_dots.specs.declared.refusals.Refusal.TheVariants.{Memory}
 use Rattle.mvd_peer.specs.Sides.{SideOf, Two, two}
-use Rattle.mvd_sync.specs.Exchanges.{Exchanging}
+use Rattle.mvd_sync.specs.Exchanges.{Exchanging, IsHeldByEither}
 use Rattle.mvd_sync.proofs.Exchanges.{Moment}
 use Rattle.mvd_sync.specs.Machines.{HasNext, HearsAt, Machining, StageAsks, StageHears, StageWent, Starts, hears, here, is_same, on, quiet, stage_after, stage_told, wanted_at, wanted_count}
 use Rattle.mvd_sync.specs.OneTurn.{untold}
@@ -24,11 +24,13 @@ use Rattle.mvd_sync.specs.declared.stage.Stage.{Stage}
 use Rattle.mvd_sync.specs.declared.stage.Stage.TheVariants.{Carries, Descends, Done, Failed, Meets, Walks}
 use Rattle.mvd_sync.specs.declared.telling.Answers.{Answers}
 use Rattle.mvd_sync.specs.declared.telling.Told.{Told}
-use Rattle.mvd_sync.proofs.Amid.{AtBuckets, AtWalk, Ended, EndsAt, Laws, Owes, Stands, after_last, at_last, begin, of_key, on_walk, start, total}
+use Rattle.mvd_sync.proofs.Amid.{Ended, EndsAt, Laws, Stands, begin, start, total}
 use Rattle.mvd_sync.proofs.AmidAlone.{stands_alone}
-use Rattle.mvd_sync.proofs.AmidHears.{over_quiet, stands_hears, stands_memory}
+use Rattle.mvd_sync.proofs.AmidHears.{stands_hears, stands_memory}
 use Rattle.mvd_sync.proofs.AmidSaid.{WindowOf, all_spent, not_refused, says_said, says_tells, told_said}
 use Rattle.mvd_sync.proofs.Descending.{stands_first}
+use Rattle.mvd_sync.proofs.Descents.{Each-left}
+use Rattle.mvd_sync.proofs.Exchanging.{exchanges_later}
 use Rattle.mvd_sync.proofs.Fails.{memory_fails}
 use Rattle.mvd_sync.proofs.HeldFew.{held_few}
 use Rattle.mvd_sync.proofs.Positions.{AreFewForBy, ReadsEndBy, SessionBy, sides}
@@ -155,15 +157,6 @@ module _ {L P : Type 0} (l : SideOf L) (p : SideOf P) (a : Laws l) (b : Laws p) 
 
   -- ---- what is asked next
 
-  walk_some : (walk : Walking) (now : Moment L P) → AtWalk l p most old walk now → StageAsks (Walks walk) → 1 ≤ wanted_count AtLocal (Walks walk) + wanted_count AtPeer (Walks walk)
-  walk_some walk now (on_walk k walked held) asks = asks_some l p k.paths (begin l p most old k) now walk k.finds.deep walked asks
-  walk_some walk now (after_last ended over) asks = absurd (asks (over_quiet walk over))
-
-  owes_some : (k : AtBuckets l p most old) (walk : Walking) (entries : List Entry) (before' : Moment L P) → Owes l p most old k walk entries before' → 1 ≤ length entries
-  owes_some k walk entries before' (of_key e found differs is) = let n = ap length is in let m = length-append before'.work.waiting (e ∷ []) in omega (arith, n, m)
-  owes_some k walk entries before' (at_last over walked some is) =
-      elim (cases_lt (length entries) 1) [ inl none ↦ absurd (some (sym is ∙ none_long entries (omega (arith, none)))) | inr one ↦ one ]
-
   some_asked : (stage : Stage) (now : Moment L P) → Stands l p most old stage now → StageAsks stage → 1 ≤ wanted_count AtLocal stage + wanted_count AtPeer stage
   some_asked (Descends level) now h asks =
       let n = length-take 64 level.rest in
@@ -171,10 +164,10 @@ module _ {L P : Type 0} (l : SideOf L) (p : SideOf P) (a : Laws l) (b : Laws p) 
         | inl none ↦ absurd (asks (inr (none_long level.rest (omega (arith, none)))))
         | inr one ↦ omega (arith, n, one)
       ]
-  some_asked (Walks walk) now h asks = walk_some walk now h asks
+  some_asked (Walks walk) now h asks = let k = h.buckets in asks_some l p k.paths (begin l p most old k) now walk k.finds.deep h.walked asks
   some_asked (Meets walk entries) now h asks =
-      let one = owes_some h.buckets walk entries.items (record { now = now.now; work = h.before }) h.owes in
-      let all = held_by_one entries.items h.held in
+      let one = h.some in
+      let all = held_by_one entries.items (Each-left IsHeldByEither entries.items now.work.waiting h.held) in
       omega (arith, one, all)
   some_asked (Carries walk turn count) now h asks =
       let n = length-drop (length turn.told.items) turn.pairs.items in
@@ -234,7 +227,9 @@ module _ {L P : Type 0} (l : SideOf L) (p : SideOf P) (a : Laws l) (b : Laws p) 
   done_session : (now : Moment L P) → Ended l p most old now → (report : Report) → report.keys ≡ now.work.keys → report.refused ≡ now.work.refused → report.old ≡ now.work.older → report.first_refused ≡ now.work.first_refused → SessionBy l p most old.local now.now.at.local old.peer now.now.at.peer (Ok report)
   done_session now e report keys refused older first =
       let k = e.buckets in
-      session_all l p a.on b.on a.stays b.stays a.form b.form held_few most k.mid.left e.before.now.left old.local k.mid.at.local e.before.now.at.local old.peer k.mid.at.peer e.before.now.at.peer k.paths e.before.work k.finds (tt {0}) e.over now.now.left now.now.at.local now.now.at.peer now.work (tt {0}) e.last e.none report keys refused older first
+      let n = ap length e.none in
+      session_all l p a.on b.on a.stays b.stays a.form b.form held_few most k.mid.left now.now.left old.local k.mid.at.local now.now.at.local old.peer k.mid.at.peer now.now.at.peer k.paths now.work k.finds (tt {0}) e.over now.now.left now.now.at.local now.now.at.peer now.work (tt {0})
+      (exchanges_later l p a.self b.self now.work.waiting now.now.left now.now.at.local now.now.at.peer now.work now.work (tt {0}) refl (omega (arith, n))) e.none report keys refused older first
 
   pub run_is_session : (new : Two L P) (report : Report) → IsRun (sides l p) most old new report → SessionBy l p most old.local new.local old.peer new.peer (Ok report)
   run_is_session new report r =

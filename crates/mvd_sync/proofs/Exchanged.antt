@@ -1,8 +1,8 @@
 -- What the keys of a window come to, at each of its ends.
-use Rattle.std.proofs.Common.{◌≡◌, ℕ, ◌+◌, ◌*◌, ◌≤◌, List, [], ◌∷◌, ◌++◌, length, map, filter_map, refl, sym, ap, subst, ◌∙◌, arith, false, Option, le-ltb}
+use Rattle.std.proofs.Common.{◌≡◌, inl, inr, ℕ, ◌+◌, ◌*◌, ◌≤◌, List, [], ◌∷◌, ◌++◌, length, map, filter_map, refl, sym, ap, subst, ◌∙◌, arith, false, Option, le-ltb}
 use Rattle.std.specs.Prelude.{Result, Ok, Err, take}
 use Rattle.mvd_dots.specs.declared.refusals.Refusal.{Refusal}
-use Rattle.mvd_dots.specs.declared.refusals.Refusal.TheVariants.{Broken}
+use Rattle.mvd_dots.specs.declared.refusals.Refusal.TheVariants.{Broken, Memory}
 use Rattle.mvd_keys.specs.State.{State, empty_state}
 use Rattle.mvd_wire.specs.Codecs.{spell_state, state_limit}
 use Rattle.mvd_wire.proofs.Spellings.{length_empty}
@@ -24,7 +24,7 @@ use Rattle.mvd_sync.specs.declared.asking.Questions.{Questions}
 use Rattle.mvd_sync.specs.declared.report.Side.TheVariants.{Local as AtLocal, Peer as AtPeer}
 use Rattle.mvd_sync.specs.declared.report.SyncFault.{SyncFault}
 use Rattle.mvd_sync.specs.declared.report.SyncFault.TheVariants.{Local, Peer}
-use Rattle.mvd_sync.proofs.Compose.{blames_later}
+use Rattle.mvd_sync.proofs.Compose.{blames_later, refused_still}
 use Rattle.mvd_sync.proofs.Cut.{joins_if}
 use Rattle.mvd_sync.proofs.CutOff.{cut_local, cut_peer}
 use Rattle.mvd_sync.proofs.Going.{changes_none, course_of_end}
@@ -52,12 +52,14 @@ all_of_key (p ∷ ps) (t ∷ ts) h = (h.0, all_of_key ps ts h.1)
 module _ {L P : Type 0} (l : SideOf L) (p : SideOf P) (number : Option ℕ) (entries : List Entry) where
   -- the questions about the keys came to an end
   pub ends_at_plans : (left left' : Questions) (local local' : L) (peer peer' : P) (fault : SyncFault) → ReadsEndBy l p (λ asked. asked ≤ length entries) left local local' peer peer' fault
-      → ExchangesAllBy l p number entries left left' local local' peer peer' (Err fault)
+      → ExchangesAllBy l p number entries 0 left left' local local' peer peer' (Err fault)
   ends_at_plans left left' local local' peer peer' fault e = record {
     course = course_of_end l p (λ asked. asked ≤ length entries) left local local' peer peer' fault e;
     spent = tt;
     few = (let few = e.few.0 in omega (arith, few), let few = e.few.1 in omega (arith, few));
     least = tt;
+    again = (omega arith, omega arith);
+    paid = λ some. absurd (omega (arith, some));
     same = tt;
     meets = λ t u a b done so next.
         joins_some (l.most_keys local) (p.most_keys peer) a b (l.states local') (p.states peer') number (l.is_faithful local') (p.is_faithful peer') done
@@ -74,6 +76,16 @@ module _ {L P : Type 0} (l : SideOf L) (p : SideOf P) (number : Option ℕ) (ent
 
     abbrev n_p : ℕ
     n_p = length (held_keys AtPeer entries)
+
+    -- with those that are asked again
+    abbrev asks_l : ℕ
+    asks_l = n_l + plan.again_local
+
+    abbrev asks_p : ℕ
+    asks_p = n_p + plan.again_peer
+
+    paid_by : (m n : ℕ) → n_l ≤ m → n_p ≤ n → length entries ≤ m + n
+    paid_by m n h k = let a = plan.paid in omega (arith, a, h, k)
 
     abbrev pairs_l : List (List ℕ × State)
     pairs_l = filter_map (pushed_pair AtLocal) ms
@@ -98,16 +110,22 @@ module _ {L P : Type 0} (l : SideOf L) (p : SideOf P) (number : Option ℕ) (ent
 
     -- the local side came to an end
     pub ends_at_local : (left' : Questions) (local2 : L) (refusal : Refusal) → ComesToEnd l (TakesInFirst l pairs_l local1 local2 refusal) (length pairs_l) (with_left local1 left1.local) local2 refusal → (pairs_l ≡ [] → local2 ≡ local1)
-        → ExchangesAllBy l p number entries left left' local local2 peer peer1 (Err (Local refusal))
+        → ExchangesAllBy l p number entries plan.others left left' local local2 peer peer1 (Err (Local refusal))
     ends_at_local left' local2 refusal e alone = record {
       course = record {
-        asked_local = n_l + e.asked;
-        asked_peer = n_p;
+        asked_local = asks_l + e.asked;
+        asked_peer = asks_p;
         wanted_local = e.wanted;
         wanted_peer = 0;
         within = (let a = plan.from_local.spent in let b = e.within in omega (arith, a, b), let a = plan.from_peer.spent in omega (arith, a));
-        follows = (on n_l e.asked local local1 local2 plan.from_local.follows e.follows, plan.from_peer.follows);
-        cause = blames_later l on left.local left1.local n_l local local1 local2 plan.from_local.spent plan.from_local.follows (λ t. (keep_l t).still) e.asked e.wanted refusal e.cause;
+        first_local = n_l + e.asked;
+        first_peer = n_p;
+        again_local = plan.again_local;
+        again_peer = plan.again_peer;
+        parts = (omega arith, omega arith);
+        unheld = λ some. elim (plan.unheld some) [ inl mine ↦ inl (refused_still l on local local1 local2 Memory (e.asked, e.follows) mine) | inr theirs ↦ inr theirs ];
+        follows = (on asks_l e.asked local local1 local2 plan.from_local.follows e.follows, plan.from_peer.follows);
+        cause = blames_later l on left.local left1.local asks_l local local1 local2 plan.from_local.spent plan.from_local.follows (λ t. (keep_l t).still) e.asked e.wanted refusal e.cause;
         local_side = λ t.
             let k = keep_l t in
             let took = e.right k.still in
@@ -123,13 +141,15 @@ module _ {L P : Type 0} (l : SideOf L) (p : SideOf P) (number : Option ℕ) (ent
       spent = tt;
       few = (let a = held_short AtLocal entries in let b = e.few in omega (arith, a, b, short_l), let a = held_short AtPeer entries in omega (arith, a));
       least = tt;
+      again = plan.few;
+      paid = λ _. paid_by (n_l + e.asked) n_p (omega arith) (omega arith);
       same = tt;
       meets = λ t u a b done so next.
           let k = keep_l t in
           let j = keep_p u in
           let took = e.right k.still in
           let f = took.pushes in
-          let first = subst (λ m. Pushes m (l.states local1) (take f.0 pairs_l) f.1 f.2) (most_l n_l local local1 plan.from_local.follows) f.3 in
+          let first = subst (λ m. Pushes m (l.states local1) (take f.0 pairs_l) f.1 f.2) (most_l asks_l local local1 plan.from_local.follows) f.3 in
           let first = subst (λ m. Pushes (l.most_keys local) m (take f.0 pairs_l) f.1 f.2) k.states first in
           let joins = cut_local (l.most_keys local) (p.most_keys peer) number a b (l.states local) (p.states peer) (l.states local) (p.states peer) done entries plan.mine plan.theirs ms [] [] so next
           (form_l local t) (form_p peer u) short_empty (plan.from_local.right t).right (plan.from_peer.right u).right plan.plans f.0 f.1 f.2 first in
@@ -172,40 +192,52 @@ module _ {L P : Type 0} (l : SideOf L) (p : SideOf P) (number : Option ℕ) (ent
       pushes_l : (t : l.is_faithful local) → Pushes (l.most_keys local) (l.states local) pairs_l c.told (l.states local2)
       pushes_l t =
           subst (λ m. Pushes (l.most_keys local) m pairs_l c.told (l.states local2)) (keep_l t).states
-          (subst (λ m. Pushes m (l.states local1) pairs_l c.told (l.states local2)) (most_l n_l local local1 plan.from_local.follows) (took_l t).pushes)
+          (subst (λ m. Pushes m (l.states local1) pairs_l c.told (l.states local2)) (most_l asks_l local local1 plan.from_local.follows) (took_l t).pushes)
 
       one_l : Each IsOfKey c.told
       one_l = all_of_key pairs_l c.told c.answered.may
 
       abbrev asked_l : ℕ
-      asked_l = n_l + length pairs_l
+      asked_l = asks_l + length pairs_l
+
+      abbrev firsts_l : ℕ
+      firsts_l = n_l + length pairs_l
 
       spent_l : left.local ≡ left2 + asked_l
       spent_l = let a = plan.from_local.spent in let b = c.answered.spent in omega (arith, a, b)
 
-      few_l : asked_l ≤ 2 * length entries
+      few_l : firsts_l ≤ 2 * length entries
       few_l = let a = held_short AtLocal entries in omega (arith, a, short_l)
 
       follows_l : l.follows asked_l local local2
-      follows_l = on n_l (length pairs_l) local local1 local2 plan.from_local.follows c.answered.follows
+      follows_l = on asks_l (length pairs_l) local local1 local2 plan.from_local.follows c.answered.follows
 
       beside_l : (t : l.is_faithful local) → IsSilent p.follows p.can_answer peer → l.is_faithful local2 × (l.states local2 ≡ l.states local)
       beside_l t silent = ((took_l t).still, pushed_none (l.states local) (l.states local2) (comes_l (λ _ _. ⊥) (no_pulls silent) t))
 
       -- the peer came to an end
       pub ends_at_peer : (left' : Questions) (peer2 : P) (refusal : Refusal) → ComesToEnd p (TakesInFirst p (filter_map (pushed_pair AtPeer) ms1) peer1 peer2 refusal) (length (filter_map (pushed_pair AtPeer) ms1)) (with_left peer1 left1.peer) peer2 refusal
-          → (filter_map (pushed_pair AtPeer) ms1 ≡ [] → peer2 ≡ peer1) → ExchangesAllBy l p number entries left left' local local2 peer peer2 (Err (Peer refusal))
+          → (filter_map (pushed_pair AtPeer) ms1 ≡ [] → peer2 ≡ peer1) → ExchangesAllBy l p number entries plan.others left left' local local2 peer peer2 (Err (Peer refusal))
       ends_at_peer left' peer2 refusal e' alone =
           let e : ComesToEnd p (TakesInFirst p pairs_p peer1 peer2 refusal) (length pairs_p) (with_left peer1 left1.peer) peer2 refusal = subst (λ qs. ComesToEnd p (TakesInFirst p qs peer1 peer2 refusal) (length qs) (with_left peer1 left1.peer) peer2 refusal) same_pairs e' in
           record {
             course = record {
               asked_local = asked_l;
-              asked_peer = n_p + e.asked;
+              asked_peer = asks_p + e.asked;
               wanted_local = 0;
               wanted_peer = e.wanted;
               within = (let a = spent_l in omega (arith, a), let a = plan.from_peer.spent in let b = e.within in omega (arith, a, b));
-              follows = (follows_l, on' n_p e.asked peer peer1 peer2 plan.from_peer.follows e.follows);
-              cause = blames_later p on' left.peer left1.peer n_p peer peer1 peer2 plan.from_peer.spent plan.from_peer.follows (λ t. (keep_p t).still) e.asked e.wanted refusal e.cause;
+              first_local = firsts_l;
+              first_peer = n_p + e.asked;
+              again_local = plan.again_local;
+              again_peer = plan.again_peer;
+              parts = (omega arith, omega arith);
+              unheld = λ some. elim (plan.unheld some) [
+                | inl mine ↦ inl (refused_still l on local local1 local2 Memory (length pairs_l, c.answered.follows) mine)
+                | inr theirs ↦ inr (refused_still p on' peer peer1 peer2 Memory (e.asked, e.follows) theirs)
+              ];
+              follows = (follows_l, on' asks_p e.asked peer peer1 peer2 plan.from_peer.follows e.follows);
+              cause = blames_later p on' left.peer left1.peer asks_p peer peer1 peer2 plan.from_peer.spent plan.from_peer.follows (λ t. (keep_p t).still) e.asked e.wanted refusal e.cause;
               local_side = λ t. changes_by {A = List Meeting} (l.is_faithful local2) (Local Broken) p.can_give (l.states local) (l.states local2) (Err (Peer refusal)) (took_l t).still (comes_l p.can_give from_p t);
               peer_side = λ t.
                   let k = keep_p t in
@@ -221,12 +253,14 @@ module _ {L P : Type 0} (l : SideOf L) (p : SideOf P) (number : Option ℕ) (ent
             spent = tt;
             few = (let few = few_l in omega (arith, few), let a = held_short AtPeer entries in let b = e.few in omega (arith, a, b, short_p));
             least = tt;
+            again = plan.few;
+            paid = λ _. paid_by firsts_l (n_p + e.asked) (omega arith) (omega arith);
             same = tt;
             meets = λ t u a b done so next.
                 let j = keep_p u in
                 let took = e.right j.still in
                 let f = took.pushes in
-                let second = subst (λ m. Pushes m (p.states peer1) (take f.0 pairs_p) f.1 f.2) (most_p n_p peer peer1 plan.from_peer.follows) f.3 in
+                let second = subst (λ m. Pushes m (p.states peer1) (take f.0 pairs_p) f.1 f.2) (most_p asks_p peer peer1 plan.from_peer.follows) f.3 in
                 let second = subst (λ m. Pushes (p.most_keys peer) m (take f.0 pairs_p) f.1 f.2) j.states second in
                 let joins = cut_peer (l.most_keys local) (p.most_keys peer) number a b (l.states local) (p.states peer) (l.states local2) (p.states peer) done entries plan.mine plan.theirs ms c.told [] so next
                 (form_l local t) (form_p peer u) short_empty (plan.from_local.right t).right (plan.from_peer.right u).right plan.plans (pushes_l t) one_l f.0 f.1 f.2 second in
@@ -239,7 +273,7 @@ module _ {L P : Type 0} (l : SideOf L) (p : SideOf P) (number : Option ℕ) (ent
 
       -- the peer took what it was to take, too
       pub all_done : Each IsHeldByEither entries → (left' : Questions) (peer2 : P) (made : List Meeting) → left'.local ≡ left2 → Carried p AtPeer ms1 made (with_left peer1 left1.peer) (with_left peer2 left'.peer)
-          → ExchangesAllBy l p number entries left left' local local2 peer peer2 (Ok made)
+          → ExchangesAllBy l p number entries plan.others left left' local local2 peer peer2 (Ok made)
       all_done held left' peer2 made same_left d' =
           let d : Carried p AtPeer after made (with_left peer1 left1.peer) (with_left peer2 left'.peer) = subst (λ m. Carried p AtPeer m made (with_left peer1 left1.peer) (with_left peer2 left'.peer)) c.is d' in
           let took_p : p.is_faithful peer → TakesIn p pairs_p d.told peer1 peer2 = λ t. d.answered.right (keep_p t).still in
@@ -252,11 +286,20 @@ module _ {L P : Type 0} (l : SideOf L) (p : SideOf P) (number : Option ℕ) (ent
           record {
             course = record {
               asked_local = asked_l;
-              asked_peer = n_p + length pairs_p;
+              asked_peer = asks_p + length pairs_p;
               wanted_local = 0;
               wanted_peer = 0;
               within = (omega (arith, spent), omega (arith, spent_p, spent_p'));
-              follows = (follows_l, on' n_p (length pairs_p) peer peer1 peer2 plan.from_peer.follows d.answered.follows);
+              first_local = firsts_l;
+              first_peer = n_p + length pairs_p;
+              again_local = plan.again_local;
+              again_peer = plan.again_peer;
+              parts = (omega arith, omega arith);
+              unheld = λ some. elim (plan.unheld some) [
+                | inl mine ↦ inl (refused_still l on local local1 local2 Memory (length pairs_l, c.answered.follows) mine)
+                | inr theirs ↦ inr (refused_still p on' peer peer1 peer2 Memory (length pairs_p, d.answered.follows) theirs)
+              ];
+              follows = (follows_l, on' asks_p (length pairs_p) peer peer1 peer2 plan.from_peer.follows d.answered.follows);
               cause = tt;
               local_side = λ t. changes_by (l.is_faithful local2) (Local Broken) p.can_give (l.states local) (l.states local2) (Ok made) (took_l t).still (comes_l p.can_give from_p t);
               peer_side = λ t. changes_by (p.is_faithful peer2) (Peer Broken) l.can_give (p.states peer) (p.states peer2) (Ok made) (took_p t).still (comes_p l.can_give from_l t);
@@ -266,9 +309,11 @@ module _ {L P : Type 0} (l : SideOf L) (p : SideOf P) (number : Option ℕ) (ent
             spent = (spent, omega (arith, spent_p, spent_p'));
             few = (let few = few_l in omega (arith, few), let a = held_short AtPeer entries in omega (arith, a, short_p));
             least = let a = held_by_one entries held in omega (arith, a);
+            again = plan.few;
+            paid = λ _. paid_by firsts_l (n_p + length pairs_p) (omega arith) (omega arith);
             same = keys_of_done made ∙ keys;
             meets = λ t u a b done so next.
-                let second = subst (λ m. Pushes m (p.states peer1) pairs_p d.told (p.states peer2)) (most_p n_p peer peer1 plan.from_peer.follows) (took_p u).pushes in
+                let second = subst (λ m. Pushes m (p.states peer1) pairs_p d.told (p.states peer2)) (most_p asks_p peer peer1 plan.from_peer.follows) (took_p u).pushes in
                 let second = subst (λ m. Pushes (p.most_keys peer) m pairs_p d.told (p.states peer2)) (keep_p u).states second in
                 let so_on = so_far_on (l.most_keys local) (p.most_keys peer) number a b (l.states local) (p.states peer) (l.states local2) (p.states peer2) done entries plan.mine plan.theirs ms c.told d.told so next
                 (form_l local t) (form_p peer u) short_empty (plan.from_local.right t).right (plan.from_peer.right u).right plan.plans (pushes_l t) one_l second (all_of_key pairs_p d.told d.answered.may) in

@@ -119,17 +119,26 @@ abbrev pub Spends : {L P A : Type 0} (s : Sides L P) (old new : Asking L P) (res
 Spends s old new result course = OnOk result ((old.left.local ≡ new.left.local + course.asked_local)
     × (old.left.peer ≡ new.left.peer + course.asked_peer))
 
+-- of the questions so few are asked again, with so many keys that may be exchanged at once then, where it were so many
+abbrev pub FewAgain : {L P A : Type 0} {s : Sides L P} {old : Asking L P} {new : Two L P} {result : Result A SyncFault}
+    → (next most : ℕ) → Course s old new result → Type 0
+FewAgain next most course =
+    (course.again_local + next ≤ most + 7 * (course.first_local + course.first_peer))
+    × (course.again_peer + next ≤ most + 7 * (course.first_local + course.first_peer))
+
 -- SOME OF THESE KEYS ARE EXCHANGED, or all, and the others wait
 pub record Exchanges {L P A : Type 0} (s : Sides L P) (next : List Entry) (old new : Moment L P)
     (result : Result A SyncFault) : Type 0 where
   pub course : Course s old.now new.now.at result
   pub spent : Spends s old.now new.now result course
   -- two for each key at most
-  pub few : (course.asked_local + course.wanted_local ≤ 2 * length next)
-      × (course.asked_peer + course.wanted_peer ≤ 2 * length next)
-  pub fewer : OnOk result (((course.asked_local + course.wanted_local) + 2 * length new.work.waiting ≤ 2 * length next)
-      × ((course.asked_peer + course.wanted_peer) + 2 * length new.work.waiting ≤ 2 * length next))
+  pub few : (course.first_local + course.wanted_local ≤ 2 * length next)
+      × (course.first_peer + course.wanted_peer ≤ 2 * length next)
+  pub fewer : OnOk result (((course.first_local + course.wanted_local) + 2 * length new.work.waiting ≤ 2 * length next)
+      × ((course.first_peer + course.wanted_peer) + 2 * length new.work.waiting ≤ 2 * length next))
   pub calm : OnOk result ((course.wanted_local ≡ 0) × (course.wanted_peer ≡ 0))
+  pub again : FewAgain 0 old.work.most course
+  pub again_on : OnOk result (FewAgain new.work.most old.work.most course)
   -- each key that is counted took one question at least, and fewer keys than a window wait
   pub room : OnOk result (new.work.keys + new.work.refused + new.now.left.local + new.now.left.peer
       ≤ old.work.keys + old.work.refused + old.now.left.local + old.now.left.peer)

@@ -1,6 +1,7 @@
 -- The keys that wait are exchanged, or one more waits.
-use Rattle.std.proofs.Common.{◌≡◌, ◌≢◌, ℕ, Option, ◌+◌, ◌<◌, ◌≤◌, List, [], ◌∷◌, ◌++◌, length, map, refl, sym, ap, subst, ◌∙◌, arith, length-append, ◌↔◌, Bool, true, false, true≢false, inl, inr}
+use Rattle.std.proofs.Common.{◌≡◌, ◌≢◌, ℕ, Option, ◌+◌, ◌*◌, ◌<◌, ◌≤◌, List, [], ◌∷◌, ◌++◌, length, map, refl, sym, ap, subst, ◌∙◌, arith, length-append, ◌↔◌, Bool, true, false, true≢false, inl, inr}
 use Rattle.std.specs.Prelude.{◌⊎◌, Ok, Err, is_some}
+use Rattle.std.proofs.lemmas.Bool.{cases_lt}
 use Rattle.std.proofs.lemmas.List.{append-nil, length-map}
 use Rattle.mvd_dots.specs.declared.refusals.Refusal.{Refusal}
 use Rattle.mvd_dots.specs.declared.refusals.Refusal.TheVariants.{Broken, Memory}
@@ -20,6 +21,7 @@ use Rattle.mvd_sync.specs.declared.report.SyncFault.TheVariants.{Local, Peer}
 use Rattle.mvd_sync.proofs.Counting.{counts_on, given_one, left_one, one_of_two}
 use Rattle.mvd_sync.proofs.Going.{changes_none, course_ends}
 use Rattle.mvd_sync.proofs.Joined.{joins_some}
+use Rattle.mvd_sync.proofs.Nexts.{first_next, keys_next-append, still_next}
 use Rattle.mvd_sync.proofs.Positions.{BlamesBy, ExchangesAllBy, ExchangesBy, SoFarBy}
 
 -- each key counts once
@@ -56,14 +58,20 @@ memory_of : {A : Type 0} (T : Type 0) (side : Refusal → SyncFault) (C : List �
 memory_of T side C old new other c = record { after_ok = tt; after_fault = λ _. c.after_fault other; pushes = c.pushes }
 
 -- the session itself ended for want of memory in the turn of the peer
-pub all_of_memory : {L P : Type 0} (l : SideOf L) (p : SideOf P) (number : Option ℕ) (entries : List Entry) (left left' : Questions) (local local' : L) (peer peer' : P) → ExchangesAllBy l p number entries left left' local local' peer peer' (Err (Peer Memory)) → ExchangesAllBy l p number entries left left' local local' peer peer' (Err (Local Memory))
-all_of_memory l p number entries left left' local local' peer peer' e = record {
+pub all_of_memory : {L P : Type 0} (l : SideOf L) (p : SideOf P) (number : Option ℕ) (entries : List Entry) (others : ℕ) (left left' : Questions) (local local' : L) (peer peer' : P) → ExchangesAllBy l p number entries others left left' local local' peer peer' (Err (Peer Memory)) → ExchangesAllBy l p number entries others left left' local local' peer peer' (Err (Local Memory))
+all_of_memory l p number entries others left left' local local' peer peer' e = record {
   course = record {
     asked_local = e.course.asked_local;
     asked_peer = e.course.asked_peer;
     wanted_local = e.course.wanted_local;
     wanted_peer = e.course.wanted_peer;
     within = e.course.within;
+    first_local = e.course.first_local;
+    first_peer = e.course.first_peer;
+    again_local = e.course.again_local;
+    again_peer = e.course.again_peer;
+    parts = e.course.parts;
+    unheld = e.course.unheld;
     follows = e.course.follows;
     cause = of_memory refl;
     local_side = λ t. memory_of {A = List Meeting} (l.is_faithful local') Local p.can_give (l.states local) (l.states local') (λ same. absurd (cc)) (e.course.local_side t);
@@ -74,37 +82,53 @@ all_of_memory l p number entries left left' local local' peer peer' e = record {
   spent = tt;
   few = e.few;
   least = tt;
+  again = e.again;
+  paid = e.paid;
   same = tt;
   meets = e.meets;
 }
 
-module _ {L P : Type 0} (l : SideOf L) (p : SideOf P) {B : Type 0} (next : List Entry) (left left' : Questions) (local local' : L) (peer peer' : P) (before after : Exchanging) where
+module _ {L P : Type 0} (l : SideOf L) (p : SideOf P) {B : Type 0} (next later : List Entry) (others : ℕ) (left left' : Questions) (local local' : L) (peer peer' : P) (before after : Exchanging) where
   -- the window came to an end
-  pub exchanges_end : (fault : SyncFault) → after.number ≡ before.number → ExchangesAllBy l p before.number next left left' local local' peer peer' (Err fault) → ExchangesBy {A = B} l p next left left' local local' peer peer' before after (Err fault)
-  exchanges_end fault number e = record {
-    course = course_ends l p left local local' peer peer' fault e.course;
-    spent = tt;
-    few = e.few;
-    fewer = tt;
-    calm = tt;
-    room = tt;
-    short = λ _. tt;
-    same = number;
-    meets = λ t u a b done so counts more. e.meets t u a b done so more;
-  }
+  pub exchanges_end : (fault : SyncFault) → others ≤ before.most + 7 * length next → after.number ≡ before.number → ExchangesAllBy l p before.number next others left left' local local' peer peer' (Err fault) → ExchangesBy {A = B} l p (next ++ later) left left' local local' peer peer' before after (Err fault)
+  exchanges_end fault little number e =
+      let n = length-append next later in
+      let few = e.few in
+      let again = e.again in
+      record {
+        course = course_ends l p left local local' peer peer' fault e.course;
+        spent = tt;
+        few = (omega (arith, few.0, n), omega (arith, few.1, n));
+        fewer = tt;
+        calm = tt;
+        again = elim (cases_lt 0 others) [
+          | inl some ↦ let paid = e.paid some in (omega (arith, again.0, little, paid), omega (arith, again.1, little, paid))
+          | inr none ↦ (omega (arith, again.0, none), omega (arith, again.1, none))
+        ];
+        again_on = tt;
+        room = tt;
+        short = λ _. tt;
+        same = number;
+        meets = λ t u a b done so counts more. e.meets t u a b done so (first_next a b done next later more);
+      }
 
-  module _ (made : List Meeting) (e : ExchangesAllBy l p before.number next left left' local local' peer peer' (Ok made)) where
-    -- all are exchanged, and counted
-    pub exchanges_all : (x : B) (most : ℕ) → CountsDone (map done_of made) (record before { waiting = []; most = most }) after → ExchangesBy {A = B} l p next left left' local local' peer peer' before after (Ok x)
-    exchanges_all x most adds =
+  module _ (made : List Meeting) (e : ExchangesAllBy l p before.number next others left left' local local' peer peer' (Ok made)) where
+    -- these are exchanged, and counted, and the others wait
+    pub exchanges_all : (x : B) (most : ℕ) → 1 ≤ length next → others + most ≤ before.most + 7 * length next → CountsDone (map done_of made) (record before { waiting = later; most = most }) after → ExchangesBy {A = B} l p (next ++ later) left left' local local' peer peer' before after (Ok x)
+    exchanges_all x most some little adds =
         let now = map done_of made in
         let count = all_count now in
         let long = length-map made done_of in
         let many = as_many made next e.same in
-        let none = ap length adds.waiting in
+        let wait = ap length adds.waiting in
+        let n = length-append next later in
         let least = e.least in
         let spent = e.spent in
         let few = e.few in
+        let again = e.again in
+        let parts = e.course.parts in
+        let window = adds.most in
+        let done_is : keys_next next ≡ keys_done now ++ [] = sym e.same ∙ sym (append-nil (keys_done now)) in
         record {
           course = record {
             asked_local = e.course.asked_local;
@@ -112,6 +136,12 @@ module _ {L P : Type 0} (l : SideOf L) (p : SideOf P) {B : Type 0} (next : List 
             wanted_local = 0;
             wanted_peer = 0;
             within = e.course.within;
+            first_local = e.course.first_local;
+            first_peer = e.course.first_peer;
+            again_local = e.course.again_local;
+            again_peer = e.course.again_peer;
+            parts = e.course.parts;
+            unheld = e.course.unheld;
             follows = e.course.follows;
             cause = tt;
             local_side = λ t. let c = e.course.local_side t in record { after_ok = c.after_ok; after_fault = tt; pushes = c.pushes };
@@ -120,20 +150,22 @@ module _ {L P : Type 0} (l : SideOf L) (p : SideOf P) {B : Type 0} (next : List 
             beside_peer = e.course.beside_peer;
           };
           spent = e.spent;
-          few = (omega (arith, few.0), omega (arith, few.1));
-          fewer = (omega (arith, few.0, none), omega (arith, few.1, none));
+          few = (omega (arith, few.0, n), omega (arith, few.1, n));
+          fewer = (omega (arith, few.0, wait, n), omega (arith, few.1, wait, n));
           calm = (refl, refl);
-          room = omega (arith, count, long, many, least, spent.0, spent.1, adds.keys, adds.refused);
-          short = λ _. omega (arith, none);
+          again = (omega (arith, again.0, least, little), omega (arith, again.1, least, little));
+          again_on = (omega (arith, again.0, least, little, window), omega (arith, again.1, least, little, window));
+          room = omega (arith, count, long, many, least, parts.0, parts.1, spent.0, spent.1, adds.keys, adds.refused);
+          short = λ low. omega (arith, wait, n, low, some);
           same = adds.number;
           meets = λ t u a b done so counts more.
-              let met = e.meets t u a b done so more in
+              let met = e.meets t u a b done so (first_next a b done next later more) in
               record {
                 now = now;
-                is = sym e.same ∙ sym (append-nil (keys_done now)) ∙ ap (λ v. keys_done now ++ keys_next v) (sym adds.waiting);
+                is = keys_next-append next later ∙ ap (λ ks. ks ++ keys_next later) (sym e.same) ∙ ap (λ v. keys_done now ++ keys_next v) (sym adds.waiting);
                 so_far = met.0;
-                counts = counts_on done now (record before { waiting = []; most = most }) after (record { keys = counts.keys; refused = counts.refused; first_refused = counts.first_refused; older = counts.older }) adds;
-                waits = subst (AreNext a b (done ++ now)) (sym adds.waiting) (record { distinct = subst AreDistinct (sym (append-nil (keys_done (done ++ now)))) met.0.distinct; each = tt });
+                counts = counts_on done now (record before { waiting = later; most = most }) after (record { keys = counts.keys; refused = counts.refused; first_refused = counts.first_refused; older = counts.older }) adds;
+                waits = subst (AreNext a b (done ++ now)) (sym adds.waiting) (still_next done now next [] later done_is a b tt more);
                 still = (met.1, met.2);
               };
         }
@@ -148,6 +180,12 @@ module _ {L P : Type 0} (l : SideOf L) (p : SideOf P) {B : Type 0} (next : List 
       wanted_local = e.course.wanted_local;
       wanted_peer = e.course.wanted_peer;
       within = e.course.within;
+      first_local = e.course.first_local;
+      first_peer = e.course.first_peer;
+      again_local = e.course.again_local;
+      again_peer = e.course.again_peer;
+      parts = e.course.parts;
+      unheld = e.course.unheld;
       follows = e.course.follows;
       cause = no_memory (BlamesBy l left.local e.course.asked_local e.course.wanted_local local local') (BlamesBy p left.peer e.course.asked_peer e.course.wanted_peer peer peer') (of_memory refl) fault is;
       local_side = λ t. changes_still {B = B} (l.is_faithful local') (Local Broken) p.can_give (l.states local) (l.states local') x fault (e.course.local_side t);
@@ -159,6 +197,8 @@ module _ {L P : Type 0} (l : SideOf L) (p : SideOf P) {B : Type 0} (next : List 
     few = e.few;
     fewer = tt;
     calm = tt;
+    again = e.again;
+    again_on = tt;
     room = tt;
     short = λ _. tt;
     same = e.same;
@@ -173,6 +213,7 @@ module _ {L P : Type 0} (l : SideOf L) (p : SideOf P) {B : Type 0} (self : (s : 
   exchanges_later x is low =
       let wait : after.waiting ≡ next = ap (λ (v : Exchanging). v.waiting) is in
       let many = ap length wait in
+      let most : after.most ≡ before.most = ap (λ (v : Exchanging). v.most) is in
       let keys : after.keys ≡ before.keys = ap (λ (v : Exchanging). v.keys) is in
       let refused : after.refused ≡ before.refused = ap (λ (v : Exchanging). v.refused) is in
       record {
@@ -182,6 +223,12 @@ module _ {L P : Type 0} (l : SideOf L) (p : SideOf P) {B : Type 0} (self : (s : 
           wanted_local = 0;
           wanted_peer = 0;
           within = (omega arith, omega arith);
+          first_local = 0;
+          first_peer = 0;
+          again_local = 0;
+          again_peer = 0;
+          parts = (omega arith, omega arith);
+          unheld = λ some. absurd (omega (arith, some));
           follows = (self local, self' peer);
           cause = tt;
           local_side = λ t. changes_none (l.is_faithful local) (Local Broken) p.can_give (l.states local) (l.states local) (Ok x) t refl;
@@ -193,6 +240,8 @@ module _ {L P : Type 0} (l : SideOf L) (p : SideOf P) {B : Type 0} (self : (s : 
         few = (omega arith, omega arith);
         fewer = (omega (arith, many), omega (arith, many));
         calm = (refl, refl);
+        again = (omega arith, omega arith);
+        again_on = (omega (arith, most), omega (arith, most));
         room = omega (arith, keys, refused);
         short = λ _. omega (arith, many, low);
         same = ap (λ (v : Exchanging). v.number) is;

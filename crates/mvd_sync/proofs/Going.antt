@@ -1,5 +1,7 @@
 -- What goes on after what went before.
-use Rattle.std.proofs.Common.{◌≡◌, ℕ, ◌+◌, ◌≤◌, List, length, refl, ◌∙◌, arith}
+use Rattle.std.proofs.Common.{◌≡◌, inl, inr, ℕ, ◌+◌, ◌≤◌, List, length, refl, ◌∙◌, arith}
+use Rattle.std.proofs.lemmas.Bool.{cases_lt}
+use Rattle.mvd_dots.specs.declared.refusals.Refusal.TheVariants.{Memory}
 use Rattle.std.specs.Prelude.{IfErr, OnOk, Result, Ok, Err}
 use Rattle.mvd_keys.specs.State.{State}
 use Rattle.mvd_keys.specs.Writes.{Key}
@@ -14,9 +16,9 @@ use Rattle.mvd_sync.specs.declared.cursor.Entry.{Entry}
 use Rattle.mvd_sync.specs.declared.asking.Questions.{Questions}
 use Rattle.mvd_sync.specs.declared.report.SyncFault.{SyncFault}
 use Rattle.mvd_sync.specs.declared.report.SyncFault.TheVariants.{Local, Peer}
-use Rattle.mvd_sync.proofs.Compose.{blames_later}
+use Rattle.mvd_sync.proofs.Compose.{blames_later, refused_later, refused_still}
 use Rattle.mvd_peer.proofs.Pushes.{more_pushes, no_pushes}
-use Rattle.mvd_sync.proofs.Positions.{BlamesBy, CourseBy, ExchangesBy, GoesBy, ReadsEndBy}
+use Rattle.mvd_sync.proofs.Positions.{BlamesBy, CourseBy, ExchangesBy, GoesBy, HaveLackedBy, ReadsEndBy}
 
 -- ---- results
 
@@ -55,6 +57,12 @@ module _ {L P : Type 0} (l : SideOf L) (p : SideOf P) where
     wanted_local = c.wanted_local;
     wanted_peer = c.wanted_peer;
     within = c.within;
+    first_local = c.first_local;
+    first_peer = c.first_peer;
+    again_local = c.again_local;
+    again_peer = c.again_peer;
+    parts = c.parts;
+    unheld = c.unheld;
     follows = c.follows;
     cause = tt;
     local_side = λ t. let d = c.local_side t in record { after_ok = d.after_ok; after_fault = tt; pushes = d.pushes };
@@ -70,6 +78,12 @@ module _ {L P : Type 0} (l : SideOf L) (p : SideOf P) where
     wanted_local = c.wanted_local;
     wanted_peer = c.wanted_peer;
     within = c.within;
+    first_local = c.first_local;
+    first_peer = c.first_peer;
+    again_local = c.again_local;
+    again_peer = c.again_peer;
+    parts = c.parts;
+    unheld = c.unheld;
     follows = c.follows;
     cause = c.cause;
     local_side = λ t. let d = c.local_side t in record { after_ok = tt; after_fault = d.after_fault; pushes = d.pushes };
@@ -86,6 +100,12 @@ module _ {L P : Type 0} (l : SideOf L) (p : SideOf P) where
     wanted_local = r.wanted_local;
     wanted_peer = r.wanted_peer;
     within = r.within;
+    first_local = r.asked_local;
+    first_peer = r.asked_peer;
+    again_local = 0;
+    again_peer = 0;
+    parts = (omega arith, omega arith);
+    unheld = λ some. absurd (omega (arith, some));
     follows = r.follows;
     cause = r.cause;
     local_side = λ t. let k = r.kept_local t in changes_none {A = A} (l.is_faithful local') (Local _) p.can_give (l.states local) (l.states local') (Err fault) k.still k.states;
@@ -100,6 +120,8 @@ module _ {L P : Type 0} (l : SideOf L) (p : SideOf P) where
     course = e.course;
     spent = e.spent;
     calm = e.calm;
+    again = e.again;
+    again_on = e.again_on;
     same = e.same;
     room = e.room;
     short = λ low. e.short (omega (arith, low, one));
@@ -115,6 +137,12 @@ module _ {L P : Type 0} (l : SideOf L) (p : SideOf P) where
       wanted_local = 0;
       wanted_peer = 0;
       within = let a = r.spent in let b = q.spent in (omega (arith, a), omega (arith, b));
+      first_local = n;
+      first_peer = m;
+      again_local = 0;
+      again_peer = 0;
+      parts = (omega arith, omega arith);
+      unheld = λ some. absurd (omega (arith, some));
       follows = (r.follows, q.follows);
       cause = tt;
       local_side = λ t. let k = r.kept t in changes_none (l.is_faithful local') (Local _) p.can_give (l.states local) (l.states local') (Ok x) k.still k.states;
@@ -124,6 +152,8 @@ module _ {L P : Type 0} (l : SideOf L) (p : SideOf P) where
     };
     spent = (r.spent, q.spent);
     calm = (refl, refl);
+    again = (omega arith, omega arith);
+    again_on = (omega arith, omega arith);
     same = refl;
     room = let a = r.spent in let b = q.spent in omega (arith, a, b);
     short = λ low. low;
@@ -135,6 +165,8 @@ module _ {L P : Type 0} (l : SideOf L) (p : SideOf P) where
     course = course_of_end Few left local local' peer peer' fault r;
     spent = tt;
     calm = tt;
+    again = (omega arith, omega arith);
+    again_on = tt;
     same = refl;
     room = tt;
     short = λ _. tt;
@@ -169,6 +201,19 @@ module _ {L P : Type 0} (l : SideOf L) (p : SideOf P) where
     pub silent_peer : IsSilent p.follows p.can_answer peer → IsSilent p.follows p.can_answer peer1
     silent_peer silent after reaches = silent after (first.asked_peer + reaches.0, on' first.asked_peer reaches.0 peer peer1 after first.follows.1 reaches.1)
 
+    -- a side that did not hold a state
+    pub lacked_on : 1 ≤ (first.again_local + second.again_local) + (first.again_peer + second.again_peer) → HaveLackedBy l p local local2 peer peer2
+    lacked_on some = elim (cases_lt 0 (first.again_local + first.again_peer)) [
+      | inl before ↦ elim (first.unheld (omega (arith, before))) [
+        | inl mine ↦ inl (refused_still l on local local1 local2 Memory (second.asked_local, second.follows.0) mine)
+        | inr theirs ↦ inr (refused_still p on' peer peer1 peer2 Memory (second.asked_peer, second.follows.1) theirs)
+      ]
+      | inr none ↦ elim (second.unheld (omega (arith, some, none))) [
+        | inl mine ↦ inl (refused_later l on local local1 local2 Memory (first.asked_local, first.follows.0) mine)
+        | inr theirs ↦ inr (refused_later p on' peer peer1 peer2 Memory (first.asked_peer, first.follows.1) theirs)
+      ]
+    ]
+
     unfoldable pub goes_on : GoesBy l p left left' local local2 peer peer2 before after result
     goes_on = record {
       course = record {
@@ -177,6 +222,12 @@ module _ {L P : Type 0} (l : SideOf L) (p : SideOf P) where
         wanted_local = second.wanted_local;
         wanted_peer = second.wanted_peer;
         within = let a = one.spent in let b = second.within in (omega (arith, a.0, b.0), omega (arith, a.1, b.1));
+        first_local = first.first_local + second.first_local;
+        first_peer = first.first_peer + second.first_peer;
+        again_local = first.again_local + second.again_local;
+        again_peer = first.again_peer + second.again_peer;
+        parts = let a = first.parts in let b = second.parts in (omega (arith, a.0, b.0), omega (arith, a.1, b.1));
+        unheld = lacked_on;
         follows = (on first.asked_local second.asked_local local local1 local2 first.follows.0 second.follows.0, on' first.asked_peer second.asked_peer peer peer1 peer2 first.follows.1 second.follows.1);
         cause = if_fault result fault_on second.cause;
         local_side = λ t. changes_on (l.is_faithful local1) (l.is_faithful local2) (Local _) p.can_give (l.states local) (l.states local1) (l.states local2) x result (first.local_side t) second.local_side;
@@ -192,6 +243,8 @@ module _ {L P : Type 0} (l : SideOf L) (p : SideOf P) where
       };
       spent = let a = one.spent in if_ok result (λ b. (omega (arith, a.0, b.0), omega (arith, a.1, b.1))) two.spent;
       calm = two.calm;
+      again = let a = one.again_on in let b = two.again in (omega (arith, a.0, b.0), omega (arith, a.1, b.1));
+      again_on = let a = one.again_on in if_ok result (λ b. (omega (arith, a.0, b.0), omega (arith, a.1, b.1))) two.again_on;
       same = two.same ∙ one.same;
       room = let a = one.room in if_ok result (λ b. omega (arith, a, b)) two.room;
       short = λ low. two.short (one.short low);

@@ -52,6 +52,8 @@ pub mod Turning
 pub mod Amid
 pub mod AmidAlone
 pub mod AmidSaid
+pub mod Lacking
+pub mod CutWindows
 pub mod AmidHears
 pub mod Courses
 pub mod Refusing

@@ -1,16 +1,17 @@
 -- A session between two windows of questions.
-use Rattle.std.proofs.Common.{◌≡◌, ◌≢◌, ℕ, zero, suc, ◌+◌, ◌<◌, ◌≤◌, ◌↔◌, Bool, true, false, cond, not, List, [], ◌∷◌, map, length, drop, refl, sym, ap, subst, ◌∙◌, arith, Option, Some, None, inl, inr, length-append, length-drop}
+use Rattle.std.proofs.Common.{◌≡◌, ◌≢◌, ℕ, zero, suc, ◌+◌, ◌<◌, ◌≤◌, ◌↔◌, Bool, true, false, cond, not, List, [], ◌∷◌, ◌++◌, map, length, drop, take, refl, sym, ap, subst, ◌∙◌, arith, Option, Some, None, inl, inr, length-append, length-drop}
 use Rattle.std.specs.Prelude.{IfErr, IfOk, IfSome, Result, Ok, Err, Vec, ◌⊎◌}
 use Rattle.std.specs.declared.alloc.Global.{Global}
 use Rattle.std.proofs.lemmas.Bool.{cases_lt}
-use Rattle.std.proofs.lemmas.List.{length-map}
+use Rattle.std.proofs.lemmas.List.{append-nil, length-map, length-take-le, take-append-drop}
 use Rattle.mvd_dots.specs.declared.refusals.Refusal.{Refusal}
 use Rattle.mvd_dots.specs.declared.refusals.Refusal.TheVariants.{Memory}
 use Rattle.mvd_peer.specs.PushedStates.{Each}
+use Rattle.mvd_keys.specs.State.{State}
 use Rattle.mvd_sync.specs.Answers.{ListingValue}
 use Rattle.mvd_sync.specs.Exchanges.{CountsDone, Done as DoneKey, Exchanging, IsHeldByEither}
 use Rattle.mvd_sync.specs.Level.{GoesDown, IsDown, Level, along, down, next_nodes}
-use Rattle.mvd_sync.specs.Machines.{StageAsks, AsksForNext, TurnBegins, FromWalk, GoesAlone, HasNext, HasRoomLeft, StageHears, HearsAt, IsFit, IsFitting, IsQuiet, Machining, SettlesFound, StageStands, TakesShares, StageWent, both, counts, wanted_count, ends, equal, fills, goes as took, goes_on, hears, here, in_flight, is_same, last, none_found, of_local, of_other, of_peer, of_side, on, quiet, share_of, stage_after, stays, turns, waits}
+use Rattle.mvd_sync.specs.Machines.{StageAsks, AsksForNext, TurnBegins, FromWalk, GoesAlone, HasNext, HasRoomLeft, StageHears, HearsAt, IsFit, IsFitting, IsQuiet, Machining, SettlesFound, StageStands, TakesShares, StageWent, StatesHeard, Met, both, counts, cut as cut_at, wanted_count, ends, equal, fills, goes as took, goes_on, hears, here, in_flight, in_window, is_same, last, met, no_room as no_place, none_found, of_local, of_other, of_peer, of_side, on, quiet, share_of, stage_after, stays, turns, waits, whole as uncut}
 use Rattle.mvd_sync.specs.Meetings.{done_of, noted, rest_if, taken_from}
 use Rattle.mvd_sync.specs.Walk.{told_all}
 use Rattle.mvd_sync.specs.Walking.{GoesTo, IsTold, IsWalked, PageQuestion, Walking, closes, ends as no_later, fills as fills_page, moves, opens, pages_next, tells, waits as waits_page}
@@ -29,7 +30,7 @@ use Rattle.mvd_sync.specs.declared.telling.Answers.{Answers}
 use Rattle.mvd_sync.specs.declared.telling.Shares.{Shares}
 use Rattle.mvd_sync.specs.declared.turn.Turn.{Turn}
 use Rattle.mvd_sync.specs.declared.walking.Bucket.{Bucket}
-use Rattle.mvd_sync.proofs.Descents.{Each-take, long_told_all}
+use Rattle.mvd_sync.proofs.Descents.{Each-right, Each-take, long_told_all}
 use Rattle.mvd_sync.proofs.Exchanging.{all_count}
 use Rattle.mvd_sync.proofs.Keys.{Each-weaker}
 use Rattle.mvd_sync.proofs.Nodes.{Each-append}
@@ -62,7 +63,7 @@ settles_room walk found old new stage (waits e some differs same low is) =
     let r = ap (λ (w : Exchanging). w.refused) same in
     let f = ap in_flight is in
     omega (arith, k, r, f)
-settles_room walk found old new stage (fills e entries some differs list long same is) =
+settles_room walk found old new stage (fills e entries some differs full list one same is) =
     let k = ap (λ (w : Exchanging). w.keys) same in
     let r = ap (λ (w : Exchanging). w.refused) same in
     let f = ap in_flight is in
@@ -78,7 +79,7 @@ alone_room work (Descends level) work' stage' g =
     let f = ap in_flight g.1 in
     omega (arith, k, r, f)
 alone_room work (Walks walk) work' stage' (goes_on walk' found g settles) = let n = settles_room walk' found work work' stage' settles in omega (arith, n)
-alone_room work (Walks walk) work' stage' (last entries walked more list same is) =
+alone_room work (Walks walk) work' stage' (last entries walked list one same is) =
     let k = ap (λ (w : Exchanging). w.keys) same in
     let r = ap (λ (w : Exchanging). w.refused) same in
     let f = ap in_flight is in
@@ -123,7 +124,7 @@ settles_small : (walk : Walking) (found : Option Entry) (old new : Exchanging) (
 settles_small walk found old new stage (none_found none same is) = let n = ap size_at is in omega (arith, n)
 settles_small walk found old new stage (equal e some differs same is) = let n = ap size_at is in omega (arith, n)
 settles_small walk found old new stage (waits e some differs same low is) = let n = ap size_at is in omega (arith, n)
-settles_small walk found old new stage (fills e entries some differs list long same is) = let n = ap size_at is in omega (arith, n)
+settles_small walk found old new stage (fills e entries some differs full list one same is) = let n = ap size_at is in omega (arith, n)
 
 pub alone_smaller : (work : Exchanging) (stage : Stage) (work' : Exchanging) (stage' : Stage) → GoesAlone work stage work' stage' → size_at stage' < size_at stage
 alone_smaller work (Descends level) work' stage' g = let n = ap size_at g.1 in omega (arith, n)
@@ -131,7 +132,7 @@ alone_smaller work (Walks walk) work' stage' (goes_on walk' found g settles) =
     let n = goes_smaller walk found walk' g in
     let m = settles_small walk' found work work' stage' settles in
     omega (arith, n, m)
-alone_smaller work (Walks walk) work' stage' (last entries walked more list same is) = let n = ap size_at is in omega (arith, n)
+alone_smaller work (Walks walk) work' stage' (last entries walked list one same is) = let n = ap size_at is in omega (arith, n)
 alone_smaller work (Walks walk) work' stage' (ends walked none same is) = let n = ap size_at is in omega (arith, n)
 alone_smaller work (Carries walk turn count) work' stage' (turns side same begins) =
     let n = ap size_at begins.is in
@@ -179,6 +180,34 @@ told_held walk mine theirs found walk' (fills_page b e some waited after after' 
   subst IsHeld (sym (ap (λ (w : Walking). w.entry) is)) tt,
 )
 
+Each-drop : {X : Type 0} (P : X → Type 0) (n : ℕ) (xs : List X) → Each P xs → Each P (drop n xs)
+Each-drop P zero xs h = h
+Each-drop P (suc n) [] h = tt
+Each-drop P (suc n) (x ∷ xs) h = Each-drop P n xs h.1
+
+-- none is taken out only where none waits
+pub taken_none : (all entries : List Entry) → (1 ≤ length all → 1 ≤ length entries) → length entries ≡ 0 → all ≡ []
+taken_none [] entries some none = refl
+taken_none (e ∷ es) entries some none = let m = some (omega arith) in absurd (omega (arith, m, none))
+
+pub drop_none : (n : ℕ) (es : List Entry) → es ≡ [] → drop n es ≡ []
+drop_none zero es none = none
+drop_none (suc n) [] none = refl
+drop_none (suc n) (e ∷ es) none = absurd (cc)
+
+-- the first of some are taken out
+cut_lengths : (most : ℕ) (all entries later : List Entry) → entries ≡ take most all → later ≡ drop most all → length entries + length later ≡ length all
+cut_lengths most all entries later is rest =
+    let n = ap length is in
+    let m = ap length rest in
+    let both = ap length (take-append-drop most all) in
+    let sum = length-append (take most all) (drop most all) in
+    omega (arith, n, m, both, sum)
+
+-- with those of a window at most a thousand wait
+abbrev Fits : Exchanging → Stage → Type 0
+Fits work stage = in_window stage + length work.waiting ≤ 1000
+
 -- fewer than a thousand wait, and each is held
 abbrev Waits : Exchanging → Type 0
 Waits work = (length work.waiting < 1000) × Each IsHeldByEither work.waiting
@@ -189,41 +218,73 @@ same_waits old new same w = subst (λ (es : List Entry). (length es < 1000) × E
 none_waits : (work : Exchanging) → work.waiting ≡ [] → Waits work
 none_waits work none = subst (λ (es : List Entry). (length es < 1000) × Each IsHeldByEither es) (sym none) (omega arith, tt)
 
-settles_fit : (walk : Walking) (found : Option Entry) (old new : Exchanging) (stage : Stage) → SettlesFound walk found old new stage → Waits old → IsHeld found → IsHeld walk.entry → Waits new × StageStands stage
-settles_fit walk found old new stage (none_found none same is) w f held = (same_waits old new (ap (λ (w : Exchanging). w.waiting) same) w, subst StageStands (sym is) held)
-settles_fit walk found old new stage (equal e some differs same is) w f held = (same_waits old new (ap (λ (w : Exchanging). w.waiting) same) w, subst StageStands (sym is) held)
-settles_fit walk found old new stage (waits e some differs same low is) w f held = (
-  (low.0, subst (Each IsHeldByEither) (sym (ap (λ (w : Exchanging). w.waiting) same)) (Each-append IsHeldByEither old.waiting (e ∷ []) w.1 (subst IsHeld some f, tt))),
-  subst StageStands (sym is) held,
-)
-settles_fit walk found old new stage (fills e entries some differs list long same is) w f held =
-    let n = ap length list in
+settles_fit : (walk : Walking) (found : Option Entry) (old new : Exchanging) (stage : Stage) → SettlesFound walk found old new stage → Waits old → IsHeld found → IsHeld walk.entry → Waits new × StageStands stage × Fits new stage
+settles_fit walk found old new stage (none_found none same is) w f held =
+    let now = same_waits old new (ap (λ (w : Exchanging). w.waiting) same) w in
+    let n = ap in_window is in
+    let low = now.0 in
+    (now, subst StageStands (sym is) held, omega (arith, n, low))
+settles_fit walk found old new stage (equal e some differs same is) w f held =
+    let now = same_waits old new (ap (λ (w : Exchanging). w.waiting) same) w in
+    let n = ap in_window is in
+    let low = now.0 in
+    (now, subst StageStands (sym is) held, omega (arith, n, low))
+settles_fit walk found old new stage (waits e some differs same low is) w f held =
+    let n = ap in_window is in
+    let short = low.0 in (
+      (low.0, subst (Each IsHeldByEither) (sym (ap (λ (w : Exchanging). w.waiting) same)) (Each-append IsHeldByEither old.waiting (e ∷ []) w.1 (subst IsHeld some f, tt))),
+      subst StageStands (sym is) held,
+      omega (arith, n, short),
+    )
+settles_fit walk found old new stage (fills e entries some differs full list one same is) w f held =
+    let all = old.waiting ++ e ∷ [] in
+    let each = Each-append IsHeldByEither old.waiting (e ∷ []) w.1 (subst IsHeld some f, tt) in
+    let wait : new.waiting ≡ drop old.most all = ap (λ (w : Exchanging). w.waiting) same in
+    let n = cut_lengths old.most all entries.items new.waiting list wait in
     let m = length-append old.waiting (e ∷ []) in
+    let k = ap in_window is in
     let l = w.0 in (
-      none_waits new (ap (λ (w : Exchanging). w.waiting) same),
-      subst StageStands (sym is) (held, omega (arith, n, m, l), subst (Each IsHeldByEither) (sym list) (Each-append IsHeldByEither old.waiting (e ∷ []) w.1 (subst IsHeld some f, tt))),
+      (omega (arith, n, m, l, one), subst (Each IsHeldByEither) (sym wait) (Each-drop IsHeldByEither old.most all each)),
+      subst StageStands (sym is) (held, omega (arith, n, m, l), subst (Each IsHeldByEither) (sym list) (Each-take IsHeldByEither old.most all each), one),
+      omega (arith, k, n, m, l),
     )
 
 begins_stands : (walk : Walking) (side : Side) (ms : List Meeting) (stage : Stage) → TurnBegins walk side ms stage → IsHeld walk.entry → StageStands stage
 begins_stands walk side ms stage b held = subst StageStands (sym b.is) (held, b.window, let n = ap length b.begun.fresh in omega (arith, n))
 
-alone_stands : (work : Exchanging) (stage : Stage) (work' : Exchanging) (stage' : Stage) → GoesAlone work stage work' stage' → Waits work → StageStands stage → Waits work' × StageStands stage'
-alone_stands work (Descends level) work' stage' g w s = (same_waits work work' (ap (λ (w : Exchanging). w.waiting) g.0) w, subst StageStands (sym g.1) tt)
+alone_stands : (work : Exchanging) (stage : Stage) (work' : Exchanging) (stage' : Stage) → GoesAlone work stage work' stage' → Waits work → StageStands stage → Waits work' × StageStands stage' × Fits work' stage'
+alone_stands work (Descends level) work' stage' g w s =
+    let now = same_waits work work' (ap (λ (w : Exchanging). w.waiting) g.0) w in
+    let n = ap in_window g.1 in
+    let low = now.0 in
+    (now, subst StageStands (sym g.1) tt, omega (arith, n, low))
 alone_stands work (Walks walk) work' stage' (goes_on walk' found g settles) w s =
     let held = goes_held walk found walk' g s in
     settles_fit walk' found work work' stage' settles w held.0 held.1
-alone_stands work (Walks walk) work' stage' (last entries walked more list same is) w s =
-    let n = ap length list in
+alone_stands work (Walks walk) work' stage' (last entries walked list one same is) w s =
+    let wait : work'.waiting ≡ drop work.most work.waiting = ap (λ (w : Exchanging). w.waiting) same in
+    let n = cut_lengths work.most work.waiting entries.items work'.waiting list wait in
+    let k = ap in_window is in
     let l = w.0 in (
-      none_waits work' (ap (λ (w : Exchanging). w.waiting) same),
-      subst StageStands (sym is) (s, omega (arith, n, l), subst (Each IsHeldByEither) (sym list) w.1),
+      (omega (arith, n, l), subst (Each IsHeldByEither) (sym wait) (Each-drop IsHeldByEither work.most work.waiting w.1)),
+      subst StageStands (sym is) (s, omega (arith, n, l), subst (Each IsHeldByEither) (sym list) (Each-take IsHeldByEither work.most work.waiting w.1), one),
+      omega (arith, k, n, l),
     )
-alone_stands work (Walks walk) work' stage' (ends walked none same is) w s = (none_waits work' (ap (λ (w : Exchanging). w.waiting) same), subst StageStands (sym is) tt)
-alone_stands work (Carries walk turn count) work' stage' (turns side same begins) w s = (
-  same_waits work work' (ap (λ (w : Exchanging). w.waiting) same) w,
-  begins_stands walk AtPeer (noted AtLocal turn.meetings.items turn.told.items) stage' begins s.0,
-)
-alone_stands work (Carries walk turn count) work' stage' (counts side adds is) w s = (same_waits work work' adds.waiting w, subst StageStands (sym is) s.0)
+alone_stands work (Walks walk) work' stage' (ends walked none same is) w s =
+    let now = none_waits work' (ap (λ (w : Exchanging). w.waiting) same) in
+    let n = ap in_window is in
+    let low = now.0 in
+    (now, subst StageStands (sym is) tt, omega (arith, n, low))
+alone_stands work (Carries walk turn count) work' stage' (turns side same begins) w s =
+    let now = same_waits work work' (ap (λ (w : Exchanging). w.waiting) same) w in
+    let n = ap in_window begins.is in
+    let low = now.0 in
+    (now, begins_stands walk AtPeer (noted AtLocal turn.meetings.items turn.told.items) stage' begins s.0, omega (arith, n, low))
+alone_stands work (Carries walk turn count) work' stage' (counts side adds is) w s =
+    let now = same_waits work work' adds.waiting w in
+    let n = ap in_window is in
+    let low = now.0 in
+    (now, subst StageStands (sym is) s.0, omega (arith, n, low))
 alone_stands work (Meets walk entries) work' stage' never w s = absurd never
 alone_stands work Done work' stage' never w s = absurd never
 alone_stands work (Failed fault) work' stage' never w s = absurd never
@@ -255,14 +316,9 @@ went_fit left work stage (on mid work' stage1 stage' went q g) fit =
     let room = f.room in
     let less = alone_room mid stage1 work' stage' g in
     let more = alone_stands mid stage1 work' stage' g (f.short, f.held) f.stands in
-    fit_of left work' stage' (record { room = omega (arith, room, less); short = more.0.0; held = more.0.1; stands = more.1 })
+    fit_of left work' stage' (record { room = omega (arith, room, less); short = more.0.0; fits = more.2; held = more.0.1; stands = more.1 })
 
 -- ---- with answers
-
-Each-drop : {X : Type 0} (P : X → Type 0) (n : ℕ) (xs : List X) → Each P xs → Each P (drop n xs)
-Each-drop P zero xs h = h
-Each-drop P (suc n) [] h = tt
-Each-drop P (suc n) (x ∷ xs) h = Each-drop P n xs h.1
 
 -- a level of which both sides told stays in form
 goes_down_fit : (level : Level) (mine theirs : List Node) (after : Level) → GoesDown level mine theirs after → StageStands (Descends level) → StageStands (Descends after)
@@ -299,6 +355,57 @@ own_share walk turn count left left' shares takes = (
   share_most turn.side (Carries walk turn count) left left' shares takes,
 )
 
+-- the states of a window were told
+met_fit : (left : Questions) (work : Exchanging) (walk : Walking) (first later : List Entry) (limit : ℕ) (left' : Questions) (work' : Exchanging) (stage' : Stage) (asked_l asked_p : ℕ) (mine theirs : List State) → 1 ≤ length first → (length first + length later + length work.waiting ≤ 1000) → Each IsHeldByEither (first ++ later)
+    → Each IsHeldByEither work.waiting → IfSome walk.entry IsHeldByEither → work.keys + work.refused + left.local + left.peer ≤ 20000000 → left.local ≡ left'.local + asked_l → left.peer ≡ left'.peer + asked_p → length first ≤ asked_l + asked_p
+    → Met work walk first later limit work' mine theirs (Ok stage') → IsFitting left' work' stage'
+met_fit left work walk first later limit left' work' stage' asked_l asked_p mine theirs some low each others walked room a b paid g =
+    let k = ap (λ (w : Exchanging). w.keys) g.3 in
+    let r = ap (λ (w : Exchanging). w.refused) g.3 in
+    let wait : work'.waiting ≡ later ++ work.waiting = ap (λ (w : Exchanging). w.waiting) g.3 in
+    let n = ap length wait in
+    let m = length-append later work.waiting in
+    let f = begins_room walk AtLocal g.0 stage' g.2 in
+    let i = ap in_window g.2.is in
+    let same = same_length g.0 first (plan_keys work.number first mine theirs g.0 g.1) in
+    record {
+      room = omega (arith, a, b, k, r, f, same, paid, room);
+      short = omega (arith, n, m, low, some);
+      fits = omega (arith, i, n, m, low, some);
+      held = subst (Each IsHeldByEither) (sym wait) (Each-append IsHeldByEither later work.waiting (Each-right IsHeldByEither first later each) others);
+      stands = begins_stands walk AtLocal g.0 stage' g.2 walked;
+    }
+
+states_fit : (left : Questions) (work : Exchanging) (walk : Walking) (entries : Vec Entry Global) (answers : Answers) (left' : Questions) (work' : Exchanging) (stage' : Stage) (shares : Shares)
+    → IsFitting left work (Meets walk entries) → TakesShares (Meets walk entries) left left' shares → StatesHeard work walk entries.items shares answers work' (Ok stage') → IsFitting left' work' stage'
+states_fit left work walk entries answers left' work' stage' shares fit takes (uncut none (of_local refusal why is)) = absurd (cc)
+states_fit left work walk entries answers left' work' stage' shares fit takes (uncut none (of_peer mine refusal read why is)) = absurd (cc)
+states_fit left work walk entries answers left' work' stage' shares fit takes (cut_at count cut (no_place is)) = absurd (cc)
+states_fit left work walk entries answers left' work' stage' shares fit takes (cut_at count cut (met (of_local refusal why is))) = absurd (cc)
+states_fit left work walk entries answers left' work' stage' shares fit takes (cut_at count cut (met (of_peer mine refusal read why is))) = absurd (cc)
+states_fit left work walk entries answers left' work' stage' shares fit takes (uncut none (both mine theirs read read' g)) =
+    let c = read.whole in
+    let d = read'.whole in
+    let e = takes.wanted in
+    let one = held_by_one entries.items fit.stands.2 in
+    let room = fit.room in
+    let low = fit.fits in
+    met_fit left work walk entries.items [] 1000 left' work' stage' shares.local.asked shares.peer.asked mine.items theirs.items fit.stands.3 (omega (arith, low))
+    (subst (Each IsHeldByEither) (sym (append-nil entries.items)) fit.stands.2) fit.held fit.stands.0 (omega (arith, room)) takes.local.spent takes.peer.spent (omega (arith, one, c, d, e.0, e.1)) g
+states_fit left work walk entries answers left' work' stage' shares fit takes (cut_at count cut (met (both mine theirs read read' g))) =
+    let c = cut.from_local.all in
+    let d = cut.from_peer.all in
+    let e = takes.wanted in
+    let less = cut.less in
+    let some = cut.some in
+    let one = held_by_one entries.items fit.stands.2 in
+    let n = length-take-le count entries.items (omega (arith, less)) in
+    let m = length-drop count entries.items in
+    let room = fit.room in
+    let low = fit.fits in
+    met_fit left work walk (take count entries.items) (drop count entries.items) count left' work' stage' shares.local.asked shares.peer.asked mine.items theirs.items (omega (arith, n, some)) (omega (arith, n, m, less, low))
+    (subst (Each IsHeldByEither) (sym (take-append-drop count entries.items)) fit.stands.2) fit.held fit.stands.0 (omega (arith, room)) takes.local.spent takes.peer.spent (omega (arith, n, one, less, c, d, e.0, e.1)) g
+
 heard_fit : (left : Questions) (work : Exchanging) (stage : Stage) (answers : Answers) (left' : Questions) (work' : Exchanging) (stage' : Stage) (shares : Shares)
     → IsFitting left work stage → TakesShares stage left left' shares → HearsAt work stage shares answers work' (Ok stage') → IsFitting left' work' stage'
 heard_fit left work (Descends level) answers left' work' stage' shares fit takes h = elim h.1 [
@@ -310,7 +417,9 @@ heard_fit left work (Descends level) answers left' work' stage' shares fit takes
       let f = ap in_flight g.2 in
       let room = fit.room in
       let w = same_waits work work' (ap (λ (w : Exchanging). w.waiting) h.0) (fit.short, fit.held) in
-      record { room = omega (arith, a, b, k, r, f, room); short = w.0; held = w.1; stands = subst StageStands (sym g.2) (goes_down_fit level mine.items theirs.items g.0 g.1 fit.stands) }
+      let n = ap in_window g.2 in
+      let low = w.0 in
+      record { room = omega (arith, a, b, k, r, f, room); short = w.0; fits = omega (arith, n, low); held = w.1; stands = subst StageStands (sym g.2) (goes_down_fit level mine.items theirs.items g.0 g.1 fit.stands) }
   | of_local refusal why is ↦ absurd (cc)
   | of_peer mine refusal read why is ↦ absurd (cc)
 ]
@@ -322,29 +431,11 @@ heard_fit left work (Walks walk) answers left' work' stage' shares fit takes h =
       let room = fit.room in
       let held = told_held walk mine.items theirs.items g.1 g.0 g.2 fit.stands in
       let more = settles_fit g.0 g.1 work work' stage' g.3 (fit.short, fit.held) held.0 held.1 in
-      record { room = omega (arith, a, b, n, room); short = more.0.0; held = more.0.1; stands = more.1 }
+      record { room = omega (arith, a, b, n, room); short = more.0.0; fits = more.2; held = more.0.1; stands = more.1 }
   | of_local refusal why is ↦ absurd (cc)
   | of_peer mine refusal read why is ↦ absurd (cc)
 ]
-heard_fit left work (Meets walk entries) answers left' work' stage' shares fit takes h = elim h.1 [
-  | both mine theirs read read' g ↦
-      let a = takes.local.spent in
-      let b = takes.peer.spent in
-      let c = read.whole in
-      let d = read'.whole in
-      let e = takes.wanted.0 in
-      let e' = takes.wanted.1 in
-      let k = ap (λ (w : Exchanging). w.keys) h.0 in
-      let r = ap (λ (w : Exchanging). w.refused) h.0 in
-      let f = begins_room walk AtLocal g.0 stage' g.2 in
-      let n = same_length g.0 entries.items (plan_keys work.number entries.items mine.items theirs.items g.0 g.1) in
-      let one = held_by_one entries.items fit.stands.2 in
-      let room = fit.room in
-      let w = same_waits work work' (ap (λ (w : Exchanging). w.waiting) h.0) (fit.short, fit.held) in
-      record { room = omega (arith, a, b, c, d, e, e', k, r, f, n, one, room); short = w.0; held = w.1; stands = begins_stands walk AtLocal g.0 stage' g.2 fit.stands.0 }
-  | of_local refusal why is ↦ absurd (cc)
-  | of_peer mine refusal read why is ↦ absurd (cc)
-]
+heard_fit left work (Meets walk entries) answers left' work' stage' shares fit takes h = states_fit left work walk entries answers left' work' stage' shares fit takes h
 heard_fit left work (Carries walk turn count) answers left' work' stage' shares fit takes h = elim h.1 [
   | took stage quiet_other pushed is ↦
       let a = takes.local.spent in
@@ -364,9 +455,12 @@ heard_fit left work (Carries walk turn count) answers left' work' stage' shares 
       let fits = fit.stands.2 in
       let room = fit.room in
       let w = same_waits work work' (ap (λ (w : Exchanging). w.waiting) h.0) (fit.short, fit.held) in
+      let i = ap in_window same in
+      let short = w.0 in
       record {
         room = omega (arith, a, b, k, r, f, m, room);
         short = w.0;
+        fits = omega (arith, i, short);
         held = w.1;
         stands = subst StageStands (sym same) (fit.stands.0, pushed.window, omega (arith, own.0, own.1, n, l, c, p, low, d, fits));
       }
@@ -461,7 +555,7 @@ settles_never : (walk : Walking) (found : Option Entry) (old new : Exchanging) (
 settles_never walk found old new stage fault (none_found none same is) failed = absurd (cc)
 settles_never walk found old new stage fault (equal e some differs same is) failed = absurd (cc)
 settles_never walk found old new stage fault (waits e some differs same low is) failed = absurd (cc)
-settles_never walk found old new stage fault (fills e entries some differs list long same is) failed = absurd (cc)
+settles_never walk found old new stage fault (fills e entries some differs full list one same is) failed = absurd (cc)
 
 begins_never : (walk : Walking) (side : Side) (ms : List Meeting) (stage : Stage) (fault : SyncFault) → TurnBegins walk side ms stage → stage ≡ Failed fault → ⊥
 begins_never walk side ms stage fault b failed = let is = b.is in absurd (cc)
@@ -469,7 +563,7 @@ begins_never walk side ms stage fault b failed = let is = b.is in absurd (cc)
 alone_never : (work : Exchanging) (stage : Stage) (work' : Exchanging) (stage' : Stage) (fault : SyncFault) → GoesAlone work stage work' stage' → stage' ≡ Failed fault → ⊥
 alone_never work (Descends level) work' stage' fault g failed = let is = g.1 in absurd (cc)
 alone_never work (Walks walk) work' stage' fault (goes_on walk' found g settles) failed = settles_never walk' found work work' stage' fault settles failed
-alone_never work (Walks walk) work' stage' fault (last entries walked more list same is) failed = absurd (cc)
+alone_never work (Walks walk) work' stage' fault (last entries walked list one same is) failed = absurd (cc)
 alone_never work (Walks walk) work' stage' fault (ends walked none same is) failed = absurd (cc)
 alone_never work (Carries walk turn count) work' stage' fault (turns side same begins) failed = begins_never walk AtPeer (noted AtLocal turn.meetings.items turn.told.items) stage' fault begins failed
 alone_never work (Carries walk turn count) work' stage' fault (counts side adds is) failed = absurd (cc)

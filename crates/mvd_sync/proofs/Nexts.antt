@@ -7,12 +7,12 @@ use Rattle.mvd_keys.specs.Writes.{Key}
 use Rattle.mvd_site.specs.Held.{States}
 use Rattle.mvd_sync.proofs.Exchanges.{AreNext, Counts, IsNext, keys_next}
 use Rattle.mvd_sync.specs.Exchanges.{Done, Exchanging, keys_done}
-use Rattle.mvd_sync.specs.Session.{AreDistinct}
+use Rattle.mvd_sync.specs.Session.{AreDistinct, is_member}
 use Rattle.mvd_peer.specs.PushedStates.{Each}
 use Rattle.mvd_peer.specs.Sides.{SideOf}
 use Rattle.mvd_sync.specs.declared.cursor.Entry.{Entry}
 use Rattle.mvd_sync.proofs.Descents.{Each-left, Each-right}
-use Rattle.mvd_sync.proofs.Keys.{no_member}
+use Rattle.mvd_sync.proofs.Keys.{is_member-append, no_member, or_left}
 use Rattle.mvd_sync.proofs.Nodes.{Each-append}
 use Rattle.mvd_sync.proofs.Positions.{GoesOnBy, SoFarBy}
 
@@ -48,6 +48,18 @@ module _ (done now : List Done) (next waiting more : List Entry) (is : keys_next
     distinct = subst AreDistinct all_keys all.distinct;
     each = Each-append (IsNext a b) next more before (Each-right (IsNext a b) waiting more all.each);
   }
+
+-- the first of those that are next
+distinct_front : (ks js : List Key) → AreDistinct (ks ++ js) → AreDistinct ks
+distinct_front [] js d = tt
+distinct_front (k ∷ ks) js d = (or_left (is_member ks k) (is_member js k) (sym (is_member-append ks js k) ∙ d.0), distinct_front ks js d.1)
+
+pub first_next : (a b : States) (done : List Done) (next later : List Entry) → AreNext a b done (next ++ later) → AreNext a b done next
+first_next a b done next later all = record {
+  distinct = distinct_front (keys_done done ++ keys_next next) (keys_next later)
+      (subst AreDistinct (ap (λ ks. keys_done done ++ ks) (keys_next-append next later) ∙ sym (append_assoc (keys_done done) (keys_next next) (keys_next later))) all.distinct);
+  each = Each-left (IsNext a b) next later all.each;
+}
 
 -- ---- between two faithful sides
 

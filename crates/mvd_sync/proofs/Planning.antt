@@ -3,8 +3,6 @@ use Rattle.std.proofs.Common.{◌≡◌, ℕ, ◌≤◌, Bool, true, false, cond
 use Rattle.std.proofs.lemmas.List.{length-map}
 use Rattle.mvd_dots.specs.declared.refusals.Refusal.{Refusal}
 use Rattle.mvd_dots.specs.declared.refusals.Refusal.TheVariants.{Memory}
-use Rattle.mvd_keys.specs.State.{State}
-use Rattle.mvd_sync.proofs.Carries.{GivesStates}
 use Rattle.mvd_sync.specs.Meetings.{held_keys, is_held}
 use Rattle.mvd_sync.proofs.Readings.{ComesToEnd, Keeps, with_left}
 use Rattle.mvd_peer.specs.Sides.{SideOf}
@@ -47,33 +45,33 @@ module _ {L P : Type 0} (l : SideOf L) (p : SideOf P) (entries : List Entry) (le
         kept_peer = also.kept;
       }
 
-  pub ends_at_peer : (mine : List State) (left' : ℕ) → GivesStates l AtLocal entries mine (with_left local left.local) (with_left local' left') → ComesToEnd p (Keeps p peer peer') (length (held_keys AtPeer entries)) (with_left peer left.peer) peer' refusal → ReadsEndBy l p (λ asked. asked ≤ length entries) left local local' peer peer' (Peer refusal)
-  ends_at_peer mine left' given e =
+  pub ends_at_peer : Moves l (length (held_keys AtLocal entries)) left.local local local' → ComesToEnd p (Keeps p peer peer') (length (held_keys AtPeer entries)) (with_left peer left.peer) peer' refusal → ReadsEndBy l p (λ asked. asked ≤ length entries) left local local' peer peer' (Peer refusal)
+  ends_at_peer also e =
       let short = held_short AtLocal entries in
       let short' = held_short AtPeer entries in
       record {
-        asked_local = length (held_keys AtLocal entries);
+        asked_local = also.asked;
         asked_peer = e.asked;
         wanted_local = 0;
         wanted_peer = e.wanted;
-        few = (omega (arith, short), let few = e.few in omega (arith, few, short'));
-        within = (let spent = given.spent in omega (arith, spent), e.within);
-        follows = (given.follows, e.follows);
+        few = (let few = also.few in omega (arith, few, short), let few = e.few in omega (arith, few, short'));
+        within = (also.within, e.within);
+        follows = (also.follows, e.follows);
         cause = e.cause;
-        kept_local = λ t. (given.right t).kept;
+        kept_local = also.kept;
         kept_peer = e.right;
       }
 
-  pub ends_for_memory : (mine theirs : List State) (left' left'' : ℕ) → GivesStates l AtLocal entries mine (with_left local left.local) (with_left local' left') → GivesStates p AtPeer entries theirs (with_left peer left.peer) (with_left peer' left'') → refusal ≡ Memory → ReadsEndBy l p (λ asked. asked ≤ length entries) left local local' peer peer' (Local refusal)
-  ends_for_memory mine theirs left' left'' given given' is = record {
-    asked_local = length (held_keys AtLocal entries);
-    asked_peer = length (held_keys AtPeer entries);
+  pub ends_for_memory : Moves l (length (held_keys AtLocal entries)) left.local local local' → Moves p (length (held_keys AtPeer entries)) left.peer peer peer' → refusal ≡ Memory → ReadsEndBy l p (λ asked. asked ≤ length entries) left local local' peer peer' (Local refusal)
+  ends_for_memory also other is = record {
+    asked_local = also.asked;
+    asked_peer = other.asked;
     wanted_local = 0;
     wanted_peer = 0;
-    few = (let a = held_short AtLocal entries in omega (arith, a), let b = held_short AtPeer entries in omega (arith, b));
-    within = (let spent = given.spent in omega (arith, spent), let spent = given'.spent in omega (arith, spent));
-    follows = (given.follows, given'.follows);
+    few = (let a = held_short AtLocal entries in let few = also.few in omega (arith, a, few), let b = held_short AtPeer entries in let few = other.few in omega (arith, b, few));
+    within = (also.within, other.within);
+    follows = (also.follows, other.follows);
     cause = of_memory is;
-    kept_local = λ t. (given.right t).kept;
-    kept_peer = λ t. (given'.right t).kept;
+    kept_local = also.kept;
+    kept_peer = other.kept;
   }

@@ -8,7 +8,7 @@ use Rattle.mvd_sync.proofs.Buckets.{FillEnds, FillsBoth, Finds, Goes, GoesOnWith
 use Rattle.mvd_sync.proofs.Carries.{ExchangesAll, Planned}
 use Rattle.mvd_sync.proofs.Exchanges.{CameTo, Exchanges, GoesOn, IsDone, JoinsSome, SoFar, Stand, moment}
 use Rattle.mvd_sync.specs.Exchanges.{Done, Exchanging}
-use Rattle.mvd_sync.specs.Session.{After, Before, Course, HaveAnswered, Joins, Meets, ReportsDone, Session, after_of, both}
+use Rattle.mvd_sync.specs.Session.{After, Before, Course, HaveAnswered, HaveLacked, Joins, Meets, ReportsDone, Session, after_of, both}
 use Rattle.mvd_sync.proofs.Walk.{asking}
 use Rattle.mvd_sync.specs.Faults.{Blames}
 use Rattle.mvd_peer.specs.Sides.{SideOf, Sides, two}
@@ -84,6 +84,9 @@ CourseBy l p left local local' peer peer' = Course (sides l p) (asking local pee
 abbrev pub HaveAnsweredBy : {L P : Type 0} → SideOf L → SideOf P → (local local' : L) (peer peer' : P) → Type 0
 HaveAnsweredBy l p local local' peer peer' = HaveAnswered (sides l p) (two local peer) (two local' peer')
 
+abbrev pub HaveLackedBy : {L P : Type 0} → SideOf L → SideOf P → (local local' : L) (peer peer' : P) → Type 0
+HaveLackedBy l p local local' peer peer' = HaveLacked (sides l p) (two local peer) (two local' peer')
+
 abbrev pub SessionBy : {L P : Type 0} → SideOf L → SideOf P → ℕ → (local local' : L) (peer peer' : P) → Result Report SyncFault → Type 0
 SessionBy l p most local local' peer peer' = Session (sides l p) most (two local peer) (two local' peer')
 
@@ -102,8 +105,8 @@ FindsBucketsBy l p left left' local local' peer peer' = FindsBuckets (sides l p)
 abbrev pub PlannedBy : {L P : Type 0} → SideOf L → SideOf P → Option ℕ → List Entry → (left left' : Questions) (local local' : L) (peer peer' : P) → List Meeting → Type 0
 PlannedBy l p number entries left left' local local' peer peer' = Planned (sides l p) number entries (asking local peer left) (asking local' peer' left')
 
-abbrev pub ExchangesAllBy : {L P : Type 0} → SideOf L → SideOf P → Option ℕ → List Entry → (left left' : Questions) (local local' : L) (peer peer' : P) → Result (List Meeting) SyncFault → Type 0
-ExchangesAllBy l p number entries left left' local local' peer peer' = ExchangesAll (sides l p) number entries (asking local peer left) (asking local' peer' left')
+abbrev pub ExchangesAllBy : {L P : Type 0} → SideOf L → SideOf P → Option ℕ → List Entry → ℕ → (left left' : Questions) (local local' : L) (peer peer' : P) → Result (List Meeting) SyncFault → Type 0
+ExchangesAllBy l p number entries others left left' local local' peer peer' = ExchangesAll (sides l p) number entries others (asking local peer left) (asking local' peer' left')
 
 abbrev pub ExchangesBy : {L P A : Type 0} → SideOf L → SideOf P → List Entry → (left left' : Questions) (local local' : L) (peer peer' : P) (before after : Exchanging) → Result A SyncFault → Type 0
 ExchangesBy l p next left left' local local' peer peer' before after = Exchanges (sides l p) next (moment local peer left before) (moment local' peer' left' after)

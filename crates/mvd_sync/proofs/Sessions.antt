@@ -88,27 +88,29 @@ module _ {L P : Type 0} (l : SideOf L) (p : SideOf P) (most : ℕ) (local local'
   abbrev all_left : Questions
   all_left = record { local = most; peer = most }
 
-  pub session_ends : {A : Type 0} (fault : SyncFault) (g : GoesBy {A = A} l p all_left left' local local' peer peer' before after (Err fault))
+  pub session_ends : {A : Type 0} (fault : SyncFault) (g : GoesBy {A = A} l p all_left left' local local' peer peer' before after (Err fault)) → before.most ≡ 16
       → (l.is_faithful local → p.is_faithful peer → JoinsSomeBy (l.is_faithful local') (p.is_faithful peer') (l.states local) (p.states peer) (l.states local') (p.states peer'))
-      → (l.is_faithful local → p.is_faithful peer → (differing : List (List ℕ)) → HasAllThatDiffer (l.states local) (p.states peer) differing → AreFew (g.course.asked_local + g.course.wanted_local) (l.states local) differing × AreFew (g.course.asked_peer + g.course.wanted_peer) (p.states peer) differing)
+      → (l.is_faithful local → p.is_faithful peer → (differing : List (List ℕ)) → HasAllThatDiffer (l.states local) (p.states peer) differing → AreFew (g.course.first_local + g.course.wanted_local) (l.states local) differing × AreFew (g.course.first_peer + g.course.wanted_peer) (p.states peer) differing)
       → SessionBy l p most local local' peer peer' (Err fault)
-  session_ends fault g joins few = record {
+  session_ends fault g most_is joins few = record {
     course = course_ends l p all_left local local' peer peer' fault g.course;
     answers = tt;
     meets = λ t u. let j = joins t u in record { joined = j.joined; given = j.given; joins = j.joins; tells = tt };
     few = few;
+    again = let a = g.again in (omega (arith, a.0, most_is), omega (arith, a.1, most_is));
   }
 
-  pub session_done : {A : Type 0} (x : A) (report : Report) (g : GoesBy {A = A} l p all_left left' local local' peer peer' before after (Ok x))
+  pub session_done : {A : Type 0} (x : A) (report : Report) (g : GoesBy {A = A} l p all_left left' local local' peer peer' before after (Ok x)) → before.most ≡ 16
       → HasAnswered l.follows l.can_answer local local' × HasAnswered p.follows p.can_answer peer peer'
       → (l.is_faithful local → p.is_faithful peer → MeetsBy (l.is_faithful local') (p.is_faithful peer') (l.most_keys local) (p.most_keys peer) (l.number local) (l.states local) (p.states peer) (l.states local') (p.states peer') (Ok report))
-      → (l.is_faithful local → p.is_faithful peer → (differing : List (List ℕ)) → HasAllThatDiffer (l.states local) (p.states peer) differing → AreFew (g.course.asked_local + g.course.wanted_local) (l.states local) differing × AreFew (g.course.asked_peer + g.course.wanted_peer) (p.states peer) differing)
+      → (l.is_faithful local → p.is_faithful peer → (differing : List (List ℕ)) → HasAllThatDiffer (l.states local) (p.states peer) differing → AreFew (g.course.first_local + g.course.wanted_local) (l.states local) differing × AreFew (g.course.first_peer + g.course.wanted_peer) (p.states peer) differing)
       → SessionBy l p most local local' peer peer' (Ok report)
-  session_done x report g answers meets few = record {
+  session_done x report g most_is answers meets few = record {
     course = course_done l p all_left local local' peer peer' x report g.course;
     answers = answers;
     meets = meets;
     few = few;
+    again = let a = g.again in (omega (arith, a.0, most_is), omega (arith, a.1, most_is));
   }
 
 -- nothing was done so far
@@ -125,7 +127,7 @@ module _ {L P : Type 0} (l : SideOf L) (p : SideOf P) (most : ℕ) (local local1
   session_walks fault r =
       let left : Questions = record { local = most; peer = most } in
       let e = begins_with (l.number local) in
-      session_ends l p most local local1 peer peer1 left e e {A = Unit {0}} fault (goes_of_end l p (λ asked. AreFewForBy l p local peer (λ m. asked ≤ 1 + 3 * m)) left left local local1 peer peer1 e fault r)
+      session_ends l p most local local1 peer peer1 left e e {A = Unit {0}} fault (goes_of_end l p (λ asked. AreFewForBy l p local peer (λ m. asked ≤ 1 + 3 * m)) left left local local1 peer peer1 e fault r) refl
       (λ t u. joins_some (l.most_keys local) (p.most_keys peer) (l.states local) (p.states peer) (l.states local1) (p.states peer1) (l.number local) (l.is_faithful local1) (p.is_faithful peer1) []
       (so_none (l.most_keys local) (p.most_keys peer) (l.number local) (l.states local) (p.states peer) (l.states local1) (p.states peer1) (r.kept_local t).states (r.kept_peer u).states))
       (λ t u differing all.
@@ -155,7 +157,7 @@ module _ {L P : Type 0} (l : SideOf L) (p : SideOf P)
     gone = goes_on l p on on' total mid left2 local local1 local2 peer peer1 peer2 start start e2 (tt {0}) r2 walked second.goes
 
     abbrev Found : ℕ → ℕ → Type 0
-    Found x y = FindsBy l p (l.number local) (l.states local) (p.states peer) [] paths (length paths) (second.goes.course.asked_local + second.goes.course.wanted_local) (second.goes.course.asked_peer + second.goes.course.wanted_peer) local2 peer2 x y start e2 r2
+    Found x y = FindsBy l p (l.number local) (l.states local) (p.states peer) [] paths (length paths) (second.goes.course.first_local + second.goes.course.wanted_local) (second.goes.course.first_peer + second.goes.course.wanted_peer) local2 peer2 x y start e2 r2
 
     pub found_there : l.is_faithful local → p.is_faithful peer → Found (l.most_keys local) (p.most_keys peer)
     found_there t u =
@@ -182,7 +184,7 @@ module _ {L P : Type 0} (l : SideOf L) (p : SideOf P)
   -- the buckets came to an end
   pub session_buckets : {A : Type 0} (fault : SyncFault) → GoesOverBy {A = A} l p paths (length paths) mid left2 local1 local2 peer1 peer2 start e2 (Err fault) → SessionBy l p most local local2 peer peer2 (Err fault)
   unfolding gone walked goes_on goes_of_reads
-  session_buckets {A} fault second = session_ends l p most local local2 peer peer2 left2 start e2 fault (gone (Err fault) second)
+  session_buckets {A} fault second = session_ends l p most local local2 peer peer2 left2 start e2 fault (gone (Err fault) second) refl
       (λ t u. (found_there (Err fault) second t u).ends)
       (λ t u differing all.
       let f = found_there (Err fault) second t u in
@@ -209,7 +211,7 @@ module _ {L P : Type 0} (l : SideOf L) (p : SideOf P)
     abbrev Steps : List Done → ℕ → ℕ → Option ℕ → Type 0
     Steps done x y o = SoFarBy x y o (l.states local) (p.states peer) (l.states local2) (p.states peer2) done → Ends done x y o
 
-    all_found : (t : l.is_faithful local) (u : p.is_faithful peer) → GoesOnWithinBy l p (l.number local) (l.states local) (p.states peer) [] (found_there (Ok x2) second t u).found (length paths + (found_there (Ok x2) second t u).pages_local) (length paths + (found_there (Ok x2) second t u).pages_peer) (second.goes.course.asked_local + second.goes.course.wanted_local) (second.goes.course.asked_peer + second.goes.course.wanted_peer) local2 peer2 (l.most_keys local) (p.most_keys peer) e2
+    all_found : (t : l.is_faithful local) (u : p.is_faithful peer) → GoesOnWithinBy l p (l.number local) (l.states local) (p.states peer) [] (found_there (Ok x2) second t u).found (length paths + (found_there (Ok x2) second t u).pages_local) (length paths + (found_there (Ok x2) second t u).pages_peer) (second.goes.course.first_local + second.goes.course.wanted_local) (second.goes.course.first_peer + second.goes.course.wanted_peer) local2 peer2 (l.most_keys local) (p.most_keys peer) e2
     all_found t u = (found_there (Ok x2) second t u).ends
 
     ended : (t : l.is_faithful local) (u : p.is_faithful peer) → Ends (all_found t u).goes_on.now (l.most_keys local) (p.most_keys peer) (l.number local)
@@ -221,7 +223,7 @@ module _ {L P : Type 0} (l : SideOf L) (p : SideOf P)
     abbrev AllFew : ℕ → ℕ → List (List ℕ) → Type 0
     AllFew i j differing = AreFew i (l.states local) differing × AreFew j (p.states peer) differing
 
-    all_few : l.is_faithful local → p.is_faithful peer → (differing : List (List ℕ)) → HasAllThatDiffer (l.states local) (p.states peer) differing → AllFew ((w.asked + second.goes.course.asked_local + third.course.asked_local) + third.course.wanted_local) ((w.asked + second.goes.course.asked_peer + third.course.asked_peer) + third.course.wanted_peer) differing
+    all_few : l.is_faithful local → p.is_faithful peer → (differing : List (List ℕ)) → HasAllThatDiffer (l.states local) (p.states peer) differing → AllFew ((w.asked + second.goes.course.first_local + third.course.first_local) + third.course.wanted_local) ((w.asked + second.goes.course.first_peer + third.course.first_peer) + third.course.wanted_peer) differing
     all_few t u differing all =
         let f = found_there (Ok x2) second t u in
         let pages = pages_few (Ok x2) second t u in
@@ -231,13 +233,6 @@ module _ {L P : Type 0} (l : SideOf L) (p : SideOf P)
         let keys = few_next (l.states local) (p.states peer) f.found differing f.next all in
         (omega (arith, pages.0, fewer.0, few.0, walk, keys), omega (arith, pages.1, fewer.1, few.1, walk, keys))
 
-  -- the last window came to an end
-  pub session_exchanges : {A B : Type 0} (x2 : A) (second : GoesOverBy l p paths (length paths) mid left2 local1 local2 peer1 peer2 start e2 (Ok x2)) (left3 : Questions) (local3 : L) (peer3 : P) (e3 : Exchanging) (fault : SyncFault)
-      → ExchangesBy {A = B} l p e2.waiting left2 left3 local2 local3 peer2 peer3 e2 e3 (Err fault) → SessionBy l p most local local3 peer peer3 (Err fault)
-  unfolding all_gone gone walked goes_on goes_of_reads goes_of_exchange
-  session_exchanges {A} {B} x2 second left3 local3 peer3 e3 fault third = session_ends l p most local local3 peer peer3 left3 start e3 fault (all_gone x2 second left3 local3 peer3 e3 (Err fault) third)
-      (λ t u. ended x2 second left3 local3 peer3 e3 (Err fault) third t u) (all_few x2 second left3 local3 peer3 e3 (Err fault) third)
-
   -- all was done
   pub session_all : {A B : Type 0} (x2 : A) (second : GoesOverBy l p paths (length paths) mid left2 local1 local2 peer1 peer2 start e2 (Ok x2)) (left3 : Questions) (local3 : L) (peer3 : P) (e3 : Exchanging) (x3 : B)
       → ExchangesBy {A = B} l p e2.waiting left2 left3 local2 local3 peer2 peer3 e2 e3 (Ok x3) → e3.waiting ≡ [] → (report : Report) → report.keys ≡ e3.keys → report.refused ≡ e3.refused → report.old ≡ e3.older → report.first_refused ≡ e3.first_refused
@@ -246,7 +241,7 @@ module _ {L P : Type 0} (l : SideOf L) (p : SideOf P)
   session_all {A} {B} x2 second left3 local3 peer3 e3 x3 third none report keys refused old first =
       let follow_l = on second.goes.course.asked_local third.course.asked_local local1 local2 local3 second.goes.course.follows.0 third.course.follows.0 in
       let follow_p = on' second.goes.course.asked_peer third.course.asked_peer peer1 peer2 peer3 second.goes.course.follows.1 third.course.follows.1 in
-      session_done l p most local local3 peer peer3 left3 start e3 x3 report (all_gone x2 second left3 local3 peer3 e3 (Ok x3) third)
+      session_done l p most local local3 peer peer3 left3 start e3 x3 report (all_gone x2 second left3 local3 peer3 e3 (Ok x3) third) refl
       (answered_still l on local local1 local3 (second.goes.course.asked_local + third.course.asked_local, follow_l) w.answers.0, answered_still p on' peer peer1 peer3 (second.goes.course.asked_peer + third.course.asked_peer, follow_p) w.answers.1)
       (λ t u.
       let a = l.states local in

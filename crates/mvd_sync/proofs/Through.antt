@@ -24,14 +24,14 @@ use Rattle.mvd_sync.specs.declared.cursor.Entry.{Entry}
 use Rattle.mvd_sync.specs.declared.asking.Questions.{Questions}
 use Rattle.mvd_sync.specs.declared.report.SyncFault.{SyncFault}
 use Rattle.mvd_sync.proofs.Descents.{Each-left, Each-right}
-use Rattle.mvd_sync.proofs.Going.{goes_nowhere, if_ok, goes_of_end, goes_of_reads, goes_on}
+use Rattle.mvd_sync.proofs.Going.{goes_nowhere, if_ok, goes_of_end, goes_of_exchange, goes_of_reads, goes_on}
 use Rattle.mvd_sync.proofs.Gone.{all_split, each_keys, page_same}
 use Rattle.mvd_sync.proofs.Joined.{joins_some}
 use Rattle.mvd_sync.proofs.Keys.{Each-weaker, is_member-append, no_member, or_cases, or_left, or_right}
 use Rattle.mvd_sync.proofs.Nexts.{goes_from, goes_further, keys_done-append, keys_next-append, were_next}
 use Rattle.mvd_sync.proofs.Nodes.{AreLong, Each-append, begins-one, or_first, or_second}
 use Rattle.mvd_peer.proofs.Pushes.{tied}
-use Rattle.mvd_sync.proofs.Positions.{FindsBy, GoesOnWithinBy, GoesOnBy, GoesOverBy, GoesThroughBy, JoinsSomeBy, ReadsEndBy, SoFarBy}
+use Rattle.mvd_sync.proofs.Positions.{ExchangesBy, FindsBy, GoesOnWithinBy, GoesOnBy, GoesOverBy, GoesThroughBy, JoinsSomeBy, ReadsEndBy, SoFarBy}
 
 -- ---- lists of buckets
 
@@ -195,6 +195,50 @@ module _ {L P : Type 0} (l : SideOf L) (p : SideOf P) (Told : States → States 
         };
   }
 
+-- keys that waited were exchanged after them
+module _ {L P : Type 0} (l : SideOf L) (p : SideOf P) {A : Type 0} (left left' : Questions) (local local' : L) (peer peer' : P) (before after : Exchanging) where
+  pub through_exchange : (result : Result A SyncFault) → ExchangesBy l p before.waiting left left' local local' peer peer' before after result → GoesThroughBy l p (λ a b. Unit {0}) [] 0 left left' local local' peer peer' before after result
+  unfolding goes_of_exchange
+  through_exchange (Ok x) e = record {
+    goes = goes_of_exchange l p before.waiting left left' local local' peer peer' before after (Ok x) (omega arith) e;
+    meets = λ t u distinct long a b done so counts next elsewhere told.
+        let none = append-nil before.waiting in
+        let n = length-append before.waiting [] in
+        let few = e.few in
+        let fewer = e.fewer in
+        record {
+          found = [];
+          below = tt;
+          all = λ key h differ. absurd (cc);
+          next = subst (AreNext a b done) (sym none) next;
+          pages_local = 0;
+          pages_peer = 0;
+          pages = (omega arith, omega arith);
+          few = (omega (arith, n, few.0), omega (arith, n, few.1));
+          ends = record {
+            goes_on = subst (λ es. GoesOnBy l p before.number a b done es local' peer' (l.most_keys local) (p.most_keys peer) after) (sym none) (e.meets t u a b done so counts next);
+            fewer = (omega (arith, n, fewer.0), omega (arith, n, fewer.1));
+          };
+        };
+  }
+  through_exchange (Err fault) e = record {
+    goes = goes_of_exchange l p before.waiting left left' local local' peer peer' before after (Err fault) (omega arith) e;
+    meets = λ t u distinct long a b done so counts next elsewhere told.
+        let n = length-append before.waiting [] in
+        let few = e.few in
+        record {
+          found = [];
+          below = tt;
+          all = tt;
+          next = subst (AreNext a b done) (sym (append-nil before.waiting)) next;
+          pages_local = 0;
+          pages_peer = 0;
+          pages = (omega arith, omega arith);
+          few = (omega (arith, n, few.0), omega (arith, n, few.1));
+          ends = e.meets t u a b done so counts next;
+        };
+  }
+
 -- what was said of the sides as they are is so of them as they were
 module _ {L P : Type 0} (l : SideOf L) (p : SideOf P)
     (stays : (n : ℕ) (old new : L) → l.follows n old new → l.most_keys new ≡ l.most_keys old)
@@ -233,10 +277,10 @@ module _ {L P : Type 0} (l : SideOf L) (p : SideOf P)
         let two = second.meets g.still.0 g.still.1 (distinct_second ps qs distinct) (Each-right (λ path. length path ≡ 3) ps qs long) a b (done ++ g.now) now g.counts g.waits
         (elsewhere_second ps qs done g.now before.waiting one.found at.waiting distinct long g.is elsewhere one.below) (then a b told) in
         let w = first.goes.calm in
-        let sl = second.goes.course.asked_local + second.goes.course.wanted_local in
-        let sp = second.goes.course.asked_peer + second.goes.course.wanted_peer in
-        found_at l p before.number a b done (ps ++ qs) (firsts1 + firsts2) _ _ _ _ local2 peer2 (l.most_keys local) (p.most_keys peer) before after result (later_sum first.goes.course.asked_local first.goes.course.wanted_local second.goes.course.asked_local second.goes.course.wanted_local w.0) (later_sum first.goes.course.asked_peer first.goes.course.wanted_peer second.goes.course.asked_peer second.goes.course.wanted_peer w.1)
-        (finds_both l p before.number a b done ps qs (l.most_keys local) (p.most_keys peer) firsts1 firsts2 (first.goes.course.asked_local + first.goes.course.wanted_local) (first.goes.course.asked_peer + first.goes.course.wanted_peer) sl sp local1 local2 peer1 peer2 before at after one result
+        let sl = second.goes.course.first_local + second.goes.course.wanted_local in
+        let sp = second.goes.course.first_peer + second.goes.course.wanted_peer in
+        found_at l p before.number a b done (ps ++ qs) (firsts1 + firsts2) _ _ _ _ local2 peer2 (l.most_keys local) (p.most_keys peer) before after result (later_sum first.goes.course.first_local first.goes.course.wanted_local second.goes.course.first_local second.goes.course.wanted_local w.0) (later_sum first.goes.course.first_peer first.goes.course.wanted_peer second.goes.course.first_peer second.goes.course.wanted_peer w.1)
+        (finds_both l p before.number a b done ps qs (l.most_keys local) (p.most_keys peer) firsts1 firsts2 (first.goes.course.first_local + first.goes.course.wanted_local) (first.goes.course.first_peer + first.goes.course.wanted_peer) sl sp local1 local2 peer1 peer2 before at after one result
         (as_then l p stays stays' local local1 peer peer1 i j before at first.goes.course.follows first.goes.same (λ x y o. FindsBy l p o a b (done ++ g.now) qs firsts2 sl sp local2 peer2 x y at after result) two));
   }
 
@@ -279,10 +323,10 @@ module _ {L P : Type 0} (l : SideOf L) (p : SideOf P)
           pages_then b (p.states peer) paths theirs (λ x h. (kept x h).1) (told_p u),
         ) in
         let f = second.meets k.still j.still distinct long a b done now counts next elsewhere told in
-        let sl = second.goes.course.asked_local + second.goes.course.wanted_local in
-        let sp = second.goes.course.asked_peer + second.goes.course.wanted_peer in
+        let sl = second.goes.course.first_local + second.goes.course.wanted_local in
+        let sp = second.goes.course.first_peer + second.goes.course.wanted_peer in
         let g = as_then l p stays stays' local local1 peer peer1 n n before before (r.follows, q.follows) refl (λ x y o. FindsBy l p o a b done paths 0 sl sp local2 peer2 x y before after result) f in
-        found_at l p before.number a b done paths n _ _ _ _ local2 peer2 (l.most_keys local) (p.most_keys peer) before after result (sums n second.goes.course.asked_local second.goes.course.wanted_local) (sums n second.goes.course.asked_peer second.goes.course.wanted_peer)
+        found_at l p before.number a b done paths n _ _ _ _ local2 peer2 (l.most_keys local) (p.most_keys peer) before after result (sums n second.goes.course.first_local second.goes.course.wanted_local) (sums n second.goes.course.first_peer second.goes.course.wanted_peer)
         (later before.number a b done paths n sl sp local2 peer2 (l.most_keys local) (p.most_keys peer) before after result g);
   }
     where

@@ -27,8 +27,8 @@ use Rattle.mvd_sync.proofs.Fetching.{IsGoodPage}
 use Rattle.mvd_sync.proofs.Opening.{closes_same}
 use Rattle.mvd_sync.proofs.Pages.{takes_shorter}
 use Rattle.mvd_sync.proofs.Paging.{unspent_is}
-use Rattle.mvd_sync.proofs.Positions.{FillsBothBy, SettlesBy, sides}
-use Rattle.mvd_sync.proofs.Through.{through_cut, through_none, through_on, window_through}
+use Rattle.mvd_sync.proofs.Positions.{ExchangesBy, FillsBothBy, SettlesBy, sides}
+use Rattle.mvd_sync.proofs.Through.{through_cut, through_exchange, through_none, through_on, window_through}
 
 -- ---- from one moment to another
 
@@ -241,6 +241,17 @@ module _ {L P : Type 0} (l : SideOf L) (p : SideOf P)
         subst (λ qs. Over l p qs begin now (Ok (tt {0}))) (sym all) over
     walk_done now at (amid first b mid before path good over some _) end = let none = end.0 in absurd (cc)
     walk_done now at (waiting first b b' e mid before path good over takes wants some _) end = let none = end.0 in absurd (cc)
+
+    -- keys that waited are exchanged after all buckets
+    pub over_exchanged : {A : Type 0} (done : List (List ℕ)) (now new : Moment L P) (result : Result A SyncFault) → Over l p done begin now (Ok (tt {0})) → ExchangesBy l p now.work.waiting now.now.left new.now.left now.now.at.local new.now.at.local now.now.at.peer new.now.at.peer now.work new.work result → Over l p done begin new result
+    over_exchanged done now new result over x =
+        subst (λ qs. Over l p qs begin new result) (append-nil done)
+        (over_on done [] begin now new result over (through_exchange l p now.now.left new.now.left now.now.at.local new.now.at.local now.now.at.peer new.now.at.peer now.work new.work result x))
+
+    pub walk_exchanges : (now new : Moment L P) (at : Walking) → Walked l p paths begin now at → IsWalked at → ExchangesBy l p now.work.waiting now.now.left new.now.left now.now.at.local new.now.at.local now.now.at.peer new.now.at.peer now.work new.work (Ok (tt {0})) → Walked l p paths begin new at
+    walk_exchanges now new at (between done is none later unasked over) end x = between done is none later unasked (over_exchanged done now new (Ok (tt {0})) over x)
+    walk_exchanges now new at (amid first b mid before path good over some _) end x = let none = end.0 in absurd (cc)
+    walk_exchanges now new at (waiting first b b' e mid before path good over takes wants some _) end x = let none = end.0 in absurd (cc)
 
     -- the buckets of a window are gone over
     window_over : {A : Type 0} (rest : List (List ℕ)) (first : Bucket) (later : List Bucket) (mid new : Moment L P) (w : Before l p paths rest first later begin mid) (result : Result A SyncFault)

@@ -14,5 +14,6 @@ pub mod OneTurn
 pub mod Nodes
 pub mod Steps
 pub mod Tellings
+pub mod Fronts
 pub mod Machines
 pub mod Ran

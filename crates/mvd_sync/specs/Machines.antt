@@ -1,6 +1,6 @@
 -- A session between two windows of questions, which knows no side.
 use Rattle.std.specs.Prelude.{◌≡◌, ◌≢◌, ◌⊎◌, ◌≤◌, ◌<◌, ◌+◌, ◌^◌, ℕ, Bool, true, false, cond, List, [], ◌∷◌, ◌++◌, All}
-use Rattle.std.specs.Prelude.{Contains, length, map, max, take, Option, Some, None, IfSome, Result, Ok, Err, MatchResult, Vec}
+use Rattle.std.specs.Prelude.{Contains, drop, length, map, max, take, Option, Some, None, IfSome, Result, Ok, Err, MatchResult, Vec}
 use Rattle.std.specs.declared.alloc.Global.{Global}
 use Rattle.mvd_dots.specs.declared.refusals.Refusal.{Refusal}
 use Rattle.mvd_dots.specs.declared.refusals.Refusal.TheVariants.{BadBody, Memory, TooManyRequests}
@@ -9,6 +9,7 @@ use Rattle.mvd_peer.specs.PushedStates.{Each}
 use Rattle.mvd_peer.specs.Sides.{is_of_key}
 use Rattle.mvd_sync.specs.Answers.{ListingValue}
 use Rattle.mvd_sync.specs.Exchanges.{CountsDone, Exchanging, IsHeldByEither}
+use Rattle.mvd_sync.specs.Fronts.{IsCut, share_in, front_told}
 use Rattle.mvd_sync.specs.Level.{GoesDown, IsDown, Level, next_nodes}
 use Rattle.mvd_sync.specs.Meetings.{ArePlans, done_of, held_keys, noted}
 use Rattle.mvd_sync.specs.OneTurn.{BeginsTurn, IsSameTurn, untold}
@@ -92,7 +93,8 @@ StageAsks (Carries walk turn count) = length turn.told.items < length turn.pairs
 StageAsks Done = ⊥
 StageAsks (Failed fault) = ⊥
 
--- The walk has told a key, or none: one that differs waits, and as many as are exchanged at once are
+-- The walk has told a key, or none: one that differs waits, and the first that wait are exchanged where they are as
+-- many as are exchanged at once
 pub data SettlesFound (walk : Walking) (found : Option Entry) (old new : Exchanging) (stage : Stage) : Type 0 where
   none_found : found ≡ None → new ≡ old → stage ≡ Walks walk → SettlesFound walk found old new stage
   equal : (e : Entry) → found ≡ Some e → e.differs ≡ false → new ≡ old → stage ≡ Walks walk
@@ -101,7 +103,8 @@ pub data SettlesFound (walk : Walking) (found : Option Entry) (old new : Exchang
       → (length new.waiting < 1000) × (length new.waiting < old.most) → stage ≡ Walks walk
       → SettlesFound walk found old new stage
   fills : (e : Entry) (entries : Vec Entry Global) → found ≡ Some e → e.differs ≡ true
-      → entries.items ≡ old.waiting ++ e ∷ [] → old.most ≤ length entries.items → new ≡ record old { waiting = [] }
+      → old.most ≤ length (old.waiting ++ e ∷ []) → entries.items ≡ take old.most (old.waiting ++ e ∷ [])
+      → 1 ≤ length entries.items → new ≡ record old { waiting = drop old.most (old.waiting ++ e ∷ []) }
       → stage ≡ Meets walk entries → SettlesFound walk found old new stage
 
 -- a side's turn begins
@@ -117,8 +120,9 @@ pub data FromWalk (work : Exchanging) (walk : Walking) (work' : Exchanging) (sta
   goes_on : (walk' : Walking) (found : Option Entry) → GoesTo walk found walk'
       → SettlesFound walk' found work work' stage
       → FromWalk work walk work' stage
-  last : (entries : Vec Entry Global) → IsWalked walk → work.waiting ≢ [] → entries.items ≡ work.waiting
-      → work' ≡ record work { waiting = [] } → stage ≡ Meets walk entries → FromWalk work walk work' stage
+  last : (entries : Vec Entry Global) → IsWalked walk → entries.items ≡ take work.most work.waiting
+      → 1 ≤ length entries.items → work' ≡ record work { waiting = drop work.most work.waiting }
+      → stage ≡ Meets walk entries → FromWalk work walk work' stage
   ends : IsWalked walk → work.waiting ≡ [] → work' ≡ record work { waiting = [] } → stage ≡ Done
       → FromWalk work walk work' stage
 
@@ -168,15 +172,39 @@ Walked work walk work' mine theirs result = MatchResult result
     (λ stage. (after : Walking) × (found : Option Entry) × IsTold walk mine theirs found after
     × SettlesFound after found work work' stage) (EndsTelling walk mine theirs)
 
--- it is planned what each side is to take, and the local one begins
--- (and by what their states weigh, how many keys are exchanged at once next)
-abbrev pub Met : Exchanging → Walking → List Entry → Exchanging → List State → List State → Result Stage SyncFault
-    → Type 0
-Met work walk entries work' mine theirs result = MatchResult result
-    (λ stage. (meetings : List Meeting) × ArePlans work.number entries mine theirs meetings
+-- It is planned what each side is to take of the first keys, and the local one begins; the later ones wait before all
+-- others (and by what the states weigh, how many keys are exchanged at once next)
+abbrev pub Met : Exchanging → Walking → (first later : List Entry) → (limit : ℕ) → Exchanging → (mine theirs : List State)
+    → Result Stage SyncFault → Type 0
+Met work walk first later limit work' mine theirs result = MatchResult result
+    (λ stage. (meetings : List Meeting) × ArePlans work.number first mine theirs meetings
     × TurnBegins walk AtLocal meetings stage
-    × (work'.most ≡ next_most work.most (length entries) (max (weight mine) (weight theirs))))
+    × (work' ≡ record work {
+      waiting = later ++ work.waiting;
+      most = next_most limit (length first) (max (weight mine) (weight theirs));
+    }))
     (λ fault. fault ≡ Local Memory)
+
+-- The first keys of a window are met, by the answers to their gets alone; or memory was refused for those that wait
+pub data MetFirst (work : Exchanging) (walk : Walking) (entries : List Entry) (count : ℕ) (answers : Answers)
+    (work' : Exchanging) (result : Result Stage SyncFault) : Type 0 where
+  met : ReadBoth (IsRead IsStateOf never (front_told AtLocal (take count entries) answers.mine)
+      (share_in AtLocal (take count entries)))
+      (IsRead IsStateOf never (front_told AtPeer (take count entries) answers.theirs)
+      (share_in AtPeer (take count entries)))
+      (Met work walk (take count entries) (drop count entries) count work') result
+      → MetFirst work walk entries count answers work' result
+  no_room : result ≡ Err (Local Memory) → MetFirst work walk entries count answers work' result
+
+-- THE STATES OF A WINDOW WERE TOLD: all of its keys are met, or the first, where it is cut
+pub data StatesHeard (work : Exchanging) (walk : Walking) (entries : List Entry) (shares : Shares) (answers : Answers)
+    (work' : Exchanging) (result : Result Stage SyncFault) : Type 0 where
+  whole : ((count : ℕ) → IsCut entries shares answers count → ⊥)
+      → ReadBoth (IsRead IsStateOf never (states_told answers.mine) shares.local)
+      (IsRead IsStateOf never (states_told answers.theirs) shares.peer) (Met work walk entries [] 1000 work') result
+      → StatesHeard work walk entries shares answers work' result
+  cut : (count : ℕ) → IsCut entries shares answers count → MetFirst work walk entries count answers work' result
+      → StatesHeard work walk entries shares answers work' result
 
 -- the side told of its pushes
 pub record Pushed (walk : Walking) (turn : Turn) (told : Result (List (Result (Unit {0}) Refusal)) Refusal)
@@ -242,9 +270,8 @@ HearsAt work (Descends level) shares answers work' result = (work' ≡ work)
 HearsAt work (Walks walk) shares answers work' result =
     ReadBoth (IsRead IsListingOf IsNoPage (pages_told answers.mine) shares.local)
     (IsRead IsListingOf IsNoPage (pages_told answers.theirs) shares.peer) (Walked work walk work') result
-HearsAt work (Meets walk entries) shares answers work' result = (work' ≡ record work { most = work'.most })
-    × ReadBoth (IsRead IsStateOf never (states_told answers.mine) shares.local)
-    (IsRead IsStateOf never (states_told answers.theirs) shares.peer) (Met work walk entries.items work') result
+HearsAt work (Meets walk entries) shares answers work' result =
+    StatesHeard work walk entries.items shares answers work' result
 HearsAt work (Carries walk turn count) shares answers work' result = (work' ≡ work)
     × CarriedOn walk turn (share_of turn.side shares) (told_by_side turn.side answers)
     (told_by_side (other_of turn.side) answers) result
@@ -292,16 +319,23 @@ StageStands (Descends level) = Each (λ path. length path ≡ level.depth) level
     × Each (λ path. length path ≡ level.depth + 1) level.below
 StageStands (Walks walk) = IfSome walk.entry IsHeldByEither
 StageStands (Meets walk entries) = IfSome walk.entry IsHeldByEither × (length entries.items ≤ 1000)
-    × Each IsHeldByEither entries.items
+    × Each IsHeldByEither entries.items × (1 ≤ length entries.items)
 StageStands (Carries walk turn count) = IfSome walk.entry IsHeldByEither × IsWindow (untold turn) count
     × (length turn.told.items ≤ length turn.pairs.items)
 StageStands Done = Unit {0}
 StageStands (Failed fault) = Unit {0}
 
--- each key that is counted took a question at least, fewer than a thousand wait, and it stands so
+-- keys of which the states are asked for
+abbrev pub in_window : Stage → ℕ
+in_window (Meets walk entries) = length entries.items
+in_window stage = 0
+
+-- each key that is counted took a question at least, fewer than a thousand wait, with those of a window at most a
+-- thousand, and it stands so
 pub record IsFitting (left : Questions) (work : Exchanging) (stage : Stage) : Type 0 where
   pub room : work.keys + work.refused + in_flight stage + left.local + left.peer ≤ 20000000
   pub short : length work.waiting < 1000
+  pub fits : in_window stage + length work.waiting ≤ 1000
   pub held : Each IsHeldByEither work.waiting
   pub stands : StageStands stage
 

@@ -5,7 +5,7 @@ use Rattle.std.specs.Prelude.{MatchBool, ◌↔◌}
 use Rattle.std.specs.Ordering.{eq_by_cmp}
 use Rattle.std.specs.FinMap.{get, len}
 use Rattle.mvd_dots.specs.declared.refusals.Refusal.{Refusal}
-use Rattle.mvd_dots.specs.declared.refusals.Refusal.TheVariants.{Broken, DotClash, Full, StateTooLarge}
+use Rattle.mvd_dots.specs.declared.refusals.Refusal.TheVariants.{Broken, DotClash, Full, Memory, StateTooLarge}
 use Rattle.mvd_keys.specs.Key.{key_cmp}
 use Rattle.mvd_keys.specs.State.{State, clashes, join}
 use Rattle.mvd_keys.specs.Writes.{Key}
@@ -15,7 +15,7 @@ use Rattle.mvd_site.specs.Held.{States, state_at}
 use Rattle.mvd_peer.specs.PushedStates.{ComesByPushes, Each}
 use Rattle.mvd_sync.specs.Olds.{HasUnseen}
 use Rattle.mvd_sync.specs.Faults.{Blames, IsFaultOf}
-use Rattle.mvd_peer.specs.Sides.{HasAnswered, IsSilent, Sides, Two}
+use Rattle.mvd_peer.specs.Sides.{HasAnswered, HasRefused, IsSilent, Sides, Two}
 use Rattle.mvd_sync.specs.declared.asking.Questions.{Questions}
 use Rattle.mvd_sync.specs.declared.report.Left.{Left}
 use Rattle.mvd_sync.specs.declared.report.Report.{Report}
@@ -162,6 +162,21 @@ pub record Meets (before : Before) (after : After) (result : Result Report SyncF
 abbrev pub AreFew : ℕ → States → List Key → Type 0
 AreFew asked states differing = asked ≤ 1 + 5 * length differing + len states / 1000
 
+-- at most sixteen, and seven for each of so many
+abbrev pub IsLittle : ℕ → ℕ → Type 0
+IsLittle again firsts = again ≤ 16 + 7 * firsts
+
+-- few questions in all, to a side that holds these states, where the other holds those: few for the first time, and
+-- again so many as those to both let
+pub record AreFewInAll (asked : ℕ) (own other : States) (differing : List Key) : Type 0 where
+  pub firsts : ℕ
+  pub others : ℕ
+  pub again : ℕ
+  pub is : asked ≡ firsts + again
+  pub few : AreFew firsts own differing
+  pub few_others : AreFew others other differing
+  pub little : IsLittle again (firsts + others)
+
 -- all keys that differ are among these
 abbrev pub HasAllThatDiffer : States → States → List Key → Type 0
 HasAllThatDiffer a b keys = (key : Key) → get a key ≢ get b key → IsIn keys key
@@ -192,6 +207,11 @@ pub record Asking (L P : Type 0) : Type 0 where
   pub at : Two L P
   pub left : Questions
 
+-- one of the two has refused a question with 20 on the way
+abbrev pub HaveLacked : {L P : Type 0} → Sides L P → (old new : Two L P) → Type 0
+HaveLacked s old new = HasRefused s.local.follows s.local.can_refuse old.local new.local Memory
+    ⊎ HasRefused s.peer.follows s.peer.can_refuse old.peer new.peer Memory
+
 -- WHAT BECAME OF TWO SIDES by questions
 pub record Course {L P A : Type 0} (s : Sides L P) (old : Asking L P) (new : Two L P)
     (result : Result A SyncFault) : Type 0 where
@@ -202,6 +222,14 @@ pub record Course {L P A : Type 0} (s : Sides L P) (old : Asking L P) (new : Two
   pub wanted_local : ℕ
   pub wanted_peer : ℕ
   pub within : (asked_local ≤ old.left.local) × (asked_peer ≤ old.left.peer)
+  -- of these so many were asked for the first time, and the others again, for keys whose states were asked for before,
+  -- but one of the two sides refused such a get with 20
+  pub first_local : ℕ
+  pub first_peer : ℕ
+  pub again_local : ℕ
+  pub again_peer : ℕ
+  pub parts : (asked_local ≡ first_local + again_local) × (asked_peer ≡ first_peer + again_peer)
+  pub unheld : 1 ≤ again_local + again_peer → HaveLacked s old.at new
   pub follows : s.local.follows asked_local old.at.local new.local × s.peer.follows asked_peer old.at.peer new.peer
   -- a fault has a cause
   pub cause : IfErr result (IsFaultOf
@@ -246,9 +274,12 @@ pub record Session {L P : Type 0} (s : Sides L P) (most : ℕ) (old new : Two L 
   -- a cause, where SHA-256 tells the texts of both sides apart
   pub meets : s.local.is_faithful old.local → s.peer.is_faithful old.peer →
       Meets (before_of s old) (after_of s new) result
-  -- and few questions were made or wanted; so a 36 that a faithful side did not itself give means that this bound is
-  -- above the budget
+  -- and few questions were made for the first time, or wanted
   pub few : s.local.is_faithful old.local → s.peer.is_faithful old.peer → (differing : List Key) →
       HasAllThatDiffer (s.local.states old.local) (s.peer.states old.peer) differing →
-      AreFew (course.asked_local + course.wanted_local) (s.local.states old.local) differing
-      × AreFew (course.asked_peer + course.wanted_peer) (s.peer.states old.peer) differing
+      AreFew (course.first_local + course.wanted_local) (s.local.states old.local) differing
+      × AreFew (course.first_peer + course.wanted_peer) (s.peer.states old.peer) differing
+  -- Of any two sides: those that were made again are sixteen, and seven for each of the others at most. So a 36 that a
+  -- side did not itself give means that these bounds together are above the budget
+  pub again : IsLittle course.again_local (course.first_local + course.first_peer)
+      × IsLittle course.again_peer (course.first_local + course.first_peer)

@@ -1,6 +1,6 @@
 //! The exchange of keys, one window after another.
-ghost use Rattle.std.specs.Prelude.{◌≡◌, ◌≤◌, ◌<◌, ◌+◌, ◌^◌, ◌++◌, ◌∷◌, ◌↔◌, ◌⊎◌, [], cond, length, map, max, IsTrue};
-ghost use Rattle.std.specs.Prelude.{IfErr, OnOk};
+ghost use Rattle.std.specs.Prelude.{◌≡◌, ◌≤◌, ◌<◌, ◌+◌, ◌^◌, ◌++◌, ◌∷◌, ◌↔◌, ◌⊎◌, [], cond, drop, length, map, max, take, IsTrue};
+ghost use Rattle.std.specs.Prelude.{IfErr, IfOk, OnOk};
 ghost use Rattle.mvd_sync.specs.Weights.{next_most, weight};
 ghost use Rattle.mvd_sync.specs.Exchanges.{CountsDone, IsHeldByEither};
 ghost use Rattle.mvd_sync.specs.Meetings.{done_of};
@@ -103,13 +103,32 @@ impl Exchange {
         self.number
     }
 
-    /// The keys that wait, which are taken out.
-    pub fn taken_out(&mut self) -> Vec<Entry>
-        ensures entries { result.items ≡ self.old.waiting }
-        ensures held { Each IsHeldByEither result.items }
-        ensures none { self.new ≡ record self.old { waiting = [] } }
+    /// The first keys that wait, as many as are exchanged at once, which are taken out.
+    pub fn taken_out(&mut self) -> Result<Vec<Entry>, Refusal>
+        ensures entries { IfOk result (λ entries. entries.items ≡ take self.old.most self.old.waiting) }
+        ensures held { IfOk result (λ entries. Each IsHeldByEither entries.items) }
+        ensures some { IfOk result (λ entries. 1 ≤ length self.old.waiting → 1 ≤ length entries.items) }
+        ensures rest { OnOk result (self.new ≡ record self.old { waiting = drop self.old.most self.old.waiting }) }
+        ensures number { self.new.number ≡ self.old.number }
+        ensures memory { IfErr result (λ refusal. refusal ≡ Refusal.Memory) }
     {
-        std::mem::replace(&mut self.waiting, Vec::new(self.alloc))
+        let count = self.most.min(self.waiting.len());
+        let rest = self.waiting.split_off(count)?;
+        Ok(std::mem::replace(&mut self.waiting, rest))
+    }
+
+    /// These keys wait again, before all others.
+    pub fn put_back(&mut self, entries: Vec<Entry>) -> Result<(), Refusal>
+        requires held { Each IsHeldByEither entries.items }
+        ensures back { OnOk result
+            (self.new ≡ record self.old { waiting = entries.items ++ self.old.waiting }) }
+        ensures number { self.new.number ≡ self.old.number }
+        ensures memory { IfErr result (λ refusal. refusal ≡ Refusal.Memory) }
+    {
+        let mut entries = entries;
+        entries.append(&mut self.waiting)?;
+        self.waiting = entries;
+        Ok(())
     }
 
     /// One more key waits.
@@ -131,13 +150,15 @@ impl Exchange {
         self.waiting.len() >= self.most
     }
 
-    /// How many are exchanged at once after a window of so many, of which the sides told these states.
-    pub fn weigh(&mut self, keys: usize, mine: &[KeyState], theirs: &[KeyState])
+    /// How many are exchanged at once after so many, of which the sides told these states, and no more than a limit.
+    pub fn weigh(&mut self, limit: usize, keys: usize, mine: &[KeyState], theirs: &[KeyState])
+        requires limit { limit ≤ 1000 }
+        requires keys { keys ≤ 1000 }
         ensures { self.new ≡ record self.old {
-          most = next_most self.old.most keys (max (weight mine.now) (weight theirs.now));
+          most = next_most limit keys (max (weight mine.now) (weight theirs.now));
         } }
     {
-        self.most = next_most(self.most, keys, mine, theirs);
+        self.most = next_most(limit, keys, mine, theirs);
     }
 
     /// Counts the keys of a window, and names the first that were refused.

@@ -4,8 +4,8 @@ ghost use Rattle.mvd_peer.specs.PushedStates.{Each};
 ghost use Rattle.mvd_sync.specs.Level.{next_nodes};
 ghost use Rattle.mvd_sync.specs.Exchanges.{IsHeldByEither};
 ghost use Rattle.mvd_sync.specs.declared.meetings.Meeting.{Meeting};
-ghost use Rattle.mvd_sync.specs.Machines.{StageAsks, TurnBegins, CarriedOn, Descended, StageHears, HearsAt, IsFit, IsUnheard, Met, Pushed};
-ghost use Rattle.mvd_sync.specs.Machines.{ReadBoth, StageStands, TakesShares, Walked, wanted_count, fault_at};
+ghost use Rattle.mvd_sync.specs.Machines.{StageAsks, TurnBegins, CarriedOn, Descended, StageHears, HearsAt, IsFit, IsUnheard, Met, MetFirst, Pushed};
+ghost use Rattle.mvd_sync.specs.Machines.{ReadBoth, StageStands, StatesHeard, TakesShares, Walked, wanted_count, fault_at};
 ghost use Rattle.mvd_sync.specs.Machines.{is_same, other_of, share_of};
 ghost use Rattle.mvd_sync.specs.Machines.{stays, told_by_side};
 ghost use Rattle.mvd_sync.specs.Meetings.{ArePlans};
@@ -17,6 +17,7 @@ ghost use Rattle.mvd_sync.specs.Walking.{pages_next, pages_of};
 use crate::asking::{Questions, are_all, window};
 use crate::cursor::{Entry, Listing};
 use crate::exchange::Exchange;
+use crate::front::{cut_at, first_of};
 use crate::levels::Descent;
 use crate::meetings::{Meeting, count_held, plan_all};
 use crate::report::{Side, SyncFault};
@@ -27,6 +28,7 @@ use crate::telling::{
 };
 use crate::turn::Turn;
 use crate::walking::BucketWalk;
+use crate::weights::WINDOW;
 use mvd_dots::Refusal;
 use mvd_keys::KeyState;
 use std::alloc::Global;
@@ -138,7 +140,8 @@ fn go_on_with(
     }
 }
 
-/// It is planned what each side is to take of these keys, and the local side begins.
+/// The states of a window were told. All of its keys are met; or the first, up to one whose state a side does not hold,
+/// and the others wait again.
 fn hear_states(
     alloc: Global,
     exchange: &mut Exchange,
@@ -147,10 +150,58 @@ fn hear_states(
     shares: Shares,
     answers: Answers,
 ) -> Result<Stage, SyncFault>
-    ensures same { exchange.new ≡ record exchange.old { most = exchange.new.most } }
-    ensures read { ReadBoth (IsRead IsStateOf never (states_told answers.mine) shares.local)
+    requires few { length entries.items ≤ 1000 }
+    requires held { Each IsHeldByEither entries.items }
+    ensures { StatesHeard exchange.old walk entries.items shares answers exchange.new result }
+{
+    match cut_at(&entries, shares, &answers) {
+        Some(count) => hear_first(alloc, exchange, walk, entries, count, answers),
+        None => hear_window(alloc, exchange, walk, entries, WINDOW, shares, answers),
+    }
+}
+
+/// The first keys of a window are met, and the others wait again.
+fn hear_first(
+    alloc: Global,
+    exchange: &mut Exchange,
+    walk: BucketWalk,
+    entries: Vec<Entry>,
+    count: usize,
+    answers: Answers,
+) -> Result<Stage, SyncFault>
+    requires few { length entries.items ≤ 1000 }
+    requires held { Each IsHeldByEither entries.items }
+    requires within { count ≤ length entries.items }
+    ensures { MetFirst exchange.old walk entries.items count answers exchange.new result }
+{
+    let mut entries = entries;
+    let later = match entries.split_off(count) {
+        Ok(later) => later,
+        Err(_) => return Err(SyncFault::Local(Refusal::Memory)),
+    };
+    match exchange.put_back(later) {
+        Ok(()) => {}
+        Err(refusal) => return Err(SyncFault::Local(refusal)),
+    }
+    let (shares, answers) = first_of(&entries, answers);
+    hear_window(alloc, exchange, walk, entries, count, shares, answers)
+}
+
+/// It is planned what each side is to take of these keys, and the local side begins.
+fn hear_window(
+    alloc: Global,
+    exchange: &mut Exchange,
+    walk: BucketWalk,
+    entries: Vec<Entry>,
+    limit: usize,
+    shares: Shares,
+    answers: Answers,
+) -> Result<Stage, SyncFault>
+    requires few { length entries.items ≤ 1000 }
+    requires limit { limit ≤ 1000 }
+    ensures { ReadBoth (IsRead IsStateOf never (states_told answers.mine) shares.local)
         (IsRead IsStateOf never (states_told answers.theirs) shares.peer)
-        (Met exchange.old walk entries.items exchange.new) result }
+        (Met exchange.old walk entries.items [] limit exchange.new) result }
 {
     let mine = match read_states(alloc, answers.mine, shares.local) {
         Ok(states) => states,
@@ -160,7 +211,7 @@ fn hear_states(
         Ok(states) => states,
         Err(refusal) => return Err(SyncFault::Peer(refusal)),
     };
-    exchange.weigh(entries.len(), &mine, &theirs);
+    exchange.weigh(limit, entries.len(), &mine, &theirs);
     match meet(alloc, exchange.number(), walk, entries, mine, theirs) {
         Ok(stage) => Ok(stage),
         Err(refusal) => Err(SyncFault::Local(refusal)),

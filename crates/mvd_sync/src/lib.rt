@@ -5,6 +5,7 @@ pub mod asked;
 mod asking;
 mod cursor;
 mod exchange;
+mod front;
 mod hearing;
 mod levels;
 pub mod machine;

@@ -59,8 +59,8 @@ impl Stage {
     }
 }
 
-/// The walk goes on after a key that it told. One that differs waits, and those that wait are exchanged when they are
-/// as many as are exchanged at once.
+/// The walk goes on after a key that it told. One that differs waits, and the first that wait are exchanged when they
+/// are as many as are exchanged at once.
 pub fn settle(
     exchange: &mut Exchange,
     walk: BucketWalk,
@@ -78,7 +78,8 @@ pub fn settle(
     }
     exchange.wait(entry)?;
     if exchange.is_full() {
-        return Ok(Stage::Meets(walk, exchange.taken_out()));
+        let entries = exchange.taken_out()?;
+        return Ok(Stage::Meets(walk, entries));
     }
     Ok(Stage::Walks(walk))
 }
@@ -109,7 +110,7 @@ fn after_walk(exchange: &mut Exchange, walk: BucketWalk) -> Result<Stage, Refusa
         let found = walk.next()?;
         return settle(exchange, walk, found);
     }
-    let entries = exchange.taken_out();
+    let entries = exchange.taken_out()?;
     if entries.is_empty() {
         return Ok(Stage::Done);
     }

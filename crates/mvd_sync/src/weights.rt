@@ -7,12 +7,12 @@ use mvd_keys::KeyState;
 use mvd_wire::state_length;
 
 /// The most keys that are exchanged at once.
-const WINDOW: usize = 1_000;
+pub const WINDOW: usize = 1_000;
 
 /// How many are exchanged at first, when nothing is known of their states.
 pub const FIRST: usize = 16;
 
-/// How many times as many as before are exchanged next at most.
+/// How many times as many are exchanged next at most.
 const GROWTH: usize = 8;
 
 /// How many bytes of states a window is to bring.
@@ -29,16 +29,18 @@ fn weight(states: &[KeyState]) -> u64
     bytes
 }
 
-/// How many keys are exchanged at once after a window of so many, by the heavier of what the two sides told.
-pub fn next_most(most: usize, keys: usize, mine: &[KeyState], theirs: &[KeyState]) -> usize
-    requires { most ≤ 1000 }
-    ensures next { result ≡ next_most most keys (max (weight mine.now) (weight theirs.now)) }
+/// How many keys are exchanged at once after so many, by the heavier of what the two sides told, and no more than a
+/// limit.
+pub fn next_most(limit: usize, keys: usize, mine: &[KeyState], theirs: &[KeyState]) -> usize
+    requires limit { limit ≤ 1000 }
+    requires keys { keys ≤ 1000 }
+    ensures next { result ≡ next_most limit keys (max (weight mine.now) (weight theirs.now)) }
     ensures some { 1 ≤ result }
     ensures few { result ≤ 1000 }
 {
     let bytes = weight(mine).max(weight(theirs));
     let each = bytes / (keys as u64).max(1);
     let light = WINDOW_BYTES / each.max(1);
-    let grown = WINDOW.min(GROWTH * most);
+    let grown = limit.min(GROWTH * keys);
     (light.min(grown as u64) as usize).max(1)
 }

@@ -14,7 +14,10 @@ pub returns-in-Walks : goal.returns-in-Walks
 returns-in-Walks c = subst (λ (s : Stage). HearsAt c.args.exchange.now s c.args.shares c.args.answers c.hear_pages.new.exchange c.hear_pages.result) (sym c.in-Walks.is) c.hear_pages.ensures
 
 pub returns-in-Meets : goal.returns-in-Meets
-returns-in-Meets c = subst (λ (s : Stage). HearsAt c.args.exchange.now s c.args.shares c.args.answers c.hear_states.new.exchange c.hear_states.result) (sym c.in-Meets.is) (c.hear_states.ensures.same, c.hear_states.ensures.read)
+returns-in-Meets c = subst (λ (s : Stage). HearsAt c.args.exchange.now s c.args.shares c.args.answers c.hear_states.new.exchange c.hear_states.result) (sym c.in-Meets.is) c.hear_states.ensures
 
 pub returns-in-Carries : goal.returns-in-Carries
 returns-in-Carries c = subst (λ (s : Stage). HearsAt c.args.exchange.now s c.args.shares c.args.answers c.args.exchange.now c.hear_pushes.result) (sym c.in-Carries.is) (refl, c.hear_pushes.ensures)
+
+pub hear_states-requires : goal.hear_states-requires
+hear_states-requires c = let s = subst StageStands c.in-Meets.is c.requires.stands in record { few = s.1; held = s.2 }

@@ -1,4 +1,4 @@
-use Rattle.std.proofs.Common.{◌<◌, ◌∙◌, [], ap, arith, length, refl, subst}
+use Rattle.std.proofs.Common.{◌<◌, ◌≤◌, ◌∙◌, ◌∷◌, [], ap, arith, drop, length, length-append, refl, subst, take}
 use Rattle.mvd_sync.specs.Exchanges.{Exchanging}
 use Rattle.mvd_sync.specs.Machines.{equal, fills, waits}
 use Rattle.mvd_sync.proofs.Exchanging.{low_of, short_of}
@@ -10,13 +10,15 @@ returns-then-not-entry-clause-settles c = equal c.in-Some.entry c.in-Some.is (wa
 
 pub returns-then-is_full-clause-settles : goal.returns-then-is_full-clause-settles
 returns-then-is_full-clause-settles c =
-    let n = ap length c.taken_out.ensures.entries in
-    let long = c.is_full.ensures.full.0 c.if-is_full.true in
-    let most = ap (λ (w : Exchanging). w.most) c.in_ok-wait.ensures.waits in
-    fills c.in-Some.entry c.taken_out.result c.in-Some.is (was_true c.in-Some.entry.differs c.if-not-entry.false)
-    (c.taken_out.ensures.entries ∙ ap (λ (w : Exchanging). w.waiting) c.in_ok-wait.ensures.waits)
-    (omega (arith, n, long, most))
-    (c.taken_out.ensures.none ∙ ap (λ (w : Exchanging). record w { waiting = [] }) c.in_ok-wait.ensures.waits) refl
+    let wait = c.in_ok-wait.ensures.waits in
+    let n = ap (λ (w : Exchanging). length w.waiting) wait in
+    let m = length-append c.args.exchange.now.waiting (c.in-Some.entry ∷ []) in
+    let took = c.in_ok-entries.ensures in
+    fills c.in-Some.entry c.in_ok-entries.entries c.in-Some.is (was_true c.in-Some.entry.differs c.if-not-entry.false)
+    (subst (λ (w : Exchanging). w.most ≤ length w.waiting) wait (c.is_full.ensures.full.0 c.if-is_full.true))
+    (took.entries ∙ ap (λ (w : Exchanging). take w.most w.waiting) wait)
+    (took.some (omega (arith, n, m)))
+    (took.rest ∙ ap (λ (w : Exchanging). record w { waiting = drop w.most w.waiting }) wait) refl
 
 pub returns-clause-settles : goal.returns-clause-settles
 returns-clause-settles c =

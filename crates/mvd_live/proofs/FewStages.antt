@@ -90,12 +90,14 @@ module _ (f : Frame) (differed : List Key) (side : Side) where
       let m = ap (λ (w : Exchanging). length w.waiting) same ∙ length-append old.waiting (e ∷ []) in
       let few = s.few in
       subst (FewAt f differed side asked new) (sym is) (record { taken = s.taken; pages = s.pages; walk = s.walk; page = s.page; few = omega (arith, n, m, few) })
-  settle_few asked walk found old new stage (fills e entries some differs list long same is) s =
+  settle_few asked walk found old new stage (fills e entries some differs long list any same is) s =
       let n = ap (λ o. length (waits_of o)) some ∙ ap (λ b. length (cond b (e ∷ []) [])) differs in
+      let all = old.waiting ++ e ∷ [] in
       let m = ap (λ (w : Exchanging). length w.waiting) same in
-      let k = ap length list ∙ length-append old.waiting (e ∷ []) in
+      let k = ap length list in
+      let cut = sym (length-append (take old.most all) (drop old.most all)) ∙ ap length (take-append-drop old.most all) ∙ length-append old.waiting (e ∷ []) in
       let few = s.few in
-      subst (FewAt f differed side asked new) (sym is) (record { taken = s.taken; pages = s.pages; walk = s.walk; page = s.page; few = omega (arith, n, m, k, few) })
+      subst (FewAt f differed side asked new) (sym is) (record { taken = s.taken; pages = s.pages; walk = s.walk; page = s.page; few = omega (arith, n, m, k, cut, few) })
 
 -- ---- without a question
 
@@ -305,10 +307,11 @@ module _ (f : Frame) (differed : List Key) (all : HasAllThatDiffered f.locals f.
   walk_alone : (work work' : Exchanging) (walk : Walking) (stage' : Stage) → IsQuiet (Walks walk) → FromWalk work walk work' stage' → FewAt f differed side asked work (Walks walk) → FewAt f differed side asked work' stage'
   walk_alone work work' walk stage' quiet (goes_on walk' found goes settled) few =
       settle_few f differed side asked walk' found work work' stage' settled (goes_few f differed all side asked work.waiting walk walk' found quiet goes few)
-  walk_alone work work' walk stage' quiet (last entries walked more list same is) few =
+  walk_alone work work' walk stage' quiet (last entries walked list any same is) few =
       let n = ap length list in
       let m = ap (λ (w : Exchanging). length w.waiting) same in
-      subst (FewAt f differed side asked work') (sym is) (stands_less f differed side asked asked work.waiting work'.waiting 0 (2 * length entries.items) walk few (omega (arith, n, m)))
+      let cut = sym (length-append (take work.most work.waiting) (drop work.most work.waiting)) ∙ ap length (take-append-drop work.most work.waiting) in
+      subst (FewAt f differed side asked work') (sym is) (stands_less f differed side asked asked work.waiting work'.waiting 0 (2 * length entries.items) walk few (omega (arith, n, m, cut)))
   walk_alone work work' walk stage' quiet (ends walked none same is) few =
       let n = few.few in
       subst (FewAt f differed side asked work') (sym is) (sum_few f side differed few.taken asked few.pages few.walk.once few.walk.differ few.page.held few.page.many (omega (arith, n)))

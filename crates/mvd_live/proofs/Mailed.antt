@@ -18,13 +18,13 @@ use Rattle.mvd_live.specs.Lives.{IsGiven, Lives}
 use Rattle.mvd_live.specs.Mail.{AreLive, MailEnds, Mail, MailSteps, Sits, Waiting, mail_locals, mail_peers, standing, waits_at}
 use Rattle.mvd_live.specs.Runs.{StartsRun, TakesLeg, IsLater, Leg, RunsLegs, Standing, all_locals, all_peers, both_asked}
 use Rattle.mvd_live.proofs.Answered.{both_answered}
-use Rattle.mvd_live.proofs.FewWhole.{asks_few, step_few}
+use Rattle.mvd_live.proofs.FewWhole.{asks_few, fewer_in_all, step_few}
 use Rattle.mvd_live.proofs.Runner.{asks_named}
 use Rattle.mvd_live.proofs.Whole.{given, grows_self, lives}
 
 -- what is asked of what is wanted is no more
-fewer : (sent asked now wanted most : ℕ) → sent ≡ asked + now → now ≤ wanted → asked + wanted ≤ most → sent ≤ most
-fewer sent asked now wanted most is within few = omega (arith, is, within, few)
+fewer : (sent asked now wanted : ℕ) → sent ≡ asked + now → now ≤ wanted → sent ≤ asked + wanted
+fewer sent asked now wanted is within = omega (arith, is, within)
 
 -- as a run has it before it asks
 abbrev at_machine : Machining → Waiting → Standing
@@ -123,10 +123,10 @@ module _ (most : Two ℕ ℕ) where
         let among = subst (λ ms. HasAllThatDiffered ms (all_peers (r.run ++ [])) differed) (sym (r.locals [] ∙ append-nil (mail_locals legs))) (subst (λ ms. HasAllThatDiffered (mail_locals legs) ms differed) (sym (r.peers [] ∙ append-nil (mail_peers legs))) all) in
         let few = asks_few number questions most (standing begun now) (r.run ++ []) (at_machine r.end at) begins (r.on [] (at_machine r.end at) later) differed among at.meeting.machine (Some at.step) r.next in
         record {
-          local = fewer (sent_local now legs) (asked_local (r.run ++ [])) (questions_in (asked at.step.local)) (wanted_count AtLocal at.meeting.machine.stage) (1 + 5 * length differed + len at.local / 1000) (r.sent ∙ ap (λ ls. asked_local ls + questions_in (asked at.step.local)) (sym run))
-              (step_few AtLocal r.end at.meeting.machine at.step r.next) few.local;
-          peer = fewer (sent_peer now legs) (asked_peer (r.run ++ [])) (questions_in (asked at.step.peer)) (wanted_count AtPeer at.meeting.machine.stage) (1 + 5 * length differed + len at.peer / 1000) (r.sent' ∙ ap (λ ls. asked_peer ls + questions_in (asked at.step.peer)) (sym run))
-              (step_few AtPeer r.end at.meeting.machine at.step r.next) few.peer;
+          local = fewer_in_all (sent_local now legs) (asked_local (r.run ++ []) + wanted_count AtLocal at.meeting.machine.stage) at.local at.peer differed
+              (fewer (sent_local now legs) (asked_local (r.run ++ [])) (questions_in (asked at.step.local)) (wanted_count AtLocal at.meeting.machine.stage) (r.sent ∙ ap (λ ls. asked_local ls + questions_in (asked at.step.local)) (sym run)) (step_few AtLocal r.end at.meeting.machine at.step r.next)) few.local;
+          peer = fewer_in_all (sent_peer now legs) (asked_peer (r.run ++ []) + wanted_count AtPeer at.meeting.machine.stage) at.peer at.local differed
+              (fewer (sent_peer now legs) (asked_peer (r.run ++ [])) (questions_in (asked at.step.peer)) (wanted_count AtPeer at.meeting.machine.stage) (r.sent' ∙ ap (λ ls. asked_peer ls + questions_in (asked at.step.peer)) (sym run)) (step_few AtPeer r.end at.meeting.machine at.step r.next)) few.peer;
         }
 
     -- NOTHING IS MADE UP by mail

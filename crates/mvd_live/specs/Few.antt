@@ -4,7 +4,7 @@ use Rattle.std.specs.Prelude.{◌+◌, ◌≤◌, ℕ, List, [], ◌∷◌, Cont
 use Rattle.mvd_keys.specs.Writes.{Key}
 use Rattle.mvd_site.specs.Held.{States}
 use Rattle.mvd_sync.specs.Machines.{Machining, wanted_count}
-use Rattle.mvd_sync.specs.Session.{AreFew, HasAllThatDiffer}
+use Rattle.mvd_sync.specs.Session.{AreFewInAll, HasAllThatDiffer}
 use Rattle.mvd_sync.specs.Steps.{Wanted, asked}
 use Rattle.mvd_sync.specs.declared.report.Side.TheVariants.{Local as AtLocal, Peer as AtPeer}
 use Rattle.mvd_meet.specs.Callers.{questions_at}
@@ -33,10 +33,10 @@ asked_peer [] = 0
 asked_peer (leg ∷ legs) = questions_in leg.asks.peer + asked_peer legs
 
 -- FEW WERE ASKED, with those that are wanted next: of each side one, five for each of these keys, and one for each
--- thousand that it holds by then
+-- thousand that it holds by then; and those that are asked again where a side did not hold a state
 pub record AsksFew (legs : List Leg) (next : Machining) (now : Standing) (keys : List Key) : Type 0 where
-  pub local : AreFew (asked_local legs + wanted_count AtLocal next.stage) now.local keys
-  pub peer : AreFew (asked_peer legs + wanted_count AtPeer next.stage) now.peer keys
+  pub local : AreFewInAll (asked_local legs + wanted_count AtLocal next.stage) now.local now.peer keys
+  pub peer : AreFewInAll (asked_peer legs + wanted_count AtPeer next.stage) now.peer now.local keys
 
 -- ---- by mail
 
@@ -51,8 +51,8 @@ sent_peer now (leg ∷ legs) = questions_in (asked now.step.peer) + sent_peer le
 
 -- FEW WERE ASKED BY MAIL
 pub record MailsFew (now : Waiting) (legs : List (Mail × Waiting)) (keys : List Key) : Type 0 where
-  pub local : AreFew (sent_local now legs) (waits_at now legs).local keys
-  pub peer : AreFew (sent_peer now legs) (waits_at now legs).peer keys
+  pub local : AreFewInAll (sent_local now legs) (waits_at now legs).local (waits_at now legs).peer keys
+  pub peer : AreFewInAll (sent_peer now legs) (waits_at now legs).peer (waits_at now legs).local keys
 
 -- what either caller has counted is no more than that, with what it had counted before
 pub record CountsSent (first : Mail) (now : Waiting) (legs : List (Mail × Waiting)) : Type 0 where

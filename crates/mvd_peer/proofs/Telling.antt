@@ -1,5 +1,5 @@
 -- What a live side tells, question by question.
-use Rattle.std.proofs.Common.{◌≡◌, ◌≢◌, ◌⊎◌, inl, inr, ℕ, ◌+◌, ◌<◌, List, [], ◌∷◌, ◌++◌, length, take, get_or, refl, sym, ap, subst, ◌∙◌, Option, false, true}
+use Rattle.std.proofs.Common.{◌≡◌, ◌≢◌, inl, inr, ℕ, ◌+◌, ◌<◌, List, [], ◌∷◌, ◌++◌, length, take, get_or, sym, ap, subst, ◌∙◌, Option, false}
 use Rattle.std.specs.Prelude.{Result, Ok, Err, IfOk, IfErr, OnOk}
 use Rattle.std.proofs.lemmas.List.{take_more}
 use Rattle.mvd_dots.specs.declared.refusals.Refusal.{Refusal}
@@ -14,7 +14,7 @@ use Rattle.mvd_peer.specs.Live.{Grows}
 use Rattle.mvd_peer.specs.PushedStates.{Each, pushed}
 use Rattle.mvd_peer.specs.Sides.{StaysFaithful}
 use Rattle.mvd_peer.specs.Telling.{PageTold, StateTold, TellsEach, TellsLive, TellsNode, TellsOne, TellsPush}
-use Rattle.mvd_peer.specs.Windows.{CannotTake, HasKeys, IsNode, LeavesOfPush, PageValue, Pushes, TellsMore, leaves_open}
+use Rattle.mvd_peer.specs.Windows.{CannotTake, HasKeys, IsNode, LeavesOfPush, PageValue, Pushes, TellsMore}
 use Rattle.mvd_peer.proofs.Growths.{grows_on, has_pushed, pushed_grows}
 use Rattle.mvd_peer.proofs.JoinLaws.{valid_at}
 

@@ -149,10 +149,10 @@ alone_smaller work (Failed fault) work' stage' never = absurd never
 
 -- ---- it stays in form
 
-abbrev IsHeld : Option Entry → Type 0
+abbrev pub IsHeld : Option Entry → Type 0
 IsHeld found = IfSome found IsHeldByEither
 
-goes_held : (walk : Walking) (found : Option Entry) (walk' : Walking) → GoesTo walk found walk' → IsHeld walk.entry → IsHeld found × IsHeld walk'.entry
+pub goes_held : (walk : Walking) (found : Option Entry) (walk' : Walking) → GoesTo walk found walk' → IsHeld walk.entry → IsHeld found × IsHeld walk'.entry
 goes_held walk found walk' (tells b b' e some takes full told is) held = (
   subst IsHeld (sym told) (found_held b b' e takes),
   subst IsHeld (sym (ap (λ (w : Walking). w.entry) is)) held,
@@ -170,7 +170,7 @@ goes_held walk found walk' (closes b some none none' told (no_later no_more is))
   subst IsHeld (sym (ap (λ (w : Walking). w.entry) is)) tt,
 )
 
-told_held : (walk : Walking) (mine theirs : List ListingValue) (found : Option Entry) (walk' : Walking) → IsTold walk mine theirs found walk' → IsHeld walk.entry → IsHeld found × IsHeld walk'.entry
+pub told_held : (walk : Walking) (mine theirs : List ListingValue) (found : Option Entry) (walk' : Walking) → IsTold walk mine theirs found walk' → IsHeld walk.entry → IsHeld found × IsHeld walk'.entry
 told_held walk mine theirs found walk' (opens b later none all told is) held = (
   subst IsHeld (sym told) tt,
   subst IsHeld (sym (ap (λ (w : Walking). w.entry) is)) tt,
@@ -180,7 +180,7 @@ told_held walk mine theirs found walk' (fills_page b e some waited after after' 
   subst IsHeld (sym (ap (λ (w : Walking). w.entry) is)) tt,
 )
 
-Each-drop : {X : Type 0} (P : X → Type 0) (n : ℕ) (xs : List X) → Each P xs → Each P (drop n xs)
+pub Each-drop : {X : Type 0} (P : X → Type 0) (n : ℕ) (xs : List X) → Each P xs → Each P (drop n xs)
 Each-drop P zero xs h = h
 Each-drop P (suc n) [] h = tt
 Each-drop P (suc n) (x ∷ xs) h = Each-drop P n xs h.1

@@ -1,4 +1,3 @@
-use Rattle.mvd_dots.specs.declared.refusals.Refusal.TheVariants.{Memory}
 use Rattle.mvd_peer.specs.Sides.{IsOfNoQuestion}
 use Rattle.mvd_peer.proofs.Dropped.{always_memory, held_err, held_live, held_ok, held_on, held_within, ok_then}
 use Rattle.mvd_site.specs.Held.{state_at}

@@ -1,5 +1,4 @@
 use Rattle.std.proofs.Common.{refl}
-use Rattle.mvd_site.specs.Held.{AreHeld}
 use Rattle.mvd_peer.proofs.SiteSides.{IsWholeSite, node_is}
 use Rattle.mvd_peer.proofs.Telling.{quiet_node}
 use Rattle.mvd_peer.proofs.site_side.SitePeer.node.Goals as goal

@@ -6,6 +6,7 @@ pub mod Noting
 pub mod Fars
 pub mod Cutting
 pub mod Once
+pub mod Nexts
 pub mod Opened
 pub mod PushTurns
 pub mod Seen

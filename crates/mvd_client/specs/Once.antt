@@ -1,14 +1,16 @@
 -- One session with one server: what both are asked behind it, and what is printed of it.
-use Rattle.std.specs.Prelude.{◌≡◌, ◌⊎◌, ⊤, ℕ, List, [], false, Option, None, Some, Result, Ok, Err, IsErrAnd}
+use Rattle.std.specs.Prelude.{◌≡◌, ◌⊎◌, ℕ, List, [], false, Option, None, Some, Result, Ok, Err, IsErrAnd}
 use Rattle.std.specs.Net.Socket.{socket_ip}
 use Rattle.std.specs.Result.{result_and}
 use Rattle.std.specs.declared.net.socket_addr.SocketAddr.{SocketAddr}
-use Rattle.mvd_client.specs.Between.{FailsBetween, MeetsBetween, far_within, true_within}
-use Rattle.mvd_client.specs.LetIn.{GivesIn}
+use Rattle.mvd_client.specs.Between.{FailsBetween, MeetsBetween, Server, far_within, server_at, true_within}
+use Rattle.mvd_client.specs.Gone.{LetsGo}
+use Rattle.mvd_client.specs.LetIn.{LeadsTo}
 use Rattle.mvd_client.specs.Met.{IsStopAt}
 use Rattle.mvd_client.specs.Reported.{ReportsAs, meeting_text, root_in_states}
 use Rattle.mvd_client.specs.declared.counted.Counted.{Counted}
 use Rattle.mvd_client.specs.declared.ends.Failure.{Failure}
+use Rattle.mvd_client.specs.declared.gone.Gone.{Gone}
 use Rattle.mvd_client.specs.declared.meeting.Root.{Root}
 use Rattle.mvd_dots.specs.declared.refusals.Refusal.{Refusal}
 use Rattle.mvd_dots.specs.declared.refusals.Refusal.TheVariants.{Memory}
@@ -67,61 +69,66 @@ module _ {L : Type 0} (line : LineGhosts L) where
     pub truth : true_within line at → (far_within line at).due ≡ []
         → root.digest ≡ root_in_states (far_within line at).states
 
-  -- why there is no root of a server: this was told in its place, or memory was refused before that
-  pub record HasNoRoot (server : SocketAddr) (at : Counted L) (stop : Stop) : Type 0 where
+  -- why there is no root of a server: this was told in its place, or memory was refused before that; the line is let go
+  pub record HasNoRoot (server : SocketAddr) (at : Counted L) (was now : Gone L) (stop : Stop) : Type 0 where
     pub refusal : Refusal
     pub stops : IsStopAt server refusal stop
-    pub why : (refusal ≡ Memory) ⊎ ((at' : Counted L) × AsksAt (node_query []) at at' (Err refusal))
+    pub why : ((refusal ≡ Memory) × LetsGo at.line was now)
+        ⊎ ((at' : Counted L) × AsksAt (node_query []) at at' (Err refusal) × LetsGo at'.line was now)
 
   -- the root of a server, and the line that is kept; or why there is none
-  abbrev pub GivesRoot : SocketAddr → Counted L → Option (Counted L) → Result Root Stop → Type 0
-  GivesRoot server at kept (Ok root) = (at' : Counted L) × (kept ≡ Some at') × SaysRoot server at at' root
-  GivesRoot server at kept (Err stop) = HasNoRoot server at stop
+  abbrev pub GivesRoot : SocketAddr → Counted L → Option (Counted L) → Gone L → Gone L → Result Root Stop → Type 0
+  GivesRoot server at kept was now (Ok root) =
+      (at' : Counted L) × (kept ≡ Some at') × SaysRoot server at at' root × (now ≡ was)
+  GivesRoot server at kept was now (Err stop) = HasNoRoot server at was now stop
 
-  -- a Bye was said over a line, and nothing else, and this was told
-  abbrev pub SaysByeAt : Counted L → Result (Unit {0}) Refusal → Type 0
-  SaysByeAt at told = (at' : Counted L) × AsksAt bye_query at at' told
+  -- a Bye was said over a line, and nothing else, and this was told; the line is let go
+  abbrev pub SaysByeAt : Counted L → Gone L → Gone L → Result (Unit {0}) Refusal → Type 0
+  SaysByeAt at was now told = (at' : Counted L) × AsksAt bye_query at at' told × LetsGo at'.line was now
 
   -- both are parted with, also where one of them refuses that
-  pub record PartsBoth (near far : SocketAddr) (near_at far_at : Counted L) (result : Result (Unit {0}) Stop)
-      : Type 0 where
+  pub record PartsBoth (near far : SocketAddr) (near_at far_at : Counted L) (was now : Gone L)
+      (result : Result (Unit {0}) Stop) : Type 0 where
+    pub mid : Gone L
     pub near_bye : Result (Unit {0}) Refusal
     pub far_bye : Result (Unit {0}) Refusal
-    pub near_said : SaysByeAt near_at near_bye
-    pub far_said : SaysByeAt far_at far_bye
+    pub near_said : SaysByeAt near_at was mid near_bye
+    pub far_said : SaysByeAt far_at mid now far_bye
     pub ends : EndsParted near far near_bye far_bye result
 
   -- WHAT COMES BEHIND A SESSION of two servers that ended well, over the lines that are kept. A root is not told, and
   -- nothing is printed; or what is printed is of the session, with the root that each server told, and then both are
-  -- parted with. The command is stopped as that was told, or else as they are parted with
-  pub data TellsThenParts (near far : SocketAddr) (near_at far_at : Counted L) (report : Report)
+  -- parted with. The command is stopped as that was told, or else as they are parted with. Both lines are let go
+  pub data TellsThenParts (near far : SocketAddr) (near_at far_at : Counted L) (was now : Gone L) (report : Report)
       (out out' : Option (List ℕ)) (result : Result (Unit {0}) Stop) : Type 0 where
-    no_near : (stop : Stop) → HasNoRoot near near_at stop → result ≡ Err stop → out' ≡ out
-        → TellsThenParts near far near_at far_at report out out' result
-    no_far : (near_at' : Counted L) (near_root : Root) → SaysRoot near near_at near_at' near_root → (stop : Stop)
-        → HasNoRoot far far_at stop → result ≡ Err stop → out' ≡ out
-        → TellsThenParts near far near_at far_at report out out' result
+    no_near : (mid : Gone L) (stop : Stop) → HasNoRoot near near_at was mid stop → LetsGo far_at.line mid now
+        → result ≡ Err stop → out' ≡ out → TellsThenParts near far near_at far_at was now report out out' result
+    no_far : (near_at' : Counted L) (near_root : Root) → SaysRoot near near_at near_at' near_root
+        → (mid : Gone L) (stop : Stop) → HasNoRoot far far_at was mid stop → LetsGo near_at'.line mid now
+        → result ≡ Err stop → out' ≡ out → TellsThenParts near far near_at far_at was now report out out' result
     told : (near_at' far_at' : Counted L) (near_root far_root : Root) → SaysRoot near near_at near_at' near_root
         → SaysRoot far far_at far_at' far_root → (reported parted : Result (Unit {0}) Stop)
         → ReportsAs (meeting_text report near_root far_root) false report out out' reported
-        → PartsBoth near far near_at' far_at' parted → result ≡ result_and reported parted
-        → TellsThenParts near far near_at far_at report out out' result
+        → PartsBoth near far near_at' far_at' was now parted → result ≡ result_and reported parted
+        → TellsThenParts near far near_at far_at was now report out out' result
 
-  -- ONE SESSION WITH ONE SERVER, over lines that the addresses give. It failed, and nothing is printed; or this comes
-  -- behind the session that ran
-  pub data MeetsOnce (near_gives far_gives : L → Type 0) (near far : SocketAddr) (out out' : Option (List ℕ))
+module _ {L : Type 0} (line : LineGhosts L) (gives : SocketAddr → L → Type 0) where
+  -- ONE SESSION WITH ONE SERVER, over lines to the two. It failed, and nothing is printed; or this comes behind the
+  -- session that ran
+  pub data MeetsOnce (first : Server L) (far : SocketAddr) (now : Gone L) (out out' : Option (List ℕ))
       (result : Result (Unit {0}) Stop) : Type 0 where
-    failed : (failure : Failure) → FailsBetween line near_gives far_gives ⊤ ⊤ near far failure
-        → result ≡ Err failure.stop → out' ≡ out → MeetsOnce near_gives far_gives near far out out' result
-    met : (report : Report) → (it : MeetsBetween line near_gives far_gives ⊤ ⊤ (Ok report))
-        → TellsThenParts near far (line_of it.near') (line_of it.far') report out out' result
-        → MeetsOnce near_gives far_gives near far out out' result
+    failed : (failure : Failure) → FailsBetween line gives first (server_at far) now failure
+        → result ≡ Err failure.stop → out' ≡ out → MeetsOnce first far now out out' result
+    met : (report : Report) → (it : MeetsBetween line gives first (server_at far) (Ok report)) → (was : Gone L)
+        → TellsThenParts line first.address far (line_of it.near') (line_of it.far') was now report out out' result
+        → MeetsOnce first far now out out' result
 
-  -- so with the server that a text names: a port alone is at the address of the first. Or memory was refused for it
-  pub data MeetsServer (gives : SocketAddr → L → Type 0) (token : Option (List ℕ)) (near : SocketAddr) (text : List ℕ)
-      (out out' : Option (List ℕ)) (result : Result (Unit {0}) Stop) : Type 0 where
-    no_address : IsErrAnd result (λ stop. stop.fault ≡ Stopped Memory) → out' ≡ out
-        → MeetsServer gives token near text out out' result
-    once : (far : SocketAddr) → IsAddress (socket_ip near) text far
-        → MeetsOnce (GivesIn line (gives near) token) (GivesIn line (gives far) token) near far out out' result
-        → MeetsServer gives token near text out out' result
+-- so with the server that a text names: a port alone is at the address of the first. Or memory was refused for it
+pub data MeetsServer {L : Type 0} (line : LineGhosts L) (gives : SocketAddr → L → Type 0) (token : Option (List ℕ))
+    (near : SocketAddr) (text : List ℕ) (now : Gone L) (out out' : Option (List ℕ)) (result : Result (Unit {0}) Stop)
+    : Type 0 where
+  no_address : IsErrAnd result (λ stop. stop.fault ≡ Stopped Memory) → out' ≡ out
+      → MeetsServer line gives token near text now out out' result
+  once : (far : SocketAddr) → IsAddress (socket_ip near) text far
+      → MeetsOnce line (LeadsTo line gives token) (server_at near) far now out out' result
+      → MeetsServer line gives token near text now out out' result

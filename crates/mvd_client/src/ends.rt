@@ -1,14 +1,18 @@
 //! The servers that meet, the connections with them, and one session of two of them.
-ghost use Rattle.std.specs.Prelude.{◌≡◌, IfErr, IfOk, IsErrAnd, None, OnErr, Some, option_copied};
-ghost use Rattle.mvd_client.specs.Between.{EndsBetween, IsFreshLine};
-ghost use Rattle.mvd_client.specs.LetIn.{GivesIn};
+ghost use Rattle.std.specs.Prelude.{◌≡◌, IfErr, IfNone, IfOk, IfSome, IsErrAnd, None, OnErr, Result, Some, option_copied};
+ghost use Rattle.mvd_client.specs.Between.{EndsBetween, IsLineTo, KeepsLineTo, server_of};
+ghost use Rattle.mvd_client.specs.Gone.{LetsGo};
+ghost use Rattle.mvd_client.specs.LetIn.{LeadsTo};
 ghost use Rattle.mvd_client.specs.Met.{IsFailureOf, IsStopAt};
 ghost use Rattle.mvd_client.specs.Once.{SaysByeAt, GivesRoot};
 ghost use Rattle.mvd_client.specs.Stopped.{IsUndialed};
+ghost use Rattle.mvd_client.specs.declared.counted.Counted.{Counted};
+ghost use Rattle.mvd_dots.specs.declared.refusals.Refusal.{Refusal};
 ghost use Rattle.mvd_dots.specs.declared.refusals.Refusal.TheVariants.{Truncated};
 
 use crate::counted::Counted;
 use crate::dial::{Dial, let_in, undialed};
+use crate::gone::Gone;
 use crate::meeting::{Root, meet_over, root_over};
 use crate::progress::Watched;
 use http_server::Log;
@@ -70,21 +74,62 @@ impl<L: Line> End<L> {
     }
 
     /// Says Bye where a connection is open, which ends.
-    pub(crate) fn part(&mut self, alloc: Global) -> Result<(), Refusal>
+    pub(crate) fn part(&mut self, alloc: Global, gone: &mut Gone<L>) -> Result<(), Refusal>
         ensures address { self.new.address ≡ self.old.address }
-        ensures said { (at : Counted L) → self.old.link ≡ Some at → SaysByeAt L.Line at result }
+        ensures said { (at : Counted L) → self.old.link ≡ Some at → SaysByeAt L.Line at gone.old gone.new result }
     {
         match self.link.take() {
-            Some(link) => Remote::over(alloc, link).bye(),
+            Some(link) => says_bye(alloc, link, gone),
             None => Ok(()),
         }
     }
 
+    /// The connection that is open, if one is. One over which too many frames came is parted with.
+    fn takes(&mut self, alloc: Global, gone: &mut Gone<L>) -> Option<Counted<L>>
+        ensures address { self.new.address ≡ self.old.address }
+        ensures none { self.new.link ≡ None }
+        ensures kept { IfSome result (λ at. self.old.link ≡ Some at) }
+        // It is parted with by a Bye, and nothing else.
+        ensures given_up { IfNone result ((at : Counted L) → self.old.link ≡ Some at →
+            (told : Result (Unit {0}) Refusal) × SaysByeAt L.Line at gone.old gone.new told) }
+    {
+        match self.link.take() {
+            Some(link) => {
+                if link.frames < MOST_FRAMES {
+                    return Some(link);
+                }
+                let _ = says_bye(alloc, link, gone);
+                None
+            }
+            None => None,
+        }
+    }
+
+    /// Lets a connection go, over which a session failed.
+    fn ends(&mut self, link: Counted<L>, gone: &mut Gone<L>)
+        ensures address { self.new.address ≡ self.old.address }
+        ensures none { self.new.link ≡ self.old.link }
+        ensures gone { LetsGo link.line gone.old gone.new }
+    {
+        self.frames = link.frames;
+        gone.lets_go(link.line);
+    }
+
+    /// Lets a connection go that is open.
+    pub(crate) fn lets_go(&mut self, gone: &mut Gone<L>)
+        ensures address { self.new.address ≡ self.old.address }
+        ensures gone { (at : Counted L) → self.old.link ≡ Some at → LetsGo at.line gone.old gone.new }
+    {
+        if let Some(link) = self.link.take() {
+            gone.lets_go(link.line);
+        }
+    }
+
     /// The digest of all that the server holds, over the connection that is open.
-    pub(crate) fn root<'a>(&mut self, alloc: Global) -> Result<Root, Stop<'a>>
+    pub(crate) fn root<'a>(&mut self, alloc: Global, gone: &mut Gone<L>) -> Result<Root, Stop<'a>>
         ensures address { self.new.address ≡ self.old.address }
         ensures told { (at : Counted L) → self.old.link ≡ Some at →
-            GivesRoot L.Line self.old.address at self.new.link result }
+            GivesRoot L.Line self.old.address at self.new.link gone.old gone.new result }
         ensures none { self.old.link ≡ None → IsErrAnd result (IsStopAt self.old.address Truncated) }
     {
         let address = self.address;
@@ -97,7 +142,10 @@ impl<L: Line> End<L> {
                 self.link = Some(remote.into_line());
                 Ok(Root { address, digest })
             }
-            Err(refusal) => Err(Stop::at_server(address, refusal)),
+            Err(refusal) => {
+                gone.lets_go(remote.into_line().line);
+                Err(Stop::at_server(address, refusal))
+            }
         }
     }
 
@@ -119,6 +167,16 @@ impl<L: Line> End<L> {
     }
 }
 
+/// Says Bye over a connection, and lets it go.
+fn says_bye<L: Line>(alloc: Global, link: Counted<L>, gone: &mut Gone<L>) -> Result<(), Refusal>
+    ensures { SaysByeAt L.Line link gone.old gone.new result }
+{
+    let mut remote = Remote::over(alloc, link);
+    let told = remote.bye();
+    gone.lets_go(remote.into_line().line);
+    told
+}
+
 /// A session. It goes on over new connections where a server takes no more frames of the old ones, or where one that
 /// was kept since the session before was cut meanwhile.
 #[tactic(none)]
@@ -128,25 +186,25 @@ pub(crate) fn meet<'a, D: Dial, E: Write>(
     near: &mut End<D::Dialed>,
     far: &mut End<D::Dialed>,
     terms: MeetingTerms<'_>,
+    gone: &mut Gone<D::Dialed>,
     errors: &mut E,
 ) -> Result<Report, Failure<'a>>
     ensures near { near.new.address ≡ near.old.address }
     ensures far { far.new.address ≡ far.old.address }
     // What it tells is what came of the last session.
     ensures met { EndsBetween D.Dialed.Line
-        (GivesIn D.Dialed.Line (D.gives dial.now near.old.address) (option_copied terms.entry.token))
-        (GivesIn D.Dialed.Line (D.gives dial.now far.old.address) (option_copied terms.entry.token))
-        (IsFreshLine D.Dialed.Line
-        (GivesIn D.Dialed.Line (D.gives dial.now near.old.address) (option_copied terms.entry.token)) near.old.link)
-        (IsFreshLine D.Dialed.Line
-        (GivesIn D.Dialed.Line (D.gives dial.now far.old.address) (option_copied terms.entry.token)) far.old.link)
-        near.old.address far.old.address near.new.link far.new.link result }
+        (LeadsTo D.Dialed.Line (D.gives dial.now) (option_copied terms.entry.token))
+        (server_of near.old) (server_of far.old) near.new.link far.new.link gone.new result }
+    // After a failure a line is kept only that was kept before, or over which nothing was asked.
+    ensures near_kept { OnErr result (KeepsLineTo
+        (LeadsTo D.Dialed.Line (D.gives dial.now) (option_copied terms.entry.token)) (server_of near.old)
+        near.new.link) }
 {
     'tries: for _anew in 0..MOST_ANEW {
         let is_near_kept = near.link.is_some();
         let is_far_kept = far.link.is_some();
         let told = told(errors, terms.verbose);
-        match session(dial, alloc, near, far, terms, told) {
+        match session(dial, alloc, near, far, terms, gone, told) {
             Err(failure) if is_spent(failure, near, far) => {}
             Err(failure) if is_near_kept && is_cut(failure, Side::Local) => {}
             Err(failure) if is_far_kept && is_cut(failure, Side::Peer) => {}
@@ -154,7 +212,7 @@ pub(crate) fn meet<'a, D: Dial, E: Write>(
         }
     }
     let told = told(errors, terms.verbose);
-    session(dial, alloc, near, far, terms, told)
+    session(dial, alloc, near, far, terms, gone, told)
 }
 
 /// Whether the connection with this side was cut.
@@ -185,7 +243,7 @@ fn is_spent<L: Line>(failure: Failure<'_>, near: &End<L>, far: &End<L>) -> bool 
     }
 }
 
-/// A session over the connections that are open, or over new ones. After a fault neither is kept.
+/// A session over the connections that are open, or over new ones. After a fault both are let go.
 #[tactic(none)]
 fn session<'a, D: Dial, E: Write>(
     dial: &D,
@@ -193,35 +251,29 @@ fn session<'a, D: Dial, E: Write>(
     near: &mut End<D::Dialed>,
     far: &mut End<D::Dialed>,
     terms: MeetingTerms<'_>,
+    gone: &mut Gone<D::Dialed>,
     told: Option<&mut E>,
 ) -> Result<Report, Failure<'a>>
     ensures near { near.new.address ≡ near.old.address }
     ensures far { far.new.address ≡ far.old.address }
-    // After a failure a line is kept only that nothing was asked over.
-    ensures near_kept { OnErr result (IsFreshLine D.Dialed.Line
-        (GivesIn D.Dialed.Line (D.gives dial.now near.old.address) (option_copied terms.entry.token)) near.old.link →
-        IsFreshLine D.Dialed.Line
-        (GivesIn D.Dialed.Line (D.gives dial.now near.old.address) (option_copied terms.entry.token)) near.new.link) }
-    ensures far_kept { OnErr result (IsFreshLine D.Dialed.Line
-        (GivesIn D.Dialed.Line (D.gives dial.now far.old.address) (option_copied terms.entry.token)) far.old.link →
-        IsFreshLine D.Dialed.Line
-        (GivesIn D.Dialed.Line (D.gives dial.now far.old.address) (option_copied terms.entry.token)) far.new.link) }
+    // After a failure a line is kept only that was kept before, or over which nothing was asked.
+    ensures near_kept { OnErr result (KeepsLineTo
+        (LeadsTo D.Dialed.Line (D.gives dial.now) (option_copied terms.entry.token)) (server_of near.old)
+        near.new.link) }
+    ensures far_kept { OnErr result (KeepsLineTo
+        (LeadsTo D.Dialed.Line (D.gives dial.now) (option_copied terms.entry.token)) (server_of far.old)
+        far.new.link) }
     ensures met { EndsBetween D.Dialed.Line
-        (GivesIn D.Dialed.Line (D.gives dial.now near.old.address) (option_copied terms.entry.token))
-        (GivesIn D.Dialed.Line (D.gives dial.now far.old.address) (option_copied terms.entry.token))
-        (IsFreshLine D.Dialed.Line
-        (GivesIn D.Dialed.Line (D.gives dial.now near.old.address) (option_copied terms.entry.token)) near.old.link)
-        (IsFreshLine D.Dialed.Line
-        (GivesIn D.Dialed.Line (D.gives dial.now far.old.address) (option_copied terms.entry.token)) far.old.link)
-        near.old.address far.old.address near.new.link far.new.link result }
+        (LeadsTo D.Dialed.Line (D.gives dial.now) (option_copied terms.entry.token))
+        (server_of near.old) (server_of far.old) near.new.link far.new.link gone.new result }
 {
     let side = Side::Local;
-    let near_link = match opened(dial, alloc, near, terms) {
+    let near_link = match opened(dial, alloc, near, terms, gone) {
         Ok(link) => link,
         Err(stop) => return Err(Failure { side, stop }),
     };
     let side = Side::Peer;
-    let far_link = match opened(dial, alloc, far, terms) {
+    let far_link = match opened(dial, alloc, far, terms, gone) {
         Ok(link) => link,
         Err(stop) => {
             near.link = Some(near_link);
@@ -238,8 +290,8 @@ fn session<'a, D: Dial, E: Write>(
     let report = match meet_over(alloc, &mut local, &mut peer) {
         Ok(report) => report,
         Err(fault) => {
-            near.frames = local.into_line().frames;
-            far.frames = peer.side.into_line().frames;
+            near.ends(local.into_line(), gone);
+            far.ends(peer.side.into_line(), gone);
             return Err(failed(near.address, far.address, fault));
         }
     };
@@ -255,22 +307,19 @@ fn opened<'a, D: Dial>(
     alloc: Global,
     end: &mut End<D::Dialed>,
     terms: MeetingTerms<'_>,
+    gone: &mut Gone<D::Dialed>,
 ) -> Result<Counted<D::Dialed>, Stop<'a>>
     ensures address { end.new.address ≡ end.old.address }
     ensures none { end.new.link ≡ None }
-    ensures opened { IfOk result (λ counted. IsFreshLine D.Dialed.Line
-        (GivesIn D.Dialed.Line (D.gives dial.now end.old.address) (option_copied terms.entry.token)) end.old.link →
-        GivesIn D.Dialed.Line (D.gives dial.now end.old.address) (option_copied terms.entry.token) counted.line) }
+    ensures opened { IfOk result (IsLineTo
+        (LeadsTo D.Dialed.Line (D.gives dial.now) (option_copied terms.entry.token)) (server_of end.old)) }
     ensures undialed { IfErr result (IsUndialed end.old.address) }
 {
-    if let Some(link) = end.link.take() {
-        if link.frames < MOST_FRAMES {
-            return Ok(link);
-        }
-        let _ = Remote::over(alloc, link).bye();
+    if let Some(link) = end.takes(alloc, gone) {
+        return Ok(link);
     }
     end.frames = 0;
-    match let_in(dial, alloc, end.address, terms.idle, terms.token) {
+    match let_in(dial, alloc, end.address, terms.idle, terms.token, gone) {
         Ok(line) => Ok(Counted::new(line)),
         Err(fault) => Err(undialed(end.address, fault)),
     }

@@ -1,14 +1,17 @@
 //! Sessions between a server and each of a list, one after the other: once, or again and again.
-ghost use Rattle.std.specs.Prelude.{◌≡◌, ◌≢◌, ◌∷◌, [], ℕ, IfNone, IfSome, List, None, OnOk, Some, length, option_copied};
+ghost use Rattle.std.specs.Prelude.{◌≡◌, ◌≢◌, ◌∷◌, [], ℕ, IfErr, IfNone, IfOk, IfSome, List, None, OnOk, Some, length, option_copied};
 ghost use Rattle.std.specs.Io.KnownBytes.{Appends};
+ghost use Rattle.mvd_client.specs.Between.{server_of};
+ghost use Rattle.mvd_client.specs.Each.{IsUnprinted, MeetsEach, MeetsNext, MeetsServers, MeetsUntold};
+ghost use Rattle.mvd_client.specs.LetIn.{LeadsTo};
 ghost use Rattle.mvd_client.specs.Once.{TellsThenParts, MeetsOnce, MeetsServer, PartsBoth};
-ghost use Rattle.mvd_client.specs.LetIn.{GivesIn};
 ghost use Rattle.mvd_client.specs.declared.counted.Counted.{Counted};
 ghost use Rattle.mvd_input.specs.Addresses.{IsAddressList, items_of};
 ghost use Rattle.mvd_client.specs.Reported.{met_text};
 
 use crate::dial::Dial;
 use crate::ends::{End, MeetingTerms, meet, tell_failure, tell_fault};
+use crate::gone::Gone;
 use crate::meeting::{tell_meeting, tell_refused};
 use crate::peer_commands::left_with;
 use mvd_dots::Refusal;
@@ -86,14 +89,19 @@ pub fn meet_run<'a, D: Dial, C: Clock, W: Write, E: Write>(
     address: SocketAddr,
     with: &str,
     terms: MeetingTerms<'_>,
+    gone: &mut Gone<D::Dialed>,
     writer: &mut W,
     errors: &mut E,
 ) -> Result<(), Stop<'a>>
     requires { IsAddressList with.now }
     // Where nothing is repeated and the list has one server, what is printed is of the session that ran.
     ensures once { terms.entry.repeat ≡ None → (text : List ℕ) → items_of with.now ≡ text ∷ [] →
-        MeetsServer D.Dialed.Line (D.gives dial.now) (option_copied terms.entry.token) address text
+        MeetsServer D.Dialed.Line (D.gives dial.now) (option_copied terms.entry.token) address text gone.new
         (W.contents writer.old) (W.contents writer.new) result }
+    // Where it has more, it is of one session with each.
+    ensures each { terms.entry.repeat ≡ None → length (items_of with.now) ≢ 1 →
+        MeetsServers D.Dialed.Line (D.gives dial.now) (option_copied terms.entry.token) terms.entry.verbose address
+        (items_of with.now) (W.contents writer.old) (W.contents writer.new) result }
 {
     let Ok(addresses) = addresses_of(alloc, address.ip(), with) else {
         return Err(Stop::from(Refusal::Memory));
@@ -101,12 +109,14 @@ pub fn meet_run<'a, D: Dial, C: Clock, W: Write, E: Write>(
     let mut near = End::new(address);
     if let Some(repeat) = terms.repeat {
         return meet_again(
-            dial, clock, alloc, &mut near, &addresses, repeat, terms, writer, errors,
+            dial, clock, alloc, &mut near, &addresses, repeat, terms, gone, writer, errors,
         );
     }
     match only(&addresses) {
-        Some(far) => meet_one(dial, alloc, &mut near, far, terms, writer, errors),
-        None => meet_each(dial, alloc, &mut near, &addresses, terms, writer, errors),
+        Some(far) => meet_one(dial, alloc, &mut near, far, terms, gone, writer, errors),
+        None => meet_each(
+            dial, alloc, &mut near, &addresses, terms, gone, writer, errors,
+        ),
     }
 }
 
@@ -129,18 +139,17 @@ fn meet_one<'a, D: Dial, W: Write, E: Write>(
     near: &mut End<D::Dialed>,
     far: SocketAddr,
     terms: MeetingTerms<'_>,
+    gone: &mut Gone<D::Dialed>,
     writer: &mut W,
     errors: &mut E,
 ) -> Result<(), Stop<'a>>
-    requires { near.old.link ≡ None }
     ensures { MeetsOnce D.Dialed.Line
-        (GivesIn D.Dialed.Line (D.gives dial.now near.old.address) (option_copied terms.entry.token))
-        (GivesIn D.Dialed.Line (D.gives dial.now far) (option_copied terms.entry.token))
-        near.old.address far (W.contents writer.old) (W.contents writer.new) result }
+        (LeadsTo D.Dialed.Line (D.gives dial.now) (option_copied terms.entry.token))
+        (server_of near.old) far gone.new (W.contents writer.old) (W.contents writer.new) result }
 {
     let mut far = End::new(far);
-    match meet(dial, alloc, near, &mut far, terms, errors) {
-        Ok(report) => tell_and_part(alloc, &report, near, &mut far, writer, errors),
+    match meet(dial, alloc, near, &mut far, terms, gone, errors) {
+        Ok(report) => tell_and_part(alloc, &report, near, &mut far, gone, writer, errors),
         Err(failure) => Err(failure.stop),
     }
 }
@@ -151,23 +160,30 @@ fn tell_and_part<'a, L: Line, W: Write, E: Write>(
     report: &Report,
     near: &mut End<L>,
     far: &mut End<L>,
+    gone: &mut Gone<L>,
     writer: &mut W,
     errors: &mut E,
 ) -> Result<(), Stop<'a>>
     ensures { (near_at far_at : Counted L) → near.old.link ≡ Some near_at → far.old.link ≡ Some far_at →
-        TellsThenParts L.Line near.old.address far.old.address near_at far_at report.now
+        TellsThenParts L.Line near.old.address far.old.address near_at far_at gone.old gone.new report.now
         (W.contents writer.old) (W.contents writer.new) result }
 {
-    let near_root = match near.root(alloc) {
+    let near_root = match near.root(alloc, gone) {
         Ok(root) => root,
-        Err(stop) => return Err(stop),
+        Err(stop) => {
+            far.lets_go(gone);
+            return Err(stop);
+        }
     };
-    let far_root = match far.root(alloc) {
+    let far_root = match far.root(alloc, gone) {
         Ok(root) => root,
-        Err(stop) => return Err(stop),
+        Err(stop) => {
+            near.lets_go(gone);
+            return Err(stop);
+        }
     };
     let told = tell_meeting(alloc, report, near_root, far_root, writer, errors);
-    let parted = part_both(alloc, near, far);
+    let parted = part_both(alloc, near, far, gone);
     told.and(parted)
 }
 
@@ -176,12 +192,13 @@ fn part_both<'a, L: Line>(
     alloc: Global,
     near: &mut End<L>,
     far: &mut End<L>,
+    gone: &mut Gone<L>,
 ) -> Result<(), Stop<'a>>
     ensures { (near_at far_at : Counted L) → near.old.link ≡ Some near_at → far.old.link ≡ Some far_at →
-        PartsBoth L.Line near.old.address far.old.address near_at far_at result }
+        PartsBoth L.Line near.old.address far.old.address near_at far_at gone.old gone.new result }
 {
-    let near_parted = near.part(alloc);
-    let far_parted = far.part(alloc);
+    let near_parted = near.part(alloc, gone);
+    let far_parted = far.part(alloc, gone);
     match (near_parted, far_parted) {
         (Err(refusal), _) => Err(Stop::at_server(near.address, refusal)),
         (Ok(()), Err(refusal)) => Err(Stop::at_server(far.address, refusal)),
@@ -196,35 +213,67 @@ fn meet_each<'a, D: Dial, W: Write, E: Write>(
     near: &mut End<D::Dialed>,
     addresses: &[SocketAddr],
     terms: MeetingTerms<'_>,
+    gone: &mut Gone<D::Dialed>,
     writer: &mut W,
     errors: &mut E,
-) -> Result<(), Stop<'a>> {
+) -> Result<(), Stop<'a>>
+    ensures { MeetsEach D.Dialed.Line
+        (LeadsTo D.Dialed.Line (D.gives dial.now) (option_copied terms.entry.token)) terms.entry.verbose
+        (server_of near.old) addresses.now (W.contents writer.old) (W.contents writer.new) result }
+{
     let mut first = Ok(());
     for address in addresses {
-        let mut far = End::new(*address);
-        let ended = match meet(dial, alloc, near, &mut far, terms, errors) {
-            Ok(report) => {
-                tell_keys(alloc, *address, report.keys, terms.verbose, writer)?;
-                tell_refused(
-                    report.first_refused.as_slice(),
-                    near.address,
-                    *address,
-                    errors,
-                );
-                left_with(&report)
+        match meet_next(dial, alloc, near, *address, terms, gone, writer, errors) {
+            Ok(ended) => first = first.and(ended),
+            Err(stop) => {
+                let _ = near.part(alloc, gone);
+                return Err(stop);
             }
-            Err(failure) => {
-                tell_fault(near.address, *address, failure, errors);
-                Err(failure.stop)
-            }
-        };
-        let _ = far.part(alloc);
-        if first.is_ok() {
-            first = ended;
         }
     }
-    let _ = near.part(alloc);
+    let _ = near.part(alloc, gone);
     first
+}
+
+/// A session with the next server of a list, and how it ended. It is an error where that cannot be told.
+#[tactic(none)]
+fn meet_next<'a, D: Dial, W: Write, E: Write>(
+    dial: &D,
+    alloc: Global,
+    near: &mut End<D::Dialed>,
+    address: SocketAddr,
+    terms: MeetingTerms<'_>,
+    gone: &mut Gone<D::Dialed>,
+    writer: &mut W,
+    errors: &mut E,
+) -> Result<Result<(), Stop<'a>>, Stop<'a>>
+    ensures near { near.new.address ≡ near.old.address }
+    ensures met { IfOk result (MeetsNext D.Dialed.Line
+        (LeadsTo D.Dialed.Line (D.gives dial.now) (option_copied terms.entry.token)) terms.entry.verbose
+        (server_of near.old) address near.new.link (W.contents writer.old) (W.contents writer.new)) }
+    ensures untold { IfErr result (MeetsUntold D.Dialed.Line
+        (LeadsTo D.Dialed.Line (D.gives dial.now) (option_copied terms.entry.token)) (server_of near.old) address) }
+{
+    let mut far = End::new(address);
+    let report = match meet(dial, alloc, near, &mut far, terms, gone, errors) {
+        Ok(report) => report,
+        Err(failure) => {
+            tell_fault(near.address, address, failure, errors);
+            return Ok(Err(failure.stop));
+        }
+    };
+    let _ = far.part(alloc, gone);
+    match tell_keys(alloc, address, report.keys, terms.verbose, writer) {
+        Ok(()) => {}
+        Err(fault) => return Err(Stop::from(fault)),
+    }
+    tell_refused(
+        report.first_refused.as_slice(),
+        near.address,
+        address,
+        errors,
+    );
+    Ok(left_with(&report))
 }
 
 /// Sessions with each server again and again, until it is stopped, or each was tried as often as is wanted.
@@ -236,6 +285,7 @@ fn meet_again<'a, D: Dial, C: Clock, W: Write, E: Write>(
     addresses: &[SocketAddr],
     repeat: Repeat,
     terms: MeetingTerms<'_>,
+    gone: &mut Gone<D::Dialed>,
     writer: &mut W,
     errors: &mut E,
 ) -> Result<(), Stop<'a>> {
@@ -255,21 +305,22 @@ fn meet_again<'a, D: Dial, C: Clock, W: Write, E: Write>(
                     partner,
                     repeat.every,
                     terms,
+                    gone,
                     writer,
                     errors,
                 )?;
             }
         }
         if repeat.every >= APART {
-            let _ = near.part(alloc);
+            let _ = near.part(alloc, gone);
         }
         if !pause(clock, &mut partners, repeat.times) {
             break;
         }
     }
-    let _ = near.part(alloc);
+    let _ = near.part(alloc, gone);
     for partner in &mut partners {
-        let _ = partner.end.part(alloc);
+        let _ = partner.end.part(alloc, gone);
     }
     Ok(())
 }
@@ -300,11 +351,12 @@ fn meet_partner<'a, D: Dial, W: Write, E: Write>(
     partner: &mut Partner<D::Dialed>,
     every: u32,
     terms: MeetingTerms<'_>,
+    gone: &mut Gone<D::Dialed>,
     writer: &mut W,
     errors: &mut E,
 ) -> Result<(), Stop<'a>> {
     partner.tried = partner.tried.saturating_add(1);
-    let report = match meet(dial, alloc, near, &mut partner.end, terms, errors) {
+    let report = match meet(dial, alloc, near, &mut partner.end, terms, gone, errors) {
         Ok(report) => report,
         Err(failure) => {
             tell_failure(near, &mut partner.end, failure, errors);
@@ -320,7 +372,7 @@ fn meet_partner<'a, D: Dial, W: Write, E: Write>(
     partner.leaves(report.first_refused, near.address, errors);
     partner.waits(ended, every);
     if every >= APART {
-        let _ = partner.end.part(alloc);
+        let _ = partner.end.part(alloc, gone);
     }
     Ok(())
 }
@@ -333,7 +385,9 @@ fn tell_keys<W: Write>(
     always: bool,
     writer: &mut W,
 ) -> Result<(), Fault>
-    ensures { OnOk result (Appends (W.contents writer.old) (W.contents writer.new) (met_text address keys always)) }
+    ensures told { OnOk result (Appends (W.contents writer.old) (W.contents writer.new)
+        (met_text address keys always)) }
+    ensures untold { IfErr result IsUnprinted }
 {
     let mut lines = String::new(alloc);
     if keys > 0 || always {

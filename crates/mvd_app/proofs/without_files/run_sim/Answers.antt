@@ -1,5 +1,5 @@
 use Rattle.std.proofs.Common.{Err, Ok, refl}
-use Rattle.mvd_app.proofs.commands.run_sim.Goals as goal
+use Rattle.mvd_app.proofs.without_files.run_sim.Goals as goal
 
 pub returns-in-Ok : goal.returns-in-Ok
 returns-in-Ok g c = (Ok tt, c.in-Ok.ensures.played, refl)

@@ -1,9 +1,13 @@
 use Rattle.std.proofs.Common.{List, Option, ℕ, inl, inr, option_copied, refl, subst, sym}
 use Rattle.std.proofs.lemmas.Result.{err_from_is_err_and}
 use Rattle.mvd_app.specs.Named.{StopsAtToken}
+<<<<<<< ours
 use Rattle.mvd_app.proofs.commands.run_remote_shell.Goals as goal
 use Rattle.mvd_client.specs.LetIn.{GivesIn}
 use Rattle.mvd_client.specs.Talked.{ShellsAt}
+=======
+use Rattle.mvd_app.proofs.without_files.run_remote_shell.Goals as goal
+>>>>>>> theirs
 
 pub returns-in_err-tokens : goal.returns-in_err-tokens
 returns-in_err-tokens g c =

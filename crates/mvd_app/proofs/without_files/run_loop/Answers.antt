@@ -1,7 +1,7 @@
 use Rattle.std.proofs.Common.{Err, Ok, inl, inr, refl, subst, sym}
 use Rattle.std.proofs.lemmas.Result.{err_from_is_err_and}
 use Rattle.mvd_app.specs.Named.{StopsAtDefs}
-use Rattle.mvd_app.proofs.commands.run_loop.Goals as goal
+use Rattle.mvd_app.proofs.without_files.run_loop.Goals as goal
 
 pub returns-in_err-config : goal.returns-in_err-config
 returns-in_err-config g c =

@@ -21,8 +21,8 @@ use Rattle.clap.specs.declared.parser.matches.MatchedArg.{MatchedArg}
 use Rattle.clap.specs.declared.parser.matches.ValueSource.{ValueSource}
 use Rattle.clap.specs.declared.parser.matches.SubCommand.{SubCommand}
 use Rattle.clap.specs.declared.parser.matches.ArgMatches.TheViews.{out-ArgMatches, out-SubCommand}
-use Rattle.mvd_input.specs.Orders.{AskFor, GivesNumber, IsAddressOfOrder, IsBadNumber, IsClients, IsDbOf, IsFaultBy, IsHttp, IsOrderOf, IsNamedOf, IsPeersOf, IsRepeatOf, IsSeconds, IsSetupOf, IsTimes, IsUnreadValue, ReadsGiven, ReadsOrder, ReadsWords, has_file, is_given_option, is_repeated, is_word, bound_of, names_server, sets_up, source_in}
-use Rattle.mvd_input.specs.Addresses.{IsAddressList}
+use Rattle.mvd_input.specs.Orders.{AskFor, GivesNumber, IsAddressOfOrder, IsBadNumber, IsClients, IsDbOf, IsFaultBy, IsHttp, IsOrderOf, IsNamedOf, IsPeersOf, IsSeconds, IsSetupOf, IsUnreadValue, ReadsGiven, ReadsOrder, ReadsWords, has_file, is_given_option, is_word, bound_of, names_server, sets_up, source_in}
+use Rattle.mvd_input.specs.Addresses.{HasItem, IsItem}
 use Rattle.mvd_input.specs.Words.{program}
 use Rattle.mvd_input.specs.declared.order.Order.{Order}
 use Rattle.mvd_input.specs.declared.order.Order.TheVariants.{Sim, Loop, Serve, Shell, RemoteShell, Sync, Meet}
@@ -31,7 +31,6 @@ use Rattle.mvd_input.specs.declared.options.Unread.TheVariants as unread
 use Rattle.mvd_input.specs.declared.order.Setup.{Setup}
 use Rattle.mvd_input.specs.declared.options.Named.{Named}
 use Rattle.mvd_input.specs.declared.options.Peers.{Peers}
-use Rattle.mvd_input.specs.declared.options.Repeat.{Repeat}
 use Rattle.mvd_input.specs.declared.order.OrderFault.{OrderFault}
 use Rattle.mvd_input.specs.declared.order.OrderFault.TheVariants.{Words, Range, Stopped}
 
@@ -65,7 +64,7 @@ serve_meets rows (Serve _ _ address _ idle _ _ _ _ _ _) h = ((address, h.3), (id
 serve_meets rows (Shell _ _) h = differ _ _ h.0 refl
 serve_meets rows (RemoteShell _ _ _) h = differ _ _ h.0 refl
 serve_meets rows (Sync _ _ _ _ _ _) h = differ _ _ h.0 refl
-serve_meets rows (Meet _ _ _ _ _ _) h = differ _ _ h.0 refl
+serve_meets rows (Meet _ _ _ _ _) h = differ _ _ h.0 refl
 
 pub serve_clients : (rows : List Row) (order : Order) → IsOrderOf (codes "serve") rows order → (clients : ℕ) × IsClients rows clients
 serve_clients rows Sim h = differ _ _ h refl
@@ -74,7 +73,7 @@ serve_clients rows (Serve _ _ _ _ _ _ clients _ _ _ _) h = (clients, h.7)
 serve_clients rows (Shell _ _) h = differ _ _ h.0 refl
 serve_clients rows (RemoteShell _ _ _) h = differ _ _ h.0 refl
 serve_clients rows (Sync _ _ _ _ _ _) h = differ _ _ h.0 refl
-serve_clients rows (Meet _ _ _ _ _ _) h = differ _ _ h.0 refl
+serve_clients rows (Meet _ _ _ _ _) h = differ _ _ h.0 refl
 
 pub serve_peers : (rows : List Row) (order : Order) → IsOrderOf (codes "serve") rows order → (peers : Option Peers) × IsPeersOf rows peers
 serve_peers rows Sim h = differ _ _ h refl
@@ -83,7 +82,7 @@ serve_peers rows (Serve _ _ _ _ _ _ _ peers _ _ _) h = (peers, h.8)
 serve_peers rows (Shell _ _) h = differ _ _ h.0 refl
 serve_peers rows (RemoteShell _ _ _) h = differ _ _ h.0 refl
 serve_peers rows (Sync _ _ _ _ _ _) h = differ _ _ h.0 refl
-serve_peers rows (Meet _ _ _ _ _ _) h = differ _ _ h.0 refl
+serve_peers rows (Meet _ _ _ _ _) h = differ _ _ h.0 refl
 
 pub serve_named : (rows : List Row) (order : Order) → IsOrderOf (codes "serve") rows order → (named : Named) × IsNamedOf rows named
 serve_named rows Sim h = differ _ _ h refl
@@ -92,7 +91,7 @@ serve_named rows (Serve _ _ _ _ _ _ _ _ named _ _) h = (named, h.9)
 serve_named rows (Shell _ _) h = differ _ _ h.0 refl
 serve_named rows (RemoteShell _ _ _) h = differ _ _ h.0 refl
 serve_named rows (Sync _ _ _ _ _ _) h = differ _ _ h.0 refl
-serve_named rows (Meet _ _ _ _ _ _) h = differ _ _ h.0 refl
+serve_named rows (Meet _ _ _ _ _) h = differ _ _ h.0 refl
 
 -- a number is read from one text, which spells one
 same_number : (rows : List Row) (option : List ℕ) (m n : ℕ) → GivesNumber rows option m → GivesNumber rows option n → m ≡ n
@@ -111,7 +110,7 @@ one_port_given rows address port a h e (Serve _ _ other _ _ (Some http) _ _ _ _ 
 one_port_given rows address port a h e (Shell _ _) w = differ _ _ w.0 refl
 one_port_given rows address port a h e (RemoteShell _ _ _) w = differ _ _ w.0 refl
 one_port_given rows address port a h e (Sync _ _ _ _ _ _) w = differ _ _ w.0 refl
-one_port_given rows address port a h e (Meet _ _ _ _ _ _) w = differ _ _ w.0 refl
+one_port_given rows address port a h e (Meet _ _ _ _ _) w = differ _ _ w.0 refl
 
 pub one_port : (rows : List Row) (address : SocketAddr) (http : Option ℕ) → IsAddressOfOrder rows address → IsHttp rows http → true ≡ option_eq nat_eq http (Some (socket_port address))
     → (order : Order) → IsOrderOf (codes "serve") rows order → ⊥
@@ -125,7 +124,7 @@ sync_meets rows (Serve _ _ _ _ _ _ _ _ _ _ _) h = differ _ _ h.0 refl
 sync_meets rows (Shell _ _) h = differ _ _ h.0 refl
 sync_meets rows (RemoteShell _ _ _) h = differ _ _ h.0 refl
 sync_meets rows (Sync _ _ address idle _ _) h = ((address, h.3), (idle, h.4))
-sync_meets rows (Meet address _ _ idle _ _) h = ((address, h.3), (idle, h.5))
+sync_meets rows (Meet address _ idle _ _) h = ((address, h.3), (idle, h.4))
 
 pub remote_meets : (rows : List Row) → first_of (codes "db") rows ≡ None → (order : Order) → IsOrderOf (codes "shell") rows order → Meets rows
 remote_meets rows e Sim h = differ _ _ h refl
@@ -134,27 +133,25 @@ remote_meets rows e (Serve _ _ _ _ _ _ _ _ _ _ _) h = differ _ _ h.0 refl
 remote_meets rows e (Shell _ _) h = absurd (cc (h.1, e))
 remote_meets rows e (RemoteShell address idle _) h = ((address, h.2), (idle, h.3))
 remote_meets rows e (Sync _ _ _ _ _ _) h = differ _ _ h.0 refl
-remote_meets rows e (Meet _ _ _ _ _ _) h = differ _ _ h.0 refl
+remote_meets rows e (Meet _ _ _ _ _) h = differ _ _ h.0 refl
 
 -- where peers are told it is told how often they are met, and what they are is a list
 pub peers_every : (rows : List Row) (list : Text) → first_of (codes "peer") rows ≡ Some list → (peers : Option Peers) → IsPeersOf rows peers → (n : ℕ) × GivesNumber rows (codes "every") n
 peers_every rows list e None h = absurd (cc (h.0, e))
 peers_every rows list e (Some peers) h = (peers.every, h.2)
 
--- how often servers meet again tells how many rounds there are
-pub repeat_times : (rows : List Row) (repeat : Option Repeat) → IsRepeatOf rows repeat → (times : Option ℕ) × IsTimes rows times
-repeat_times rows None h = (None, h.1)
-repeat_times rows (Some repeat) h = (repeat.times, h.1)
-
--- of a session with servers the words tell how often they meet again, and of one with a database its file and its site
-pub meet_repeats : (rows : List Row) (list : Text) → first_of (codes "with") rows ≡ Some list → (order : Order) → IsOrderOf (codes "sync") rows order → (repeat : Option Repeat) × IsRepeatOf rows repeat
-meet_repeats rows list e Sim h = differ _ _ h refl
-meet_repeats rows list e (Loop _) h = differ _ _ h.0 refl
-meet_repeats rows list e (Serve _ _ _ _ _ _ _ _ _ _ _) h = differ _ _ h.0 refl
-meet_repeats rows list e (Shell _ _) h = differ _ _ h.0 refl
-meet_repeats rows list e (RemoteShell _ _ _) h = differ _ _ h.0 refl
-meet_repeats rows list e (Sync _ _ _ _ _ _) h = absurd (cc (h.6, e))
-meet_repeats rows list e (Meet _ _ repeat _ _ _) h = (repeat, h.4)
+-- a text that is no item names no server, and a session that names one has no database
+pub no_server : (rows : List Row) (text : Text) → first_of (codes "with") rows ≡ Some text → (HasItem text → ⊥) → (order : Order) → IsOrderOf (codes "sync") rows order → ⊥
+no_server rows text e none Sim h = differ _ _ h refl
+no_server rows text e none (Loop _) h = differ _ _ h.0 refl
+no_server rows text e none (Serve _ _ _ _ _ _ _ _ _ _ _) h = differ _ _ h.0 refl
+no_server rows text e none (Shell _ _) h = differ _ _ h.0 refl
+no_server rows text e none (RemoteShell _ _ _) h = differ _ _ h.0 refl
+no_server rows text e none (Sync _ _ _ _ _ _) h = cc (h.6, e)
+no_server rows text e none (Meet _ _ _ _ _) h =
+    let (told, is, (item, fits, _)) = h.1 in
+    let same : told ≡ text = cc (is, e) in
+    none (item, subst (λ t. IsItem t item) same fits)
 
 -- ---- where a value came from
 

@@ -15,7 +15,7 @@ use Rattle.clap.specs.declared.parser.matches.ValueSource.{ValueSource}
 use Rattle.clap.specs.declared.parser.matches.ValueSource.TheVariants.{DefaultValue, CommandLine}
 use Rattle.clap.specs.declared.error.kind.ErrorKind.TheVariants.{OutOfMemory}
 use Rattle.mvd_dots.specs.declared.refusals.Refusal.TheVariants.{Memory}
-use Rattle.mvd_input.specs.Addresses.{IsAddressList}
+use Rattle.mvd_input.specs.Addresses.{IsAddress, IsAddressList}
 use Rattle.mvd_input.specs.Lines.{IsNoNumber, IsNumber}
 use Rattle.mvd_input.specs.Names.{is_name_list}
 use Rattle.mvd_input.specs.Words.{program}
@@ -26,7 +26,6 @@ use Rattle.mvd_input.specs.declared.order.OrderFault.TheVariants.{Words, Range, 
 use Rattle.mvd_input.specs.declared.order.Setup.{Setup}
 use Rattle.mvd_input.specs.declared.options.Named.{Named}
 use Rattle.mvd_input.specs.declared.options.Peers.{Peers}
-use Rattle.mvd_input.specs.declared.options.Repeat.{Repeat}
 use Rattle.mvd_input.specs.declared.options.Unread.{Unread}
 use Rattle.mvd_input.specs.declared.options.Unread.TheVariants as unread
 
@@ -52,10 +51,6 @@ IsPort port = ForSome port (λ n. (1 ≤ n) × (n ≤ 65535))
 -- no byte need move for 1..=86,400 seconds
 abbrev pub IsIdleTime : ℕ → Type 0
 IsIdleTime seconds = (1 ≤ seconds) × (seconds ≤ 86400)
-
--- servers meet again after 1..=3,600 seconds, and 1..=1,000,000 times where that is counted
-abbrev pub IsRounds : Repeat → Type 0
-IsRounds repeat = (1 ≤ repeat.every) × (repeat.every ≤ 3600) × ForSome repeat.times (λ n. (1 ≤ n) × (n ≤ 1000000))
 
 -- a server meets 1..=16 others by itself, and each again after 1..=3,600 seconds
 abbrev pub ArePeers : Peers → Type 0
@@ -85,8 +80,7 @@ IsInRange (Serve _ setup address conns idle http clients peers named _ _) = IsSe
 IsInRange (Shell _ setup) = IsSetUp setup
 IsInRange (RemoteShell address idle _) = HasPort address × IsIdleTime idle
 IsInRange (Sync _ setup address idle _ _) = IsSetUp setup × HasPort address × IsIdleTime idle
-IsInRange (Meet address with repeat idle _ _) = HasPort address × IsAddressList with.now × ForSome repeat IsRounds
-    × IsIdleTime idle
+IsInRange (Meet address with idle _ _) = HasPort address × HasPort with × IsIdleTime idle
 
 -- ---- the order that the words are
 
@@ -121,8 +115,7 @@ ReadsGiven rows option most (Err (unread.Text _)) = (number : ℕ) → GivesNumb
 -- the greatest number that each option may have
 abbrev pub mosts : List (List ℕ × ℕ)
 mosts = (codes "site", 4294967295) ∷ (codes "max-keys", 1000000) ∷ (codes "port", 65535) ∷ (codes "conns", 1000)
-    ∷ (codes "idle", 86400) ∷ (codes "http", 65535) ∷ (codes "every", 3600) ∷ (codes "times", 1000000)
-    ∷ (codes "clients", 10000) ∷ []
+    ∷ (codes "idle", 86400) ∷ (codes "http", 65535) ∷ (codes "every", 3600) ∷ (codes "clients", 10000) ∷ []
 
 abbrev pub bound_of : List ℕ → Option ℕ
 bound_of option = option_map (λ row. row.1) (find (λ row. bytes_eq row.0 option) mosts)
@@ -170,16 +163,6 @@ IsHttp rows (Some number) = GivesNumber rows (codes "http") number
 abbrev pub IsOtherPort : SocketAddr → Option ℕ → Type 0
 IsOtherPort address http = http ≢ Some (socket_port address)
 
--- how many rounds there are, where they are counted
-abbrev pub IsTimes : List Row → Option ℕ → Type 0
-IsTimes rows None = first_of (codes "times") rows ≡ None
-IsTimes rows (Some number) = GivesNumber rows (codes "times") number
-
--- how often servers meet again, where that is told
-abbrev pub IsRepeatOf : List Row → Option Repeat → Type 0
-IsRepeatOf rows None = (first_of (codes "every") rows ≡ None) × (first_of (codes "times") rows ≡ None)
-IsRepeatOf rows (Some repeat) = GivesNumber rows (codes "every") repeat.every × IsTimes rows repeat.times
-
 abbrev pub IsSeconds : List Row → ℕ → Type 0
 IsSeconds rows seconds = GivesNumber rows (codes "idle") seconds
 
@@ -218,9 +201,10 @@ sets_up rows =
 abbrev pub has_file : List Row → Bool
 has_file rows = is_given_option rows (codes "db") || sets_up rows
 
--- the words say how often servers meet again
-abbrev pub is_repeated : List Row → Bool
-is_repeated rows = is_given_option rows (codes "every") || is_given_option rows (codes "times")
+-- the server that the one at the port meets: one that is told by its port alone is at the IP address of that one
+abbrev pub IsWithOf : SocketAddr → List Row → SocketAddr → Type 0
+IsWithOf address rows with = (text : List ℕ) × (first_of (codes "with") rows ≡ Some text)
+    × IsAddress (socket_ip address) text with
 
 -- the servers that are met, where they are told: only then is it told how often
 abbrev pub IsPeersOf : List Row → Option Peers → Type 0
@@ -256,11 +240,10 @@ IsOrderOf name rows (RemoteShell address idle token_file) = (name ≡ codes "she
     × IsAddressOfOrder rows address × IsSeconds rows idle × (sets_up rows ≡ false) × IsTokenFile rows token_file
 IsOrderOf name rows (Sync db setup address idle verbose token_file) = (name ≡ codes "sync") × IsDbOf rows db
     × IsSetupOf rows setup × IsAddressOfOrder rows address × IsSeconds rows idle × IsVerbose rows verbose
-    × (first_of (codes "with") rows ≡ None) × (is_repeated rows ≡ false) × IsTokenFile rows token_file
-IsOrderOf name rows (Meet address with repeat idle verbose token_file) = (name ≡ codes "sync")
-    × (first_of (codes "with") rows ≡ Some with.now) × IsAddressList with.now × IsAddressOfOrder rows address
-    × IsRepeatOf rows repeat × IsSeconds rows idle × IsVerbose rows verbose × (has_file rows ≡ false)
-    × IsTokenFile rows token_file
+    × (first_of (codes "with") rows ≡ None) × IsTokenFile rows token_file
+IsOrderOf name rows (Meet address with idle verbose token_file) = (name ≡ codes "sync")
+    × IsWithOf address rows with × (has_file rows ≡ false) × IsAddressOfOrder rows address
+    × IsSeconds rows idle × IsVerbose rows verbose × IsTokenFile rows token_file
 
 -- the order in its ranges, or why there is none
 abbrev pub ReadsOptions : List ℕ → List Row → Result Order Unread → Type 0

@@ -70,13 +70,7 @@ abbrev pub origin : Rule
 origin = text_option (codes "origin")
 
 abbrev pub every : Rule
-every = number_option (codes "every")
-
-abbrev pub peer_every : Rule
-peer_every = by_default (codes "30") every
-
-abbrev pub times_rule : Rule
-times_rule = number_option (codes "times")
+every = by_default (codes "30") (number_option (codes "every"))
 
 abbrev pub idle : Text → Rule
 idle seconds = by_default seconds (number_option (codes "idle"))
@@ -108,7 +102,7 @@ loop_words = leaf (codes "loop") (needed site ∷ defs ∷ max_keys ∷ [])
 
 abbrev pub serve_words : App
 serve_words = leaf (codes "serve")
-    (database ++ needed port ∷ http ∷ conns ∷ idle (codes "300") ∷ clients ∷ peer ∷ peer_every ∷ host ∷ origin
+    (database ++ needed port ∷ http ∷ conns ∷ idle (codes "300") ∷ clients ∷ peer ∷ every ∷ host ∷ origin
     ∷ quiet ∷ token_file ∷ [])
 
 abbrev pub shell_words : App
@@ -117,8 +111,7 @@ shell_words = leaf (codes "shell")
 
 abbrev pub sync_words : App
 sync_words = leaf (codes "sync")
-    (db ∷ site ∷ defs ∷ max_keys ∷ address ∷ needed port ∷ with ∷ every ∷ times_rule ∷ idle (codes "60") ∷ verbose
-    ∷ token_file ∷ [])
+    (db ∷ site ∷ defs ∷ max_keys ∷ address ∷ needed port ∷ with ∷ idle (codes "60") ∷ verbose ∷ token_file ∷ [])
 
 -- the program: a command has to be given, and `--version` may be
 unfoldable pub program : App

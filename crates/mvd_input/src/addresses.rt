@@ -4,7 +4,7 @@ ghost use Rattle.std.specs.List.{AllZip};
 ghost use Rattle.std.specs.Net.Grammar.{IsSocketText};
 ghost use Rattle.std.specs.Net.Socket.{socket_port};
 ghost use Rattle.std.specs.Option.{option_copied};
-ghost use Rattle.mvd_input.specs.Addresses.{AreItems, IsAddress, IsAddressList, IsAddressOf, IsItem, items_of, items_left};
+ghost use Rattle.mvd_input.specs.Addresses.{AreItems, HasItem, IsAddress, IsAddressList, IsAddressOf, IsItem, items_of, items_left};
 ghost use Rattle.mvd_input.specs.Lines.{IsNumber};
 
 use crate::command::number_of;
@@ -81,6 +81,17 @@ fn first_item(list: &str) -> (&str, Option<&str>)
     match list.split_once(',') {
         Some((item, rest)) => (item, Some(rest)),
         None => (list, None),
+    }
+}
+
+/// The address that an item's text is. An item that is a port alone is at this IP address.
+pub(crate) fn address_at(ip: IpAddr, text: &str) -> Option<SocketAddr>
+    ensures found { IfSome result (IsAddress ip text.now) }
+    ensures none { IfNone result (HasItem text.now → ⊥) }
+{
+    match item_of(text) {
+        Some(item) => Some(item.at(ip)),
+        None => None,
     }
 }
 

@@ -54,11 +54,8 @@ const ORIGIN: &str =
     "The origins whose pages may ask this server over HTTP, beside its own: 1 to 16 with commas between them, each as \
                       https://app.example.com. Give it a token, too: a page asks from wherever its reader is.";
 
-const PEER_EVERY: &str =
-    "The seconds after which each peer is met again, 1 to 3600. It is met sooner where something was written here.";
-
 const EVERY: &str =
-    "The seconds after which the servers meet again, 1 to 3600. Without it they meet once.";
+    "The seconds after which each peer is met again, 1 to 3600. It is met sooner where something was written here.";
 
 const IDLE: &str =
     "The seconds after which a server is given up from which no byte comes, 1 to 86400.";
@@ -78,19 +75,17 @@ Example: echo 'put k - {\"a\":1}' | mvd shell --db a.db --site 1
 const SHELL_PORT: &str = "The port of a server, 1 to 65535, in place of a database.";
 
 const SYNC: &str =
-    "Runs a session of a database with a server, or of a server with each of a list, after which both sides hold all \
-                    that one of them held before. It prints how many keys crossed, and the digest of all that is held \
-                    then.";
+    "Runs a session of a database with a server, or of two servers, after which both sides hold all that one of them \
+                    held before. It prints how many keys crossed, and the digest of all that is held then.";
 
 const SYNC_USAGE: &str = "\
 mvd sync --db <FILE> --site <N> --port <P> [--defs <FILE>] [--max-keys <N>] [--address <IP>] [--idle <S>] \
                           [--verbose] [--token-file <FILE>]
-       mvd sync --port <P> --with <LIST> [--every <S>] [--times <N>] [--address <IP>] [--idle <S>] [--verbose] \
-                          [--token-file <FILE>]";
+       mvd sync --port <P> --with <SERVER> [--address <IP>] [--idle <S>] [--verbose] [--token-file <FILE>]";
 
 const WITH: &str =
-    "The servers that meet the one at the port, in place of a database: 1 to 16 items with commas between them, each a \
-                    port at the same IP address, or an address with its port, as 192.0.2.1:7007 or [::1]:7007.";
+    "The server that meets the one at the port, in place of a database: a port at the same IP address, or an address \
+                    with its port, as 192.0.2.1:7007 or [::1]:7007.";
 
 const SERVED_TOKEN: &str =
     "Only who shows a token of this file is served: of 1 to 64 lines, each a token of 16 to 256 printable ASCII \
@@ -173,7 +168,7 @@ fn serve_command<'a>(alloc: Global) -> Result<Command<'a>, AllocError>
         idle(alloc, SERVED_IDLE, "300"),
         clients(alloc),
         peer(alloc),
-        peer_every(alloc),
+        every(alloc),
         host(alloc),
         origin(alloc),
         quiet(alloc),
@@ -211,8 +206,6 @@ fn sync_command<'a>(alloc: Global) -> Result<Command<'a>, AllocError>
         address(alloc),
         port(alloc, "The port of the server, 1 to 65535."),
         with(alloc),
-        every(alloc, EVERY),
-        times(alloc),
         idle(alloc, IDLE, "60"),
         verbose(alloc),
         token_file(alloc, TOKEN),
@@ -221,7 +214,7 @@ fn sync_command<'a>(alloc: Global) -> Result<Command<'a>, AllocError>
         alloc,
         "sync",
         SYNC,
-        "Example: mvd sync --db b.db --site 2 --port 7007\n         mvd sync --port 7007 --with 7008 --every 5",
+        "Example: mvd sync --db b.db --site 2 --port 7007\n         mvd sync --port 7007 --with 7008",
     )
     .override_usage(SYNC_USAGE)
     .args(options)
@@ -336,7 +329,7 @@ fn clients<'a>(alloc: Global) -> Arg<'a>
 fn with<'a>(alloc: Global) -> Arg<'a>
     ensures { rule_of result ≡ spec.with }
 {
-    text(alloc, "with", "LIST", WITH)
+    text(alloc, "with", "SERVER", WITH)
 }
 
 fn peer<'a>(alloc: Global) -> Arg<'a>
@@ -357,27 +350,10 @@ fn origin<'a>(alloc: Global) -> Arg<'a>
     text(alloc, "origin", "LIST", ORIGIN)
 }
 
-fn peer_every<'a>(alloc: Global) -> Arg<'a>
-    ensures { rule_of result ≡ spec.peer_every }
-{
-    every(alloc, PEER_EVERY).default_value("30")
-}
-
-fn every<'a>(alloc: Global, help: &'a str) -> Arg<'a>
+fn every<'a>(alloc: Global) -> Arg<'a>
     ensures { rule_of result ≡ spec.every }
 {
-    number(alloc, "every", "S", help)
-}
-
-fn times<'a>(alloc: Global) -> Arg<'a>
-    ensures { rule_of result ≡ spec.times_rule }
-{
-    number(
-        alloc,
-        "times",
-        "N",
-        "How often each server is tried in all, 1 to 1000000. It goes with --every.",
-    )
+    number(alloc, "every", "S", EVERY).default_value("30")
 }
 
 fn idle<'a>(alloc: Global, help: &'a str, seconds: &'a str) -> Arg<'a>

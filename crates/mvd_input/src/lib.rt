@@ -23,7 +23,7 @@ pub use defs_file::{DEFS_MAX, add_index, add_view, read_defs, text_of};
 pub use fault::Fault;
 pub use hexadecimal::{BYTES_MAX, HEX_MAX, first_line, hex_bytes};
 pub use input::{read_input, tell, write_out};
-pub use options::{Named, Peers, Repeat};
+pub use options::{Named, Peers};
 pub use order::{MOST_KEYS, Order, OrderFault, Setup, order_of};
 pub use pass_files::{PassFault, TOKEN_FILE_MAX, passes_in};
 pub use pass_lines::{PassLine, pass_line};

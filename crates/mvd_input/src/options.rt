@@ -3,7 +3,7 @@ ghost use Rattle.std.specs.Prelude.{◌≡◌, ◌≤◌, IfErr, IfOk, IfSome, f
 ghost use Rattle.std.specs.Option.{option_map_or};
 ghost use Rattle.clap.specs.Words.{first_of};
 ghost use Rattle.mvd_input.specs.Orders.{AreClients, ArePeers, HasPort, IsAddressOfOrder, IsClients, IsConns, IsDbOf, IsHttp};
-ghost use Rattle.mvd_input.specs.Orders.{IsIdleTime, IsIpOf, IsPeersOf, IsPort, IsRepeatOf, IsRounds, IsSeconds, IsTimes};
+ghost use Rattle.mvd_input.specs.Orders.{IsIdleTime, IsIpOf, IsPeersOf, IsPort, IsSeconds};
 ghost use Rattle.mvd_input.specs.Orders.{IsTokenFile, IsUnreadValue, ReadsGiven, ReadsNumber, is_given_option, is_word};
 ghost use Rattle.mvd_input.specs.Orders.{AreNamed, IsNamedOf, are_names, options_of};
 
@@ -26,10 +26,8 @@ const MOST_IDLE: u64 = 86_400;
 /// The most clients that a server may be asked to serve at once.
 const MOST_CLIENTS: u64 = 10_000;
 
-/// The most seconds between two sessions, and the most tries of each server.
+/// The most seconds between two sessions.
 const MOST_EVERY: u64 = 3_600;
-
-const MOST_TIMES: u64 = 1_000_000;
 
 /// What a shell needs.
 const NEITHER: &str = "'--db <FILE>' with '--site <N>', or '--port <P>', is missing";
@@ -46,14 +44,6 @@ const NO_ORIGINS: &str =
     "invalid value for '--origin <LIST>': it is no list of 1 to 16 origins of at most 4096 bytes";
 
 const ONLY_PEERS: &str = "'--every <S>' goes with '--peer <LIST>'";
-
-/// How often servers meet again: each `every` seconds, 1 to 3,600, after a session with it, until it is stopped or each
-/// was tried `times` times, 1 to 1,000,000.
-#[derive(Clone, Copy, PartialEq, Eq)]
-pub struct Repeat {
-    pub every: u32,
-    pub times: Option<u32>,
-}
 
 /// The servers that a server meets by itself: a list, which `addresses_of` reads. Each is met again `every`
 /// seconds, 1 to 3,600, after it was met, or sooner.
@@ -245,35 +235,6 @@ fn are_names(list: Option<&str>) -> bool
     match list {
         Some(list) => is_name_list(list),
         None => true,
-    }
-}
-
-/// How often servers meet again, where that is told.
-pub(crate) fn repeat_in(matches: &ArgMatches<'_>) -> Result<Option<Repeat>, Unread>
-    ensures range { IfOk result (λ found. IfSome found IsRounds) }
-    ensures repeat { IfOk result (IsRepeatOf (options_of matches.now)) }
-    ensures fault { IfErr result (IsUnreadValue (options_of matches.now) IsRepeatOf) }
-{
-    let times = times_in(matches)?;
-    match number_in(matches, "every", MOST_EVERY)? {
-        Some(every) => Ok(Some(Repeat {
-            every: every as u32,
-            times,
-        })),
-        None if times.is_some() => Err(Unread::Text("'--times <N>' goes with '--every <S>'")),
-        None => Ok(None),
-    }
-}
-
-/// How often each server is tried, where that is counted.
-fn times_in(matches: &ArgMatches<'_>) -> Result<Option<u32>, Unread>
-    ensures range { IfOk result (λ found. IfSome found (λ n. (1 ≤ n) × (n ≤ 1000000))) }
-    ensures count { IfOk result (IsTimes (options_of matches.now)) }
-    ensures fault { IfErr result (IsUnreadValue (options_of matches.now) IsTimes) }
-{
-    match number_in(matches, "times", MOST_TIMES)? {
-        Some(number) => Ok(Some(number as u32)),
-        None => Ok(None),
     }
 }
 

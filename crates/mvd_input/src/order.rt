@@ -1,16 +1,15 @@
 //! The command line.
 ghost use Rattle.std.specs.Prelude.{◌≡◌, IfErr, IfOk, Some, codes, false};
-ghost use Rattle.mvd_input.specs.Addresses.{IsAddressList};
 ghost use Rattle.clap.specs.Walk.{texts};
 ghost use Rattle.clap.specs.Words.{first_of};
 ghost use Rattle.mvd_input.specs.Orders.{IsInRange, IsQuiet, IsSetUp, IsSetupOf, IsUnreadValue, IsVerbose, ReadsOptions};
-ghost use Rattle.mvd_input.specs.Orders.{ReadsOrder, ReadsWords, has_file, is_repeated, names_server, options_of, sets_up};
+ghost use Rattle.mvd_input.specs.Orders.{ReadsOrder, ReadsWords, has_file, names_server, options_of, sets_up};
 
-use crate::addresses::is_address_list;
+use crate::addresses::address_at;
 use crate::command_words::{command, command_of};
 use crate::options::{
-    Named, Peers, Repeat, Unread, address_in, clients_in, conns_in, db_in, given_in, http_in,
-    idle_in, is_given, named_in, peers_in, repeat_in, text_in, token_file_in,
+    Named, Peers, Unread, address_in, clients_in, conns_in, db_in, given_in, http_in, idle_in,
+    is_given, named_in, peers_in, text_in, token_file_in,
 };
 use clap::error::ErrorKind;
 use clap::{ArgMatches, Command, Error};
@@ -24,18 +23,16 @@ pub const MOST_KEYS: u32 = 1_000_000;
 /// What a shell cannot have together.
 const BOTH: &str = "a shell has '--db <FILE>' with its options, or '--port <P>' with its own";
 
-/// What a session cannot have together, and what goes with servers alone.
-const FILE_AND_SERVERS: &str =
-    "a session has '--db <FILE>' with its options, or '--with <LIST>' between servers";
-
-const ONE_SESSION: &str = "'--every <S>' and '--times <N>' go with '--with <LIST>'";
+/// What a session cannot have together.
+const FILE_AND_SERVER: &str =
+    "a session has '--db <FILE>' with its options, or '--with <SERVER>' between two servers";
 
 /// What is told of a server that has one port for both.
 const ONE_PORT: &str = "'--http <P2>' has to be another port than '--port <P>'";
 
-/// What is told of a list that is none.
-const NO_LIST: &str =
-    "invalid value for '--with <LIST>': it is no list of 1 to 16 ports and addresses with ports";
+/// What is told of a server that is none.
+const NO_SERVER: &str =
+    "invalid value for '--with <SERVER>': it is no port and no address with a port";
 
 /// What a site is set up with: its number is at least 1, and it may hold 1 to 1,000,000 keys. A file may define its
 /// indexes and views.
@@ -91,11 +88,10 @@ pub enum Order<'a> {
         verbose: bool,
         token_file: Option<&'a str>,
     },
-    /// Run sessions between a server and each of a list, which `addresses_of` reads.
+    /// Run a session of two servers.
     Meet {
         address: SocketAddr,
-        with: &'a str,
-        repeat: Option<Repeat>,
+        with: SocketAddr,
         idle: u32,
         verbose: bool,
         token_file: Option<&'a str>,
@@ -212,10 +208,8 @@ fn sync_of<'a>(matches: &ArgMatches<'a>) -> Result<Order<'a>, Unread>
     ensures { ReadsOptions (codes "sync") (options_of matches.now) result }
 {
     match text_in(matches, "with") {
-        Some(_) if has_file(matches) => Err(Unread::Text(FILE_AND_SERVERS)),
-        None if is_repeated(matches) => Err(Unread::Text(ONE_SESSION)),
-        Some(with) if is_address_list(with) => meet_of(matches, with),
-        Some(_) => Err(Unread::Text(NO_LIST)),
+        Some(_) if has_file(matches) => Err(Unread::Text(FILE_AND_SERVER)),
+        Some(with) => meet_of(matches, with),
         None => Ok(Order::Sync {
             db: db_in(matches)?,
             setup: setup_in(matches)?,
@@ -227,19 +221,21 @@ fn sync_of<'a>(matches: &ArgMatches<'a>) -> Result<Order<'a>, Unread>
     }
 }
 
-/// A session of a server with each of a list.
+/// A session of two servers.
 fn meet_of<'a>(matches: &ArgMatches<'a>, with: &'a str) -> Result<Order<'a>, Unread>
     requires with { first_of (codes "with") (options_of matches.now) ≡ Some with.now }
-    requires list { IsAddressList with.now }
     requires alone { has_file (options_of matches.now) ≡ false }
     ensures { ReadsOptions (codes "sync") (options_of matches.now) result }
 {
+    let address = address_in(matches)?;
+    let Some(with) = address_at(address.ip(), with) else {
+        return Err(Unread::Text(NO_SERVER));
+    };
     Ok(Order::Meet {
+        address,
         with,
-        repeat: repeat_in(matches)?,
         idle: idle_in(matches)?,
         verbose: is_verbose(matches),
-        address: address_in(matches)?,
         token_file: token_file_in(matches),
     })
 }
@@ -284,13 +280,6 @@ fn has_file(matches: &ArgMatches<'_>) -> bool
     ensures { result ≡ has_file (options_of matches.now) }
 {
     is_given(matches, "db") || sets_up(matches)
-}
-
-/// Whether the words say how often servers meet again.
-fn is_repeated(matches: &ArgMatches<'_>) -> bool
-    ensures { result ≡ is_repeated (options_of matches.now) }
-{
-    is_given(matches, "every") || is_given(matches, "times")
 }
 
 /// Whether the words say how a site is set up.

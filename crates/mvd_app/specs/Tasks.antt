@@ -139,7 +139,8 @@ abbrev pub IsTypedAt : {L : Type 0} → LineGhosts L → (L → Type 0) → Sock
     → Option (List ℕ) → Option (List ℕ) → Option (List ℕ) → Option (List ℕ) → Result (Unit {0}) Stop → Type 0
 IsTypedAt line gives address file was now input input' out out' result =
     ((tokens : Option Tokens) × AreTokensOfOrder file tokens
-    × ShellsAt line (GivesIn line gives (first_token tokens)) address was now input out input' out' result)
+    × ShellsAt line (GivesIn line gives (first_token tokens)) (is_some (first_token tokens)) address was now
+        input out input' out' result)
     ⊎ (((stop : Stop) × (result ≡ Err stop) × StopsAtToken file stop) × (input' ≡ input) × (out' ≡ out))
 
 -- what is printed of sessions that are not repeated: of one, where the list has one server, and else of one with each

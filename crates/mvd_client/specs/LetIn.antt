@@ -1,6 +1,5 @@
 -- How a line comes to be one over which its far side serves: by a Hello that shows the token, where there is one.
 use Rattle.std.specs.Prelude.{◌≡◌, ℕ, List, Option, Some, None, Result, Ok, Err}
-use Rattle.std.specs.declared.net.socket_addr.SocketAddr.{SocketAddr}
 use Rattle.mvd_client.specs.Gone.{LetsGo}
 use Rattle.mvd_client.specs.declared.dial.DialFault.{DialFault}
 use Rattle.mvd_client.specs.declared.dial.DialFault.TheVariants as faults
@@ -33,10 +32,6 @@ module _ {L : Type 0} (line : Ghosts L) where
   -- the lines that come of those which an address gives
   abbrev pub GivesIn : (L → Type 0) → Option (List ℕ) → L → Type 0
   GivesIn gives token opened = (fresh : L) × gives fresh × IsLetIn token fresh opened
-
-  -- so those of each address
-  abbrev pub LeadsTo : (SocketAddr → L → Type 0) → Option (List ℕ) → SocketAddr → L → Type 0
-  LeadsTo gives token address = GivesIn (gives address) token
 
   -- Why an address leads to no line: there is none, and none is let go; or the token was shown over one and not taken,
   -- and that one is let go

@@ -1,7 +1,5 @@
 pub mod Between
 pub mod Gone
-pub mod Once
-pub mod Each
 pub mod Met
 pub mod Pushing
 pub mod Questioned

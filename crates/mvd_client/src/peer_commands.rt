@@ -1,5 +1,5 @@
 //! The commands that meet a server: sessions of a stored site, and shells.
-ghost use Rattle.std.specs.Prelude.{◌≡◌, ◌≢◌, ◌≤◌, ◌+◌, ◌++◌, [], IfErr, IfOk, IsErr, OnOk, option_copied, string_bytes};
+ghost use Rattle.std.specs.Prelude.{◌≡◌, ◌≢◌, ◌≤◌, ◌+◌, ◌++◌, [], IfErr, IfOk, IsErr, OnOk, is_some, option_copied, string_bytes};
 ghost use Rattle.std.specs.Io.KnownBytes.{Appends};
 ghost use Rattle.mvd_client.specs.AskedServer.{RepliesNoted, lost_of};
 ghost use Rattle.mvd_client.specs.Gone.{LetsGo};
@@ -333,14 +333,15 @@ pub fn remote_shell_run<'a, D: Dial, R: BufRead, W: Write>(
 ) -> Result<(), Stop<'a>>
     // The shell is over a line that the address gives; or there is no line.
     ensures shells { ShellsAt D.Dialed.Line
-        (GivesIn D.Dialed.Line (D.gives dial.now address) (option_copied token.entry)) address gone.old gone.new
+        (GivesIn D.Dialed.Line (D.gives dial.now address) (option_copied token.entry))
+        (is_some (option_copied token.entry)) address gone.old gone.new
         (R.remaining reader.old) (W.contents writer.old) (R.remaining reader.new) (W.contents writer.new) result }
 {
     let line = match let_in(dial, alloc, address, idle, token, gone) {
         Ok(line) => line,
         Err(fault) => return Err(undialed(address, fault)),
     };
-    let mut server = AskedServer::over(alloc, line);
+    let mut server = AskedServer::over(alloc, line, token.is_some());
     let ended = shell_over(alloc, &mut server, address, reader, writer);
     gone.lets_go(server.into_line());
     ended

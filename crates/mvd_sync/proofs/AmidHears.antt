@@ -18,7 +18,7 @@ use Rattle.mvd_sync.specs.Machines as machine
 use Rattle.mvd_sync.specs.Meetings.{ArePlans, held_keys}
 use Rattle.mvd_sync.specs.OneTurn.{untold}
 use Rattle.mvd_sync.specs.Questions.{IsWindow, TakesBudget}
-use Rattle.mvd_sync.proofs.Reads.{with_left}
+use Rattle.mvd_sync.proofs.Readings.{with_left}
 use Rattle.mvd_sync.specs.Session.{Asking}
 use Rattle.mvd_sync.specs.Tellings.{IsListingOf, IsNoNode, IsNoPage, IsNodeOf, IsRead, IsStateOf, never, nodes_told, pages_told, pushes_told, states_told, unasked_told}
 use Rattle.mvd_sync.specs.Walking.{IsWalked, PageQuestion, Walking, pages_next, pages_of}

@@ -9,7 +9,7 @@ use Rattle.mvd_sync.specs.declared.asking.Node.{Node}
 use Rattle.mvd_dots.specs.declared.refusals.Refusal.{Refusal}
 use Rattle.mvd_dots.specs.declared.refusals.Refusal.TheVariants.{BadPath, Memory, TooManyRequests}
 use Rattle.std.proofs.lemmas.List.{length-take, length-take-le, take_all}
-use Rattle.mvd_sync.proofs.Reads.{AllAnswered, AnswersEach, ComesToEnd, Keeps, with_left}
+use Rattle.mvd_sync.proofs.Readings.{AllAnswered, AnswersEach, ComesToEnd, Keeps, with_left}
 use Rattle.mvd_sync.specs.Questions.{TakesBudget}
 use Rattle.mvd_peer.specs.Windows.{ForEach}
 use Rattle.mvd_peer.specs.PushedStates.{Each}

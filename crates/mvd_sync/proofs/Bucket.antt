@@ -8,8 +8,8 @@ use Rattle.mvd_site.specs.Answer.{digests}
 use Rattle.mvd_site.specs.Held.{States}
 use Rattle.mvd_tree.specs.HashTree.{is_under}
 use Rattle.mvd_tree.specs.Page.{is_after}
-use Rattle.mvd_sync.proofs.Reads.{with_left}
-use Rattle.mvd_sync.proofs.Reads.{IsBucketPage}
+use Rattle.mvd_sync.proofs.Readings.{with_left}
+use Rattle.mvd_sync.proofs.Readings.{IsBucketPage}
 use Rattle.mvd_sync.specs.Answers.{ListingValue, TakesLesser}
 use Rattle.mvd_sync.proofs.Buckets.{AreElsewhere, ArePages, held_in, waits_if}
 use Rattle.mvd_sync.proofs.Exchanges.{AreNext, Counts, keys_next}

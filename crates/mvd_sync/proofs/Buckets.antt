@@ -7,14 +7,14 @@ use Rattle.mvd_tree.specs.HashTree.{KeyDigests}
 use Rattle.mvd_tree.specs.Page.{keys_after}
 use Rattle.mvd_site.specs.Answer.{digests}
 use Rattle.mvd_site.specs.Held.{States}
-use Rattle.mvd_sync.proofs.Reads.{IsBucketPage}
+use Rattle.mvd_sync.proofs.Readings.{IsBucketPage}
 use Rattle.mvd_sync.specs.Answers.{ListingValue}
 use Rattle.mvd_sync.proofs.Exchanges.{AreNext, Counts, GoesOn, JoinsSome, Moment, SoFar, Spends, Stand}
 use Rattle.mvd_sync.specs.Exchanges.{Done, Exchanging}
 use Rattle.mvd_sync.proofs.Exchanges.{began, keys_next, stand_at}
 use Rattle.mvd_sync.specs.Exchanges.{keys_done}
 use Rattle.mvd_sync.proofs.Walk.{has_below}
-use Rattle.mvd_sync.proofs.Reads.{Fills}
+use Rattle.mvd_sync.proofs.Readings.{Fills}
 use Rattle.mvd_peer.specs.Windows.{ForEach}
 use Rattle.mvd_sync.specs.Session.{After, AreDistinct, Asking, Both, Course, IsIn, after_of, both}
 use Rattle.mvd_sync.proofs.Walk.{asking}

@@ -7,7 +7,7 @@ use Rattle.mvd_site.specs.Held.{States, state_at}
 use Rattle.mvd_sync.proofs.Exchanges.{AreNext, JoinsSome, SoFar, Spends, began, keys_next}
 use Rattle.mvd_sync.specs.Exchanges.{Done, keys_done}
 use Rattle.mvd_sync.specs.Meetings.{ArePlans, done_of, held_keys, noted, pushed_pair, taken_from}
-use Rattle.mvd_sync.proofs.Reads.{AllAnswered, AnswersEach, OneAsking, TakesIn}
+use Rattle.mvd_sync.proofs.Readings.{AllAnswered, AnswersEach, OneAsking, TakesIn}
 use Rattle.mvd_sync.specs.Questions.{IsOfKey}
 use Rattle.mvd_sync.specs.Session.{Asking, Course, after_of, both, both_of}
 use Rattle.mvd_peer.specs.Sides.{HasAnswered, SideOf, Sides}

@@ -1,7 +1,7 @@
 -- Questions after questions, of those that are left.
 use Rattle.std.proofs.Common.{◌≡◌, ℕ, ◌+◌, ◌≤◌, ◌∙◌, arith}
 use Rattle.mvd_dots.specs.declared.refusals.Refusal.{Refusal}
-use Rattle.mvd_sync.proofs.Reads.{Keeps}
+use Rattle.mvd_sync.proofs.Readings.{Keeps}
 use Rattle.mvd_peer.specs.Sides.{HasAnswered, HasRefused, Reaches, SideOf}
 use Rattle.mvd_sync.specs.Faults.{of_answer, of_memory, of_questions, of_side}
 use Rattle.mvd_sync.proofs.Positions.{BlamesBy}

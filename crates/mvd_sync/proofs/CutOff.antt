@@ -161,7 +161,7 @@ module _ (ml mp : ℕ) (number : Option ℕ) (a b x y x' y' : States) (done : Li
         (each_both (IsPlanned number a b) (λ (m : Meeting). get x m.key ≡ get a m.key) ms all_plans still_x)))
 
     apart_local : (k : List ℕ) → is_member (joined_keys done) k ≡ true → is_member (took_keys local_asks ts) k ≡ false
-    apart_local k h = no_part (took_keys local_asks ts) (keys_next es) k (λ yes. ap (λ ks. is_member ks k) (sym (local_keys ∙ keys_are)) ∙ took_asked k local_asks ts yes) (not_in (λ d. Rattle.mvd_sync.specs.Exchanges.is_joined d.refused) done (keys_next es) k next.distinct h)
+    apart_local k h = no_part (took_keys local_asks ts) (keys_next es) k (λ yes. ap (λ ks. is_member ks k) (sym (local_keys ∙ keys_are)) ∙ took_asked k local_asks ts yes) (not_in (λ d. Rattle.mvd_sync.proofs.Exchanges.is_joined d.refused) done (keys_next es) k next.distinct h)
 
     pub cut_local : (T U : Type 0) → JoinsBy T U a b mid y (joined_keys done ++ took_keys local_asks ts) (given_keys done ++ [])
     cut_local = joins_more a b x y mid y (joined_keys done) (given_keys done) (took_keys local_asks ts) [] done_joins
@@ -243,4 +243,4 @@ module _ (ml mp : ℕ) (number : Option ℕ) (a b x y x' y' : States) (done : Li
     cut_peer = joins_more a b x y x' mid (joined_keys done) (given_keys done) (given_keys now) (took_keys peer_asks ts) done_joins all_met
         (λ k. took_at (Rattle.mvd_sync.specs.Session.AreTooMany mp a b) a b y mid peer_asks ts (subst AreDistinct (sym peer_keys) distinct) peer_good peer_cut.took k (λ out. peer_cut.rest k out))
         (λ k h. member_has Has (took_keys peer_asks ts) were_given k h)
-        (λ k h. filtered (λ d. is_given d.refused) k now (ap (λ ks. is_member ks k) now_keys ∙ not_in (λ d. Rattle.mvd_sync.specs.Exchanges.is_joined d.refused) done (keys_next es) k next.distinct h))
+        (λ k h. filtered (λ d. is_given d.refused) k now (ap (λ ks. is_member ks k) now_keys ∙ not_in (λ d. Rattle.mvd_sync.proofs.Exchanges.is_joined d.refused) done (keys_next es) k next.distinct h))

@@ -8,7 +8,7 @@ use Rattle.mvd_site.specs.Held.{AreHeld}
 use Rattle.mvd_peer.specs.PushedStates.{Each}
 use Rattle.mvd_peer.specs.Sides.{HasAnswered, SideOf}
 use Rattle.mvd_sync.specs.Level.{GoesDown, IsDown, Level, along, down, found_by, next_nodes}
-use Rattle.mvd_sync.proofs.Reads.{AllAnswered, AnswersEach, ComesToEnd, IsInner, Keeps, with_left}
+use Rattle.mvd_sync.proofs.Readings.{AllAnswered, AnswersEach, ComesToEnd, IsInner, Keeps, with_left}
 use Rattle.mvd_sync.proofs.Walk.{ReadsSide}
 use Rattle.mvd_sync.specs.Walk.{told_all}
 use Rattle.mvd_sync.specs.declared.asking.Node.{Node}

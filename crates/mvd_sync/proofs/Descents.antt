@@ -5,7 +5,7 @@ use Rattle.std.proofs.lemmas.List.{append-nil, length-take}
 use Rattle.mvd_site.specs.Answer.{digests}
 use Rattle.mvd_tree.specs.HashTree.{KeyDigests}
 use Rattle.mvd_sync.specs.Nodes.{differing_children}
-use Rattle.mvd_sync.proofs.Reads.{AllAnswered, AnswersEach, IsInner, with_left}
+use Rattle.mvd_sync.proofs.Readings.{AllAnswered, AnswersEach, IsInner, with_left}
 use Rattle.mvd_peer.specs.Windows.{ForEach}
 use Rattle.mvd_peer.specs.PushedStates.{Each}
 use Rattle.mvd_peer.specs.Sides.{HasAnswered, SideOf}

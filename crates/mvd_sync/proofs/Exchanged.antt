@@ -12,7 +12,7 @@ use Rattle.mvd_sync.proofs.Carries.{Carried}
 use Rattle.mvd_sync.specs.Exchanges.{Done, IsHeldByEither}
 use Rattle.mvd_sync.proofs.Exchanges.{keys_next}
 use Rattle.mvd_sync.specs.Meetings.{done_of, held_keys, noted, pushed_pair, taken_from}
-use Rattle.mvd_sync.proofs.Reads.{ComesToEnd, Keeps, TakesIn, TakesInFirst, with_left}
+use Rattle.mvd_sync.proofs.Readings.{ComesToEnd, Keeps, TakesIn, TakesInFirst, with_left}
 use Rattle.mvd_sync.specs.Questions.{IsOfKey}
 use Rattle.mvd_peer.specs.Windows.{ForEach}
 use Rattle.mvd_peer.specs.PushedStates.{ComesByPushes, Each}

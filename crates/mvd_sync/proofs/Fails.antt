@@ -3,7 +3,7 @@ use Rattle.std.proofs.Common.{◌≡◌, ℕ, ◌+◌, ◌≤◌, List, ◌++◌
 use Rattle.std.proofs.lemmas.List.{length-take}
 use Rattle.mvd_dots.specs.declared.refusals.Refusal.{Refusal}
 use Rattle.mvd_dots.specs.declared.refusals.Refusal.TheVariants.{Memory}
-use Rattle.mvd_sync.proofs.Reads.{ComesToEnd, Keeps, with_left}
+use Rattle.mvd_sync.proofs.Readings.{ComesToEnd, Keeps, with_left}
 use Rattle.mvd_peer.specs.Sides.{SideOf}
 use Rattle.mvd_sync.specs.Faults.{of_memory}
 use Rattle.mvd_sync.proofs.Walk.{ReadsSide}

@@ -4,7 +4,7 @@ use Rattle.std.specs.Prelude.{IfErr, OnOk, Result, Ok, Err}
 use Rattle.mvd_keys.specs.State.{State}
 use Rattle.mvd_keys.specs.Writes.{Key}
 use Rattle.mvd_site.specs.Held.{States}
-use Rattle.mvd_sync.proofs.Reads.{with_left}
+use Rattle.mvd_sync.proofs.Readings.{with_left}
 use Rattle.mvd_sync.specs.Exchanges.{Exchanging}
 use Rattle.mvd_sync.specs.Session.{ChangesSide}
 use Rattle.mvd_sync.specs.Faults.{IsFaultOf}

@@ -16,7 +16,7 @@ use Rattle.mvd_tree.specs.HashTree.{KeyDigests, is_under}
 use Rattle.mvd_tree.specs.Page.{is_after, keys_after}
 use Rattle.mvd_tree.specs.States.{key_digest}
 use Rattle.mvd_peer.specs.Sides.{two}
-use Rattle.mvd_sync.proofs.Reads.{IsListing, IsBucketPage}
+use Rattle.mvd_sync.proofs.Readings.{IsListing, IsBucketPage}
 use Rattle.mvd_sync.specs.Answers.{ListingValue, TakesLesser}
 use Rattle.mvd_sync.proofs.Buckets.{IsSpent, waits_if}
 use Rattle.mvd_sync.proofs.Exchanges.{AreNext, IsNext, keys_next}

@@ -5,7 +5,7 @@ use Rattle.mvd_tree.specs.Page.{children_digests}
 use Rattle.mvd_wire.specs.declared.reply.Digests.{Digests}
 use Rattle.mvd_peer.specs.Windows.{IsNode}
 use Rattle.mvd_sync.specs.declared.asking.Node.{Node}
-use Rattle.mvd_sync.proofs.Reads.{IsInner}
+use Rattle.mvd_sync.proofs.Readings.{IsInner}
 use Rattle.mvd_sync.proofs.Answering.{IsNodeOf}
 
 -- a faithful side does not leave the children out

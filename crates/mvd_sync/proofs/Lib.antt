@@ -1,4 +1,4 @@
-pub mod Reads
+pub mod Readings
 pub mod Walk
 pub mod Exchanges
 pub mod Buckets

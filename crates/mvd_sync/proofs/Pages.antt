@@ -10,7 +10,7 @@ use Rattle.std.proofs.lemmas.List.{take-append-drop}
 use Rattle.mvd_tree.specs.HashTree.{KeyDigests}
 use Rattle.mvd_tree.proofs.Under.{keys_same}
 use Rattle.mvd_tree.specs.Page.{keys_after, bucket_page, is_more_after_page}
-use Rattle.mvd_sync.proofs.Reads.{IsListing, IsBucketPage}
+use Rattle.mvd_sync.proofs.Readings.{IsListing, IsBucketPage}
 use Rattle.mvd_sync.specs.Answers.{PageEntry, TakesLesser, of_first, of_second, of_both, order_of_first}
 use Rattle.mvd_peer.specs.Sides.{two}
 use Rattle.mvd_sync.specs.declared.cursor.Entry.{Entry}

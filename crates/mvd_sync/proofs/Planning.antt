@@ -6,7 +6,7 @@ use Rattle.mvd_dots.specs.declared.refusals.Refusal.TheVariants.{Memory}
 use Rattle.mvd_keys.specs.State.{State}
 use Rattle.mvd_sync.proofs.Carries.{GivesStates}
 use Rattle.mvd_sync.specs.Meetings.{held_keys, is_held}
-use Rattle.mvd_sync.proofs.Reads.{ComesToEnd, Keeps, with_left}
+use Rattle.mvd_sync.proofs.Readings.{ComesToEnd, Keeps, with_left}
 use Rattle.mvd_peer.specs.Sides.{SideOf}
 use Rattle.mvd_sync.specs.Faults.{of_memory}
 use Rattle.mvd_sync.specs.declared.cursor.Entry.{Entry}

@@ -7,7 +7,7 @@ use Rattle.mvd_dots.specs.declared.refusals.Refusal.{Refusal}
 use Rattle.mvd_dots.specs.declared.refusals.Refusal.TheVariants.{Broken, Memory, TooManyRequests}
 use Rattle.mvd_keys.specs.State.{State}
 use Rattle.mvd_keys.specs.Writes.{Key}
-use Rattle.mvd_sync.proofs.Reads.{AllAnswered, ComesToEnd, TakesIn, TakesInFirst, with_left}
+use Rattle.mvd_sync.proofs.Readings.{AllAnswered, ComesToEnd, TakesIn, TakesInFirst, with_left}
 use Rattle.mvd_sync.specs.Questions.{IsOfKey}
 use Rattle.mvd_peer.specs.Windows.{ForEach}
 use Rattle.mvd_peer.specs.Sides.{HasAnswered, HasRefused, SideOf, is_of_key, is_of_question}

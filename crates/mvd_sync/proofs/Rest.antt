@@ -14,7 +14,7 @@ use Rattle.std.specs.FinMap.Entries.{below_all}
 use Rattle.mvd_tree.specs.HashTree.{KeyDigests, is_under}
 use Rattle.mvd_tree.proofs.Under.{keys_same}
 use Rattle.mvd_tree.specs.Page.{is_after, keys_after}
-use Rattle.mvd_sync.proofs.Reads.{IsListing}
+use Rattle.mvd_sync.proofs.Readings.{IsListing}
 use Rattle.mvd_sync.specs.Answers.{PageEntry, StartsAfter, TakesLesser, of_first, of_second, of_both}
 use Rattle.mvd_peer.specs.Sides.{two}
 use Rattle.mvd_sync.specs.declared.cursor.Entry.{Entry}

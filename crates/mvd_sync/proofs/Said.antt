@@ -14,8 +14,8 @@ use Rattle.mvd_site.specs.Answer.{digests}
 use Rattle.mvd_site.specs.Held.{state_at}
 use Rattle.mvd_wire.specs.declared.reply.Digests.{Digests}
 use Rattle.mvd_sync.specs.Answers.{IsPage, ListingValue}
-use Rattle.mvd_sync.proofs.Reads.{IsBucketPage}
-use Rattle.mvd_sync.proofs.Reads.{IsInner}
+use Rattle.mvd_sync.proofs.Readings.{IsBucketPage}
+use Rattle.mvd_sync.proofs.Readings.{IsInner}
 use Rattle.mvd_sync.specs.Questions.{TakesBudget}
 use Rattle.mvd_sync.specs.Ran.{RefusesAll, SideSays, SideTells}
 use Rattle.mvd_sync.specs.Steps.{Wanted, count_wanted}

@@ -11,7 +11,7 @@ use Rattle.mvd_sync.specs.Exchanges.{IsHeldByEither}
 use Rattle.mvd_sync.proofs.Exchanges.{keys_next}
 use Rattle.mvd_sync.specs.Meetings.{ArePlans, held_keys, is_held, noted, pushed_pair, rest_if, taken_from}
 use Rattle.mvd_peer.specs.Windows.{ForEach}
-use Rattle.mvd_sync.proofs.Reads.{TakesInFirst, TakesIn}
+use Rattle.mvd_sync.proofs.Readings.{TakesInFirst, TakesIn}
 use Rattle.mvd_sync.specs.Session.{ChangesSide}
 use Rattle.mvd_peer.specs.PushedStates.{ComesByPushes, Each, pushed_all}
 use Rattle.mvd_peer.specs.Sides.{HasAnswered, IsSilent, SideOf}

@@ -10,7 +10,7 @@ use Rattle.mvd_keys.specs.Writes.{Key}
 use Rattle.mvd_site.specs.Answer.{digests}
 use Rattle.mvd_site.specs.Held.{States}
 use Rattle.mvd_tree.specs.HashTree.{is_under, path_of_key}
-use Rattle.mvd_sync.proofs.Reads.{with_left}
+use Rattle.mvd_sync.proofs.Readings.{with_left}
 use Rattle.mvd_sync.specs.Answers.{ListingValue}
 use Rattle.mvd_sync.proofs.Buckets.{AreElsewhere, ArePages, held_in}
 use Rattle.mvd_sync.proofs.Exchanges.{AreNext, keys_next}

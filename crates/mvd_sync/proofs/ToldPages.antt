@@ -10,7 +10,7 @@ use Rattle.mvd_tree.specs.Page.{is_after, is_more_after_page, bucket_page, keys_
 use Rattle.std.specs.declared.vec.Vec.{Vec}
 use Rattle.std.specs.declared.alloc.Global.{Global}
 use Rattle.mvd_sync.specs.Answers.{IsPage, ListingValue, PageEntry, PageRises}
-use Rattle.mvd_sync.proofs.Reads.{IsBucketPage}
+use Rattle.mvd_sync.proofs.Readings.{IsBucketPage}
 use Rattle.mvd_sync.proofs.Answering.{IsListingOf}
 use Rattle.mvd_sync.proofs.Rest.{get-rest}
 

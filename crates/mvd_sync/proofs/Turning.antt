@@ -14,7 +14,7 @@ use Rattle.mvd_sync.proofs.Carries.{Carried}
 use Rattle.mvd_sync.specs.Machines.{IsUnheard, Pushed, of_answer, of_number, of_questions, refused}
 use Rattle.mvd_sync.specs.Meetings.{noted, pushed_pair, taken_from}
 use Rattle.mvd_sync.specs.OneTurn.{BeginsTurn, untold}
-use Rattle.mvd_sync.proofs.Reads.{ComesToEnd, TakesInFirst, with_left}
+use Rattle.mvd_sync.proofs.Readings.{ComesToEnd, TakesInFirst, with_left}
 use Rattle.mvd_sync.specs.Questions.{IsOfKey, IsWindow, TakesBudget}
 use Rattle.mvd_sync.specs.Walking.{Walking}
 use Rattle.mvd_sync.specs.declared.meetings.Meeting.{Meeting}

@@ -6,7 +6,7 @@ use Rattle.mvd_tree.specs.HashTree.{is_under}
 use Rattle.mvd_peer.specs.Sides.{two, SideOf, Sides, Two}
 use Rattle.mvd_sync.specs.declared.asking.Questions.{Questions}
 use Rattle.mvd_sync.specs.Session.{Asking, HaveAnswered, AreDistinct, HasAllThatDiffer}
-use Rattle.mvd_sync.proofs.Reads.{OneAsking, with_left, Keeps, TellsPages}
+use Rattle.mvd_sync.proofs.Readings.{OneAsking, with_left, Keeps, TellsPages}
 use Rattle.mvd_sync.specs.Faults.{Blames, IsFaultOf}
 use Rattle.mvd_sync.specs.declared.report.SyncFault.{SyncFault}
 use Rattle.mvd_site.specs.Answer.{digests, spelled}

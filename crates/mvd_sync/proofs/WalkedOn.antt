@@ -8,7 +8,7 @@ use Rattle.mvd_peer.specs.Sides.{HasAnswered, SideOf, Two, two}
 use Rattle.mvd_sync.specs.Answers.{ListingValue, PageEntry, TakesLesser, is_spent, of_both, of_first, of_second}
 use Rattle.mvd_sync.specs.Exchanges.{IsHeldByEither}
 use Rattle.mvd_sync.proofs.Exchanges.{Moment, moment}
-use Rattle.mvd_sync.proofs.Reads.{Fills, TellsPages}
+use Rattle.mvd_sync.proofs.Readings.{Fills, TellsPages}
 use Rattle.mvd_sync.specs.Session.{Asking}
 use Rattle.mvd_sync.proofs.Walk.{ReadsEnd, local_of, peer_of}
 use Rattle.mvd_sync.specs.Walking.{GoesTo, IsTold, PageQuestion, TakesNext, Walking, closes, ends, filled, filled_both, fills, first_page, is_asked, moves, opened_buckets, opens, pages_next, pages_of, tells, waits}

@@ -9,7 +9,7 @@ use Rattle.mvd_site.specs.Held.{AreHeld, States}
 use Rattle.mvd_tree.proofs.Apart.{same_state, same_states_under}
 use Rattle.mvd_tree.specs.HashTree.{is_under}
 use Rattle.mvd_tree.specs.Hashed.{HashesTellApart}
-use Rattle.mvd_sync.proofs.Reads.{with_left}
+use Rattle.mvd_sync.proofs.Readings.{with_left}
 use Rattle.mvd_sync.specs.Nodes.{child_paths, differing_children, differs_at}
 use Rattle.mvd_sync.proofs.Walk.{has_below}
 use Rattle.mvd_sync.specs.Session.{AreDistinct, HasAllThatDiffer}

@@ -70,9 +70,8 @@ module _ {D : Type 0} {g : disk.Ghosts D} (f : Ghosts (FileStore D g)) {K L : Ty
       (now.gone ≡ was.gone) × IsLooped setup was.input now.input was.out now.out ended
   DoesBeside (order.RemoteShell address idle file) was now ended =
       IsTypedAt line (gives address) address file was.gone now.gone was.input now.input was.out now.out ended
-  DoesBeside (order.Meet address list repeat idle verbose file) was now ended =
-      (now.input ≡ was.input)
-      × IsMet line gives address list repeat verbose file now.gone was.out now.out ended
+  DoesBeside (order.Meet near far idle verbose file) was now ended =
+      (now.input ≡ was.input) × IsMet line gives near far file was.gone now.gone was.out now.out ended
   DoesBeside _ was now ended = ⊤
 
   abbrev pub DoesIn : Image → Order → Option Filed → Outside K L → Outside K L → Ran (SiteLeft D g f) → Type 0

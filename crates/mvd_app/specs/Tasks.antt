@@ -1,5 +1,5 @@
 -- What is done with a stored site, and with what is outside of a command.
-use Rattle.std.specs.Prelude.{◌≡◌, ◌≢◌, ◌⊎◌, ⊤, ℕ, Bool, List, [], ◌∷◌, length, map, IfErr, IsSome, OnOk, Option, None, is_some, option_map, Result, Ok, Err}
+use Rattle.std.specs.Prelude.{◌≡◌, ◌⊎◌, ⊤, ℕ, List, [], ◌∷◌, map, IfErr, IsSome, OnOk, Option, None, is_some, option_map, Result, Ok, Err}
 use Rattle.std.specs.Borrow.{Bor}
 use Rattle.std.specs.List.{AllByRecursion}
 use Rattle.std.specs.Option.{ForSome}
@@ -8,19 +8,16 @@ use Rattle.mvd_app.specs.Named.{StopsAtToken}
 use Rattle.mvd_app.specs.Noted.{Noting, at_noted}
 use Rattle.mvd_app.specs.declared.commands.Work.{Work}
 use Rattle.mvd_app.specs.declared.commands.Work.TheVariants as work
-use Rattle.mvd_client.specs.Each.{MeetsServers}
+use Rattle.mvd_client.specs.Between.{MeetsServers}
 use Rattle.mvd_client.specs.LetIn.{GivesIn}
-use Rattle.mvd_client.specs.Once.{MeetsServer}
 use Rattle.mvd_client.specs.SyncsAt.{TellsSession}
 use Rattle.mvd_client.specs.Talked.{ShellsAt}
 use Rattle.mvd_client.specs.declared.gone.Gone.{Gone}
 use Rattle.mvd_hint.specs.declared.hint.Stop.{Stop}
 use Rattle.mvd_host.specs.Round.{turns_of}
 use Rattle.mvd_host.specs.Runs.{turns_in}
-use Rattle.mvd_input.specs.Addresses.{items_of}
 use Rattle.mvd_input.specs.Orders.{ArePeers}
 use Rattle.mvd_input.specs.declared.fault.Fault.{Fault}
-use Rattle.mvd_input.specs.declared.options.Repeat.{Repeat}
 use Rattle.mvd_remote.specs.declared.line.Line.{Ghosts as LineGhosts}
 use Rattle.mvd_replica.specs.ReplicaCalls.{ReplicaAnswers}
 use Rattle.mvd_replica.specs.Replicas.{site_of}
@@ -143,19 +140,10 @@ IsTypedAt line gives address file was now input input' out out' result =
         input out input' out' result)
     ⊎ (((stop : Stop) × (result ≡ Err stop) × StopsAtToken file stop) × (input' ≡ input) × (out' ≡ out))
 
--- what is printed of sessions that are not repeated: of one, where the list has one server, and else of one with each
-pub record MeetsListed {L : Type 0} (line : LineGhosts L) (gives : SocketAddr → L → Type 0) (token : Option (List ℕ))
-    (always : Bool) (near : SocketAddr) (texts : List (List ℕ)) (now : Gone L) (out out' : Option (List ℕ))
-    (result : Result (Unit {0}) Stop) : Type 0 where
-  pub once : (text : List ℕ) → texts ≡ text ∷ [] → MeetsServer line gives token near text now out out' result
-  pub each : length texts ≢ 1 → MeetsServers line gives token always near texts out out' result
-
--- Sessions of the server at an address with those of a list, to which the token was shown first; where nothing is
--- repeated, what is printed is of the sessions that ran. Or the token could not be read of its file
-abbrev pub IsMet : {L : Type 0} → LineGhosts L → (SocketAddr → L → Type 0) → SocketAddr → Bor (List ℕ) → Option Repeat
-    → Bool → Option (Bor (List ℕ)) → Gone L → Option (List ℕ) → Option (List ℕ) → Result (Unit {0}) Stop → Type 0
-IsMet line gives address list repeat always file now out out' result =
+-- a session of two servers, to each of which the first token was shown; or the tokens could not be read of their file
+abbrev pub IsMet : {L : Type 0} → LineGhosts L → (SocketAddr → L → Type 0) → SocketAddr → SocketAddr
+    → Option (Bor (List ℕ)) → Gone L → Gone L → Option (List ℕ) → Option (List ℕ) → Result (Unit {0}) Stop → Type 0
+IsMet line gives near far file was now out out' result =
     ((tokens : Option Tokens) × AreTokensOfOrder file tokens
-    × (repeat ≡ None
-    → MeetsListed line gives (first_token tokens) always address (items_of list.now) now out out' result))
-    ⊎ (((stop : Stop) × (result ≡ Err stop) × StopsAtToken file stop) × (out' ≡ out))
+    × MeetsServers line gives (first_token tokens) near far was now out out' result)
+    ⊎ (((stop : Stop) × (result ≡ Err stop) × StopsAtToken file stop) × (now ≡ was) × (out' ≡ out))

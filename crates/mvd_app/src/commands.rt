@@ -19,7 +19,7 @@ use crate::setups::config_in;
 use crate::tokens::{first_of, tokens_in};
 use crate::typed_lines::typed;
 use crate::without_files::{run_loop, run_meeting, run_remote_shell, run_sim};
-use mvd_client::{Dial, Gone, MeetingTerms, sync_told};
+use mvd_client::{Dial, Gone, sync_told};
 use mvd_hint::{Stop, Watch};
 use mvd_input::{Order, Peers, Setup};
 use mvd_replica::Replica;
@@ -139,24 +139,15 @@ pub fn run<'a, S: Start, D: Dial, K: Sockets, R: BufRead, W: Write>(
         Order::Meet {
             address,
             with,
-            repeat,
             idle,
             verbose,
             token_file,
-        } => {
-            let terms = MeetingTerms {
-                repeat,
-                idle,
-                token: None,
-                verbose,
-            };
-            without_file(
-                run_meeting(
-                    rt, paths, dial, address, with, terms, token_file, gone, writer,
-                ),
-                start,
-            )
-        }
+        } => without_file(
+            run_meeting(
+                paths, dial, address, with, idle, verbose, token_file, gone, writer,
+            ),
+            start,
+        ),
     }
 }
 

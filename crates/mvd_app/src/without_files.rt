@@ -1,7 +1,6 @@
 //! What a command line asks for that works on no file of a site.
 ghost use Rattle.mvd_app.specs.Looped.{IsLooped};
 ghost use Rattle.mvd_app.specs.Tasks.{IsMet, IsSimulated, IsTypedAt};
-ghost use Rattle.mvd_input.specs.Addresses.{IsAddressList};
 ghost use Rattle.mvd_input.specs.Orders.{IsSetUp};
 ghost use Rattle.std.specs.Prelude.{◌≡◌};
 
@@ -17,7 +16,6 @@ use mvd_script::sim;
 use std::alloc::Global;
 use std::io::{BufRead, Write};
 use std::net::{Net, SocketAddr};
-use std::time::Clock;
 
 /// Runs a script.
 pub(crate) fn run_sim<'a, R: BufRead, W: Write>(
@@ -91,33 +89,32 @@ pub(crate) fn run_remote_shell<'a, D: Dial, R: BufRead, W: Write>(
     )
 }
 
-/// Runs sessions between servers.
-pub(crate) fn run_meeting<'a, C: Clock, D: Dial, W: Write>(
-    clock: &C,
+/// Runs a session of two servers.
+pub(crate) fn run_meeting<'a, D: Dial, W: Write>(
     paths: &Paths<'_>,
     dial: &D,
-    address: SocketAddr,
-    with: &str,
-    terms: MeetingTerms<'_>,
+    near: SocketAddr,
+    far: SocketAddr,
+    idle: u32,
+    verbose: bool,
     token_file: Option<&'a str>,
     gone: &mut Gone<D::Dialed>,
     writer: &mut W,
 ) -> Result<(), Stop<'a>>
-    requires { IsAddressList with.now }
-    ensures { IsMet D.Dialed.Line (D.gives dial.now) address with.entry terms.entry.repeat terms.entry.verbose
-        token_file.entry gone.new (W.contents writer.old) (W.contents writer.new) result }
+    ensures { IsMet D.Dialed.Line (D.gives dial.now) near far token_file.entry gone.old gone.new
+        (W.contents writer.old) (W.contents writer.new) result }
 {
     let tokens = tokens_in(paths, token_file)?;
     let terms = MeetingTerms {
+        idle,
         token: first_of(tokens.as_ref()),
-        ..terms
+        verbose,
     };
     meet_run(
         dial,
-        clock,
         paths.alloc(),
-        address,
-        with,
+        near,
+        far,
         terms,
         gone,
         writer,

@@ -68,12 +68,13 @@ module _ {L : Type 0} (line : LineGhosts L) (gives : SocketAddr → L → Type 0
   EndsSession was now (Err failure) = FailsBetween was now failure.stop
 
   -- IT GOES ON over new lines behind at most so many that failed, and comes to this
-  pub data GoesOn (most : ℕ) (was now : Gone L) (result : Result (Met L) Stop) : Type 0 where
-    well : (met : Met L) → MeetsBetween met.near met.far (Ok met.report) → now ≡ was → result ≡ Ok met
-        → GoesOn most was now result
-    failed : (stop : Stop) → FailsBetween was now stop → result ≡ Err stop → GoesOn most was now result
-    anew : (stop : Stop) (mid : Gone L) → FailsBetween was mid stop → (fewer : ℕ) → most ≡ fewer + 1
-        → GoesOn fewer mid now result → GoesOn most was now result
+  pub data GoesOn (now : Gone L) (result : Result (Met L) Stop) : ℕ → Gone L → Type 0 where
+    well : (most : ℕ) (was : Gone L) (met : Met L) → EndsSession was now (Ok met) → result ≡ Ok met
+        → GoesOn now result most was
+    failed : (most : ℕ) (was : Gone L) (stop : Stop) → FailsBetween was now stop → result ≡ Err stop
+        → GoesOn now result most was
+    anew : (most fewer : ℕ) (was mid : Gone L) (stop : Stop) → FailsBetween was mid stop → most ≡ fewer + 1
+        → GoesOn now result fewer mid → GoesOn now result most was
 
 -- ---- what comes behind it
 
@@ -121,5 +122,5 @@ module _ {L : Type 0} (line : LineGhosts L) where
       (was now : Gone L) (out out' : Option (List ℕ)) (result : Result (Unit {0}) Stop) : Type 0 where
     pub mid : Gone L
     pub came : Result (Met L) Stop
-    pub comes : GoesOn line gives token near far 8 was mid came
+    pub comes : GoesOn line gives token near far mid came 8 was
     pub ends : EndsMeeting near far came mid now out out' result

@@ -98,10 +98,14 @@ fn meet<'a, D: Dial, E: Write>(
     errors: &mut E,
     most: u32,
 ) -> Result<Met<D::Dialed>, Stop<'a>>
-    ensures { GoesOn D.Dialed.Line (D.gives dial.now) (option_copied terms.entry.token) near far most
-        gone.old gone.new result }
+    ensures { GoesOn D.Dialed.Line (D.gives dial.now) (option_copied terms.entry.token) near far
+        gone.new result most gone.old }
 {
-    let told = if terms.verbose { Some(&mut *errors) } else { None };
+    let told = if terms.verbose {
+        Some(&mut *errors)
+    } else {
+        None
+    };
     match session(dial, alloc, near, far, terms, gone, told) {
         Ok(met) => Ok(met),
         Err(failure) if failure.goes_on && most > 0 => {

@@ -137,12 +137,7 @@ fn print_root_at(alloc: Global, root: Root, lines: &mut String) -> Result<(), Re
 }
 
 /// Tells which keys were refused, by which server, and how. A line that cannot be written is left out.
-fn tell_refused<E: Write>(
-    refused: &[Left],
-    near: SocketAddr,
-    far: SocketAddr,
-    errors: &mut E,
-) {
+fn tell_refused<E: Write>(refused: &[Left], near: SocketAddr, far: SocketAddr, errors: &mut E) {
     for left in refused {
         let address = match left.side {
             Side::Local => near,

@@ -6,9 +6,9 @@
 pub enum Wanted {
     Serve,
     Sync,
-    MeetOnce,
     Meet,
-    MeetCounted,
+    MeetThere,
+    MeetVerbose,
     ServeToken,
     SyncToken,
     MeetToken,
@@ -117,14 +117,14 @@ pub const LINES: &[(&str, Wanted)] = &[
         "mvd sync --db f --site 4294967295 --port 65535 --defs d --max-keys 1 --address 10.0.0.1 --idle 86400 --verbose",
         Wanted::Sync,
     ),
-    ("mvd sync --port 1 --with 2", Wanted::MeetOnce),
+    ("mvd sync --port 1 --with 2", Wanted::Meet),
     (
-        "mvd sync --port 1 --with 2,10.0.0.1:7007 --every 5",
-        Wanted::Meet,
+        "mvd sync --port 65535 --address 10.0.0.1 --with 2",
+        Wanted::MeetThere,
     ),
     (
-        "mvd sync --port 1 --with [::1]:65535 --every 3600 --times 1000000 --idle 1 --verbose",
-        Wanted::MeetCounted,
+        "mvd sync --port 1 --with [::1]:65535 --idle 1 --verbose",
+        Wanted::MeetVerbose,
     ),
     ("mvd loop --site 7", Wanted::Loop),
     ("mvd sim", Wanted::Sim),
@@ -197,20 +197,12 @@ pub const LINES: &[(&str, Wanted)] = &[
         Wanted::Range("max-keys", 1_000_000),
     ),
     (
-        "mvd sync --port 1 --with 2 --every 0",
-        Wanted::Range("every", 3_600),
+        "mvd sync --port 1 --with 2 --idle 86401",
+        Wanted::Range("idle", 86_400),
     ),
     (
-        "mvd sync --port 1 --with 2 --every 3601",
-        Wanted::Range("every", 3_600),
-    ),
-    (
-        "mvd sync --port 1 --with 2 --every 1 --times 0",
-        Wanted::Range("times", 1_000_000),
-    ),
-    (
-        "mvd sync --port 1 --with 2 --every 1 --times 1000001",
-        Wanted::Range("times", 1_000_000),
+        "mvd sync --port 0 --with 2",
+        Wanted::Range("port", 65_535),
     ),
     (
         "mvd loop --site 1 --max-keys 1000001",
@@ -241,25 +233,25 @@ pub const LINES: &[(&str, Wanted)] = &[
     ),
     (
         "mvd sync --port 1 --with 0",
-        Wanted::Says("'--with <LIST>': it is no list"),
+        Wanted::Says("'--with <SERVER>': it is no port"),
     ),
-    ("mvd sync --port 1 --with 2,", Wanted::Says("it is no list")),
-    ("mvd sync --port 1 --with 02", Wanted::Says("it is no list")),
+    ("mvd sync --port 1 --with 2,", Wanted::Says("it is no port")),
+    (
+        "mvd sync --port 1 --with 2,3",
+        Wanted::Says("it is no port"),
+    ),
+    ("mvd sync --port 1 --with 02", Wanted::Says("it is no port")),
     (
         "mvd sync --port 1 --with a:1",
-        Wanted::Says("it is no list"),
+        Wanted::Says("it is no port"),
     ),
     (
         "mvd sync --port 1 --with 10.0.0.1:0",
-        Wanted::Says("it is no list"),
-    ),
-    (
-        "mvd sync --port 1 --with 1,2,3,4,5,6,7,8,9,10,11,12,13,14,15,16,17",
-        Wanted::Says("it is no list"),
+        Wanted::Says("it is no port"),
     ),
     (
         "mvd sync --port 1 --with 2 --db f",
-        Wanted::Says("'--db <FILE>' with its options, or '--with <LIST>'"),
+        Wanted::Says("'--db <FILE>' with its options, or '--with <SERVER>'"),
     ),
     (
         "mvd sync --port 1 --with 2 --site 1",
@@ -267,12 +259,15 @@ pub const LINES: &[(&str, Wanted)] = &[
     ),
     (
         "mvd sync --db f --site 1 --port 1 --every 5",
-        Wanted::Says("go with '--with <LIST>'"),
+        Wanted::Says("'--every'"),
     ),
-    ("mvd sync --port 1 --every 5", Wanted::Says("")),
+    (
+        "mvd sync --port 1 --with 2 --every 5",
+        Wanted::Says("'--every'"),
+    ),
     (
         "mvd sync --port 1 --with 2 --times 5",
-        Wanted::Says("'--times <N>' goes with '--every <S>'"),
+        Wanted::Says("'--times'"),
     ),
     (
         "mvd serve --db f --site 1 --port 1 --token-file",

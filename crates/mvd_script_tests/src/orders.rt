@@ -1,8 +1,8 @@
 //! What command lines ask for.
 use crate::order_lines::{LINES, NAMES, PEERS, SIXTEEN, Wanted};
-use mvd_input::{Named, Order, OrderFault, Peers, Repeat, Setup, addresses_of, order_of};
+use mvd_input::{Named, Order, OrderFault, Peers, Setup, addresses_of, order_of};
 use std::alloc::{AllocError, Global};
-use std::net::{IpAddr, Ipv4Addr, SocketAddr};
+use std::net::{IpAddr, Ipv4Addr, Ipv6Addr, SocketAddr};
 use std::test::Fail;
 
 /// The words of a line, parted by spaces.
@@ -26,21 +26,17 @@ fn address(ip: Ipv4Addr, port: u16) -> SocketAddr {
     SocketAddr::new(IpAddr::V4(ip), port)
 }
 
-/// Sessions of the server at port 1 with these.
+/// A session of two servers.
 fn meet_of<'a>(
-    with: &'a str,
-    repeat: Option<(u32, Option<u32>)>,
+    address: SocketAddr,
+    with: SocketAddr,
     idle: u32,
     verbose: bool,
     token_file: Option<&'a str>,
 ) -> Order<'a> {
     Order::Meet {
-        address: address(Ipv4Addr::LOCALHOST, 1),
+        address,
         with,
-        repeat: match repeat {
-            Some((every, times)) => Some(Repeat { every, times }),
-            None => None,
-        },
         idle,
         verbose,
         token_file,
@@ -148,6 +144,9 @@ fn remote_shell_of(token_file: Option<&str>) -> Order<'_> {
 fn order_wanted(wanted: Wanted) -> Option<Order<'static>> {
     let here = address(Ipv4Addr::LOCALHOST, 1);
     let there = address(Ipv4Addr::new(10, 0, 0, 1), 65_535);
+    let beside = address(Ipv4Addr::LOCALHOST, 2);
+    let beside_there = address(Ipv4Addr::new(10, 0, 0, 1), 2);
+    let far = SocketAddr::new(IpAddr::V6(Ipv6Addr::LOCALHOST), 65_535);
     let order = match wanted {
         Wanted::Serve => serve_of(Some(1), 1, Some(65_535), 10_000, None),
         Wanted::ServeToken => serve_of(None, 300, None, 256, Some("t")),
@@ -164,16 +163,10 @@ fn order_wanted(wanted: Wanted) -> Option<Order<'static>> {
         Wanted::PeersMost => peers_of(SIXTEEN, 3_600, Some("t")),
         Wanted::Sync => sync_of(set_up(u32::MAX, Some("d"), 1), there, 86_400, true, None),
         Wanted::SyncToken => sync_of(set_up(1, None, 1_000_000), here, 60, false, Some("t/u")),
-        Wanted::MeetOnce => meet_of("2", None, 60, false, None),
-        Wanted::Meet => meet_of("2,10.0.0.1:7007", Some((5, None)), 60, false, None),
-        Wanted::MeetCounted => meet_of(
-            "[::1]:65535",
-            Some((3_600, Some(1_000_000))),
-            1,
-            true,
-            None,
-        ),
-        Wanted::MeetToken => meet_of("2", None, 60, false, Some("t")),
+        Wanted::Meet => meet_of(here, beside, 60, false, None),
+        Wanted::MeetThere => meet_of(there, beside_there, 60, false, None),
+        Wanted::MeetVerbose => meet_of(here, far, 1, true, None),
+        Wanted::MeetToken => meet_of(here, beside, 60, false, Some("t")),
         Wanted::Loop => Order::Loop(set_up(7, None, 1_000_000)),
         Wanted::Sim => Order::Sim,
         Wanted::Shell => shell_of(),

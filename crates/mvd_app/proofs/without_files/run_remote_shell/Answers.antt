@@ -1,13 +1,9 @@
-use Rattle.std.proofs.Common.{List, Option, ℕ, inl, inr, option_copied, refl, subst, sym}
+use Rattle.std.proofs.Common.{List, Option, ℕ, inl, inr, is_some, option_copied, refl, subst, sym}
 use Rattle.std.proofs.lemmas.Result.{err_from_is_err_and}
 use Rattle.mvd_app.specs.Named.{StopsAtToken}
-<<<<<<< ours
-use Rattle.mvd_app.proofs.commands.run_remote_shell.Goals as goal
 use Rattle.mvd_client.specs.LetIn.{GivesIn}
 use Rattle.mvd_client.specs.Talked.{ShellsAt}
-=======
 use Rattle.mvd_app.proofs.without_files.run_remote_shell.Goals as goal
->>>>>>> theirs
 
 pub returns-in_err-tokens : goal.returns-in_err-tokens
 returns-in_err-tokens g c =
@@ -16,5 +12,5 @@ returns-in_err-tokens g c =
 
 pub returns : goal.returns
 returns g c =
-    let shells = subst (λ (token : Option (List ℕ)). ShellsAt g.D.Dialed.Line (GivesIn g.D.Dialed.Line (g.D.Dial.gives c.args.dial.now c.args.address) token) c.args.address (g.R.Read.remaining c.args.reader.now) (g.W.Write.contents c.args.writer.now) (g.R.Read.remaining c.remote_shell_run.new.reader) (g.W.Write.contents c.remote_shell_run.new.writer) c.remote_shell_run.result) c.first_of.ensures c.remote_shell_run.ensures.shells in
+    let shells = subst (λ (token : Option (List ℕ)). ShellsAt g.D.Dialed.Line (GivesIn g.D.Dialed.Line (g.D.Dial.gives c.args.dial.now c.args.address) token) (is_some token) c.args.address c.args.gone.now c.remote_shell_run.new.gone (g.R.Read.remaining c.args.reader.now) (g.W.Write.contents c.args.writer.now) (g.R.Read.remaining c.remote_shell_run.new.reader) (g.W.Write.contents c.remote_shell_run.new.writer) c.remote_shell_run.result) c.first_of.ensures c.remote_shell_run.ensures.shells in
     inl (option_copied c.as_ref.result, rw c.as_ref.ensures.value c.in_ok-tokens.ensures.given, shells)

@@ -246,11 +246,10 @@ def by_commands(place, server, other, right, wrong):
         elif done[:2] != (1, "refused 38 NotAdmitted\n" * 2) or "fault 38" not in done[2] or hint not in done[2]:
             miss(f"a shell without the token was told {done}")
     done = place.run("sync", "--port", port, "--with", far, "--token-file", right)
-    if done[0] != 0 or "keys " not in done[1]:
+    told = [line.split() for line in done[1].splitlines()]
+    roots = [["root", f"127.0.0.1:{at}"] for at in (port, far)]
+    if done[0] != 0 or told[0][0] != "keys" or [root[:2] for root in told[1:]] != roots or told[1][2] != told[2][2]:
         miss(f"servers that ask for one token did not meet: {done}")
-    done = place.run("sync", "--port", port, "--with", f"{far},{far}", "--every", "1", "--times", "2", "--verbose", "--token-file", right)
-    if done[0] != 0 or done[1].count("keys ") != 4:
-        miss(f"servers that ask for one token did not meet again: {done}")
     done = place.run("shell", "--port", port, "--token-file", right, lines="get web\n")
     if done[0] != 0 or '{"a":1}' not in done[1]:
         miss(f"a shell with the token was told {done}")

@@ -8,7 +8,7 @@ pub enum Wanted {
     Sync,
     Meet,
     MeetThere,
-    MeetVerbose,
+    MeetOther,
     ServeToken,
     SyncToken,
     MeetToken,
@@ -119,12 +119,12 @@ pub const LINES: &[(&str, Wanted)] = &[
     ),
     ("mvd sync --port 1 --with 2", Wanted::Meet),
     (
-        "mvd sync --port 65535 --address 10.0.0.1 --with 2",
+        "mvd sync --address 10.0.0.1 --port 1 --with 2",
         Wanted::MeetThere,
     ),
     (
         "mvd sync --port 1 --with [::1]:65535 --idle 1 --verbose",
-        Wanted::MeetVerbose,
+        Wanted::MeetOther,
     ),
     ("mvd loop --site 7", Wanted::Loop),
     ("mvd sim", Wanted::Sim),
@@ -197,12 +197,8 @@ pub const LINES: &[(&str, Wanted)] = &[
         Wanted::Range("max-keys", 1_000_000),
     ),
     (
-        "mvd sync --port 1 --with 2 --idle 86401",
+        "mvd sync --port 1 --with 2 --idle 0",
         Wanted::Range("idle", 86_400),
-    ),
-    (
-        "mvd sync --port 0 --with 2",
-        Wanted::Range("port", 65_535),
     ),
     (
         "mvd loop --site 1 --max-keys 1000001",
@@ -233,13 +229,9 @@ pub const LINES: &[(&str, Wanted)] = &[
     ),
     (
         "mvd sync --port 1 --with 0",
-        Wanted::Says("'--with <SERVER>': it is no port"),
+        Wanted::Says("'--with <SERVER>': it is no port and no address"),
     ),
     ("mvd sync --port 1 --with 2,", Wanted::Says("it is no port")),
-    (
-        "mvd sync --port 1 --with 2,3",
-        Wanted::Says("it is no port"),
-    ),
     ("mvd sync --port 1 --with 02", Wanted::Says("it is no port")),
     (
         "mvd sync --port 1 --with a:1",
@@ -247,6 +239,10 @@ pub const LINES: &[(&str, Wanted)] = &[
     ),
     (
         "mvd sync --port 1 --with 10.0.0.1:0",
+        Wanted::Says("it is no port"),
+    ),
+    (
+        "mvd sync --port 1 --with 2,3",
         Wanted::Says("it is no port"),
     ),
     (

@@ -26,14 +26,14 @@ fn address(ip: Ipv4Addr, port: u16) -> SocketAddr {
     SocketAddr::new(IpAddr::V4(ip), port)
 }
 
-/// A session of two servers.
-fn meet_of<'a>(
+/// A session of the server at this address with this one.
+fn meet_of(
     address: SocketAddr,
     with: SocketAddr,
     idle: u32,
     verbose: bool,
-    token_file: Option<&'a str>,
-) -> Order<'a> {
+    token_file: Option<&str>,
+) -> Order<'_> {
     Order::Meet {
         address,
         with,
@@ -144,9 +144,6 @@ fn remote_shell_of(token_file: Option<&str>) -> Order<'_> {
 fn order_wanted(wanted: Wanted) -> Option<Order<'static>> {
     let here = address(Ipv4Addr::LOCALHOST, 1);
     let there = address(Ipv4Addr::new(10, 0, 0, 1), 65_535);
-    let beside = address(Ipv4Addr::LOCALHOST, 2);
-    let beside_there = address(Ipv4Addr::new(10, 0, 0, 1), 2);
-    let far = SocketAddr::new(IpAddr::V6(Ipv6Addr::LOCALHOST), 65_535);
     let order = match wanted {
         Wanted::Serve => serve_of(Some(1), 1, Some(65_535), 10_000, None),
         Wanted::ServeToken => serve_of(None, 300, None, 256, Some("t")),
@@ -163,10 +160,24 @@ fn order_wanted(wanted: Wanted) -> Option<Order<'static>> {
         Wanted::PeersMost => peers_of(SIXTEEN, 3_600, Some("t")),
         Wanted::Sync => sync_of(set_up(u32::MAX, Some("d"), 1), there, 86_400, true, None),
         Wanted::SyncToken => sync_of(set_up(1, None, 1_000_000), here, 60, false, Some("t/u")),
-        Wanted::Meet => meet_of(here, beside, 60, false, None),
-        Wanted::MeetThere => meet_of(there, beside_there, 60, false, None),
-        Wanted::MeetVerbose => meet_of(here, far, 1, true, None),
-        Wanted::MeetToken => meet_of(here, beside, 60, false, Some("t")),
+        Wanted::Meet => meet_of(here, address(Ipv4Addr::LOCALHOST, 2), 60, false, None),
+        Wanted::MeetThere => meet_of(
+            address(Ipv4Addr::new(10, 0, 0, 1), 1),
+            address(Ipv4Addr::new(10, 0, 0, 1), 2),
+            60,
+            false,
+            None,
+        ),
+        Wanted::MeetOther => meet_of(
+            here,
+            SocketAddr::new(IpAddr::V6(Ipv6Addr::LOCALHOST), 65_535),
+            1,
+            true,
+            None,
+        ),
+        Wanted::MeetToken => {
+            meet_of(here, address(Ipv4Addr::LOCALHOST, 2), 60, false, Some("t"))
+        }
         Wanted::Loop => Order::Loop(set_up(7, None, 1_000_000)),
         Wanted::Sim => Order::Sim,
         Wanted::Shell => shell_of(),

@@ -7,11 +7,11 @@ use Rattle.mvd_wire.specs.Codecs.{spell_state}
 use Rattle.mvd_wire.specs.declared.request.Request.{Request}
 use Rattle.mvd_wire.specs.declared.request.Request.TheVariants.{Delete, Push, Put}
 
--- the bytes of the state of its key, and of what it puts or pushes there
+-- a change 1,024, the bytes of the state of its key, and of what it puts or pushes there
 abbrev pub weight_of : States → Request → ℕ
-weight_of states (Put key seen document) = length (spell_state (state_at states key)) + length document
-weight_of states (Delete key seen) = length (spell_state (state_at states key))
-weight_of states (Push key pushed) = length (spell_state (state_at states key)) + length (spell_state pushed)
+weight_of states (Put key seen document) = length (spell_state (state_at states key)) + (1024 + length document)
+weight_of states (Delete key seen) = length (spell_state (state_at states key)) + 1024
+weight_of states (Push key pushed) = length (spell_state (state_at states key)) + (length (spell_state pushed) + 1024)
 weight_of states request = 0
 
 abbrev pub weights_in : States → List Request → ℕ

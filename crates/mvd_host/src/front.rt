@@ -6,7 +6,7 @@ ghost use Rattle.mvd_host.specs.Course.{own};
 ghost use Rattle.mvd_host.specs.Fronts.{waiting_in};
 
 use crate::arranging::note;
-use crate::weighing::{LITTLE, WEIGHT_MAX, weight};
+use crate::weighing::{has_to_wait, weight};
 use http_server::Log;
 use mvd_site::Site;
 use mvd_wire::Request;
@@ -62,8 +62,8 @@ impl Front {
         self.requests.reserve(1)
     }
 
-    /// Takes the next request of a client, unless there is none, or it has to wait for another round: what was taken
-    /// weighs as much as it may, and this one more than a little. Whether it was taken.
+    /// Takes the next request of a client, unless there is none, or it has to wait for another round. Whether it was
+    /// taken.
     fn take_one(&mut self, site: &Site, asking: &mut Asking) -> bool
         ensures takes { result ≡ true → TakesOne site.now.states asking.old asking.new self.old self.new }
         ensures stops { result ≡ false → StopsTaking asking.old asking.new self.old self.new }
@@ -72,7 +72,7 @@ impl Front {
             return false;
         };
         let weighs = weight(site, request);
-        if self.weighed >= WEIGHT_MAX && weighs > LITTLE {
+        if has_to_wait(self.weighed, weighs) {
             return false;
         }
         if self.make_room().is_err() {

@@ -1,7 +1,7 @@
 //! A replica as a side of a session.
 ghost use Rattle.std.specs.Prelude.{◌≡◌, false, Some, IfErr, IfOk, OnErr};
 ghost use Rattle.std.specs.Option.{option_copied};
-ghost use Rattle.std.proofs.Common.{ap};
+ghost use Rattle.std.proofs.Common.{ap, inl, refl};
 ghost use Rattle.mvd_replica.specs.ReplicaCalls.{TellsBucketPage, TellsState, node_told};
 ghost use Rattle.mvd_replica.specs.SideCalls.{EndsWindow, IsToldAlike, IsTrueUnlessBroken, IsWindowRefusal, PushesOnSide};
 ghost use Rattle.mvd_replica.specs.SideCalls.{PushesSome, PushesWindow, TellsMoments, TellsWindow};
@@ -50,6 +50,8 @@ impl<S: Alter> Peer for Replica<S> {
     ghost follows_self = { λ replica. side_follows_self _ };
 
     ghost follows_on = { λ _ _ old mid new p q. side_follows_on _ _ _ p q };
+
+    ghost lacks = { λ _ whole. inl (refl, whole) };
 
     ghost most_stays = { λ _ old new follows. ap (λ c. c.max_keys) follows.site.0 };
 

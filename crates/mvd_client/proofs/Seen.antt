@@ -1,7 +1,8 @@
 -- A session of two sides, each of which has another within, is one of those within.
-use Rattle.std.proofs.Common.{ℕ, Result, Ok, Err}
+use Rattle.std.proofs.Common.{inl, inr, ℕ, Result, Ok, Err}
 use Rattle.std.specs.Result.{IfErr, OnOk}
 use Rattle.mvd_dots.specs.declared.refusals.Refusal.{Refusal}
+use Rattle.mvd_dots.specs.declared.refusals.Refusal.TheVariants.{Memory}
 use Rattle.mvd_peer.specs.Sides.{HasAnswered, HasRefused, IsSilent, Reaches, SideOf, two}
 use Rattle.mvd_sync.specs.Faults.{Blames, Inquiry, IsFaultOf}
 use Rattle.mvd_sync.specs.Faults.Blames.{of_answer, of_memory, of_questions, of_side}
@@ -74,6 +75,15 @@ session_within old new before after inner inner_peer side peer follows follows_p
     wanted_local = it.course.wanted_local;
     wanted_peer = it.course.wanted_peer;
     within = it.course.within;
+    first_local = it.course.first_local;
+    first_peer = it.course.first_peer;
+    again_local = it.course.again_local;
+    again_peer = it.course.again_peer;
+    parts = it.course.parts;
+    unheld = λ some. elim (it.course.unheld some) [
+      | inl mine ↦ inl (refused inner follows side within old new Memory mine)
+      | inr theirs ↦ inr (refused inner_peer follows_peer peer within_peer before after Memory theirs)
+    ];
     follows = (within it.course.asked_local old new it.course.follows.0, within_peer it.course.asked_peer before after it.course.follows.1);
     cause = cause_of _ _ _ _ (blamed inner follows side within most it.course.asked_local it.course.wanted_local old new)
         (blamed inner_peer follows_peer peer within_peer most it.course.asked_peer it.course.wanted_peer before after) result it.course.cause;
@@ -85,4 +95,5 @@ session_within old new before after inner inner_peer side peer follows follows_p
   answers = on_ok _ _ result (λ both. (answered inner follows side within old new both.0, answered inner_peer follows_peer peer within_peer before after both.1)) it.answers;
   meets = it.meets;
   few = it.few;
+  again = it.again;
 }

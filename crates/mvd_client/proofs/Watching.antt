@@ -6,7 +6,7 @@ use Rattle.mvd_dots.specs.declared.refusals.Refusal.{Refusal}
 use Rattle.mvd_client.specs.Questioned.{AsksMore, CountsFew, questions}
 use Rattle.mvd_keys.specs.Writes.{Key}
 use Rattle.mvd_site.specs.Held.{States}
-use Rattle.mvd_sync.specs.Session.{AreFew, HasAllThatDiffer}
+use Rattle.mvd_sync.specs.Session.{AreFew, HasAllThatDiffer, IsLittle}
 use Rattle.mvd_peer.specs.Sides.{HasAnswered, HasRefused, Reaches}
 use Rattle.std.specs.Prelude.{Vec}
 use Rattle.std.specs.declared.alloc.Global.{Global}
@@ -70,8 +70,15 @@ module _ {S T : Type 0} (inner : T → S) (asked : T → ℕ) (around : T → S 
 
 -- ---- a session
 
-pub asks_few : (before after asked wanted : ℕ) (mine theirs : States) → after ≡ before + asked → ((differing : List Key) → HasAllThatDiffer mine theirs differing → AreFew (asked + wanted) theirs differing) → CountsFew before after mine theirs
-asks_few before after asked wanted mine theirs count few = record { asked = asked; counted = count; few = λ differing all. let bound = few differing all in omega (arith, bound) }
+pub asks_few : (before after asked firsts others again v w : ℕ) (mine theirs : States) → after ≡ before + asked → asked ≡ firsts + again → ((differing : List Key) → HasAllThatDiffer mine theirs differing → AreFew (others + v) mine differing × AreFew (firsts + w) theirs differing) → IsLittle again (others + firsts)
+    → CountsFew before after mine theirs
+asks_few before after asked firsts others again v w mine theirs count is few little = record {
+  asked = asked;
+  counted = count;
+  few = λ differing all.
+      let bound = few differing all in
+      record { firsts = firsts; others = others; again = again; is = is; few = omega (arith, bound.1); few_others = omega (arith, bound.0); little = omega (arith, little) };
+}
 
 -- what a side within told as a live one
 pub live_seen : {S Q A : Type 0} (is_live : S → Type 0) (states : S → States) (Right : States → Q → Result A Refusal → Type 0) (qs : List Q) (old mid new : S) → new ≡ mid → (result : Result (Vec (Result A Refusal) Global) Refusal) → TellsAll is_live states Right qs old mid result → TellsAll is_live states Right qs old new result

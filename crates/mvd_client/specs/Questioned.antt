@@ -5,7 +5,7 @@ use Rattle.std.proofs.Math.Nat.{add-zero, add_assoc}
 use Rattle.mvd_keys.specs.Writes.{Key}
 use Rattle.mvd_peer.specs.Sides.{Reaches}
 use Rattle.mvd_site.specs.Held.{States}
-use Rattle.mvd_sync.specs.Session.{AreFew, HasAllThatDiffer}
+use Rattle.mvd_sync.specs.Session.{AreFewInAll, HasAllThatDiffer}
 
 -- all of them
 abbrev pub questions : List (ℕ × Unit {0}) → ℕ
@@ -29,8 +29,8 @@ asks_on follows m n old mid new on p q = (
 )
 
 -- A SESSION ASKS A SIDE FEW QUESTIONS: one, five for each key that differs, and one for each thousand keys that it
--- holds
+-- holds; and few of them again
 pub record CountsFew (old new : ℕ) (mine theirs : States) : Type 0 where
   pub asked : ℕ
   pub counted : new ≡ old + asked
-  pub few : (differing : List Key) → HasAllThatDiffer mine theirs differing → AreFew asked theirs differing
+  pub few : (differing : List Key) → HasAllThatDiffer mine theirs differing → AreFewInAll asked theirs mine differing

@@ -87,6 +87,8 @@ impl<P: Peer + Drop, E: Write> Peer for Watched<'_, P, E> {
         (mid.side, questions mid.asked.items) (new.side, questions new.asked.items)
         (λ i j. P.follows_on i j old.side mid.side new.side) };
 
+    ghost lacks = { λ watched. P.lacks watched.side };
+
     ghost most_stays = { λ _ old new asks. P.most_stays asks.0.0 old.side new.side asks.0.1 };
 
     fn alloc(&self) -> Global {

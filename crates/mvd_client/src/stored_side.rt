@@ -57,6 +57,8 @@ impl<S: Alter + Drop> Peer for StoredSide<'_, S> {
     ghost follows_on = { λ _ _ old mid new p q.
         (q.0 ∙ p.0, turns_on old.replica.now mid.replica.now new.replica.now p.1 q.1) };
 
+    ghost lacks = { λ _ whole. inl (refl, whole) };
+
     ghost most_stays = { λ _ old new follows. ap (λ c. c.max_keys) follows.1.follows.site.0 };
 
     fn alloc(&self) -> Global {

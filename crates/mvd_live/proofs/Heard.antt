@@ -10,6 +10,7 @@ use Rattle.mvd_wire.specs.declared.reply.Digests.{Digests}
 use Rattle.mvd_site.specs.Held.{AreHeld, States}
 use Rattle.mvd_peer.specs.Live.{Grows}
 use Rattle.mvd_peer.specs.Windows.{ForEach}
+use Rattle.mvd_sync.proofs.CutWindows.{first_each}
 use Rattle.mvd_sync.specs.Made.{PassesFault}
 use Rattle.mvd_sync.specs.Questions.{TakesBudget}
 use Rattle.mvd_sync.specs.Steps.{Wanted}
@@ -133,13 +134,6 @@ each_read P IsOf (q ∷ qs) [] read p r = absurd p
 each_read P IsOf (q ∷ qs) (t ∷ answers) [] p r = absurd r
 each_read P IsOf (q ∷ qs) (Ok a ∷ answers) (b ∷ read) p r = ((a, p.0, r.0), each_read P IsOf qs answers read p.1 r.1)
 each_read P IsOf (q ∷ qs) (Err refusal ∷ answers) (b ∷ read) p r = absurd r.0
-
--- those to the first questions
-first_each : {Q A : Type 0} (P : Q → A → Type 0) (ones others : List Q) (answers : List A) → ForEach P (ones ++ others) answers → ForEach P ones (take (length ones) answers)
-first_each P [] others [] h = tt
-first_each P [] others (a ∷ answers) h = tt
-first_each P (q ∷ ones) others [] h = absurd h
-first_each P (q ∷ ones) others (a ∷ answers) h = (h.0, first_each P ones others answers h.1)
 
 -- ---- one window of a side
 

@@ -37,7 +37,7 @@ too_long kind payload refusal e = elim (nat_le (length payload + 1) frame_limit)
   | false ↦ λ e. cc
 ] e
 
-get_keeps : (key : Key) (config : ConfigValue) (old : States) (r : Reply) (new : States) → TrueReply config old (Get key) r new → new ≡ old
+pub get_keeps : (key : Key) (config : ConfigValue) (old : States) (r : Reply) (new : States) → TrueReply config old (Get key) r new → new ≡ old
 get_keeps key config old (reply.State s) new h = h.1
 get_keeps key config old (reply.Refused refusal) new h = h.1
 get_keeps key config old (reply.Written d) new h = absurd h

@@ -1,4 +1,5 @@
 pub mod Turns
+pub mod Holding
 pub mod RemoteSides
 pub mod Lined
 pub mod FarSides

@@ -1,5 +1,5 @@
 -- What goes out and comes in over a true line.
-use Rattle.std.proofs.Common.{◌≡◌, ◌≢◌, ◌⊎◌, inl, inr, ℕ, zero, suc, ◌+◌, ◌<◌, true, List, [], ◌∷◌, ◌++◌, length, take, get_or, Option, Some, None, refl, sym, ap, subst, ◌∙◌, arith}
+use Rattle.std.proofs.Common.{◌≡◌, ◌≢◌, ◌⊎◌, inl, inr, ℕ, zero, suc, ◌+◌, ◌<◌, Bool, true, List, [], ◌∷◌, ◌++◌, length, take, get_or, Option, Some, None, refl, sym, ap, subst, ◌∙◌, arith}
 use Rattle.std.specs.Prelude.{Result, Ok, Err, IfOk, IfErr, IfSome, MatchResult, map}
 use Rattle.std.proofs.lemmas.List.{append-nil, append_assoc, map-append, take_more, take_all}
 use Rattle.mvd_dots.specs.declared.refusals.Refusal.{Refusal}
@@ -15,8 +15,10 @@ use Rattle.mvd_wire.specs.Requests.{IsRequest, request_frame}
 use Rattle.mvd_site.specs.Config.{ConfigValue}
 use Rattle.mvd_site.specs.Held.{States}
 use Rattle.mvd_remote.specs.LinkWindows.{IsToldBy, Frames, and_frame, frames_after, frames_of}
-use Rattle.mvd_remote.specs.Lines.{AllToldTruly, AnswersTruly, AreRequestFrames, HaveFrames, DueTurn, DueTurns, EndsOpen, Far, IsNextReply, LeavesNothingOpen, HasFrame, IsReplyTaken, IsTrueRemote, MayTake, SettleTruly, SettlesTruly, TakesAll, TakesDue, TakesFirst, TellsAllTruly, ToldTruly, Took, TrueReplies, TrueReply, and_framed, framed_requests}
+use Rattle.mvd_remote.specs.Lines.{refuses_none, AreGets, IsGet, AllToldTruly, AnswersTruly, AreRequestFrames, HaveFrames, DueTurn, DueTurns, EndsOpen, Far, IsNextReply, LeavesNothingOpen, HasFrame, IsReplyTaken, IsTrueRemote, MayTake, SettleTruly, SettlesTruly, TakesAll, TakesDue, TakesFirst, TellsAllTruly, ToldTruly, Took, TrueReplies, TrueReply, and_framed, framed_requests}
 use Rattle.mvd_remote.specs.Links.{ReadsReply}
+use Rattle.mvd_wire.specs.declared.request.Request.TheVariants.{Get}
+use Rattle.mvd_remote.proofs.FarSides.{get_keeps}
 use Rattle.mvd_peer.specs.Windows.{ForEach}
 use Rattle.mvd_peer.specs.Windows.{leaves_open}
 use Rattle.mvd_remote.specs.declared.remote.Remote.{Remote}
@@ -43,10 +45,6 @@ due_more_at all i why d replies us reply old mid new low at told before turn =
 pub is_memory : (refusal : Refusal) → (refusal ≡ Memory) ⊎ (refusal ≢ Memory)
 is_memory Memory = inl refl
 is_memory refusal = inr (λ e. absurd (cc))
-
--- a link goes on, and does not refuse
-pub goes_on : {P : Type 0} (own : Option Refusal) (refusal : Refusal) → own ≡ None → own ≡ Some refusal → P
-goes_on own refusal e f = let never = sym e ∙ f in absurd (cc)
 
 -- a reply that was due and was not taken: there was no memory for it
 not_taken : (due left : List Reply) (frame : FrameValue) (refusal : Refusal) → IsNextReply due left frame → (refusal ≢ Memory → reply_of frame.kind frame.payload ≡ Err refusal) → TakesDue due left (Err refusal)
@@ -163,32 +161,37 @@ window_told old mid new qs frames ts is none all same due =
 
 -- ---- answers
 
-module _ {A : Type 0} (as_reply : A → Reply) where
-  one_settled : (config : ConfigValue) (old new : States) (q : Request) (t : Result Reply Refusal) (a : Result A Refusal) → ToldTruly config old q t new → IsToldBy as_reply t a → LeavesNothingOpen t a → SettlesTruly as_reply config old q a new
-  one_settled config old new q t (Ok v) h e s = subst (λ (t : Result Reply Refusal). ToldTruly config old q t new) e h
-  one_settled config old new q t (Err refusal) h (inl e) s = inl (λ broken. s.1 (ap Err broken), subst (λ (t : Result Reply Refusal). ToldTruly config old q t new) e h)
-  one_settled config old new q t (Err refusal) h (inr e) s = elim (subst (λ (t : Result Reply Refusal). ToldTruly config old q t new) e h) [
+-- a get that lacks memory for its reply is as one that was refused so
+lacks_get : (config : ConfigValue) (old new : States) (q : Request) (r : Reply) → IsGet q → TrueReply config old q r new → TrueReply config old q (Refused Memory) new
+lacks_get config old new (Get key) r is h = (refl, get_keeps key config old r new h)
+lacks_get config old new q r is h = absurd is
+
+module _ {A : Type 0} (as_reply : A → Reply) (gives_up : Bool) where
+  one_settled : (config : ConfigValue) (old new : States) (q : Request) (t : Result Reply Refusal) (a : Result A Refusal) → ToldTruly config old q t new → IsToldBy as_reply t a → LeavesNothingOpen gives_up t a → (gives_up ≡ true → IsGet q) → SettlesTruly as_reply config old q a new
+  one_settled config old new q t (Ok v) h e s g = subst (λ (t : Result Reply Refusal). ToldTruly config old q t new) e h
+  one_settled config old new q t (Err refusal) h (inl e) s g = inl (λ broken. s.1 (ap Err broken), subst (λ (t : Result Reply Refusal). ToldTruly config old q t new) e h)
+  one_settled config old new q t (Err refusal) h (inr e) s g = elim (subst (λ (t : Result Reply Refusal). ToldTruly config old q t new) e h) [
     | inl none ↦ inr none
-    | inr memory ↦ absurd (s.0 (e ∙ ap Err memory.0))
+    | inr (memory, told) ↦ inl ((λ broken. let no : Memory ≡ Broken = sym memory ∙ broken in absurd (cc)), subst (λ e. TrueReply config old q (Refused e) new) (sym memory) (lacks_get config old new q told.0 (g (s.0 (e ∙ ap Err memory))) told.1))
   ]
 
-  settled : (config : ConfigValue) (old new : States) (qs : List Request) (ts : List (Result Reply Refusal)) (us : List (Result A Refusal)) → AllToldTruly config old qs ts new → ForEach (IsToldBy as_reply) ts us → ForEach LeavesNothingOpen ts us → SettleTruly as_reply config old qs us new
-  settled config old new [] [] [] h e s = h
-  settled config old new [] [] (u ∷ us) h e s = absurd e
-  settled config old new [] (t ∷ ts) us h e s = absurd h
-  settled config old new (q ∷ qs) [] us h e s = absurd h
-  settled config old new (q ∷ qs) (t ∷ ts) [] h e s = absurd e
-  settled config old new (q ∷ qs) (t ∷ ts) (u ∷ us) h e s = (h.0, one_settled config old h.0 q t u h.1 e.0 s.0, settled config h.0 new qs ts us h.2 e.1 s.1)
+  settled : (config : ConfigValue) (old new : States) (qs : List Request) (ts : List (Result Reply Refusal)) (us : List (Result A Refusal)) → AllToldTruly config old qs ts new → ForEach (IsToldBy as_reply) ts us → ForEach (LeavesNothingOpen gives_up) ts us → (gives_up ≡ true → AreGets qs) → SettleTruly as_reply config old qs us new
+  settled config old new [] [] [] h e s g = h
+  settled config old new [] [] (u ∷ us) h e s g = absurd e
+  settled config old new [] (t ∷ ts) us h e s g = absurd h
+  settled config old new (q ∷ qs) [] us h e s g = absurd h
+  settled config old new (q ∷ qs) (t ∷ ts) [] h e s g = absurd e
+  settled config old new (q ∷ qs) (t ∷ ts) (u ∷ us) h e s g = (h.0, one_settled config old h.0 q t u h.1 e.0 s.0 (λ is. (g is).0), settled config h.0 new qs ts us h.2 e.1 s.1 (λ is. (g is).1))
 
 open_end : {X : Type 0} (refusal : Refusal) → (refusal ≡ Memory) ⊎ ((refusal ≡ Broken) × X) → leaves_open refusal ≡ true
 open_end refusal (inl memory) = ap leaves_open memory
 open_end refusal (inr broken) = ap leaves_open broken.0
 
 -- what is made of a window that was told of
-pub window_answered : {A V : Type 0} (X : Type 0) (as_reply : A → Reply) (items : V → List (Result A Refusal)) (config : ConfigValue) (old new : States) (qs : List Request) (ts : List (Result Reply Refusal)) (made : Result V Refusal) → TellsAllTruly config old qs ts new → IfOk made (λ v. ForEach (IsToldBy as_reply) ts (items v)) → IfOk made (λ v. ForEach LeavesNothingOpen ts (items v))
+pub window_answered : {A V : Type 0} (X : Type 0) (as_reply : A → Reply) (gives_up : Bool) (items : V → List (Result A Refusal)) (config : ConfigValue) (old new : States) (qs : List Request) (ts : List (Result Reply Refusal)) (made : Result V Refusal) → TellsAllTruly config old qs ts new → IfOk made (λ v. ForEach (IsToldBy as_reply) ts (items v)) → IfOk made (λ v. ForEach (LeavesNothingOpen gives_up) ts (items v)) → (gives_up ≡ true → AreGets qs)
     → IfErr made (λ refusal. (refusal ≡ Memory) ⊎ ((refusal ≡ Broken) × X)) → MatchResult made (λ v. SettleTruly as_reply config old qs (items v) new) (λ refusal. EndsOpen config old qs refusal new)
-window_answered X as_reply items config old new qs ts (Ok v) told e s ended = settled as_reply config old new qs ts (items v) told.0 e s
-window_answered X as_reply items config old new qs ts (Err refusal) told e s ended = (open_end refusal ended, told.1)
+window_answered X as_reply gives_up items config old new qs ts (Ok v) told e s g ended = settled as_reply gives_up config old new qs ts (items v) told.0 e s g
+window_answered X as_reply gives_up items config old new qs ts (Err refusal) told e s g ended = (open_end refusal ended, told.1)
 
 -- ---- a remote side
 
@@ -197,13 +200,13 @@ module _ {L : Type 0} (is_true : L → Type 0) (far : L → Far) (remote : Remot
   pub now_refuses : (refusal : Refusal) → is_true remote.line → remote.refused ≡ Some refusal → leaves_open refusal ≡ true → IsTrueRemote is_true far remote
   now_refuses refusal t e o = record {
     line = t;
-    step = λ goes. goes_on remote.refused refusal goes e;
+    step = λ goes. refuses_none remote.refused refusal goes e;
     own = λ own f. let same : own ≡ refusal = cc in ap leaves_open same ∙ o;
   }
 
   -- it goes on
   pub still_goes : is_true remote.line → remote.refused ≡ None → (far remote.line).due ≡ [] → IsTrueRemote is_true far remote
-  still_goes t e none = record { line = t; step = λ _. none; own = λ own f. goes_on remote.refused own e f }
+  still_goes t e none = record { line = t; step = λ _. none; own = λ own f. refuses_none remote.refused own e f }
 
 -- ---- one question
 

@@ -13,25 +13,25 @@ use Rattle.mvd_site.specs.Held.{AreHeld, States}
 use Rattle.mvd_peer.specs.Live.{Grows}
 use Rattle.mvd_peer.specs.Windows.{leaves_open}
 use Rattle.mvd_peer.proofs.Telling.{grows_over, grows_same}
-use Rattle.mvd_remote.specs.Lines.{TrueReply}
+use Rattle.mvd_remote.specs.Lines.{refuses_none, TrueReply}
 use Rattle.mvd_remote.specs.Links.{ReadsReply}
 use Rattle.mvd_remote.specs.LiveRemotes.{AnswersLive, AsksLive, IsLiveRemote, LiveTurn, TakesAwaited, TookLive, TookLiveTurns, TookTurn}
 use Rattle.mvd_remote.specs.declared.line.Line.{Ghosts}
 use Rattle.mvd_remote.specs.declared.remote.Remote.{Remote}
-use Rattle.mvd_remote.proofs.Lined.{goes_on, is_memory}
+use Rattle.mvd_remote.proofs.Lined.{is_memory}
 
 module _ {L : Type 0} (is_live : L → Type 0) (awaits : L → List Request) (remote : Remote L) where
   -- its link refuses
   pub live_refuses : (refusal : Refusal) → is_live remote.line → remote.refused ≡ Some refusal → leaves_open refusal ≡ true → IsLiveRemote is_live awaits remote
   live_refuses refusal t e o = record {
     line = t;
-    step = λ goes. goes_on remote.refused refusal goes e;
+    step = λ goes. refuses_none remote.refused refusal goes e;
     own = λ own f. let same : own ≡ refusal = cc in ap leaves_open same ∙ o;
   }
 
   -- it goes on
   pub live_goes : is_live remote.line → remote.refused ≡ None → awaits remote.line ≡ [] → IsLiveRemote is_live awaits remote
-  live_goes t e none = record { line = t; step = λ _. none; own = λ own f. goes_on remote.refused own e f }
+  live_goes t e none = record { line = t; step = λ _. none; own = λ own f. refuses_none remote.refused own e f }
 
 -- ---- one question
 
@@ -97,7 +97,7 @@ pub broke_live : {L : Type 0} (line : Ghosts L) (old new : Remote L) (l : L) (re
 broke_live line old new l refusal result kept now e live up = record {
   live = subst line.is_live (sym kept) live;
   grows = subst (λ x. Grows (line.far old.line).states (line.far x).states) (sym kept) up;
-  told = λ goes. goes_on new.refused refusal goes now;
+  told = λ goes. refuses_none new.refused refusal goes now;
   own = λ own f. let same : own ≡ refusal = cc in ap leaves_open same ∙ e;
 }
 
@@ -119,7 +119,7 @@ turn_none line form none old refusal is goes live = record {
   live = live;
   grows = grows_same (line.far old.line).states (form old.line live);
   told = subst (λ n. LiveTurn (line.far old.line).config n (line.awaits old.line) (line.awaits old.line) (line.far old.line).states (line.far old.line).states (Err refusal)) (sym is) (refl, refl);
-  unsure = λ own e. goes_on old.refused own goes e;
+  unsure = λ own e. refuses_none old.refused own goes e;
 }
 
 no_ok : {A : Type 0} (P : Type 0) (r : Result A Refusal) → (e : Refusal) × (r ≡ Err e) → OnOk r P

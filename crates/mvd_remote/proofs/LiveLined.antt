@@ -1,5 +1,5 @@
 -- What goes out and comes in over a live line.
-use Rattle.std.proofs.Common.{◌≡◌, ◌≢◌, inl, inr, ℕ, ◌+◌, ◌<◌, ◌≤◌, arith, true, List, [], ◌∷◌, ◌++◌, length, take, get_or, Option, Some, None, refl, sym, ap, subst, ◌∙◌}
+use Rattle.std.proofs.Common.{◌≡◌, ◌≢◌, inl, inr, ℕ, ◌+◌, ◌<◌, ◌≤◌, arith, Bool, true, List, [], ◌∷◌, ◌++◌, length, take, get_or, Option, Some, None, refl, sym, ap, subst, ◌∙◌}
 use Rattle.std.specs.Prelude.{Result, Ok, Err, IfOk, IfSome}
 use Rattle.std.proofs.lemmas.List.{take_more}
 use Rattle.mvd_dots.specs.declared.refusals.Refusal.{Refusal}
@@ -17,6 +17,8 @@ use Rattle.mvd_wire.specs.declared.frame.Frame.{Frame}
 use Rattle.mvd_wire.specs.Replies.{reply_of}
 use Rattle.mvd_wire.specs.declared.request.Request.{Request}
 use Rattle.mvd_wire.specs.declared.reply.Reply.{Reply}
+use Rattle.mvd_wire.specs.declared.reply.Reply.TheVariants.{Refused}
+use Rattle.mvd_wire.specs.declared.request.Request.TheVariants.{Get}
 use Rattle.mvd_wire.specs.Requests.{request_frame}
 use Rattle.mvd_site.specs.Config.{ConfigValue}
 use Rattle.mvd_site.specs.Held.{AreHeld, States}
@@ -25,7 +27,7 @@ use Rattle.mvd_peer.specs.Telling.{TellsEach}
 use Rattle.mvd_peer.specs.Windows.{ForEach, leaves_open}
 use Rattle.mvd_peer.proofs.Telling.{each_since, grows_over, grows_same}
 use Rattle.mvd_remote.specs.LinkWindows.{Frames, IsToldBy, frames_of}
-use Rattle.mvd_remote.specs.Lines.{IsNextReply, IsReplyTaken, LeavesNothingOpen, TakesDue, and_framed, framed_requests}
+use Rattle.mvd_remote.specs.Lines.{AreGets, IsGet, TrueReply, IsNextReply, IsReplyTaken, LeavesNothingOpen, TakesDue, and_framed, framed_requests}
 use Rattle.mvd_remote.specs.LiveLines.{AnswersAt, IsNextAnswer}
 use Rattle.mvd_remote.specs.LiveRemotes.{LiveTurn, LiveTurns, SettlesLive, TakesAwaited, ToldAt, ToldLive, TookTurn}
 use Rattle.mvd_remote.specs.declared.line.Line.{Ghosts}
@@ -201,29 +203,33 @@ window_live config qs frames ts none awaited left old mid new moments is no_one 
 
 -- ---- answers
 
-module _ {A : Type 0} (as_reply : A → Reply) (config : ConfigValue) where
-  one_settled : (held : States) (q : Request) (t : Result Reply Refusal) (a : Result A Refusal) → ToldLive config held q t → IsToldBy as_reply t a → LeavesNothingOpen t a → SettlesLive as_reply config held q a
-  one_settled held q t (Ok v) h e s = subst (ToldLive config held q) e h
-  one_settled held q t (Err refusal) h (inl e) s = inl (subst (ToldLive config held q) e h)
-  one_settled held q t (Err refusal) h (inr e) s = elim (subst (ToldLive config held q) e h) [
+lacks_get : (config : ConfigValue) (held : States) (q : Request) → IsGet q → TrueReply config held q (Refused Memory) held
+lacks_get config held (Get key) is = (refl, refl)
+lacks_get config held q is = absurd is
+
+module _ {A : Type 0} (as_reply : A → Reply) (gives_up : Bool) (config : ConfigValue) where
+  one_settled : (held : States) (q : Request) (t : Result Reply Refusal) (a : Result A Refusal) → AreHeld held → ToldLive config held q t → IsToldBy as_reply t a → LeavesNothingOpen gives_up t a → (gives_up ≡ true → IsGet q) → SettlesLive as_reply config held q a
+  one_settled held q t (Ok v) form h e s g = subst (ToldLive config held q) e h
+  one_settled held q t (Err refusal) form h (inl e) s g = inl (subst (ToldLive config held q) e h)
+  one_settled held q t (Err refusal) form h (inr e) s g = elim (subst (ToldLive config held q) e h) [
     | inl none ↦ inr none
-    | inr memory ↦ absurd (s.0 (e ∙ ap Err memory))
+    | inr memory ↦ inl (held, form, subst (λ e. TrueReply config held q (Refused e) held) (sym memory) (lacks_get config held q (g (s.0 (e ∙ ap Err memory)))))
   ]
 
-  settled : (old new : States) (qs : List Request) (ts : List (Result Reply Refusal)) (us : List (Result A Refusal)) (moments : List States) → TellsEach (ToldLive config) qs ts old moments new → ForEach (IsToldBy as_reply) ts us → ForEach LeavesNothingOpen ts us → TellsEach (SettlesLive as_reply config) qs us old moments new
-  settled old new [] [] [] [] h e s = h
-  settled old new [] [] [] (m ∷ moments) h e s = absurd h
-  settled old new [] [] (u ∷ us) moments h e s = absurd e
-  settled old new [] (t ∷ ts) us moments h e s = absurd h
-  settled old new (q ∷ qs) [] us moments h e s = absurd h
-  settled old new (q ∷ qs) (t ∷ ts) [] moments h e s = absurd e
-  settled old new (q ∷ qs) (t ∷ ts) (u ∷ us) [] h e s = absurd h
-  settled old new (q ∷ qs) (t ∷ ts) (u ∷ us) (m ∷ moments) h e s = (h.0, h.1, one_settled m q t u h.2 e.0 s.0, settled m new qs ts us moments h.3 e.1 s.1)
+  settled : (old new : States) (qs : List Request) (ts : List (Result Reply Refusal)) (us : List (Result A Refusal)) (moments : List States) → TellsEach (ToldLive config) qs ts old moments new → ForEach (IsToldBy as_reply) ts us → ForEach (LeavesNothingOpen gives_up) ts us → (gives_up ≡ true → AreGets qs) → TellsEach (SettlesLive as_reply config) qs us old moments new
+  settled old new [] [] [] [] h e s g = h
+  settled old new [] [] [] (m ∷ moments) h e s g = absurd h
+  settled old new [] [] (u ∷ us) moments h e s g = absurd e
+  settled old new [] (t ∷ ts) us moments h e s g = absurd h
+  settled old new (q ∷ qs) [] us moments h e s g = absurd h
+  settled old new (q ∷ qs) (t ∷ ts) [] moments h e s g = absurd e
+  settled old new (q ∷ qs) (t ∷ ts) (u ∷ us) [] h e s g = absurd h
+  settled old new (q ∷ qs) (t ∷ ts) (u ∷ us) (m ∷ moments) h e s g = (h.0, h.1, one_settled m q t u h.0 h.2 e.0 s.0 (λ is. (g is).0), settled m new qs ts us moments h.3 e.1 s.1 (λ is. (g is).1))
 
-  pub live_answered : {V : Type 0} (items : V → List (Result A Refusal)) (qs : List Request) (ts : List (Result Reply Refusal)) (old new : States) (moments : List States) (made : Result V Refusal) → TellsEach (ToldLive config) qs ts old moments new → IfOk made (λ v. ForEach (IsToldBy as_reply) ts (items v)) → IfOk made (λ v. ForEach LeavesNothingOpen ts (items v))
+  pub live_answered : {V : Type 0} (items : V → List (Result A Refusal)) (qs : List Request) (ts : List (Result Reply Refusal)) (old new : States) (moments : List States) (made : Result V Refusal) → TellsEach (ToldLive config) qs ts old moments new → IfOk made (λ v. ForEach (IsToldBy as_reply) ts (items v)) → IfOk made (λ v. ForEach (LeavesNothingOpen gives_up) ts (items v)) → (gives_up ≡ true → AreGets qs)
       → IfOk made (λ v. (moments : List States) × TellsEach (SettlesLive as_reply config) qs (items v) old moments new)
-  live_answered items qs ts old new moments (Ok v) h e s = (moments, settled old new qs ts (items v) moments h e s)
-  live_answered items qs ts old new moments (Err refusal) h e s = tt
+  live_answered items qs ts old new moments (Ok v) h e s g = (moments, settled old new qs ts (items v) moments h e s g)
+  live_answered items qs ts old new moments (Err refusal) h e s g = tt
 
 -- ---- pushes
 

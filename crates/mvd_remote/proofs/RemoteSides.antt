@@ -7,11 +7,11 @@ use Rattle.mvd_dots.specs.declared.refusals.Refusal.TheVariants.{Memory}
 use Rattle.mvd_wire.specs.declared.request.Request.{Request}
 use Rattle.mvd_wire.specs.declared.reply.Reply.{Reply}
 use Rattle.mvd_wire.specs.Requests.{request_frame}
+use Rattle.mvd_remote.specs.Lines.{refuses_none}
 use Rattle.mvd_remote.specs.LinkWindows.{IsToldBy, AsksAll, Frames, RefusesAll, TakeTurns, and_frame, frames_after, frames_of, of_answer, of_none, of_read, of_write}
 use Rattle.mvd_remote.specs.Links.{AsksLinkFor, Link}
 use Rattle.mvd_peer.specs.Windows.{ForEach}
 use Rattle.mvd_peer.specs.Sides.{HasAnswered, HasRefused}
-use Rattle.mvd_remote.proofs.Lined.{goes_on}
 use Rattle.mvd_peer.specs.Windows.{EachAnswer, EachRefusal, EachTold, Ends}
 use Rattle.mvd_peer.proofs.OneByOne.{AskedBy}
 
@@ -117,8 +117,8 @@ one_refuses as_reply q l l' (Err refusal) (inl (inl nothing)) stays = λ own e.
     let same = stays own was in
     cc
 one_refuses as_reply q l l' (Err refusal) (inl (inr (frame, is, inl breaks))) stays = λ own e. let kept = breaks.kept in cc
-one_refuses as_reply q l l' (Err refusal) (inl (inr (frame, is, inr told))) stays = λ own e. goes_on l'.refused own told.1 e
-one_refuses as_reply q l l' (Err refusal) (inr (frame, is, told)) stays = λ own e. goes_on l'.refused own told.1 e
+one_refuses as_reply q l l' (Err refusal) (inl (inr (frame, is, inr told))) stays = λ own e. refuses_none l'.refused own told.1 e
+one_refuses as_reply q l l' (Err refusal) (inr (frame, is, told)) stays = λ own e. refuses_none l'.refused own told.1 e
 
 pub one_answers : {A : Type 0} (as_reply : A → Reply) (q : Request) (l l' : Link) (result : Result A Refusal) → AsksLinkFor as_reply q l l' result → OnOk result (l'.refused ≡ None)
 one_answers as_reply q l l' (Ok a) (frame, is, told) = told.1

@@ -1,7 +1,7 @@
 -- A line to a far side: the frames of requests go out, and those of its replies come in. A true one is what a transport
 -- is that hands on what is written and what is read, where the far side is faithful.
-use Rattle.std.proofs.Common.{refl, ◌∙◌}
-use Rattle.std.specs.Prelude.{◌≡◌, ◌≢◌, ◌≤◌, ◌⊎◌, ℕ, true, false, List, [], ◌∷◌, ◌++◌, take, Option, Some, None}
+use Rattle.std.proofs.Common.{refl, sym, ◌∙◌}
+use Rattle.std.specs.Prelude.{◌≡◌, ◌≢◌, ◌≤◌, ◌⊎◌, ℕ, Bool, true, false, List, [], ◌∷◌, ◌++◌, take, Option, Some, None}
 use Rattle.std.specs.Prelude.{IfSome, Result, Ok, Err, IfOk, IfErr}
 use Rattle.std.specs.FinMap.{empty}
 use Rattle.mvd_dots.specs.Refusal.{number_of}
@@ -168,6 +168,10 @@ remote_follows_on {L} far old mid new p q = (
   q.1 ∙ p.1,
 )
 
+-- where the link does not refuse, it refuses with none of its own
+pub refuses_none : {P : Type 0} (own : Option Refusal) (refusal : Refusal) → own ≡ None → own ≡ Some refusal → P
+refuses_none own refusal none is = let never = sym none ∙ is in absurd (cc)
+
 -- a request was taken, or it was not
 abbrev pub MayTake : ConfigValue → States → Request → States → Type 0
 MayTake config old request new = (new ≡ old) ⊎ ((reply : Reply) × TrueReply config old request reply new)
@@ -296,6 +300,15 @@ abbrev pub EndsOpen : ConfigValue → States → List Request → Refusal → St
 EndsOpen config old requests refusal new =
     (leaves_open refusal ≡ true) × TakesFirst config old (framed_requests requests) new
 
--- a reply was taken for what it tells, and the answer leaves nothing open
-abbrev pub LeavesNothingOpen : {A : Type 0} → Result Reply Refusal → Result A Refusal → Type 0
-LeavesNothingOpen reply answer = (reply ≢ Err Memory) × (answer ≢ Err Broken)
+-- a question for a state, whose reply may be given up for want of memory, since it changes nothing
+abbrev pub IsGet : Request → Type 0
+IsGet (Get key) = Unit {0}
+IsGet request = ⊥
+
+abbrev pub AreGets : List Request → Type 0
+AreGets [] = Unit {0}
+AreGets (q ∷ qs) = IsGet q × AreGets qs
+
+-- a reply was taken for what it tells, or may be given up, and the answer leaves nothing open
+abbrev pub LeavesNothingOpen : {A : Type 0} → Bool → Result Reply Refusal → Result A Refusal → Type 0
+LeavesNothingOpen gives_up reply answer = (reply ≡ Err Memory → gives_up ≡ true) × (answer ≢ Err Broken)

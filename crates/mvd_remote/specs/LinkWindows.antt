@@ -1,16 +1,16 @@
 -- Many questions over a connection: all their frames go out, and then a reply comes in for each.
 use Rattle.std.specs.Prelude.{◌≡◌, ◌⊎◌, ◌<◌, ℕ, List, [], ◌∷◌, ◌++◌, take, Option, Some, None, Result, Ok, Err}
-use Rattle.std.specs.Prelude.{Contains, MatchResult, length, sum_by}
+use Rattle.std.specs.Prelude.{Contains, MatchResult, map}
 use Rattle.std.specs.Io.KnownBytes.{Appends}
 use Rattle.std.specs.declared.alloc.Global.{Global}
 use Rattle.std.specs.declared.vec.Vec.{Vec}
 use Rattle.mvd_dots.specs.Refusal.{number_of}
 use Rattle.mvd_dots.specs.declared.refusals.Refusal.{Refusal}
-use Rattle.mvd_dots.specs.declared.refusals.Refusal.TheVariants.{Broken, Memory, WriteFailed}
+use Rattle.mvd_dots.specs.declared.refusals.Refusal.TheVariants.{BadKind, Broken, Memory, WriteFailed}
 use Rattle.mvd_wire.specs.declared.request.Request.{Request}
 use Rattle.mvd_wire.specs.declared.reply.Reply.{Reply}
-use Rattle.mvd_wire.specs.declared.reply.Reply.TheVariants.{Refused, State}
-use Rattle.mvd_wire.specs.Codecs.{spell_state}
+use Rattle.mvd_wire.specs.declared.reply.Reply.TheVariants.{Refused, State as Told}
+use Rattle.mvd_keys.specs.State.{State}
 use Rattle.mvd_wire.specs.Frames.{AppendsFront, FrameValue}
 use Rattle.mvd_wire.specs.Replies.{reply_kind}
 use Rattle.mvd_wire.specs.Requests.{request_frame}
@@ -62,13 +62,17 @@ TurnBreaks kind nones old new refusal =
     (n : ℕ) × (replies : List (Result Reply Refusal)) × (mid : Option (List ℕ))
     × TakeTurns kind (take n nones) replies old mid × ReadCause mid new kind refusal
 
--- how many bytes the states have that replies tell
-abbrev pub state_bytes : Result Reply Refusal → ℕ
-state_bytes (Ok (State state)) = length (spell_state state)
-state_bytes reply = 0
+-- what a reply tells of a state
+abbrev pub state_in : Result Reply Refusal → Result State Refusal
+state_in (Ok (Told state)) = Ok state
+state_in reply = Err BadKind
 
-abbrev pub states_bytes : List (Result Reply Refusal) → ℕ
-states_bytes replies = sum_by state_bytes replies
+abbrev pub states_in : List (Result Reply Refusal) → List (Result State Refusal)
+states_in replies = map state_in replies
+
+-- a reply is kept, or the state that it tells is dropped, and there was no memory for it
+abbrev pub IsKeptOf : Result Reply Refusal → Result Reply Refusal → Type 0
+IsKeptOf reply kept = (kept ≡ reply) ⊎ ((kept ≡ Err Memory) × (told : Reply) × (reply ≡ Ok told))
 
 -- ---- a window
 

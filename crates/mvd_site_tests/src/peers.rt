@@ -127,6 +127,8 @@ impl Peer for Counting {
 
     ghost follows_on = { λ _ _ _ _ _ _ _. tt };
 
+    ghost lacks = { λ _ _. tt };
+
     ghost most_stays = { λ _ _ _ _. refl };
 
     fn alloc(&self) -> Global {

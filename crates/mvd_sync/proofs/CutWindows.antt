@@ -59,6 +59,13 @@ held_append side xs ys =
 pub held_split : (side : Side) (count : ℕ) (es : List Entry) → held_keys side es ≡ held_keys side (take count es) ++ held_keys side (drop count es)
 held_split side count es = ap (held_keys side) (sym (take-append-drop count es)) ∙ held_append side (take count es) (drop count es)
 
+-- those to the first of some questions
+pub first_each : {Q A : Type 0} (P : Q → A → Type 0) (ones others : List Q) (answers : List A) → ForEach P (ones ++ others) answers → ForEach P ones (take (length ones) answers)
+first_each P [] others [] h = tt
+first_each P [] others (a ∷ answers) h = tt
+first_each P (q ∷ ones) others [] h = absurd h
+first_each P (q ∷ ones) others (a ∷ answers) h = (h.0, first_each P ones others answers h.1)
+
 first_answers : {Q A : Type 0} (M : Q → A → Type 0) (qs js : List Q) (ts : List (Result A Refusal)) → EachAnswer M (qs ++ js) ts → EachAnswer M qs (take (length qs) ts)
 first_answers M [] js [] h = tt
 first_answers M [] js (t ∷ ts) h = tt

@@ -20,7 +20,7 @@ use Rattle.mvd_site.specs.Config.{ConfigValue}
 use Rattle.mvd_site.specs.FromStates.{unless_broken}
 use Rattle.mvd_site.specs.Held.{States}
 use Rattle.mvd_site.specs.Known.{Adds, ChangesKey, MayReply}
-use Rattle.mvd_sync.specs.Session.{AreFew, Before, CanMeet, HasAllThatDiffer, IsIn, ReportsDone, is_member}
+use Rattle.mvd_sync.specs.Session.{AreFewInAll, Before, CanMeet, HasAllThatDiffer, IsIn, ReportsDone, is_member}
 use Rattle.mvd_peer.specs.PushedStates.{Each}
 use Rattle.mvd_sync.specs.Faults.{IsFaultOf}
 use Rattle.mvd_peer.specs.Sides.{is_of_question, is_site_refusal, tells_broken}
@@ -192,19 +192,20 @@ ToldAtOnce false false joined result = ⊤
 ToldAtOnce false true joined result = (result ≡ Err (Peer Broken)) × (joined ≡ [])
 ToldAtOnce true peer_was joined result = (result ≡ Err (Local Broken)) × (joined ≡ [])
 
--- Why a session of two sites that held `a` and `b` ends by the one that held `held`, and is broken afterwards or not:
+-- Why a session of two sites that held `a` and `b` ends by the one that held `held`, where the other held `other`, and is
+-- broken afterwards or not:
 -- by a refusal of the site that is not of one question alone, which is 20 or 22; or all questions were made to it and
 -- one more was wanted, which are many only where many keys differ
-pub data MayFail (a b held : States) (broken : Bool) (refusal : Refusal) : Type 0 where
+pub data MayFail (a b held other : States) (broken : Bool) (refusal : Refusal) : Type 0 where
   it_refused : is_site_refusal refusal ≡ true → is_of_question refusal ≡ false → broken ≡ tells_broken refusal
-      → MayFail a b held broken refusal
+      → MayFail a b held other broken refusal
   all_asked : refusal ≡ TooManyRequests
-      → ((differing : List Key) → HasAllThatDiffer a b differing → AreFew 10000001 held differing)
-      → MayFail a b held broken refusal
+      → ((differing : List Key) → HasAllThatDiffer a b differing → AreFewInAll 10000001 held other differing)
+      → MayFail a b held other broken refusal
 
 abbrev pub FailsFor : States → States → Bool → Bool → Result Report SyncFault → Type 0
 FailsFor a b local_broken peer_broken result =
-    IfErr result (IsFaultOf (MayFail a b a local_broken) (MayFail a b b peer_broken))
+    IfErr result (IsFaultOf (MayFail a b a b local_broken) (MayFail a b b a peer_broken))
 
 -- two sites that know these writes, as a session begins; the local one has this number
 abbrev pub two_sites : (mine theirs : ConfigValue) → ℕ → (V W : List Write) → Before

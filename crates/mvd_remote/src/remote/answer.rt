@@ -1,5 +1,5 @@
 //! What a reply to one of many questions tells.
-ghost use Rattle.std.specs.Prelude.{◌≡◌, ◌⊎◌, ℕ, IfOk, IfErr, Ok, Err, All, Contains};
+ghost use Rattle.std.specs.Prelude.{◌≡◌, ◌⊎◌, ℕ, Bool, true, false, IfOk, IfErr, Ok, Err, All, Contains};
 ghost use Rattle.mvd_dots.specs.declared.refusals.Refusal.TheVariants.{Broken, Memory};
 ghost use Rattle.mvd_wire.specs.declared.reply.Reply.{Reply};
 ghost use Rattle.mvd_wire.specs.declared.reply.Reply.TheVariants.{State, Done, Digests as Told, Keys, Refused};
@@ -27,6 +27,13 @@ pub trait Answer: Sized + Drop {
     fn kind() -> u8
         ensures { result ≡ of_kind };
 
+    /// Whether its reply may be given up for want of memory, since the question changes nothing.
+    ghost gives_up: { Bool };
+
+    /// Whether its reply may be given up for want of memory.
+    fn gives_up() -> bool
+        ensures { result ≡ gives_up };
+
     /// What a reply of this kind tells, or the refusal that it is.
     fn of(reply: Reply) -> Result<Self, Refusal>
         ensures told { IfOk result (λ answer. reply ≡ as_reply answer) }
@@ -41,6 +48,12 @@ impl Answer for Digests {
 
     fn kind() -> u8 {
         0xA7
+    }
+
+    ghost gives_up = { false };
+
+    fn gives_up() -> bool {
+        false
     }
 
     fn of(reply: Reply) -> Result<Self, Refusal> {
@@ -60,6 +73,12 @@ impl Answer for Page {
         0xA8
     }
 
+    ghost gives_up = { false };
+
+    fn gives_up() -> bool {
+        false
+    }
+
     fn of(reply: Reply) -> Result<Self, Refusal> {
         match reply {
             Reply::Keys(keys, more) => Ok((keys.into_vec(), more)),
@@ -75,6 +94,13 @@ impl Answer for KeyState {
 
     fn kind() -> u8 {
         0xA1
+    }
+
+    // Where there is no memory for a state, the others of its window are told.
+    ghost gives_up = { true };
+
+    fn gives_up() -> bool {
+        true
     }
 
     fn of(reply: Reply) -> Result<Self, Refusal> {
@@ -94,6 +120,12 @@ impl Answer for () {
         0xA3
     }
 
+    ghost gives_up = { false };
+
+    fn gives_up() -> bool {
+        false
+    }
+
     fn of(reply: Reply) -> Result<Self, Refusal> {
         match reply {
             Reply::Done => Ok(()),
@@ -103,17 +135,17 @@ impl Answer for () {
 }
 
 /// What a reply tells, or why it is none. A side that tells that it is broken refuses the whole window, and so does
-/// want of memory for a reply.
+/// want of memory for a reply that may not be given up.
 fn answer_of<A: Answer>(reply: Result<Reply, Refusal>) -> Result<Result<A, Refusal>, Refusal>
     requires { IsOfKind A.of_kind reply }
     ensures told { IfOk result (IsToldBy A.as_reply reply) }
-    ensures settled { IfOk result (LeavesNothingOpen reply) }
+    ensures settled { IfOk result (LeavesNothingOpen A.gives_up reply) }
     ensures ended { IfErr result (λ refusal. (refusal ≡ Memory) ⊎
         ((refusal ≡ Broken) × ((reply ≡ Ok (Refused Broken)) ⊎ (reply ≡ Err Broken)))) }
 {
     let answer = match reply {
         Ok(reply) => A::of(reply),
-        Err(Refusal::Memory) => return Err(Refusal::Memory),
+        Err(Refusal::Memory) if !A::gives_up() => return Err(Refusal::Memory),
         Err(refusal) => Err(refusal),
     };
     if is_over(&answer) {
@@ -129,7 +161,7 @@ pub fn answers<A: Answer>(
 ) -> Result<Vec<Result<A, Refusal>>, Refusal>
     requires { All (IsOfKind A.of_kind) replies.items }
     ensures told { IfOk result (λ told. ForEach (IsToldBy A.as_reply) replies.items told.items) }
-    ensures settled { IfOk result (λ told. ForEach LeavesNothingOpen replies.items told.items) }
+    ensures settled { IfOk result (λ told. ForEach (LeavesNothingOpen A.gives_up) replies.items told.items) }
     ensures ended { IfErr result (λ refusal. (refusal ≡ Memory) ⊎ ((refusal ≡ Broken) ×
         (Contains replies.items (Ok (Refused Broken)) ⊎ Contains replies.items (Err Broken)))) }
 {

@@ -6,9 +6,10 @@ ghost use Rattle.mvd_dots.specs.declared.refusals.Refusal.{Refusal};
 ghost use Rattle.mvd_keys.specs.State.{IsValid};
 ghost use Rattle.mvd_wire.specs.declared.request.Request.TheVariants.{Bucket, Get, Node, Push};
 ghost use Rattle.mvd_peer.specs.PushedStates.{Each};
+ghost use Rattle.mvd_peer.specs.Windows.{AreWithin};
 ghost use Rattle.mvd_wire.specs.Codec.{Gives};
 ghost use Rattle.mvd_wire.specs.Requests.{IsRequest, request_frame};
-ghost use Rattle.mvd_remote.specs.Lines.{IsTrueRemote, KeepsConfig, RemoteFollows};
+ghost use Rattle.mvd_remote.specs.Lines.{IsTrueRemote, KeepsConfig, RemoteFollows, refuses_none};
 ghost use Rattle.mvd_remote.specs.Lines.{as_digests, as_done, as_page, as_state};
 ghost use Rattle.mvd_remote.specs.Lines.{far_of, line_of, refused_of, remote_follows_on, remote_follows_self};
 ghost use Rattle.mvd_remote.specs.LiveRemotes.{AsksLive, EndsLive, IsLiveRemote, SettlesLive};
@@ -71,6 +72,9 @@ impl<L: Line> Peer for Remote<L> {
     ghost follows_self = { λ remote. remote_follows_self L.far remote };
 
     ghost follows_on = { λ _ _. remote_follows_on L.far };
+
+    // Where the link itself does not refuse, no other refusal is its own.
+    ghost lacks = { λ remote none own is. refuses_none (refused_of remote) own none is };
 
     ghost most_stays = { λ _ _ _ follows. ap (λ c. c.max_keys) follows.1 };
 
@@ -166,6 +170,7 @@ impl<L: Line> Peer for Remote<L> {
         ensures truth { AsksAllTruly L.Line (state_queries keys.now) self.old self.new result }
         ensures moments { EndsLive L.Line (SettlesLive as_state) (λ told. told.items)
             (map (λ key. Get key) keys.now) self.old self.new result }
+        ensures held { IfOk result (λ told. AreWithin 0 told.items) }
     {
         if let Some(refusal) = self.refused {
             return Err(refusal);

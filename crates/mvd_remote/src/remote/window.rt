@@ -1,12 +1,14 @@
 //! Many questions over a link: all frames out, then all replies in.
 ghost use Rattle.std.specs.Prelude.{◌≡◌, ◌≢◌, Err, List, ℕ, Result as Spelled, [], None, Some, OnOk, IfOk};
-ghost use Rattle.std.specs.Prelude.{IfErr, MatchResult, All, ◌≤◌, ◌+◌, ◌-◌, ◌^◌, ◌++◌, ◌∷◌, min};
+ghost use Rattle.std.specs.Prelude.{IfErr, MatchResult, All, true};
 ghost use Rattle.mvd_dots.specs.declared.refusals.Refusal.TheVariants.{Memory};
 ghost use Rattle.mvd_wire.specs.Codec.{Gives};
 ghost use Rattle.mvd_remote.specs.LinkWindows.{AnswersInTurn, AsksAll, IsOfKind, RefusesAll, AnswersTurn, TakeTurns};
 ghost use Rattle.mvd_remote.specs.LinkWindows.{TurnBreaks};
-ghost use Rattle.mvd_remote.specs.LinkWindows.{and_frame, frames_of, state_bytes, states_bytes};
-ghost use Rattle.mvd_remote.specs.Lines.{HaveFrames, DueTurn, DueTurns, KeepsConfig};
+ghost use Rattle.mvd_remote.specs.LinkWindows.{IsKeptOf, IsToldBy, and_frame, frames_of, state_in, states_in};
+ghost use Rattle.mvd_peer.specs.Windows.{AreWithin, ForEach, GivesWithin};
+ghost use Rattle.mvd_wire.specs.declared.reply.Reply.{Reply as Told};
+ghost use Rattle.mvd_remote.specs.Lines.{AreGets, HaveFrames, DueTurn, DueTurns, KeepsConfig};
 ghost use Rattle.mvd_remote.specs.Lines.{TellsAllTruly, TookTurns, line_of, refused_of};
 ghost use Rattle.mvd_remote.specs.LiveRemotes.{EndsLive, SettlesLive, ToldLive, TookLiveTurns, TookTurn};
 ghost use Rattle.mvd_remote.specs.Links.{ReadCause};
@@ -18,42 +20,24 @@ use super::Remote;
 use super::answer::{Answer, answers};
 use crate::line::Line;
 use mvd_dots::Refusal;
+use mvd_peer::holding::hold;
 use mvd_peer::room_for;
-use mvd_wire::{Reply, state_length};
+use mvd_wire::Reply;
 use std::alloc::Global;
 use std::marker::Model;
 
-/// The most bytes of states that the replies of a window bring together.
-const WINDOW_BYTES: u64 = 33_554_432;
-
-/// How many bytes the state has that a reply tells, if it tells one.
-fn state_bytes(reply: &Result<Reply, Refusal>) -> u64
-    ensures { result ≡ min (state_bytes reply.now) (2 ^ 64 - 1) }
+/// A reply as it is kept: without its state, if those before it have so many bytes as are held at once.
+fn kept(bytes: &mut u64, reply: Result<Reply, Refusal>) -> Result<Reply, Refusal>
+    ensures kept { IsKeptOf reply result }
+    ensures within { GivesWithin bytes.old bytes.new (state_in result) }
 {
     match reply {
-        Ok(Reply::State(state)) => state_length(state),
-        _ => 0,
+        Ok(Reply::State(state)) => match hold(bytes, Ok(state)) {
+            Ok(state) => Ok(Reply::State(state)),
+            Err(refusal) => Err(refusal),
+        },
+        reply => reply,
     }
-}
-
-/// Keeps a reply, if there is room for its state, and memory.
-fn keep(
-    replies: &mut Vec<Result<Reply, Refusal>>,
-    room: &mut u64,
-    reply: Result<Reply, Refusal>,
-) -> Result<(), Refusal>
-    requires { room.old ≤ 33554432 }
-    ensures kept { OnOk result (replies.new.items ≡ replies.old.items ++ reply ∷ []) }
-    ensures room { OnOk result (room.new + state_bytes reply ≡ room.old) }
-    ensures memory { IfErr result (λ refusal. refusal ≡ Memory) }
-{
-    let bytes = state_bytes(&reply);
-    if bytes > *room {
-        return Err(Refusal::Memory);
-    }
-    replies.push(reply)?;
-    *room -= bytes;
-    Ok(())
 }
 
 /// The frames of a window.
@@ -137,7 +121,8 @@ impl<L: Line> Remote<L> {
         }
     }
 
-    /// Answers each request in its turn, also after one was refused. The states that come have 32 MiB together at most.
+    /// Answers each request in its turn, also after one was refused. States are dropped behind those that are held at
+    /// once.
     pub(super) fn take_turns(
         &mut self,
         nones: &[Option<Refusal>],
@@ -150,7 +135,7 @@ impl<L: Line> Remote<L> {
             (TakeTurns kind nones.now replies.new.items
             (L.remaining (line_of self.old)) (L.remaining (line_of self.new))) }
         ensures of_kind { OnOk result (All (IsOfKind kind) replies.new.items) }
-        ensures bounded { OnOk result (states_bytes replies.new.items ≤ 33554432) }
+        ensures within { OnOk result (AreWithin 0 (states_in replies.new.items)) }
         ensures goes_on { OnOk result (refused_of self.new ≡ None) }
         ensures broke { IfErr result
             (λ refusal. TurnBreaks kind nones.now
@@ -163,10 +148,10 @@ impl<L: Line> Remote<L> {
         ensures live { L.is_live (line_of self.old) →
             TookLiveTurns L.Line nones.now replies.new.items self.old self.new result }
     {
-        let mut room = WINDOW_BYTES;
+        let mut bytes = 0;
         for none in nones {
             let reply = self.turn(*none, kind)?;
-            if keep(replies, &mut room, reply).is_err() {
+            if replies.push(kept(&mut bytes, reply)).is_err() {
                 return Err(self.breaks(Refusal::Memory));
             }
         }
@@ -184,6 +169,7 @@ impl<L: Line> Remote<L> {
             (λ replies. AnswersInTurn kind window.now replies.items (link_of L.Line self.old) (link_of L.Line self.new))
             (RefusesAll kind window.now (link_of L.Line self.old) (link_of L.Line self.new)) }
         ensures of_kind { IfOk result (λ replies. All (IsOfKind kind) replies.items) }
+        ensures within { IfOk result (λ replies. AreWithin 0 (states_in replies.items)) }
         ensures config { KeepsConfig L.far self.old self.new }
         ensures truth { (requests : List Request) → window.now ≡ frames_of requests → HaveFrames requests →
             EndsTruly L.Line (λ config before told. TellsAllTruly config before requests told.items)
@@ -212,9 +198,13 @@ impl<L: Line> Remote<L> {
             (link_of L.Line self.old) (link_of L.Line self.new))
             (RefusesAll A.of_kind window.now (link_of L.Line self.old) (link_of L.Line self.new)) }
         ensures config { KeepsConfig L.far self.old self.new }
+        ensures within { IfOk result (λ told. (replies : List (Spelled Told Cause)) × AreWithin 0 (states_in replies)
+            × ForEach (IsToldBy A.as_reply) replies told.items) }
         ensures truth { (requests : List Request) → window.now ≡ frames_of requests → HaveFrames requests →
+            (A.gives_up ≡ true → AreGets requests) →
             AsksAllTruly L.Line (queries requests A.as_reply A.of_kind) self.old self.new result }
         ensures live { (requests : List Request) → window.now ≡ frames_of requests → HaveFrames requests →
+            (A.gives_up ≡ true → AreGets requests) →
             EndsLive L.Line (SettlesLive A.as_reply) (λ told. told.items) requests self.old self.new result }
     {
         let replies = self.send_all(window, A::kind())?;

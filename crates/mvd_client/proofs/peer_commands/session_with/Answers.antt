@@ -26,7 +26,7 @@ pub returns-clause-pushed : goal.returns-clause-pushed
 returns-clause-pushed g c = c.sync.ensures.session.course.follows.0.1.follows
 
 pub returns-clause-few : goal.returns-clause-few
-returns-clause-few g c t r = let session = c.sync.ensures.session in asks_few _ _ session.course.asked_peer session.course.wanted_peer _ _ session.course.follows.1.1 (λ differing all. (session.few t r differing all).1)
+returns-clause-few g c t r = let session = c.sync.ensures.session in let course = session.course in asks_few _ _ course.asked_peer course.first_peer course.first_local course.again_peer course.wanted_local course.wanted_peer _ _ course.follows.1.1 course.parts.1 (session.few t r) session.again.1
 
 pub returns-clause-most : goal.returns-clause-most
 returns-clause-most g c = let session = c.sync.ensures.session in let within = session.course.within.1 in omega (arith, within, session.course.follows.1.1)

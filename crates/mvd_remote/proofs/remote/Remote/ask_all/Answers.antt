@@ -2,6 +2,9 @@ use Rattle.std.proofs.Common.{ℕ, subst}
 use Rattle.mvd_remote.specs.LinkWindows.{AnswersInTurn}
 use Rattle.mvd_remote.specs.Remotes.{link_of}
 use Rattle.mvd_remote.proofs.Lined.{window_answered}
+use Rattle.mvd_remote.specs.LinkWindows.{IsToldBy}
+use Rattle.mvd_peer.specs.Windows.{ForEach}
+use Rattle.mvd_remote.proofs.Holding.{with_replies}
 use Rattle.mvd_remote.proofs.Turns.{all_answered}
 use Rattle.mvd_remote.proofs.LiveLined.{live_answered}
 use Rattle.mvd_remote.proofs.remote.Remote.ask_all.Goals as goal
@@ -14,11 +17,14 @@ returns-clause-asked g c =
     (subst (λ (kind : ℕ). AnswersInTurn kind c.args.window.now c.in_ok-replies.replies.items old new) c.kind.ensures c.in_ok-replies.ensures.sent) c.answers.ensures.told c.answers.ensures.ended
 
 pub returns-clause-truth : goal.returns-clause-truth
-returns-clause-truth g c requests is spelled was =
+returns-clause-truth g c requests is spelled gets was =
     let sent = c.in_ok-replies.ensures.truth requests is spelled was in
-    (sent.0, window_answered _ g.A.Answer.as_reply (λ v. v.items) _ _ _ requests c.in_ok-replies.replies.items c.answers.result sent.1 c.answers.ensures.told c.answers.ensures.settled c.answers.ensures.ended)
+    (sent.0, window_answered _ g.A.Answer.as_reply g.A.Answer.gives_up (λ v. v.items) _ _ _ requests c.in_ok-replies.replies.items c.answers.result sent.1 c.answers.ensures.told c.answers.ensures.settled gets c.answers.ensures.ended)
 
 pub returns-clause-live : goal.returns-clause-live
-returns-clause-live g c requests is spelled was =
+returns-clause-live g c requests is spelled gets was =
     let sent = c.in_ok-replies.ensures.live requests is spelled was in
-    (sent.0, live_answered g.A.Answer.as_reply (g.L.Line.far c.args.self.now.line).config (λ v. v.items) requests c.in_ok-replies.replies.items _ _ sent.1.0 c.answers.result sent.1.1 c.answers.ensures.told c.answers.ensures.settled)
+    (sent.0, live_answered g.A.Answer.as_reply g.A.Answer.gives_up (g.L.Line.far c.args.self.now.line).config (λ v. v.items) requests c.in_ok-replies.replies.items _ _ sent.1.0 c.answers.result sent.1.1 c.answers.ensures.told c.answers.ensures.settled gets)
+
+pub returns-clause-within : goal.returns-clause-within
+returns-clause-within g c = with_replies (ForEach (IsToldBy g.A.Answer.as_reply)) (λ v. v.items) c.in_ok-replies.replies.items c.answers.result c.in_ok-replies.ensures.within c.answers.ensures.told

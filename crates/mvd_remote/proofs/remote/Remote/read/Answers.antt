@@ -3,9 +3,10 @@ use Rattle.std.specs.Prelude.{Err, Ok}
 use Rattle.mvd_dots.specs.Refusal.{number_of}
 use Rattle.mvd_dots.specs.declared.refusals.Refusal.TheVariants.{Memory}
 use Rattle.mvd_wire.specs.Replies.{reply_of}
+use Rattle.mvd_remote.specs.Lines.{refuses_none}
 use Rattle.mvd_remote.proofs.LiveAsked.{broke_live}
 use Rattle.mvd_remote.proofs.LiveLined.{ends_open, frame_due, high_open}
-use Rattle.mvd_remote.proofs.Lined.{frame_not_taken, goes_on}
+use Rattle.mvd_remote.proofs.Lined.{frame_not_taken}
 use Rattle.mvd_remote.proofs.LiveLined.{frame_spent, frame_taken}
 use Rattle.mvd_remote.proofs.remote.Remote.read.Goals as goal
 
@@ -17,7 +18,7 @@ returns-then-number-lt30-clause-truth g c t =
       line = came.0;
       states = came.1;
       due = λ _. frame_not_taken _ _ _ c.in-Ok-Some.came refusal c.in-Ok-Some.field-0-is came.2 (subst (λ (p : List ℕ). refusal ≢ Memory → reply_of c.in-Ok-Some.came.kind p ≡ Err refusal) c.deref.ensures.value c.in-Err-decode_reply.ensures.exact);
-      own = λ own e. goes_on c.args.self.now.refused own c.requires e;
+      own = λ own e. refuses_none c.args.self.now.refused own c.requires e;
     }
 
 pub returns-then-number-lt30-clause-live : goal.returns-then-number-lt30-clause-live
@@ -28,7 +29,7 @@ returns-then-number-lt30-clause-live g c t =
       live = came.0;
       grows = came.1;
       told = λ _. frame_spent _ _ _ _ _ _ c.in-Ok-Some.came refusal c.in-Ok-Some.field-0-is came.2 (subst (λ (p : List ℕ). refusal ≢ Memory → reply_of c.in-Ok-Some.came.kind p ≡ Err refusal) c.deref.ensures.value c.in-Err-decode_reply.ensures.exact);
-      own = λ own e. goes_on c.args.self.now.refused own c.requires e;
+      own = λ own e. refuses_none c.args.self.now.refused own c.requires e;
     }
 
 pub returns-in-Ok-None-clause-live : goal.returns-in-Ok-None-clause-live
@@ -53,7 +54,7 @@ returns-in-Ok-clause-truth g c t =
       line = came.0;
       states = came.1;
       due = λ _. frame_due _ _ _ c.in-Ok-Some.came c.in-Ok.reply c.in-Ok-Some.field-0-is came.2 (subst (λ (p : List ℕ). reply_of c.in-Ok-Some.came.kind p ≡ Ok c.in-Ok.reply) c.deref.ensures.value c.in-Ok.ensures.exact);
-      own = λ own e. goes_on c.args.self.now.refused own c.requires e;
+      own = λ own e. refuses_none c.args.self.now.refused own c.requires e;
     }
 
 pub returns-in-Ok-clause-live : goal.returns-in-Ok-clause-live
@@ -63,7 +64,7 @@ returns-in-Ok-clause-live g c t =
       live = came.0;
       grows = came.1;
       told = λ _. frame_taken _ _ _ _ _ _ c.in-Ok-Some.came c.in-Ok.reply c.in-Ok-Some.field-0-is came.2 (subst (λ (p : List ℕ). reply_of c.in-Ok-Some.came.kind p ≡ Ok c.in-Ok.reply) c.deref.ensures.value c.in-Ok.ensures.exact);
-      own = λ own e. goes_on c.args.self.now.refused own c.requires e;
+      own = λ own e. refuses_none c.args.self.now.refused own c.requires e;
     }
 
 pub returns-clause-live : goal.returns-clause-live

@@ -1,15 +1,18 @@
-use Rattle.std.proofs.Common.{◌≡◌, rules, ◌∷◌, ◌++◌, ◌+◌, [], List, ap, arith, refl, sym, subst, ◌∙◌}
+use Rattle.std.proofs.Common.{◌≡◌, rules, ◌∷◌, ◌++◌, ◌+◌, ◌-◌, ◌^◌, [], List, arith, min, refl, sym, subst, ◌∙◌}
 use Rattle.std.specs.Prelude.{All, Err, Result}
 use Rattle.std.proofs.lemmas.Result.{err_from_is_err_and}
 use Rattle.std.proofs.lemmas.List.Elements.{All-push}
 use Rattle.mvd_dots.specs.declared.refusals.Refusal.{Refusal}
 use Rattle.mvd_wire.specs.declared.reply.Reply.{Reply}
-use Rattle.mvd_remote.specs.LinkWindows.{IsOfKind, state_bytes, states_bytes}
-use Rattle.std.proofs.lemmas.List.Sums.{sum_by-append}
+use Rattle.mvd_remote.specs.Lines.{refuses_none}
+use Rattle.mvd_remote.specs.LinkWindows.{IsOfKind, states_in}
+use Rattle.mvd_peer.specs.Windows.{AreWithin}
+use Rattle.mvd_peer.proofs.Dropped.{bytes_of}
+use Rattle.mvd_remote.proofs.Holding.{kept_due, kept_kind, kept_live, kept_turn, within_replies}
 use Rattle.std.proofs.lemmas.List.{take_all}
 use Rattle.std.proofs.Common.{take}
 use Rattle.mvd_remote.specs.LiveRemotes.{LiveTurns}
-use Rattle.mvd_remote.proofs.Lined.{due_more_at, goes_on}
+use Rattle.mvd_remote.proofs.Lined.{due_more_at}
 use Rattle.mvd_remote.proofs.Turns.{turns_more_at}
 use Rattle.mvd_remote.proofs.LiveAsked.{turns_broke}
 use Rattle.mvd_remote.proofs.LiveLined.{took_more, took_none}
@@ -18,33 +21,33 @@ use Rattle.mvd_remote.proofs.remote.Remote.take_turns.Goals as goal
 pub loop-none-preserved : goal.loop-none-preserved
 loop-none-preserved g c =
     let before = c.loop-none.invariant in
-    let items : c.keep.new.replies.items ≡ c.loop-none.replies.items ++ c.in_ok-reply.reply ∷ [] = grind arith in
-    let room : c.keep.new.room + state_bytes c.in_ok-reply.reply ≡ c.loop-none.room = grind arith in
-    let more = ap states_bytes items ∙ sum_by-append state_bytes c.loop-none.replies.items (c.in_ok-reply.reply ∷ []) in
+    let reply = c.in_ok-reply.reply in
+    let told = c.kept.result in
+    let items : c.push.new.self.items ≡ c.loop-none.replies.items ++ told ∷ [] = grind arith in
+    let turn = kept_turn c.args.kind _ reply told (g.L.Line.remaining c.loop-none.self.line) (g.L.Line.remaining c.turn.new.self.line) c.kept.ensures.kept c.in_ok-reply.ensures.told in
     record {
-      read = turns_more_at c.args.kind c.args.nones.now c.loop-none.none-index _ _ c.loop-none.replies.items c.keep.new.replies.items c.in_ok-reply.reply (g.L.Line.remaining c.args.self.now.line) (g.L.Line.remaining c.loop-none.self.line) (g.L.Line.remaining c.turn.new.self.line) c.loop-none-test.true refl items before.read c.in_ok-reply.ensures.told;
-      of_kind = subst (λ (us : List (Result Reply Refusal)). All (IsOfKind c.args.kind) us) (sym items) (All-push (IsOfKind c.args.kind) c.loop-none.replies.items c.in_ok-reply.reply before.of_kind c.in_ok-reply.ensures.of_kind);
-      bounded = omega (arith, room, more, before.bounded);
-      room = omega (arith, room, before.room);
+      read = turns_more_at c.args.kind c.args.nones.now c.loop-none.none-index _ _ c.loop-none.replies.items c.push.new.self.items told (g.L.Line.remaining c.args.self.now.line) (g.L.Line.remaining c.loop-none.self.line) (g.L.Line.remaining c.turn.new.self.line) c.loop-none-test.true refl items before.read turn;
+      of_kind = subst (λ (us : List (Result Reply Refusal)). All (IsOfKind c.args.kind) us) (sym items) (All-push (IsOfKind c.args.kind) c.loop-none.replies.items told before.of_kind (kept_kind c.args.kind reply told c.kept.ensures.kept c.in_ok-reply.ensures.of_kind));
+      within = within_replies c.loop-none.bytes c.kept.new.bytes c.loop-none.replies.items c.push.new.self.items told items before.within.0 before.within.1 c.kept.ensures.within;
       goes_on = c.in_ok-reply.ensures.goes_on;
       unsent = c.turn.ensures.unsent ∙ before.unsent;
       config = c.turn.ensures.config ∙ before.config;
       line = λ t. (c.turn.ensures.truth (before.line t)).line;
       states = λ t. (c.turn.ensures.truth (before.line t)).states ∙ before.states t;
       due = λ t.
-          due_more_at c.args.nones.now c.loop-none.none-index _ _ c.loop-none.replies.items c.keep.new.replies.items c.in_ok-reply.reply (g.L.Line.far c.args.self.now.line).due (g.L.Line.far c.loop-none.self.line).due (g.L.Line.far c.turn.new.self.line).due c.loop-none-test.true refl items (before.due t)
-          (c.in_ok-reply.ensures.truth (before.line t)).due;
+          due_more_at c.args.nones.now c.loop-none.none-index _ _ c.loop-none.replies.items c.push.new.self.items told (g.L.Line.far c.args.self.now.line).due (g.L.Line.far c.loop-none.self.line).due (g.L.Line.far c.turn.new.self.line).due c.loop-none-test.true refl items (before.due t)
+          (kept_due _ reply told (g.L.Line.far c.loop-none.self.line).due (g.L.Line.far c.turn.new.self.line).due c.kept.ensures.kept (c.in_ok-reply.ensures.truth (before.line t)).due);
       live = λ t.
           let was = before.live t in
-          took_more g.L.Line g.met.L.Line.live_form c.args.self.now c.loop-none.self c.turn.new.self c.args.nones.now c.loop-none.none-index _ _ c.loop-none.replies.items c.keep.new.replies.items c.in_ok-reply.reply c.loop-none-test.true refl items t was.0 before.config was.1 was.2 was.3 (c.in_ok-reply.ensures.live was.0);
+          took_more g.L.Line g.met.L.Line.live_form c.args.self.now c.loop-none.self c.turn.new.self c.args.nones.now c.loop-none.none-index _ _ c.loop-none.replies.items c.push.new.self.items told c.loop-none-test.true refl items t was.0 before.config was.1 was.2 was.3
+          (kept_live g.L.Line _ reply told c.loop-none.self c.turn.new.self c.kept.ensures.kept (c.in_ok-reply.ensures.live was.0));
     }
 
 pub loop-none-init : goal.loop-none-init
 loop-none-init g c = record {
   read = search rules;
   of_kind = search rules;
-  bounded = search rules;
-  room = search rules;
+  within = subst (λ us. AreWithin 0 (states_in us) × (0 ≡ min (0 + bytes_of (states_in us)) (2 ^ 64 - 1))) (sym c.requires.empty) (tt, refl);
   goes_on = search rules;
   unsent = search rules;
   config = search rules;
@@ -62,7 +65,7 @@ returns-clause-live g c t =
       live = was.0;
       grows = was.1;
       told = (was.2, subst (λ ns. LiveTurns (g.L.Line.far c.args.self.now.line).config ns c.loop-none.replies.items (g.L.Line.awaits c.args.self.now.line) (g.L.Line.awaits c.loop-none.self.line) (g.L.Line.far c.args.self.now.line).states was.2 (g.L.Line.far c.loop-none.self.line).states) all was.3);
-      unsure = λ refusal e. goes_on c.loop-none.self.refused refusal c.loop-none.invariant.goes_on e;
+      unsure = λ refusal e. refuses_none c.loop-none.self.refused refusal c.loop-none.invariant.goes_on e;
     }
 
 pub returns-in_err-reply-clause-live : goal.returns-in_err-reply-clause-live

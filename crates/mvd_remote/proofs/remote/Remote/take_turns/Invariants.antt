@@ -1,6 +1,8 @@
-use Rattle.std.proofs.Common.{◌≡◌, ◌+◌, ◌≤◌, List, take}
+use Rattle.std.proofs.Common.{◌≡◌, ◌+◌, ◌-◌, ◌^◌, List, min, take}
+use Rattle.mvd_peer.specs.Windows.{AreWithin}
+use Rattle.mvd_peer.proofs.Dropped.{bytes_of}
 use Rattle.std.specs.Prelude.{All, None}
-use Rattle.mvd_remote.specs.LinkWindows.{IsOfKind, TakeTurns, states_bytes}
+use Rattle.mvd_remote.specs.LinkWindows.{IsOfKind, TakeTurns, states_in}
 use Rattle.mvd_remote.specs.Lines.{DueTurns}
 use Rattle.mvd_site.specs.Held.{States}
 use Rattle.mvd_peer.specs.Live.{Grows}
@@ -12,8 +14,7 @@ abbrev pub invariant-loop-none : goal.invariant-loop-none
 invariant-loop-none g l = record {
   read : TakeTurns l.kind (take l.none-index l.nones) l.replies.items (g.L.Line.remaining l.fn.self.line) (g.L.Line.remaining l.self.line);
   of_kind : All (IsOfKind l.kind) l.replies.items;
-  bounded : states_bytes l.replies.items + l.room ≤ 33554432;
-  room : l.room ≤ 33554432;
+  within : AreWithin 0 (states_in l.replies.items) × (l.bytes ≡ min (0 + bytes_of (states_in l.replies.items)) (2 ^ 64 - 1));
   goes_on : l.self.refused ≡ None;
   unsent : g.L.Line.contents l.self.line ≡ g.L.Line.contents l.fn.self.line;
   config : (g.L.Line.far l.self.line).config ≡ (g.L.Line.far l.fn.self.line).config;

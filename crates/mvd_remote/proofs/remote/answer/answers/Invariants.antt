@@ -7,5 +7,5 @@ use Rattle.mvd_remote.proofs.remote.answer.answers.Given as goal
 abbrev pub invariant-loop-reply : goal.invariant-loop-reply
 invariant-loop-reply g l = record {
   told : ForEach (IsToldBy g.A.Answer.as_reply) l.yielded l.told.items;
-  settled : ForEach LeavesNothingOpen l.yielded l.told.items;
+  settled : ForEach (LeavesNothingOpen g.A.Answer.gives_up) l.yielded l.told.items;
 }

@@ -59,6 +59,7 @@ get_all-tells g c =
       ended = link_ends (λ (r : Remote g.row.L.Denot). r.refused) (RemoteFollows g.L.Line.far) (remote_follows_self g.L.Line.far) (λ state. State state) (λ v. v.items) 0xA1 (λ key. Get key) c.args.keys.now c.args.self.now c.new.self.now c.result (link_of g.L.Line c.args.self.now) (link_of g.L.Line c.new.self.now) refl refl (λ over. (c.ensures.stays over.0 over.1).1, c.ensures.config) c.ensures.asked;
       not_of_question = λ was. window_not_of_key (λ state. State state) far.config (λ key. Get key) get_asks (λ v. v.items) c.args.keys.now far.states after.states c.result (c.ensures.truth was).1;
       live = states_live far.config (IsLiveRemote g.L.Line.is_live g.L.Line.awaits) (λ (r : Remote g.row.L.Denot). (g.L.Line.far r.line).states) c.args.self.now c.new.self.now c.args.keys.now c.result c.ensures.moments;
+      within = c.ensures.held;
     }
 
 pub push_all-tells : goal.push_all-tells

@@ -1,5 +1,5 @@
 -- What a session reads of the answers of a live side: each was right at some moment.
-use Rattle.std.proofs.Common.{◌≡◌, ℕ, ◌≤◌, List, [], ◌∷◌, length, take, refl, sym, ap, subst, ◌∙◌, arith, Some, None, Option}
+use Rattle.std.proofs.Common.{◌≡◌, ℕ, ◌≤◌, List, [], ◌∷◌, ◌++◌, length, take, refl, sym, ap, subst, ◌∙◌, arith, Some, None, Option}
 use Rattle.std.specs.Prelude.{Contains, Result, Ok, Err}
 use Rattle.std.proofs.lemmas.List.{take_all}
 use Rattle.std.proofs.lemmas.List.Elements.{Contains-append_left, Contains-append_right, Contains-push}
@@ -134,6 +134,13 @@ each_read P IsOf (q ∷ qs) (t ∷ answers) [] p r = absurd r
 each_read P IsOf (q ∷ qs) (Ok a ∷ answers) (b ∷ read) p r = ((a, p.0, r.0), each_read P IsOf qs answers read p.1 r.1)
 each_read P IsOf (q ∷ qs) (Err refusal ∷ answers) (b ∷ read) p r = absurd r.0
 
+-- those that were told to the first questions
+each_first : {Q A : Type 0} (P : Q → A → Type 0) (ones others : List Q) (answers : List A) → ForEach P (ones ++ others) answers → ForEach P ones (take (length ones) answers)
+each_first P [] others [] h = tt
+each_first P [] others (t ∷ answers) h = tt
+each_first P (q ∷ ones) others [] h = absurd h
+each_first P (q ∷ ones) others (t ∷ answers) h = (h.0, each_first P ones others answers h.1)
+
 -- ---- one window of a side
 
 -- what a live side told of these questions, amid a session
@@ -185,6 +192,16 @@ module _ (most : ℕ) (moments : List States) (first last : States) (w : Wanted)
   read_states IsOf qs read all r =
       seen_at StateTold IsOf qs w.gets r.answers read (none_cut qs w.gets left left' wanted share all r.whole)
       (heard_states most w h.old h.new h.these t r.answers h.tells r.is (few_asked qs w.gets r.answers left left' wanted share all r.whole r.counted)) r.each
+
+  -- of a window that is cut, the first
+  pub read_first : {B : Type 0} (IsOf : State → B → Type 0) (ones others : List Key) (answers : List (Result State Refusal)) (read : List B) → AllAsked (ones ++ others) w.gets left left' wanted share → states_told t ≡ Ok answers → share.wanted ≤ share.asked → length answers ≡ share.asked
+      → ForEach (PassesFault IsOf) (take (length ones) answers) read → ForEach (λ q b. (a : State) × AtMoment moments first last (λ held. StateTold held q (Ok a)) × IsOf a b) ones read
+  read_first IsOf ones others answers read all is whole counted each =
+      let qs = ones ++ others in
+      let P : Key → Result State Refusal → Type 0 = λ q t. AtMoment moments first last (λ held. StateTold held q t) in
+      let tells = heard_states most w h.old h.new h.these t answers h.tells is (few_asked qs w.gets answers left left' wanted share all whole counted) in
+      let seen = each_seen StateTold qs answers moments first last h.old h.new h.these h.within (subst (λ xs. TellsEach StateTold xs answers h.old h.these h.new) (none_cut qs w.gets left left' wanted share all whole) tells) in
+      each_read P IsOf ones (take (length ones) answers) read (each_first P ones others answers seen) each
 
   pub seen_pushes : (qs : List (Key × State)) (answers : List (Result (Unit {0}) Refusal)) → AllAsked qs w.pushes left left' wanted share → pushes_told t ≡ Ok answers → share.wanted ≤ share.asked → length answers ≡ share.asked
       → ForEach (λ p t. AtMoment moments first last (λ held. TellsPush most held p t)) qs answers

@@ -202,10 +202,10 @@ fails_for : (a b : States) (local peer local' peer' : SiteValue) (i j v w first 
 fails_for a b local peer local' peer' i j v w first first' again again' (Ok report) faithful second mine theirs parts little few cause = tt
 fails_for a b local peer local' peer' i j v w first first' again again' (Err (Local refusal)) faithful second mine theirs parts little few cause =
     may_fail a b a local local' i v first again first first' faithful parts.0 little.0 refusal (λ other. mine (λ e. other (let is : refusal ≡ Broken = cc in is)))
-    (λ differing every. let n = few differing every in (n.0, few_of_both a b first first' v w differing n)) cause
+    (λ differing every. let n = few differing every in let p = few_of_both a b first first' v w differing n in (n.0, p.0, p.1)) cause
 fails_for a b local peer local' peer' i j v w first first' again again' (Err (Peer refusal)) faithful second mine theirs parts little few cause =
     may_fail a b b peer peer' j w first' again' first first' second parts.1 little.1 refusal (λ other. theirs (λ e. other (let is : refusal ≡ Broken = cc in is)))
-    (λ differing every. let n = few differing every in (n.1, few_of_both a b first first' v w differing n)) cause
+    (λ differing every. let n = few differing every in let p = few_of_both a b first first' v w differing n in (n.1, p.0, p.1)) cause
 
 -- ---- and what it does
 

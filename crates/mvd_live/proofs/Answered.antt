@@ -5,7 +5,7 @@ use Rattle.mvd_dots.specs.declared.refusals.Refusal.{Refusal}
 use Rattle.mvd_keys.specs.State.{State}
 use Rattle.mvd_wire.specs.declared.reply.Digests.{Digests}
 use Rattle.mvd_sync.specs.Exchanges.{Exchanging}
-use Rattle.mvd_sync.specs.Machines.{HearsAt, Machining, StageAsks, TakesTold, both, goes, of_local, of_other, of_peer, of_side, other_of, stage_after, told_by_side, cut as cut_at, whole as uncut}
+use Rattle.mvd_sync.specs.Machines.{HearsAt, Machining, StageAsks, TakesTold, both, cut as cut_at, goes, of_local, of_other, of_peer, of_side, other_of, stage_after, told_by_side, whole as uncut}
 use Rattle.mvd_sync.specs.Tellings.{Page, nodes_told, pages_told, pushes_told, states_told, unasked_told}
 use Rattle.mvd_sync.specs.declared.report.Side.{Side}
 use Rattle.mvd_sync.specs.declared.report.Side.TheVariants.{Local as AtLocal, Peer as AtPeer}
@@ -76,7 +76,7 @@ heard_answered work work' (Walks walk) stage' shares answers (of_peer mine refus
 heard_answered work work' (Meets walk entries) stage' shares answers (uncut none (both mine theirs m s next)) = (states_answered answers.mine m.answers m.is, states_answered answers.theirs s.answers s.is)
 heard_answered work work' (Meets walk entries) stage' shares answers (uncut none (of_local refusal m is)) = absurd (cc)
 heard_answered work work' (Meets walk entries) stage' shares answers (uncut none (of_peer mine refusal m s is)) = absurd (cc)
-heard_answered work work' (Meets walk entries) stage' shares answers (cut_at count at first) = (states_answered answers.mine at.mine at.from_local.is, states_answered answers.theirs at.theirs at.from_peer.is)
+heard_answered work work' (Meets walk entries) stage' shares answers (cut_at count cut first) = (states_answered answers.mine cut.mine cut.from_local.is, states_answered answers.theirs cut.theirs cut.from_peer.is)
 heard_answered work work' (Carries walk turn count) stage' shares answers (same, goes stage none p is) =
     by_side turn.side answers (pushes_answered (told_by_side turn.side answers) p.answers p.is) (unasked_answered (told_by_side (other_of turn.side) answers) none)
 heard_answered work work' (Carries walk turn count) stage' shares answers (same, of_other refusal none is) = absurd (cc)

@@ -228,7 +228,7 @@ module _ (most : Two ℕ ℕ) (locals peers : List States) where
   caused_settles walk found old new stage (none_found none same is) = subst CausedAt (sym is) tt
   caused_settles walk found old new stage (equal e some differs same is) = subst CausedAt (sym is) tt
   caused_settles walk found old new stage (waits e some differs same low is) = subst CausedAt (sym is) tt
-  caused_settles walk found old new stage (fills e entries some differs long list any same is) = subst CausedAt (sym is) tt
+  caused_settles walk found old new stage (fills e entries some differs full list one same is) = subst CausedAt (sym is) tt
 
   pub caused_found : (walk : Walking) (found : Option Entry) (old new : Exchanging) (stage : Stage) → SettlesFound walk found old new stage → CausedAt stage
   caused_found = caused_settles
@@ -237,7 +237,7 @@ module _ (most : Two ℕ ℕ) (locals peers : List States) where
   pub caused_alone : (work : Exchanging) (stage : Stage) (work' : Exchanging) (stage' : Stage) → GoesAlone work stage work' stage' → Rattle.mvd_live.proofs.Given.GivenAt locals peers stage → CausedAt stage → CausedAt stage'
   caused_alone work (Descends level) work' stage' g given c = subst CausedAt (sym g.1) tt
   caused_alone work (Walks walk) work' stage' (goes_on walk' found g settles) given c = caused_settles walk' found work work' stage' settles
-  caused_alone work (Walks walk) work' stage' (last entries walked list any same is) given c = subst CausedAt (sym is) tt
+  caused_alone work (Walks walk) work' stage' (last entries walked list one same is) given c = subst CausedAt (sym is) tt
   caused_alone work (Walks walk) work' stage' (ends walked none same is) given c = subst CausedAt (sym is) tt
   caused_alone work (Carries walk turn count) work' stage' (counts side adds is) given c = subst CausedAt (sym is) tt
   caused_alone work (Carries walk turn count) work' stage' (turns side same begins) given c =

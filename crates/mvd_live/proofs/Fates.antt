@@ -1,6 +1,7 @@
 -- What becomes of each key, from one stage of a session to the next.
-use Rattle.std.proofs.Common.{◌≡◌, ◌⊎◌, inl, inr, ℕ, ◌≤◌, List, [], ◌∷◌, ◌++◌, take, drop, length, map, filter_map, sym, ap, subst, ◌∙◌, Some, None, Option}
-use Rattle.std.specs.Prelude.{IsTrue}
+use Rattle.std.proofs.Common.{◌≡◌, ◌⊎◌, inl, inr, ℕ, ◌≤◌, List, [], ◌∷◌, ◌++◌, length, take, drop, map, filter_map, sym, ap, subst, ◌∙◌, Some, None, Option}
+use Rattle.std.specs.Prelude.{IsTrue, Vec}
+use Rattle.std.specs.declared.alloc.Global.{Global}
 use Rattle.std.proofs.lemmas.List.{map-append}
 use Rattle.std.proofs.lemmas.List.Elements.{filter_map-append}
 use Rattle.mvd_keys.specs.Writes.{Key}
@@ -77,6 +78,13 @@ still_counts done old new keys refused older first c = record {
 pub same_counts : (done : List DoneKey) (old new : Exchanging) → new ≡ old → Counts done old → Counts done new
 same_counts done old new same c = subst (Counts done) (sym same) c
 
+-- the first keys are taken out of those that wait
+taken_out : (f : Frame) (key : Key) (walk : Walking) (most : ℕ) (all : List Entry) (entries : Vec Entry Global) (waiting : List Entry) → entries.items ≡ take most all → waiting ≡ drop most all → AnyOf (Fits f key) all → AtStage f key waiting (Meets walk entries)
+taken_out f key walk most all entries waiting list rest some = elim (any_cut (Fits f key) most all some) [
+  | inl here ↦ inr (subst (AnyOf (Fits f key)) (sym list) here)
+  | inr later ↦ inl (inr (subst (AnyOf (Fits f key)) (sym rest) later))
+]
+
 -- ---- a key was found, or none
 
 module _ (f : Frame) (key : Key) (done : List DoneKey) where
@@ -90,13 +98,6 @@ module _ (f : Frame) (key : Key) (done : List DoneKey) where
   one_found : (found : Option Entry) (e : Entry) → found ≡ Some e → IsFound f key found → Fits f key e
   one_found found e some is = let same : is.0 ≡ e = let x : Some is.0 ≡ Some e = sym is.1 ∙ some in cc in subst (Fits f key) same is.2
 
-  -- the first that wait are taken out
-  parted : (most : ℕ) (all entries waiting : List Entry) (walk : Walking) → entries ≡ take most all → waiting ≡ drop most all → AnyOf (Fits f key) all → AtWalk f key waiting walk ⊎ AnyOf (Fits f key) entries
-  parted most all entries waiting walk first later some = elim (any_cut (Fits f key) most all some) [
-    | inl now ↦ inr (subst (AnyOf (Fits f key)) (sym first) now)
-    | inr wait ↦ inl (inr (subst (AnyOf (Fits f key)) (sym later) wait))
-  ]
-
   pub settles : (walk : Walking) (found : Option Entry) (old new : Exchanging) (stage : Stage) → SettlesFound walk found old new stage → InWalk f key walk ⊎ (IsFound f key found ⊎ AnyOf (Fits f key) old.waiting) → Fate f key done new.waiting stage
   settles walk found old new stage (none_found none same is) (inl walks) = inr (inr (subst (AtStage f key new.waiting) (sym is) (inl walks)))
   settles walk found old new stage (none_found none same is) (inr (inl one)) = absurd (none_is_found found none one)
@@ -109,17 +110,19 @@ module _ (f : Frame) (key : Key) (done : List DoneKey) where
       inr (inr (subst (AtStage f key new.waiting) (sym is) (inr (subst (λ (w : Exchanging). AnyOf (Fits f key) w.waiting) (sym same) (any_right (Fits f key) old.waiting (e ∷ []) (inl (one_found found e some one)))))))
   settles walk found old new stage (waits e some differs same low is) (inr (inr wait)) =
       inr (inr (subst (AtStage f key new.waiting) (sym is) (inr (subst (λ (w : Exchanging). AnyOf (Fits f key) w.waiting) (sym same) (any_left (Fits f key) old.waiting (e ∷ []) wait)))))
-  settles walk found old new stage (fills e entries some differs long list any same is) (inl walks) = inr (inr (subst (AtStage f key new.waiting) (sym is) (inl (inl walks))))
-  settles walk found old new stage (fills e entries some differs long list any same is) (inr (inl one)) =
-      inr (inr (subst (AtStage f key new.waiting) (sym is) (parted old.most (old.waiting ++ e ∷ []) entries.items new.waiting walk list (ap (λ (w : Exchanging). w.waiting) same) (any_right (Fits f key) old.waiting (e ∷ []) (inl (one_found found e some one))))))
-  settles walk found old new stage (fills e entries some differs long list any same is) (inr (inr wait)) =
-      inr (inr (subst (AtStage f key new.waiting) (sym is) (parted old.most (old.waiting ++ e ∷ []) entries.items new.waiting walk list (ap (λ (w : Exchanging). w.waiting) same) (any_left (Fits f key) old.waiting (e ∷ []) wait))))
+  settles walk found old new stage (fills e entries some differs full list one same is) (inl walks) = inr (inr (subst (AtStage f key new.waiting) (sym is) (inl (inl walks))))
+  settles walk found old new stage (fills e entries some differs full list one same is) (inr (inl it)) =
+      let here = any_right (Fits f key) old.waiting (e ∷ []) (inl (one_found found e some it)) in
+      inr (inr (subst (AtStage f key new.waiting) (sym is) (taken_out f key walk old.most (old.waiting ++ e ∷ []) entries new.waiting list (λ i. (same i).waiting) here)))
+  settles walk found old new stage (fills e entries some differs full list one same is) (inr (inr wait)) =
+      let here = any_left (Fits f key) old.waiting (e ∷ []) wait in
+      inr (inr (subst (AtStage f key new.waiting) (sym is) (taken_out f key walk old.most (old.waiting ++ e ∷ []) entries new.waiting list (λ i. (same i).waiting) here)))
 
 pub settles_counts : (done : List DoneKey) (walk : Walking) (found : Option Entry) (old new : Exchanging) (stage : Stage) → SettlesFound walk found old new stage → Counts done old → Counts done new
 settles_counts done walk found old new stage (none_found none same is) c = same_counts done old new same c
 settles_counts done walk found old new stage (equal e some differs same is) c = same_counts done old new same c
 settles_counts done walk found old new stage (waits e some differs same low is) c = still_counts done old new (λ i. (same i).keys) (λ i. (same i).refused) (λ i. (same i).older) (λ i. (same i).first_refused) c
-settles_counts done walk found old new stage (fills e entries some differs long list any same is) c = still_counts done old new (λ i. (same i).keys) (λ i. (same i).refused) (λ i. (same i).older) (λ i. (same i).first_refused) c
+settles_counts done walk found old new stage (fills e entries some differs full list one same is) c = still_counts done old new (λ i. (same i).keys) (λ i. (same i).refused) (λ i. (same i).older) (λ i. (same i).first_refused) c
 
 -- ---- more keys are done
 
@@ -135,7 +138,7 @@ left_now done now key is =
 
 walk_counts : (done : List DoneKey) (work work' : Exchanging) (walk : Walking) (stage' : Stage) → FromWalk work walk work' stage' → Counts done work → Counts done work'
 walk_counts done work work' walk stage' (goes_on walk' found goes settled) c = settles_counts done walk' found work work' stage' settled c
-walk_counts done work work' walk stage' (last entries walked list any same is) c = still_counts done work work' (λ i. (same i).keys) (λ i. (same i).refused) (λ i. (same i).older) (λ i. (same i).first_refused) c
+walk_counts done work work' walk stage' (last entries walked list one same is) c = still_counts done work work' (λ i. (same i).keys) (λ i. (same i).refused) (λ i. (same i).older) (λ i. (same i).first_refused) c
 walk_counts done work work' walk stage' (ends walked none same is) c = still_counts done work work' (λ i. (same i).keys) (λ i. (same i).refused) (λ i. (same i).older) (λ i. (same i).first_refused) c
 
 -- ---- one step without a question
@@ -158,9 +161,9 @@ module _ (f : Frame) (apart : TellApart f.locals f.peers) where
         | inr (inr one) ↦ settles f key done walk' found work work' stage' settled (inr (inl one))
       ]
   from_walk key done work work' walk stage' quiet (goes_on walk' found goes settled) (inr (inr (inr wait))) = settles f key done walk' found work work' stage' settled (inr (inr wait))
-  from_walk key done work work' walk stage' quiet (last entries walked list any same is) (inr (inr (inl walks))) = absurd (walk_ends f apart key walk walked walks)
-  from_walk key done work work' walk stage' quiet (last entries walked list any same is) (inr (inr (inr wait))) =
-      inr (inr (subst (AtStage f key work'.waiting) (sym is) (parted f key work.most work.waiting entries.items work'.waiting walk list (ap (λ (w : Exchanging). w.waiting) same) wait)))
+  from_walk key done work work' walk stage' quiet (last entries walked list one same is) (inr (inr (inl walks))) = absurd (walk_ends f apart key walk walked walks)
+  from_walk key done work work' walk stage' quiet (last entries walked list one same is) (inr (inr (inr wait))) =
+      inr (inr (subst (AtStage f key work'.waiting) (sym is) (taken_out f key walk work.most work.waiting entries work'.waiting list (λ i. (same i).waiting) wait)))
   from_walk key done work work' walk stage' quiet (ends walked none same is) (inr (inr (inl walks))) = absurd (walk_ends f apart key walk walked walks)
   from_walk key done work work' walk stage' quiet (ends walked none same is) (inr (inr (inr wait))) = absurd (subst (AnyOf (Fits f key)) none wait)
 

@@ -1,5 +1,5 @@
 -- How many questions a session may have asked a side, from one stage to the next.
-use Rattle.std.proofs.Common.{◌≡◌, ◌⊎◌, inl, inr, ℕ, ◌+◌, ◌*◌, ◌≤◌, Bool, true, false, cond, List, [], ◌∷◌, map, take, drop, length, refl, sym, ap, subst, ◌∙◌, arith, Some, None, Option, length-append}
+use Rattle.std.proofs.Common.{◌≡◌, ◌⊎◌, inl, inr, ℕ, ◌+◌, ◌*◌, ◌≤◌, Bool, true, false, cond, List, [], ◌∷◌, ◌++◌, map, take, drop, length, refl, sym, ap, subst, ◌∙◌, arith, Some, None, Option, length-append}
 use Rattle.std.specs.Prelude.{filter_map}
 use Rattle.std.proofs.lemmas.List.{length-map, take-append-drop}
 use Rattle.mvd_keys.specs.Writes.{Key}
@@ -62,6 +62,15 @@ FewAt f differed side asked work (Carries walk turn count) = WalkStands f differ
 FewAt f differed side asked work Done = AreFew asked (last_of f side) differed
 FewAt f differed side asked work (Failed fault) = Unit {0}
 
+-- the first keys are taken out of those that wait
+taken_long : (most : ℕ) (all entries later : List Entry) → entries ≡ take most all → later ≡ drop most all → length entries + length later ≡ length all
+taken_long most all entries later is rest =
+    let n = ap length is in
+    let m = ap length rest in
+    let both = ap length (take-append-drop most all) in
+    let sum = length-append (take most all) (drop most all) in
+    omega (arith, n, m, both, sum)
+
 -- fewer may be owed, and fewer asked
 module _ (f : Frame) (differed : List Key) (side : Side) where
   pub stands_less : (asked asked' : ℕ) (waiting waiting' : List Entry) (owed owed' : ℕ) (w : Walking) → (old : WalkStands f differed side asked waiting owed w None) → asked' + 2 * length waiting' + owed' ≤ asked + 2 * length waiting + owed → WalkStands f differed side asked' waiting' owed' w None
@@ -90,14 +99,12 @@ module _ (f : Frame) (differed : List Key) (side : Side) where
       let m = ap (λ (w : Exchanging). length w.waiting) same ∙ length-append old.waiting (e ∷ []) in
       let few = s.few in
       subst (FewAt f differed side asked new) (sym is) (record { taken = s.taken; pages = s.pages; walk = s.walk; page = s.page; few = omega (arith, n, m, few) })
-  settle_few asked walk found old new stage (fills e entries some differs long list any same is) s =
+  settle_few asked walk found old new stage (fills e entries some differs full list one same is) s =
       let n = ap (λ o. length (waits_of o)) some ∙ ap (λ b. length (cond b (e ∷ []) [])) differs in
-      let all = old.waiting ++ e ∷ [] in
-      let m = ap (λ (w : Exchanging). length w.waiting) same in
-      let k = ap length list in
-      let cut = sym (length-append (take old.most all) (drop old.most all)) ∙ ap length (take-append-drop old.most all) ∙ length-append old.waiting (e ∷ []) in
+      let m = taken_long old.most (old.waiting ++ e ∷ []) entries.items new.waiting list (λ i. (same i).waiting) in
+      let k = length-append old.waiting (e ∷ []) in
       let few = s.few in
-      subst (FewAt f differed side asked new) (sym is) (record { taken = s.taken; pages = s.pages; walk = s.walk; page = s.page; few = omega (arith, n, m, k, cut, few) })
+      subst (FewAt f differed side asked new) (sym is) (record { taken = s.taken; pages = s.pages; walk = s.walk; page = s.page; few = omega (arith, n, m, k, few) })
 
 -- ---- without a question
 
@@ -307,11 +314,9 @@ module _ (f : Frame) (differed : List Key) (all : HasAllThatDiffered f.locals f.
   walk_alone : (work work' : Exchanging) (walk : Walking) (stage' : Stage) → IsQuiet (Walks walk) → FromWalk work walk work' stage' → FewAt f differed side asked work (Walks walk) → FewAt f differed side asked work' stage'
   walk_alone work work' walk stage' quiet (goes_on walk' found goes settled) few =
       settle_few f differed side asked walk' found work work' stage' settled (goes_few f differed all side asked work.waiting walk walk' found quiet goes few)
-  walk_alone work work' walk stage' quiet (last entries walked list any same is) few =
-      let n = ap length list in
-      let m = ap (λ (w : Exchanging). length w.waiting) same in
-      let cut = sym (length-append (take work.most work.waiting) (drop work.most work.waiting)) ∙ ap length (take-append-drop work.most work.waiting) in
-      subst (FewAt f differed side asked work') (sym is) (stands_less f differed side asked asked work.waiting work'.waiting 0 (2 * length entries.items) walk few (omega (arith, n, m, cut)))
+  walk_alone work work' walk stage' quiet (last entries walked list one same is) few =
+      let n = taken_long work.most work.waiting entries.items work'.waiting list (λ i. (same i).waiting) in
+      subst (FewAt f differed side asked work') (sym is) (stands_less f differed side asked asked work.waiting work'.waiting 0 (2 * length entries.items) walk few (omega (arith, n)))
   walk_alone work work' walk stage' quiet (ends walked none same is) few =
       let n = few.few in
       subst (FewAt f differed side asked work') (sym is) (sum_few f side differed few.taken asked few.pages few.walk.once few.walk.differ few.page.held few.page.many (omega (arith, n)))

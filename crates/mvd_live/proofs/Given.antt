@@ -50,13 +50,13 @@ module _ (locals peers : List States) where
   given_settles walk found old new stage (none_found none same is) = subst (GivenAt locals peers) (sym is) tt
   given_settles walk found old new stage (equal e some differs same is) = subst (GivenAt locals peers) (sym is) tt
   given_settles walk found old new stage (waits e some differs same low is) = subst (GivenAt locals peers) (sym is) tt
-  given_settles walk found old new stage (fills e entries some differs long list any same is) = subst (GivenAt locals peers) (sym is) tt
+  given_settles walk found old new stage (fills e entries some differs full list one same is) = subst (GivenAt locals peers) (sym is) tt
 
   -- without a question
   pub given_alone : (work : Exchanging) (stage : Stage) (work' : Exchanging) (stage' : Stage) → GoesAlone work stage work' stage' → GivenAt locals peers stage → GivenAt locals peers stage'
   given_alone work (Descends level) work' stage' g given = subst (GivenAt locals peers) (sym g.1) tt
   given_alone work (Walks walk) work' stage' (goes_on walk' found g settles) given = given_settles walk' found work work' stage' settles
-  given_alone work (Walks walk) work' stage' (last entries walked list any same is) given = subst (GivenAt locals peers) (sym is) tt
+  given_alone work (Walks walk) work' stage' (last entries walked list one same is) given = subst (GivenAt locals peers) (sym is) tt
   given_alone work (Walks walk) work' stage' (ends walked none same is) given = subst (GivenAt locals peers) (sym is) tt
   given_alone work (Carries walk turn count) work' stage' (counts side adds is) given = subst (GivenAt locals peers) (sym is) tt
   given_alone work (Carries walk turn count) work' stage' (turns side same begins) given =

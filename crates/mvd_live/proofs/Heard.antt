@@ -10,7 +10,6 @@ use Rattle.mvd_wire.specs.declared.reply.Digests.{Digests}
 use Rattle.mvd_site.specs.Held.{AreHeld, States}
 use Rattle.mvd_peer.specs.Live.{Grows}
 use Rattle.mvd_peer.specs.Windows.{ForEach}
-use Rattle.mvd_sync.proofs.CutWindows.{first_each}
 use Rattle.mvd_sync.specs.Made.{PassesFault}
 use Rattle.mvd_sync.specs.Questions.{TakesBudget}
 use Rattle.mvd_sync.specs.Steps.{Wanted}
@@ -135,6 +134,13 @@ each_read P IsOf (q ∷ qs) (t ∷ answers) [] p r = absurd r
 each_read P IsOf (q ∷ qs) (Ok a ∷ answers) (b ∷ read) p r = ((a, p.0, r.0), each_read P IsOf qs answers read p.1 r.1)
 each_read P IsOf (q ∷ qs) (Err refusal ∷ answers) (b ∷ read) p r = absurd r.0
 
+-- those that were told to the first questions
+each_first : {Q A : Type 0} (P : Q → A → Type 0) (ones others : List Q) (answers : List A) → ForEach P (ones ++ others) answers → ForEach P ones (take (length ones) answers)
+each_first P [] others [] h = tt
+each_first P [] others (t ∷ answers) h = tt
+each_first P (q ∷ ones) others [] h = absurd h
+each_first P (q ∷ ones) others (t ∷ answers) h = (h.0, each_first P ones others answers h.1)
+
 -- ---- one window of a side
 
 -- what a live side told of these questions, amid a session
@@ -187,16 +193,15 @@ module _ (most : ℕ) (moments : List States) (first last : States) (w : Wanted)
       seen_at StateTold IsOf qs w.gets r.answers read (none_cut qs w.gets left left' wanted share all r.whole)
       (heard_states most w h.old h.new h.these t r.answers h.tells r.is (few_asked qs w.gets r.answers left left' wanted share all r.whole r.counted)) r.each
 
-  -- the answers to the first gets
-  pub read_first : {B : Type 0} (IsOf : State → B → Type 0) (ones others : List Key) (read : List B) (answers : List (Result State Refusal)) → AllAsked (ones ++ others) w.gets left left' wanted share → states_told t ≡ Ok answers → length answers ≡ share.asked → share.asked ≡ share.wanted
+  -- of a window that is cut, the first
+  pub read_first : {B : Type 0} (IsOf : State → B → Type 0) (ones others : List Key) (answers : List (Result State Refusal)) (read : List B) → AllAsked (ones ++ others) w.gets left left' wanted share → states_told t ≡ Ok answers → share.wanted ≤ share.asked → length answers ≡ share.asked
       → ForEach (PassesFault IsOf) (take (length ones) answers) read → ForEach (λ q b. (a : State) × AtMoment moments first last (λ held. StateTold held q (Ok a)) × IsOf a b) ones read
-  read_first IsOf ones others read answers all is counted whole each =
-      let enough : share.wanted ≤ share.asked = omega (arith, whole) in
-      each_read (λ q t. AtMoment moments first last (λ held. StateTold held q t)) IsOf ones (take (length ones) answers) read
-      (first_each (λ q t. AtMoment moments first last (λ held. StateTold held q t)) ones others answers
-      (each_seen StateTold (ones ++ others) answers moments first last h.old h.new h.these h.within
-      (subst (λ xs. TellsEach StateTold xs answers h.old h.these h.new) (none_cut (ones ++ others) w.gets left left' wanted share all enough)
-      (heard_states most w h.old h.new h.these t answers h.tells is (few_asked (ones ++ others) w.gets answers left left' wanted share all enough counted))))) each
+  read_first IsOf ones others answers read all is whole counted each =
+      let qs = ones ++ others in
+      let P : Key → Result State Refusal → Type 0 = λ q t. AtMoment moments first last (λ held. StateTold held q t) in
+      let tells = heard_states most w h.old h.new h.these t answers h.tells is (few_asked qs w.gets answers left left' wanted share all whole counted) in
+      let seen = each_seen StateTold qs answers moments first last h.old h.new h.these h.within (subst (λ xs. TellsEach StateTold xs answers h.old h.these h.new) (none_cut qs w.gets left left' wanted share all whole) tells) in
+      each_read P IsOf ones (take (length ones) answers) read (each_first P ones others answers seen) each
 
   pub seen_pushes : (qs : List (Key × State)) (answers : List (Result (Unit {0}) Refusal)) → AllAsked qs w.pushes left left' wanted share → pushes_told t ≡ Ok answers → share.wanted ≤ share.asked → length answers ≡ share.asked
       → ForEach (λ p t. AtMoment moments first last (λ held. TellsPush most held p t)) qs answers

@@ -17,7 +17,7 @@ pub mod FewNodes
 pub mod FewKeys
 pub mod FewPages
 pub mod FewStages
-pub mod Again
+pub mod FewAgain
 pub mod FewWhole
 pub mod Written
 pub mod Spent

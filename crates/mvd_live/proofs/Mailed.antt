@@ -4,7 +4,7 @@ use Rattle.std.specs.Prelude.{Ok, Result}
 use Rattle.std.specs.FinMap.{len}
 use Rattle.mvd_keys.specs.Writes.{Key}
 use Rattle.mvd_site.specs.Held.{AreHeld, States}
-use Rattle.mvd_peer.specs.Sides.{Two}
+use Rattle.mvd_peer.specs.Sides.{Two, two}
 use Rattle.mvd_sync.specs.Machines.{HasNext, Machining, wanted_count}
 use Rattle.mvd_sync.specs.Steps.{asked}
 use Rattle.mvd_sync.specs.declared.report.Side.TheVariants.{Local as AtLocal, Peer as AtPeer}
@@ -18,13 +18,13 @@ use Rattle.mvd_live.specs.Lives.{IsGiven, Lives}
 use Rattle.mvd_live.specs.Mail.{AreLive, MailEnds, Mail, MailSteps, Sits, Waiting, mail_locals, mail_peers, standing, waits_at}
 use Rattle.mvd_live.specs.Runs.{StartsRun, TakesLeg, IsLater, Leg, RunsLegs, Standing, all_locals, all_peers, both_asked}
 use Rattle.mvd_live.proofs.Answered.{both_answered}
-use Rattle.mvd_live.proofs.FewWhole.{asks_few, fewer_in_all, step_few}
+use Rattle.mvd_live.proofs.FewWhole.{asks_few, step_few}
 use Rattle.mvd_live.proofs.Runner.{asks_named}
 use Rattle.mvd_live.proofs.Whole.{given, grows_self, lives}
 
 -- what is asked of what is wanted is no more
-fewer : (sent asked now wanted : ℕ) → sent ≡ asked + now → now ≤ wanted → sent ≤ asked + wanted
-fewer sent asked now wanted is within = omega (arith, is, within)
+fewer : (first now wanted most : ℕ) → now ≤ wanted → first + wanted ≤ most → first + now ≤ most
+fewer first now wanted most within few = omega (arith, within, few)
 
 -- as a run has it before it asks
 abbrev at_machine : Machining → Waiting → Standing
@@ -122,11 +122,19 @@ module _ (most : Two ℕ ℕ) where
         let run = append-nil r.run in
         let among = subst (λ ms. HasAllThatDiffered ms (all_peers (r.run ++ [])) differed) (sym (r.locals [] ∙ append-nil (mail_locals legs))) (subst (λ ms. HasAllThatDiffered (mail_locals legs) ms differed) (sym (r.peers [] ∙ append-nil (mail_peers legs))) all) in
         let few = asks_few number questions most (standing begun now) (r.run ++ []) (at_machine r.end at) begins (r.on [] (at_machine r.end at) later) differed among at.meeting.machine (Some at.step) r.next in
+        let now_local = questions_in (asked at.step.local) in
+        let now_peer = questions_in (asked at.step.peer) in
+        let p = few.parts in
+        let n = r.sent ∙ ap (λ ls. asked_local ls + now_local) (sym run) in
+        let m = r.sent' ∙ ap (λ ls. asked_peer ls + now_peer) (sym run) in
+        let l = few.little in
         record {
-          local = fewer_in_all (sent_local now legs) (asked_local (r.run ++ []) + wanted_count AtLocal at.meeting.machine.stage) at.local at.peer differed
-              (fewer (sent_local now legs) (asked_local (r.run ++ [])) (questions_in (asked at.step.local)) (wanted_count AtLocal at.meeting.machine.stage) (r.sent ∙ ap (λ ls. asked_local ls + questions_in (asked at.step.local)) (sym run)) (step_few AtLocal r.end at.meeting.machine at.step r.next)) few.local;
-          peer = fewer_in_all (sent_peer now legs) (asked_peer (r.run ++ []) + wanted_count AtPeer at.meeting.machine.stage) at.peer at.local differed
-              (fewer (sent_peer now legs) (asked_peer (r.run ++ [])) (questions_in (asked at.step.peer)) (wanted_count AtPeer at.meeting.machine.stage) (r.sent' ∙ ap (λ ls. asked_peer ls + questions_in (asked at.step.peer)) (sym run)) (step_few AtPeer r.end at.meeting.machine at.step r.next)) few.peer;
+          first = two (few.first.local + now_local) (few.first.peer + now_peer);
+          again = few.again;
+          parts = (omega (arith, n, p.0), omega (arith, m, p.1));
+          local = fewer few.first.local now_local (wanted_count AtLocal at.meeting.machine.stage) (1 + 5 * length differed + len at.local / 1000) (step_few AtLocal r.end at.meeting.machine at.step r.next) few.local;
+          peer = fewer few.first.peer now_peer (wanted_count AtPeer at.meeting.machine.stage) (1 + 5 * length differed + len at.peer / 1000) (step_few AtPeer r.end at.meeting.machine at.step r.next) few.peer;
+          little = (omega (arith, l.0), omega (arith, l.1));
         }
 
     -- NOTHING IS MADE UP by mail

@@ -32,7 +32,7 @@ use Rattle.mvd_live.proofs.Whole.{hears_ok}
 
 -- ---- a window has no more pushes than are left of the turn
 
-abbrev IsCut : Stage → Type 0
+abbrev pub IsCut : Stage → Type 0
 IsCut (Descends level) = Unit {0}
 IsCut (Walks walk) = Unit {0}
 IsCut (Meets walk entries) = Unit {0}
@@ -44,7 +44,7 @@ cut_settles : (walk : Walking) (found : Option Entry) (old new : Exchanging) (st
 cut_settles walk found old new stage (none_found none same is) = subst IsCut (sym is) tt
 cut_settles walk found old new stage (equal e some differs same is) = subst IsCut (sym is) tt
 cut_settles walk found old new stage (waits e some differs same low is) = subst IsCut (sym is) tt
-cut_settles walk found old new stage (fills e entries some differs long list any same is) = subst IsCut (sym is) tt
+cut_settles walk found old new stage (fills e entries some differs full list one same is) = subst IsCut (sym is) tt
 
 cut_begins : (walk : Walking) (side : Side) (ms : List Meeting) (stage : Stage) → TurnBegins walk side ms stage → IsCut stage
 cut_begins walk side ms stage b = subst IsCut (sym b.is) b.window.within
@@ -52,7 +52,7 @@ cut_begins walk side ms stage b = subst IsCut (sym b.is) b.window.within
 cut_alone : (work : Exchanging) (stage : Stage) (work' : Exchanging) (stage' : Stage) → GoesAlone work stage work' stage' → IsCut stage'
 cut_alone work (Descends level) work' stage' g = subst IsCut (sym g.1) tt
 cut_alone work (Walks walk) work' stage' (goes_on walk' found g settles) = cut_settles walk' found work work' stage' settles
-cut_alone work (Walks walk) work' stage' (last entries walked list any same is) = subst IsCut (sym is) tt
+cut_alone work (Walks walk) work' stage' (last entries walked list one same is) = subst IsCut (sym is) tt
 cut_alone work (Walks walk) work' stage' (ends walked none same is) = subst IsCut (sym is) tt
 cut_alone work (Carries walk turn count) work' stage' (turns side same begins) = cut_begins walk AtPeer _ stage' begins
 cut_alone work (Carries walk turn count) work' stage' (counts side adds is) = subst IsCut (sym is) tt
@@ -79,10 +79,10 @@ cut_hears work work' (Walks walk) stage' shares answers (of_peer mine refusal m 
 cut_hears work work' (Meets walk entries) stage' shares answers (uncut none (both mine theirs m s (meetings, plans, begins, next))) = cut_begins walk AtLocal meetings stage' begins
 cut_hears work work' (Meets walk entries) stage' shares answers (uncut none (of_local refusal m is)) = absurd (cc)
 cut_hears work work' (Meets walk entries) stage' shares answers (uncut none (of_peer mine refusal m s is)) = absurd (cc)
-cut_hears work work' (Meets walk entries) stage' shares answers (cut_at count at (met_first (both mine theirs m s (meetings, plans, begins, next)))) = cut_begins walk AtLocal meetings stage' begins
-cut_hears work work' (Meets walk entries) stage' shares answers (cut_at count at (met_first (of_local refusal m is))) = absurd (cc)
-cut_hears work work' (Meets walk entries) stage' shares answers (cut_at count at (met_first (of_peer mine refusal m s is))) = absurd (cc)
-cut_hears work work' (Meets walk entries) stage' shares answers (cut_at count at (no_place is)) = absurd (cc)
+cut_hears work work' (Meets walk entries) stage' shares answers (cut_at count cut (met_first (both mine theirs m s (meetings, plans, begins, next)))) = cut_begins walk AtLocal meetings stage' begins
+cut_hears work work' (Meets walk entries) stage' shares answers (cut_at count cut (met_first (of_local refusal m is))) = absurd (cc)
+cut_hears work work' (Meets walk entries) stage' shares answers (cut_at count cut (met_first (of_peer mine refusal m s is))) = absurd (cc)
+cut_hears work work' (Meets walk entries) stage' shares answers (cut_at count cut (no_place is)) = absurd (cc)
 cut_hears work work' (Carries walk turn count) stage' shares answers (same, carried) = cut_carried walk turn (share_of turn.side shares) (told_by_side turn.side answers) (told_by_side (other_of turn.side) answers) stage' carried
 cut_hears work work' Done stage' shares answers never = absurd never
 cut_hears work work' (Failed fault) stage' shares answers never = absurd never
@@ -95,7 +95,7 @@ none_of_all X = []
 none_of : (X : Type 0) (left : ℕ) → length (take left (none_of_all X)) ≡ 0
 none_of X left = let n = length-take left (none_of_all X) in omega (arith, n)
 
-cut_long : (side : Side) (left : ℕ) (stage : Stage) → IsCut stage → questions_in (cut_wanted left (wanted_at side stage)) ≡ min left (wanted_count side stage)
+pub cut_long : (side : Side) (left : ℕ) (stage : Stage) → IsCut stage → questions_in (cut_wanted left (wanted_at side stage)) ≡ min left (wanted_count side stage)
 cut_long side left (Descends level) cut =
     let n = length-take left (next_nodes level) in
     let z = none_of (PageQuestion) left in

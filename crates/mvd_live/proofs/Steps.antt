@@ -1,8 +1,8 @@
 -- What becomes of each key as the answers of a window are taken.
-use Rattle.std.proofs.Common.{◌≡◌, ◌⊎◌, inl, inr, ℕ, zero, suc, ◌<◌, ◌≤◌, cond, List, [], ◌∷◌, ◌++◌, length, drop, take, refl, sym, ap, subst, ◌∙◌, arith, Option}
-use Rattle.std.specs.Prelude.{Ok, Vec}
+use Rattle.std.proofs.Common.{◌≡◌, ◌⊎◌, inl, inr, ℕ, zero, suc, ◌≤◌, cond, List, [], ◌∷◌, ◌++◌, length, take, drop, refl, sym, ap, subst, ◌∙◌, arith, Option}
+use Rattle.std.specs.Prelude.{Ok, Result, Vec}
 use Rattle.std.specs.declared.alloc.Global.{Global}
-use Rattle.std.proofs.lemmas.List.{append-nil, length-take-le, take-append-drop}
+use Rattle.mvd_dots.specs.declared.refusals.Refusal.{Refusal}
 use Rattle.mvd_keys.specs.State.{State}
 use Rattle.mvd_keys.specs.Writes.{Key}
 use Rattle.mvd_site.specs.Held.{AreHeld, States}
@@ -11,12 +11,11 @@ use Rattle.mvd_peer.specs.Windows.{ForEach}
 use Rattle.mvd_sync.specs.Answers.{ListingValue}
 use Rattle.mvd_sync.proofs.Exchanges.{Counts}
 use Rattle.mvd_sync.specs.Exchanges.{Done as DoneKey, Exchanging}
+use Rattle.mvd_sync.specs.Fronts.{IsCut, StateAnswer, front_told, share_in, told_first}
 use Rattle.mvd_sync.specs.Level.{GoesDown, IsDown, Level, next_nodes}
-use Rattle.mvd_sync.specs.Machines.{CarriedOn, HearsAt, Met, Pushed, SettlesFound, StageAsks, StatesHeard, TakesShares, TurnBegins, both, cut as cut_at, goes, is_same, met as met_first, no_room as no_place, of_local, of_other, of_peer, of_side, other_of, share_of, told_by_side, wanted_at, wanted_count, whole as uncut}
-use Rattle.mvd_sync.specs.Fronts.{IsCut, front_told, share_in, told_first}
+use Rattle.mvd_sync.specs.Machines.{CarriedOn, HearsAt, Pushed, SettlesFound, StageAsks, TakesShares, TurnBegins, both, cut as cut_at, goes, is_same, met as met_first, no_room as no_place, of_local, of_other, of_peer, of_side, other_of, share_of, told_by_side, wanted_at, wanted_count, whole as uncut}
 use Rattle.mvd_sync.specs.Made.{PassesFault}
 use Rattle.mvd_sync.specs.Meetings.{ArePlans, held_keys}
-use Rattle.mvd_sync.proofs.CutWindows.{held_split}
 use Rattle.mvd_sync.specs.OneTurn.{untold}
 use Rattle.mvd_sync.specs.Questions.{TakesBudget}
 use Rattle.mvd_sync.specs.Steps.{Wanted, cut_wanted}
@@ -35,18 +34,19 @@ use Rattle.mvd_sync.specs.declared.telling.Share.{Share}
 use Rattle.mvd_sync.specs.declared.telling.Shares.{Shares}
 use Rattle.mvd_sync.specs.declared.telling.Told.{Told}
 use Rattle.mvd_sync.specs.declared.turn.Turn.{Turn}
+use Rattle.mvd_sync.proofs.CutWindows.{held_split}
 use Rattle.mvd_sync.proofs.Stages.{each_may}
 use Rattle.mvd_live.specs.Lives.{TellApart}
 use Rattle.mvd_live.specs.Told.{StateTold}
 use Rattle.mvd_live.proofs.Buckets.{Fits, PageAt, walk_told}
 use Rattle.mvd_live.proofs.Causes.{AnsweredAt, CausedAt, CausedIn, caused_found, caused_met, caused_more}
-use Rattle.mvd_live.proofs.Fates.{AtStage, AtWalk, Fate, Holds, IsGood, same_counts, settles, settles_counts, still_counts}
+use Rattle.mvd_live.proofs.Fates.{AtStage, Fate, Holds, IsGood, same_counts, settles, settles_counts, still_counts}
 use Rattle.mvd_live.proofs.Given.{GivenAt, GivenTo, given_met, given_same, given_settles, given_valid}
 use Rattle.mvd_live.proofs.Heard.{Heard, read_first, read_nodes, read_pages, read_states, seen_pushes}
 use Rattle.mvd_live.proofs.Levels.{NodeAt, goes_down}
 use Rattle.mvd_live.proofs.Meets.{StateAt, planned_any}
 use Rattle.mvd_live.proofs.Moments.{AtMoment, Frame}
-use Rattle.mvd_live.proofs.Some.{AnyOf, any_left, any_right, any_split}
+use Rattle.mvd_live.proofs.Some.{AnyOf, any_cut, any_left, any_right}
 use Rattle.mvd_live.proofs.Turns.{PushAt, last_of, turn_begins, turn_more}
 
 short_take : {X : Type 0} (n : ℕ) (xs : List X) → length (take n xs) ≤ n
@@ -64,6 +64,10 @@ held_last : (f : Frame) (side : Side) → AreHeld (last_of f side)
 held_last f AtLocal = f.fa'
 held_last f AtPeer = f.fb'
 
+-- what is read of the first is told by the first
+first_told : (n : ℕ) (told : Result (List StateAnswer) Refusal) (answers ts : List StateAnswer) → told ≡ Ok answers → told_first n told ≡ Ok ts → take n answers ≡ ts
+first_told n told answers ts is first = let e : Ok (take n answers) ≡ Ok ts = sym (ap (told_first n) is) ∙ first in cc
+
 -- both sides told of a window amid a session
 pub record HeardBoth (f : Frame) (most : Two ℕ ℕ) (left : Questions) (stage : Stage) (answers : Answers) : Type 0 where
   pub asked : Two Wanted Wanted
@@ -71,19 +75,6 @@ pub record HeardBoth (f : Frame) (most : Two ℕ ℕ) (left : Questions) (stage 
   pub peer : Heard most.peer f.peers f.b f.b' asked.peer answers.theirs
   pub of_local : asked.local ≡ cut_wanted left.local (wanted_at AtLocal stage)
   pub of_peer : asked.peer ≡ cut_wanted left.peer (wanted_at AtPeer stage)
-
--- of a window all keys were met, or the first, where it was cut
-pub record MetKeys (f : Frame) (work : Exchanging) (walk : Walking) (entries : List Entry) (work' : Exchanging) (stage' : Stage) : Type 0 where
-  pub first : List Entry
-  pub later : List Entry
-  pub limit : ℕ
-  pub mine : List State
-  pub theirs : List State
-  pub is : first ++ later ≡ entries
-  pub limits : ((later ≡ []) × (limit ≡ 1000)) ⊎ ((limit ≡ length first) × (1 ≤ length first))
-  pub here : ForEach (StateAt f.locals f.a f.a') (held_keys AtLocal first) mine
-  pub there : ForEach (StateAt f.peers f.b f.b') (held_keys AtPeer first) theirs
-  pub met : Met work walk first later limit work' mine theirs (Ok stage')
 
 module _ (f : Frame) (most : Two ℕ ℕ) (left left' : Questions) (answers : Answers) (shares : Shares) where
   -- ---- what was read
@@ -117,60 +108,31 @@ module _ (f : Frame) (most : Two ℕ ℕ) (left left' : Questions) (answers : An
         (read_states most.peer f.peers f.b f.b' h.asked.peer answers.theirs h.peer left.peer left'.peer (length (held_keys AtPeer entries.items)) shares.peer IsStateOf (held_keys AtPeer entries.items) theirs
         (record { cut = λ i. (h.of_peer i).gets; short = omega arith; budget = t.peer; counted = t.wanted.1 }) r)
 
-    -- or of the first, where the window was cut
-    first_here : (count : ℕ) (at : IsCut entries.items shares answers count) (mine : List State) → AllRead IsStateOf (front_told AtLocal (take count entries.items) answers.mine) (share_in AtLocal (take count entries.items)) mine → ForEach (StateAt f.locals f.a f.a') (held_keys AtLocal (take count entries.items)) mine
-    first_here count at mine r =
+  -- and of a window that is cut, the first
+  module _ (walk : Walking) (entries : Vec Entry Global) (h : HeardBoth f most left (Meets walk entries) answers) (t : TakesShares (Meets walk entries) left left' shares) (count : ℕ) (cut : IsCut entries.items shares answers count) where
+    first_here : (mine : List State) → AllRead IsStateOf (front_told AtLocal (take count entries.items) answers.mine) (share_in AtLocal (take count entries.items)) mine → ForEach (StateAt f.locals f.a f.a') (held_keys AtLocal (take count entries.items)) mine
+    first_here mine r =
         let ones = held_keys AtLocal (take count entries.items) in
-        let all = held_split AtLocal count entries.items in
-        let n = ap length all in
-        let same : take (length ones) at.mine ≡ r.answers = let e : Ok (take (length ones) at.mine) ≡ Ok r.answers = sym (ap (told_first (length ones)) at.from_local.is) ∙ r.is in cc in
+        let others = held_keys AtLocal (drop count entries.items) in
+        let split = held_split AtLocal count entries.items in
+        let n = ap length split in
+        let m = cut.from_local.all in
+        let each = subst (λ ts. ForEach (PassesFault IsStateOf) ts mine) (sym (first_told (length ones) (states_told answers.mine) cut.mine r.answers cut.from_local.is r.is)) r.each in
         state_of_told f.locals f.a f.a' ones mine
-        (read_first most.local f.locals f.a f.a' h.asked.local answers.mine h.local left.local left'.local (length (held_keys AtLocal entries.items)) shares.local IsStateOf ones (held_keys AtLocal (drop count entries.items)) mine at.mine
-        (record { cut = (λ i. (h.of_local i).gets) ∙ ap (take left.local) all; short = omega (arith, n); budget = t.local; counted = t.wanted.0 })
-        at.from_local.is at.from_local.counted at.from_local.all (subst (λ ts. ForEach (PassesFault IsStateOf) ts mine) (sym same) r.each))
+        (read_first most.local f.locals f.a f.a' h.asked.local answers.mine h.local left.local left'.local (length (held_keys AtLocal entries.items)) shares.local IsStateOf ones others cut.mine mine
+        (record { cut = (λ i. (h.of_local i).gets) ∙ ap (take left.local) split; short = omega (arith, n); budget = t.local; counted = t.wanted.0 }) cut.from_local.is (omega (arith, m)) cut.from_local.counted each)
 
-    first_there : (count : ℕ) (at : IsCut entries.items shares answers count) (theirs : List State) → AllRead IsStateOf (front_told AtPeer (take count entries.items) answers.theirs) (share_in AtPeer (take count entries.items)) theirs → ForEach (StateAt f.peers f.b f.b') (held_keys AtPeer (take count entries.items)) theirs
-    first_there count at theirs r =
+    first_there : (theirs : List State) → AllRead IsStateOf (front_told AtPeer (take count entries.items) answers.theirs) (share_in AtPeer (take count entries.items)) theirs → ForEach (StateAt f.peers f.b f.b') (held_keys AtPeer (take count entries.items)) theirs
+    first_there theirs r =
         let ones = held_keys AtPeer (take count entries.items) in
-        let all = held_split AtPeer count entries.items in
-        let n = ap length all in
-        let same : take (length ones) at.theirs ≡ r.answers = let e : Ok (take (length ones) at.theirs) ≡ Ok r.answers = sym (ap (told_first (length ones)) at.from_peer.is) ∙ r.is in cc in
+        let others = held_keys AtPeer (drop count entries.items) in
+        let split = held_split AtPeer count entries.items in
+        let n = ap length split in
+        let m = cut.from_peer.all in
+        let each = subst (λ ts. ForEach (PassesFault IsStateOf) ts theirs) (sym (first_told (length ones) (states_told answers.theirs) cut.theirs r.answers cut.from_peer.is r.is)) r.each in
         state_of_told f.peers f.b f.b' ones theirs
-        (read_first most.peer f.peers f.b f.b' h.asked.peer answers.theirs h.peer left.peer left'.peer (length (held_keys AtPeer entries.items)) shares.peer IsStateOf ones (held_keys AtPeer (drop count entries.items)) theirs at.theirs
-        (record { cut = (λ i. (h.of_peer i).gets) ∙ ap (take left.peer) all; short = omega (arith, n); budget = t.peer; counted = t.wanted.1 })
-        at.from_peer.is at.from_peer.counted at.from_peer.all (subst (λ ts. ForEach (PassesFault IsStateOf) ts theirs) (sym same) r.each))
-
-    -- WHAT IS MET OF THE WINDOW
-    pub met_keys : (work work' : Exchanging) (stage' : Stage) → StatesHeard work walk entries.items shares answers work' (Ok stage') → MetKeys f work walk entries.items work' stage'
-    met_keys work work' stage' (uncut none (both mine theirs m s met)) = record {
-      first = entries.items;
-      later = [];
-      limit = 1000;
-      mine = mine.items;
-      theirs = theirs.items;
-      is = append-nil entries.items;
-      limits = inl (refl, refl);
-      here = states_here mine.items m;
-      there = states_there theirs.items s;
-      met = met;
-    }
-    met_keys work work' stage' (uncut none (of_local refusal m is)) = absurd (cc)
-    met_keys work work' stage' (uncut none (of_peer mine refusal m s is)) = absurd (cc)
-    met_keys work work' stage' (cut_at count at (met_first (both mine theirs m s met))) = record {
-      first = take count entries.items;
-      later = drop count entries.items;
-      limit = count;
-      mine = mine.items;
-      theirs = theirs.items;
-      is = take-append-drop count entries.items;
-      limits = let some = at.some in let low = at.less in let n = length-take-le count entries.items (omega (arith, low)) in inr (sym n, omega (arith, n, some));
-      here = first_here count at mine.items m;
-      there = first_there count at theirs.items s;
-      met = met;
-    }
-    met_keys work work' stage' (cut_at count at (met_first (of_local refusal m is))) = absurd (cc)
-    met_keys work work' stage' (cut_at count at (met_first (of_peer mine refusal m s is))) = absurd (cc)
-    met_keys work work' stage' (cut_at count at (no_place is)) = absurd (cc)
+        (read_first most.peer f.peers f.b f.b' h.asked.peer answers.theirs h.peer left.peer left'.peer (length (held_keys AtPeer entries.items)) shares.peer IsStateOf ones others cut.theirs theirs
+        (record { cut = (λ i. (h.of_peer i).gets) ∙ ap (take left.peer) split; short = omega (arith, n); budget = t.peer; counted = t.wanted.1 }) cut.from_peer.is (omega (arith, m)) cut.from_peer.counted each)
 
   module _ (walk : Walking) (turn : Turn) (count : ℕ) (h : HeardBoth f most left (Carries walk turn count) answers) (t : TakesShares (Carries walk turn count) left left' shares) where
     pushes_here : turn.side ≡ AtLocal → (stage : Stage) → (p : Pushed walk turn (pushes_told answers.mine) shares.local stage) → ForEach (PushAt most.local f.locals f.a f.a') (take count (untold turn)) p.answers
@@ -212,9 +174,15 @@ module _ (f : Frame) (most : Two ℕ ℕ) (left left' : Questions) (answers : An
   given_hears work work' (Walks walk) stage' h t (both mine theirs m s (after, found, told, settled)) given = given_settles f.locals f.peers after found work work' stage' settled
   given_hears work work' (Walks walk) stage' h t (of_local refusal m is) given = absurd (cc)
   given_hears work work' (Walks walk) stage' h t (of_peer mine refusal m s is) given = absurd (cc)
-  given_hears work work' (Meets walk entries) stage' h t heard given =
-      let k = met_keys walk entries h t work work' stage' heard in
-      given_met f.locals f.peers work.number walk k.first k.mine k.theirs k.met.0 stage' f.a f.a' f.b f.b' k.here k.there k.met.1 k.met.2
+  given_hears work work' (Meets walk entries) stage' h t (uncut none (both mine theirs m s (meetings, plans, begins, next))) given =
+      given_met f.locals f.peers work.number walk entries.items mine.items theirs.items meetings stage' f.a f.a' f.b f.b' (states_here walk entries h t mine.items m) (states_there walk entries h t theirs.items s) plans begins
+  given_hears work work' (Meets walk entries) stage' h t (uncut none (of_local refusal m is)) given = absurd (cc)
+  given_hears work work' (Meets walk entries) stage' h t (uncut none (of_peer mine refusal m s is)) given = absurd (cc)
+  given_hears work work' (Meets walk entries) stage' h t (cut_at count cut (met_first (both mine theirs m s (meetings, plans, begins, next)))) given =
+      given_met f.locals f.peers work.number walk (take count entries.items) mine.items theirs.items meetings stage' f.a f.a' f.b f.b' (first_here walk entries h t count cut mine.items m) (first_there walk entries h t count cut theirs.items s) plans begins
+  given_hears work work' (Meets walk entries) stage' h t (cut_at count cut (met_first (of_local refusal m is))) given = absurd (cc)
+  given_hears work work' (Meets walk entries) stage' h t (cut_at count cut (met_first (of_peer mine refusal m s is))) given = absurd (cc)
+  given_hears work work' (Meets walk entries) stage' h t (cut_at count cut (no_place is)) given = absurd (cc)
   given_hears work work' (Carries walk turn count) stage' h t (same, carried) given = given_pushed walk turn (share_of turn.side shares) (told_by_side turn.side answers) (told_by_side (other_of turn.side) answers) stage' given carried
   given_hears work work' Done stage' h t never given = absurd never
   given_hears work work' (Failed fault) stage' h t never given = absurd never
@@ -242,9 +210,15 @@ module _ (f : Frame) (most : Two ℕ ℕ) (left left' : Questions) (answers : An
   caused_hears work work' (Walks walk) stage' h t (both mine theirs m s (after, found, told, settled)) c = caused_found most f.locals f.peers after found work work' stage' settled
   caused_hears work work' (Walks walk) stage' h t (of_local refusal m is) c = absurd (cc)
   caused_hears work work' (Walks walk) stage' h t (of_peer mine refusal m s is) c = absurd (cc)
-  caused_hears work work' (Meets walk entries) stage' h t heard c =
-      let k = met_keys walk entries h t work work' stage' heard in
-      caused_met most f.locals f.peers f.a f.a' f.b f.b' work.number walk k.first k.mine k.theirs k.met.0 stage' k.here k.there k.met.1 k.met.2
+  caused_hears work work' (Meets walk entries) stage' h t (uncut none (both mine theirs m s (meetings, plans, begins, next))) c =
+      caused_met most f.locals f.peers f.a f.a' f.b f.b' work.number walk entries.items mine.items theirs.items meetings stage' (states_here walk entries h t mine.items m) (states_there walk entries h t theirs.items s) plans begins
+  caused_hears work work' (Meets walk entries) stage' h t (uncut none (of_local refusal m is)) c = absurd (cc)
+  caused_hears work work' (Meets walk entries) stage' h t (uncut none (of_peer mine refusal m s is)) c = absurd (cc)
+  caused_hears work work' (Meets walk entries) stage' h t (cut_at count cut (met_first (both mine theirs m s (meetings, plans, begins, next)))) c =
+      caused_met most f.locals f.peers f.a f.a' f.b f.b' work.number walk (take count entries.items) mine.items theirs.items meetings stage' (first_here walk entries h t count cut mine.items m) (first_there walk entries h t count cut theirs.items s) plans begins
+  caused_hears work work' (Meets walk entries) stage' h t (cut_at count cut (met_first (of_local refusal m is))) c = absurd (cc)
+  caused_hears work work' (Meets walk entries) stage' h t (cut_at count cut (met_first (of_peer mine refusal m s is))) c = absurd (cc)
+  caused_hears work work' (Meets walk entries) stage' h t (cut_at count cut (no_place is)) c = absurd (cc)
   caused_hears work work' (Carries walk turn count) stage' h t (same, carried) c = caused_pushed turn.side walk turn count refl h t stage' carried c
   caused_hears work work' Done stage' h t never c = absurd never
   caused_hears work work' (Failed fault) stage' h t never c = absurd never
@@ -305,24 +279,20 @@ module _ (f : Frame) (most : Two ℕ ℕ) (left left' : Questions) (answers : An
           | inr still ↦ inr (inr (subst (AtStage f key waiting) (sym is) still))
         ]
 
-    -- its state was asked for: it is met, or waits again
-    waits_again : (later waiting waiting' : List Entry) (walk : Walking) → waiting' ≡ later ++ waiting → AtWalk f key waiting walk → AtWalk f key waiting' walk
-    waits_again later waiting waiting' walk is (inl walks) = inl walks
-    waits_again later waiting waiting' walk is (inr wait) = inr (subst (AnyOf (Fits f key)) (sym is) (any_right (Fits f key) later waiting wait))
-
-    fate_met : (work work' : Exchanging) (walk : Walking) (entries : Vec Entry Global) (stage' : Stage) → MetKeys f work walk entries.items work' stage' → Fate f key done work.waiting (Meets walk entries) → Fate f key done work'.waiting stage'
-    fate_met work work' walk entries stage' k (inl left) = inl left
-    fate_met work work' walk entries stage' k (inr (inl had)) = inr (inl had)
-    fate_met work work' walk entries stage' k (inr (inr (inl walks))) =
-        let waits : work'.waiting ≡ k.later ++ work.waiting = ap (λ (w : Exchanging). w.waiting) k.met.3 in
-        inr (inr (subst (AtStage f key work'.waiting) (sym k.met.2.is) (inl (waits_again k.later work.waiting work'.waiting walk waits walks))))
-    fate_met work work' walk entries stage' k (inr (inr (inr some))) =
-        let waits : work'.waiting ≡ k.later ++ work.waiting = ap (λ (w : Exchanging). w.waiting) k.met.3 in
-        let begins = k.met.2 in
-        elim (any_split (Fits f key) k.first k.later (subst (AnyOf (Fits f key)) (sym k.is) some)) [
-          | inl now ↦ inr (inr (subst (AtStage f key work'.waiting) (sym begins.is) (inr (turn_begins f key AtLocal k.met.0 begins.turn begins.begun (planned_any f key work.number k.first k.mine k.theirs k.met.0 k.here k.there k.met.1 now)))))
-          | inr wait ↦ inr (inr (subst (AtStage f key work'.waiting) (sym begins.is) (inl (inr (subst (AnyOf (Fits f key)) (sym waits) (any_left (Fits f key) k.later work.waiting wait))))))
-        ]
+    -- its state was asked for, and of a window that is cut it may wait again
+    fate_met : (number : Option ℕ) (waiting after : List Entry) (walk : Walking) (entries : Vec Entry Global) (first later : List Entry) (mine theirs : List State) (ms : List Meeting) (stage' : Stage)
+        → after ≡ later ++ waiting → (AnyOf (Fits f key) entries.items → AnyOf (Fits f key) first ⊎ AnyOf (Fits f key) later) → ForEach (StateAt f.locals f.a f.a') (held_keys AtLocal first) mine → ForEach (StateAt f.peers f.b f.b') (held_keys AtPeer first) theirs
+        → ArePlans number first mine theirs ms → TurnBegins walk AtLocal ms stage' → Fate f key done waiting (Meets walk entries) → Fate f key done after stage'
+    fate_met number waiting after walk entries first later mine theirs ms stage' wait parts p q plans begins fate = elim fate [
+      | inl left ↦ inl left
+      | inr (inl had) ↦ inr (inl had)
+      | inr (inr (inl (inl walks))) ↦ inr (inr (subst (AtStage f key after) (sym begins.is) (inl (inl walks))))
+      | inr (inr (inl (inr waits))) ↦ inr (inr (subst (AtStage f key after) (sym begins.is) (inl (inr (subst (AnyOf (Fits f key)) (sym wait) (any_right (Fits f key) later waiting waits))))))
+      | inr (inr (inr some)) ↦ elim (parts some) [
+        | inl here ↦ inr (inr (subst (AtStage f key after) (sym begins.is) (inr (turn_begins f key AtLocal ms begins.turn begins.begun (planned_any f key number first mine theirs ms p q plans here)))))
+        | inr again ↦ inr (inr (subst (AtStage f key after) (sym begins.is) (inl (inr (subst (AnyOf (Fits f key)) (sym wait) (any_left (Fits f key) later waiting again))))))
+      ]
+    ]
 
     -- THE ANSWERS WERE TAKEN
     pub fate_hears : (work work' : Exchanging) (stage stage' : Stage) → StageAsks stage → HeardBoth f most left stage answers → TakesShares stage left left' shares → HearsAt work stage shares answers work' (Ok stage') → GivenAt f.locals f.peers stage → Fate f key done work.waiting stage → Fate f key done work'.waiting stage'
@@ -334,7 +304,16 @@ module _ (f : Frame) (most : Two ℕ ℕ) (left left' : Questions) (answers : An
         fate_walked work work' walk after mine.items theirs.items found stage' (pages_here walk h t mine.items m) (pages_there walk h t theirs.items s) told settled fate
     fate_hears work work' (Walks walk) stage' asks h t (of_local refusal m is) given fate = absurd (cc)
     fate_hears work work' (Walks walk) stage' asks h t (of_peer mine refusal m s is) given fate = absurd (cc)
-    fate_hears work work' (Meets walk entries) stage' asks h t heard given fate = fate_met work work' walk entries stage' (met_keys walk entries h t work work' stage' heard) fate
+    fate_hears work work' (Meets walk entries) stage' asks h t (uncut none (both mine theirs m s (meetings, plans, begins, next))) given fate =
+        fate_met work.number work.waiting work'.waiting walk entries entries.items [] mine.items theirs.items meetings stage' (λ i. (next i).waiting) (λ some. inl some) (states_here walk entries h t mine.items m) (states_there walk entries h t theirs.items s) plans begins fate
+    fate_hears work work' (Meets walk entries) stage' asks h t (uncut none (of_local refusal m is)) given fate = absurd (cc)
+    fate_hears work work' (Meets walk entries) stage' asks h t (uncut none (of_peer mine refusal m s is)) given fate = absurd (cc)
+    fate_hears work work' (Meets walk entries) stage' asks h t (cut_at count cut (met_first (both mine theirs m s (meetings, plans, begins, next)))) given fate =
+        fate_met work.number work.waiting work'.waiting walk entries (take count entries.items) (drop count entries.items) mine.items theirs.items meetings stage' (λ i. (next i).waiting) (any_cut (Fits f key) count entries.items) (first_here walk entries h t count cut mine.items m) (first_there walk entries h t count cut theirs.items s)
+        plans begins fate
+    fate_hears work work' (Meets walk entries) stage' asks h t (cut_at count cut (met_first (of_local refusal m is))) given fate = absurd (cc)
+    fate_hears work work' (Meets walk entries) stage' asks h t (cut_at count cut (met_first (of_peer mine refusal m s is))) given fate = absurd (cc)
+    fate_hears work work' (Meets walk entries) stage' asks h t (cut_at count cut (no_place is)) given fate = absurd (cc)
     fate_hears work work' (Carries walk turn count) stage' asks h t (same, carried) given fate = fate_pushed turn.side walk turn count refl h t given stage' carried work'.waiting (same_fate work work' (Carries walk turn count) same fate)
     fate_hears work work' Done stage' asks h t never given fate = absurd never
     fate_hears work work' (Failed fault) stage' asks h t never given fate = absurd never
@@ -345,13 +324,13 @@ module _ (f : Frame) (most : Two ℕ ℕ) (left left' : Questions) (answers : An
   counts_hears done work work' (Walks walk) stage' (both mine theirs m s (after, found, told, settled)) c = settles_counts done after found work work' stage' settled c
   counts_hears done work work' (Walks walk) stage' (of_local refusal m is) c = absurd (cc)
   counts_hears done work work' (Walks walk) stage' (of_peer mine refusal m s is) c = absurd (cc)
-  counts_hears done work work' (Meets walk entries) stage' (uncut none (both mine theirs m s (meetings, plans, begins, same))) c = still_counts done work work' (λ i. (same i).keys) (λ i. (same i).refused) (λ i. (same i).older) (λ i. (same i).first_refused) c
+  counts_hears done work work' (Meets walk entries) stage' (uncut none (both mine theirs m s (meetings, plans, begins, next))) c = still_counts done work work' (λ i. (next i).keys) (λ i. (next i).refused) (λ i. (next i).older) (λ i. (next i).first_refused) c
   counts_hears done work work' (Meets walk entries) stage' (uncut none (of_local refusal m is)) c = absurd (cc)
   counts_hears done work work' (Meets walk entries) stage' (uncut none (of_peer mine refusal m s is)) c = absurd (cc)
-  counts_hears done work work' (Meets walk entries) stage' (cut_at count at (met_first (both mine theirs m s (meetings, plans, begins, same)))) c = still_counts done work work' (λ i. (same i).keys) (λ i. (same i).refused) (λ i. (same i).older) (λ i. (same i).first_refused) c
-  counts_hears done work work' (Meets walk entries) stage' (cut_at count at (met_first (of_local refusal m is))) c = absurd (cc)
-  counts_hears done work work' (Meets walk entries) stage' (cut_at count at (met_first (of_peer mine refusal m s is))) c = absurd (cc)
-  counts_hears done work work' (Meets walk entries) stage' (cut_at count at (no_place is)) c = absurd (cc)
+  counts_hears done work work' (Meets walk entries) stage' (cut_at count cut (met_first (both mine theirs m s (meetings, plans, begins, next)))) c = still_counts done work work' (λ i. (next i).keys) (λ i. (next i).refused) (λ i. (next i).older) (λ i. (next i).first_refused) c
+  counts_hears done work work' (Meets walk entries) stage' (cut_at count cut (met_first (of_local refusal m is))) c = absurd (cc)
+  counts_hears done work work' (Meets walk entries) stage' (cut_at count cut (met_first (of_peer mine refusal m s is))) c = absurd (cc)
+  counts_hears done work work' (Meets walk entries) stage' (cut_at count cut (no_place is)) c = absurd (cc)
   counts_hears done work work' (Carries walk turn count) stage' (same, carried) c = same_counts done work work' same c
   counts_hears done work work' Done stage' never c = absurd never
   counts_hears done work work' (Failed fault) stage' never c = absurd never

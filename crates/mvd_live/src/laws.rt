@@ -125,10 +125,10 @@ pub fn nothing_is_made_up()
         → HasNext new.machine asking (Some step) → IsGiven (all_locals legs) (all_peers legs) step }
 {}
 
-/// A session asks few questions: of each side one, five for each key at which the two differed at any two moments, and
-/// one for each thousand keys that the side holds by then; and, for keys that are asked for again since a side did not
-/// hold a state, sixteen and seven for each of the others. What is wanted next is among them. What was asked and what is
-/// left are all that may be asked: so a session with a budget of this bound does not end with 36 of its own.
+/// A session asks few questions for the first time: of each side one, five for each key at which the two differed at
+/// any two moments, and one for each thousand keys that the side holds by then. What is wanted next is among them.
+/// Others it asks again, where a get was refused with 20: sixteen, and seven for each of those, at most. What was asked
+/// and what is left are all that may be asked: so with a budget of these bounds it does not end with 36 of its own.
 pub fn a_session_asks_few()
     ensures few { (number : Option ℕ) (questions : ℕ) (most : Two ℕ ℕ) (old new : Standing) (legs : List Leg)
         (asking : Machining) (step : Option Step) (differed : List Key) → StartsRun number questions old

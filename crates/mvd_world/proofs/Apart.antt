@@ -103,7 +103,7 @@ left_apart before apart l cannot is =
 -- nor is a session
 is_none : (a b held : States) (broken : Bool) → MayFail a b held broken DotClash → ⊥
 is_none a b held broken (it_refused site key told) = true≢false key
-is_none a b held broken (all_asked e many) = absurd (cc)
+is_none a b held broken (all_asked first again mine theirs e all little few) = absurd (cc)
 
 fault_apart : (a b : States) (mine theirs : Bool) (fault : SyncFault) → IsFaultOf (MayFail a b a mine) (MayFail a b b theirs) fault → IsClashFault fault → ⊥
 fault_apart a b mine theirs fault fails is = ⊎_elim

@@ -22,7 +22,7 @@ use Rattle.mvd_site.specs.Held.{AreHeld, States, state_at}
 use Rattle.mvd_site.specs.Sites.{SiteStands, SiteValue}
 use Rattle.mvd_site.proofs.KnownKeys.{states_of-stands}
 use Rattle.mvd_site.proofs.Steps.{state_at-stands}
-use Rattle.mvd_sync.specs.Session.{AreFew, AreFewInAll, IsLittle, CanMeet, HasAllThatDiffer, HasJoined, IsIn, is_member}
+use Rattle.mvd_sync.specs.Session.{AreFew, CanMeet, HasAllThatDiffer, HasJoined, IsIn, IsLittle, is_member}
 use Rattle.mvd_peer.specs.Sides.{IsBroken, SideOf, SiteFollows, SiteRefuses, Stays, is_of_question, is_site_refusal, tells_broken}
 use Rattle.mvd_sync.specs.Faults.{IsFaultOf, of_answer, of_memory, of_questions, of_side}
 use Rattle.mvd_sync.specs.declared.report.Report.{Report}
@@ -176,30 +176,36 @@ broken_after mid site' refusal told stays whole = ⊎_elim
     (λ other. whole other ∙ sym (not_broken refusal other))
     (is_broken refusal)
 
-module _ (a b held other : States) (site site' : SiteValue) (asked wanted : ℕ) (first : IsTrue_side site) where
-  may_fail : (refusal : Refusal) → (refusal ≢ Broken → site'.broken ≡ false) → ((differing : List Key) → HasAllThatDiffer a b differing → AreFewInAll (asked + wanted) held other differing) → BlamesBy site_side 10000000 asked wanted site site' refusal → MayFail a b held other site'.broken refusal
-  may_fail refusal whole few (of_side h apart) = it_refused h.2.0 (apart first) (broken_after h.0 site' refusal h.2.1 h.3.1.1 whole)
-  may_fail refusal whole few (of_answer e untrue) = absurd (untrue first)
-  may_fail refusal whole few (of_questions e all one) = all_asked e (λ differing every. let many : asked + wanted ≡ 10000001 = omega (arith, all, one) in subst (λ n. AreFewInAll n held other differing) many (few differing every))
+-- of each of two sides those that were made for the first time, and those that were wanted, are few
+abbrev pub AreFewAt : (a b : States) (i j v w : ℕ) → List Key → Type 0
+AreFewAt a b i j v w differing = AreFew (i + v) a differing × AreFew (j + w) b differing
+
+few_of_both : (a b : States) (i j v w : ℕ) (differing : List Key) → AreFewAt a b i j v w differing → AreFew i a differing × AreFew j b differing
+few_of_both a b i j v w differing few = let m = few.0 in let n = few.1 in (omega (arith, m), omega (arith, n))
+
+module _ (a b held : States) (site site' : SiteValue) (asked wanted first again mine theirs : ℕ) (faithful : IsTrue_side site) (parts : asked ≡ first + again) (little : IsLittle again (mine + theirs)) where
+  abbrev FewOfAll : List Key → Type 0
+  FewOfAll differing = AreFew (first + wanted) held differing × AreFew mine a differing × AreFew theirs b differing
+
+  may_fail : (refusal : Refusal) → (refusal ≢ Broken → site'.broken ≡ false) → ((differing : List Key) → HasAllThatDiffer a b differing → FewOfAll differing) → BlamesBy site_side 10000000 asked wanted site site' refusal → MayFail a b held site'.broken refusal
+  may_fail refusal whole few (of_side h apart) = it_refused h.2.0 (apart faithful) (broken_after h.0 site' refusal h.2.1 h.3.1.1 whole)
+  may_fail refusal whole few (of_answer e untrue) = absurd (untrue faithful)
+  may_fail refusal whole few (of_questions e all one) = all_asked (first + wanted) again mine theirs e (omega (arith, parts, all, one)) little few
   may_fail refusal whole few (of_memory e) = it_refused (ap is_site_refusal e) (ap is_of_question e) (whole (λ is. cc) ∙ sym (ap tells_broken e))
 
-fails_for : (a b : States) (local peer local' peer' : SiteValue) (i j v w : ℕ) (result : Result Report SyncFault) → IsTrue_side local → IsTrue_side peer →
+fails_for : (a b : States) (local peer local' peer' : SiteValue) (i j v w first first' again again' : ℕ) (result : Result Report SyncFault) → IsTrue_side local → IsTrue_side peer →
     MatchResult result (λ _. local'.broken ≡ false) (λ fault. fault ≢ Local Broken → local'.broken ≡ false) →
     MatchResult result (λ _. peer'.broken ≡ false) (λ fault. fault ≢ Peer Broken → peer'.broken ≡ false) →
-    ((differing : List Key) → HasAllThatDiffer a b differing → AreFewInAll (i + v) a b differing × AreFewInAll (j + w) b a differing) →
+    (i ≡ first + again) × (j ≡ first' + again') → IsLittle again (first + first') × IsLittle again' (first + first') →
+    ((differing : List Key) → HasAllThatDiffer a b differing → AreFewAt a b first first' v w differing) →
     IfErr result (IsFaultOf (BlamesBy site_side 10000000 i v local local') (BlamesBy site_side 10000000 j w peer peer')) → FailsFor a b local'.broken peer'.broken result
-fails_for a b local peer local' peer' i j v w (Ok report) first second mine theirs few cause = tt
-fails_for a b local peer local' peer' i j v w (Err (Local refusal)) first second mine theirs few cause =
-    may_fail a b a b local local' i v first refusal (λ other. mine (λ e. other (let is : refusal ≡ Broken = cc in is))) (λ differing every. (few differing every).0) cause
-fails_for a b local peer local' peer' i j v w (Err (Peer refusal)) first second mine theirs few cause =
-    may_fail a b b a peer peer' j w second refusal (λ other. theirs (λ e. other (let is : refusal ≡ Broken = cc in is))) (λ differing every. (few differing every).1) cause
-
--- few for the first time, and few again
-few_in_all : {a b : States} {differing : List Key} {i j v w f g m n : ℕ} → AreFew (f + v) a differing × AreFew (g + w) b differing → (i ≡ f + m) × (j ≡ g + n) → IsLittle m (f + g) × IsLittle n (f + g) → AreFewInAll (i + v) a b differing × AreFewInAll (j + w) b a differing
-few_in_all {a} {b} {differing} {i} {j} {v} {w} {f} {g} {m} {n} few parts little = (
-  record { firsts = f + v; others = g + w; again = m; is = let e = parts.0 in omega (arith, e); few = few.0; few_others = few.1; little = let k = little.0 in omega (arith, k) },
-  record { firsts = g + w; others = f + v; again = n; is = let e = parts.1 in omega (arith, e); few = few.1; few_others = few.0; little = let k = little.1 in omega (arith, k) },
-)
+fails_for a b local peer local' peer' i j v w first first' again again' (Ok report) faithful second mine theirs parts little few cause = tt
+fails_for a b local peer local' peer' i j v w first first' again again' (Err (Local refusal)) faithful second mine theirs parts little few cause =
+    may_fail a b a local local' i v first again first first' faithful parts.0 little.0 refusal (λ other. mine (λ e. other (let is : refusal ≡ Broken = cc in is)))
+    (λ differing every. let n = few differing every in let p = few_of_both a b first first' v w differing n in (n.0, p.0, p.1)) cause
+fails_for a b local peer local' peer' i j v w first first' again again' (Err (Peer refusal)) faithful second mine theirs parts little few cause =
+    may_fail a b b peer peer' j w first' again' first first' second parts.1 little.1 refusal (λ other. theirs (λ e. other (let is : refusal ≡ Broken = cc in is)))
+    (λ differing every. let n = few differing every in let p = few_of_both a b first first' v w differing n in (n.1, p.0, p.1)) cause
 
 -- ---- and what it does
 
@@ -222,7 +228,8 @@ sites_meet local peer local' peer' result first second held held' session V W st
       peer_breaks = breaks_by (Peer Broken) is_peer_broken peer.broken peer'.broken result second.0 there;
       at_once = subst₂ (λ a b. ToldAtOnce a b m.joined result) (sym first.0) (sym second.0) tt;
       fails = subst₂ (λ a b. FailsFor a b local'.broken peer'.broken result) a_is b_is
-          (fails_for local.states peer.states local peer local' peer' session.course.asked_local session.course.asked_peer session.course.wanted_local session.course.wanted_peer result first second here there (λ differing every. (few_in_all (session.few first second differing every) session.course.parts session.again)) session.course.cause);
+          (fails_for local.states peer.states local peer local' peer' session.course.asked_local session.course.asked_peer session.course.wanted_local session.course.wanted_peer
+          session.course.first_local session.course.first_peer session.course.again_local session.course.again_peer result first second here there session.course.parts session.again (session.few first second) session.course.cause);
       local_stands = λ is. joined_stands m.joined local.states peer.states local'.states V W (stands first.0) (stands' second.0) held (m.joins.local_side (is, held));
       peer_stands = λ is. given_stands m.joined m.given local.states peer.states peer'.states V W first.1 second.1 (stands first.0) (stands' second.0) held' m.joins.part m.joins.met (m.joins.peer_side (is, held'));
     }

@@ -1,5 +1,5 @@
 -- What a session is to push was sent: it is what the other site told.
-use Rattle.std.proofs.Common.{◌≡◌, ℕ, Bool, true, false, cond, List, [], ◌∷◌, ◌++◌, map, length, drop, take, refl, sym, ap, ◌∙◌, subst, arith, Option, Some, None}
+use Rattle.std.proofs.Common.{◌≡◌, ℕ, Bool, true, false, cond, List, [], ◌∷◌, ◌++◌, map, length, take, drop, refl, sym, ap, ◌∙◌, subst, arith, Option, Some, None}
 use Rattle.std.specs.Prelude.{IfSome, IfOk, Result, Ok, Err}
 use Rattle.std.proofs.lemmas.List.{take_all, take-append-drop}
 use Rattle.mvd_dots.specs.declared.refusals.Refusal.{Refusal}
@@ -8,9 +8,9 @@ use Rattle.mvd_keys.specs.Writes.{Key}
 use Rattle.mvd_peer.specs.PushedStates.{Each}
 use Rattle.mvd_peer.specs.Windows.{ForEach}
 use Rattle.mvd_sync.specs.Exchanges.{Exchanging}
-use Rattle.mvd_sync.specs.Fronts.{IsWhole, told_first}
+use Rattle.mvd_sync.specs.Fronts.{IsWhole, StateAnswer, front_told, share_in, told_first}
 use Rattle.mvd_sync.specs.Made.{PassesFault}
-use Rattle.mvd_sync.specs.Machines.{CarriedOn, GoesAlone, HasNext, HearsAt, IsStep, Machining, SettlesFound, StageHears, StageWent, TakesShares, TakesTold, TurnBegins, both, counts, ends, equal, fills, goes, goes_on, hears, here, is_same, last, none_found, of_local, of_other, of_peer, of_side, on, other_of, quiet, share_of, told_by_side, turns, waits, wanted_at, wanted_count, cut as cut_at, met as met_first, no_room as no_place, whole as uncut}
+use Rattle.mvd_sync.specs.Machines.{CarriedOn, GoesAlone, HasNext, HearsAt, IsStep, Machining, SettlesFound, StageHears, StageWent, TakesShares, TakesTold, TurnBegins, both, counts, cut as cut_at, ends, equal, fills, goes, goes_on, hears, here, is_same, last, met as met_first, no_room as no_place, none_found, of_local, of_other, of_peer, of_side, on, other_of, quiet, share_of, told_by_side, turns, waits, wanted_at, wanted_count, whole as uncut}
 use Rattle.mvd_sync.specs.Meetings.{ArePlans, held_keys, noted, taken_from}
 use Rattle.mvd_sync.specs.OneTurn.{BeginsTurn, IsSameTurn, untold}
 use Rattle.mvd_sync.specs.Questions.{TakesBudget}
@@ -33,7 +33,7 @@ use Rattle.mvd_sync.specs.declared.telling.Shares.{Shares}
 use Rattle.mvd_sync.specs.declared.telling.Told.{Told}
 use Rattle.mvd_sync.specs.declared.telling.Told.TheVariants as telling
 use Rattle.mvd_sync.specs.declared.turn.Turn.{Turn}
-use Rattle.mvd_sync.proofs.CutWindows.{first_each, held_split}
+use Rattle.mvd_sync.proofs.CutWindows.{held_split}
 use Rattle.mvd_sync.proofs.Descents.{Each-right, Each-take}
 use Rattle.mvd_sync.proofs.Handing.{gives_given, gives_good, pulls_given, pulls_good}
 use Rattle.mvd_sync.proofs.Keys.{Each-weaker}
@@ -81,7 +81,7 @@ module _ (messages : List SentMessage) where
   settles walk found old new stage (none_found none same is) = subst (IsOfSent messages) (sym is) tt
   settles walk found old new stage (equal e some differs same is) = subst (IsOfSent messages) (sym is) tt
   settles walk found old new stage (waits e some differs same low is) = subst (IsOfSent messages) (sym is) tt
-  settles walk found old new stage (fills e entries some differs long list any same is) = subst (IsOfSent messages) (sym is) tt
+  settles walk found old new stage (fills e entries some differs full list one same is) = subst (IsOfSent messages) (sym is) tt
 
   noted_gives : (ms : List Meeting) (told : List (Result (Unit {0}) Refusal)) → Each (λ (m : Meeting). IfSome m.give (SentAs messages m.key)) ms → Each (λ (m : Meeting). IfSome m.give (SentAs messages m.key)) (noted AtLocal ms told)
   noted_gives [] told each = tt
@@ -90,7 +90,7 @@ module _ (messages : List SentMessage) where
   alone : (work : Exchanging) (stage : Stage) (work' : Exchanging) (stage' : Stage) → GoesAlone work stage work' stage' → IsOfSent messages stage → IsOfSent messages stage'
   alone work (Descends level) work' stage' g given = subst (IsOfSent messages) (sym g.1) tt
   alone work (Walks walk) work' stage' (goes_on walk' found g settled) given = settles walk' found work work' stage' settled
-  alone work (Walks walk) work' stage' (last entries walked list any same is) given = subst (IsOfSent messages) (sym is) tt
+  alone work (Walks walk) work' stage' (last entries walked list one same is) given = subst (IsOfSent messages) (sym is) tt
   alone work (Walks walk) work' stage' (ends walked none same is) given = subst (IsOfSent messages) (sym is) tt
   alone work (Carries walk turn count) work' stage' (counts side adds is) given = subst (IsOfSent messages) (sym is) tt
   alone work (Carries walk turn count) work' stage' (turns side same begins) given =
@@ -227,15 +227,26 @@ read_sent setting site before window t after keys left left' share read asks cut
     each_state (SentAs after.messages) keys all.answers read
     (subst (λ ks. ForEach (λ key r. IfOk r (λ s. WasSent after.messages (key, s))) ks all.answers) whole (site_sent setting site before window t after asks all.answers all.is)) all.each
 
--- or the first of it, where the window was cut
-pub read_first : (setting : Setting) (site : ℕ) (before : Knowledge) (window : Option Window) (t : Option Told) (after : Knowledge) (keys ones others : List Key) (left left' : ℕ) (share : Share) (answers : List (Result State Refusal)) (read : List State) → AsksOneSite setting site before window t after
-    → (asked_in window).gets ≡ take left keys → keys ≡ ones ++ others → TakesBudget left left' (length keys) share.asked → share.wanted ≡ length keys → IsWhole t share answers → AllRead IsStateOf (told_first (length ones) (states_told t)) (record { asked = length ones; wanted = length ones }) read → ForEach (SentAs after.messages) ones read
-read_first setting site before window t after keys ones others left left' share answers read asks cut parts budget counted told all =
-    let whole : (asked_in window).gets ≡ ones ++ others = cut ∙ take_all left keys (let e = budget.spent in let s = told.all in omega (arith, e, s, counted)) ∙ parts in
-    let same : take (length ones) answers ≡ all.answers = let e : Ok (take (length ones) answers) ≡ Ok all.answers = sym (ap (told_first (length ones)) told.is) ∙ all.is in cc in
+each_first : {A : Type 0} (P : Key → A → Type 0) (ones others : List Key) (answers : List A) → ForEach P (ones ++ others) answers → ForEach P ones (take (length ones) answers)
+each_first P [] others [] h = tt
+each_first P [] others (t ∷ answers) h = tt
+each_first P (key ∷ ones) others [] h = absurd h
+each_first P (key ∷ ones) others (t ∷ answers) h = (h.0, each_first P ones others answers h.1)
+
+-- and of a window that is cut so are the first
+pub first_sent : (setting : Setting) (site : ℕ) (before : Knowledge) (window : Option Window) (t : Option Told) (after : Knowledge) (side : Side) (entries : List Entry) (count left left' : ℕ) (share : Share) (answers : List StateAnswer) (read : List State) → AsksOneSite setting site before window t after
+    → (asked_in window).gets ≡ take left (held_keys side entries) → TakesBudget left left' (length (held_keys side entries)) share.asked → share.wanted ≡ length (held_keys side entries) → IsWhole t share answers
+    → AllRead IsStateOf (front_told side (take count entries) t) (share_in side (take count entries)) read → ForEach (SentAs after.messages) (held_keys side (take count entries)) read
+first_sent setting site before window t after side entries count left left' share answers read asks cut budget counted whole all =
+    let P : Key → StateAnswer → Type 0 = λ key r. IfOk r (λ s. WasSent after.messages (key, s)) in
+    let ones = held_keys side (take count entries) in
+    let others = held_keys side (drop count entries) in
+    let every : (asked_in window).gets ≡ ones ++ others =
+        cut ∙ take_all left (held_keys side entries) (let e = budget.spent in let s = whole.all in omega (arith, e, s, counted)) ∙ held_split side count entries in
+    let first : Ok (take (length ones) answers) ≡ Ok all.answers = sym (ap (told_first (length ones)) whole.is) ∙ all.is in
+    let same : take (length ones) answers ≡ all.answers = cc in
     each_state (SentAs after.messages) ones all.answers read
-    (subst (λ ts. ForEach (λ key r. IfOk r (λ s. WasSent after.messages (key, s))) ones ts) same (first_each (λ key r. IfOk r (λ s. WasSent after.messages (key, s))) ones others answers
-    (subst (λ ks. ForEach (λ key r. IfOk r (λ s. WasSent after.messages (key, s))) ks answers) whole (site_sent setting site before window t after asks answers told.is)))) all.each
+    (subst (ForEach P ones) same (each_first P ones others answers (subst (λ ks. ForEach P ks answers) every (site_sent setting site before window t after asks answers whole.is)))) all.each
 
 -- ---- a window
 
@@ -268,19 +279,17 @@ module _ (setting : Setting) (local peer : ℕ) (before : Knowledge) (asking : M
       (read_sent setting local before step.local window.mine window.between (held_keys AtLocal entries.items) asking.left.local left'.local shares.local mine.items window.local_side ((λ i. (asks.local i).gets) ∙ ap (λ g. take asking.left.local (wanted_at AtLocal g).gets) at) t.local t.wanted.0 m))
       (read_sent setting peer window.between step.peer window.theirs after (held_keys AtPeer entries.items) asking.left.peer left'.peer shares.peer theirs.items window.peer_side ((λ i. (asks.peer i).gets) ∙ ap (λ g. take asking.left.peer (wanted_at AtPeer g).gets) at) t.peer t.wanted.1 s)
       plans begins
-  heard (Meets walk entries) stage' left' work' shares at t (uncut none (of_local refusal m is)) given = absurd (cc)
-  heard (Meets walk entries) stage' left' work' shares at t (uncut none (of_peer mine refusal m s is)) given = absurd (cc)
   heard (Meets walk entries) stage' left' work' shares at t (cut_at count cut (met_first (both mine theirs m s (meetings, plans, begins, next)))) given =
-      let first = take count entries.items in
-      let later = drop count entries.items in
-      planned after.messages asking.work.number walk first mine.items theirs.items meetings stage'
-      (for_each_may (SentAs window.between.messages) (SentAs after.messages) more_after (held_keys AtLocal first) mine.items
-      (read_first setting local before step.local window.mine window.between (held_keys AtLocal entries.items) (held_keys AtLocal first) (held_keys AtLocal later) asking.left.local left'.local shares.local cut.mine mine.items window.local_side ((λ i. (asks.local i).gets) ∙ ap (λ g. take asking.left.local (wanted_at AtLocal g).gets) at) (held_split AtLocal count entries.items) t.local t.wanted.0 cut.from_local m))
-      (read_first setting peer window.between step.peer window.theirs after (held_keys AtPeer entries.items) (held_keys AtPeer first) (held_keys AtPeer later) asking.left.peer left'.peer shares.peer cut.theirs theirs.items window.peer_side ((λ i. (asks.peer i).gets) ∙ ap (λ g. take asking.left.peer (wanted_at AtPeer g).gets) at) (held_split AtPeer count entries.items) t.peer t.wanted.1 cut.from_peer s)
+      planned after.messages asking.work.number walk (take count entries.items) mine.items theirs.items meetings stage'
+      (for_each_may (SentAs window.between.messages) (SentAs after.messages) more_after (held_keys AtLocal (take count entries.items)) mine.items
+      (first_sent setting local before step.local window.mine window.between AtLocal entries.items count asking.left.local left'.local shares.local cut.mine mine.items window.local_side ((λ i. (asks.local i).gets) ∙ ap (λ g. take asking.left.local (wanted_at AtLocal g).gets) at) t.local t.wanted.0 cut.from_local m))
+      (first_sent setting peer window.between step.peer window.theirs after AtPeer entries.items count asking.left.peer left'.peer shares.peer cut.theirs theirs.items window.peer_side ((λ i. (asks.peer i).gets) ∙ ap (λ g. take asking.left.peer (wanted_at AtPeer g).gets) at) t.peer t.wanted.1 cut.from_peer s)
       plans begins
   heard (Meets walk entries) stage' left' work' shares at t (cut_at count cut (met_first (of_local refusal m is))) given = absurd (cc)
   heard (Meets walk entries) stage' left' work' shares at t (cut_at count cut (met_first (of_peer mine refusal m s is))) given = absurd (cc)
   heard (Meets walk entries) stage' left' work' shares at t (cut_at count cut (no_place is)) given = absurd (cc)
+  heard (Meets walk entries) stage' left' work' shares at t (uncut none (of_local refusal m is)) given = absurd (cc)
+  heard (Meets walk entries) stage' left' work' shares at t (uncut none (of_peer mine refusal m s is)) given = absurd (cc)
   heard (Carries walk turn count) stage' left' work' shares at t (same, on_it) given = carried after.messages walk turn (share_of turn.side shares) (told_by_side turn.side (record { mine = window.mine; theirs = window.theirs })) (told_by_side (other_of turn.side) (record { mine = window.mine; theirs = window.theirs })) stage' given on_it
   heard Done stage' left' work' shares at t never given = absurd never
   heard (Failed fault) stage' left' work' shares at t never given = absurd never

@@ -1,7 +1,7 @@
 -- Sites that write, are asked, send each other states of keys and hold sessions, as a machine over sets of writes: what
 -- is lost, repeated or comes out of order is a matter of which steps are taken, and no map of states is kept in it.
 use Rattle.std.specs.Prelude.{◌≡◌, ◌⊎◌, ℕ, Bool, true, false, not, ◌&&◌, ◌||◌, ◌==◌, nat_lt, nat_le, ◌-◌, if◌then◌else◌}
-use Rattle.std.specs.Prelude.{List, [], ◌∷◌, ◌++◌, length, filter, is_some, Contains, MatchBool, Option, Some, None}
+use Rattle.std.specs.Prelude.{◌+◌, List, [], ◌∷◌, ◌++◌, length, filter, is_some, Contains, MatchBool, Option, Some, None}
 use Rattle.std.specs.Prelude.{Result, Ok, Err, ◌≢◌, IfOk, IfErr, ⊤}
 use Rattle.std.specs.List.{slice_get}
 use Rattle.mvd_dots.specs.Dot.{DotValue}
@@ -20,7 +20,7 @@ use Rattle.mvd_site.specs.Config.{ConfigValue}
 use Rattle.mvd_site.specs.FromStates.{unless_broken}
 use Rattle.mvd_site.specs.Held.{States}
 use Rattle.mvd_site.specs.Known.{Adds, ChangesKey, MayReply}
-use Rattle.mvd_sync.specs.Session.{AreFewInAll, Before, CanMeet, HasAllThatDiffer, IsIn, ReportsDone, is_member}
+use Rattle.mvd_sync.specs.Session.{AreFew, Before, CanMeet, HasAllThatDiffer, IsIn, IsLittle, ReportsDone, is_member}
 use Rattle.mvd_peer.specs.PushedStates.{Each}
 use Rattle.mvd_sync.specs.Faults.{IsFaultOf}
 use Rattle.mvd_peer.specs.Sides.{is_of_question, is_site_refusal, tells_broken}
@@ -192,20 +192,22 @@ ToldAtOnce false false joined result = ⊤
 ToldAtOnce false true joined result = (result ≡ Err (Peer Broken)) × (joined ≡ [])
 ToldAtOnce true peer_was joined result = (result ≡ Err (Local Broken)) × (joined ≡ [])
 
--- Why a session of two sites that held `a` and `b` ends by the one that held `held`, where the other held `other`, and is
--- broken afterwards or not:
+-- Why a session of two sites that held `a` and `b` ends by the one that held `held`, and is broken afterwards or not:
 -- by a refusal of the site that is not of one question alone, which is 20 or 22; or all questions were made to it and
--- one more was wanted, which are many only where many keys differ
-pub data MayFail (a b held other : States) (broken : Bool) (refusal : Refusal) : Type 0 where
+-- one more was wanted. Those that are made to each for the first time, and that one, are many only where many keys
+-- differ; and of the others there are at most sixteen, and seven for each of them
+pub data MayFail (a b held : States) (broken : Bool) (refusal : Refusal) : Type 0 where
   it_refused : is_site_refusal refusal ≡ true → is_of_question refusal ≡ false → broken ≡ tells_broken refusal
-      → MayFail a b held other broken refusal
-  all_asked : refusal ≡ TooManyRequests
-      → ((differing : List Key) → HasAllThatDiffer a b differing → AreFewInAll 10000001 held other differing)
-      → MayFail a b held other broken refusal
+      → MayFail a b held broken refusal
+  all_asked : (first again mine theirs : ℕ) → refusal ≡ TooManyRequests → first + again ≡ 10000001
+      → IsLittle again (mine + theirs)
+      → ((differing : List Key) → HasAllThatDiffer a b differing
+      → AreFew first held differing × AreFew mine a differing × AreFew theirs b differing)
+      → MayFail a b held broken refusal
 
 abbrev pub FailsFor : States → States → Bool → Bool → Result Report SyncFault → Type 0
 FailsFor a b local_broken peer_broken result =
-    IfErr result (IsFaultOf (MayFail a b a b local_broken) (MayFail a b b a peer_broken))
+    IfErr result (IsFaultOf (MayFail a b a local_broken) (MayFail a b b peer_broken))
 
 -- two sites that know these writes, as a session begins; the local one has this number
 abbrev pub two_sites : (mine theirs : ConfigValue) → ℕ → (V W : List Write) → Before

@@ -246,11 +246,10 @@ def by_commands(place, server, other, right, wrong):
         elif done[:2] != (1, "refused 38 NotAdmitted\n" * 2) or "fault 38" not in done[2] or hint not in done[2]:
             miss(f"a shell without the token was told {done}")
     done = place.run("sync", "--port", port, "--with", far, "--token-file", right)
-    if done[0] != 0 or "keys " not in done[1]:
+    told = [line.split() for line in done[1].splitlines()]
+    roots = [["root", f"127.0.0.1:{at}"] for at in (port, far)]
+    if done[0] != 0 or told[0][0] != "keys" or [root[:2] for root in told[1:]] != roots or told[1][2] != told[2][2]:
         miss(f"servers that ask for one token did not meet: {done}")
-    done = place.run("sync", "--port", port, "--with", f"{far},{far}", "--every", "1", "--times", "2", "--verbose", "--token-file", right)
-    if done[0] != 0 or done[1].count("keys ") != 4:
-        miss(f"servers that ask for one token did not meet again: {done}")
     done = place.run("shell", "--port", port, "--token-file", right, lines="get web\n")
     if done[0] != 0 or '{"a":1}' not in done[1]:
         miss(f"a shell with the token was told {done}")
@@ -300,8 +299,8 @@ FRAMES = [
 ]
 
 # the same in lines of a shell
-LINES = {"get u1/x": "yyyy", "get u2/x": "yynn", "put u1/x - {}": "ynyn", "put u2/x - {}": "ynnn", "del u1/x 1:1": "ynyn", "keys u1/": "yyyy", "keys": "yynn",
-         "conflicts": "yynn", "root": "yynn"}
+LINES = {"get u1/x": "yyyy", "get u2/x": "yynn", "put u1/x - {}": "ynyn", "put u2/x - {}": "ynnn", "get u1/y": "yyyy", "get u2/y": "yynn"}
+TOLD = ("context ", "dot ", "refused ")
 
 # the same over HTTP: a method, a path and a body
 ASKED = [
@@ -400,10 +399,10 @@ def by_commands_of_rights(place):
                 miss(f"a session with a token of all rights ended so: {done}")
         else:
             fails(place.run("sync", *local, *words), "38 NotAdmitted")
-        # Behind the first 38 a shell asks no more, so each line has a shell of its own.
-        told = [place.run("shell", *words, lines=line + "\n") for line in LINES]
-        if ["n" if one[1] == "refused 38 NotAdmitted\n" else "y" for one in told] != [allowed[TOKENS.index(token)] for allowed in LINES.values()]:
-            miss(f"shells with {token} were told {told}")
+        done = place.run("shell", *words, lines="".join(line + "\n" for line in LINES))
+        told = [line == "refused 38 NotAdmitted" for line in done[1].splitlines() if line.startswith(TOLD)]
+        if done[0] != 0 or told != [allowed[TOKENS.index(token)] == "n" for allowed in LINES.values()]:
+            miss(f"a shell with {token} was told {done}")
     for token in READS, BELOW, READS_BELOW:
         status, fields, told = server.asked("POST", "/stop", f"Bearer {token}")
         if (status, told) != (403, UNTOLD):

@@ -5,7 +5,7 @@ usage: tools/cluster.py [--short] [--between] PROGRAM [SEED..]
 
 PROGRAM is `mvd` as built. A run is named by its seed; without one, 20 runs are made of the seeds 1 to 20, and with --short two of
 6 seconds. The servers stand in a ring or in a star, and meet each other by `serve --peer` through relays: either end of an edge names
-the other, or both do. With --between `mvd sync --with` goes between them, in processes of its own. For CLUSTER_SECONDS (30)
+the other, or both do. With --between `mvd sync --with` runs between them, again and again. For CLUSTER_SECONDS (30)
 writers read, resolve, put blindly and delete over frames and HTTP, while servers are killed and started again, are stopped and go
 on, and relays cut, delay and hold back connections. Then the faults stop, and it is checked that
 - all roots are equal soon: within two seconds, but with --short or --between,
@@ -211,16 +211,22 @@ class Naming:
 
 
 class Between:
-    """Sessions between two servers, each through a relay, in a process of its own."""
+    """Sessions of two servers, each through a relay and in a process of its own, a second apart."""
 
     def __init__(self, program, one, other):
         self.relays = [Relay(one.port), Relay(other.port)]
-        words = [program, "sync", "--port", self.relays[0].port, "--with", self.relays[1].port, "--every", 1, "--idle", 3]
-        self.process = subprocess.Popen([str(word) for word in words], stdout=subprocess.DEVNULL, stderr=subprocess.DEVNULL)
+        self.words = [program, "sync", "--port", self.relays[0].port, "--with", self.relays[1].port, "--idle", 3]
+        self.ended = threading.Event()
+        self.thread = threading.Thread(target=self.meet, daemon=True)
+        self.thread.start()
+
+    def meet(self):
+        while not self.ended.wait(1):
+            subprocess.run([str(word) for word in self.words], stdout=subprocess.DEVNULL, stderr=subprocess.DEVNULL)
 
     def end(self):
-        self.process.kill()
-        self.process.wait()
+        self.ended.set()
+        self.thread.join()
 
 
 # ---- writers

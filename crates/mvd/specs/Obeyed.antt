@@ -42,13 +42,13 @@ unread_status (of_order.Stopped refusal) = 1
 module _ {D : Type 0} {g : disk.Ghosts D} (f : Ghosts (FileStore D g)) {K L : Type 0} (k : SocketGhosts K)
     (line : LineGhosts L) (gives : SocketAddr → L → Type 0) (image : Image) where
   -- an order is done, and the status is of how that ended; without an order nothing is done
-  abbrev pub DoesRead : Result Order OrderFault → Outside K → Outside K → ℕ → Type 0
+  abbrev pub DoesRead : Result Order OrderFault → Outside K L → Outside K L → ℕ → Type 0
   DoesRead (Ok order) was now status =
       (ran : Ran (SiteLeft D g f)) × DoesOrder f k line gives image order was now ran × (status ≡ status_after ran.ended)
   DoesRead (Err fault) was now status = (now ≡ was) × (status ≡ unread_status fault)
 
   -- WHAT THE WORDS ASK FOR IS DONE, if they ask for something
-  pub record Obeys (words : List Text) (was now : Outside K) (status : ℕ) : Type 0 where
+  pub record Obeys (words : List Text) (was now : Outside K L) (status : ℕ) : Type 0 where
     pub read : Result Order OrderFault
     pub reads : ReadsWords words read
     pub does : DoesRead read was now status

@@ -9,7 +9,7 @@ ghost use Rattle.mvd_app.specs.Tasks.{outside};
 ghost use Rattle.sqlite.specs.WalFiles.{image_at};
 
 use mvd_app::{Direct, Stop, run};
-use mvd_client::Dial;
+use mvd_client::{Dial, Gone};
 use mvd_dots::Refusal;
 use mvd_input::{Fault, OrderFault, order_of};
 use mvd_server::Sockets;
@@ -35,12 +35,14 @@ fn started(rt: &HostRuntime, words: &[String]) -> io::Result<ExitCode> {
     let mut writer = io::writer(rt);
     let mut sockets = Direct {};
     let dial = mvd_app::Sockets(rt);
+    let mut gone = Gone::new();
     // A torn write is taken to leave each byte old or new.
     Ok(obey(
         rt,
         &texts,
         Unknown,
         &dial,
+        &mut gone,
         &mut sockets,
         &mut reader,
         &mut writer,
@@ -53,18 +55,19 @@ fn obey<'a, S: Start, D: Dial, K: Sockets, R: BufRead, W: Write>(
     words: &'a [&'a str],
     start: S,
     dial: &D,
+    gone: &mut Gone<D::Dialed>,
     sockets: &mut K,
     reader: &mut R,
     writer: &mut W,
 ) -> ExitCode
     // The order of the words is done, and the status is of how that ended. Or the words are no order, and nothing is.
     ensures { Obeys ⟦<FileStore<FileFrom<S>> as Store>⟧ K.Sockets D.Dialed.Line (D.gives dial.now) (image_at S.Start)
-        (texts_of words.now) (outside sockets.old (R.remaining reader.old) (W.contents writer.old))
-        (outside sockets.new (R.remaining reader.new) (W.contents writer.new)) (exit_status result) }
+        (texts_of words.now) (outside sockets.old gone.old (R.remaining reader.old) (W.contents writer.old))
+        (outside sockets.new gone.new (R.remaining reader.new) (W.contents writer.new)) (exit_status result) }
 {
     match order_of(rt.alloc(), words) {
         Ok(order) => {
-            let ran = run(rt, order, start, dial, sockets, reader, writer);
+            let ran = run(rt, order, start, dial, gone, sockets, reader, writer);
             status(rt, &ran.ended)
         }
         Err(fault) => {

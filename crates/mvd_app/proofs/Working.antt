@@ -102,16 +102,16 @@ module _ {S : Type 0} {g : Ghosts S} where
 
   -- ---- a task
 
-  module _ {K L : Type 0} (k : SocketGhosts K) (line : LineGhosts L) (gives : SocketAddr → L → Type 0) (tokens : Option Tokens) (was now : Outside K) (old new : Replica S g)
+  module _ {K L : Type 0} (k : SocketGhosts K) (line : LineGhosts L) (gives : SocketAddr → L → Type 0) (tokens : Option Tokens) (was now : Outside K L) (old new : Replica S g)
       (turns : List Turn) (result : Result (Unit {0}) Stop) where
     -- keeps the writes known
     pub does_work : (task : Task) → DoesTask k line gives task tokens was old now new turns result → WorksOn (stored_of old) (stored_of new)
-    does_work Serving (it, is) = served_works old new it.served
-    does_work Typing (it, is) = asks_work old new (record { exchanges = it.exchanges; answered = it.asked })
+    does_work Serving (it, is, still) = served_works old new it.served
+    does_work Typing (it, is, still) = asks_work old new (record { exchanges = it.exchanges; answered = it.asked })
     does_work (Syncing address) (it, is) = pushed_works old new it.pushed
 
     -- and its turns are all that was done
     pub does_by : (task : Task) → DoesTask k line gives task tokens was old now new turns result → HasWrites (site_of old) → WorksBy turns (stored_of old) (stored_of new)
-    does_by Serving (it, is) writes = by_turns old new turns (turns_of (turns_in it.served.all)) is (served_by old new it.served)
-    does_by Typing (it, is) writes = by_turns old new turns (turns_asked it.exchanges) is (asked_by it.exchanges old new writes it.valid it.asked)
+    does_by Serving (it, is, still) writes = by_turns old new turns (turns_of (turns_in it.served.all)) is (served_by old new it.served)
+    does_by Typing (it, is, still) writes = by_turns old new turns (turns_asked it.exchanges) is (asked_by it.exchanges old new writes it.valid it.asked)
     does_by (Syncing address) (it, is) writes = by_turns old new turns it.takes.turns is (pushed_by old new it.takes)

@@ -24,10 +24,10 @@ use Rattle.sqlite_disk.specs.declared.Disk as disk
 use Rattle.sqlite_store.specs.declared.store.FileStore.{FileStore}
 use Rattle.sqlite_trees.specs.declared.store.Store.{Ghosts}
 
-module _ {D : Type 0} {g : disk.Ghosts D} (f : Ghosts (FileStore D g)) {K : Type 0} where
+module _ {D : Type 0} {g : disk.Ghosts D} (f : Ghosts (FileStore D g)) {K L : Type 0} where
   -- The site was not opened, and nothing came or left: a file of definitions or with a token stopped the command, which
   -- the order names; or the site's own file did. What the command is stopped with is of that file
-  pub record IsUnopened (image : Image) (filed : Filed) (was now : Outside K) (ran : Ran (SiteLeft D g f)) : Type 0 where
+  pub record IsUnopened (image : Image) (filed : Filed) (was now : Outside K L) (ran : Ran (SiteLeft D g f)) : Type 0 where
     pub left : ran.left ≡ None
     pub still : now ≡ was
     pub stop : Stop
@@ -39,7 +39,7 @@ module _ {D : Type 0} {g : disk.Ghosts D} (f : Ghosts (FileStore D g)) {K L : Ty
     (line : LineGhosts L) (gives : SocketAddr → L → Type 0) where
   -- The site that is set up so was opened, its task was done and nothing else, and it was closed, or comes back: it is
   -- broken, cannot be closed, or came to harm that bars it
-  pub record HasDone (image : Image) (filed : Filed) (was now : Outside K) (ran : Ran (SiteLeft D g f)) : Type 0 where
+  pub record HasDone (image : Image) (filed : Filed) (was now : Outside K L) (ran : Ran (SiteLeft D g f)) : Type 0 where
     pub config : ConfigValue
     pub set_up : IsConfigFor filed.setup config
     pub old : Replica (FileStore D g) f
@@ -59,23 +59,25 @@ module _ {D : Type 0} {g : disk.Ghosts D} (f : Ghosts (FileStore D g)) {K L : Ty
     pub kept : IfSome (closed_in left) (LeavesFile g image filed.setup.site)
     pub ends : EndsAs filed.db harm worked left (site_of new).broken ran.ended
 
-  abbrev pub DoesFile : Image → Filed → Outside K → Outside K → Ran (SiteLeft D g f) → Type 0
+  abbrev pub DoesFile : Image → Filed → Outside K L → Outside K L → Ran (SiteLeft D g f) → Type 0
   DoesFile image filed was now ran = IsUnopened f image filed was now ran ⊎ HasDone image filed was now ran
 
   -- what an order without a file does
-  abbrev pub DoesBeside : Order → Outside K → Outside K → Result (Unit {0}) Stop → Type 0
-  DoesBeside order.Sim was now ended = IsSimulated was.input now.input was.out now.out ended
-  DoesBeside (order.Loop setup) was now ended = IsLooped setup was.input now.input was.out now.out ended
+  abbrev pub DoesBeside : Order → Outside K L → Outside K L → Result (Unit {0}) Stop → Type 0
+  DoesBeside order.Sim was now ended =
+      (now.gone ≡ was.gone) × IsSimulated was.input now.input was.out now.out ended
+  DoesBeside (order.Loop setup) was now ended =
+      (now.gone ≡ was.gone) × IsLooped setup was.input now.input was.out now.out ended
   DoesBeside (order.RemoteShell address idle file) was now ended =
-      IsTypedAt line (gives address) address file was.input now.input was.out now.out ended
-  DoesBeside (order.Meet address list repeat idle verbose file) was now ended =
-      (now.input ≡ was.input) × IsMet line gives address list repeat file was.out now.out ended
+      IsTypedAt line (gives address) address file was.gone now.gone was.input now.input was.out now.out ended
+  DoesBeside (order.Meet near far idle verbose file) was now ended =
+      (now.input ≡ was.input) × IsMet line gives near far file was.gone now.gone was.out now.out ended
   DoesBeside _ was now ended = ⊤
 
-  abbrev pub DoesIn : Image → Order → Option Filed → Outside K → Outside K → Ran (SiteLeft D g f) → Type 0
+  abbrev pub DoesIn : Image → Order → Option Filed → Outside K L → Outside K L → Ran (SiteLeft D g f) → Type 0
   DoesIn image given (Some filed) was now ran = DoesFile image filed was now ran
   DoesIn image given None was now ran = DoesBeside given was now ran.ended
 
   -- WHAT A COMMAND DOES, however it ends
-  abbrev pub DoesOrder : Image → Order → Outside K → Outside K → Ran (SiteLeft D g f) → Type 0
+  abbrev pub DoesOrder : Image → Order → Outside K L → Outside K L → Ran (SiteLeft D g f) → Type 0
   DoesOrder image given was now ran = DoesIn image given (file_in given) was now ran

@@ -8,17 +8,16 @@ use Rattle.mvd_app.specs.Named.{StopsAtToken}
 use Rattle.mvd_app.specs.Noted.{Noting, at_noted}
 use Rattle.mvd_app.specs.declared.commands.Work.{Work}
 use Rattle.mvd_app.specs.declared.commands.Work.TheVariants as work
+use Rattle.mvd_client.specs.Between.{MeetsServers}
 use Rattle.mvd_client.specs.LetIn.{GivesIn}
-use Rattle.mvd_client.specs.Once.{MeetsServer}
 use Rattle.mvd_client.specs.SyncsAt.{TellsSession}
 use Rattle.mvd_client.specs.Talked.{ShellsAt}
+use Rattle.mvd_client.specs.declared.gone.Gone.{Gone}
 use Rattle.mvd_hint.specs.declared.hint.Stop.{Stop}
 use Rattle.mvd_host.specs.Round.{turns_of}
 use Rattle.mvd_host.specs.Runs.{turns_in}
-use Rattle.mvd_input.specs.Addresses.{items_of}
 use Rattle.mvd_input.specs.Orders.{ArePeers}
 use Rattle.mvd_input.specs.declared.fault.Fault.{Fault}
-use Rattle.mvd_input.specs.declared.options.Repeat.{Repeat}
 use Rattle.mvd_remote.specs.declared.line.Line.{Ghosts as LineGhosts}
 use Rattle.mvd_replica.specs.ReplicaCalls.{ReplicaAnswers}
 use Rattle.mvd_replica.specs.Replicas.{site_of}
@@ -37,15 +36,16 @@ use Rattle.mvd_shell.specs.Shell.{At, Shells, at}
 use Rattle.mvd_shell.specs.Talk.{AnswersExchanges}
 use Rattle.sqlite_trees.specs.declared.store.Store.{Ghosts}
 
--- a moment outside of a command: what moves the bytes of its clients, what is still to be read, and what was written,
--- each as far as it is known
-pub record Outside (K : Type 0) : Type 0 where
+-- a moment outside of a command: what moves the bytes of its clients, the lines that were let go, what is still to be
+-- read, and what was written, each as far as it is known
+pub record Outside (K L : Type 0) : Type 0 where
   pub sockets : K
+  pub gone : Gone L
   pub input : Option (List ℕ)
   pub out : Option (List ℕ)
 
-abbrev pub outside : {K : Type 0} → K → Option (List ℕ) → Option (List ℕ) → Outside K
-outside sockets input out = record { sockets = sockets; input = input; out = out }
+abbrev pub outside : {K L : Type 0} → K → Gone L → Option (List ℕ) → Option (List ℕ) → Outside K L
+outside sockets gone input out = record { sockets = sockets; gone = gone; input = input; out = out }
 
 -- ---- tasks
 
@@ -108,17 +108,19 @@ module _ {S : Type 0} {g : Ghosts S} {K : Type 0} (k : SocketGhosts K) where
 module _ {S : Type 0} {g : Ghosts S} {K L : Type 0} (k : SocketGhosts K) (line : LineGhosts L)
     (gives : SocketAddr → L → Type 0) where
   -- WHAT A TASK DOES to a stored site, and nothing else: it takes these turns. They are those of a server's rounds, of
-  -- the lines that a shell reads, or of a session with what an address leads to, to which the first token was shown; what is
-  -- printed, and how the command ends, is what came of it
-  abbrev pub DoesTask : Task → Option Tokens → Outside K → Replica S g → Outside K → Replica S g → List Turn
+  -- the lines that a shell reads, or of a session with what an address leads to, to which the first token was shown;
+  -- what is printed, and how the command ends, is what came of it
+  abbrev pub DoesTask : Task → Option Tokens → Outside K L → Replica S g → Outside K L → Replica S g → List Turn
       → Result (Unit {0}) Stop → Type 0
   DoesTask Serving tokens was old now new turns result =
-      (it : ServesTo k (passes_in tokens) was.sockets old now.sockets new result) × (turns ≡ turns_of (turns_in it.served.all))
+      (it : ServesTo k (passes_in tokens) was.sockets old now.sockets new result)
+      × (turns ≡ turns_of (turns_in it.served.all)) × (now.gone ≡ was.gone)
   DoesTask Typing tokens was old now new turns result =
       (it : TypesLines (at old was.input was.out) (at new now.input now.out) result)
-      × (turns ≡ turns_asked it.exchanges)
+      × (turns ≡ turns_asked it.exchanges) × (now.gone ≡ was.gone)
   DoesTask (Syncing address) tokens was old now new turns result =
-      (it : TellsSession line (GivesIn line (gives address) (first_token tokens)) address old new was.out now.out result)
+      (it : TellsSession line (GivesIn line (gives address) (first_token tokens)) address was.gone now.gone old new
+      was.out now.out result)
       × (turns ≡ it.takes.turns)
 
 -- ---- without a file
@@ -130,19 +132,18 @@ IsSimulated input input' out out' result =
     (told : Result (Unit {0}) Fault) × Simulates input input' out out' told × EndsAsTold told result
 
 -- a shell through a server, to which the first token was shown; or the tokens could not be read of their file
-abbrev pub IsTypedAt : {L : Type 0} → LineGhosts L → (L → Type 0) → SocketAddr → Option (Bor (List ℕ))
+abbrev pub IsTypedAt : {L : Type 0} → LineGhosts L → (L → Type 0) → SocketAddr → Option (Bor (List ℕ)) → Gone L → Gone L
     → Option (List ℕ) → Option (List ℕ) → Option (List ℕ) → Option (List ℕ) → Result (Unit {0}) Stop → Type 0
-IsTypedAt line gives address file input input' out out' result =
+IsTypedAt line gives address file was now input input' out out' result =
     ((tokens : Option Tokens) × AreTokensOfOrder file tokens
-    × ShellsAt line (GivesIn line gives (first_token tokens)) address input out input' out' result)
+    × ShellsAt line (GivesIn line gives (first_token tokens)) (is_some (first_token tokens)) address was now
+        input out input' out' result)
     ⊎ (((stop : Stop) × (result ≡ Err stop) × StopsAtToken file stop) × (input' ≡ input) × (out' ≡ out))
 
--- Sessions of the server at an address with those of a list, to which the token was shown first; where there is one,
--- and nothing is repeated, what is printed is of the session that ran. Or the token could not be read of its file
-abbrev pub IsMet : {L : Type 0} → LineGhosts L → (SocketAddr → L → Type 0) → SocketAddr → Bor (List ℕ) → Option Repeat
-    → Option (Bor (List ℕ)) → Option (List ℕ) → Option (List ℕ) → Result (Unit {0}) Stop → Type 0
-IsMet line gives address list repeat file out out' result =
+-- a session of two servers, to each of which the first token was shown; or the tokens could not be read of their file
+abbrev pub IsMet : {L : Type 0} → LineGhosts L → (SocketAddr → L → Type 0) → SocketAddr → SocketAddr
+    → Option (Bor (List ℕ)) → Gone L → Gone L → Option (List ℕ) → Option (List ℕ) → Result (Unit {0}) Stop → Type 0
+IsMet line gives near far file was now out out' result =
     ((tokens : Option Tokens) × AreTokensOfOrder file tokens
-    × (repeat ≡ None → (text : List ℕ) → items_of list.now ≡ text ∷ []
-    → MeetsServer line gives (first_token tokens) address text out out' result))
-    ⊎ (((stop : Stop) × (result ≡ Err stop) × StopsAtToken file stop) × (out' ≡ out))
+    × MeetsServers line gives (first_token tokens) near far was now out out' result)
+    ⊎ (((stop : Stop) × (result ≡ Err stop) × StopsAtToken file stop) × (now ≡ was) × (out' ≡ out))

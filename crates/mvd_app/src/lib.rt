@@ -8,10 +8,12 @@ pub mod laws;
 mod looping;
 mod opening;
 mod outlet;
+mod paths;
 mod serve_command;
 mod setups;
 mod tokens;
 mod typed_lines;
+mod without_files;
 
 pub use closing::{Left, LeftOf, Ran};
 pub use commands::run;

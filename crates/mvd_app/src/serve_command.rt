@@ -6,15 +6,16 @@ ghost use Rattle.mvd_input.specs.Orders.{ArePeers};
 ghost use Rattle.mvd_server.specs.TokenFiles.{passes_asked};
 
 use crate::outlet::{Outlet, STANDARD_ERROR, STANDARD_OUTPUT};
+use crate::paths::Paths;
 use mvd_dots::Refusal;
 use mvd_hint::{Stop, Watch};
 use mvd_input::{Peers, addresses_of, tell};
 use mvd_replica::Replica;
-use mvd_server::{Sockets, Terms, serve_run};
+use mvd_server::{Sockets, Terms};
 use sqlite::Alter;
 use std::alloc::{AllocError, Global};
 use std::io::Write;
-use std::net::SocketAddr;
+use std::net::{Net, SocketAddr};
 
 /// What is told of a server that pages of other origins may ask without a token.
 const OPEN_TO_PAGES: &str =
@@ -23,8 +24,9 @@ const OPEN_TO_PAGES: &str =
 /// Serves a stored site at an address, and meets the peers meanwhile, if there are any: those of the list but itself. It
 /// waits for nobody who should read what it prints.
 #[tactic(auto, using(crate::proofs::Unserved::serves_nothing))]
-pub(crate) fn serve_stored<'a, K: Sockets, S: Alter + Drop, W: Write>(
-    rt: &HostRuntime,
+pub(crate) fn serve_stored<'a, N: Net, K: Sockets, S: Alter + Drop, W: Write>(
+    rt: &N,
+    paths: &Paths<'_>,
     sockets: &mut K,
     replica: &mut Replica<S>,
     address: SocketAddr,
@@ -37,12 +39,13 @@ pub(crate) fn serve_stored<'a, K: Sockets, S: Alter + Drop, W: Write>(
     ensures { ServesTo K.Sockets (passes_asked terms.entry)
         sockets.old replica.old sockets.new replica.new result }
 {
-    let mut outlet = match Outlet::new(rt, rt.alloc(), STANDARD_OUTPUT, writer) {
+    let mut outlet = match Outlet::new(rt, paths.alloc(), STANDARD_OUTPUT, writer) {
         Ok(outlet) => outlet,
         Err(error) => return Err(Stop::unheard(address, error)),
     };
     serve_met(
         rt,
+        paths,
         sockets,
         replica,
         address,
@@ -55,8 +58,9 @@ pub(crate) fn serve_stored<'a, K: Sockets, S: Alter + Drop, W: Write>(
 
 /// The same, where nobody waits for the writer. Nor does anybody for standard error.
 #[tactic(auto, using(crate::proofs::Unserved::serves_nothing))]
-fn serve_met<'a, K: Sockets, S: Alter + Drop, W: Write>(
-    rt: &HostRuntime,
+fn serve_met<'a, N: Net, K: Sockets, S: Alter + Drop, W: Write>(
+    rt: &N,
+    paths: &Paths<'_>,
     sockets: &mut K,
     replica: &mut Replica<S>,
     address: SocketAddr,
@@ -69,25 +73,15 @@ fn serve_met<'a, K: Sockets, S: Alter + Drop, W: Write>(
     ensures { ServesTo K.Sockets (passes_asked terms.entry)
         sockets.old replica.old sockets.new replica.new result }
 {
-    let alloc = rt.alloc();
-    let mut stderr = rt.stderr();
+    let alloc = paths.alloc();
+    let mut stderr = paths.errors();
     let mut errors = match Outlet::new(rt, alloc, STANDARD_ERROR, &mut stderr) {
         Ok(errors) => errors,
         Err(error) => return Err(Stop::unheard(address, error)),
     };
     warn_of_pages(alloc, terms, &mut errors);
     let Some(peers) = peers else {
-        return serve_run(
-            rt,
-            alloc,
-            sockets,
-            replica,
-            address,
-            terms,
-            watch,
-            writer,
-            &mut errors,
-        );
+        return paths.serve(sockets, replica, address, terms, watch, writer, &mut errors);
     };
     let Ok(addresses) = met_by(alloc, address, peers.list) else {
         return Err(Stop::from(Refusal::Memory));
@@ -97,17 +91,7 @@ fn serve_met<'a, K: Sockets, S: Alter + Drop, W: Write>(
         every: peers.every,
         ..terms
     };
-    serve_run(
-        rt,
-        alloc,
-        sockets,
-        replica,
-        address,
-        terms,
-        watch,
-        writer,
-        &mut errors,
-    )
+    paths.serve(sockets, replica, address, terms, watch, writer, &mut errors)
 }
 
 /// Warns where pages of other origins may ask a server that asks for no token.

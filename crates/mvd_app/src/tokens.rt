@@ -5,15 +5,16 @@ ghost use Rattle.mvd_app.specs.Tasks.{first_token};
 ghost use Rattle.mvd_server.specs.TokenFiles.{IsUnreadSo};
 ghost use Rattle.std.specs.Prelude.{option_copied};
 
+use crate::paths::Paths;
 use mvd_dots::Refusal;
 use mvd_hint::Stop;
 use mvd_input::PassFault;
-use mvd_server::{Tokens, TokensFault, read_tokens};
+use mvd_server::{Tokens, TokensFault};
 use mvd_wire::Token;
 
 /// The tokens of a file, or none where no file is named.
 pub(crate) fn tokens_in<'a>(
-    rt: &HostRuntime,
+    paths: &Paths<'_>,
     file: Option<&'a str>,
 ) -> Result<Option<Tokens>, Stop<'a>>
     ensures given { IfOk result (λ tokens. is_some tokens ≡ is_some file.entry) }
@@ -23,7 +24,7 @@ pub(crate) fn tokens_in<'a>(
     let Some(file) = file else {
         return Ok(None);
     };
-    match read_tokens(rt, rt.alloc(), file) {
+    match paths.tokens(file) {
         Ok(tokens) => Ok(Some(tokens)),
         Err(fault) => Err(stopped_by(file, fault)),
     }

@@ -7,7 +7,7 @@ ghost use Rattle.mvd_line_tests.specs.Serving.{IsAtHand};
 ghost use Rattle.mvd_replica.specs.Replicas.{site_of};
 ghost use Rattle.mvd_replica.specs.Sides.{IsTrueSite};
 
-use mvd_client::{Dial, DialFault, sync_run};
+use mvd_client::{Dial, DialFault, Gone, sync_run};
 use mvd_docs::Document;
 use mvd_dots::{Context, Refusal};
 use mvd_hint::Stop;
@@ -53,7 +53,16 @@ fn sync_at_hand<'a, S: Alter + Drop, E: Write>(
     ensures { IsTrueSite (site_of replica.old) → MeetsAt ⟦<Served as Line>⟧
         (GivesIn ⟦<Served as Line>⟧ IsAtHand None) address replica.old replica.new result }
 {
-    sync_run(&AtHand, alloc, replica, address, 5, None, told)
+    sync_run(
+        &AtHand,
+        alloc,
+        replica,
+        address,
+        5,
+        None,
+        &mut Gone::new(),
+        told,
+    )
 }
 
 /// How many keys a session with it exchanges, of a stored site that holds one.

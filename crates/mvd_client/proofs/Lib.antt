@@ -3,9 +3,7 @@ pub mod Syncing
 pub mod Fresh
 pub mod Leading
 pub mod Noting
-pub mod Fars
 pub mod Cutting
-pub mod Once
 pub mod Opened
 pub mod PushTurns
 pub mod Seen

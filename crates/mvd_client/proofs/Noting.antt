@@ -70,23 +70,24 @@ kept_truly config states request refusal none =
 
 module _ {L : Type 0} (line : Ghosts L) (old new : AskedServer L) (request : Request) where
   pub replied : (told : Result Reply Refusal) (came reply : Reply) → told ≡ Ok came → reply ≡ passed_on request came → Asks (link_of line old.remote) (link_of line new.remote) request told
-      → AsksTruly line (any_query request) old.remote new.remote told → new.is_down ≡ old.is_down → new.lost ≡ old.lost → old.ended ≡ None → new.ended ≡ ended_by came
+      → AsksTruly line (any_query request) old.remote new.remote told → new.is_down ≡ old.is_down → new.lost ≡ old.lost → old.ended ≡ None → new.ended ≡ ended_by old.shown came → new.shown ≡ old.shown
       → RepliesNoted line old new request reply
-  replied told came reply is passed asked truth down lost goes ended = asks goes (record {
+  replied told came reply is passed asked truth down lost goes ended shown = asks goes (record {
     came = came;
     passed = passed;
     replies = record { told = told; shown = sym (ap shown_reply is); asked = asked; truth = truth };
     down = down ∙ sym (ap (down_after old.is_down request) is);
     lost = lost ∙ sym (ap (lost_after old.is_down old.lost request) is);
-    ended = ended ∙ sym (ap ended_after is);
+    ended = ended ∙ sym (ap (ended_after old.shown) is);
+    shown = shown;
   })
 
   -- no reply came over the link
   pub refused : (told : Result Reply Refusal) (mid : Remote L) (refusal : Refusal) (is_write : Bool) → new.remote ≡ mid → told ≡ Err refusal → is_write ≡ may_change request → (old.is_down ≡ false → has_frame request ≡ true)
       → Asks (link_of line old.remote) (link_of line mid) request told → AsksTruly line (any_query request) old.remote mid told → new.is_down ≡ (old.is_down || breaks_at true refusal)
-      → new.lost ≡ LostIf (is_write && (not old.is_down && may_be_sent true refusal)) old.lost → old.ended ≡ None → new.ended ≡ old.ended
+      → new.lost ≡ LostIf (is_write && (not old.is_down && may_be_sent true refusal)) old.lost → old.ended ≡ None → new.ended ≡ old.ended → new.shown ≡ old.shown
       → RepliesNoted line old new request (Refused refusal)
-  refused told mid refusal is_write same is write framed asked truth down lost goes ended = asks goes (record {
+  refused told mid refusal is_write same is write framed asked truth down lost goes ended shown = asks goes (record {
     came = Refused refusal;
     passed = refl;
     replies = record {
@@ -98,14 +99,15 @@ module _ {L : Type 0} (line : Ghosts L) (old new : AskedServer L) (request : Req
     down = down ∙ down_handed old.is_down request refusal framed ∙ sym (ap (down_after old.is_down request) is);
     lost = lost ∙ ap (λ (w : Bool). LostIf (w && (not old.is_down && may_be_sent true refusal)) old.lost) write
         ∙ ap (λ (s : Bool). LostIf (may_change request && s) old.lost) (sent_handed old.is_down request refusal framed) ∙ sym (ap (lost_after old.is_down old.lost request) is);
-    ended = ended ∙ goes ∙ sym (ap ended_after is);
+    ended = ended ∙ goes ∙ sym (ap (ended_after old.shown) is);
+    shown = shown;
   })
 
   -- it was not handed to the link
   pub unframed : (refusal : Refusal) (is_write : Bool) → new.remote ≡ old.remote → is_write ≡ may_change request → HasNone request refusal → new.is_down ≡ (old.is_down || breaks_at false refusal)
-      → new.lost ≡ LostIf (is_write && (not old.is_down && may_be_sent false refusal)) old.lost → old.ended ≡ None → new.ended ≡ old.ended
+      → new.lost ≡ LostIf (is_write && (not old.is_down && may_be_sent false refusal)) old.lost → old.ended ≡ None → new.ended ≡ old.ended → new.shown ≡ old.shown
       → RepliesNoted line old new request (Refused refusal)
-  unframed refusal is_write same write none down lost goes ended = asks goes (record {
+  unframed refusal is_write same write none down lost goes ended shown = asks goes (record {
     came = Refused refusal;
     passed = refl;
     replies = record {
@@ -119,4 +121,5 @@ module _ {L : Type 0} (line : Ghosts L) (old new : AskedServer L) (request : Req
     lost = lost ∙ ap (λ (w : Bool). LostIf (w && (not old.is_down && may_be_sent false refusal)) old.lost) write
         ∙ ap (λ (s : Bool). LostIf (may_change request && (not old.is_down && s)) old.lost) (none_sent request refusal none);
     ended = ended ∙ goes;
+    shown = shown;
   })

@@ -50,18 +50,19 @@ lost_after is_down lost request (Err refusal) =
     else lost
 
 -- a refusal behind which a server ends the connection: it waited too long (34), serves as many as it may (36), or was
--- not shown its token (38)
-abbrev pub ends_connection : Refusal → Bool
-ends_connection refusal = number_of refusal == 34 || (number_of refusal == 36 || number_of refusal == 38)
+-- shown no token (38); where it was shown one, 38 is what that does not allow
+abbrev pub ends_connection : Bool → Refusal → Bool
+ends_connection shown refusal =
+    number_of refusal == 34 || (number_of refusal == 36 || (number_of refusal == 38 && not shown))
 
 -- by which refusal a reply says that the server has ended the connection, if it does
-abbrev pub ended_by : Reply → Option Refusal
-ended_by (Refused refusal) = if ends_connection refusal then Some refusal else None
-ended_by reply = None
+abbrev pub ended_by : Bool → Reply → Option Refusal
+ended_by shown (Refused refusal) = if ends_connection shown refusal then Some refusal else None
+ended_by shown reply = None
 
-abbrev pub ended_after : Result Reply Refusal → Option Refusal
-ended_after (Ok reply) = ended_by reply
-ended_after (Err refusal) = None
+abbrev pub ended_after : Bool → Result Reply Refusal → Option Refusal
+ended_after shown (Ok reply) = ended_by shown reply
+ended_after shown (Err refusal) = None
 
 -- a page that is none of those that were asked for is refused in its place
 abbrev pub passed_on : Request → Reply → Reply
@@ -79,7 +80,8 @@ pub record AsksNoted {L : Type 0} (line : Ghosts L) (old new : AskedServer L) (r
   pub passed : reply ≡ passed_on request came
   pub down : new.is_down ≡ down_after old.is_down request replies.told
   pub lost : new.lost ≡ lost_after old.is_down old.lost request replies.told
-  pub ended : new.ended ≡ ended_after replies.told
+  pub ended : new.ended ≡ ended_after old.shown replies.told
+  pub shown : new.shown ≡ old.shown
 
 -- A REQUEST TO A SERVER is asked over the line; or the server has ended the connection, and then nothing is asked, and
 -- the request is refused as that was

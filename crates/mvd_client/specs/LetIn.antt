@@ -1,5 +1,9 @@
 -- How a line comes to be one over which its far side serves: by a Hello that shows the token, where there is one.
 use Rattle.std.specs.Prelude.{◌≡◌, ℕ, List, Option, Some, None, Result, Ok, Err}
+use Rattle.mvd_client.specs.Gone.{LetsGo}
+use Rattle.mvd_client.specs.declared.dial.DialFault.{DialFault}
+use Rattle.mvd_client.specs.declared.dial.DialFault.TheVariants as faults
+use Rattle.mvd_client.specs.declared.gone.Gone.{Gone}
 use Rattle.mvd_dots.specs.declared.refusals.Refusal.{Refusal}
 use Rattle.mvd_wire.specs.declared.request.Request.TheVariants.{Hello}
 use Rattle.mvd_remote.specs.Lines.{as_done, line_of, refused_of}
@@ -9,28 +13,31 @@ use Rattle.mvd_remote.specs.declared.line.Line.{Ghosts}
 use Rattle.mvd_remote.specs.declared.remote.Remote.{Remote}
 
 module _ {L : Type 0} (line : Ghosts L) where
-  -- the line behind a Hello that was told Done, or the refusal that was told
-  abbrev pub EndsShown : Result (Unit {0}) Refusal → L → Result L Refusal → Type 0
-  EndsShown (Ok done) after result = result ≡ Ok after
-  EndsShown (Err refusal) after result = result ≡ Err refusal
-
-  -- THE TOKEN IS SHOWN over a line: a Hello with it was asked, and nothing else
-  pub record ShowsToken (token : List ℕ) (fresh : L) (result : Result L Refusal) : Type 0 where
+  -- THE TOKEN IS SHOWN over a line: a Hello with it was asked, and nothing else, and this was told; the line is left so
+  pub record ShowsToken (token : List ℕ) (fresh left : L) (told : Result (Unit {0}) Refusal) : Type 0 where
     pub before : Remote L
     pub after : Remote L
     pub at_line : line_of before ≡ fresh
     pub goes_on : refused_of before ≡ None
-    pub told : Result (Unit {0}) Refusal
     pub asked : AsksOver line (hello_query token) before after told
     pub truth : AsksTruly line (hello_query token) before after told
     pub live : AsksLive line (Hello token) as_done before after told
-    pub ends : EndsShown told (line_of after) result
+    pub left_so : line_of after ≡ left
 
   -- a line over which the token was shown, if there is one, and nothing else went
   abbrev pub IsLetIn : Option (List ℕ) → L → L → Type 0
   IsLetIn None fresh opened = opened ≡ fresh
-  IsLetIn (Some token) fresh opened = ShowsToken token fresh (Ok opened)
+  IsLetIn (Some token) fresh opened = ShowsToken token fresh opened (Ok tt)
 
   -- the lines that come of those which an address gives
   abbrev pub GivesIn : (L → Type 0) → Option (List ℕ) → L → Type 0
   GivesIn gives token opened = (fresh : L) × gives fresh × IsLetIn token fresh opened
+
+  -- Why an address leads to no line: there is none, and none is let go; or the token was shown over one and not taken,
+  -- and that one is let go
+  pub data LeadsNowhere (gives : L → Type 0) (token : Option (List ℕ)) (old new : Gone L) (fault : DialFault) : Type 0
+    where
+      no_line : new ≡ old → LeadsNowhere gives token old new fault
+      not_taken : (shown : List ℕ) → token ≡ Some shown → (fresh left : L) → gives fresh → (refusal : Refusal)
+          → ShowsToken shown fresh left (Err refusal) → LetsGo left old new → fault ≡ faults.Refused refusal
+          → LeadsNowhere gives token old new fault

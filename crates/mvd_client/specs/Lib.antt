@@ -1,5 +1,5 @@
 pub mod Between
-pub mod Once
+pub mod Gone
 pub mod Met
 pub mod Pushing
 pub mod Questioned

@@ -1,20 +1,16 @@
--- A session of two servers, each at the other end of a line.
-use Rattle.std.specs.Prelude.{◌≡◌, ◌≢◌, IsSomeAnd, None, Result}
-use Rattle.std.specs.declared.net.socket_addr.SocketAddr.{SocketAddr}
-use Rattle.mvd_client.specs.declared.ends.Failure.{Failure}
+-- A session of two servers, each at the other end of a line, and the root of one.
+use Rattle.std.specs.Prelude.{◌≡◌, ◌⊎◌, ℕ, List, [], None, Result, Ok, Err}
 use Rattle.mvd_dots.specs.declared.refusals.Refusal.{Refusal}
-use Rattle.mvd_dots.specs.declared.refusals.Refusal.TheVariants.{DotClash, Memory}
-use Rattle.mvd_hint.specs.Named.{NamesServer}
-use Rattle.mvd_hint.specs.declared.hint.Stop.{Stop}
-use Rattle.mvd_input.specs.declared.fault.Fault.TheVariants.{Stopped}
-use Rattle.mvd_sync.specs.declared.report.Side.TheVariants as side
-use Rattle.mvd_sync.specs.declared.report.SyncFault.TheVariants as by
+use Rattle.mvd_dots.specs.declared.refusals.Refusal.TheVariants.{Memory}
 use Rattle.mvd_remote.specs.Lines.{IsTrueRemote, far_of}
+use Rattle.mvd_remote.specs.Links.{AsksLinkFor, Link}
+use Rattle.mvd_remote.specs.Remotes.{node_query}
 use Rattle.mvd_remote.specs.declared.line.Line.{Ghosts}
 use Rattle.mvd_remote.specs.declared.remote.Remote.{Remote}
 use Rattle.mvd_sync.specs.Session.{Meets}
 use Rattle.mvd_sync.specs.declared.report.Report.{Report}
 use Rattle.mvd_sync.specs.declared.report.SyncFault.{SyncFault}
+use Rattle.mvd_wire.specs.declared.reply.Digests.{Digests}
 
 -- between what is at the other ends of two true lines states are joined; with no fault all that differ, but those
 -- refused for a cause
@@ -34,12 +30,15 @@ MeetsFars near_line far_line near near' far far' result =
       peer_true = IsTrueRemote far_line.is_true far_line.far far';
     }) result
 
--- it is of this refusal, by the server at this address; want of memory may be of either end, and names none
-abbrev pub IsStopAt : SocketAddr → Refusal → Stop → Type 0
-IsStopAt address refusal stop =
-    (stop.fault ≡ Stopped refusal) × (refusal ≢ DotClash → refusal ≢ Memory → IsSomeAnd stop.hint (NamesServer address))
+-- the digest of all that is held, of the digests of the root
+abbrev pub own_digest : Result Digests Refusal → Result (List ℕ) Refusal
+own_digest (Ok digests) = Ok digests.own
+own_digest (Err refusal) = Err refusal
 
--- a session failed by the side that the fault names
-abbrev pub IsFailureOf : SocketAddr → SocketAddr → SyncFault → Failure → Type 0
-IsFailureOf near far (by.Local refusal) failure = (failure.side ≡ side.Local) × IsStopAt near refusal failure.stop
-IsFailureOf near far (by.Peer refusal) failure = (failure.side ≡ side.Peer) × IsStopAt far refusal failure.stop
+-- It is asked over a link, and nothing else, and told as it is replied; or memory was refused before that
+abbrev pub AsksRoot : {M : Type 0} → (Remote M → Link) → Remote M → Remote M → Result (List ℕ) Refusal → Type 0
+AsksRoot link_at old new result =
+    ((result ≡ Err Memory) × (new ≡ old))
+    ⊎ ((told : Result Digests Refusal)
+    × AsksLinkFor (node_query []).as_reply (node_query []).request (link_at old) (link_at new) told
+    × (result ≡ own_digest told))

@@ -1,7 +1,6 @@
 -- What is printed of a session with a server, and of all that a site holds.
-use Rattle.std.specs.Prelude.{ℕ, Bool, true, ◌||◌, ◌≡◌, ◌⊎◌, List, [], ◌∷◌, ◌++◌, codes, nat_lt, if◌then◌else◌, Option, None, Some, Result, Ok, Err}
+use Rattle.std.specs.Prelude.{ℕ, Bool, true, ◌≡◌, ◌⊎◌, List, [], ◌∷◌, ◌++◌, codes, nat_lt, if◌then◌else◌, Option, None, Some, Result, Ok, Err}
 use Rattle.std.specs.Fmt.{decimal}
-use Rattle.std.specs.declared.net.socket_addr.SocketAddr.{SocketAddr}
 use Rattle.std.specs.Net.Text.{socket_text}
 use Rattle.std.specs.Io.KnownBytes.{Appends}
 use Rattle.hex.specs.Hex.{encode_lower}
@@ -51,11 +50,6 @@ root_at_text root =
 abbrev pub meeting_text : Report → Root → Root → List ℕ
 meeting_text report near far =
     keys_text report.keys ++ (refused_keys_text report.refused ++ (root_at_text near ++ root_at_text far))
-
--- how many keys a session with a server exchanged: always, or where there were some
-abbrev pub met_text : SocketAddr → ℕ → Bool → List ℕ
-met_text address keys always =
-    if (nat_lt 0 keys || always) then socket_text address ++ (codes " keys " ++ (decimal keys ++ codes "\n")) else []
 
 -- why there are no lines to print: memory was refused, or the site whose root they tell is broken
 abbrev pub HasNoLines : Bool → Refusal → Type 0

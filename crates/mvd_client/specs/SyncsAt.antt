@@ -2,10 +2,12 @@
 use Rattle.std.specs.Prelude.{◌≡◌, ℕ, List, [], None, Option, Result, Ok, Err, IfOk}
 use Rattle.std.specs.declared.net.socket_addr.SocketAddr.{SocketAddr}
 use Rattle.mvd_dots.specs.declared.refusals.Refusal.{Refusal}
+use Rattle.mvd_client.specs.Gone.{LetsGo}
 use Rattle.mvd_client.specs.Reported.{Reports}
 use Rattle.mvd_client.specs.Stopped.{IsUndialed, TellsAs}
 use Rattle.mvd_client.specs.SyncSides.{sides_at}
 use Rattle.mvd_client.specs.Synced.{FollowsPushed, MeetsFar, TakesPushes}
+use Rattle.mvd_client.specs.declared.gone.Gone.{Gone}
 use Rattle.mvd_remote.specs.Remotes.{AsksOver, bye_query}
 use Rattle.mvd_hint.specs.declared.hint.Stop.{Stop}
 use Rattle.mvd_peer.specs.Sides.{two}
@@ -54,22 +56,23 @@ module _ {S : Type 0} {g : Ghosts S} {L : Type 0} (line : LineGhosts L) where
     pub meets : IsTrueSite (site_of old) → line.is_true (line_of before) → (line.far (line_of before)).due ≡ []
         → refused_of before ≡ None → MeetsFar line.is_true line.far old new before after told
 
-  -- over this line, which nothing was asked before
-  pub record SyncsFrom (fresh : L) (old new : Replica S g) (told : Result Report SyncFault) : Type 0 where
+  -- over this line, which nothing was asked before, and which is left so
+  pub record SyncsFrom (fresh left : L) (old new : Replica S g) (told : Result Report SyncFault) : Type 0 where
     pub before : Remote L
     pub after : Remote L
     pub at_line : line_of before ≡ fresh
     pub goes_on : refused_of before ≡ None
     pub over_line : SyncsOver old new before after told
+    pub left_so : line_of after ≡ left
 
   -- WHAT AN ADDRESS LEADS TO is one of these lines. It leads to none, and nothing changes; or there is one line, over
-  -- which runs one session, and what is told is what came of that
-  pub data SyncsAt (gives : L → Type 0) (address : SocketAddr) (old new : Replica S g) (result : Result Report Stop)
-      : Type 0 where
+  -- which runs one session, what is told is what came of that, and the line is let go as the session left it
+  pub data SyncsAt (gives : L → Type 0) (address : SocketAddr) (was now : Gone L) (old new : Replica S g)
+      (result : Result Report Stop) : Type 0 where
     nobody : new ≡ old → (stop : Stop) → result ≡ Err stop → IsUndialed address stop
-        → SyncsAt gives address old new result
-    ran : (at : L) → gives at → (told : Result Report SyncFault) → SyncsFrom at old new told
-        → TellsAs address told result → SyncsAt gives address old new result
+        → SyncsAt gives address was now old new result
+    ran : (at left : L) → gives at → (told : Result Report SyncFault) → SyncsFrom at left old new told
+        → LetsGo left was now → TellsAs address told result → SyncsAt gives address was now old new result
 
 -- the lines that an address may give are true, and no reply is due on them
 abbrev pub AreTrue : {L : Type 0} → LineGhosts L → (L → Type 0) → Type 0
@@ -87,10 +90,10 @@ module _ {S : Type 0} {g : Ghosts S} {L : Type 0} (line : LineGhosts L) (gives :
 
   -- FROM THE ADDRESS TO WHAT IS PRINTED: what is told is of the session that ran, and all that was done to the site is
   -- turns, each of which pushed a state
-  pub record TellsSession (old new : Replica S g) (out out' : Option (List ℕ)) (result : Result (Unit {0}) Stop)
-      : Type 0 where
+  pub record TellsSession (was now : Gone L) (old new : Replica S g) (out out' : Option (List ℕ))
+      (result : Result (Unit {0}) Stop) : Type 0 where
     pub ran : Result Report Stop
-    pub syncs : SyncsAt line gives address old new ran
+    pub syncs : SyncsAt line gives address was now old new ran
     pub meets : AreTrue line gives → IsTrueSite (site_of old) → MeetsAt old new ran
     pub takes : TakesPushes old new
     pub pushed : FollowsPushed old new

@@ -1,6 +1,6 @@
 //! A server as a shell asks it.
 ghost use Rattle.std.specs.Prelude.{◌≡◌, ◌≢◌, ◌+◌, ◌-◌, ◌^◌, ◌||◌, ◌&&◌, Err, IfErr, OnOk, true, false, if◌then◌else◌, min, not, None};
-ghost use Rattle.mvd_client.specs.AskedServer.{RepliesNoted, breaks_at, breaks_link, ended_by, has_frame, lost_of};
+ghost use Rattle.mvd_client.specs.AskedServer.{RepliesNoted, breaks_at, breaks_link, ended_by, ends_connection, has_frame, lost_of};
 ghost use Rattle.mvd_client.specs.AskedServer.{may_be_sent, may_change, passed_on};
 ghost use Rattle.mvd_client.specs.Talked.{SaysBye};
 ghost use Rattle.mvd_dots.specs.declared.refusals.Refusal.TheVariants.{Memory};
@@ -25,6 +25,8 @@ pub struct AskedServer<L: Line> {
     pub lost: u64,
     /// The refusal behind which the server ended the connection, if it did: each later request is refused so.
     pub ended: Option<Refusal>,
+    /// The server was shown a token and let it in: then 38 is what that does not allow, and the connection goes on.
+    pub shown: bool,
 }
 
 /// Reads how many writes of an `AskedServer` are lost.
@@ -39,20 +41,36 @@ impl<L: Line> Losses<AskedServer<L>> for Noted {
 }
 
 impl<L: Line> AskedServer<L> {
-    /// The server at the other end of a line over which no request went.
-    pub fn over(alloc: Global, line: L) -> Self
+    /// The server at the other end of a line over which no request went, but for a token that was shown.
+    pub fn over(alloc: Global, line: L, shown: bool) -> Self
         ensures line { line_of result.remote ≡ line }
         ensures goes_on { refused_of result.remote ≡ None }
         ensures up { result.is_down ≡ false }
         ensures none_lost { result.lost ≡ 0 }
         ensures goes { result.ended ≡ None }
+        ensures shown { result.shown ≡ shown }
     {
         AskedServer {
             remote: Remote::over(alloc, line),
             is_down: false,
             lost: 0,
             ended: None,
+            shown,
         }
+    }
+
+    /// The line.
+    pub fn into_line(self) -> L
+        ensures { result ≡ line_of self.remote }
+    {
+        let AskedServer {
+            remote,
+            is_down: _,
+            lost: _,
+            ended: _,
+            shown: _,
+        } = self;
+        remote.into_line()
     }
 
     /// Why a request is not handed to the link: it has no frame, or memory is refused for that. A link that has broken
@@ -74,6 +92,7 @@ impl<L: Line> AskedServer<L> {
     fn note(&mut self, is_write: bool, is_handed: bool, refusal: Refusal)
         ensures remote { self.new.remote ≡ self.old.remote }
         ensures ended { self.new.ended ≡ self.old.ended }
+        ensures shown { self.new.shown ≡ self.old.shown }
         ensures down { self.new.is_down ≡ (self.old.is_down || breaks_at is_handed refusal) }
         ensures lost { self.new.lost ≡ (if is_write && (not self.old.is_down && may_be_sent is_handed refusal)
             then min (self.old.lost + 1) (2 ^ 64 - 1) else self.old.lost) }
@@ -116,7 +135,7 @@ impl<L: Line> Endpoint for AskedServer<L> {
         let told = self.remote.ask(&request);
         match told {
             Ok(reply) => {
-                self.ended = ended_by(&reply);
+                self.ended = ended_by(self.shown, &reply);
                 let passed = passed_on(&request, reply);
                 drop(request);
                 passed
@@ -160,11 +179,19 @@ fn breaks_link(refusal: Refusal) -> bool
 }
 
 /// By which refusal a reply says that the server has ended the connection, if it does.
-fn ended_by(reply: &Reply) -> Option<Refusal>
-    ensures { result ≡ ended_by reply.now }
+fn ended_by(shown: bool, reply: &Reply) -> Option<Refusal>
+    ensures { result ≡ ended_by shown reply.now }
 {
     match reply {
-        Reply::Refused(refusal) if matches!(refusal.number(), 34 | 36 | 38) => Some(*refusal),
+        Reply::Refused(refusal) if ends_connection(shown, *refusal) => Some(*refusal),
         _ => None,
     }
+}
+
+/// Whether a server ends the connection behind a refusal, where it was shown a token or not.
+fn ends_connection(shown: bool, refusal: Refusal) -> bool
+    ensures { result ≡ ends_connection shown refusal }
+{
+    let number = refusal.number();
+    number == 34 || number == 36 || number == 38 && !shown
 }

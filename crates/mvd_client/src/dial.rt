@@ -1,10 +1,11 @@
 //! What leads from an address to a line.
-ghost use Rattle.std.specs.Prelude.{IfOk, option_copied};
+ghost use Rattle.std.specs.Prelude.{◌≡◌, IfErr, IfOk, OnOk, option_copied};
 ghost use Rattle.std.specs.declared.net.socket_addr.SocketAddr.{SocketAddr};
-ghost use Rattle.mvd_client.specs.LetIn.{GivesIn, ShowsToken};
+ghost use Rattle.mvd_client.specs.LetIn.{GivesIn, LeadsNowhere, ShowsToken};
 ghost use Rattle.mvd_client.specs.Stopped.{StopsUndialed};
 
 use crate::both_ways::{BothWays, Nonblocking};
+use crate::gone::Gone;
 use crate::link::Link;
 use crate::socket::Socket;
 use mio::Events;
@@ -96,8 +97,12 @@ pub(crate) fn let_in<D: Dial>(
     address: SocketAddr,
     idle: u32,
     token: Option<&Token>,
+    gone: &mut Gone<D::Dialed>,
 ) -> Result<D::Dialed, DialFault>
-    ensures { IfOk result (GivesIn D.Dialed.Line (D.gives dial.now address) (option_copied token.entry)) }
+    ensures line { IfOk result (GivesIn D.Dialed.Line (D.gives dial.now address) (option_copied token.entry)) }
+    ensures kept { OnOk result (gone.new ≡ gone.old) }
+    ensures nowhere { IfErr result (LeadsNowhere D.Dialed.Line (D.gives dial.now address) (option_copied token.entry)
+        gone.old gone.new) }
 {
     let line = match dial.dial(alloc, address, idle) {
         Ok(line) => line,
@@ -106,22 +111,23 @@ pub(crate) fn let_in<D: Dial>(
     let Some(token) = token else {
         return Ok(line);
     };
-    match shown(alloc, line, token) {
-        Ok(line) => Ok(line),
-        Err(refusal) => Err(DialFault::Refused(refusal)),
+    let (line, told) = shown(alloc, line, token);
+    match told {
+        Ok(()) => Ok(line),
+        Err(refusal) => {
+            gone.lets_go(line);
+            Err(DialFault::Refused(refusal))
+        }
     }
 }
 
-/// Shows a token over a line over which nothing went: a Hello, and nothing else. It gives the line, or what was told in
-/// place of Done.
-fn shown<L: Line>(alloc: Global, line: L, token: &Token) -> Result<L, Refusal>
-    ensures { ShowsToken L.Line token.now line result }
+/// Shows a token over a line over which nothing went: a Hello, and nothing else. It gives the line, and what was told.
+fn shown<L: Line>(alloc: Global, line: L, token: &Token) -> (L, Result<(), Refusal>)
+    ensures { ShowsToken L.Line token.now line result.0 result.1 }
 {
     let mut remote = Remote::over(alloc, line);
-    match remote.hello(token) {
-        Ok(()) => Ok(remote.into_line()),
-        Err(refusal) => Err(refusal),
-    }
+    let told = remote.hello(token);
+    (remote.into_line(), told)
 }
 
 /// What a command is stopped with where an address leads to no line.

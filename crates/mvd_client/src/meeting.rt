@@ -1,8 +1,7 @@
 //! A session between two servers, each at the other end of a line, and what is printed of it.
 ghost use Rattle.std.specs.Prelude.{◌≡◌, ◌≢◌, ◌≤◌, ◌+◌, ◌++◌, [], IfErr, IfOk, IsErr, OnOk, false, string_bytes};
 ghost use Rattle.std.specs.Io.KnownBytes.{Appends};
-ghost use Rattle.mvd_client.specs.Met.{MeetsFars};
-ghost use Rattle.mvd_client.specs.Once.{AsksRoot};
+ghost use Rattle.mvd_client.specs.Met.{AsksRoot, MeetsFars};
 ghost use Rattle.mvd_client.specs.Questioned.{CountsFew, questions};
 ghost use Rattle.mvd_client.specs.Reported.{CutReport, ReportsAs, meeting_text, root_at_text, root_in_states};
 ghost use Rattle.mvd_client.specs.SyncSides.{line_side, sides_between};
@@ -138,12 +137,7 @@ fn print_root_at(alloc: Global, root: Root, lines: &mut String) -> Result<(), Re
 }
 
 /// Tells which keys were refused, by which server, and how. A line that cannot be written is left out.
-pub(crate) fn tell_refused<E: Write>(
-    refused: &[Left],
-    near: SocketAddr,
-    far: SocketAddr,
-    errors: &mut E,
-) {
+fn tell_refused<E: Write>(refused: &[Left], near: SocketAddr, far: SocketAddr, errors: &mut E) {
     for left in refused {
         let address = match left.side {
             Side::Local => near,

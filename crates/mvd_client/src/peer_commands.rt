@@ -1,7 +1,8 @@
 //! The commands that meet a server: sessions of a stored site, and shells.
-ghost use Rattle.std.specs.Prelude.{◌≡◌, ◌≢◌, ◌≤◌, ◌+◌, ◌++◌, [], IfErr, IfOk, IsErr, OnOk, option_copied, string_bytes};
+ghost use Rattle.std.specs.Prelude.{◌≡◌, ◌≢◌, ◌≤◌, ◌+◌, ◌++◌, [], IfErr, IfOk, IsErr, OnOk, is_some, option_copied, string_bytes};
 ghost use Rattle.std.specs.Io.KnownBytes.{Appends};
 ghost use Rattle.mvd_client.specs.AskedServer.{RepliesNoted, lost_of};
+ghost use Rattle.mvd_client.specs.Gone.{LetsGo};
 ghost use Rattle.mvd_client.specs.LetIn.{GivesIn};
 ghost use Rattle.mvd_client.specs.Questioned.{CountsFew, questions};
 ghost use Rattle.mvd_client.specs.Reported.{CutReport, HasNoLines, Reports, StopsLeft, refused_keys_text, root_in_states, session_text};
@@ -22,6 +23,7 @@ ghost use Rattle.mvd_sync.specs.Session.{Session};
 
 use crate::asked_server::{AskedServer, Noted};
 use crate::dial::{Dial, let_in, undialed};
+use crate::gone::Gone;
 use crate::progress::Watched;
 use crate::stored_side::StoredSide;
 use crate::written::write_lines;
@@ -53,12 +55,13 @@ pub fn sync_run<'a, D: Dial, S: Alter + Drop, E: Write>(
     address: SocketAddr,
     idle: u32,
     token: Option<&Token>,
+    gone: &mut Gone<D::Dialed>,
     told: Option<&mut E>,
 ) -> Result<Report, Stop<'a>>
     // A session ran over a line that the address gives, and what is told is what came of it; or there is no line.
     ensures syncs { SyncsAt D.Dialed.Line
         (GivesIn D.Dialed.Line (D.gives dial.now address) (option_copied token.entry)) address
-        replica.old replica.new result }
+        gone.old gone.new replica.old replica.new result }
     // Where what the address leads to is true, and so is the site, the two meet.
     ensures meets { AreTrue D.Dialed.Line (D.gives dial.now address) → IsTrueSite (site_of replica.old) →
         MeetsAt D.Dialed.Line (GivesIn D.Dialed.Line (D.gives dial.now address) (option_copied token.entry)) address
@@ -68,11 +71,11 @@ pub fn sync_run<'a, D: Dial, S: Alter + Drop, E: Write>(
     // It changed by these pushes alone, and its records follow.
     ensures pushed { FollowsPushed replica.old replica.new }
 {
-    let line = match let_in(dial, alloc, address, idle, token) {
+    let line = match let_in(dial, alloc, address, idle, token, gone) {
         Ok(line) => line,
         Err(fault) => return Err(undialed(address, fault)),
     };
-    match sync_line(alloc, line, replica, told) {
+    match sync_line(alloc, line, replica, gone, told) {
         Ok(report) => Ok(report),
         Err(fault) => Err(faulted(address, fault)),
     }
@@ -96,6 +99,7 @@ pub fn sync_told<'a, D: Dial, S: Alter + Drop, W: Write, E: Write>(
     address: SocketAddr,
     idle: u32,
     token: Option<&Token>,
+    gone: &mut Gone<D::Dialed>,
     verbose: bool,
     writer: &mut W,
     errors: &mut E,
@@ -103,23 +107,25 @@ pub fn sync_told<'a, D: Dial, S: Alter + Drop, W: Write, E: Write>(
     // What is printed is what came of the session, and what was done to the site is its turns.
     ensures tells { TellsSession D.Dialed.Line
         (GivesIn D.Dialed.Line (D.gives dial.now address) (option_copied token.entry)) address
-        replica.old replica.new (W.contents writer.old) (W.contents writer.new) result }
+        gone.old gone.new replica.old replica.new (W.contents writer.old) (W.contents writer.new) result }
 {
     let told = if verbose { Some(&mut *errors) } else { None };
-    match sync_run(dial, alloc, replica, address, idle, token, told) {
+    match sync_run(dial, alloc, replica, address, idle, token, gone, told) {
         Ok(report) => tell_report(alloc, replica, &report, writer, errors),
         Err(stop) => Err(stop),
     }
 }
 
-/// Runs a session over a line over which nothing went.
+/// Runs a session over a line over which nothing went, and lets it go as the session left it.
 fn sync_line<L: Line, S: Alter + Drop, E: Write>(
     alloc: Global,
     line: L,
     replica: &mut Replica<S>,
+    gone: &mut Gone<L>,
     told: Option<&mut E>,
 ) -> Result<Report, SyncFault>
-    ensures syncs { SyncsFrom L.Line line replica.old replica.new result }
+    ensures syncs { (left : L) × SyncsFrom L.Line line left replica.old replica.new result
+        × LetsGo left gone.old gone.new }
     ensures takes { TakesPushes replica.old replica.new }
     ensures pushed { FollowsPushed replica.old replica.new }
 {
@@ -129,7 +135,9 @@ fn sync_line<L: Line, S: Alter + Drop, E: Write>(
         moved: 0,
         told,
     };
-    sync_over(alloc, replica, &mut watched)
+    let ran = sync_over(alloc, replica, &mut watched);
+    gone.lets_go(watched.side.into_line());
+    ran
 }
 
 /// Runs a session over a line, and says Bye. Where the line is true, what is at its other end is a true side: both
@@ -319,20 +327,24 @@ pub fn remote_shell_run<'a, D: Dial, R: BufRead, W: Write>(
     address: SocketAddr,
     idle: u32,
     token: Option<&Token>,
+    gone: &mut Gone<D::Dialed>,
     reader: &mut R,
     writer: &mut W,
 ) -> Result<(), Stop<'a>>
     // The shell is over a line that the address gives; or there is no line.
     ensures shells { ShellsAt D.Dialed.Line
-        (GivesIn D.Dialed.Line (D.gives dial.now address) (option_copied token.entry)) address
+        (GivesIn D.Dialed.Line (D.gives dial.now address) (option_copied token.entry))
+        (is_some (option_copied token.entry)) address gone.old gone.new
         (R.remaining reader.old) (W.contents writer.old) (R.remaining reader.new) (W.contents writer.new) result }
 {
-    let line = match let_in(dial, alloc, address, idle, token) {
+    let line = match let_in(dial, alloc, address, idle, token, gone) {
         Ok(line) => line,
         Err(fault) => return Err(undialed(address, fault)),
     };
-    let mut server = AskedServer::over(alloc, line);
-    shell_over(alloc, &mut server, address, reader, writer)
+    let mut server = AskedServer::over(alloc, line, token.is_some());
+    let ended = shell_over(alloc, &mut server, address, reader, writer);
+    gone.lets_go(server.into_line());
+    ended
 }
 
 /// The same over a line to that server.

@@ -5,11 +5,11 @@ use Rattle.mvd_app.proofs.commands.run.Goals as goal
 pub returns-in-Sim : goal.returns-in-Sim
 returns-in-Sim g c = record {
   file = rw c.in-Sim.is c.without_file.ensures.left;
-  told = rw c.in-Sim.is (rw c.without_file.ensures.ended c.run_sim.ensures);
+  told = rw c.in-Sim.is (refl, rw c.without_file.ensures.ended c.run_sim.ensures);
 }
 
 pub returns-in-Loop : goal.returns-in-Loop
-returns-in-Loop g c = record { file = rw c.in-Loop.is c.without_file-in-Loop.ensures.left; told = rw c.in-Loop.is (rw c.without_file-in-Loop.ensures.ended c.run_loop.ensures) }
+returns-in-Loop g c = record { file = rw c.in-Loop.is c.without_file-in-Loop.ensures.left; told = rw c.in-Loop.is (refl, rw c.without_file-in-Loop.ensures.ended c.run_loop.ensures) }
 
 pub returns-in-RemoteShell : goal.returns-in-RemoteShell
 returns-in-RemoteShell g c = record {

@@ -7,10 +7,10 @@ use Rattle.mvd_host.specs.Runs.{turns_in}
 use Rattle.mvd_app.proofs.commands.work_on.Goals as goal
 
 pub returns-in-Serve : goal.returns-in-Serve
-returns-in-Serve g c = rw c.in-Serve.is (turns_of (turns_in c.serve_stored.ensures.served.all), (c.serve_stored.ensures, refl))
+returns-in-Serve g c = rw c.in-Serve.is (turns_of (turns_in c.serve_stored.ensures.served.all), (c.serve_stored.ensures, refl, refl))
 
 pub returns-in-Shell : goal.returns-in-Shell
-returns-in-Shell g c = rw c.in-Shell.is (turns_asked c.typed.ensures.exchanges, (c.typed.ensures, refl))
+returns-in-Shell g c = rw c.in-Shell.is (turns_asked c.typed.ensures.exchanges, (c.typed.ensures, refl, refl))
 
 -- the token that is shown is the first
 pub returns-in-Sync : goal.returns-in-Sync

@@ -30,7 +30,8 @@ pub(crate) fn weight(site: &Site, request: &Request) -> u64
 }
 
 /// Whether the next frame of a client has to wait for another round: those of this one weigh as much as they may, and
-/// it asks for a change that weighs more than a little.
+/// it asks for a change that weighs more than a little, or is longer than that. A long one is not read to find out:
+/// where many wait, each round would read them all again.
 pub(crate) fn waits(alloc: Global, site: &Site, weighed: u64, connection: &Connection) -> bool
     ensures { result ≡ true → 4194304 ≤ weighed }
 {
@@ -38,10 +39,15 @@ pub(crate) fn waits(alloc: Global, site: &Site, weighed: u64, connection: &Conne
         return false;
     }
     match connection.coming() {
-        Some((kind, payload)) => match decode_request(alloc, kind, payload) {
-            Ok(request) => weight(site, &request) > LITTLE,
-            Err(_) => false,
-        },
+        Some((kind, payload)) => {
+            if payload.len() as u64 > LITTLE {
+                return true;
+            }
+            match decode_request(alloc, kind, payload) {
+                Ok(request) => weight(site, &request) > LITTLE,
+                Err(_) => false,
+            }
+        }
         None => false,
     }
 }

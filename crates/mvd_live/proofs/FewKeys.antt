@@ -16,7 +16,7 @@ use Rattle.mvd_site.specs.Answer.{digests, spelled}
 use Rattle.mvd_site.specs.Held.{AreHeld, States}
 use Rattle.mvd_peer.specs.PushedStates.{Each}
 use Rattle.mvd_peer.specs.Windows.{ForEach}
-use Rattle.mvd_sync.proofs.Reads.{IsListing}
+use Rattle.mvd_sync.proofs.Readings.{IsListing}
 use Rattle.mvd_sync.specs.Answers.{ListingValue, PageEntry, is_spent}
 use Rattle.mvd_sync.proofs.Exchanges.{keys_next}
 use Rattle.mvd_sync.proofs.Walk.{has_below}

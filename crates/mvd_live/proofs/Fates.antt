@@ -81,7 +81,7 @@ same_counts done old new same c = subst (Counts done) (sym same) c
 -- the first keys are taken out of those that wait
 taken_out : (f : Frame) (key : Key) (walk : Walking) (most : ℕ) (all : List Entry) (entries : Vec Entry Global) (waiting : List Entry) → entries.items ≡ take most all → waiting ≡ drop most all → AnyOf (Fits f key) all → AtStage f key waiting (Meets walk entries)
 taken_out f key walk most all entries waiting list rest some = elim (any_cut (Fits f key) most all some) [
-  | inl here ↦ inr (subst (AnyOf (Fits f key)) (sym list) here)
+  | inl out ↦ inr (subst (AnyOf (Fits f key)) (sym list) out)
   | inr later ↦ inl (inr (subst (AnyOf (Fits f key)) (sym rest) later))
 ]
 

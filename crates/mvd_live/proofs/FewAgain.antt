@@ -226,7 +226,7 @@ abbrev pub first_asked : (side : Side) (work work' : Exchanging) (stage stage' :
 first_asked side work work' (Descends level) stage' shares answers heard = length (next_nodes level)
 first_asked side work work' (Walks walk) stage' shares answers heard = length (pages_of side walk)
 first_asked side work work' (Meets walk entries) stage' shares answers (uncut none read) = length (held_keys side entries.items)
-first_asked side work work' (Meets walk entries) stage' shares answers (cut_at count cut met) = length (held_keys side (take count entries.items))
+first_asked side work work' (Meets walk entries) stage' shares answers (cut_at count cut first) = length (held_keys side (take count entries.items))
 first_asked side work work' (Carries walk turn count) stage' shares answers heard = cond (is_same turn.side side) count 0
 first_asked side work work' Done stage' shares answers heard = 0
 first_asked side work work' (Failed fault) stage' shares answers heard = 0

@@ -17,7 +17,7 @@ use sqlite_trees::store::Store;
 use std::alloc::{AllocError, Global};
 use std::fs;
 use std::fs::{File, OpenOptions};
-use std::io::{self, Write};
+use std::io::{self, Stderr, Write};
 use std::net::SocketAddr;
 use std::os::unix::fs::MetadataExt;
 

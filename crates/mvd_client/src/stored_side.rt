@@ -1,7 +1,7 @@
 //! A stored site as a side of a session, of which each push is a turn.
 ghost use Rattle.std.specs.Prelude.{◌≡◌, false, Some, IfErr, IfOk};
 ghost use Rattle.std.specs.Option.{option_copied};
-ghost use Rattle.std.proofs.Common.{ap, refl, ◌∙◌};
+ghost use Rattle.std.proofs.Common.{ap, inl, refl, ◌∙◌};
 ghost use Rattle.mvd_client.specs.Pushing.{EndsPushes, FollowsTurns, TellsPushes, turns_on, turns_self};
 ghost use Rattle.mvd_keys.specs.State.{IsValid};
 ghost use Rattle.mvd_replica.specs.ReplicaCalls.{TellsBucketPage, TellsState, node_told};

@@ -1,6 +1,7 @@
 use Rattle.mvd_client.specs.SyncSides.{far_side, line_side}
 use Rattle.mvd_client.proofs.Ran.{run_within}
 use Rattle.mvd_client.proofs.Seen.{session_within}
+use Rattle.mvd_client.proofs.Watching.{asks_few}
 use Rattle.mvd_client.proofs.meeting.meet_over.Goals as goal
 
 pub returns-clause-session : goal.returns-clause-session
@@ -12,3 +13,6 @@ pub returns-clause-ran : goal.returns-clause-ran
 returns-clause-ran g c =
     run_within (λ near. near) (λ far. far.side) (far_side (line_side g.L.Line)) (far_side (line_side g.M.Line)) _ _ (λ n old new way. way) (λ n old new way. way.0.1)
     10000000 c.args.near.now c.sync.new.local c.args.far.now c.sync.new.peer c.sync.result c.sync.ensures.ran
+
+pub returns-clause-few : goal.returns-clause-few
+returns-clause-few g c t r = let session = c.sync.ensures.session in let course = session.course in asks_few _ _ course.asked_peer course.first_peer course.first_local course.again_peer course.wanted_local course.wanted_peer _ _ course.follows.1.1 course.parts.1 (session.few t r) session.again.1

@@ -2,7 +2,7 @@
 ghost use Rattle.std.specs.Prelude.{◌≡◌, ◌++◌, IfErr, IfOk, IsErrAnd, codes, string_bytes};
 ghost use Rattle.mvd_app.specs.Tasks.{ServesTo};
 ghost use Rattle.mvd_input.specs.Ends.{ReadsNot};
-ghost use Rattle.mvd_replica.specs.FileCalls.{OpensAsSite};
+ghost use Rattle.mvd_replica.specs.FileCalls.{IsNoFile, OpensAsSite};
 ghost use Rattle.mvd_server.specs.TokenFiles.{IsUnreadSo, passes_asked};
 ghost use Rattle.sqlite.specs.WalFiles.{image_at};
 

@@ -137,7 +137,7 @@ abbrev pub IsTypedAt : {L : Type 0} → LineGhosts L → (L → Type 0) → Sock
 IsTypedAt line gives address file was now input input' out out' result =
     ((tokens : Option Tokens) × AreTokensOfOrder file tokens
     × ShellsAt line (GivesIn line gives (first_token tokens)) (is_some (first_token tokens)) address was now
-        input out input' out' result)
+    input out input' out' result)
     ⊎ (((stop : Stop) × (result ≡ Err stop) × StopsAtToken file stop) × (input' ≡ input) × (out' ≡ out))
 
 -- a session of two servers, to each of which the first token was shown; or the tokens could not be read of their file

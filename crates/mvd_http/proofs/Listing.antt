@@ -1,19 +1,27 @@
 -- The entries of a page that are told, and how far it goes.
-use Rattle.std.proofs.Common.{◌≡◌, ◌≢◌, ◌∙◌, ◌==◌, ℕ, ◌+◌, ◌-◌, ◌<◌, ◌≤◌, Bool, true, false, cond, List, [], ◌∷◌, ◌++◌, length, get_or, take, drop, filter, Option, None, Some, refl, sym, ap, append_assoc, append-nil, arith, codes}
+use Rattle.std.proofs.Common.{◌≡◌, ◌≢◌, ◌∙◌, ◌==◌, ℕ, zero, suc, ◌+◌, ◌-◌, ◌<◌, ◌≤◌, Bool, true, false, T, ◌&&◌, cond, List, [], ◌∷◌, ◌++◌, length, get_or, take, drop, filter, Option, None, Some, refl, sym, ap, append_assoc, append-nil, arith, codes}
 use Rattle.std.specs.Prelude.{◌||◌, nat_lt}
 use Rattle.std.specs.FinMap.{entries, get, get-entries}
-use Rattle.std.specs.FinMap.Entries.{find}
-use Rattle.std.specs.Ordering.{eq_by_cmp}
+use Rattle.std.specs.FinMap.{is_sorted}
+use Rattle.std.specs.FinMap.Entries.{below_all, find}
+use Rattle.std.specs.List.{AllWithin}
+use Rattle.std.specs.List.Sorted.{IsNonDecreasingBy}
+use Rattle.std.specs.declared.cmp.Ordering.{Ordering}
+use Rattle.std.specs.declared.cmp.Ordering.TheVariants.{Less, Equal, Greater}
+use Rattle.std.specs.Ordering.{eq_by_cmp, is_eq, is_lt, ordering_index, ordering_reverse}
 use Rattle.sha2.specs.Sha256.{sha256}
 use Rattle.std.proofs.lemmas.List.Elements.{filter_more}
+use Rattle.std.proofs.lemmas.List.Sorted.{searchable_from_sorted}
 use Rattle.std.proofs.lemmas.List.{at_drop_all, drop_more, length_push, length-take-le, take_all, take_more}
 use Rattle.std.proofs.lemmas.Bool.Decides.{nat_tests}
 use Rattle.mvd_dots.specs.Dot.{DotValue, dot_cmp}
+use Rattle.mvd_dots.proofs.Sets.{dot_total, same_dot, tied_dot}
 use Rattle.mvd_keys.specs.State.{State, Text, pairs_of}
 use Rattle.mvd_keys.specs.Writes.{Key}
 use Rattle.mvd_keys.specs.declared.siblings.Sibling.{Sibling}
 use Rattle.mvd_http.specs.Json.{comma_if, commaed, digest_json, document_json, led_if, next_text, next_text_of}
-use Rattle.mvd_http.specs.Listed.{digest_told, document_at, document_if, front, spelling as spelled, state_digest}
+use Rattle.mvd_keys.specs.declared.places.Place.{Place}
+use Rattle.mvd_http.specs.Listed.{Serves, digest_told, document_at, document_if, front, place_in, place_told, spelling as spelled, state_digest}
 use Rattle.mvd_http.specs.declared.question.Spelling.{Spelling}
 use Rattle.mvd_http.proofs.Counting.{commaed_more}
 use Rattle.mvd_http.proofs.Steps.{steps2, steps5}
@@ -111,9 +119,63 @@ entry_on f xs i x old s0 s1 s2 b within is so_far at_first e1 e2 =
 
 -- ---- the document of a dot
 
-module _ (dot : DotValue) (siblings : List Sibling) where
-  abbrev pub found_from : ℕ → Option Text
-  found_from i = find dot_cmp dot (pairs_of (drop i siblings))
+both_true : (a b : Bool) → T (a && b) → T a × T b
+both_true true b h = (tt, h)
+both_true false b h = absurd h
+
+less : (o : Ordering) → T (is_lt o) → o ≡ Less
+less Less h = refl
+less Equal h = absurd h
+less Greater h = absurd h
+
+equal : (o : Ordering) → o ≡ Equal → is_eq o ≡ true
+equal o e = ap is_eq e
+
+less_after : (dot : DotValue) (ss : List Sibling) → T (below_all dot_cmp dot (pairs_of ss)) → (k : ℕ) (d : Sibling) → k < length ss → dot_cmp dot (get_or ss k d).dot ≡ Less
+less_after dot [] h k d l = absurd (omega arith)
+less_after dot (s ∷ ss) h zero d l = less _ (both_true _ _ h).0
+less_after dot (s ∷ ss) h (suc k) d l = less_after dot ss (both_true _ _ h).1 k d (omega arith)
+
+less_far : (ss : List Sibling) → T (is_sorted dot_cmp (pairs_of ss)) → (i j : ℕ) (d : Sibling) → i < j → j < length ss → dot_cmp (get_or ss i d).dot (get_or ss j d).dot ≡ Less
+less_far [] rises i j d l h = absurd (omega arith)
+less_far (s ∷ ss) rises i zero d l h = absurd (omega arith)
+less_far (s ∷ ss) rises zero (suc j) d l h = less_after s.dot ss (both_true _ _ rises).0 j d (omega arith)
+less_far (s ∷ ss) rises (suc i) (suc j) d l h = less_far ss (both_true _ _ rises).1 i j d (omega arith) (omega arith)
+
+-- the dots rise, as a search by halving asks
+pub searchable : (ss : List Sibling) → T (is_sorted dot_cmp (pairs_of ss)) → (dot : DotValue) → IsNonDecreasingBy (λ (s : Sibling). ordering_index (dot_cmp s.dot dot)) ss
+searchable ss rises dot =
+    searchable_from_sorted dot_total (λ (s : Sibling). s.dot) ss dot (λ k d l h.
+    ap is_lt (dot_total.antisymm (get_or ss (k + 1) d).dot (get_or ss k d).dot ∙ ap ordering_reverse (less_far ss rises k (k + 1) d (omega arith) h)))
+
+module _ (dot : DotValue) where
+  abbrev pub found : List Sibling → Option Text
+  found ss = find dot_cmp dot (pairs_of ss)
+
+  -- the first sibling has another dot
+  pass : (s : Sibling) (ss : List Sibling) (o : Ordering) → dot_cmp s.dot dot ≡ o → is_eq (ordering_reverse o) ≡ false → found ss ≡ found (s ∷ ss)
+  pass s ss o e other =
+      sym (ap (λ b. cond b (Some s.document) (found ss)) (ap is_eq (dot_total.antisymm dot s.dot ∙ ap ordering_reverse e) ∙ other))
+
+  -- it is there
+  pub found_at : (ss : List Sibling) (k : ℕ) (d : Sibling) → T (is_sorted dot_cmp (pairs_of ss)) → k < length ss → dot_cmp (get_or ss k d).dot dot ≡ Equal → Some (get_or ss k d).document ≡ found ss
+  found_at [] k d rises l e = absurd (omega arith)
+  found_at (s ∷ ss) zero d rises l e =
+      sym (ap (λ b. cond b (Some s.document) (found ss)) (ap (λ x. eq_by_cmp dot_cmp x s.dot) (sym (same_dot s.dot dot (equal _ e))) ∙ tied_dot s.dot))
+  found_at (s ∷ ss) (suc k) d rises l e =
+      let parts = both_true _ _ rises in
+      let above : dot_cmp s.dot dot ≡ Less = ap (dot_cmp s.dot) (sym (same_dot (get_or ss k d).dot dot (equal _ e))) ∙ less_after s.dot ss parts.0 k d (omega arith) in
+      found_at ss k d parts.1 (omega arith) e ∙ pass s ss Less above refl
+
+  -- it is not there
+  pub found_none : (ss : List Sibling) (k : ℕ) → AllWithin (λ (s : Sibling). dot_cmp s.dot dot ≡ Less) ss 0 k → AllWithin (λ (s : Sibling). dot_cmp s.dot dot ≡ Greater) ss k (length ss) → None ≡ found ss
+  found_none [] k below above = refl
+  found_none (s ∷ ss) zero below above =
+      found_none ss zero (λ i d l h. absurd (omega arith)) (λ i d l h. above (suc i) d (omega arith) (omega arith))
+      ∙ pass s ss Greater (above 0 s (omega arith) (omega arith)) refl
+  found_none (s ∷ ss) (suc k) below above =
+      found_none ss k (λ i d l h. below (suc i) d (omega arith) (omega arith)) (λ i d l h. above (suc i) d (omega arith) (omega arith))
+      ∙ pass s ss Less (below 0 s (omega arith) (omega arith)) refl
 
 module _ (spelling : Spelling) (dot : DotValue) (state : State) (pairs : List (DotValue × Text)) (same : pairs ≡ entries state.siblings) where
   found_in : (o : Option Text) → o ≡ find dot_cmp dot pairs → o ≡ get state.siblings dot
@@ -127,6 +189,11 @@ module _ (spelling : Spelling) (dot : DotValue) (state : State) (pairs : List (D
   pub document_put : (old s1 s2 : List ℕ) (text : Text) → Some text ≡ find dot_cmp dot pairs → s1 ≡ old ++ codes "," → s2 ≡ s1 ++ document_json spelling text → s2 ≡ old ++ document_at spelling dot state
   document_put old s1 s2 text some e1 e2 =
       steps2 old s1 s2 (codes ",") (document_json spelling text) e1 e2 ∙ ap (λ o. old ++ document_if spelling o) (found_in (Some text) some)
+
+-- a state that serves tells the place
+pub served : (documents : Option Spelling) (states : Key → State) (state : State) (place : Place) → Serves documents states state place.key → place_in documents state place ≡ place_told documents states place
+served None states state place is = refl
+served (Some spelling) states state place is = ap (λ (s : State). place_in (Some spelling) s place) is
 
 -- ---- a page
 

@@ -1,5 +1,5 @@
 -- What is told of a page where it is to have more than the site's own, from the states of its keys, or fewer entries.
-use Rattle.std.specs.Prelude.{ℕ, ℤ, ◌+◌, ◌-◌, ◌++◌, ◌||◌, ◌==◌, nat_lt, not, if◌then◌else◌, Bool, true, false, List, [], ◌∷◌, codes, filter, length, take, Option, Some, None, Result, Ok, Err}
+use Rattle.std.specs.Prelude.{◌≡◌, ⊤, ℕ, ℤ, ◌+◌, ◌-◌, ◌++◌, ◌||◌, ◌==◌, nat_lt, not, if◌then◌else◌, Bool, true, false, List, [], ◌∷◌, codes, filter, length, take, Option, Some, None, Result, Ok, Err}
 use Rattle.std.specs.FinMap.{get}
 use Rattle.std.specs.Fmt.{decimal}
 use Rattle.sha2.specs.Sha256.{sha256}
@@ -96,10 +96,18 @@ document_if spelling (Some text) = codes "," ++ document_json spelling text
 abbrev pub document_at : Spelling → DotValue → State → List ℕ
 document_at spelling dot state = document_if spelling (get state.siblings dot)
 
+-- a place, with the document of its dot in the state of its key, where that is wanted
+abbrev pub place_in : Option Spelling → State → Place → List ℕ
+place_in None state place = place_json place
+place_in (Some spelling) state place = place_front place ++ (document_at spelling place.dot state ++ codes "}")
+
 abbrev pub place_told : Option Spelling → (Key → State) → Place → List ℕ
-place_told None states place = place_json place
-place_told (Some spelling) states place =
-    place_front place ++ (document_at spelling place.dot (states place.key) ++ codes "}")
+place_told documents states place = place_in documents (states place.key) place
+
+-- where documents are wanted, a state is that of the key
+abbrev pub Serves : Option Spelling → (Key → State) → State → Key → Type 0
+Serves None states state key = ⊤
+Serves (Some _) states state key = state ≡ states key
 
 abbrev pub place_bytes : Option Spelling → (Key → State) → Place → ℕ
 place_bytes documents states place = length (place_told documents states place)

@@ -1,10 +1,10 @@
 //! Pages of an index, of which a document may be told with each place.
-ghost use Rattle.std.specs.Prelude.{◌≡◌, ◌≤◌, ◌++◌, IfOk, OnOk, length, option_map, string_bytes, take};
+ghost use Rattle.std.specs.Prelude.{◌≡◌, ◌≤◌, ◌++◌, IfOk, IfSome, IsTrue, OnOk, Some, length, option_map, string_bytes, take, true};
 ghost use Rattle.std.specs.FinMap.Entries.{find};
-ghost use Rattle.std.specs.Ordering.{eq_by_cmp};
+ghost use Rattle.std.specs.Option.{option_copied};
 ghost use Rattle.mvd_dots.specs.Dot.{dot_cmp};
-ghost use Rattle.mvd_keys.specs.State.{pairs_of};
-ghost use Rattle.mvd_http.specs.Listed.{document_at, place_bytes, place_front_of, place_told, places_listed, places_told};
+ghost use Rattle.mvd_keys.specs.State.{pairs_of, rises};
+ghost use Rattle.mvd_http.specs.Listed.{Serves, document_at, place_front_of, place_in, places_listed, places_told};
 
 use crate::documents::push_document;
 use crate::json_lists::{push_place, push_place_front, push_place_next};
@@ -13,9 +13,8 @@ use crate::listed::{Holds, ROOM, first_of, has_more, push_comma};
 use crate::question::{Spelling, Wanted};
 use mvd_docs::Document;
 use mvd_dots::{Dot, Refusal};
-use mvd_keys::{KeyState, Place, Sibling};
+use mvd_keys::{Key, KeyState, Place, Sibling};
 use std::alloc::Global;
-use std::cmp::Ordering;
 
 /// Puts a page of an index, with what is wanted of each place, behind what `out` holds.
 pub fn push_places_listed<H: Holds>(
@@ -38,7 +37,8 @@ pub fn push_places_listed<H: Holds>(
     Ok(push_word(out, "}")?)
 }
 
-/// Puts down the places of a page. It gives how many were.
+/// Puts down the places of a page. It gives how many were. Places of one key that follow each other need one look at its
+/// state.
 fn push_items<H: Holds>(
     alloc: Global,
     held: &H,
@@ -53,51 +53,81 @@ fn push_items<H: Holds>(
         string_bytes out.old ++ places_told documents (H.states held.now) (take count places.now)) }
 {
     let mut room = ROOM;
+    let mut state = KeyState::empty(alloc);
+    let mut last = None;
     for index in 0..places.len() {
         if room == 0 {
             return Ok(index);
         }
         let place = &places[index];
+        look_up(held, documents, &place.key, last, &mut state)?;
+        last = Some(&place.key);
         push_comma(out, index == 0)?;
-        let told = push_item(alloc, held, documents, place, out)?;
+        let told = push_item(alloc, documents, place, &state, out)?;
         room = room.saturating_sub(told);
     }
     Ok(places.len())
 }
 
-/// A place, with its document where that is wanted. It gives how many bytes that took.
-fn push_item<H: Holds>(
-    alloc: Global,
+/// Makes a state that of a key, where documents are wanted. It is so already where the last key is the same.
+fn look_up<H: Holds>(
     held: &H,
     documents: Option<Spelling>,
+    key: &Key,
+    last: Option<&Key>,
+    state: &mut KeyState,
+) -> Result<(), Refusal>
+    requires { IfSome last (λ last. Serves documents (H.states held.now) state.old last.now) }
+    ensures { OnOk result (Serves documents (H.states held.now) state.new key.now) }
+{
+    if documents.is_some() && !is_key(last, key) {
+        *state = held.state_of(key)?;
+    }
+    Ok(())
+}
+
+/// Whether the last key, if there is one, is this key.
+fn is_key(last: Option<&Key>, key: &Key) -> bool
+    ensures { result ≡ true → option_copied last.entry ≡ Some key.now }
+{
+    match last {
+        Some(last) => last == key,
+        None => false,
+    }
+}
+
+/// A place, with its document in this state where that is wanted. It gives how many bytes that took.
+fn push_item(
+    alloc: Global,
+    documents: Option<Spelling>,
     place: &Place,
+    state: &KeyState,
     out: &mut String,
 ) -> Result<usize, Refusal>
     ensures text { OnOk result (string_bytes out.new ≡
-        string_bytes out.old ++ place_told documents (H.states held.now) place.now) }
-    ensures told { IfOk result (λ told. told ≡ place_bytes documents (H.states held.now) place.now) }
+        string_bytes out.old ++ place_in documents state.now place.now) }
+    ensures told { IfOk result (λ told. told ≡ length (place_in documents state.now place.now)) }
 {
     let before = out.len();
-    push_told(alloc, held, documents, place, out)?;
+    push_told(alloc, documents, place, state, out)?;
     Ok(out.len() - before)
 }
 
-fn push_told<H: Holds>(
+fn push_told(
     alloc: Global,
-    held: &H,
     documents: Option<Spelling>,
     place: &Place,
+    state: &KeyState,
     out: &mut String,
 ) -> Result<(), Refusal>
     ensures { OnOk result (string_bytes out.new ≡
-        string_bytes out.old ++ place_told documents (H.states held.now) place.now) }
+        string_bytes out.old ++ place_in documents state.now place.now) }
 {
     let Some(spelling) = documents else {
         return push_place(alloc, out, place);
     };
-    let state = held.state_of(&place.key)?;
     push_place_front(alloc, out, place)?;
-    push_document_at(alloc, out, spelling, place.dot, &state)?;
+    push_document_at(alloc, out, spelling, place.dot, state)?;
     Ok(push_word(out, "}")?)
 }
 
@@ -121,18 +151,11 @@ fn push_document_at(
 }
 
 fn document_of_dot(siblings: &[Sibling], dot: Dot) -> Option<&Document>
+    requires { IsTrue (rises siblings.now) }
     ensures { option_map (λ document. document.now) result ≡ find dot_cmp dot (pairs_of siblings.now) }
 {
-    for sibling in siblings {
-        if is_dot(dot, sibling.dot) {
-            return Some(&sibling.document);
-        }
+    match siblings.binary_search_by(|sibling| sibling.dot.cmp(&dot)) {
+        Ok(index) => Some(&siblings[index].document),
+        Err(_) => None,
     }
-    None
-}
-
-fn is_dot(dot: Dot, other: Dot) -> bool
-    ensures { result ≡ eq_by_cmp dot_cmp dot other }
-{
-    matches!(dot.cmp(&other), Ordering::Equal)
 }

@@ -1,5 +1,5 @@
 -- No line in which a write is told is longer than 64 bytes.
-use Rattle.std.proofs.Common.{◌≡◌, ◌<◌, ◌≤◌, ◌^◌, length, lit<, lit≤, length-append, refl, arith}
+use Rattle.std.proofs.Common.{◌≡◌, ◌<◌, ◌≤◌, ◌+◌, ◌++◌, ◌∷◌, [], ℕ, List, ◌^◌, length, lit<, lit≤, length-append, refl, arith}
 use Rattle.std.proofs.lemmas.Fmt.{length-decimal-le}
 use Rattle.mvd_dots.specs.Dot.{DotValue}
 use Rattle.mvd_dots.specs.declared.refusals.Refusal.{Refusal}
@@ -7,7 +7,7 @@ use Rattle.mvd_dots.specs.declared.refusals.Refusal.TheVariants.{BadKey, BadCont
 use Rattle.mvd_dots.specs.Refusal.{number_of, name_of}
 use Rattle.mvd_wire.specs.declared.reply.Reply.{Reply}
 use Rattle.mvd_wire.specs.declared.reply.Reply.TheVariants as reply
-use Rattle.mvd_http.specs.Json.{refused_json, write_text, written_line}
+use Rattle.mvd_http.specs.Json.{misread_json, refused_json, write_text, written_line}
 
 number_short : (refusal : Refusal) → number_of refusal < 100
 number_short BadKey = lit< tt
@@ -73,6 +73,13 @@ name_short NotAdmitted = lit≤ tt
 
 pub refused_short : (refusal : Refusal) → length (refused_json refusal) < 64
 refused_short refusal =
+    let number = number_short refusal in
+    let digits = length-decimal-le 2 (number_of refusal) (lit< tt) number (omega arith) in
+    let name = name_short refusal in
+    simp length-append (omega arith)
+
+pub misread_short : (refusal : Refusal) (place : List ℕ) → length (misread_json refusal place ++ 10 ∷ []) ≤ length place + 70
+misread_short refusal place =
     let number = number_short refusal in
     let digits = length-decimal-le 2 (number_of refusal) (lit< tt) number (omega arith) in
     let name = name_short refusal in

@@ -1,5 +1,5 @@
 -- The lines of a list, and what each asks.
-use Rattle.std.proofs.Common.{◌≡◌, ◌∙◌, ◌==◌, ℕ, suc, zero, refl, ◌+◌, ◌<◌, ◌≤◌, max, Bool, true, false, cond, List, [], ◌∷◌, ◌++◌, length, get_or, take, Option, Some, None, option_map, Result, Bor, sym, ap, subst, arith, codes}
+use Rattle.std.proofs.Common.{◌≡◌, ◌∙◌, ◌==◌, ℕ, suc, zero, refl, ◌+◌, ◌<◌, ◌≤◌, max, Bool, true, false, cond, List, [], ◌∷◌, ◌++◌, length, get_or, take, Option, Some, None, option_map, Result, Ok, Bor, sym, ap, subst, arith, codes}
 use Rattle.std.specs.List.{slice_get, slice_split}
 use Rattle.std.specs.Ordering.{match_ordering, nat_cmp}
 use Rattle.std.specs.Cmp.Lexicographic.{slice_cmp}
@@ -8,14 +8,16 @@ use Rattle.std.specs.declared.cmp.Ordering.TheVariants.{Less, Equal, Greater}
 use Rattle.std.proofs.lemmas.List.{length-take-le, take_all, take_more}
 use Rattle.serde_json.specs.Data.{Data, Members, no_members, member, null, boolean, number, string, array, object, depth, members_depth}
 use Rattle.serde_json.specs.Find.{get, get_member}
-use Rattle.serde_json.specs.Read.{max_depth}
+use Rattle.serde_json.specs.Read.{max_depth, read}
 use Rattle.serde_json.specs.View.{view}
 use Rattle.serde_json.specs.declared.value.Value.{Value}
+use Rattle.mvd_dots.specs.Answer.{IsAnswer}
 use Rattle.mvd_dots.specs.declared.refusals.Refusal.{Refusal}
+use Rattle.mvd_print.specs.Place.{fault_json}
 use Rattle.mvd_wire.specs.declared.request.Request.{Request}
 use Rattle.mvd_http.specs.declared.posted.Line.{Line}
 use Rattle.mvd_http.specs.declared.posted.Form.{Form}
-use Rattle.mvd_http.specs.Posted.{AreItems, IsFirstOther, IsLineItem, LineValue, line_of_data, line_with, body_lines, said_by, without_last}
+use Rattle.mvd_http.specs.Posted.{AreItems, ArePlaces, IsFirstOther, IsLineItem, IsPlaceIn, IsPlaceOfLine, LineValue, is_of_document, line_of_data, line_with, body_lines, said_by, without_last}
 
 -- ---- the document of a line nests no deeper than the line
 
@@ -94,6 +96,37 @@ module _ (form : Form) where
         there = there_at lines n line at.0 at.1;
         other = subst (λ o. IsLineItem form line o) none other;
       }
+
+-- ---- where documents are wrong
+
+-- a document of a line nests no deeper than the line
+pub document_nests : (d : Data) (o : Option (Bor Value)) → depth d ≤ max_depth → option_map (λ (v : Bor Value). view v.now) o ≡ get (codes "document") d → (v : Bor Value) → o ≡ Some v → depth (view v.now) ≤ max_depth
+document_nests d o few is v some =
+    let least : depth (view v.now) ≤ depth d = within (codes "document") d (view v.now) (sym is ∙ ap (λ o. option_map (λ (v : Bor Value). view v.now) o) some) in
+    omega (arith, few)
+
+pub place_there : (refusal : Refusal) (d : Data) (text place : List ℕ) → is_of_document refusal ≡ true → read text ≡ Some d → IsAnswer {T = List ℕ} (Ok place) (Ok (fault_json refusal text)) → IsPlaceIn refusal (Some d) (Some place)
+place_there refusal d text place is reads answer =
+    let here : fault_json refusal text ≡ place = cc in (is, (text, (reads, sym here)))
+
+module _ (form : Form) where
+  places_more : (lines : List (List ℕ)) (items : List (Result Request Refusal)) (places : List (Option (List ℕ))) (line : List ℕ) (item : Result Request Refusal) (place : Option (List ℕ)) → ArePlaces form lines items places → IsPlaceOfLine form line item place → ArePlaces form (lines ++ line ∷ []) (items ++ item ∷ []) (places ++ place ∷ [])
+  places_more [] [] [] line item place are is = (is, tt)
+  places_more [] [] (p ∷ ps) line item place are is = absurd are
+  places_more [] (i ∷ is) ps line item place are it = absurd are
+  places_more (l ∷ ls) [] ps line item place are is = absurd are
+  places_more (l ∷ ls) (i ∷ is) [] line item place are it = absurd are
+  places_more (l ∷ ls) (i ∷ is) (p ∷ ps) line item place are it = (are.0, places_more ls is ps line item place are.1 it)
+
+  -- one place more
+  pub place_more : (lines : List (List ℕ)) (n : ℕ) (items : List (Result Request Refusal)) (places : List (Option (List ℕ))) (line : List ℕ) (item : Result Request Refusal) (place : Option (List ℕ)) → (n < length lines) × (line ≡ get_or lines n line)
+      → ArePlaces form (take n lines) items places → IsPlaceOfLine form line item place → ArePlaces form (take (n + 1) lines) (items ++ item ∷ []) (places ++ place ∷ [])
+  place_more lines n items places line item place at are is =
+      subst (λ ls. ArePlaces form ls (items ++ item ∷ []) (places ++ place ∷ [])) (sym (take_more lines n line at.0 ∙ ap (λ l. take n lines ++ l ∷ []) (sym at.1)))
+      (places_more (take n lines) items places line item place are is)
+
+  pub all_places : (lines : List (List ℕ)) (n : ℕ) (items : List (Result Request Refusal)) (places : List (Option (List ℕ))) → length lines ≤ n → ArePlaces form (take n lines) items places → ArePlaces form lines items places
+  all_places lines n items places ended are = subst (λ ls. ArePlaces form ls items places) (take_all n lines ended) are
 
 -- where the next line is, in the one list of lines or the other
 pub at_line : (n : ℕ) (line : List ℕ) (parts lines : List (List ℕ)) → parts ≡ lines → (n < length parts) × (line ≡ get_or parts n line) → (n < length lines) × (line ≡ get_or lines n line)

@@ -230,6 +230,16 @@ write_text _ = refused_json BadKind
 abbrev pub line_text : Reply → List ℕ
 line_text reply = write_text reply ++ 10 ∷ []
 
+-- that of a write which is refused, where its document is wrong at this place, if it is refused for that
+abbrev pub refused_line : Refusal → Option (List ℕ) → List ℕ
+refused_line refusal None = line_text (reply.Refused refusal)
+refused_line refusal (Some place) = misread_json refusal place ++ 10 ∷ []
+
+-- the most bytes of such a line: each takes at most 64 but for the place, which has 6 about it
+abbrev pub line_room : Option (List ℕ) → ℕ
+line_room None = 64
+line_room (Some place) = length place + 70
+
 -- ---- the lines that many questions are told in
 
 -- a node's path, as its digits

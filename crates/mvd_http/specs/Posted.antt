@@ -12,10 +12,11 @@ use Rattle.serde_json.specs.View.{view}
 use Rattle.mvd_dots.specs.Answer.{IsAnswer}
 use Rattle.mvd_dots.specs.Context.{DotSet}
 use Rattle.mvd_dots.specs.declared.refusals.Refusal.{Refusal}
-use Rattle.mvd_dots.specs.declared.refusals.Refusal.TheVariants.{Memory}
+use Rattle.mvd_dots.specs.declared.refusals.Refusal.TheVariants.{BadDocument, BadNumber, DocumentTooLong, Memory, NotObject}
 use Rattle.mvd_docs.specs.Document.{document_of_data}
 use Rattle.mvd_keys.specs.Key.{key_of_text}
 use Rattle.mvd_keys.specs.Writes.{Key}
+use Rattle.mvd_print.specs.Place.{fault_json}
 use Rattle.mvd_wire.specs.declared.request.Request.{Request}
 use Rattle.mvd_wire.specs.declared.request.Request.TheVariants.{Get, Put, Delete}
 use Rattle.mvd_http.specs.declared.posted.Form.{Form}
@@ -72,6 +73,24 @@ IsWriteOf line item = IsWrite (Ok set.empty) (key_of_text line.key) line.context
 abbrev pub IsGetOf : List ℕ → Result Request Refusal → Type 0
 IsGetOf text item = IsAnswer item (then_read (key_of_text text) (λ key. Ok (Get key)))
 
+-- Where the document of a write is wrong, as a JSON text, if it is refused for that: the place in some text of it
+abbrev pub is_of_document : Refusal → Bool
+is_of_document BadDocument = true
+is_of_document NotObject = true
+is_of_document BadNumber = true
+is_of_document DocumentTooLong = true
+is_of_document _ = false
+
+abbrev pub IsPlaceIn : Refusal → Option Data → Option (List ℕ) → Type 0
+IsPlaceIn refusal None place = place ≡ None
+IsPlaceIn refusal (Some d) None = is_of_document refusal ≡ false
+IsPlaceIn refusal (Some d) (Some place) =
+    (is_of_document refusal ≡ true) × ((text : List ℕ) × (read text ≡ Some d) × (place ≡ fault_json refusal text))
+
+abbrev pub IsPlaceOf : Form → Data → Result Request Refusal → Option (List ℕ) → Type 0
+IsPlaceOf Writes d (Err refusal) place = IsPlaceIn refusal (get (codes "document") d) place
+IsPlaceOf form d item place = place ≡ None
+
 -- what a line asks, or why it is refused, where it has the form
 abbrev pub IsReadIf : {L : Type 0} → (L → Result Request Refusal → Type 0) → Option L
     → Option (Result Request Refusal) → Type 0
@@ -102,6 +121,20 @@ IsItemOfText false form text item = item ≡ None
 unfoldable pub IsLineItem : Form → List ℕ → Option (Result Request Refusal) → Type 0
 IsLineItem form text item = IsItemOfText (is_utf8 text) form text item
 
+-- where the document of a line is wrong that asks this
+abbrev pub IsPlaceRead : Form → Option Data → Result Request Refusal → Option (List ℕ) → Type 0
+IsPlaceRead form None item place = place ≡ None
+IsPlaceRead form (Some d) item place = IsPlaceOf form d item place
+
+unfoldable pub IsPlaceOfLine : Form → List ℕ → Result Request Refusal → Option (List ℕ) → Type 0
+IsPlaceOfLine form text item place = IsPlaceRead form (read text) item place
+
+abbrev pub ArePlaces : Form → List (List ℕ) → List (Result Request Refusal) → List (Option (List ℕ)) → Type 0
+ArePlaces form [] [] [] = Unit {0}
+ArePlaces form (line ∷ lines) (item ∷ items) (place ∷ places) =
+    IsPlaceOfLine form line item place × ArePlaces form lines items places
+ArePlaces form _ _ _ = ⊥
+
 -- that of each line, in order
 abbrev pub AreItems : Form → List (List ℕ) → List (Result Request Refusal) → Type 0
 AreItems form [] [] = Unit {0}
@@ -120,7 +153,8 @@ pub record IsFirstOther (form : Form) (lines : List (List ℕ)) (number : ℕ) :
   pub other : IsLineItem form line None
 
 abbrev pub IsListed : Form → List (List ℕ) → Listed → Type 0
-IsListed form lines (listed.Items items) = AreItems form lines items.items
+IsListed form lines (listed.Items items places) =
+    AreItems form lines items.items × ArePlaces form lines items.items places.items
 IsListed form lines (listed.Other number) = IsFirstOther form lines number
 
 -- ---- the lines of a body
@@ -144,8 +178,9 @@ asks_in States = None
 -- Each line is what is asked or its refusal, where there are at most 1,000 and each has the form of one. Else the site
 -- is asked nothing.
 abbrev pub IsList : Form → List ℕ → Result Question Refusal → Type 0
-IsList form body (Ok (Many items)) =
+IsList form body (Ok (Many items places)) =
     (asks_in form ≡ None) × AreFewLines body × AreItems form (body_lines body) items
+    × ArePlaces form (body_lines body) items places
 IsList form body (Ok (Asks items spelling)) =
     (asks_in form ≡ Some spelling) × AreFewLines body × AreItems form (body_lines body) items
 IsList form body (Ok (BadLine number)) = AreFewLines body × IsFirstOther form (body_lines body) number

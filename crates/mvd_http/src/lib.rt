@@ -37,7 +37,7 @@ pub use fields::{Answer, Content, fill};
 pub use followed::push_changed;
 pub use guard::{Names, name_in, origin_in, stranger};
 pub use http_fault::Fault;
-pub use line_told::{LINE_ROOM, push_line};
+pub use line_told::{line_room, push_line, push_refused_line};
 pub use listed::{Holds, push_listed};
 pub use live_told::{live_response_of, texts_response_of};
 pub use not_waited::push_not_waited;

@@ -1,5 +1,5 @@
 //! Lists that are sent: what each line asks.
-ghost use Rattle.std.specs.Prelude.{◌≡◌, ◌≤◌, Ok, Some, IfOk, IsOkUnless, length, option_copied, option_map};
+ghost use Rattle.std.specs.Prelude.{◌≡◌, ◌≤◌, Ok, Some, IfOk, IfSome, IsOkUnless, length, option_copied, option_map};
 ghost use Rattle.std.specs.FinSet as set;
 ghost use Rattle.std.specs.Option.{ForSome};
 ghost use Rattle.std.specs.Str.{is_utf8};
@@ -11,6 +11,7 @@ ghost use Rattle.mvd_dots.specs.Answer.{IsAnswer};
 ghost use Rattle.mvd_docs.specs.Document.{document_of_data};
 ghost use Rattle.mvd_http.specs.Posted.{IsGetOf, IsItemOf, IsLineItem, IsList, IsListed, IsReadIf};
 ghost use Rattle.mvd_http.specs.Posted.{IsWriteOf, body_lines, line_of_data, said_by, without_last as without_feed};
+ghost use Rattle.mvd_http.specs.Posted.{IsPlaceIn, IsPlaceOf, IsPlaceOfLine, is_of_document as is_document_refused};
 ghost use Rattle.mvd_http.specs.Posted.{write_of as write_asked};
 ghost use Rattle.mvd_http.specs.Pushed.{IsPushOf, state_line_of};
 ghost use Rattle.mvd_http.specs.Seen.{IsContext, IsSeen};
@@ -22,6 +23,7 @@ use crate::target::without_end;
 use mvd_docs::Document;
 use mvd_dots::{Context, Refusal};
 use mvd_keys::Key;
+use mvd_print::FaultPlace;
 use mvd_wire::{Items, Request};
 use serde_json::Value;
 use std::alloc::Global;
@@ -31,6 +33,9 @@ const MOST_LINES: usize = 1_000;
 
 /// What a line asks, or why it is refused.
 type Item = Result<Request, Refusal>;
+
+/// The same, with where its document is wrong, if it is refused for that.
+type Placed = (Item, Option<FaultPlace>);
 
 /// What the lines of a list are.
 #[derive(Clone, Copy)]
@@ -42,10 +47,11 @@ pub enum Form {
     States,
 }
 
-/// What each line asks, or the number of the first that has another form.
+/// What each line asks, with the place in its document if that is refused, or the number of the first that has another
+/// form.
 #[derive(Drop)]
 enum Listed {
-    Items(Vec<Item>),
+    Items(Vec<Item>, Vec<Option<FaultPlace>>),
     Other(u64),
 }
 
@@ -65,8 +71,10 @@ pub fn listed_in(alloc: Global, form: Form, body: &[u8]) -> Result<Question, Ref
         return Ok(Question::TooLong);
     }
     match items_of(alloc, form, body)? {
-        Listed::Items(items) => match form {
-            Form::Writes | Form::States => Ok(Question::Many(Items::new(items))),
+        Listed::Items(items, places) => match form {
+            Form::Writes | Form::States => {
+                Ok(Question::Many(Items::new(items), Items::new(places)))
+            }
             Form::Keys(spelling) => Ok(Question::Asks(Items::new(items), spelling)),
         },
         Listed::Other(line) => Ok(Question::BadLine(line)),
@@ -94,23 +102,28 @@ fn items_of(alloc: Global, form: Form, body: &[u8]) -> Result<Listed, Refusal>
     ensures items { IfOk result (IsListed form (body_lines body.now)) }
     ensures memory { IsOkUnless result Refusal.Memory }
 {
-    if body.is_empty() {
-        return Ok(Listed::Items(Vec::new(alloc)));
-    }
     let mut items = Vec::new(alloc);
+    let mut places = Vec::new(alloc);
+    if body.is_empty() {
+        return Ok(Listed::Items(items, places));
+    }
     for line in without_last(body).split(|byte| *byte == b'\n') {
         match item_of(alloc, form, line)? {
-            Some(item) => items.push(item)?,
+            Some((item, place)) => {
+                items.push(item)?;
+                places.push(place)?;
+            }
             None => return Ok(Listed::Other(items.len() as u64 + 1)),
         }
     }
-    Ok(Listed::Items(items))
+    Ok(Listed::Items(items, places))
 }
 
-/// What a line asks, or why it is refused, where it has the form of one.
-#[tactic(auto, using(crate::proofs::Texts::is_text, crate::proofs::Texts::is_no_text), unfolding(crate::specs::Posted::IsLineItem))]
-fn item_of(alloc: Global, form: Form, line: &[u8]) -> Result<Option<Item>, Refusal>
-    ensures item { IfOk result (λ item. IsLineItem form line.now item) }
+/// What a line asks, or why it is refused, where it has the form of one; and where its document is wrong.
+#[tactic(auto, using(crate::proofs::Texts::is_text, crate::proofs::Texts::is_no_text), unfolding(crate::specs::Posted::IsLineItem, crate::specs::Posted::IsPlaceOfLine))]
+fn item_of(alloc: Global, form: Form, line: &[u8]) -> Result<Option<Placed>, Refusal>
+    ensures item { IfOk result (λ item. IsLineItem form line.now (option_map (λ i. i.0) item)) }
+    ensures place { IfOk result (λ item. IfSome item (λ i. IsPlaceOfLine form line.now i.0 i.1)) }
     ensures memory { IsOkUnless result Refusal.Memory }
 {
     let Ok(text) = str::from_utf8(line) else {
@@ -126,9 +139,10 @@ fn item_of(alloc: Global, form: Form, line: &[u8]) -> Result<Option<Item>, Refus
     }
 }
 
-fn item_in(alloc: Global, form: Form, value: &Value) -> Result<Option<Item>, Refusal>
+fn item_in(alloc: Global, form: Form, value: &Value) -> Result<Option<Placed>, Refusal>
     requires { nesting (view value.now) ≤ max_depth }
-    ensures item { IfOk result (λ item. IsItemOf form (view value.now) item) }
+    ensures item { IfOk result (λ item. IsItemOf form (view value.now) (option_map (λ i. i.0) item)) }
+    ensures place { IfOk result (λ item. IfSome item (λ i. IsPlaceOf form (view value.now) i.0 i.1)) }
     ensures memory { IsOkUnless result Refusal.Memory }
 {
     let item = match form {
@@ -138,8 +152,58 @@ fn item_in(alloc: Global, form: Form, value: &Value) -> Result<Option<Item>, Ref
     };
     match item {
         Some(Err(Refusal::Memory)) => Err(Refusal::Memory),
-        item => Ok(item),
+        Some(item) => {
+            let place = place_of(alloc, form, value, &item)?;
+            Ok(Some((item, place)))
+        }
+        None => Ok(None),
     }
+}
+
+/// Where the document of a line is wrong that asks this, if it is refused for that.
+fn place_of(
+    alloc: Global,
+    form: Form,
+    value: &Value,
+    item: &Item,
+) -> Result<Option<FaultPlace>, Refusal>
+    requires { nesting (view value.now) ≤ max_depth }
+    ensures place { IfOk result (λ place. IsPlaceOf form (view value.now) item.now place) }
+    ensures memory { IsOkUnless result Refusal.Memory }
+{
+    match (form, item) {
+        (Form::Writes, Err(refusal)) => place_in(alloc, *refusal, value.get("document")),
+        _ => Ok(None),
+    }
+}
+
+fn place_in(
+    alloc: Global,
+    refusal: Refusal,
+    document: Option<&Value>,
+) -> Result<Option<FaultPlace>, Refusal>
+    requires { ForSome document (λ v. nesting (view v.now) ≤ max_depth) }
+    ensures place { IfOk result (λ place. IsPlaceIn refusal (option_map (λ v. view v.now) document.entry) place) }
+    ensures memory { IsOkUnless result Refusal.Memory }
+{
+    match document {
+        Some(value) if is_of_document(refusal) => {
+            let text = value.to_string(alloc)?;
+            let place = FaultPlace::find(alloc, refusal, text.as_str())?;
+            Ok(Some(place))
+        }
+        _ => Ok(None),
+    }
+}
+
+/// Whether a refusal is of a document.
+fn is_of_document(refusal: Refusal) -> bool
+    ensures { result ≡ is_document_refused refusal }
+{
+    matches!(
+        refusal,
+        Refusal::BadDocument | Refusal::NotObject | Refusal::BadNumber | Refusal::DocumentTooLong
+    )
 }
 
 /// What a line asks that is a write.

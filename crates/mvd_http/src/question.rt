@@ -26,8 +26,9 @@ pub enum Question {
     Listed(Request, Wanted),
     /// The keys that changed since a root, if one is named. Where none did, the response may wait for so many seconds.
     Changes(Option<[u8; 32]>, u32, Followed),
-    /// A list of writes, or of states that are pushed: what each line asks, or why it is refused.
-    Many(Items<Result<Request, Refusal>>),
+    /// A list of writes, or of states that are pushed: what each line asks, or why it is refused; and of each where its
+    /// document is wrong, if it is refused for that.
+    Many(Items<Result<Request, Refusal>>, Items<Option<FaultPlace>>),
     /// A list of questions, each told in a line: what each asks, or why it is refused; and how documents are told.
     Asks(Items<Result<Request, Refusal>>, Spelling),
     /// A list whose line of this number is the first that has another form.

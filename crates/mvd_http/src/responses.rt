@@ -8,7 +8,7 @@ ghost use Rattle.mvd_http.specs.Answers.{reply_told, row_response, seen_then as 
 ghost use Rattle.mvd_http.specs.Room.{FillsRoom};
 ghost use Rattle.mvd_wire.specs.declared.reply.Reply.TheVariants.{Done};
 ghost use Rattle.mvd_http.specs.Json.{children_text, commaed, counts_text, digest_json, led, keys_json, node_text};
-ghost use Rattle.mvd_http.specs.Json.{places_json, refused_json, rows_text, written_json};
+ghost use Rattle.mvd_http.specs.Json.{misread_json, places_json, refused_json, rows_text, written_json};
 
 use crate::count_lists::{KeyCount, push_counts_page};
 use crate::documents::push_state;
@@ -77,6 +77,19 @@ pub fn misread_response(
     ensures { IfOk result (λ status. IsToldAs (misread_told refusal place.now) status (string_bytes out.new)) }
 {
     out.clear();
+    push_misread(out, refusal, place)?;
+    Ok(refused_status(refusal))
+}
+
+/// Puts a document's refusal, with the place, behind what `out` holds.
+pub fn push_misread(
+    out: &mut String,
+    refusal: Refusal,
+    place: &FaultPlace,
+) -> Result<(), AllocError>
+    ensures text { OnOk result (string_bytes out.new ≡ string_bytes out.old ++ misread_json refusal place.now) }
+    ensures room { FillsRoom result out.old (length (misread_json refusal place.now)) out.new }
+{
     push_word(out, "{\"refused\":")?;
     push_number(out, u64::from(refusal.number()))?;
     push_word(out, ",\"name\":\"")?;
@@ -84,7 +97,7 @@ pub fn misread_response(
     push_word(out, "\",\"at\":")?;
     push_word(out, place.text())?;
     push_word(out, "}")?;
-    Ok(refused_status(refusal))
+    Ok(())
 }
 
 /// Puts the body of a reply in place of what `out` held, and gives its status. Where there is no memory for the body of

@@ -14,6 +14,7 @@ use crate::endings::{is_good, tell_end};
 use crate::metrics::Counts;
 use crate::passing::{drop_left, receive, send};
 use crate::peer_list::Peers;
+use crate::room::Room;
 use crate::sockets::Sockets;
 use crate::talks::Talks;
 use crate::terms::Terms;
@@ -130,17 +131,21 @@ impl Crowd {
         self.talks.clients() >= self.places
     }
 
-    /// Answers what came of some clients, together. Whether there may be more of it at once.
+    /// Answers what came of some clients, together, while there is room in the pass. Whether there may be more of it at
+    /// once.
     pub fn round<N: Clock, S: Alter + Drop>(
         &mut self,
         rt: &N,
         replica: &mut Replica<S>,
         ready: &[u64],
+        room: &mut Room,
     ) -> bool
         ensures { HasRound (talking_of self.old.talks) (talking_of self.new.talks) replica.old replica.new }
     {
         self.counts.begin_round(rt, self.now, replica.commits());
-        let more = self.talks.round(replica, ready, &mut self.counts, self.now);
+        let more = self
+            .talks
+            .round(replica, ready, room, &mut self.counts, self.now);
         self.counts.end_round(rt, replica.commits());
         more
     }

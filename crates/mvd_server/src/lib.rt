@@ -28,6 +28,7 @@ mod peer_news;
 mod peer_steps;
 mod peering;
 mod responding;
+mod room;
 mod rotation;
 mod server;
 mod sockets;

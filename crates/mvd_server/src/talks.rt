@@ -15,6 +15,7 @@ use crate::gate::{Rest, answer_writes, ask};
 use crate::metrics::Counts;
 use crate::parked::Parked;
 use crate::responding::{refuse, tell_reply};
+use crate::room::{Room, weight};
 use mvd_conn::Passes;
 use mvd_dots::Refusal;
 use mvd_host::{AtHand, FIRST_AT_HAND, Feed, Host};
@@ -95,12 +96,14 @@ impl Talks {
     }
 
     /// Takes requests of some clients, answers them together, and queues what each is told, and what those are told
-    /// that wait for a change. Whether there may be more of them at once: behind changes the replies leave first, and
-    /// where something has to wait for another round.
+    /// that wait for a change. Over HTTP no more is taken once there is no room left in the pass. Whether there may be
+    /// more of them at once: behind changes and then the replies leave first, and where something has to wait for
+    /// another round.
     pub fn round<S: Alter + Drop>(
         &mut self,
         replica: &mut Replica<S>,
         ready: &[u64],
+        room: &mut Room,
         counts: &mut Counts,
         now: u64,
     ) -> bool
@@ -109,9 +112,7 @@ impl Talks {
     {
         counts.open = self.clients();
         self.changes.start(replica);
-        for number in ready {
-            self.take_in(replica, *number, counts, now);
-        }
+        self.take_all(replica, ready, room, counts, now);
         // The round before has left nothing to tell.
         self.tell_all(counts);
         self.meet_all(ready);
@@ -130,7 +131,59 @@ impl Talks {
         }
         self.tell_all(counts);
         self.wake(replica, counts);
-        more & (counts.tally.changes() == changes) & !self.hand.has_waiting()
+        let goes_on = !room.is_taken() & !self.hand.has_waiting();
+        more & (counts.tally.changes() == changes) & goes_on
+    }
+
+    /// Takes the next requests of some clients over HTTP, one after the other, while there is room in the pass.
+    fn take_all<S: Alter + Drop>(
+        &mut self,
+        replica: &Replica<S>,
+        ready: &[u64],
+        room: &mut Room,
+        counts: &mut Counts,
+        now: u64,
+    )
+        ensures { TalksDeeds self.old self.new }
+    {
+        room.begin();
+        for number in ready {
+            if room.is_taken() {
+                return;
+            }
+            self.take_turn(replica, *number, room, counts, now);
+        }
+    }
+
+    /// Takes the next request of a client over HTTP, and the room for what it is told.
+    fn take_turn<S: Alter + Drop>(
+        &mut self,
+        replica: &Replica<S>,
+        number: u64,
+        room: &mut Room,
+        counts: &mut Counts,
+        now: u64,
+    )
+        ensures { TalksDeeds self.old self.new }
+    {
+        let before = self.waiting(number).len();
+        self.take_in(replica, number, counts, now);
+        let told = self.waiting(number).len().saturating_sub(before);
+        room.take(told.saturating_add(self.weight_of(replica, number)));
+    }
+
+    /// About how many bytes a client over HTTP will be told that has asked the site.
+    fn weight_of<S: Alter + Drop>(&self, replica: &Replica<S>, number: u64) -> usize {
+        let Some(web) = self.webs.get(&number) else {
+            return 0;
+        };
+        let Some(asked) = web.asked() else {
+            return 0;
+        };
+        match &asked.question {
+            Ok(question) => weight(replica.site(), question),
+            Err(_) => 0,
+        }
     }
 
     /// Takes the next request of a client over HTTP, or asks what its writes ask, where that was not done.

@@ -3,6 +3,7 @@ ghost use Rattle.std.specs.Prelude.{◌≡◌, ◌++◌, drop, take};
 ghost use Rattle.mvd_server.specs.Rounds.{AnswersClients, GoesOnServing};
 ghost use Rattle.mvd_server.specs.Wires.{wired_of};
 
+use crate::room::Room;
 use crate::server::Server;
 use crate::sockets::Sockets;
 use mvd_replica::Replica;
@@ -12,13 +13,13 @@ use std::time::Clock;
 /// The most rounds that follow each other before replies leave.
 const ROUNDS_MAX: usize = 64;
 
-/// Lists the first client last: each time another comes first, for a change of a long state may have to wait for the
-/// next round.
-fn take_turns(ready: &mut Vec<u64>)
-    ensures { ready.new.items ≡ drop 1 ready.old.items ++ take 1 ready.old.items }
+/// Lists so many clients last: each time another comes first, for a question may have to wait for the next pass, and a
+/// change of a long state for the next round.
+fn take_turns(ready: &mut Vec<u64>, count: usize)
+    ensures { ready.new.items ≡ drop count ready.old.items ++ take count ready.old.items }
 {
-    if !ready.is_empty() {
-        ready.rotate_left(1);
+    if count < ready.len() {
+        ready.rotate_left(count);
     }
 }
 
@@ -39,7 +40,7 @@ impl Server {
         if self.next.is_empty() || self.next.len() == self.ready.len() {
             return;
         }
-        self.crowd.round(rt, replica, &self.next);
+        self.crowd.round(rt, replica, &self.next, &mut Room::new());
         self.crowd.send_all(sockets, &self.next);
     }
 
@@ -48,19 +49,25 @@ impl Server {
         ensures { AnswersClients self.old.crowd.talks replica.old self.new.crowd.talks replica.new }
     {
         let clients = self.ready.len();
-        take_turns(&mut self.ready);
+        let mut room = Room::new();
         self.peers.list(&mut self.crowd, &mut self.ready);
-        self.answer_all(rt, replica);
+        self.answer_all(rt, replica, &mut room);
         self.ready.truncate(clients);
+        take_turns(&mut self.ready, room.turns());
         self.peers.take_replies(&mut self.crowd, replica.commits());
     }
 
     /// Answers what came of those that are listed: together what may be, and then what came behind it.
-    fn answer_all<N: Clock, S: Alter + Drop>(&mut self, rt: &N, replica: &mut Replica<S>)
+    fn answer_all<N: Clock, S: Alter + Drop>(
+        &mut self,
+        rt: &N,
+        replica: &mut Replica<S>,
+        room: &mut Room,
+    )
         ensures { AnswersClients self.old.crowd.talks replica.old self.new.crowd.talks replica.new }
     {
         for _round in 0..ROUNDS_MAX {
-            if !self.crowd.round(rt, replica, &self.ready) {
+            if !self.crowd.round(rt, replica, &self.ready, room) {
                 return;
             }
         }

@@ -4,9 +4,6 @@ use Rattle.mvd_server.proofs.Deeds.{deeds_on}
 use Rattle.mvd_server.proofs.Meeting.{all_may_turn}
 use Rattle.mvd_server.proofs.talks.Talks.round.Goals as goal
 
-pub loop-number-preserved : goal.loop-number-preserved
-loop-number-preserved g c = deeds_on (talking_of c.args.self.now) (talking_of c.loop-number.self) (talking_of c.take_in.new.self) c.loop-number.invariant c.take_in.ensures
-
 pub returns : goal.returns
 returns g c =
     let told = talking_of c.tell_all.new.self in
@@ -19,7 +16,7 @@ returns g c =
         before = before;
         host = host;
         hand = hand;
-        first = deeds_on (talking_of c.args.self.now) told before (deeds_on (talking_of c.args.self.now) (talking_of c.loop-number.self) told c.loop-number.invariant c.tell_all.ensures.deeds) c.meet_all.ensures.deeds;
+        first = deeds_on (talking_of c.args.self.now) told before (deeds_on (talking_of c.args.self.now) (talking_of c.take_all.new.self) told c.take_all.ensures c.tell_all.ensures.deeds) c.meet_all.ensures.deeds;
         ready = c.args.ready.now;
         turns = c.round-round.ensures.round.0;
         round = round;

@@ -265,13 +265,11 @@ impl Server {
         Ok(())
     }
 
-    /// Looks at the file with tokens, where somebody may show one: other passes are known from then on, if it changed.
+    /// Looks at the file with tokens: other passes are known from then on, if it changed. Also where nobody is there who
+    /// may show one, for who waits may be told of what a session brings.
     fn rotate<N: Files>(&mut self, rt: &N)
         ensures { TalksDeeds self.old.crowd.talks self.new.crowd.talks }
     {
-        if self.ready.is_empty() {
-            return;
-        }
         if let Some(tokens) = self.rotation.look(rt, self.crowd.now) {
             self.crowd
                 .talks

@@ -242,7 +242,7 @@ first_sent setting site before window t after side entries count left left' shar
     let ones = held_keys side (take count entries) in
     let others = held_keys side (drop count entries) in
     let every : (asked_in window).gets ≡ ones ++ others =
-        cut ∙ take_all left (held_keys side entries) (let e = budget.spent in let s = whole.all in omega (arith, e, s, counted)) ∙ held_split side count entries in
+    cut ∙ take_all left (held_keys side entries) (let e = budget.spent in let s = whole.all in omega (arith, e, s, counted)) ∙ held_split side count entries in
     let first : Ok (take (length ones) answers) ≡ Ok all.answers = sym (ap (told_first (length ones)) whole.is) ∙ all.is in
     let same : take (length ones) answers ≡ all.answers = cc in
     each_state (SentAs after.messages) ones all.answers read

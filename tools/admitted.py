@@ -21,6 +21,7 @@ PROGRAM is `mvd` as built. It tells what it tried, and ends with 1 at the first 
 - rotation: the file is written anew, without one token and with another: at once, with no restart, the other is let in, the
   one is not, and a connection that showed it ends with 38 at its next frame; a file of wrong form changes nothing, and is
   told once on standard error;
+- who waits for a change, and whose token is gone meanwhile, is not told what a session with a peer then brings;
 - in nothing that a server or a client prints stands the token, nor in the metrics, nor in the file of the site.
 The files are made in TMPDIR (else /tmp).
 """
@@ -33,6 +34,8 @@ import struct
 import subprocess
 import sys
 import tempfile
+import threading
+import time
 
 PATIENCE = 60
 TOKEN = "sixteen-letters!"
@@ -455,6 +458,29 @@ def of_rotation(place):
         miss(f"a file of wrong form and a missing one are told so: {err}")
 
 
+def of_waiting(place):
+    file = place.token_file("waiting", RIGHTS)
+    peer = Server(place, "met.db", 9)
+    server = Server(place, "waiting.db", 10, "--token-file", file, "--peer", str(peer.port), "--every", "1")
+    root = json.loads(server.asked("GET", "/changes", f"Bearer {READS}")[2])["root"]
+    told = []
+    waits = threading.Thread(target=lambda: told.append(server.asked("GET", f"/changes?since={root}&wait=8", f"Bearer {READS}")))
+    waits.start()
+    time.sleep(1)
+    place.token_file("waiting.new", RIGHTS.replace(f"{READS} read\n", ""))
+    os.replace(place.path("waiting.new"), file)
+    time.sleep(1)
+    if peer.asked("PUT", "/keys/k", None, DOCUMENT)[0] != 201:
+        miss("a peer does not take a put")
+    # (nobody else asks the server anything meanwhile)
+    waits.join(PATIENCE)
+    if '"k"' in told[0][2]:
+        miss(f"who waits is told what came after its token was gone: {told}")
+    if '"a":1' not in server.asked("GET", "/keys/k", f"Bearer {ALL}")[2]:
+        miss("a server does not meet its peer")
+    server.ends(), peer.ends()
+
+
 def of_files(place):
     bad = {"none": "", "short": "fifteen-letters\n", "long": "x" * 257, "spaced": "sixteen letters!\n", "tab": "sixteen\tletters\n", "second": "\n" + TOKEN,
            "twice": f"{TOKEN}\n{TOKEN} read\n", "blank": f"{TOKEN} \n", "word": f"{TOKEN} reads\n", "prefix": f"{TOKEN} read a b\n",
@@ -511,6 +537,8 @@ def main(program):
         print("admitted: sessions and shells by their rights, and who may end a server", flush=True)
         of_rotation(place)
         print("admitted: a file that is written anew", flush=True)
+        of_waiting(place)
+        print("admitted: who waits while its token goes", flush=True)
         ended = server.ends().splitlines()
         other.ends()
         if not any(line.endswith(" 38 NotAdmitted") for line in ended):

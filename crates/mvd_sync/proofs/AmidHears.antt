@@ -25,7 +25,7 @@ use Rattle.mvd_sync.specs.Questions.{IsWindow, TakesBudget}
 use Rattle.mvd_sync.proofs.Readings.{with_left}
 use Rattle.mvd_sync.specs.Session.{Asking}
 use Rattle.mvd_sync.specs.Tellings.{IsListingOf, IsNoNode, IsNoPage, IsNodeOf, IsRead, IsStateOf, never, nodes_told, pages_told, pushes_told, states_told, unasked_told}
-use Rattle.mvd_sync.specs.Walking.{IsWalked, PageQuestion, Walking, pages_next, pages_of}
+use Rattle.mvd_sync.specs.Walking.{PageQuestion, Walking, pages_next, pages_of}
 use Rattle.mvd_sync.proofs.Walk.{PagesEnd, PagesTold}
 use Rattle.mvd_sync.specs.declared.asking.Node.{Node}
 use Rattle.mvd_sync.specs.declared.asking.Questions.{Questions}
@@ -51,7 +51,6 @@ use Rattle.mvd_sync.proofs.Descending.{stands_local_ends, stands_memory_ends, st
 use Rattle.mvd_sync.proofs.Exchanged.{ends_at_local as turn_ends_at_local, ends_at_peer as turn_ends_at_peer, ends_at_plans}
 use Rattle.mvd_sync.proofs.Exchanging.{all_of_memory, exchanges_end, exchanges_later, exchanges_stop}
 use Rattle.mvd_sync.proofs.Fails.{memory_fails}
-use Rattle.mvd_sync.proofs.HeldFew.{held_few}
 use Rattle.mvd_sync.proofs.Paging.{mine_end, telling_ends, theirs_end}
 use Rattle.mvd_sync.proofs.Planning.{ends_at_local, ends_at_peer, ends_for_memory, held_short}
 use Rattle.mvd_sync.proofs.Positions.{ExchangesAllBy, HaveLackedBy, ReadsEndBy, sides}

@@ -1,5 +1,5 @@
 -- A session is what its run is.
-use Rattle.std.proofs.Common.{◌≡◌, inl, inr, ℕ, ◌+◌, ◌*◌, ◌<◌, ◌≤◌, cond, List, [], ◌∷◌, length, refl, sym, ap, subst, ◌∙◌, arith, Option, None, length-append}
+use Rattle.std.proofs.Common.{◌≡◌, inl, inr, ℕ, ◌+◌, ◌*◌, ◌<◌, ◌≤◌, cond, [], ◌∷◌, length, refl, sym, ap, subst, ◌∙◌, arith, Option, None}
 use Rattle.std.specs.Prelude.{Result, Ok, Err}
 use Rattle.std.proofs.lemmas.Bool.{cases_lt}
 use Rattle.std.proofs.lemmas.List.{length-drop, length-take}
@@ -12,9 +12,7 @@ use Rattle.mvd_sync.specs.OneTurn.{untold}
 use Rattle.mvd_sync.specs.Ran.{BothTell, EndsBy, EndsRun, IsRun, RunsTo, Running, SideSays, TakesWindow, alone, answered, begins, before, after, now_at, told, unasked}
 use Rattle.mvd_sync.specs.Session.{Asking}
 use Rattle.mvd_sync.specs.Steps.{cut_wanted}
-use Rattle.mvd_sync.specs.Walking.{Walking}
 use Rattle.mvd_sync.specs.declared.asking.Questions.{Questions}
-use Rattle.mvd_sync.specs.declared.cursor.Entry.{Entry}
 use Rattle.mvd_sync.specs.declared.report.Report.{Report}
 use Rattle.mvd_sync.specs.declared.report.Side.{Side}
 use Rattle.mvd_sync.specs.declared.report.Side.TheVariants.{Local as AtLocal, Peer as AtPeer}

@@ -10,7 +10,7 @@ use Rattle.mvd_site.specs.Held.{States}
 use Rattle.mvd_sync.specs.Exchanges.{CountsDone, Done, Exchanging, given_keys, keys_done, left_keys}
 use Rattle.mvd_sync.proofs.Exchanges.{AreNext, Counts, keys_next}
 use Rattle.mvd_sync.specs.Meetings.{done_of}
-use Rattle.mvd_sync.specs.Session.{AreDistinct, ChangesSide}
+use Rattle.mvd_sync.specs.Session.{ChangesSide}
 use Rattle.mvd_peer.specs.Sides.{SideOf}
 use Rattle.mvd_sync.specs.Faults.{IsFaultOf, of_memory}
 use Rattle.mvd_sync.specs.declared.cursor.Entry.{Entry}

@@ -1,5 +1,5 @@
 -- Where a window of gets is cut.
-use Rattle.std.proofs.Common.{◌≡◌, ◌⊎◌, inl, inr, ℕ, ◌+◌, ◌<◌, ◌≤◌, ◌||◌, Bool, true, false, true≢false, cond, List, [], ◌∷◌, length, refl, sym, arith}
+use Rattle.std.proofs.Common.{◌≡◌, ◌⊎◌, inl, inr, ◌+◌, ◌<◌, ◌≤◌, ◌||◌, Bool, true, false, true≢false, cond, List, [], ◌∷◌, length, refl, sym, arith}
 use Rattle.std.specs.Prelude.{Contains, Err, Ok}
 use Rattle.std.proofs.lemmas.List.Elements.{Contains-append_right}
 use Rattle.mvd_dots.specs.declared.refusals.Refusal.TheVariants.{Memory}

@@ -1,5 +1,5 @@
 -- The walk of a session from the root to the buckets that differ.
-use Rattle.std.specs.Prelude.{◌+◌, ℕ, List, [], ◌∷◌, ◌++◌}
+use Rattle.std.specs.Prelude.{ℕ, List, [], ◌∷◌, ◌++◌}
 use Rattle.mvd_sync.specs.Nodes.{told_children}
 use Rattle.mvd_sync.specs.declared.asking.Node.{Node}
 

@@ -127,8 +127,8 @@ pub fn nothing_is_made_up()
 
 /// A session asks few questions: of each side one, five for each key at which the two differed at any two moments, and
 /// one for each thousand keys that the side holds by then; and, for keys that are asked for again since a side did not
-/// hold a state, sixteen and seven for each of the others. What is wanted next is among them. What was asked and what is
-/// left are all that may be asked: so a session with a budget of this bound does not end with 36 of its own.
+/// hold a state, sixteen and seven for each of the others. What is wanted next is among them. What was asked and what
+/// is left are all that may be asked: so a session with a budget of this bound does not end with 36 of its own.
 pub fn a_session_asks_few()
     ensures few { (number : Option ℕ) (questions : ℕ) (most : Two ℕ ℕ) (old new : Standing) (legs : List Leg)
         (asking : Machining) (step : Option Step) (differed : List Key) → StartsRun number questions old

@@ -192,10 +192,9 @@ ToldAtOnce false false joined result = ⊤
 ToldAtOnce false true joined result = (result ≡ Err (Peer Broken)) × (joined ≡ [])
 ToldAtOnce true peer_was joined result = (result ≡ Err (Local Broken)) × (joined ≡ [])
 
--- Why a session of two sites that held `a` and `b` ends by the one that held `held`, where the other held `other`, and is
--- broken afterwards or not:
--- by a refusal of the site that is not of one question alone, which is 20 or 22; or all questions were made to it and
--- one more was wanted, which are many only where many keys differ
+-- Why a session of two sites that held `a` and `b` ends by the one that held `held`, where the other held `other`, and
+-- is broken afterwards or not: by a refusal of the site that is not of one question alone, which is 20 or 22; or all
+-- questions were made to it and one more was wanted, which are many only where many keys differ
 pub data MayFail (a b held other : States) (broken : Bool) (refusal : Refusal) : Type 0 where
   it_refused : is_site_refusal refusal ≡ true → is_of_question refusal ≡ false → broken ≡ tells_broken refusal
       → MayFail a b held other broken refusal

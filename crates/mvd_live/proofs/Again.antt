@@ -1,13 +1,14 @@
 -- Keys that wait are held by one of both sides, so that a question was asked for each that is met; and what is asked
 -- again is little.
 use Rattle.std.proofs.Common.{◌≡◌, ◌⊎◌, inl, inr, ℕ, ◌+◌, ◌*◌, ◌≤◌, List, [], ◌∷◌, ◌++◌, length, take, drop, refl, sym, ap, subst, ◌∙◌, arith, Some, None, Option, length-append}
-use Rattle.std.specs.Prelude.{IfSome, Ok, Vec}
+use Rattle.std.specs.Prelude.{IfSome, Ok, Vec, max}
 use Rattle.std.specs.declared.alloc.Global.{Global}
 use Rattle.std.proofs.lemmas.List.{length-take}
 use Rattle.mvd_peer.specs.PushedStates.{Each}
 use Rattle.mvd_sync.specs.Exchanges.{Exchanging, IsHeldByEither}
 use Rattle.mvd_sync.specs.Machines.{CarriedOn, FromWalk, GoesAlone, HearsAt, SettlesFound, StageWent, TurnBegins, both, counts, ends, equal, fills, goes, goes_on, here, last, none_found, of_local, of_other, of_peer, of_side, on, other_of, share_of, told_by_side, turns, waits}
 use Rattle.mvd_sync.specs.Walking.{Walking}
+use Rattle.mvd_sync.specs.Weights.{weight}
 use Rattle.mvd_sync.specs.declared.cursor.Entry.{Entry}
 use Rattle.mvd_sync.specs.declared.stage.Stage.{Stage}
 use Rattle.mvd_sync.specs.declared.stage.Stage.TheVariants.{Descends, Walks, Meets, Carries, Done, Failed}
@@ -135,16 +136,17 @@ module _ (f : Frame) (work work' : Exchanging) (walk : Walking) (entries : Vec E
   next_low =
       let n = sym (length-append k.first k.later) ∙ ap length k.is in
       let some = form.3 in
+      let bytes = max (weight k.mine) (weight k.theirs) in
       let is = ap (λ (x : Exchanging). x.most) k.met.3 in
       elim k.limits [
         | inl whole ↦
             let none = ap length whole.0 in
-            let grows = next_grows k.limit (length k.first) _ (omega (arith, n, none, some)) in
+            let grows = next_grows k.limit (length k.first) bytes (omega (arith, n, none, some)) in
             inl (omega (arith, is, grows), none)
         | inr cut ↦
             let same = cut.0 in
             let one = cut.1 in
-            let limited = next_limited k.limit (length k.first) _ (omega (arith, same, one)) in
+            let limited = next_limited k.limit (length k.first) bytes (omega (arith, same, one)) in
             inr (omega (arith, is, limited, same))
       ]
 

@@ -1,1 +1,2 @@
-mod Turning
+pub mod Taking
+pub mod Turning

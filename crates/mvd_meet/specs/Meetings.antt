@@ -1,6 +1,6 @@
 -- A session of two sides that are asked by mail.
 use Rattle.std.specs.Prelude.{◌≡◌, ℕ, true, false, Bool, Option, Some, None, Result, Ok}
-use Rattle.mvd_meet.specs.Callers.{CallerAsks, CallerTells}
+use Rattle.mvd_meet.specs.Callers.{CallerAsks, CallerTells, asked_of_caller}
 use Rattle.mvd_meet.specs.declared.caller.Caller.{Caller}
 use Rattle.mvd_meet.specs.declared.stepping.Course.{Course}
 use Rattle.mvd_meet.specs.declared.stepping.Course.TheVariants as course
@@ -43,8 +43,8 @@ pub record TakesBoth (old : Meeting) (near far : Caller) (new : Meeting) (near' 
     (result : Result (Unit {0}) SyncFault) : Type 0 where
   pub mine : Option Told
   pub theirs : Option Told
-  pub local : CallerTells near.asked near near' mine
-  pub peer : CallerTells far.asked far far' theirs
+  pub local : CallerTells (asked_of_caller near) near near' mine
+  pub peer : CallerTells (asked_of_caller far) far far' theirs
   pub takes : TakesTold old.machine mine theirs new.machine result
 
 -- the session begins: nothing was asked

@@ -1,41 +1,26 @@
 //! A side of a session that is asked by mail: the frames of a window leave, and later what came is told.
-ghost use Rattle.std.specs.Prelude.{◌≡◌, ◌≢◌, ◌≤◌, ◌++◌, [], Err, None, Some, IfErr, IfOk, OnErr, OnOk, drop, false, length};
+ghost use Rattle.std.specs.Prelude.{◌≡◌, ◌≢◌, ◌≤◌, ◌++◌, [], Err, None, IfErr, IfOk, OnErr, OnOk, drop, false, length};
 ghost use Rattle.std.specs.Prelude.{true};
 ghost use Rattle.mvd_dots.specs.declared.refusals.Refusal.TheVariants.{BadBody, Memory};
-ghost use Rattle.mvd_meet.specs.Callers.{CallerAsks, CallerHears, CallerSays, CallerTells, EndsTurns, LeavesTurn, SendsTo};
-ghost use Rattle.mvd_meet.specs.Callers.{TellsBy, asked_in_window, asked_of_caller, asks_pushes, came_at, has_all, has_ended, has_turns};
-ghost use Rattle.mvd_meet.specs.Callers.{leaving_at, link_by, only_of, questions_at};
+ghost use Rattle.mvd_meet.specs.Callers.{CallerAsks, CallerHears, CallerSays, CallerTells, SendsTo};
+ghost use Rattle.mvd_meet.specs.Callers.{asked_in_window, asked_of_caller, came_at, has_all, has_ended};
+ghost use Rattle.mvd_meet.specs.Callers.{leaving_at, only_of, questions_at};
+ghost use Rattle.mvd_meet.specs.Posts.{asks_pushes};
 ghost use Rattle.mvd_wire.specs.declared.request.Request.TheVariants.{Bye, Hello};
 
-use mvd_conn::{Front, front_of};
+use crate::asked::{Asked, Sort};
+use crate::post::Post;
 use mvd_dots::Refusal;
-use mvd_remote::{Mailbox, Remote, Window as Frames};
+use mvd_remote::Window as Frames;
 use mvd_sync::{Told, Window};
 use mvd_wire::Token;
 use std::alloc::Global;
-
-/// What a window asks for.
-#[derive(Clone, Copy)]
-pub enum Sort {
-    Nodes,
-    Pages,
-    States,
-    Pushes,
-}
-
-/// A window that left.
-#[derive(Drop)]
-pub struct Asked {
-    sort: Sort,
-    frames: Frames,
-}
 
 /// A side, what is to leave to it, and what came of it.
 #[derive(Drop)]
 pub struct Caller {
     alloc: Global,
-    remote: Remote<Mailbox>,
-    asked: Option<Asked>,
+    post: Post,
     /// Nothing more comes.
     ended: bool,
     /// The number of questions that were asked.
@@ -53,8 +38,7 @@ impl Caller {
     {
         Caller {
             alloc,
-            remote: Remote::by_mail(alloc),
-            asked: None,
+            post: Post::new(alloc),
             ended: false,
             questions: 0,
         }
@@ -64,7 +48,7 @@ impl Caller {
     pub fn leaving(&self) -> &[u8]
         ensures { result.now ≡ leaving_at self.now }
     {
-        self.remote.leaving()
+        self.post.leaving()
     }
 
     /// So many of them left.
@@ -76,20 +60,22 @@ impl Caller {
         ensures ended { has_ended self.new ≡ has_ended self.old }
         ensures questions { questions_at self.new ≡ questions_at self.old }
     {
-        self.remote.left(count);
+        self.post.left(count);
     }
 
-    /// Takes bytes that came. Where memory is refused, none is taken.
+    /// Takes bytes that came, and the replies that are whole. Where memory is refused, none is taken.
     pub fn feed(&mut self, bytes: &[u8]) -> Result<(), Refusal>
         ensures ok { OnOk result (came_at self.new ≡ came_at self.old ++ bytes.now) }
         ensures err { OnErr result (came_at self.new ≡ came_at self.old) }
         ensures memory { IfErr result (λ refusal. refusal ≡ Memory) }
+        // A part of the longest frame waits at most, and what comes at once.
+        ensures bounded { OnOk result (length self.new.post.waits ≤ 1462147) }
         ensures leaving { leaving_at self.new ≡ leaving_at self.old }
         ensures asked { asked_of_caller self.new ≡ asked_of_caller self.old }
         ensures ended { has_ended self.new ≡ has_ended self.old }
         ensures questions { questions_at self.new ≡ questions_at self.old }
     {
-        self.remote.feed(bytes)
+        self.post.feed(bytes)
     }
 
     /// Nothing more comes: it is at its end, or reading failed.
@@ -103,7 +89,7 @@ impl Caller {
     {
         self.ended = true;
         if has_failed {
-            self.remote.fail();
+            self.post.fail();
         }
     }
 
@@ -118,20 +104,14 @@ impl Caller {
     pub fn is_pushed(&self) -> bool
         ensures { result ≡ asks_pushes (asked_of_caller self.now) }
     {
-        match &self.asked {
-            Some(asked) => matches!(asked.sort, Sort::Pushes),
-            None => false,
-        }
+        self.post.is_pushed()
     }
 
     /// Whether all came that is due, or nothing more comes.
     pub fn has_all(&self) -> bool
         ensures { result ≡ has_all self.now }
     {
-        match &self.asked {
-            None => true,
-            Some(asked) => self.ended || has_turns(asked.frames.nones(), self.remote.came()),
-        }
+        self.ended || self.post.has_come()
     }
 
     /// The frames of a window are to leave, and what they ask for is due. Where more came than was asked before, that is
@@ -141,7 +121,7 @@ impl Caller {
         ensures err { OnErr result (asked_of_caller self.new ≡ asked_of_caller self.old) }
         ensures more { came_at self.old ≢ [] → result ≡ Err BadBody }
     {
-        if !self.remote.came().is_empty() {
+        if !self.post.is_quiet() {
             return Err(Refusal::BadBody);
         }
         let asked = asked_by(self.alloc, window)?;
@@ -175,11 +155,10 @@ impl Caller {
         ensures asks { OnOk result (SendsTo asked self.old self.new) }
         ensures err { OnErr result (asked_of_caller self.new ≡ asked_of_caller self.old) }
     {
-        match self.remote.leave(&asked.frames) {
+        let count = asked.frames.nones().len() as u64;
+        match self.post.send(asked) {
             Ok(()) => {
-                let count = asked.frames.nones().len() as u64;
                 self.questions = self.questions.saturating_add(count);
-                self.asked = Some(asked);
                 Ok(())
             }
             Err(refusal) => Err(refusal),
@@ -190,8 +169,7 @@ impl Caller {
     pub fn tell(&mut self) -> Option<Told>
         ensures { CallerTells (asked_of_caller self.old) self.old self.new result }
     {
-        let Asked { sort, frames } = self.asked.take()?;
-        Some(told_in(&mut self.remote, sort, &frames))
+        self.post.tell()
     }
 
     /// Whether a Hello or a Bye was answered by Done.
@@ -216,36 +194,6 @@ fn only_of(answers: &[Result<(), Refusal>]) -> Result<(), Refusal>
     }
 }
 
-/// Whether a whole frame came for each request that has one. What is no frame comes in place of all that are left.
-fn has_turns(nones: &[Option<Refusal>], bytes: &[u8]) -> bool
-    ensures { result ≡ has_turns nones.now bytes.now }
-{
-    let mut rest = bytes;
-    for none in nones {
-        match turn_in(*none, rest) {
-            Ok(left) => rest = left,
-            Err(all) => return all,
-        }
-    }
-    true
-}
-
-/// What is left of the bytes behind the reply to a request; or, where its frame is not there, whether nothing more is
-/// waited for.
-fn turn_in(none: Option<Refusal>, bytes: &[u8]) -> Result<&[u8], bool>
-    ensures left { IfOk result (λ left. LeavesTurn none bytes.now left.now) }
-    ensures ends { IfErr result (λ all. EndsTurns none bytes.now all) }
-{
-    if none.is_some() {
-        return Ok(bytes);
-    }
-    match front_of(bytes) {
-        Front::Whole(size) => Ok(&bytes[size..]),
-        Front::Part => Err(false),
-        Front::TooLong => Err(true),
-    }
-}
-
 /// The frames of a window.
 fn asked_by(alloc: Global, window: &Window) -> Result<Asked, Refusal>
     ensures { IfOk result (λ asked. asked ≡ asked_in_window window.now) }
@@ -257,28 +205,4 @@ fn asked_by(alloc: Global, window: &Window) -> Result<Asked, Refusal>
         Window::Pushes(pairs) => (Sort::Pushes, Frames::pushes(alloc, pairs)?),
     };
     Ok(Asked { sort, frames })
-}
-
-/// What came of a window.
-fn told_in(remote: &mut Remote<Mailbox>, sort: Sort, frames: &Frames) -> Told
-    ensures { TellsBy sort frames.now.1 (link_by remote.old) (link_by remote.new) result }
-{
-    match sort {
-        Sort::Nodes => match remote.collect(frames) {
-            Ok(answers) => Told::Nodes(answers),
-            Err(refusal) => Told::Refused(refusal),
-        },
-        Sort::Pages => match remote.collect(frames) {
-            Ok(answers) => Told::Pages(answers),
-            Err(refusal) => Told::Refused(refusal),
-        },
-        Sort::States => match remote.collect(frames) {
-            Ok(answers) => Told::States(answers),
-            Err(refusal) => Told::Refused(refusal),
-        },
-        Sort::Pushes => match remote.collect(frames) {
-            Ok(answers) => Told::Pushes(answers),
-            Err(refusal) => Told::Refused(refusal),
-        },
-    }
 }

@@ -1,11 +1,14 @@
 //! Sessions that wait for nobody: two sides that are asked by mail, what goes on between them, and when they meet.
 #![tactic(auto)]
 
+pub mod asked;
 pub mod caller;
 pub mod loan;
 pub mod pace;
+pub(crate) mod post;
 pub mod schedule;
 pub mod stepping;
+pub(crate) mod turns;
 
 pub use caller::Caller;
 pub use loan::Loan;

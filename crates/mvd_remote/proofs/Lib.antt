@@ -3,7 +3,7 @@ pub mod Holding
 pub mod RemoteSides
 pub mod Lined
 pub mod FarSides
-pub mod Mailed
+pub mod Collected
 pub mod SiteReplies
 pub mod LiveLined
 pub mod LiveSides

@@ -2,6 +2,5 @@ pub mod Links
 pub mod LinkWindows
 pub mod Lines
 pub mod Remotes
-pub mod Mail
 pub mod LiveLines
 pub mod LiveRemotes

@@ -3,9 +3,7 @@
 
 mod far_end;
 pub mod line;
-pub mod mailbox;
 pub mod remote;
 
 pub use line::{Duplex, Line};
-pub use mailbox::Mailbox;
-pub use remote::{Answer, Remote, Window};
+pub use remote::{Answer, Remote, Window, collect, kept};

@@ -1,7 +1,6 @@
 //! A site at the other end of a connection.
 mod answer;
 mod far_side;
-mod halves;
 mod session_windows;
 mod window;
 
@@ -20,12 +19,12 @@ ghost use Rattle.mvd_wire.specs.Replies.{reply_kind};
 ghost use Rattle.mvd_wire.specs.Requests.{IsRequest, request_frame};
 
 use crate::line::Line;
-pub use answer::Answer;
+pub use answer::{Answer, collect};
 use mvd_dots::Refusal;
 use mvd_frames::{decode_reply, encode_bye, encode_hello, encode_request};
 use mvd_wire::{Reply, Request, Token};
 use std::alloc::Global;
-pub use window::Window;
+pub use window::{Window, kept};
 
 /// A site that is asked over a line. What it holds is known as far as the line is true; of a reader
 /// and a writer alone nothing is.

@@ -1,10 +1,12 @@
 //! What a reply to one of many questions tells.
-ghost use Rattle.std.specs.Prelude.{◌≡◌, ◌⊎◌, ℕ, Bool, true, false, IfOk, IfErr, Ok, Err, All, Contains};
+ghost use Rattle.std.specs.Prelude.{◌≡◌, ◌⊎◌, ℕ, Bool, true, false, IfOk, IfErr, List, Ok, Option, Err, All, Contains};
 ghost use Rattle.mvd_dots.specs.declared.refusals.Refusal.TheVariants.{Broken, Memory};
 ghost use Rattle.mvd_wire.specs.declared.reply.Reply.{Reply};
 ghost use Rattle.mvd_wire.specs.declared.reply.Reply.TheVariants.{State, Done, Digests as Told, Keys, Refused};
 ghost use Rattle.mvd_wire.specs.Replies.{reply_kind};
-ghost use Rattle.mvd_remote.specs.LinkWindows.{IsToldBy, IsOfKind};
+ghost use Rattle.mvd_dots.specs.declared.refusals.Refusal.{Refusal as Cause};
+ghost use Rattle.mvd_remote.specs.LinkWindows.{Collects, IsToldBy, IsOfKind, TakesEach};
+ghost use Rattle.mvd_remote.specs.Links.{Link};
 ghost use Rattle.mvd_remote.specs.Lines.{LeavesNothingOpen};
 ghost use Rattle.mvd_peer.specs.Windows.{ForEach};
 
@@ -155,7 +157,7 @@ fn answer_of<A: Answer>(reply: Result<Reply, Refusal>) -> Result<Result<A, Refus
 }
 
 /// What all replies of a window tell.
-pub fn answers<A: Answer>(
+pub(super) fn answers<A: Answer>(
     alloc: Global,
     replies: Vec<Result<Reply, Refusal>>,
 ) -> Result<Vec<Result<A, Refusal>>, Refusal>
@@ -170,4 +172,16 @@ pub fn answers<A: Answer>(
         told.push(answer_of(reply)?)?;
     }
     Ok(told)
+}
+
+/// What all replies to a window tell that left.
+pub fn collect<A: Answer>(
+    alloc: Global,
+    replies: Vec<Result<Reply, Refusal>>,
+) -> Result<Vec<Result<A, Refusal>>, Refusal>
+    requires { All (IsOfKind A.of_kind) replies.items }
+    ensures { (nones : List (Option Cause)) (old new : Link) → TakesEach A.of_kind nones replies.items old new →
+        Collects A.as_reply A.of_kind nones old new result }
+{
+    answers(alloc, replies)
 }

@@ -27,7 +27,7 @@ use std::alloc::Global;
 use std::marker::Model;
 
 /// A reply as it is kept: without its state, if those before it have so many bytes as are held at once.
-fn kept(bytes: &mut u64, reply: Result<Reply, Refusal>) -> Result<Reply, Refusal>
+pub fn kept(bytes: &mut u64, reply: Result<Reply, Refusal>) -> Result<Reply, Refusal>
     ensures kept { IsKeptOf reply result }
     ensures within { GivesWithin bytes.old bytes.new (state_in result) }
 {
@@ -66,6 +66,13 @@ impl Window {
         let frames = Vec::new(alloc);
         let nones = Vec::with_capacity(alloc, count)?;
         Ok(Window { frames, nones })
+    }
+
+    /// The frames that are to leave.
+    pub fn frames(&self) -> &[u8]
+        ensures { result.now ≡ self.now.0 }
+    {
+        &self.frames
     }
 
     /// For each request why it has no frame, if it has none. Each other one is answered by a reply.

@@ -1,21 +1,13 @@
--- Windows in two halves, and what is in a mailbox.
-use Rattle.std.proofs.Common.{◌≡◌, ◌⊎◌, ℕ, true, false, eqb, List, [], ◌∷◌, length, Option, None, refl}
+-- What was made of the replies to a window that left.
+use Rattle.std.proofs.Common.{◌≡◌, ◌⊎◌, ℕ, List, Option}
 use Rattle.std.specs.Prelude.{Result, Ok, Err, IfOk, IfErr, MatchResult, Contains}
-use Rattle.std.proofs.Math.Dec.{eqb-suc-zero}
 use Rattle.mvd_dots.specs.declared.refusals.Refusal.{Refusal}
 use Rattle.mvd_dots.specs.declared.refusals.Refusal.TheVariants.{Broken, Memory}
-use Rattle.mvd_wire.specs.Frames.{frame_at, length_at}
 use Rattle.mvd_wire.specs.declared.reply.Reply.{Reply}
 use Rattle.mvd_wire.specs.declared.reply.Reply.TheVariants.{Refused}
 use Rattle.mvd_peer.specs.Windows.{ForEach}
 use Rattle.mvd_remote.specs.LinkWindows.{IsToldBy, CollectsAll, CollectsNone, TakesEach, of_reply}
 use Rattle.mvd_remote.specs.Links.{Link}
-
--- no byte begins a frame
-pub nothing_at : (bytes : List ℕ) → eqb (length bytes) 0 ≡ true → frame_at bytes ≡ Ok (None, bytes)
-unfolding frame_at length_at
-nothing_at [] none = refl
-nothing_at (b ∷ bytes) none = let some : eqb (length (b ∷ bytes)) 0 ≡ false = eqb-suc-zero (length bytes) in absurd (cc)
 
 -- all were answered, and this was made of it
 pub all_collected : {V A : Type 0} (as_reply : A → Reply) (items : V → List (Result A Refusal)) (kind : ℕ) (nones : List (Option Refusal)) (replies : List (Result Reply Refusal)) (old new : Link) (made : Result V Refusal) → TakesEach kind nones replies old new

@@ -1,6 +1,6 @@
 use Rattle.std.proofs.Common.{◌≡◌, drop}
-use Rattle.mvd_meet.specs.Callers.{has_turns}
-use Rattle.mvd_meet.proofs.caller.has_turns.Given as goal
+use Rattle.mvd_meet.specs.Posts.{has_turns}
+use Rattle.mvd_meet.proofs.turns.has_turns.Given as goal
 
 -- what is left of the requests and of the bytes says the same
 abbrev pub invariant-loop-none : goal.invariant-loop-none

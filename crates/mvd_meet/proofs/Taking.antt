@@ -1,7 +1,9 @@
 -- The replies that came, each in its turn.
-use Rattle.std.proofs.Common.{◌≡◌, ◌⊎◌, inl, inr, ℕ, zero, suc, ◌+◌, ◌-◌, ◌^◌, ◌<◌, ◌≤◌, Bool, List, [], ◌∷◌, ◌++◌, length, take, drop, get_or, min, Option, Some, None, refl, sym, ap, subst, ◌∙◌, arith, length-append}
-use Rattle.std.specs.Prelude.{All, Result, Ok, Err}
-use Rattle.std.proofs.lemmas.List.{append_assoc, length-take, length-drop, take_all}
+use Rattle.std.proofs.Common.{◌≡◌, ◌⊎◌, inl, inr, ℕ, zero, suc, ◌+◌, ◌-◌, ◌<◌, ◌≤◌, Bool, true, false, List, [], ◌∷◌, ◌++◌, length, take, drop, get_or, Option, Some, None, refl, sym, ap, subst, ◌∙◌, arith, length-append}
+use Rattle.std.specs.Prelude.{All, Result, Ok, Err, is_some}
+use Rattle.std.specs.declared.alloc.Global.{Global}
+use Rattle.bytes.specs.declared.unique.BytesMut.{BytesMut}
+use Rattle.std.proofs.lemmas.List.{append_assoc, drop_all, flat_map_more, length-take, length-drop, take_all}
 use Rattle.std.proofs.lemmas.List.Elements.{All-push}
 use Rattle.mvd_dots.specs.Refusal.{number_of}
 use Rattle.mvd_dots.specs.declared.refusals.Refusal.{Refusal}
@@ -12,15 +14,31 @@ use Rattle.mvd_frames.proofs.FrameLemmas.{frame_again}
 use Rattle.mvd_conn.specs.Front.{IsPart, IsWholeFrame}
 use Rattle.mvd_conn.specs.Stands.{frame_of}
 use Rattle.mvd_peer.specs.Windows.{GivesWithin}
-use Rattle.mvd_remote.specs.LinkWindows.{AnswersTurn, IsKeptOf, IsOfKind, TakeTurns, ToldBy, TurnBreaks, state_in, states_in}
-use Rattle.mvd_remote.specs.Links.{EndsWithinFrame, IsOther, ReadCause, ReceivesFrame, TellsNone, of_body, of_end, of_kind, of_length, of_reader}
+use Rattle.mvd_remote.specs.LinkWindows.{AnswersTurn, CollectsNone, IsKeptOf, IsOfKind, TakeTurns, ToldBy, TurnBreaks, of_read, state_in, states_in}
+use Rattle.mvd_remote.specs.Links.{EndsWithinFrame, IsOther, Link, ReadCause, ReceivesFrame, TellsNone, of_body, of_end, of_kind, of_length, of_reader}
 use Rattle.mvd_remote.proofs.Holding.{kept_kind, kept_turn, within_replies}
 use Rattle.mvd_remote.proofs.Turns.{turns_more_at}
-use Rattle.mvd_meet.specs.Kept.{BrokeTurns, KeepsAsked, KeepsTurns}
-use Rattle.mvd_meet.specs.Posts.{has_turns, kind_of}
+use Rattle.mvd_meet.specs.Kept.{BrokeTurns, KeepsAsked, KeepsTurns, taken_in}
+use Rattle.mvd_meet.specs.Posts.{PostTells, PostTellsOf, PostValue, TellsBy, has_asked, has_turns, kind_of, link_by}
+use Rattle.mvd_meet.specs.Turns.{EndsWith}
 use Rattle.mvd_meet.specs.declared.asked.Asked.{Asked}
+use Rattle.mvd_meet.specs.declared.asked.Sort.{Sort}
+use Rattle.mvd_meet.specs.declared.asked.Sort.TheVariants as sort
+use Rattle.mvd_sync.specs.declared.telling.Told.TheVariants as told
+
+pub no_some : (r : Option Refusal) → ((x : Refusal) → r ≡ Some x → ⊥) → r ≡ None
+no_some None never = refl
+no_some (Some x) never = absurd (never x refl)
+
+pub not_some : (r : Option Refusal) (b : Bool) → b ≡ is_some r → b ≡ false → r ≡ None
+not_some None b is none = refl
+not_some (Some x) b is none = let never : true ≡ false = sym is ∙ none in absurd (cc)
 
 -- ---- a frame
+
+-- all that is behind the first
+pub behind_of : {X : Type 0} (xs : List X) (n : ℕ) → take (length xs - n) (drop n xs) ≡ drop n xs
+behind_of xs n = take_all (length xs - n) (drop n xs) (omega (arith, length-drop n xs))
 
 -- a whole frame is read, whatever comes behind it
 pub whole_more : (bytes : List ℕ) (n : ℕ) → IsWholeFrame bytes n → (more : List ℕ) → frame_at (take n bytes ++ more) ≡ Ok (Some (frame_of (take n bytes)), more)
@@ -89,6 +107,11 @@ module _ (kind : ℕ) (nones : List (Option Refusal)) (replies : List (Result Re
   pub no_memory : BrokeTurns kind nones taken Memory
   no_memory more = (length replies, replies, Some more, kept.read more, of_reader (inr refl))
 
+-- ---- the frames that were taken
+
+pub one_taken : (frames frames' : List (BytesMut Global × ℕ)) (came : BytesMut Global) (size : ℕ) → frames' ≡ frames ++ (came, size) ∷ [] → taken_in frames' ≡ taken_in frames ++ take size came.items
+one_taken frames frames' came size is = ap taken_in is ∙ sym (flat_map_more (λ (r : BytesMut Global × ℕ). take r.1 r.0.items) [] frames (came, size))
+
 -- ---- what is kept of a window
 
 pub kept_at : (asked : Option Asked) (refused : Option Refusal) (a : Asked) (replies : List (Result Reply Refusal)) (bytes : ℕ) (taken : List ℕ) → asked ≡ Some a → refused ≡ None → KeepsAsked asked refused replies bytes taken → KeepsTurns (kind_of a.sort) a.frames.1 replies bytes taken
@@ -102,3 +125,43 @@ broke_at asked refused a refusal replies bytes taken is some k = subst (λ r. Ke
 
 pub broke_as : (asked : Option Asked) (refused : Option Refusal) (a : Asked) (refusal : Refusal) (replies : List (Result Reply Refusal)) (bytes : ℕ) (taken : List ℕ) → asked ≡ Some a → refused ≡ Some refusal → BrokeTurns (kind_of a.sort) a.frames.1 taken refusal → KeepsAsked asked refused replies bytes taken
 broke_as asked refused a refusal replies bytes taken is some k = subst (λ x. KeepsAsked x refused replies bytes taken) (sym is) (subst (λ r. KeepsAsked (Some a) r replies bytes taken) (sym some) k)
+
+-- ---- what is told
+
+pub none_told : (sort : Sort) (nones : List (Option Refusal)) (old new : Link) (refusal : Refusal) → CollectsNone (kind_of sort) nones old new refusal → TellsBy sort nones old new (told.Refused refusal)
+none_told sort.Nodes nones old new refusal h = (Err refusal, h, refl)
+none_told sort.Pages nones old new refusal h = (Err refusal, h, refl)
+none_told sort.States nones old new refusal h = (Err refusal, h, refl)
+none_told sort.Pushes nones old new refusal h = (Err refusal, h, refl)
+
+-- what came broke the link, or ends before all is answered
+ends_turns : (a : Asked) (refused : Option Refusal) (replies : List (Result Reply Refusal)) (bytes : ℕ) (taken came : List ℕ) (refusal : Refusal) → KeepsAsked (Some a) refused replies bytes taken → EndsWith refused came refusal → TurnBreaks (kind_of a.sort) a.frames.1 (Some (taken ++ came)) (Some came) refusal
+ends_turns a None replies bytes taken came refusal k e = (length replies, replies, Some came, k.read came, e (kind_of a.sort))
+ends_turns a (Some before) replies bytes taken came refusal k e = subst (λ r. TurnBreaks (kind_of a.sort) a.frames.1 (Some (taken ++ came)) (Some came) r) (sym e) (k came)
+
+module _ (asked : Option Asked) (a : Asked) (refused : Option Refusal) (leaving came : List ℕ) (frames frames' : List (BytesMut Global × ℕ)) (is : asked ≡ Some a) (none : frames' ≡ []) (v : PostValue)
+    (was : record { leaving = leaving; came = taken_in frames ++ came; waits = came; asked = asked; refused = refused } ≡ v) where
+  left_behind : taken_in frames' ++ came ≡ came
+  left_behind = ap (λ (l : List (BytesMut Global × ℕ)). taken_in l ++ came) none
+
+  pub tells_end : (replies : List (Result Reply Refusal)) (bytes : ℕ) (asked' : Option Asked) (refusal : Refusal) → asked' ≡ None → KeepsAsked asked refused replies bytes (taken_in frames) → EndsWith refused came refusal
+      → PostTells v.asked v (record { leaving = leaving; came = taken_in frames' ++ came; waits = came; asked = asked'; refused = Some refusal }) (Some (told.Refused refusal))
+  tells_end replies bytes asked' refusal gone k e =
+      let new : PostValue = record { leaving = leaving; came = taken_in frames' ++ came; waits = came; asked = asked'; refused = Some refusal } in
+      let old : PostValue = record { leaving = leaving; came = taken_in frames ++ came; waits = came; asked = asked; refused = refused } in
+      let broke = ends_turns a refused replies bytes (taken_in frames) came refusal (subst (λ x. KeepsAsked x refused replies bytes (taken_in frames)) is k) e in
+      let so : PostTellsOf a old new (told.Refused refusal) = record {
+        tells = none_told a.sort a.frames.1 (link_by old) (link_by new) refusal (of_read (subst (λ (l : List ℕ). TurnBreaks (kind_of a.sort) a.frames.1 (Some (taken_in frames ++ came)) (Some l) refusal) (sym left_behind) broke) refl);
+        asked = gone;
+      } in
+      subst (λ (w : PostValue). PostTells w.asked w new (Some (told.Refused refusal))) was (subst (λ x. PostTells x old new (Some (told.Refused refusal))) (sym is) so)
+
+-- ---- whether all came
+
+pub come_is : (asked : Option Asked) (refused : Option Refusal) (a : Asked) (replies : List (Result Reply Refusal)) (bytes : ℕ) (taken came : List ℕ) → asked ≡ Some a → refused ≡ None → KeepsAsked asked refused replies bytes taken → has_turns (drop (length replies) a.frames.1) came ≡ has_asked asked refused (taken ++ came)
+come_is asked refused a replies bytes taken came is none k =
+    let kept = kept_at asked refused a replies bytes taken is none k in
+    sym (left_turns (kind_of a.sort) replies a.frames.1 (taken ++ came) came (kept.read came)) ∙ sym (ap (λ x. has_asked x refused (taken ++ came)) is ∙ ap (λ r. has_asked (Some a) r (taken ++ came)) none)
+
+pub all_come : (nones : List (Option Refusal)) (n : ℕ) (bytes : List ℕ) → length nones ≤ n → true ≡ has_turns (drop n nones) bytes
+all_come nones n bytes few = sym (ap (λ ns. has_turns ns bytes) (drop_all n nones few))

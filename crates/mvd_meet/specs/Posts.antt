@@ -66,7 +66,7 @@ LeavesTurn none bytes left = (later : List (Option Refusal)) → has_turns (none
 abbrev pub EndsTurns : Option Refusal → List ℕ → Bool → Type 0
 EndsTurns none bytes all = (later : List (Option Refusal)) → has_turns (none ∷ later) bytes ≡ all
 
-abbrev has_asked : Option Asked → Option Refusal → List ℕ → Bool
+abbrev pub has_asked : Option Asked → Option Refusal → List ℕ → Bool
 has_asked None refused came = true
 has_asked (Some asked) (Some refusal) came = true
 has_asked (Some asked) None came = has_turns asked.frames.1 came

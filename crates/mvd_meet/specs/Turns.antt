@@ -10,11 +10,11 @@ use Rattle.mvd_meet.specs.declared.turns.Turn.TheVariants.{Waits, Told, Breaks}
 -- What bytes hold for a request in its turn, whatever comes behind them: no whole frame; or its reply, in so many bytes;
 -- or what is no reply to it.
 abbrev pub TurnsAt : ℕ → Option Refusal → List ℕ → Turn → Type 0
-TurnsAt kind none bytes Waits = (frame : FrameValue) (rest : List ℕ) → frame_at bytes ≢ Ok (Some frame, rest)
-TurnsAt kind none bytes (Told reply size) =
+TurnsAt kind why bytes Waits = (frame : FrameValue) (rest : List ℕ) → frame_at bytes ≢ Ok (Some frame, rest)
+TurnsAt kind why bytes (Told reply size) =
     (size ≤ length bytes) × IsOfKind kind reply
-    × ((more : List ℕ) → AnswersTurn kind none reply (Some (take size bytes ++ more)) (Some more))
-TurnsAt kind none bytes (Breaks refusal size) =
+    × ((more : List ℕ) → AnswersTurn kind why reply (Some (take size bytes ++ more)) (Some more))
+TurnsAt kind why bytes (Breaks refusal size) =
     (size ≤ length bytes)
     × ((more : List ℕ) → ReadCause (Some (take size bytes ++ more)) (Some more) kind refusal)
 

@@ -130,7 +130,12 @@ impl Post {
         if self.refused.is_some() {
             return true;
         }
-        has_turns(&asked.frames.nones()[self.replies.len()..], self.came.as_slice())
+        let nones = asked.frames.nones();
+        let next = self.replies.len();
+        if next >= nones.len() {
+            return true;
+        }
+        has_turns(&nones[next..], self.came.as_slice())
     }
 
     /// Whether nothing came that was not told, and nothing is asked.

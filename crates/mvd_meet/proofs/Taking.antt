@@ -19,7 +19,7 @@ use Rattle.mvd_remote.specs.Links.{EndsWithinFrame, IsOther, Link, ReadCause, Re
 use Rattle.mvd_remote.proofs.Holding.{kept_kind, kept_turn, within_replies}
 use Rattle.mvd_remote.proofs.Turns.{turns_more_at}
 use Rattle.mvd_meet.specs.Kept.{BrokeTurns, KeepsAsked, KeepsTurns, taken_in}
-use Rattle.mvd_meet.specs.Posts.{PostTells, PostTellsOf, PostValue, TellsBy, has_asked, has_turns, kind_of, link_by}
+use Rattle.mvd_meet.specs.Posts.{NoneWhole, PostTells, PostTellsOf, PostValue, TellsBy, TookIf, due_in, has_asked, has_turns, kind_of, link_by}
 use Rattle.mvd_meet.specs.Turns.{EndsWith}
 use Rattle.mvd_meet.specs.declared.asked.Asked.{Asked}
 use Rattle.mvd_meet.specs.declared.asked.Sort.{Sort}
@@ -139,16 +139,16 @@ ends_turns : (a : Asked) (refused : Option Refusal) (replies : List (Result Repl
 ends_turns a None replies bytes taken came refusal k e = (length replies, replies, Some came, k.read came, e (kind_of a.sort))
 ends_turns a (Some before) replies bytes taken came refusal k e = subst (λ r. TurnBreaks (kind_of a.sort) a.frames.1 (Some (taken ++ came)) (Some came) r) (sym e) (k came)
 
-module _ (asked : Option Asked) (a : Asked) (refused : Option Refusal) (leaving came : List ℕ) (frames frames' : List (BytesMut Global × ℕ)) (is : asked ≡ Some a) (none : frames' ≡ []) (v : PostValue)
-    (was : record { leaving = leaving; came = taken_in frames ++ came; waits = came; asked = asked; refused = refused } ≡ v) where
+module _ (asked : Option Asked) (a : Asked) (refused : Option Refusal) (leaving came : List ℕ) (frames frames' : List (BytesMut Global × ℕ)) (replies replies' : List (Result Reply Refusal)) (is : asked ≡ Some a) (none : frames' ≡ []) (v : PostValue)
+    (was : record { leaving = leaving; came = taken_in frames ++ came; waits = came; asked = asked; answered = length replies; refused = refused } ≡ v) where
   left_behind : taken_in frames' ++ came ≡ came
   left_behind = ap (λ (l : List (BytesMut Global × ℕ)). taken_in l ++ came) none
 
-  pub tells_end : (replies : List (Result Reply Refusal)) (bytes : ℕ) (asked' : Option Asked) (refusal : Refusal) → asked' ≡ None → KeepsAsked asked refused replies bytes (taken_in frames) → EndsWith refused came refusal
-      → PostTells v.asked v (record { leaving = leaving; came = taken_in frames' ++ came; waits = came; asked = asked'; refused = Some refusal }) (Some (told.Refused refusal))
-  tells_end replies bytes asked' refusal gone k e =
-      let new : PostValue = record { leaving = leaving; came = taken_in frames' ++ came; waits = came; asked = asked'; refused = Some refusal } in
-      let old : PostValue = record { leaving = leaving; came = taken_in frames ++ came; waits = came; asked = asked; refused = refused } in
+  pub tells_end : (bytes : ℕ) (asked' : Option Asked) (refusal : Refusal) → asked' ≡ None → KeepsAsked asked refused replies bytes (taken_in frames) → EndsWith refused came refusal
+      → PostTells v.asked v (record { leaving = leaving; came = taken_in frames' ++ came; waits = came; asked = asked'; answered = length replies'; refused = Some refusal }) (Some (told.Refused refusal))
+  tells_end bytes asked' refusal gone k e =
+      let new : PostValue = record { leaving = leaving; came = taken_in frames' ++ came; waits = came; asked = asked'; answered = length replies'; refused = Some refusal } in
+      let old : PostValue = record { leaving = leaving; came = taken_in frames ++ came; waits = came; asked = asked; answered = length replies; refused = refused } in
       let broke = ends_turns a refused replies bytes (taken_in frames) came refusal (subst (λ x. KeepsAsked x refused replies bytes (taken_in frames)) is k) e in
       let so : PostTellsOf a old new (told.Refused refusal) = record {
         tells = none_told a.sort a.frames.1 (link_by old) (link_by new) refusal (of_read (subst (λ (l : List ℕ). TurnBreaks (kind_of a.sort) a.frames.1 (Some (taken_in frames ++ came)) (Some l) refusal) (sym left_behind) broke) refl);

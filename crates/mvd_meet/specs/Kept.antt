@@ -21,6 +21,7 @@ post_of p = record {
   came = taken_in p.taken.items ++ p.came.items;
   waits = p.came.items;
   asked = p.asked;
+  answered = length p.replies.items;
   refused = p.refused;
 }
 

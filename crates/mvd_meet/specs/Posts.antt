@@ -1,6 +1,6 @@
 -- What is asked by mail, and what came of it.
-use Rattle.std.specs.Prelude.{◌≡◌, ◌++◌, ℕ, Bool, true, false, List, [], ◌∷◌, Option, Some, None, Result, Ok, Err}
-use Rattle.std.specs.Prelude.{IsSomeAnd}
+use Rattle.std.specs.Prelude.{◌≡◌, ◌≢◌, ◌++◌, ◌-◌, ◌<◌, ℕ, Bool, true, false, List, [], ◌∷◌, Option, Some, None, Result, Ok, Err}
+use Rattle.std.specs.Prelude.{IsSomeAnd, length}
 use Rattle.std.specs.declared.alloc.Global.{Global}
 use Rattle.std.specs.declared.vec.Vec.{Vec}
 use Rattle.mvd_dots.specs.declared.refusals.Refusal.{Refusal}
@@ -22,8 +22,9 @@ pub record PostValue : Type 0 where
   -- those that came and were not told, and the last of them, which were not taken
   pub came : List ℕ
   pub waits : List ℕ
-  -- the window that was asked and was not told
+  -- the window that was asked and was not told, and how many of its requests have their replies
   pub asked : Option Asked
+  pub answered : ℕ
   -- why nothing more is asked, once that is refused
   pub refused : Option Refusal
 
@@ -74,6 +75,28 @@ has_asked (Some asked) None came = has_turns asked.frames.1 came
 -- all came that is due, or what is no reply to it
 abbrev pub has_come : PostValue → Bool
 has_come post = has_asked post.asked post.refused post.came
+
+-- ---- what is taken
+
+-- as many requests have no reply
+abbrev pub due_in : Option Asked → ℕ → ℕ
+due_in None answered = 0
+due_in (Some asked) answered = length asked.frames.1 - answered
+
+abbrev pub due_of : PostValue → ℕ
+due_of post = due_in post.asked post.answered
+
+-- no whole frame waits
+abbrev pub NoneWhole : List ℕ → Type 0
+NoneWhole waits = (frame : FrameValue) (rest : List ℕ) → frame_at waits ≢ Ok (Some frame, rest)
+
+abbrev pub TookIf : Option Asked → Option Refusal → ℕ → List ℕ → Type 0
+TookIf (Some asked) None answered waits = answered < length asked.frames.1 → NoneWhole waits
+TookIf asked refused answered waits = Unit {0}
+
+-- THE REPLIES THAT CAME ARE TAKEN, as far as they are whole and are due, unless one is refused
+abbrev pub TookAll : PostValue → Type 0
+TookAll post = TookIf post.asked post.refused post.answered post.waits
 
 -- ---- what is asked
 

@@ -5,7 +5,7 @@ ghost use Rattle.mvd_dots.specs.declared.refusals.Refusal.TheVariants.{BadBody, 
 ghost use Rattle.mvd_meet.specs.Callers.{CallerAsks, CallerHears, CallerSays, CallerTells, SendsTo};
 ghost use Rattle.mvd_meet.specs.Callers.{asked_in_window, asked_of_caller, came_at, has_all, has_ended};
 ghost use Rattle.mvd_meet.specs.Callers.{leaving_at, only_of, questions_at};
-ghost use Rattle.mvd_meet.specs.Posts.{asks_pushes};
+ghost use Rattle.mvd_meet.specs.Posts.{TookAll, asks_pushes};
 ghost use Rattle.mvd_wire.specs.declared.request.Request.TheVariants.{Bye, Hello};
 
 use crate::asked::{Asked, Sort};
@@ -70,6 +70,8 @@ impl Caller {
         ensures memory { IfErr result (λ refusal. refusal ≡ Memory) }
         // A part of the longest frame waits at most, and what comes at once.
         ensures bounded { OnOk result (length self.new.post.waits ≤ 1462147) }
+        // What is whole is taken.
+        ensures took { OnOk result (TookAll self.new.post) }
         ensures leaving { leaving_at self.new ≡ leaving_at self.old }
         ensures asked { asked_of_caller self.new ≡ asked_of_caller self.old }
         ensures ended { has_ended self.new ≡ has_ended self.old }

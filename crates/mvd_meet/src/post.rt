@@ -1,5 +1,5 @@
 //! A window that leaves by mail, and the replies to it, which are taken as they come.
-ghost use Rattle.std.specs.Prelude.{◌≡◌, ◌≢◌, ◌≤◌, ◌++◌, [], IfErr, None, OnErr, OnOk, drop, length, true};
+ghost use Rattle.std.specs.Prelude.{◌≡◌, ◌≤◌, ◌<◌, ◌++◌, [], IfErr, None, OnErr, OnOk, drop, false, length, true};
 ghost use Rattle.mvd_dots.specs.declared.refusals.Refusal.TheVariants.{Memory};
 
 use crate::asked::{Asked, Sort};
@@ -52,11 +52,12 @@ impl Model for Post {
 }
 
 impl Post {
-    ghost use Rattle.mvd_meet.specs.Posts.{PostSends, PostTells, asks_pushes, has_come};
+    ghost use Rattle.mvd_meet.specs.Posts.{PostSends, PostTells, TookAll, asks_pushes, due_of, has_come};
 
     /// One by which nothing was asked.
     pub fn new(alloc: Global) -> Post
-        ensures { result ≡ record { leaving = []; came = []; waits = []; asked = None; refused = None } }
+        ensures { result ≡
+            record { leaving = []; came = []; waits = []; asked = None; answered = 0; refused = None } }
     {
         Post {
             alloc,
@@ -92,6 +93,7 @@ impl Post {
         ensures err { OnErr result (self.new ≡ self.old) }
         ensures memory { IfErr result (λ refusal. refusal ≡ Memory) }
         ensures bounded { OnOk result (length self.new.waits ≤ 1462147) }
+        ensures took { OnOk result (TookAll self.new) }
         ensures leaving { self.new.leaving ≡ self.old.leaving }
         ensures asked { self.new.asked ≡ self.old.asked }
     {
@@ -171,20 +173,9 @@ impl Post {
         ensures came { self.new.came ≡ self.old.came }
         ensures waits { length self.new.waits ≤ length self.old.waits }
         ensures asked { self.new.asked ≡ self.old.asked }
+        ensures took { TookAll self.new }
     {
-        for _turn in 0..self.due() {
-            if !self.take_turn() {
-                return;
-            }
-        }
-    }
-
-    /// The number of requests that have no reply.
-    fn due(&self) -> usize {
-        match &self.asked {
-            Some(asked) => asked.frames.nones().len().saturating_sub(self.replies.len()),
-            None => 0,
-        }
+        'taking: while self.take_turn() {}
     }
 
     /// Takes the reply to the next request, if it came. Whether there may be another.
@@ -193,13 +184,18 @@ impl Post {
         ensures came { self.new.came ≡ self.old.came }
         ensures waits { length self.new.waits ≤ length self.old.waits }
         ensures asked { self.new.asked ≡ self.old.asked }
+        ensures fewer { result ≡ true → due_of self.new < due_of self.old }
+        ensures took { result ≡ false → TookAll self.new }
     {
         let Some(asked) = &self.asked else {
             return false;
         };
+        if self.refused.is_some() {
+            return false;
+        }
         let nones = asked.frames.nones();
         let next = self.replies.len();
-        if self.refused.is_some() || next >= nones.len() {
+        if next >= nones.len() {
             return false;
         }
         let kind = kind_of(asked.sort);

@@ -1,11 +1,15 @@
 use Rattle.std.proofs.Common.{◌≡◌, ◌≤◌, length}
+use Rattle.mvd_meet.specs.Posts.{due_of}
 use Rattle.mvd_meet.proofs.post.Post.take.Given as goal
 
--- bytes that came may be taken
-abbrev pub invariant-loop-turn : goal.invariant-loop-turn
-invariant-loop-turn l = record {
-  leaving : l.self.leaving ≡ l.fn.self.leaving;
-  came : l.self.came ≡ l.fn.self.came;
-  waits : length l.self.waits ≤ length l.fn.self.waits;
-  asked : l.self.asked ≡ l.fn.self.asked;
+-- frames were taken
+abbrev pub invariant-taking : goal.invariant-taking
+invariant-taking l = record {
+  leaving : l.self.leaving ≡ l.initial.self.leaving;
+  came : l.self.came ≡ l.initial.self.came;
+  waits : length l.self.waits ≤ length l.initial.self.waits;
+  asked : l.self.asked ≡ l.initial.self.asked;
 }
+
+abbrev pub decreases-taking : goal.decreases-taking
+decreases-taking l = due_of l.self

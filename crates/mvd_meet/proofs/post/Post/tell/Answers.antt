@@ -8,5 +8,5 @@ returns c =
     let p = c.self.inside in
     let is : p.asked ≡ Some c.in_ok-sort.field-0 = search rules in
     let ends = subst (λ l. EndsWith p.refused l c.end_of-refusal.result) c.as_slice.ensures c.end_of-refusal.ensures in
-    tells_end p.asked c.in_ok-sort.field-0 p.refused p.leaving.items p.came.items p.taken.items c.new-self-inside.result.items is c.new-self-inside.ensures c.args.self.now c.self.view_is
-    p.replies.items p.bytes c.take.new.self c.end_of-refusal.result c.take.ensures.after c.self.invariant ends
+    tells_end p.asked c.in_ok-sort.field-0 p.refused p.leaving.items p.came.items p.taken.items c.new-self-inside.result.items p.replies.items c.replace-replies.new.dest.items is c.new-self-inside.ensures c.args.self.now c.self.view_is
+    p.bytes c.take.new.self c.end_of-refusal.result c.take.ensures.after c.self.invariant ends

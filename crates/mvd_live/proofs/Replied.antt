@@ -27,7 +27,8 @@ use Rattle.mvd_peer.proofs.Pushes.{state-pushed}
 use Rattle.mvd_remote.specs.Lines.{TrueReply, as_digests, as_done, as_page, as_state}
 use Rattle.mvd_remote.specs.LinkWindows.{Frames, IsToldBy, TakeTurns, ToldBy, and_frame, frames_after, frames_of}
 use Rattle.mvd_remote.specs.Links.{Link}
-use Rattle.mvd_meet.specs.Callers.{CallerTells, CallerTellsAs, TellsOf, asked_in_window, came_at, link_at, requests_of}
+use Rattle.mvd_meet.specs.Callers.{CallerTells, TellsOf, asked_in_window, asked_of_caller, came_at, link_at, requests_of}
+use Rattle.mvd_meet.specs.Posts.{CallerTellsAs}
 use Rattle.mvd_meet.specs.declared.caller.Caller.{Caller}
 use Rattle.mvd_sync.specs.Steps.{asked, no_question}
 use Rattle.mvd_sync.specs.Walking.{PageQuestion}
@@ -174,13 +175,13 @@ module _ (config : ConfigValue) where
   tells_if window caller after (Some t) rs rest old new moments form has frames valid among h answered = window_told window caller after t rs rest old new moments form has frames valid among h answered
 
   -- WHAT COMES OF SUCH A SITE IS LIVE
-  pub live_mail : (window : Window) (caller : Caller) (rs : List Reply) (rest : List ℕ) (old new : States) (moments : List States) → caller.asked ≡ Some (asked_in_window window) → AreHeld old → HaveFrames (requests_of window) → AreReplyFrames rs (came_at caller) rest
+  pub live_mail : (window : Window) (caller : Caller) (rs : List Reply) (rest : List ℕ) (old new : States) (moments : List States) → asked_of_caller caller ≡ Some (asked_in_window window) → AreHeld old → HaveFrames (requests_of window) → AreReplyFrames rs (came_at caller) rest
       → Each (λ p. IsValid p.1) (asked (Some window)).pushes → AnswersAmong config (requests_of window) rs old moments new → IsLiveMail config.max_keys (asked (Some window)) caller old moments new
   live_mail window caller rs rest old new moments is form has frames valid among after t h answered =
       tells_if window caller after t rs rest old new moments form has frames valid among (subst (λ x. CallerTells x caller after t) is h) answered
 
 -- and so where nothing was asked
-pub none_mailed : (most : ℕ) (caller : Caller) (old new : States) → caller.asked ≡ None → Grows old new → IsLiveMail most no_question caller old [] new
+pub none_mailed : (most : ℕ) (caller : Caller) (old new : States) → asked_of_caller caller ≡ None → Grows old new → IsLiveMail most no_question caller old [] new
 none_mailed most caller old new is up after t h answered =
     let none : t ≡ None = (subst (λ x. CallerTells x caller after t) is h).0 in
     subst (λ x. LiveTells most no_question x old [] new) (sym none) (refl, up)

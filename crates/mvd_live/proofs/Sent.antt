@@ -7,9 +7,9 @@ use Rattle.mvd_wire.specs.declared.request.Request.{Request}
 use Rattle.mvd_wire.specs.declared.request.Request.TheVariants.{Bucket, Get, Node, Push}
 use Rattle.mvd_wire.specs.Requests.{request_frame}
 use Rattle.mvd_remote.specs.LinkWindows.{Frames, and_frame, frames_after}
-use Rattle.mvd_meet.specs.Callers.{CallerTells, asked_in_window, questions_at, requests_of}
+use Rattle.mvd_meet.specs.Callers.{CallerTells, asked_in_window, asked_of_caller, questions_at, requests_of}
 use Rattle.mvd_meet.specs.Meetings.{AsksIf}
-use Rattle.mvd_meet.specs.declared.caller.Asked.{Asked}
+use Rattle.mvd_meet.specs.declared.asked.Asked.{Asked}
 use Rattle.mvd_meet.specs.declared.caller.Caller.{Caller}
 use Rattle.mvd_sync.specs.Steps.{asked}
 use Rattle.mvd_sync.specs.declared.asked.Step.{Step}
@@ -63,8 +63,8 @@ module _ (most : Two ℕ ℕ) where
   step_counted old new mail g =
       let s = g.steps in
       let h = hears_both most old.meeting.began old.meeting s.mid mail.near mail.far s.near_mid s.far_mid (Ok tt) g.began s.hears.0 in
-      let n = tells_counted mail.near.asked mail.near s.near_mid h.mine h.local in
-      let f = tells_counted mail.far.asked mail.far s.far_mid h.theirs h.peer in
+      let n = tells_counted (asked_of_caller mail.near) mail.near s.near_mid h.mine h.local in
+      let f = tells_counted (asked_of_caller mail.far) mail.far s.far_mid h.theirs h.peer in
       let a = asks_counted s.asks.step.local s.near_mid mail.near' s.asks.asks.local in
       let b = asks_counted s.asks.step.peer s.far_mid mail.far' s.asks.asks.peer in
       let p : questions_in (asked s.asks.step.local) ≡ questions_in (asked new.step.local) = ap (λ (x : Step). questions_in (asked x.local)) g.asks in

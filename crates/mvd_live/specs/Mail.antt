@@ -7,7 +7,7 @@ use Rattle.mvd_sync.specs.Steps.{Wanted, asked}
 use Rattle.mvd_sync.specs.declared.asked.Step.{Step}
 use Rattle.mvd_sync.specs.declared.telling.Told.{Told}
 use Rattle.mvd_sync.specs.declared.telling.Told.TheVariants as told
-use Rattle.mvd_meet.specs.Callers.{CallerTells, questions_at}
+use Rattle.mvd_meet.specs.Callers.{CallerTells, asked_of_caller, questions_at}
 use Rattle.mvd_meet.specs.Meetings.{MeetingSteps}
 use Rattle.mvd_meet.specs.declared.caller.Caller.{Caller}
 use Rattle.mvd_meet.specs.declared.stepping.Course.TheVariants as course
@@ -25,7 +25,7 @@ IsAnswered (Some other) = Unit {0}
 -- WHAT CAME BY MAIL IS LIVE: whatever it answers of the window that was asked, a live side tells
 abbrev pub IsLiveMail : ℕ → Wanted → Caller → States → List States → States → Type 0
 IsLiveMail most w caller old moments new =
-    (after : Caller) (told : Option Told) → CallerTells caller.asked caller after told → IsAnswered told
+    (after : Caller) (told : Option Told) → CallerTells (asked_of_caller caller) caller after told → IsAnswered told
     → LiveTells most w told old moments new
 
 -- a session that waits for the answers to what a step asked, and what its two sides hold

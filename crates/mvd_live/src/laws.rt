@@ -40,7 +40,7 @@ ghost use Rattle.mvd_live.specs.Lives.{IsGiven, Lives};
 ghost use Rattle.mvd_meet.specs.declared.stepping.Meeting.{Meeting};
 ghost use Rattle.mvd_live.specs.Mail.{MailEnds, IsLiveMail, KeepsCounts, Mail, MailSteps, Sits, Waiting};
 ghost use Rattle.mvd_live.specs.Mail.{mail_locals, mail_peers, standing, waits_at};
-ghost use Rattle.mvd_meet.specs.Callers.{asked_in_window, came_at, requests_of};
+ghost use Rattle.mvd_meet.specs.Callers.{asked_in_window, asked_of_caller, came_at, requests_of};
 ghost use Rattle.mvd_meet.specs.declared.caller.Caller.{Caller};
 ghost use Rattle.mvd_live.specs.Over.{LivesOver};
 ghost use Rattle.mvd_live.specs.Runs.{GoesOnAsking, StartsRun, TakesLeg, Leg, RunsLegs, Standing};
@@ -88,12 +88,12 @@ pub fn a_session_by_mail_lives()
 /// and of a server it says only that the bytes that came are the frames of its replies.
 pub fn mail_of_a_site_is_live()
     ensures answered { (window : Window) (caller : Caller) (config : ConfigValue) (replies : List Reply) (rest : List ℕ)
-        (old new : States) (moments : List States) → caller.asked ≡ Some (asked_in_window window) → AreHeld old
+        (old new : States) (moments : List States) → asked_of_caller caller ≡ Some (asked_in_window window) → AreHeld old
         → HaveFrames (requests_of window) → AreReplyFrames replies (came_at caller) rest
         → Each (λ pair. IsValid pair.1) (asked (Some window)).pushes
         → AnswersAmong config (requests_of window) replies old moments new
         → IsLiveMail config.max_keys (asked (Some window)) caller old moments new }
-    ensures unasked { (most : ℕ) (caller : Caller) (old new : States) → caller.asked ≡ None → Grows old new
+    ensures unasked { (most : ℕ) (caller : Caller) (old new : States) → asked_of_caller caller ≡ None → Grows old new
         → IsLiveMail most no_question caller old [] new }
     // Of one list of turns, which are all clients', this client's own are answered so.
     ensures turns { (config : ConfigValue) (turns : List SiteTurn) (old new : States) → AreHeld old

@@ -1,25 +1,24 @@
 -- The replies that came, each in its turn.
-use Rattle.std.proofs.Common.{◌≡◌, ◌⊎◌, inl, inr, ℕ, zero, suc, ◌+◌, ◌-◌, ◌<◌, ◌≤◌, Bool, true, false, List, [], ◌∷◌, ◌++◌, length, take, drop, get_or, Option, Some, None, refl, sym, ap, subst, ◌∙◌, arith, length-append}
+use Rattle.std.proofs.Common.{◌≡◌, inl, inr, ℕ, ◌+◌, ◌-◌, ◌<◌, ◌≤◌, Bool, true, false, List, [], ◌∷◌, ◌++◌, length, take, drop, get_or, Option, Some, None, refl, sym, ap, subst, ◌∙◌, arith, length-append}
 use Rattle.std.specs.Prelude.{All, Result, Ok, Err, is_some}
 use Rattle.std.specs.declared.alloc.Global.{Global}
 use Rattle.bytes.specs.declared.unique.BytesMut.{BytesMut}
 use Rattle.std.proofs.lemmas.List.{append_assoc, drop_all, flat_map_more, length-take, length-drop, take_all}
 use Rattle.std.proofs.lemmas.List.Elements.{All-push}
-use Rattle.mvd_dots.specs.Refusal.{number_of}
 use Rattle.mvd_dots.specs.declared.refusals.Refusal.{Refusal}
-use Rattle.mvd_dots.specs.declared.refusals.Refusal.TheVariants.{BadKind, FrameTooLong, Memory, ReadFailed, Truncated}
+use Rattle.mvd_dots.specs.declared.refusals.Refusal.TheVariants.{FrameTooLong, Memory, Truncated}
 use Rattle.mvd_wire.specs.Frames.{FrameValue, frame_at, frame_limit}
 use Rattle.mvd_wire.specs.declared.reply.Reply.{Reply}
 use Rattle.mvd_frames.proofs.FrameLemmas.{frame_again}
 use Rattle.mvd_conn.specs.Front.{IsPart, IsWholeFrame}
 use Rattle.mvd_conn.specs.Stands.{frame_of}
 use Rattle.mvd_peer.specs.Windows.{GivesWithin}
-use Rattle.mvd_remote.specs.LinkWindows.{AnswersTurn, CollectsNone, IsKeptOf, IsOfKind, TakeTurns, ToldBy, TurnBreaks, of_read, state_in, states_in}
-use Rattle.mvd_remote.specs.Links.{EndsWithinFrame, IsOther, Link, ReadCause, ReceivesFrame, TellsNone, of_body, of_end, of_kind, of_length, of_reader}
+use Rattle.mvd_remote.specs.LinkWindows.{AnswersTurn, CollectsNone, IsKeptOf, IsOfKind, TakeTurns, TurnBreaks, of_read, state_in}
+use Rattle.mvd_remote.specs.Links.{EndsWithinFrame, Link, ReadCause, ReceivesFrame, of_end, of_length, of_reader}
 use Rattle.mvd_remote.proofs.Holding.{kept_kind, kept_turn, within_replies}
 use Rattle.mvd_remote.proofs.Turns.{turns_more_at}
 use Rattle.mvd_meet.specs.Kept.{BrokeTurns, KeepsAsked, KeepsTurns, taken_in}
-use Rattle.mvd_meet.specs.Posts.{NoneWhole, PostTells, PostTellsOf, PostValue, TellsBy, TookIf, due_in, has_asked, has_turns, kind_of, link_by}
+use Rattle.mvd_meet.specs.Posts.{PostTells, PostTellsOf, PostValue, TellsBy, has_asked, has_turns, kind_of, link_by}
 use Rattle.mvd_meet.specs.Turns.{EndsWith}
 use Rattle.mvd_meet.specs.declared.asked.Asked.{Asked}
 use Rattle.mvd_meet.specs.declared.asked.Sort.{Sort}

@@ -1,8 +1,8 @@
 -- Whether a whole frame came for each request.
-use Rattle.std.proofs.Common.{◌≡◌, ℕ, ◌+◌, ◌<◌, Bool, List, ◌∷◌, length, drop, get_or, Option, sym, ap, ◌∙◌}
+use Rattle.std.proofs.Common.{◌≡◌, ℕ, ◌+◌, ◌<◌, List, ◌∷◌, length, drop, get_or, Option, sym, ap, ◌∙◌}
 use Rattle.std.proofs.lemmas.List.{drop_more}
 use Rattle.mvd_dots.specs.declared.refusals.Refusal.{Refusal}
-use Rattle.mvd_meet.specs.Posts.{EndsTurns, LeavesTurn, has_turns}
+use Rattle.mvd_meet.specs.Posts.{LeavesTurn, has_turns}
 
 module _ (nones : List (Option Refusal)) (i : ℕ) (none d : Option Refusal) (rest bytes : List ℕ) where
   next_of : i < length nones → none ≡ get_or nones i d → has_turns (drop i nones) rest ≡ has_turns nones bytes → has_turns (none ∷ drop (i + 1) nones) rest ≡ has_turns nones bytes

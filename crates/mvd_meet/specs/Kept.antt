@@ -1,5 +1,6 @@
 -- What a post keeps, and what of it is true.
-use Rattle.std.specs.Prelude.{◌≡◌, ◌++◌, ◌+◌, ◌-◌, ◌^◌, ℕ, List, [], All, Option, Some, None, Result, flat_map, length, min, take}
+use Rattle.std.specs.Prelude.{◌≡◌, ◌++◌, ◌+◌, ◌-◌, ◌^◌, ℕ, List, [], All, Option, Some, None, Result}
+use Rattle.std.specs.Prelude.{flat_map, length, min, take}
 use Rattle.std.specs.declared.alloc.Global.{Global}
 use Rattle.bytes.specs.declared.unique.BytesMut.{BytesMut}
 use Rattle.mvd_dots.specs.declared.refusals.Refusal.{Refusal}

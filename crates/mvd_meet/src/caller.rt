@@ -116,7 +116,7 @@ impl Caller {
         self.ended || self.post.has_come()
     }
 
-    /// The frames of a window are to leave, and what they ask for is due. Where more came than was asked before, that is
+    /// The frames of a window are to leave, and what they ask for is due. Where more came than was asked before, it is
     /// refused with 33.
     pub fn ask(&mut self, window: &Window) -> Result<(), Refusal>
         ensures asks { OnOk result (CallerAsks window.now self.old self.new) }

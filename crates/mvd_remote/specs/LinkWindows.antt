@@ -122,15 +122,7 @@ abbrev pub IsOfKind : ℕ → Result Reply Refusal → Type 0
 IsOfKind kind (Ok reply) = (reply_kind reply ≡ kind) ⊎ (reply_kind reply ≡ 0xEE)
 IsOfKind kind (Err refusal) = Unit {0}
 
--- ---- a window in two halves
-
--- its frames went out, and nothing was read; or the link had refused before; or the writer failed after a front of them
-abbrev pub Leaves : Frames → Link → Link → Result (Unit {0}) Refusal → Type 0
-Leaves frames old new (Ok done) = Appends old.output new.output frames.0 × (new.input ≡ old.input) × IsUp new
-Leaves frames old new (Err refusal) =
-    ((new ≡ old) × (old.refused ≡ Some refusal))
-    ⊎ ((refusal ≡ WriteFailed) × AppendsFront old.output new.output frames.0 × (new.input ≡ old.input)
-    × (new.refused ≡ Some refusal))
+-- ---- a window that left before
 
 -- each of its requests was answered in its turn, and nothing was sent
 pub record TakesEach (kind : ℕ) (nones : List (Option Refusal)) (replies : List (Result Reply Refusal))
@@ -148,11 +140,6 @@ pub record CollectsAll {A : Type 0} (as_reply : A → Reply) (kind : ℕ) (nones
 
 -- A WINDOW THAT LEFT WAS REFUSED so
 pub data CollectsNone (kind : ℕ) (nones : List (Option Refusal)) (old new : Link) (refusal : Refusal) : Type 0 where
-  -- the link had refused before
-  of_none : new ≡ old → old.refused ≡ Some refusal → CollectsNone kind nones old new refusal
-  -- nothing was read, and nothing will be
-  of_memory : refusal ≡ Memory → new.input ≡ old.input → new.refused ≡ Some refusal
-      → CollectsNone kind nones old new refusal
   -- a reply broke the link
   of_read : TurnBreaks kind nones old.input new.input refusal → new.refused ≡ Some refusal
       → CollectsNone kind nones old new refusal

@@ -3,7 +3,8 @@ use Rattle.std.specs.Prelude.{◌≡◌, ◌≤◌, ◌<◌, ◌⊎◌, ⊤, ◌
 use Rattle.std.specs.List.{All, sum_by}
 use Rattle.std.specs.Duration.{as_nanos}
 use Rattle.std.specs.declared.time.Duration.{Duration}
-use Rattle.mvd_meet.specs.Callers.{asked_of_caller, asks_pushes, questions_at}
+use Rattle.mvd_meet.specs.Callers.{asked_of_caller, questions_at}
+use Rattle.mvd_meet.specs.Posts.{asks_pushes}
 use Rattle.mvd_meet.specs.Loans.{over_at}
 use Rattle.mvd_meet.specs.Times.{due_of, news_at, pause_after}
 use Rattle.mvd_meet.specs.declared.pace.Met.{Met}

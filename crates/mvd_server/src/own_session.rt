@@ -1,6 +1,7 @@
 //! A session of this server's own site: the side that is near is a client of the host.
 ghost use Rattle.std.specs.Prelude.{◌≡◌, ◌-◌, ◌&&◌, IfOk, OnOk, false, length, not, true, IfSome};
-ghost use Rattle.mvd_meet.specs.Callers.{asked_of_caller, asks_pushes, has_all, has_ended, questions_at};
+ghost use Rattle.mvd_meet.specs.Callers.{asked_of_caller, has_all, has_ended, questions_at};
+ghost use Rattle.mvd_meet.specs.Posts.{asks_pushes};
 ghost use Rattle.mvd_meet.specs.Meetings.{MeetingSteps, ReportsOn};
 ghost use Rattle.mvd_server.specs.OwnSides.{AdmitsOwn, BeginsOwn, DismissesOwn, HandsToOwn};
 ghost use Rattle.mvd_server.specs.OwnSides.{HearsWaiting, TakesReplies};

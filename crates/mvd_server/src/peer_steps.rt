@@ -270,13 +270,14 @@ impl Peering {
         self.left = Some(report.first_refused);
     }
 
-    /// Says Bye.
+    /// Says Bye. What came of a window and was not told is given up.
     fn part(&mut self, now: u64) -> Result<bool, Refusal>
         ensures { self.new ≡ record self.old { link = self.new.link } }
     {
         let Some(link) = &mut self.link else {
             return Ok(false);
         };
+        let _ = link.far.tell();
         match link.far.part() {
             Ok(()) => {
                 link.stage = Stage::Parts;

@@ -17,7 +17,7 @@ returns-then-number-lt30 c =
       c.in-Whole.ensures.within,
       tt,
       λ more. subst (λ n. AnswersTurn c.args.kind n (Err c.in-Err.refusal) (Some (frame ++ more)) (Some more)) (sym (no_some c.args.none c.in_default.not-Some))
-      (received c.args.bytes.now c.in-Whole.size (ToldBy c.args.kind (Err c.in-Err.refusal)) c.in-Whole.ensures ((asked, λ other. ap (reply_of kind) (sym (behind_of frame 5)) ∙ c.in-Err.ensures.exact other), rw c.number.ensures at c.if-number-lt30.true) more),
+          (received c.args.bytes.now c.in-Whole.size (ToldBy c.args.kind (Err c.in-Err.refusal)) c.in-Whole.ensures ((asked, λ other. ap (reply_of kind) (sym (behind_of frame 5)) ∙ c.in-Err.ensures.exact other), rw c.number.ensures at c.if-number-lt30.true) more),
     )
 
 pub returns-in-Ok : goal.returns-in-Ok
@@ -29,7 +29,7 @@ returns-in-Ok c =
       c.in-Whole.ensures.within,
       elim asked [ inl same ↦ inl (sym spelled ∙ same) | inr refused ↦ inr (sym spelled ∙ refused) ],
       λ more. subst (λ n. AnswersTurn c.args.kind n (Ok c.in-Ok.reply) (Some (frame ++ more)) (Some more)) (sym (no_some c.args.none c.in_default.not-Some))
-      (received c.args.bytes.now c.in-Whole.size (ToldBy c.args.kind (Ok c.in-Ok.reply)) c.in-Whole.ensures (asked, ap (reply_of kind) (sym (behind_of frame 5)) ∙ c.in-Ok.ensures.exact) more),
+          (received c.args.bytes.now c.in-Whole.size (ToldBy c.args.kind (Ok c.in-Ok.reply)) c.in-Whole.ensures (asked, ap (reply_of kind) (sym (behind_of frame 5)) ∙ c.in-Ok.ensures.exact) more),
     )
 
 pub returns-else-number-lt30 : goal.returns-else-number-lt30
@@ -39,5 +39,5 @@ returns-else-number-lt30 c =
     let asked : (kind ≡ c.args.kind) ⊎ (kind ≡ 0xEE) = elim c.else-came-kind.either [ inl other ↦ inr other.1 | inr same ↦ inl same ] in (
       c.in-Whole.ensures.within,
       λ more. of_body (rw c.number.ensures at c.if-number-lt30.false)
-      (received c.args.bytes.now c.in-Whole.size (TellsNone c.args.kind c.in-Err.refusal) c.in-Whole.ensures (asked, λ other. ap (reply_of kind) (sym (behind_of frame 5)) ∙ c.in-Err.ensures.exact other) more),
+          (received c.args.bytes.now c.in-Whole.size (TellsNone c.args.kind c.in-Err.refusal) c.in-Whole.ensures (asked, λ other. ap (reply_of kind) (sym (behind_of frame 5)) ∙ c.in-Err.ensures.exact other) more),
     )

@@ -1,6 +1,6 @@
-use Rattle.std.proofs.Common.{◌≡◌, ◌≤◌, ◌++◌, ◌∙◌, length, sym, ap, arith}
+use Rattle.std.proofs.Common.{◌≤◌, ◌∙◌, length, ap, arith}
 use Rattle.mvd_meet.specs.Kept.{taken_in}
-use Rattle.mvd_meet.specs.Posts.{PostValue, has_come, has_turns}
+use Rattle.mvd_meet.specs.Posts.{has_come}
 use Rattle.mvd_meet.proofs.Taking.{all_come, behind_of, come_is, not_some}
 use Rattle.mvd_meet.proofs.post.Post.has_come.Goals as goal
 

@@ -1,6 +1,6 @@
-use Rattle.std.proofs.Common.{◌≡◌, ◌∙◌, ◌<◌, ◌∷◌, ◌++◌, [], List, None, Some, ℕ, arith, length, take, ap, refl}
+use Rattle.std.proofs.Common.{◌≡◌, ◌∙◌, ◌<◌, ◌∷◌, ◌++◌, [], None, Some, arith, length, take, ap, refl}
 use Rattle.mvd_dots.specs.declared.refusals.Refusal.TheVariants.{Memory}
-use Rattle.mvd_meet.specs.Kept.{KeepsTurns, taken_in}
+use Rattle.mvd_meet.specs.Kept.{taken_in}
 use Rattle.mvd_meet.specs.Posts.{kind_of}
 use Rattle.mvd_meet.proofs.Taking.{broke_as, kept_as, kept_at, no_memory, not_some, one_broke, one_kept, one_taken}
 use Rattle.mvd_meet.proofs.post.Post.take_turn.Goals as goal

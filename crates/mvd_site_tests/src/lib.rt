@@ -7,6 +7,8 @@ mod asked_over_http;
 #[cfg(test)]
 mod beside_writers;
 #[cfg(test)]
+mod by_mail;
+#[cfg(test)]
 mod key_requests;
 #[cfg(test)]
 mod liars;

@@ -111,17 +111,14 @@ impl Talks {
         ensures news { HasNews (talking_of self.old).feed (site_of replica.now).states news.old →
             HasNews (talking_of self.old).feed (site_of replica.now).states news.new }
     {
-        let told = match self.followed(number) {
-            Some(followed) => news.tell(&self.changes, replica, followed),
-            None => Ok(true),
+        let Some(followed) = self.followed(number) else {
+            return self.unpark(number);
         };
-        let told = match told {
-            Ok(true) => Ok(()),
-            Ok(false) => return,
-            Err(refusal) => Err(refusal),
-        };
-        self.unpark(number);
-        self.tell_change(number, told, news.body.as_str(), counts);
+        match news.tell(&self.changes, replica, followed) {
+            Ok(true) => self.tell_change(number, Ok(()), news.body.as_str(), counts),
+            Ok(false) => {}
+            Err(refusal) => self.tell_change(number, Err(refusal), "", counts),
+        }
     }
 
     /// Of which changes a client asks.
@@ -144,7 +141,7 @@ impl Talks {
         self.parked.follow(self.changes.root());
     }
 
-    /// Tells one that waits what changed.
+    /// Tells one that waits what changed. It waits no more.
     fn tell_change(
         &mut self,
         number: u64,
@@ -156,6 +153,7 @@ impl Talks {
             TalksAt site self.old self.new }
         ensures feed { (talking_of self.new).feed ≡ (talking_of self.old).feed }
     {
+        self.unpark(number);
         self.note_woken(number);
         self.tell_waiting(number, told, body, counts);
     }

@@ -5,8 +5,9 @@ use Rattle.mvd_server.proofs.talks.Talks.tell_change.Goals as goal
 
 pub returns-clause-deeds : goal.returns-clause-deeds
 returns-clause-deeds c = λ site news.
-    subst (λ (t : Talking). DeedsAt site t (talking_of c.tell_waiting.new.self)) c.note_woken.ensures
-    (c.tell_waiting.ensures.deeds site (subst (λ (t : Talking). IsNewsFor site t c.args.number c.args.told c.args.body.now) (sym c.note_woken.ensures) news))
+    let same = c.note_woken.ensures ∙ c.unpark.ensures in
+    subst (λ (t : Talking). DeedsAt site t (talking_of c.tell_waiting.new.self)) same
+    (c.tell_waiting.ensures.deeds site (subst (λ (t : Talking). IsNewsFor site t c.args.number c.args.told c.args.body.now) (sym same) news))
 
 pub returns-clause-feed : goal.returns-clause-feed
-returns-clause-feed c = c.tell_waiting.ensures.feed ∙ ap (λ (t : Talking). t.feed) c.note_woken.ensures
+returns-clause-feed c = c.tell_waiting.ensures.feed ∙ ap (λ (t : Talking). t.feed) (c.note_woken.ensures ∙ c.unpark.ensures)

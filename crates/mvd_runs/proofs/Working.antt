@@ -43,10 +43,19 @@ works_calls calls old new before after valid takes follows = record {
   follows = follows;
 }
 
+-- a call, by what is said of its turns
+pub works_one : (turns : List Turn) (old new : SiteValue) (before after : State) → AllByRecursion IsValidTurn turns → AreTurns turns old new → (new.broken ≡ false → AllByRecursion IsToldElse turns) → TurnsFollow turns old new before after →
+    Works (turns ∷ []) old new before after
+works_one turns old new before after valid are told follows = record {
+  site = subst (λ (ts : List Turn). AreTurns ts old new) (sym (turns_one turns)) are;
+  valid = subst (AllByRecursion IsValidTurn) (sym (turns_one turns)) valid;
+  told = λ whole. subst (AllByRecursion IsToldElse) (sym (turns_one turns)) (told whole);
+  follows = calls_one turns (stored_site old before) (stored_site new after) follows;
+}
+
 pub works_turns : (turns : List Turn) (old new : SiteValue) (before after : State) → AllByRecursion IsValidTurn turns → TakesTurns turns old new before after → Works (turns ∷ []) old new before after
 works_turns turns old new before after valid takes =
-    works_calls (turns ∷ []) old new before after (subst (AllByRecursion IsValidTurn) (sym (turns_one turns)) valid)
-    (subst (λ (ts : List Turn). TakesTurns ts old new before after) (sym (turns_one turns)) takes) (calls_one turns (stored_site old before) (stored_site new after) takes.follows)
+    works_one turns old new before after valid (record { replies = takes.replies; stands = takes.stands; config = takes.config; choice = takes.choice }) takes.told takes.follows
 
 pub works_none : (site : SiteValue) (s : State) → Works [] site site s s
 works_none site s = works_calls [] site site s s tt (TakesTurns-none site s) (calls_none (stored_site site s))

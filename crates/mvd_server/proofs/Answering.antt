@@ -1,11 +1,16 @@
 -- The request that waits is answered.
-use Rattle.std.proofs.Common.{◌≡◌, inl, ℕ, List, Option, Some, None, Ok, subst}
+use Rattle.std.proofs.Common.{◌≡◌, ap, inl, inr, ℕ, List, Option, Some, None, Result, Ok, Err, OnOk, subst}
 use Rattle.mvd_dots.specs.declared.refusals.Refusal.{Refusal}
+use Rattle.mvd_host.specs.Feeds.{FeedValue}
 use Rattle.mvd_http.specs.Answers.{IsToldAs}
+use Rattle.mvd_http.specs.declared.fields.Content.TheVariants.{Json}
 use Rattle.mvd_http.specs.declared.question.Followed.{Followed}
 use Rattle.mvd_http.specs.declared.question.Question.TheVariants.{Changes}
-use Rattle.mvd_server.specs.Errands.{AwaitsChange}
-use Rattle.mvd_server.specs.Responding.{AnswersReply, AnswersWeb, RefusesWeb, json_answer, refused_for}
+use Rattle.mvd_server.specs.Errands.{AwaitsChange, TellsNews}
+use Rattle.mvd_server.specs.Questions.{TellsText}
+use Rattle.mvd_server.specs.Responding.{AnswersReply, AnswersWeb, RefusesWeb, TellsPushed, json_answer, refused_for}
+use Rattle.mvd_server.specs.Since.{IsNews, followed_in, followed_of, since_told}
+use Rattle.mvd_site.specs.Held.{States}
 use Rattle.mvd_web.specs.Web.{RespondsTo, WebValue}
 use Rattle.mvd_web.specs.declared.taken.Asked.{Asked}
 use Rattle.mvd_wire.specs.declared.reply.Reply.{Reply}
@@ -37,3 +42,20 @@ refuses refusal old new status body told responds = inl (record { status = statu
 pub awaits_if : (o : Option Asked) (asked : Asked) (since : Option (List ℕ)) (wait : ℕ) (followed : Followed) → Some asked ≡ o → asked.question ≡ Ok (Changes since wait followed) → AwaitsChange o
 awaits_if None asked since wait followed is asks = cc
 awaits_if (Some waits) asked since wait followed is asks = subst (λ (a : Asked). AwaitsChange (Some a)) (one_asked asked waits is) (since, wait, followed, asks)
+
+-- then there is what it follows
+pub awaits_so : (o : Option Asked) → AwaitsChange o → (followed : Followed) × (followed_in o ≡ Some followed)
+awaits_so None never = absurd never
+awaits_so (Some asked) (since, wait, followed, is) = (followed, ap followed_of is)
+
+-- what was put down is told to it
+pub tells_news : {A : Type 0} (feed : FeedValue) (states : States) (followed : Followed) (told : Result A Refusal) (body : List ℕ) (old new : WebValue) → followed_in old.asked ≡ Some followed → OnOk told (IsNews feed states followed body) → TellsPushed told body old new
+    → TellsNews feed states old new
+tells_news feed states followed (Ok done) body old new is news responds = (followed, is, inl (body, news, responds))
+tells_news feed states followed (Err refusal) body old new is news refuses = (followed, is, inr (refusal, refuses))
+
+-- what changed is told to one that asks for it
+pub tells_since : {A : Type 0} (feed : FeedValue) (states : States) (since : Option (List ℕ)) (o : Option Followed) (told : Result A Refusal) (body : List ℕ) (old new : WebValue) → o ≡ followed_in old.asked → OnOk told (since_told feed states since o ≡ Ok body) → TellsPushed told body old new
+    → TellsText Json (since_told feed states since (followed_in old.asked)) old new
+tells_since feed states since o (Ok done) body old new same is responds = inl (body, subst (λ p. since_told feed states since p ≡ Ok body) same is, responds)
+tells_since feed states since o (Err refusal) body old new same is refuses = inr (refusal, refuses)

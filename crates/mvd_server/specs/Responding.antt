@@ -77,6 +77,11 @@ TellsBody content old new =
     ((body : List ℕ) × RespondsTo old.asked old (plain_answer 200 content) body new)
     ⊎ ((refusal : Refusal) × RefusesWeb refusal old new)
 
+-- this body is told, where it was put down; else why not
+abbrev pub TellsPushed : {A : Type 0} → Result A Refusal → List ℕ → WebValue → WebValue → Type 0
+TellsPushed (Ok done) body old new = RespondsTo old.asked old (plain_answer 200 Json) body new
+TellsPushed (Err refusal) body old new = RefusesWeb refusal old new
+
 -- a token is asked for
 abbrev pub token_answer : Answer
 token_answer = record { status = 401; content = Json; allow = None; asks_token = true; preflight = None }

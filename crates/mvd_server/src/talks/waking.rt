@@ -1,6 +1,9 @@
 //! Those that wait for a change.
-ghost use Rattle.std.specs.Prelude.{◌≡◌, IsTrue};
-ghost use Rattle.mvd_server.specs.Talking.{IsWaiting, TalksDeeds, talking_of, web_in};
+ghost use Rattle.std.specs.Prelude.{◌≡◌, IsTrue, option_copied, string_bytes};
+ghost use Rattle.mvd_replica.specs.Replicas.{site_of};
+ghost use Rattle.mvd_server.specs.News.{HasNews, IsNewsFor, followed_by as followed_for};
+ghost use Rattle.mvd_server.specs.Talking.{IsWaiting, TalksAt, TalksDeeds, talking_of, web_in};
+ghost use Rattle.mvd_site.specs.Sites.{SiteValue};
 
 use crate::changes::{News, followed_by};
 use crate::metrics::Counts;
@@ -53,7 +56,9 @@ impl Talks {
         body: &str,
         counts: &mut Counts,
     )
-        ensures { TalksDeeds self.old self.new }
+        ensures deeds { (site : SiteValue) → IsNewsFor site (talking_of self.old) number told (string_bytes body.now) →
+            TalksAt site self.old self.new }
+        ensures feed { (talking_of self.new).feed ≡ (talking_of self.old).feed }
     {
         if !self.awaits_change(number) {
             return;
@@ -74,12 +79,13 @@ impl Talks {
 
     /// Tells those that wait what changed, if something did that they ask for.
     pub fn wake<S: Alter + Drop>(&mut self, replica: &Replica<S>, counts: &mut Counts)
-        ensures { TalksDeeds self.old self.new }
+        ensures { TalksAt (site_of replica.now) self.old self.new }
     {
-        if self.changes.root() == self.parked.root() {
+        let since = self.parked.root();
+        if self.changes.root() == since {
             return;
         }
-        let mut news = News::new(self.alloc);
+        let mut news = News::new(self.alloc, since);
         let mut from = 0;
         for _ in 0..u64::MAX {
             let Some(number) = self.parked.first_from(from) else {
@@ -99,12 +105,14 @@ impl Talks {
         news: &mut News,
         counts: &mut Counts,
     )
-        ensures { TalksDeeds self.old self.new }
+        ensures deeds { HasNews (talking_of self.old).feed (site_of replica.now).states news.old →
+            TalksAt (site_of replica.now) self.old self.new }
+        ensures feed { (talking_of self.new).feed ≡ (talking_of self.old).feed }
+        ensures news { HasNews (talking_of self.old).feed (site_of replica.now).states news.old →
+            HasNews (talking_of self.old).feed (site_of replica.now).states news.new }
     {
         let told = match self.followed(number) {
-            Some(followed) => {
-                news.tell_since(&self.changes, replica, self.parked.root(), followed)
-            }
+            Some(followed) => news.tell(&self.changes, replica, followed),
             None => Ok(true),
         };
         let told = match told {
@@ -117,7 +125,9 @@ impl Talks {
     }
 
     /// Of which changes a client asks.
-    fn followed(&self, number: u64) -> Option<&Followed> {
+    fn followed(&self, number: u64) -> Option<&Followed>
+        ensures { option_copied result ≡ followed_for (web_in (talking_of self.now) number) }
+    {
         followed_by(self.webs.get(&number)?.asked())
     }
 
@@ -142,7 +152,9 @@ impl Talks {
         body: &str,
         counts: &mut Counts,
     )
-        ensures { TalksDeeds self.old self.new }
+        ensures deeds { (site : SiteValue) → IsNewsFor site (talking_of self.old) number told (string_bytes body.now) →
+            TalksAt site self.old self.new }
+        ensures feed { (talking_of self.new).feed ≡ (talking_of self.old).feed }
     {
         self.note_woken(number);
         self.tell_waiting(number, told, body, counts);

@@ -6,7 +6,7 @@ use Rattle.mvd_web.specs.Inside.{web_of}
 use Rattle.mvd_web.specs.Web.{TakesRequest}
 
 pub returns-then-not-next : goal.returns-then-not-next
-returns-then-not-next g c = asks_none _ _ c.args.number (web_of c.args.web.now) (web_of c.next.new.self) c.args.hand.now c.next.result c.next.ensures c.if-not-next.true
+returns-then-not-next g c = asks_none _ _ _ _ c.args.number (web_of c.args.web.now) (web_of c.next.new.self) c.args.hand.now c.next.result c.next.ensures c.if-not-next.true
 
 pub returns : goal.returns
 returns g c = inr (record {

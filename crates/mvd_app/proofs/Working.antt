@@ -28,7 +28,25 @@ use Rattle.mvd_shell.specs.Talk.{AnswersExchanges, AsksInTurn}
 use Rattle.mvd_server.specs.Rounds.{IsServed}
 use Rattle.mvd_server.specs.declared.sockets.Sockets.{Ghosts as SocketGhosts}
 use Rattle.sqlite.specs.Held.{Held, state}
+use Rattle.sqlite.specs.State.{State}
 use Rattle.sqlite_trees.specs.declared.store.Store.{Ghosts}
+
+-- ---- rounds
+
+module _ {C : Type 0} (f : C → State) where
+  of_round : (ready : List ℕ) (turns : List (ℕ × Turn)) (side new : HostMoment C) → Round ready turns (side_at f side) (side_at f new) → Works (turns_of turns ∷ []) side.site new.site (f side.conn) (f new.conn)
+  of_round ready turns side new round =
+      works_one (turns_of turns) side.site new.site (f side.conn) (f new.conn) (round_fine ready turns (side_at f side) (side_at f new) round)
+      (record { replies = round.serves.replies; stands = round.serves.stands; config = round.serves.config; choice = round.serves.choice }) round.serves.told round.serves.follows
+
+  of_rounds : (side : HostMoment C) (all : List (Happening C)) → Runs f side all → Works (rounds_in all) side.site (after_run side all).site (f side.conn) (f (after_run side all).conn)
+  of_rounds side [] runs = works_none side.site (f side.conn)
+  of_rounds side (Comes n host ∷ all) (may, runs) = of_rounds (after_one side (Comes n host)) all runs
+  of_rounds side (Goes n host ∷ all) (may, runs) = of_rounds (after_one side (Goes n host)) all runs
+  of_rounds side (Calls n call ∷ all) (may, runs) = of_rounds (after_one side (Calls n call)) all runs
+  of_rounds side (Hands hand ∷ all) (may, runs) = of_rounds (after_one side (Hands hand)) all runs
+  of_rounds side (Rounds ready turns new ∷ all) (may, runs) =
+      works_append (turns_of turns ∷ []) (rounds_in all) side.site new.site (after_run new all).site (f side.conn) (f new.conn) (f (after_run new all).conn) (of_round ready turns side new may) (of_rounds new all runs)
 
 module _ {S : Type 0} {g : Ghosts S} where
   -- a shell
@@ -83,28 +101,11 @@ module _ {S : Type 0} {g : Ghosts S} where
       (store_of new) (works_asked old between exchange.request exchange.reply asked writes one)
       (asked_by exchanges between new (writes_then old between exchange.request exchange.reply asked writes one) rest others)
 
-  -- those of a server, round by round
-  served_one : (ready : List ℕ) (turns : List (ℕ × Turn)) (side new : HostMoment (Held S)) → Round ready turns (side_at (state g) side) (side_at (state g) new) →
-      Works (turns_of turns ∷ []) side.site new.site (state g side.conn) (state g new.conn)
-  served_one ready turns side new round =
-      works_one (turns_of turns) side.site new.site (state g side.conn) (state g new.conn) (round_fine ready turns (side_at (state g) side) (side_at (state g) new) round)
-      (record { replies = round.serves.replies; stands = round.serves.stands; config = round.serves.config; choice = round.serves.choice }) round.serves.told round.serves.follows
-
-  served_along : (side : HostMoment (Held S)) (all : List (Happening (Held S))) → Runs (state g) side all →
-      Works (rounds_in all) side.site (after_run side all).site (state g side.conn) (state g (after_run side all).conn)
-  served_along side [] runs = works_none side.site (state g side.conn)
-  served_along side (Comes n host ∷ all) (may, runs) = served_along (after_one side (Comes n host)) all runs
-  served_along side (Goes n host ∷ all) (may, runs) = served_along (after_one side (Goes n host)) all runs
-  served_along side (Calls n call ∷ all) (may, runs) = served_along (after_one side (Calls n call)) all runs
-  served_along side (Hands hand ∷ all) (may, runs) = served_along (after_one side (Hands hand)) all runs
-  served_along side (Rounds ready turns new ∷ all) (may, runs) =
-      works_append (turns_of turns ∷ []) (rounds_in all) side.site new.site (after_run new all).site (state g side.conn) (state g new.conn) (state g (after_run new all).conn)
-      (served_one ready turns side new may) (served_along new all runs)
-
+  -- those of a server
   served_by : {K : Type 0} {k : SocketGhosts K} {passes : Option (List Pass)} {sockets sockets' : K} (old new : Replica S g) (it : IsServed k passes sockets old sockets' new) →
       WorksBy (rounds_in it.all) (stored_of old) (stored_of new)
   served_by old new it =
-      subst (λ (m : HostMoment (Held S)). Works (rounds_in it.all) (site_of old) m.site (store_of old) (state g m.conn)) it.ends (served_along _ it.all it.runs)
+      subst (λ (m : HostMoment (Held S)). Works (rounds_in it.all) (site_of old) m.site (store_of old) (state g m.conn)) it.ends (of_rounds (state g) _ it.all it.runs)
 
   -- those of a session
   pushed_by : (old new : Replica S g) (it : TakesPushes old new) → WorksBy it.calls (stored_of old) (stored_of new)

@@ -166,20 +166,20 @@ stop_asks : (guarded : Bool) (old new : WebValue) (left : Rest) → StopsIf guar
 stop_asks true old new left (stops, responds) = responded old.asked old _ _ new responds
 stop_asks false old new left (none, responds) = responded old.asked old _ _ new responds
 
-plan_asks : (site : SiteValue) (feed : FeedValue) (n : ℕ) (p : Plan) (old : WebValue) (hand : AtHandValue) (new : WebValue) (hand' : AtHandValue) (left : Rest) → DoesPlan site feed n p old hand new hand' left → StillAsks old new
-plan_asks site feed n (plan.Ask request) old hand new hand' left (asks, none) = hand_asks n request old hand new hand' asks
-plan_asks site feed n (plan.Writes batch) old hand new hand' left (is, same, writes) = same_asks old new same
-plan_asks site feed n (plan.Changes since wait) old hand new hand' left (is, tells) = waits_asks feed site.states since wait old new left tells
-plan_asks site feed n (plan.Asks right) old hand new hand' left (told, tells) = lines_asks right site old.asked old new tells
-plan_asks site feed n plan.Listed old hand new hand' left (told, tells) = page_asks site old.asked old new tells
-plan_asks site feed n (plan.BadLine line) old hand new hand' left (told, tells) = bad_asks line old new tells
-plan_asks site feed n plan.Root old hand new hand' left (told, (live, body)) = text_asks content.Json (Ok (root_text site live)) old new body
-plan_asks site feed n plan.Metrics old hand new hand' left (told, body) = body_asks content.Plain old new body
-plan_asks site feed n plan.Health old hand new hand' left (told, health) = health_asks site old new health
-plan_asks site feed n plan.Stop old hand new hand' left (is, (guarded, stops)) = stop_asks guarded old new left stops
-plan_asks site feed n (plan.Told answer body) old hand new hand' left (told, responds) = responded old.asked old answer _ new responds
-plan_asks site feed n plan.NotAdmitted old hand new hand' left (told, responds) = responded old.asked old _ _ new responds
-plan_asks site feed n (plan.Refused refusal) old hand new hand' left (told, refuses) = refuses_asks refusal old new refuses
+plan_asks : (site : SiteValue) (feed : FeedValue) (guarded : Bool) (n : ℕ) (p : Plan) (old : WebValue) (hand : AtHandValue) (new : WebValue) (hand' : AtHandValue) (left : Rest) → DoesPlan site feed guarded n p old hand new hand' left → StillAsks old new
+plan_asks site feed guarded n (plan.Ask request) old hand new hand' left (asks, none) = hand_asks n request old hand new hand' asks
+plan_asks site feed guarded n (plan.Writes batch) old hand new hand' left (is, same, writes) = same_asks old new same
+plan_asks site feed guarded n (plan.Changes since wait) old hand new hand' left (is, tells) = waits_asks feed site.states since wait old new left tells
+plan_asks site feed guarded n (plan.Asks right) old hand new hand' left (told, tells) = lines_asks right site old.asked old new tells
+plan_asks site feed guarded n plan.Listed old hand new hand' left (told, tells) = page_asks site old.asked old new tells
+plan_asks site feed guarded n (plan.BadLine line) old hand new hand' left (told, tells) = bad_asks line old new tells
+plan_asks site feed guarded n plan.Root old hand new hand' left (told, (live, body)) = text_asks content.Json (Ok (root_text site live)) old new body
+plan_asks site feed guarded n plan.Metrics old hand new hand' left (told, body) = body_asks content.Plain old new body
+plan_asks site feed guarded n plan.Health old hand new hand' left (told, health) = health_asks site old new health
+plan_asks site feed guarded n plan.Stop old hand new hand' left (is, stops) = stop_asks guarded old new left stops
+plan_asks site feed guarded n (plan.Told answer body) old hand new hand' left (told, responds) = responded old.asked old answer _ new responds
+plan_asks site feed guarded n plan.NotAdmitted old hand new hand' left (told, responds) = responded old.asked old _ _ new responds
+plan_asks site feed guarded n (plan.Refused refusal) old hand new hand' left (told, refuses) = refuses_asks refusal old new refuses
 
 -- ---- only what a right allows is asked
 
@@ -418,23 +418,23 @@ module _ (Known : Pass → Type 0) (passes : Option (List Pass)) where
 
   -- ---- errands
 
-  hand_plan : (site : SiteValue) (feed : FeedValue) (n : ℕ) (p : Plan) (asked : Asked) (old : WebValue) (hand : AtHandValue) (new : WebValue) (hand' : AtHandValue) (left : Rest) → Decides asked.entry asked.question p → IsOpenTo Known passes (Some asked) → DoesPlan site feed n p old hand new hand' left → HandMay hand → HandMay hand'
-  hand_plan site feed n (plan.Ask request) asked old hand new hand' left decides opened (inl (may, is, same), none) all =
+  hand_plan : (site : SiteValue) (feed : FeedValue) (guarded : Bool) (n : ℕ) (p : Plan) (asked : Asked) (old : WebValue) (hand : AtHandValue) (new : WebValue) (hand' : AtHandValue) (left : Rest) → Decides asked.entry asked.question p → IsOpenTo Known passes (Some asked) → DoesPlan site feed guarded n p old hand new hand' left → HandMay hand → HandMay hand'
+  hand_plan site feed guarded n (plan.Ask request) asked old hand new hand' left decides opened (inl (may, is, same), none) all =
       let by = decides_may asked.entry asked.question request decides in
       hand_to (asked_by_one hand n (request ∷ [])) hand' is (hand_more n hand (request ∷ []) (allowed_by Known passes by.0 request (opened by.0 by.1) by.2, tt) all)
-  hand_plan site feed n (plan.Ask request) asked old hand new hand' left decides opened (inr (same, refuses), none) all = hand_to hand hand' same all
-  hand_plan site feed n (plan.Writes batch) asked old hand new hand' left decides opened (is, same, writes) all = hand_to hand hand' is all
-  hand_plan site feed n (plan.Changes since wait) asked old hand new hand' left decides opened (is, tells) all = hand_to hand hand' is all
-  hand_plan site feed n (plan.Asks right) asked old hand new hand' left decides opened (told, body) all = hand_to hand hand' told.0 all
-  hand_plan site feed n plan.Listed asked old hand new hand' left decides opened (told, body) all = hand_to hand hand' told.0 all
-  hand_plan site feed n (plan.BadLine line) asked old hand new hand' left decides opened (told, body) all = hand_to hand hand' told.0 all
-  hand_plan site feed n plan.Root asked old hand new hand' left decides opened (told, body) all = hand_to hand hand' told.0 all
-  hand_plan site feed n plan.Metrics asked old hand new hand' left decides opened (told, body) all = hand_to hand hand' told.0 all
-  hand_plan site feed n plan.Health asked old hand new hand' left decides opened (told, body) all = hand_to hand hand' told.0 all
-  hand_plan site feed n plan.Stop asked old hand new hand' left decides opened (is, stops) all = hand_to hand hand' is all
-  hand_plan site feed n (plan.Told answer body) asked old hand new hand' left decides opened (told, responds) all = hand_to hand hand' told.0 all
-  hand_plan site feed n plan.NotAdmitted asked old hand new hand' left decides opened (told, responds) all = hand_to hand hand' told.0 all
-  hand_plan site feed n (plan.Refused refusal) asked old hand new hand' left decides opened (told, refuses) all = hand_to hand hand' told.0 all
+  hand_plan site feed guarded n (plan.Ask request) asked old hand new hand' left decides opened (inr (same, refuses), none) all = hand_to hand hand' same all
+  hand_plan site feed guarded n (plan.Writes batch) asked old hand new hand' left decides opened (is, same, writes) all = hand_to hand hand' is all
+  hand_plan site feed guarded n (plan.Changes since wait) asked old hand new hand' left decides opened (is, tells) all = hand_to hand hand' is all
+  hand_plan site feed guarded n (plan.Asks right) asked old hand new hand' left decides opened (told, body) all = hand_to hand hand' told.0 all
+  hand_plan site feed guarded n plan.Listed asked old hand new hand' left decides opened (told, body) all = hand_to hand hand' told.0 all
+  hand_plan site feed guarded n (plan.BadLine line) asked old hand new hand' left decides opened (told, body) all = hand_to hand hand' told.0 all
+  hand_plan site feed guarded n plan.Root asked old hand new hand' left decides opened (told, body) all = hand_to hand hand' told.0 all
+  hand_plan site feed guarded n plan.Metrics asked old hand new hand' left decides opened (told, body) all = hand_to hand hand' told.0 all
+  hand_plan site feed guarded n plan.Health asked old hand new hand' left decides opened (told, body) all = hand_to hand hand' told.0 all
+  hand_plan site feed guarded n plan.Stop asked old hand new hand' left decides opened (is, stops) all = hand_to hand hand' is all
+  hand_plan site feed guarded n (plan.Told answer body) asked old hand new hand' left decides opened (told, responds) all = hand_to hand hand' told.0 all
+  hand_plan site feed guarded n plan.NotAdmitted asked old hand new hand' left decides opened (told, responds) all = hand_to hand hand' told.0 all
+  hand_plan site feed guarded n (plan.Refused refusal) asked old hand new hand' left decides opened (told, refuses) all = hand_to hand hand' told.0 all
 
   desk_to : (old new : Desk) → new.hand ≡ old.hand → new.batches ≡ old.batches → StillAsks old.web new.web → DeskMay old → DeskMay new
   desk_to old new hand batches still all = record {
@@ -450,9 +450,9 @@ module _ (Known : Pass → Type 0) (passes : Option (List Pass)) where
   desk_one site feed now names n old new left same known one batches all =
       let mid : IsOpenTo Known passes one.mid.asked = open_taken now names same known old.web one.mid one.takes in
       record {
-        hand = hand_plan site feed n one.plan one.asked one.mid old.hand new.web new.hand left one.decides (subst (IsOpenTo Known passes) one.kept mid) one.does all.hand;
+        hand = hand_plan site feed (is_some now) n one.plan one.asked one.mid old.hand new.web new.hand left one.decides (subst (IsOpenTo Known passes) one.kept mid) one.does all.hand;
         batches = subst (AllEntries MayBatch) (sym batches) all.batches;
-        web = open_still Known passes one.mid.asked new.web.asked (plan_asks site feed n one.plan one.mid old.hand new.web new.hand left one.does) mid;
+        web = open_still Known passes one.mid.asked new.web.asked (plan_asks site feed (is_some now) n one.plan one.mid old.hand new.web new.hand left one.does) mid;
       }
 
   kept_batches : (n : ℕ) (batch : Batch) (old new : Desk) → KeepsWrites n batch old new → MayBatch batch → AllEntries MayBatch old.batches → AllEntries MayBatch new.batches

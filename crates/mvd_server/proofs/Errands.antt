@@ -48,24 +48,24 @@ steps_asked : (n : ℕ) (request : Request) (old : WebValue) (hand : AtHandValue
 steps_asked n request old hand new hand' (inl (may, is, same)) = inr (inl (n, request ∷ [], (may, tt), is))
 steps_asked n request old hand new hand' (inr (same, refused)) = inl same
 
-steps_plan : (site : SiteValue) (feed : FeedValue) (n : ℕ) (p : Plan) (old : WebValue) (hand : AtHandValue) (new : WebValue) (hand' : AtHandValue) (left : Rest) → DoesPlan site feed n p old hand new hand' left → MayStep hand hand'
-steps_plan site feed n (plan.Ask request) old hand new hand' left (asks, none) = steps_asked n request old hand new hand' asks
-steps_plan site feed n (plan.Writes batch) old hand new hand' left (is, same, writes) = inl is
-steps_plan site feed n (plan.Changes since wait) old hand new hand' left (is, tells) = inl is
-steps_plan site feed n (plan.Asks right) old hand new hand' left (told, body) = inl told.0
-steps_plan site feed n plan.Listed old hand new hand' left (told, body) = inl told.0
-steps_plan site feed n (plan.BadLine line) old hand new hand' left (told, body) = inl told.0
-steps_plan site feed n plan.Root old hand new hand' left (told, body) = inl told.0
-steps_plan site feed n plan.Metrics old hand new hand' left (told, body) = inl told.0
-steps_plan site feed n plan.Health old hand new hand' left (told, body) = inl told.0
-steps_plan site feed n plan.Stop old hand new hand' left (is, stops) = inl is
-steps_plan site feed n (plan.Told answer body) old hand new hand' left (told, responds) = inl told.0
-steps_plan site feed n plan.NotAdmitted old hand new hand' left (told, responds) = inl told.0
-steps_plan site feed n (plan.Refused refusal) old hand new hand' left (told, refuses) = inl told.0
+steps_plan : (site : SiteValue) (feed : FeedValue) (guarded : Bool) (n : ℕ) (p : Plan) (old : WebValue) (hand : AtHandValue) (new : WebValue) (hand' : AtHandValue) (left : Rest) → DoesPlan site feed guarded n p old hand new hand' left → MayStep hand hand'
+steps_plan site feed guarded n (plan.Ask request) old hand new hand' left (asks, none) = steps_asked n request old hand new hand' asks
+steps_plan site feed guarded n (plan.Writes batch) old hand new hand' left (is, same, writes) = inl is
+steps_plan site feed guarded n (plan.Changes since wait) old hand new hand' left (is, tells) = inl is
+steps_plan site feed guarded n (plan.Asks right) old hand new hand' left (told, body) = inl told.0
+steps_plan site feed guarded n plan.Listed old hand new hand' left (told, body) = inl told.0
+steps_plan site feed guarded n (plan.BadLine line) old hand new hand' left (told, body) = inl told.0
+steps_plan site feed guarded n plan.Root old hand new hand' left (told, body) = inl told.0
+steps_plan site feed guarded n plan.Metrics old hand new hand' left (told, body) = inl told.0
+steps_plan site feed guarded n plan.Health old hand new hand' left (told, body) = inl told.0
+steps_plan site feed guarded n plan.Stop old hand new hand' left (is, stops) = inl is
+steps_plan site feed guarded n (plan.Told answer body) old hand new hand' left (told, responds) = inl told.0
+steps_plan site feed guarded n plan.NotAdmitted old hand new hand' left (told, responds) = inl told.0
+steps_plan site feed guarded n (plan.Refused refusal) old hand new hand' left (told, refuses) = inl told.0
 
 pub steps_errand : (errand : Errand) (site : SiteValue) (feed : FeedValue) (passes : Option (List Pass)) (names : Named) (n : ℕ) (old new : Desk) → RunsErrand errand site feed passes names n old new → MayStep old.hand new.hand
 steps_errand (Asks left) site feed passes names n old new (inl (told, none), same) = inl told.0
-steps_errand (Asks left) site feed passes names n old new (inr one, same) = steps_plan site feed n one.plan one.mid old.hand new.web new.hand left one.does
+steps_errand (Asks left) site feed passes names n old new (inr one, same) = steps_plan site feed (is_some passes) n one.plan one.mid old.hand new.web new.hand left one.does
 steps_errand (Forgoes batch) site feed passes names n old new (writes, refuses, is) = inl (ap (λ (d : Desk). d.hand) is)
 steps_errand Tells site feed passes names n old new ((reply, takes, answers), same) = inr (inr ((n, reply), takes))
 steps_errand (TellsMany batch batch') site feed passes names n old new (has, (only, (reply, takes), told), same) = steps_taken n reply old.hand new.hand takes
@@ -153,29 +153,33 @@ writes_decided Conditional q batch never = absurd never
 writes_decided Preflight q batch never = absurd (permits_none q batch never)
 writes_decided NoToken q batch is = absurd (let no : ⊥ = cc in no)
 
-batch_left : (site : SiteValue) (feed : FeedValue) (passes : Option (List Pass)) (n : ℕ) (p : Plan) (asked : Asked) (old : WebValue) (hand : AtHandValue) (new : WebValue) (hand' : AtHandValue) (batch : Batch) → old.asked ≡ Some asked → Decides asked.entry asked.question p
-    → DoesPlan site feed n p old hand new hand' (rest.Writes batch) → IsBatchFor new.asked batch
-batch_left site feed passes n (plan.Writes batch') asked old hand new hand' batch kept plans (is, same, left) =
+-- a server that is to end has no writes left
+stop_none : (guarded : Bool) (old new : WebValue) (batch : Batch) → StopsIf guarded old new (rest.Writes batch) → ⊥
+stop_none true old new batch (left, responds) = let no : ⊥ = cc in no
+stop_none false old new batch (left, responds) = let no : ⊥ = cc in no
+
+batch_left : (site : SiteValue) (feed : FeedValue) (guarded : Bool) (passes : Option (List Pass)) (n : ℕ) (p : Plan) (asked : Asked) (old : WebValue) (hand : AtHandValue) (new : WebValue) (hand' : AtHandValue) (batch : Batch) → old.asked ≡ Some asked → Decides asked.entry asked.question p
+    → DoesPlan site feed guarded n p old hand new hand' (rest.Writes batch) → IsBatchFor new.asked batch
+batch_left site feed guarded passes n (plan.Writes batch') asked old hand new hand' batch kept plans (is, same, left) =
     let one : batch ≡ batch' = cc in
     subst (λ o. IsBatchFor o batch) (sym (ap (λ (w : WebValue). w.asked) same ∙ kept)) (subst (λ b. IsBatchFor (Some asked) b) (sym one) (let decided = writes_decided asked.entry asked.question batch' plans in (decided.0, decided.1, batch_asked decided.0 asked.question batch' decided.2)))
-batch_left site feed passes n (plan.Ask request) asked old hand new hand' batch kept plans (asks, left) = absurd (let no : ⊥ = cc in no)
-batch_left site feed passes n (plan.Changes since wait) asked old hand new hand' batch kept plans (is, inl (left, body)) = absurd (let no : ⊥ = cc in no)
-batch_left site feed passes n (plan.Changes since wait) asked old hand new hand' batch kept plans (is, inr (root, quiet, left, same)) = absurd (let no : ⊥ = cc in no)
-batch_left site feed passes n (plan.Asks right) asked old hand new hand' batch kept plans (told, body) = let left = told.1 in absurd (let no : ⊥ = cc in no)
-batch_left site feed passes n plan.Listed asked old hand new hand' batch kept plans (told, body) = let left = told.1 in absurd (let no : ⊥ = cc in no)
-batch_left site feed passes n (plan.BadLine line) asked old hand new hand' batch kept plans (told, body) = let left = told.1 in absurd (let no : ⊥ = cc in no)
-batch_left site feed passes n plan.Root asked old hand new hand' batch kept plans (told, body) = let left = told.1 in absurd (let no : ⊥ = cc in no)
-batch_left site feed passes n plan.Health asked old hand new hand' batch kept plans (told, body) = let left = told.1 in absurd (let no : ⊥ = cc in no)
-batch_left site feed passes n plan.Stop asked old hand new hand' batch kept plans (is, (true, (left, responds))) = absurd (let no : ⊥ = cc in no)
-batch_left site feed passes n plan.Stop asked old hand new hand' batch kept plans (is, (false, (left, responds))) = absurd (let no : ⊥ = cc in no)
-batch_left site feed passes n plan.Metrics asked old hand new hand' batch kept plans (told, body) = let left = told.1 in absurd (let no : ⊥ = cc in no)
-batch_left site feed passes n (plan.Told answer body) asked old hand new hand' batch kept plans (told, responds) = let left = told.1 in absurd (let no : ⊥ = cc in no)
-batch_left site feed passes n plan.NotAdmitted asked old hand new hand' batch kept plans (told, responds) = let left = told.1 in absurd (let no : ⊥ = cc in no)
-batch_left site feed passes n (plan.Refused refusal) asked old hand new hand' batch kept plans (told, refuses) = let left = told.1 in absurd (let no : ⊥ = cc in no)
+batch_left site feed guarded passes n (plan.Ask request) asked old hand new hand' batch kept plans (asks, left) = absurd (let no : ⊥ = cc in no)
+batch_left site feed guarded passes n (plan.Changes since wait) asked old hand new hand' batch kept plans (is, inl (left, body)) = absurd (let no : ⊥ = cc in no)
+batch_left site feed guarded passes n (plan.Changes since wait) asked old hand new hand' batch kept plans (is, inr (root, quiet, left, same)) = absurd (let no : ⊥ = cc in no)
+batch_left site feed guarded passes n (plan.Asks right) asked old hand new hand' batch kept plans (told, body) = let left = told.1 in absurd (let no : ⊥ = cc in no)
+batch_left site feed guarded passes n plan.Listed asked old hand new hand' batch kept plans (told, body) = let left = told.1 in absurd (let no : ⊥ = cc in no)
+batch_left site feed guarded passes n (plan.BadLine line) asked old hand new hand' batch kept plans (told, body) = let left = told.1 in absurd (let no : ⊥ = cc in no)
+batch_left site feed guarded passes n plan.Root asked old hand new hand' batch kept plans (told, body) = let left = told.1 in absurd (let no : ⊥ = cc in no)
+batch_left site feed guarded passes n plan.Health asked old hand new hand' batch kept plans (told, body) = let left = told.1 in absurd (let no : ⊥ = cc in no)
+batch_left site feed guarded passes n plan.Stop asked old hand new hand' batch kept plans (is, stops) = absurd (stop_none guarded old new batch stops)
+batch_left site feed guarded passes n plan.Metrics asked old hand new hand' batch kept plans (told, body) = let left = told.1 in absurd (let no : ⊥ = cc in no)
+batch_left site feed guarded passes n (plan.Told answer body) asked old hand new hand' batch kept plans (told, responds) = let left = told.1 in absurd (let no : ⊥ = cc in no)
+batch_left site feed guarded passes n plan.NotAdmitted asked old hand new hand' batch kept plans (told, responds) = let left = told.1 in absurd (let no : ⊥ = cc in no)
+batch_left site feed guarded passes n (plan.Refused refusal) asked old hand new hand' batch kept plans (told, refuses) = let left = told.1 in absurd (let no : ⊥ = cc in no)
 
 pub batch_of : (site : SiteValue) (feed : FeedValue) (passes : Option (List Pass)) (names : Named) (n : ℕ) (old : WebValue) (hand : AtHandValue) (new : WebValue) (hand' : AtHandValue) (batch : Batch) → AsksNextOf site feed passes names n old hand new hand' (rest.Writes batch) → IsBatchFor new.asked batch
 batch_of site feed passes names n old hand new hand' batch (inl (told, none)) = let left = told.1 in absurd (let no : ⊥ = cc in no)
-batch_of site feed passes names n old hand new hand' batch (inr one) = batch_left site feed passes n one.plan one.asked one.mid hand new hand' batch one.kept one.decides one.does
+batch_of site feed passes names n old hand new hand' batch (inr one) = batch_left site feed (is_some passes) passes n one.plan one.asked one.mid hand new hand' batch one.kept one.decides one.does
 
 -- ---- a request is taken, or none is
 
@@ -184,20 +188,16 @@ asks_none site feed passes names n old new hand took takes is = inl ((refl, refl
 
 -- ---- lists are told of a site
 
-pub asks_told : (feed : FeedValue) (n : ℕ) (p : Plan) (right : Right) (site : SiteValue) (old new : WebValue) (hand : AtHandValue) → p ≡ plan.Asks right → TellsAsks right site old.asked old new → DoesPlan site feed n p old hand new hand rest.Nothing
-asks_told feed n p right site old new hand is told = subst (λ (q : Plan). DoesPlan site feed n q old hand new hand rest.Nothing) (sym is) ((refl, refl), told)
+pub asks_told : (feed : FeedValue) (guarded : Bool) (n : ℕ) (p : Plan) (right : Right) (site : SiteValue) (old new : WebValue) (hand : AtHandValue) → p ≡ plan.Asks right → TellsAsks right site old.asked old new → DoesPlan site feed guarded n p old hand new hand rest.Nothing
+asks_told feed guarded n p right site old new hand is told = subst (λ (q : Plan). DoesPlan site feed guarded n q old hand new hand rest.Nothing) (sym is) ((refl, refl), told)
 
-pub listed_told : (feed : FeedValue) (n : ℕ) (p : Plan) (site : SiteValue) (old new : WebValue) (hand : AtHandValue) → p ≡ plan.Listed → TellsListed site old.asked old new → DoesPlan site feed n p old hand new hand rest.Nothing
-listed_told feed n p site old new hand is told = subst (λ (q : Plan). DoesPlan site feed n q old hand new hand rest.Nothing) (sym is) ((refl, refl), told)
+pub listed_told : (feed : FeedValue) (guarded : Bool) (n : ℕ) (p : Plan) (site : SiteValue) (old new : WebValue) (hand : AtHandValue) → p ≡ plan.Listed → TellsListed site old.asked old new → DoesPlan site feed guarded n p old hand new hand rest.Nothing
+listed_told feed guarded n p site old new hand is told = subst (λ (q : Plan). DoesPlan site feed guarded n q old hand new hand rest.Nothing) (sym is) ((refl, refl), told)
 
 -- ---- the server ends, or not
 
-pub stop_told : (site : SiteValue) (feed : FeedValue) (n : ℕ) (p : Plan) (guarded : Bool) (old new : WebValue) (hand : AtHandValue) (left : Rest) → p ≡ plan.Stop → StopsIf guarded old new left → DoesPlan site feed n p old hand new hand left
-stop_told site feed n p guarded old new hand left is stops = subst (λ (q : Plan). DoesPlan site feed n q old hand new hand left) (sym is) (refl, (guarded, stops))
-
-pub stops_guarded : (guarded : Bool) (old new : WebValue) (left : Rest) → StopsIf guarded old new left → left ≡ rest.Stops → guarded ≡ true
-stops_guarded true old new left stops is = refl
-stops_guarded false old new left (none, responds) is = absurd (let no : ⊥ = cc in no)
+pub stop_told : (site : SiteValue) (feed : FeedValue) (guarded : Bool) (n : ℕ) (p : Plan) (old new : WebValue) (hand : AtHandValue) (left : Rest) → p ≡ plan.Stop → StopsIf guarded old new left → DoesPlan site feed guarded n p old hand new hand left
+stop_told site feed guarded n p old new hand left is stops = subst (λ (q : Plan). DoesPlan site feed guarded n q old hand new hand left) (sym is) (refl, stops)
 
 pub copied_some : {A : Type 0} (o : Option (Bor A)) → is_some (option_copied o) ≡ is_some o
 copied_some None = refl

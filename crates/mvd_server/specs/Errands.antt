@@ -84,30 +84,30 @@ StopsIf true old new left =
 StopsIf false old new left =
     (left ≡ rest.Nothing) × RespondsTo old.asked old (answer_of NotFound) (fault_text NotFound) new
 
--- it is done, once: the site is asked, or a response is queued, or it is told what is left to do
-abbrev pub DoesPlan : SiteValue → FeedValue → ℕ → Plan → WebValue → AtHandValue → WebValue → AtHandValue → Rest → Type 0
-DoesPlan site feed n (plan.Ask request) old hand new hand' left =
+-- it is done, once, where tokens are asked for (`guarded`) or not: the site is asked, or a response is queued, or it is told what is left to do
+abbrev pub DoesPlan : SiteValue → FeedValue → Bool → ℕ → Plan → WebValue → AtHandValue → WebValue → AtHandValue → Rest → Type 0
+DoesPlan site feed guarded n (plan.Ask request) old hand new hand' left =
     AsksAtHand n request old hand new hand' × (left ≡ rest.Nothing)
-DoesPlan site feed n (plan.Writes batch) old hand new hand' left =
+DoesPlan site feed guarded n (plan.Writes batch) old hand new hand' left =
     (hand' ≡ hand) × (new ≡ old) × (left ≡ rest.Writes batch)
-DoesPlan site feed n (plan.Changes since wait) old hand new hand' left =
+DoesPlan site feed guarded n (plan.Changes since wait) old hand new hand' left =
     (hand' ≡ hand) × TellsOrWaits feed site.states since wait old new left
-DoesPlan site feed n (plan.Asks right) old hand new hand' left =
+DoesPlan site feed guarded n (plan.Asks right) old hand new hand' left =
     IsToldRest hand hand' left × TellsAsks right site old.asked old new
-DoesPlan site feed n plan.Listed old hand new hand' left =
+DoesPlan site feed guarded n plan.Listed old hand new hand' left =
     IsToldRest hand hand' left × TellsListed site old.asked old new
-DoesPlan site feed n (plan.BadLine line) old hand new hand' left =
+DoesPlan site feed guarded n (plan.BadLine line) old hand new hand' left =
     IsToldRest hand hand' left × TellsBadLine line old new
-DoesPlan site feed n plan.Root old hand new hand' left = IsToldRest hand hand' left × TellsRoot site old new
-DoesPlan site feed n plan.Metrics old hand new hand' left = IsToldRest hand hand' left × TellsBody content.Plain old new
-DoesPlan site feed n plan.Stop old hand new hand' left =
-    (hand' ≡ hand) × ((guarded : Bool) × StopsIf guarded old new left)
-DoesPlan site feed n plan.Health old hand new hand' left = IsToldRest hand hand' left × TellsHealth site old new
-DoesPlan site feed n (plan.Told answer body) old hand new hand' left =
+DoesPlan site feed guarded n plan.Root old hand new hand' left = IsToldRest hand hand' left × TellsRoot site old new
+DoesPlan site feed guarded n plan.Metrics old hand new hand' left = IsToldRest hand hand' left × TellsBody content.Plain old new
+DoesPlan site feed guarded n plan.Stop old hand new hand' left =
+    (hand' ≡ hand) × StopsIf guarded old new left
+DoesPlan site feed guarded n plan.Health old hand new hand' left = IsToldRest hand hand' left × TellsHealth site old new
+DoesPlan site feed guarded n (plan.Told answer body) old hand new hand' left =
     IsToldRest hand hand' left × RespondsTo old.asked old answer body.now new
-DoesPlan site feed n plan.NotAdmitted old hand new hand' left =
+DoesPlan site feed guarded n plan.NotAdmitted old hand new hand' left =
     IsToldRest hand hand' left × RespondsTo old.asked old token_answer not_admitted new
-DoesPlan site feed n (plan.Refused refusal) old hand new hand' left =
+DoesPlan site feed guarded n (plan.Refused refusal) old hand new hand' left =
     IsToldRest hand hand' left × RefusesWeb refusal old new
 
 -- ONE REQUEST is taken of what came, and that is done about it which may be
@@ -119,8 +119,7 @@ pub record AsksOne (site : SiteValue) (feed : FeedValue) (passes : Option (List 
   pub kept : mid.asked ≡ Some asked
   pub plan : Plan
   pub decides : Decides asked.entry asked.question plan
-  pub does : DoesPlan site feed n plan mid hand new hand' left
-  pub guarded : left ≡ rest.Stops → is_some passes ≡ true
+  pub does : DoesPlan site feed (is_some passes) n plan mid hand new hand' left
 
 -- or there is none
 abbrev pub AsksNextOf : SiteValue → FeedValue → Option (List Pass) → Named → ℕ → WebValue → AtHandValue

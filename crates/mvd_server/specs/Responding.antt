@@ -1,5 +1,5 @@
 -- What a client over HTTP is told of the reply to its request.
-use Rattle.std.specs.Prelude.{◌≡◌, ◌⊎◌, ◌&&◌, if◌then◌else◌, nat_le, codes, ℕ, Bool, true, false, List, [], ◌∷◌, Option, Some, None, Result, Ok}
+use Rattle.std.specs.Prelude.{◌≡◌, ◌⊎◌, ◌&&◌, if◌then◌else◌, nat_le, codes, ℕ, Bool, true, false, List, [], ◌∷◌, Option, Some, None, Result, Ok, Err}
 use Rattle.mvd_dots.specs.declared.refusals.Refusal.{Refusal}
 use Rattle.mvd_http.specs.Answers.{Responds, IsToldAs, Told, is_stored, live_told, misread_told, refused_told, reply_told, texts_told}
 use Rattle.mvd_http.specs.declared.fields.Answer.{Answer}

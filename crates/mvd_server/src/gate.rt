@@ -1,5 +1,5 @@
 //! From a request of HTTP to what is asked of the site, and from the reply to the response.
-ghost use Rattle.std.specs.Prelude.{◌≡◌, ℕ, option_copied, true};
+ghost use Rattle.std.specs.Prelude.{ℕ, option_copied};
 ghost use Rattle.mvd_http.specs.declared.fields.Content.TheVariants.{Json};
 ghost use Rattle.mvd_http.specs.Guard.{named_by};
 ghost use Rattle.mvd_server.specs.Admitted.{Decides};
@@ -10,7 +10,6 @@ ghost use Rattle.mvd_replica.specs.Replicas.{site_of};
 ghost use Rattle.mvd_server.specs.Questions.{TellsText};
 ghost use Rattle.mvd_server.specs.Responding.{not_admitted, token_answer};
 ghost use Rattle.mvd_server.specs.Since.{followed_in, since_told};
-ghost use Rattle.mvd_server.specs.declared.gate.Rest.TheVariants.{Stops};
 ghost use Rattle.mvd_web.specs.Inside.{web_of};
 ghost use Rattle.mvd_web.specs.Rights.{may_ask};
 ghost use Rattle.mvd_web.specs.Web.{RespondsTo};
@@ -219,9 +218,8 @@ fn carry_out<S: Alter + Drop>(
     changes: &Feed,
     counts: &mut Counts,
 ) -> Rest
-    ensures does { DoesPlan (site_of replica.now) changes.now number plan
+    ensures { DoesPlan (site_of replica.now) changes.now is_guarded number plan
         (web_of web.old) hand.old (web_of web.new) hand.new result }
-    ensures guarded { result ≡ Stops → is_guarded ≡ true }
 {
     match plan {
         Plan::Ask(request) => {

@@ -115,7 +115,7 @@ pub(crate) fn tell_pushed(
     body: &str,
     counts: &mut Counts,
 )
-    ensures { TellsPushed pushed (string_bytes body.now) (web_of web.old) (web_of web.new) }
+    ensures { TellsPushed pushed body.now (web_of web.old) (web_of web.new) }
 {
     match pushed {
         Ok(()) => respond(web, counts, answer_of(StatusCode::OK, Content::Json), body),

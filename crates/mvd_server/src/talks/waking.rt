@@ -1,5 +1,5 @@
 //! Those that wait for a change.
-ghost use Rattle.std.specs.Prelude.{◌≡◌, IsTrue, option_copied, string_bytes};
+ghost use Rattle.std.specs.Prelude.{◌≡◌, IsTrue, option_copied};
 ghost use Rattle.mvd_replica.specs.Replicas.{site_of};
 ghost use Rattle.mvd_server.specs.News.{HasNews, IsNewsFor, followed_by as followed_for};
 ghost use Rattle.mvd_server.specs.Talking.{IsWaiting, TalksAt, TalksDeeds, talking_of, web_in};
@@ -56,7 +56,7 @@ impl Talks {
         body: &str,
         counts: &mut Counts,
     )
-        ensures deeds { (site : SiteValue) → IsNewsFor site (talking_of self.old) number told (string_bytes body.now) →
+        ensures deeds { (site : SiteValue) → IsNewsFor site (talking_of self.old) number told body.now →
             TalksAt site self.old self.new }
         ensures feed { (talking_of self.new).feed ≡ (talking_of self.old).feed }
     {
@@ -152,7 +152,7 @@ impl Talks {
         body: &str,
         counts: &mut Counts,
     )
-        ensures deeds { (site : SiteValue) → IsNewsFor site (talking_of self.old) number told (string_bytes body.now) →
+        ensures deeds { (site : SiteValue) → IsNewsFor site (talking_of self.old) number told body.now →
             TalksAt site self.old self.new }
         ensures feed { (talking_of self.new).feed ≡ (talking_of self.old).feed }
     {

@@ -1,4 +1,4 @@
-use Rattle.std.proofs.Common.{ap, string_bytes, subst, sym, ◌∙◌}
+use Rattle.std.proofs.Common.{ap, subst, sym, ◌∙◌}
 use Rattle.mvd_server.specs.News.{IsNewsFor}
 use Rattle.mvd_server.specs.Talking.{DeedsAt, Talking, talking_of}
 use Rattle.mvd_server.proofs.talks.Talks.tell_change.Goals as goal
@@ -6,7 +6,7 @@ use Rattle.mvd_server.proofs.talks.Talks.tell_change.Goals as goal
 pub returns-clause-deeds : goal.returns-clause-deeds
 returns-clause-deeds c = λ site news.
     subst (λ (t : Talking). DeedsAt site t (talking_of c.tell_waiting.new.self)) c.note_woken.ensures
-    (c.tell_waiting.ensures.deeds site (subst (λ (t : Talking). IsNewsFor site t c.args.number c.args.told (string_bytes c.args.body.now)) (sym c.note_woken.ensures) news))
+    (c.tell_waiting.ensures.deeds site (subst (λ (t : Talking). IsNewsFor site t c.args.number c.args.told c.args.body.now) (sym c.note_woken.ensures) news))
 
 pub returns-clause-feed : goal.returns-clause-feed
 returns-clause-feed c = c.tell_waiting.ensures.feed ∙ ap (λ (t : Talking). t.feed) c.note_woken.ensures

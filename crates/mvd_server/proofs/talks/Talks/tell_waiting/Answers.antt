@@ -1,4 +1,4 @@
-use Rattle.std.proofs.Common.{ap, refl, string_bytes, subst, sym, ◌∙◌}
+use Rattle.std.proofs.Common.{ap, refl, subst, sym, ◌∙◌}
 use Rattle.mvd_server.specs.Errands.{TellsChange}
 use Rattle.mvd_server.specs.News.{followed_by}
 use Rattle.mvd_server.specs.Talking.{IsWaiting, talking_of}
@@ -16,4 +16,4 @@ returns-in-Some-clause-deeds c = λ site news.
     let so = awaits_so (web_of now).asked (subst (λ o. IsWaiting o) has (c.awaits_change.ensures c.if-not-awaits_change.false)) in
     let is = news so.0 (ap followed_by has ∙ so.1) in
     attends_at site c.args.number TellsChange now web old old.hand old.batches (c.get_mut.follows.lender web).entries has
-    (tells_news old.feed site.states so.0 c.args.told (string_bytes c.args.body.now) (web_of now) (web_of web) so.1 is c.tell_pushed.ensures, refl) (c.get_mut.follows.holds web).0
+    (tells_news old.feed site.states so.0 c.args.told c.args.body.now (web_of now) (web_of web) so.1 is c.tell_pushed.ensures, refl) (c.get_mut.follows.holds web).0

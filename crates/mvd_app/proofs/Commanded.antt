@@ -15,7 +15,7 @@ module _ {D : Type 0} {g : disk.Ghosts D} (f : Ghosts (FileStore D g)) (site : �
   runs [] image are = tt
   runs (command ∷ commands) image (from, rest) = (
     from,
-    subst (λ (n : ℕ). Passes n (setup_of command.ran.config) command.ran.turns command.before command.after) command.number (command.ran.runs command.after command.stands),
+    subst (λ (n : ℕ). Passes n (setup_of command.ran.config) command.ran.calls command.before command.after) command.number (command.ran.runs command.after command.stands),
     runs commands command.after rest,
   )
 

@@ -13,14 +13,12 @@ use Rattle.mvd_host.specs.AtHand.{AllMayWait, AtHandValue, first_at_hand}
 use Rattle.mvd_host.specs.Course.{BothClients, asked_by, own}
 use Rattle.mvd_host.specs.Hosts.{client_of}
 use Rattle.mvd_host.specs.Round.{AnswersAtHand, ClientCourse, Round, Side, turns_of}
-use Rattle.mvd_host.specs.Runs.{Calls, Comes, Goes, Hands, Happening, HostMoment, Rounds, Runs, after_one, side_at, turns_in}
 use Rattle.mvd_replica.specs.Turns.{Turn}
 use Rattle.mvd_site.specs.Known.{IsValidRequest}
 use Rattle.mvd_runs.specs.Files.{IsValidTurn}
 use Rattle.mvd_wire.specs.Frames.{FrameValue}
 use Rattle.mvd_wire.specs.Requests.{request_of}
 use Rattle.mvd_wire.specs.declared.request.Request.{Request}
-use Rattle.sqlite.specs.State.{State}
 
 abbrev AreFine : List Turn → Type 0
 AreFine turns = AllByRecursion IsValidTurn turns
@@ -97,23 +95,10 @@ client_fine n turns None new none both = subst AreFine (sym (none refl)) tt
 client_fine n turns (Some h) None none both = absurd both
 client_fine n turns (Some h) (Some k) none both = framed_fine k.guard both.frames turns both.asked
 
-round_fine : (ready : List ℕ) (turns : List (ℕ × Turn)) (old new : Side) → Round ready turns old new → AreFine (turns_of turns)
+pub round_fine : (ready : List ℕ) (turns : List (ℕ × Turn)) (old new : Side) → Round ready turns old new → AreFine (turns_of turns)
 round_fine ready turns old new round =
     each_own IsValidTurn turns (λ n. each n (cases_lt n first_at_hand))
   where
     each : (n : ℕ) → (n < first_at_hand) ⊎ (first_at_hand ≤ n) → AreFine (own n turns)
     each n (inl below) = client_fine n (own n turns) (client_of old.host n) (client_of new.host n) (round.spares.none n below) (round.clients n)
     each n (inr above) = at_hand_fine n turns old.hand new.hand above round.at_hand
-
-turns_both : (first rest : List (ℕ × Turn)) → AreFine (turns_of first) → AreFine (turns_of rest) → AreFine (turns_of (first ++ rest))
-turns_both [] rest fine others = others
-turns_both (turn ∷ first) rest (one, fine) others = (one, turns_both first rest fine others)
-
-module _ {C : Type 0} (f : C → State) where
-  pub runs_fine : (side : HostMoment C) (all : List (Happening C)) → Runs f side all → AreFine (turns_of (turns_in all))
-  runs_fine side [] runs = tt
-  runs_fine side (Comes n host ∷ all) (may, runs) = runs_fine (after_one side (Comes n host)) all runs
-  runs_fine side (Goes n host ∷ all) (may, runs) = runs_fine (after_one side (Goes n host)) all runs
-  runs_fine side (Calls n call ∷ all) (may, runs) = runs_fine (after_one side (Calls n call)) all runs
-  runs_fine side (Hands hand ∷ all) (may, runs) = runs_fine (after_one side (Hands hand)) all runs
-  runs_fine side (Rounds ready turns new ∷ all) (may, runs) = turns_both turns (turns_in all) (round_fine ready turns (side_at f side) (side_at f new) may) (runs_fine new all runs)

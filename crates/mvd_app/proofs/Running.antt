@@ -28,16 +28,16 @@ module _ {D : Type 0} {g : disk.Ghosts D} {f : Ghosts (FileStore D g)} where
 
 module _ {D : Type 0} {g : disk.Ghosts D} {f : Ghosts (FileStore D g)} (image : Image) (i : ℕ) (config : ConfigValue) (number : config.site ≡ i) (old new : Replica (FileStore D g) f)
     (opened : OpensAsSite image config (Ok old)) (rests : HasCleanDisk (file_of old) → (was : Database) × IsFoundAt image was × (IsOurs was → IsAtRest (in_file old))) where
-  passes : (turns : List Turn) → WorksBy turns (in_file old) (in_file new) → (harm : Option Harm) (left : SiteLeft D g f) → LeavesSite new harm left → (after : Image) → IsFileLeft new left after →
-      Passes i (setup_of config) turns image after
-  passes turns works harm (Closed files) closed after (clean, inl is) =
-      subst (λ (m : Image). Passes i (setup_of config) turns image m) (sym is) (closed_run i image config turns old new number opened works files (closed.1.1 clean))
-  passes turns works harm (Closed files) closed after (clean, inr may) = left_run i image config turns old new number opened works files (closed.1.1 clean) after may
-  passes turns works harm (Open site) closed after (clean, trees, may, holds) =
-      stopped_run i image config turns old new number opened works rests after trees (subst (λ (r : Replica (FileStore D g) f). HasCleanDisk (file_of r)) closed.0 clean)
+  passes : (calls : List (List Turn)) → WorksBy calls (in_file old) (in_file new) → (harm : Option Harm) (left : SiteLeft D g f) → LeavesSite new harm left → (after : Image) → IsFileLeft new left after →
+      Passes i (setup_of config) calls image after
+  passes calls works harm (Closed files) closed after (clean, inl is) =
+      subst (λ (m : Image). Passes i (setup_of config) calls image m) (sym is) (closed_run i image config calls old new number opened works files (closed.1.1 clean))
+  passes calls works harm (Closed files) closed after (clean, inr may) = left_run i image config calls old new number opened works files (closed.1.1 clean) after may
+  passes calls works harm (Open site) closed after (clean, trees, may, holds) =
+      stopped_run i image config calls old new number opened works rests after trees (subst (λ (r : Replica (FileStore D g) f). HasCleanDisk (file_of r)) closed.0 clean)
       (subst (λ (r : Replica (FileStore D g) f). (file_of r).may_leave trees) closed.0 may) holds
-  passes turns works harm (Unclosed store) closed after (clean, trees, may, holds) =
-      stopped_run i image config turns old new number opened works rests after trees clean (closed.1.crash trees may) holds
+  passes calls works harm (Unclosed store) closed after (clean, trees, may, holds) =
+      stopped_run i image config calls old new number opened works rests after trees clean (closed.1.crash trees may) holds
 
-  pub runs_of : (turns : List Turn) → WorksBy turns (in_file old) (in_file new) → (harm : Option Harm) (left : SiteLeft D g f) → LeavesSite new harm left → IsRunOf image i config turns new left
-  runs_of turns works harm left closed = λ after is. passes turns works harm left closed after is
+  pub runs_of : (calls : List (List Turn)) → WorksBy calls (in_file old) (in_file new) → (harm : Option Harm) (left : SiteLeft D g f) → LeavesSite new harm left → IsRunOf image i config calls new left
+  runs_of calls works harm left closed = λ after is. passes calls works harm left closed after is

@@ -5,21 +5,21 @@ use Rattle.std.specs.declared.net.socket_addr.SocketAddr.{SocketAddr}
 use Rattle.mvd_conn.specs.declared.passes.Pass.{Pass}
 use Rattle.mvd_server.specs.declared.tokens.Tokens.{Tokens}
 use Rattle.mvd_app.proofs.Following.{follows}
-use Rattle.mvd_app.proofs.Rounds.{runs_fine}
-use Rattle.mvd_app.specs.Tasks.{DoesTask, Outside, Serving, Syncing, Task, Typing, turns_asked}
+use Rattle.mvd_app.proofs.Rounds.{round_fine}
+use Rattle.mvd_app.specs.Tasks.{DoesTask, Outside, Serving, Syncing, Task, Typing, calls_asked, rounds_in, turns_asked}
 use Rattle.mvd_client.specs.Synced.{FollowsPushed, TakesPushes}
 use Rattle.mvd_replica.proofs.Keeping.{keeps_on, keeps_self, pushes_keep, turns_keep}
 use Rattle.mvd_replica.specs.Batch.{lost_requests}
 use Rattle.mvd_replica.specs.Programs.{KeepsWrites, WorksOn}
 use Rattle.mvd_replica.specs.ReplicaCalls.{ReplicaAnswers}
 use Rattle.mvd_hint.specs.declared.hint.Stop.{Stop}
-use Rattle.mvd_host.specs.Round.{turns_of}
-use Rattle.mvd_host.specs.Runs.{turns_in}
+use Rattle.mvd_host.specs.Round.{Round, turns_of}
+use Rattle.mvd_host.specs.Runs.{Calls, Comes, Goes, Hands, Happening, HostMoment, Rounds, Runs, after_one, after_run, side_at}
 use Rattle.mvd_remote.specs.declared.line.Line.{Ghosts as LineGhosts}
 use Rattle.mvd_replica.specs.Replicas.{site_of, store_of, stored_of}
 use Rattle.mvd_replica.specs.Restored.{HasWrites}
 use Rattle.mvd_replica.specs.Turns.{Turn}
-use Rattle.mvd_runs.proofs.Working.{works_append, works_asked, works_none, works_turns, writes_then}
+use Rattle.mvd_runs.proofs.Working.{Works, works_append, works_asked, works_calls, works_none, works_one, writes_then}
 use Rattle.mvd_runs.specs.Files.{IsValidTurn, WorksBy}
 use Rattle.mvd_site.specs.Known.{IsValidRequest}
 use Rattle.mvd_replica.specs.declared.replica.Replica.{Replica}
@@ -27,8 +27,26 @@ use Rattle.mvd_shell.specs.Asked.{Exchange}
 use Rattle.mvd_shell.specs.Talk.{AnswersExchanges, AsksInTurn}
 use Rattle.mvd_server.specs.Rounds.{IsServed}
 use Rattle.mvd_server.specs.declared.sockets.Sockets.{Ghosts as SocketGhosts}
-use Rattle.sqlite.specs.Held.{state}
+use Rattle.sqlite.specs.Held.{Held, state}
+use Rattle.sqlite.specs.State.{State}
 use Rattle.sqlite_trees.specs.declared.store.Store.{Ghosts}
+
+-- ---- rounds
+
+module _ {C : Type 0} (f : C → State) where
+  of_round : (ready : List ℕ) (turns : List (ℕ × Turn)) (side new : HostMoment C) → Round ready turns (side_at f side) (side_at f new) → Works (turns_of turns ∷ []) side.site new.site (f side.conn) (f new.conn)
+  of_round ready turns side new round =
+      works_one (turns_of turns) side.site new.site (f side.conn) (f new.conn) (round_fine ready turns (side_at f side) (side_at f new) round)
+      (record { replies = round.serves.replies; stands = round.serves.stands; config = round.serves.config; choice = round.serves.choice }) round.serves.told round.serves.follows
+
+  of_rounds : (side : HostMoment C) (all : List (Happening C)) → Runs f side all → Works (rounds_in all) side.site (after_run side all).site (f side.conn) (f (after_run side all).conn)
+  of_rounds side [] runs = works_none side.site (f side.conn)
+  of_rounds side (Comes n host ∷ all) (may, runs) = of_rounds (after_one side (Comes n host)) all runs
+  of_rounds side (Goes n host ∷ all) (may, runs) = of_rounds (after_one side (Goes n host)) all runs
+  of_rounds side (Calls n call ∷ all) (may, runs) = of_rounds (after_one side (Calls n call)) all runs
+  of_rounds side (Hands hand ∷ all) (may, runs) = of_rounds (after_one side (Hands hand)) all runs
+  of_rounds side (Rounds ready turns new ∷ all) (may, runs) =
+      works_append (turns_of turns ∷ []) (rounds_in all) side.site new.site (after_run new all).site (f side.conn) (f new.conn) (f (after_run new all).conn) (of_round ready turns side new may) (of_rounds new all runs)
 
 module _ {S : Type 0} {g : Ghosts S} where
   -- a shell
@@ -70,48 +88,44 @@ module _ {S : Type 0} {g : Ghosts S} where
     stored = λ sound held whole broken. let more = it.list.serves.follows.stored sound held whole broken in (lost_requests more.lost, more.holds);
   }
 
-  -- ---- as turns
+  -- ---- as turns, by calls
 
   -- those of a shell
   asked_by : (exchanges : List Exchange) (old new : Replica S g) → HasWrites (site_of old) → AllByRecursion IsValidTurn (turns_asked exchanges) → AnswersExchanges ReplicaAnswers exchanges old new →
-      WorksBy (turns_asked exchanges) (stored_of old) (stored_of new)
+      WorksBy (calls_asked exchanges) (stored_of old) (stored_of new)
   unfolding AnswersExchanges
   asked_by [] old new writes valid same = subst (λ (r : Replica S g). WorksBy [] (stored_of old) (stored_of r)) (sym same) (works_none (site_of old) (store_of old))
   asked_by (exchange ∷ exchanges) old new writes (valid, rest) (between, one, others) =
       let asked : IsValidRequest exchange.request = valid exchange.request refl in
-      works_append (record { asked = Ok exchange.request; reply = exchange.reply } ∷ []) (turns_asked exchanges) (site_of old) (site_of between) (site_of new) (store_of old) (store_of between)
+      works_append ((record { asked = Ok exchange.request; reply = exchange.reply } ∷ []) ∷ []) (calls_asked exchanges) (site_of old) (site_of between) (site_of new) (store_of old) (store_of between)
       (store_of new) (works_asked old between exchange.request exchange.reply asked writes one)
       (asked_by exchanges between new (writes_then old between exchange.request exchange.reply asked writes one) rest others)
 
   -- those of a server
   served_by : {K : Type 0} {k : SocketGhosts K} {passes : Option (List Pass)} {sockets sockets' : K} (old new : Replica S g) (it : IsServed k passes sockets old sockets' new) →
-      WorksBy (turns_of (turns_in it.all)) (stored_of old) (stored_of new)
-  served_by old new it = record {
-    site = record { replies = it.list.serves.replies; stands = it.list.serves.stands; config = it.list.serves.config; choice = it.list.serves.choice };
-    valid = runs_fine (state g) _ it.all it.runs;
-    told = it.list.serves.told;
-    follows = it.list.serves.follows;
-  }
+      WorksBy (rounds_in it.all) (stored_of old) (stored_of new)
+  served_by old new it =
+      subst (λ (m : HostMoment (Held S)). Works (rounds_in it.all) (site_of old) m.site (store_of old) (state g m.conn)) it.ends (of_rounds (state g) _ it.all it.runs)
 
   -- those of a session
-  pushed_by : (old new : Replica S g) (it : TakesPushes old new) → WorksBy it.turns (stored_of old) (stored_of new)
-  pushed_by old new it = works_turns it.turns (site_of old) (site_of new) (store_of old) (store_of new) it.valid it.takes
+  pushed_by : (old new : Replica S g) (it : TakesPushes old new) → WorksBy it.calls (stored_of old) (stored_of new)
+  pushed_by old new it = works_calls it.calls (site_of old) (site_of new) (store_of old) (store_of new) it.valid it.takes it.follows
 
-  by_turns : (old new : Replica S g) (turns given : List Turn) → turns ≡ given → WorksBy given (stored_of old) (stored_of new) → WorksBy turns (stored_of old) (stored_of new)
-  by_turns old new turns given is works = subst (λ (ts : List Turn). WorksBy ts (stored_of old) (stored_of new)) (sym is) works
+  by_calls : (old new : Replica S g) (calls given : List (List Turn)) → calls ≡ given → WorksBy given (stored_of old) (stored_of new) → WorksBy calls (stored_of old) (stored_of new)
+  by_calls old new calls given is works = subst (λ (cs : List (List Turn)). WorksBy cs (stored_of old) (stored_of new)) (sym is) works
 
   -- ---- a task
 
   module _ {K L : Type 0} (k : SocketGhosts K) (line : LineGhosts L) (gives : SocketAddr → L → Type 0) (tokens : Option Tokens) (was now : Outside K L) (old new : Replica S g)
-      (turns : List Turn) (result : Result (Unit {0}) Stop) where
+      (calls : List (List Turn)) (result : Result (Unit {0}) Stop) where
     -- keeps the writes known
-    pub does_work : (task : Task) → DoesTask k line gives task tokens was old now new turns result → WorksOn (stored_of old) (stored_of new)
+    pub does_work : (task : Task) → DoesTask k line gives task tokens was old now new calls result → WorksOn (stored_of old) (stored_of new)
     does_work Serving (it, is, still) = served_works old new it.served
     does_work Typing (it, is, still) = asks_work old new (record { exchanges = it.exchanges; answered = it.asked })
     does_work (Syncing address) (it, is) = pushed_works old new it.pushed
 
-    -- and its turns are all that was done
-    pub does_by : (task : Task) → DoesTask k line gives task tokens was old now new turns result → HasWrites (site_of old) → WorksBy turns (stored_of old) (stored_of new)
-    does_by Serving (it, is, still) writes = by_turns old new turns (turns_of (turns_in it.served.all)) is (served_by old new it.served)
-    does_by Typing (it, is, still) writes = by_turns old new turns (turns_asked it.exchanges) is (asked_by it.exchanges old new writes it.valid it.asked)
-    does_by (Syncing address) (it, is) writes = by_turns old new turns it.takes.turns is (pushed_by old new it.takes)
+    -- and its calls are all that was done
+    pub does_by : (task : Task) → DoesTask k line gives task tokens was old now new calls result → HasWrites (site_of old) → WorksBy calls (stored_of old) (stored_of new)
+    does_by Serving (it, is, still) writes = by_calls old new calls (rounds_in it.served.all) is (served_by old new it.served)
+    does_by Typing (it, is, still) writes = by_calls old new calls (calls_asked it.exchanges) is (asked_by it.exchanges old new writes it.valid it.asked)
+    does_by (Syncing address) (it, is) writes = by_calls old new calls it.takes.calls is (pushed_by old new it.takes)

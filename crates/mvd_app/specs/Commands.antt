@@ -24,7 +24,7 @@ module _ {D : Type 0} {g : disk.Ghosts D} (f : Ghosts (FileStore D g)) where
   abbrev pub run_of : {site : ℕ} → Command site → Passed
   run_of command = record {
     setup = setup_of command.ran.config;
-    turns = command.ran.turns;
+    calls = command.ran.calls;
     before = command.before;
     after = command.after;
   }

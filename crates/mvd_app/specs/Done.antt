@@ -47,12 +47,12 @@ module _ {D : Type 0} {g : disk.Ghosts D} (f : Ghosts (FileStore D g)) {K L : Ty
     pub tokens : Option Tokens
     pub of_file : AreTokensOfOrder filed.token tokens
     pub new : Replica (FileStore D g) f
-    pub turns : List Turn
+    pub calls : List (List Turn)
     pub worked : Result (Unit {0}) Stop
-    pub does : DoesTask k line gives filed.task tokens was old now new turns worked
+    pub does : DoesTask k line gives filed.task tokens was old now new calls worked
     pub left : SiteLeft D g f
     pub comes : ran.left ≡ Some left
-    pub runs : IsRunOf image filed.setup.site config turns new left
+    pub runs : IsRunOf image filed.setup.site config calls new left
     pub harm : Option Harm
     pub leaves : LeavesSite new harm left
     -- of a file that is closed no write is lost that it held, of either version; and a new file holds the site

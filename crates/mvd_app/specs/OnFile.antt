@@ -35,10 +35,10 @@ module _ {D : Type 0} {g : disk.Ghosts D} {f : Ghosts (FileStore D g)} where
   IsFileLeft replica (Unclosed store) image =
       HasCleanDisk (file_of replica) × (trees : Trees) × recovers store trees × ∥ HoldsDatabase image trees ∥₁
 
-  -- The turns are a run of the store on the file: from what the file held, to what it holds then
-  abbrev pub IsRunOf : Image → ℕ → ConfigValue → List Turn → Replica (FileStore D g) f → SiteLeft D g f → Type 0
-  IsRunOf image site config turns new left =
-      (after : Image) → IsFileLeft new left after → Passes site (setup_of config) turns image after
+  -- The turns of these calls are a run of the store on the file: from what the file held, to what it holds then
+  abbrev pub IsRunOf : Image → ℕ → ConfigValue → List (List Turn) → Replica (FileStore D g) f → SiteLeft D g f → Type 0
+  IsRunOf image site config calls new left =
+      (after : Image) → IsFileLeft new left after → Passes site (setup_of config) calls image after
 
 -- what the site of an order is set up with, whose file the order names
 abbrev pub setup_in : Order → Option Setup
@@ -48,14 +48,14 @@ setup_in (order.Sync db setup address idle verbose token) = Some setup
 setup_in _ = None
 
 module _ {D : Type 0} {g : disk.Ghosts D} (f : Ghosts (FileStore D g)) where
-  -- The site was opened, set up so (with which indexes and views, `told` says), and took these turns: what stands in its
-  -- file is what they come to
+  -- The site was opened, set up so (with which indexes and views, `told` says), and took the turns of these calls: what
+  -- stands in its file is what they come to
   pub record RanOnFile (image : Image) (setup : Setup) (left : SiteLeft D g f) : Type 0 where
     pub config : ConfigValue
     pub keys : config.max_keys ≡ setup.max_keys
     pub new : Replica (FileStore D g) f
-    pub turns : List Turn
-    pub runs : IsRunOf image setup.site config turns new left
+    pub calls : List (List Turn)
+    pub runs : IsRunOf image setup.site config calls new left
 
   -- WHAT STANDS IN THE FILE of an order's site, if it has one. Or the site was not opened, and the command was stopped
   abbrev pub RunsOnFile : Image → Option Setup → Ran (SiteLeft D g f) → Type 0

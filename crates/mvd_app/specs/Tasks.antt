@@ -15,7 +15,7 @@ use Rattle.mvd_client.specs.Talked.{ShellsAt}
 use Rattle.mvd_client.specs.declared.gone.Gone.{Gone}
 use Rattle.mvd_hint.specs.declared.hint.Stop.{Stop}
 use Rattle.mvd_host.specs.Round.{turns_of}
-use Rattle.mvd_host.specs.Runs.{turns_in}
+use Rattle.mvd_host.specs.Runs.{Happening, Rounds}
 use Rattle.mvd_input.specs.Orders.{ArePeers}
 use Rattle.mvd_input.specs.declared.fault.Fault.{Fault}
 use Rattle.mvd_remote.specs.declared.line.Line.{Ghosts as LineGhosts}
@@ -84,6 +84,16 @@ EndsAsTold (Err fault) result = (stop : Stop) × (result ≡ Err stop) × (stop.
 abbrev pub turns_asked : List Exchange → List Turn
 turns_asked = map (λ exchange. record { asked = Ok exchange.request; reply = exchange.reply })
 
+-- each is asked by itself
+abbrev pub calls_asked : List Exchange → List (List Turn)
+calls_asked exchanges = map (λ turn. turn ∷ []) (turns_asked exchanges)
+
+-- the turns of each round of a host
+abbrev pub rounds_in : {C : Type 0} → List (Happening C) → List (List Turn)
+rounds_in [] = []
+rounds_in (Rounds ready turns new ∷ all) = turns_of turns ∷ rounds_in all
+rounds_in (x ∷ all) = rounds_in all
+
 module _ {S : Type 0} {g : Ghosts S} where
   -- Lines are read and answered, and what they print is written. All that was asked are these requests, one after the
   -- other as the lines ask them, with their replies: none pushes a state that is not that of some writes
@@ -107,21 +117,21 @@ module _ {S : Type 0} {g : Ghosts S} {K : Type 0} (k : SocketGhosts K) where
 
 module _ {S : Type 0} {g : Ghosts S} {K L : Type 0} (k : SocketGhosts K) (line : LineGhosts L)
     (gives : SocketAddr → L → Type 0) where
-  -- WHAT A TASK DOES to a stored site, and nothing else: it takes these turns. They are those of a server's rounds, of
-  -- the lines that a shell reads, or of a session with what an address leads to, to which the first token was shown;
-  -- what is printed, and how the command ends, is what came of it
-  abbrev pub DoesTask : Task → Option Tokens → Outside K L → Replica S g → Outside K L → Replica S g → List Turn
-      → Result (Unit {0}) Stop → Type 0
-  DoesTask Serving tokens was old now new turns result =
+  -- WHAT A TASK DOES to a stored site, and nothing else: it takes the turns of these calls. They are a server's rounds,
+  -- what the lines ask that a shell reads, or what a session pushes with what an address leads to, to which the first
+  -- token was shown; what is printed, and how the command ends, is what came of it
+  abbrev pub DoesTask : Task → Option Tokens → Outside K L → Replica S g → Outside K L → Replica S g
+      → List (List Turn) → Result (Unit {0}) Stop → Type 0
+  DoesTask Serving tokens was old now new calls result =
       (it : ServesTo k (passes_in tokens) was.sockets old now.sockets new result)
-      × (turns ≡ turns_of (turns_in it.served.all)) × (now.gone ≡ was.gone)
-  DoesTask Typing tokens was old now new turns result =
+      × (calls ≡ rounds_in it.served.all) × (now.gone ≡ was.gone)
+  DoesTask Typing tokens was old now new calls result =
       (it : TypesLines (at old was.input was.out) (at new now.input now.out) result)
-      × (turns ≡ turns_asked it.exchanges) × (now.gone ≡ was.gone)
-  DoesTask (Syncing address) tokens was old now new turns result =
+      × (calls ≡ calls_asked it.exchanges) × (now.gone ≡ was.gone)
+  DoesTask (Syncing address) tokens was old now new calls result =
       (it : TellsSession line (GivesIn line (gives address) (first_token tokens)) address was.gone now.gone old new
       was.out now.out result)
-      × (turns ≡ it.takes.turns)
+      × (calls ≡ it.takes.calls)
 
 -- ---- without a file
 

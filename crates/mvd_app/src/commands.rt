@@ -266,9 +266,9 @@ fn work_on<'a, N: Net, S: Alter + Drop, D: Dial, K: Sockets, R: BufRead, W: Writ
 ) -> Result<(), Stop<'a>>
     requires { MayWork work }
     // However it ends, this alone was done to the site.
-    ensures { (turns : List Turn) × DoesTask K.Sockets D.Dialed.Line (D.gives dial.now) (task_of work.entry)
+    ensures { (calls : List (List Turn)) × DoesTask K.Sockets D.Dialed.Line (D.gives dial.now) (task_of work.entry)
         (option_copied tokens.entry) (outside sockets.old gone.old (R.remaining reader.old) (W.contents writer.old)) replica.old
-        (outside sockets.new gone.new (R.remaining reader.new) (W.contents writer.new)) replica.new turns result }
+        (outside sockets.new gone.new (R.remaining reader.new) (W.contents writer.new)) replica.new calls result }
 {
     match work {
         Work::Serve(address, terms, peers) => {

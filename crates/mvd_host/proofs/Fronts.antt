@@ -1,15 +1,16 @@
 -- What a round asks of what waits at hand, one request after the other.
-use Rattle.std.proofs.Common.{◌≡◌, ◌≤◌, ◌<◌, ◌==◌, ◌≢◌, ◌⊎◌, inl, inr, ℕ, zero, suc, get_or, Bool, true, false, true≢false, cond, List, [], ◌∷◌, ◌++◌, map, length, refl, sym, ap, ap₂, ◌∙◌, subst, append-nil, append_assoc, arith}
+use Rattle.std.proofs.Common.{◌≡◌, ◌≤◌, ◌<◌, ◌==◌, ◌≢◌, ◌⊎◌, inl, inr, ℕ, zero, suc, get_or, Bool, true, false, true≢false, cond, not, ◌||◌, List, [], ◌∷◌, ◌++◌, map, length, refl, sym, ap, ap₂, ◌∙◌, subst, append-nil, append_assoc, arith}
 use Rattle.std.proofs.lemmas.Bool.Decides.{nat_tests}
 use Rattle.std.proofs.lemmas.List.{map-append}
 use Rattle.std.specs.BTreeSet.{BTreeSet, Updates, contains}
+use Rattle.std.specs.List.{list_any}
 use Rattle.std.specs.Ordering.{nat_cmp}
 use Rattle.mvd_wire.specs.declared.reply.Reply.{Reply}
 use Rattle.mvd_wire.specs.declared.request.Request.{Request}
 use Rattle.mvd_site.specs.Held.{States}
 use Rattle.mvd_host.specs.AtHand.{AllMayWait, AtHandValue, MayWait, asked_by_one, asks_of}
 use Rattle.mvd_host.specs.Course.{own}
-use Rattle.mvd_host.specs.Fronts.{Parts, TakesOne, TakesThese, asked_in, waiting_in}
+use Rattle.mvd_host.specs.Fronts.{Parts, TakesOne, TakesThese, asked_in, has_some, waiting_in}
 use Rattle.mvd_host.specs.Weights.{IsWeighed}
 use Rattle.mvd_host.specs.declared.front.Asking.{Asking}
 use Rattle.mvd_host.specs.declared.front.Front.{Front}
@@ -291,6 +292,37 @@ some_items count requests is some none =
     let nothing : count ≡ 0 = is ∙ ap length none in
     let yes : (count == 0) ≡ true = grind (arith, nat_tests, nothing) in
     true≢false (sym yes ∙ some)
+
+-- nothing waits just where none of those that ask has something left
+none_asked : (client : ℕ) (requests : List Request) → asks_of client requests ≡ [] → requests ≡ []
+none_asked client [] is = refl
+none_asked client (r ∷ requests) is = absurd (let no : ◌≡◌ {A = List (ℕ × Request)} ((client, r) ∷ asks_of client requests) [] = is in cc)
+
+none_in_front : (xs ys : List (ℕ × Request)) → xs ++ ys ≡ [] → xs ≡ []
+none_in_front [] ys is = refl
+none_in_front (x ∷ xs) ys is = absurd (let no : ◌≡◌ {A = List (ℕ × Request)} (x ∷ (xs ++ ys)) [] = is in cc)
+
+none_behind : (xs ys : List (ℕ × Request)) → xs ++ ys ≡ [] → ys ≡ []
+none_behind [] ys is = is
+none_behind (x ∷ xs) ys is = absurd (let no : ◌≡◌ {A = List (ℕ × Request)} (x ∷ (xs ++ ys)) [] = is in cc)
+
+pub none_of_any : (all : List Asking) → list_any has_some all ≡ false → waiting_in all ≡ []
+none_of_any [] is = refl
+none_of_any (one ∷ all) is = by_len (one.requests.len == 0) refl (λ (h : list_any has_some all ≡ false). none_of_any all h)
+  where
+    by_len : (b : Bool) → (one.requests.len == 0) ≡ b → (list_any has_some all ≡ false → waiting_in all ≡ []) → waiting_in (one ∷ all) ≡ []
+    by_len true none rest =
+        ap₂ (λ a b. a ++ b) (ap (asks_of one.client) (empty_items one.requests.len one.requests.items one.requests.ok.0 none)) (rest (sym (ap (λ b. not b || list_any has_some all) none) ∙ is))
+    by_len false some rest = absurd (true≢false (sym (ap (λ b. not b || list_any has_some all) some) ∙ is))
+
+pub some_of_any : (all : List Asking) → list_any has_some all ≡ true → waiting_in all ≡ [] → ⊥
+some_of_any [] is nothing = true≢false (sym is)
+some_of_any (one ∷ all) is nothing = by_len (one.requests.len == 0) refl (λ (h : list_any has_some all ≡ true). some_of_any all h (none_behind (asked_in one) (waiting_in all) nothing))
+  where
+    by_len : (b : Bool) → (one.requests.len == 0) ≡ b → (list_any has_some all ≡ true → ⊥) → ⊥
+    by_len true none rest = rest (sym (ap (λ b. not b || list_any has_some all) none) ∙ is)
+    by_len false some rest =
+        some_items one.requests.len one.requests.items one.requests.ok.0 some (none_asked one.client one.requests.items (none_in_front (asked_in one) (waiting_in all) nothing))
 
 -- one of those that ask
 pub may_in : (all : List Asking) (i : ℕ) (one : Asking) → i < length all → one ≡ get_or all i one → AllMayWait (waiting_in all) → AllMayWait (asked_in one)

@@ -1,5 +1,5 @@
 -- What a round asks of what waits at hand.
-use Rattle.std.specs.Prelude.{◌≡◌, ◌≤◌, ◌⊎◌, ◌+◌, ℕ, false, List, [], ◌∷◌, ◌++◌, map, vec_len, vec_capacity}
+use Rattle.std.specs.Prelude.{◌≡◌, ◌≤◌, ◌⊎◌, ◌+◌, ◌==◌, ℕ, not, Bool, false, List, [], ◌∷◌, ◌++◌, map, vec_len, vec_capacity}
 use Rattle.std.specs.BTreeSet.{contains}
 use Rattle.std.specs.Ordering.{nat_cmp}
 use Rattle.mvd_wire.specs.declared.request.Request.{Request}
@@ -18,6 +18,10 @@ asked_in asking = asks_of asking.client asking.requests.items
 abbrev pub waiting_in : List Asking → List (ℕ × Request)
 waiting_in [] = []
 waiting_in (asking ∷ others) = asked_in asking ++ waiting_in others
+
+-- something of it waits
+abbrev pub has_some : Asking → Bool
+has_some asking = not (asking.requests.len == 0)
 
 -- Of what was asked, a front was taken, and that is noted behind what was asked in earlier rounds; what waits is the
 -- rest: of each client both are what it asked, in order. Nothing waits of a client that is not held; and where any is

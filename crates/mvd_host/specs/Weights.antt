@@ -1,5 +1,5 @@
 -- What requests weigh in a round.
-use Rattle.std.specs.Prelude.{◌≤◌, ℕ, ◌+◌, List, [], ◌∷◌, length, map, Result, Ok, Err}
+use Rattle.std.specs.Prelude.{◌≤◌, ℕ, ◌+◌, ◌&&◌, ◌||◌, nat_le, nat_lt, Bool, List, [], ◌∷◌, length, map, Result, Ok, Err}
 use Rattle.mvd_dots.specs.declared.refusals.Refusal.{Refusal}
 use Rattle.mvd_replica.specs.Turns.{Turn}
 use Rattle.mvd_site.specs.Held.{States, state_at}
@@ -21,6 +21,12 @@ weights_in states (request ∷ requests) = weight_of states request + weights_in
 -- so much of what they weigh was counted, and no more than they weigh
 abbrev pub IsWeighed : States → List Request → ℕ → Type 0
 IsWeighed states requests counted = counted ≤ weights_in states requests
+
+-- what weighs so much has to wait for another round, where this one weighs so much: a change that weighs over 4,096 once
+-- the round weighs 4,194,304, and any once it weighs twice as much
+abbrev pub has_to_wait : ℕ → ℕ → Bool
+has_to_wait weighed weighs =
+    (nat_le 4194304 weighed && nat_lt 4096 weighs) || (nat_le 8388608 weighed && nat_lt 0 weighs)
 
 -- requests of clients weigh as much as those of a round may before one that weighs more than 4,096 has to wait
 abbrev pub AreHeavy : States → List (ℕ × Request) → Type 0

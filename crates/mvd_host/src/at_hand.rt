@@ -1,11 +1,11 @@
 //! Requests at hand: a round answers them together with the frames of connections, and gives their replies as values.
-ghost use Rattle.std.specs.Prelude.{◌≡◌, ◌∷◌, ◌<◌, ◌≤◌, ◌⊎◌, ◌↔◌, ℕ, List, [], IfErr, IsTrue, OnErr, OnOk, false, length};
+ghost use Rattle.std.specs.Prelude.{◌≡◌, ◌≢◌, ◌∷◌, ◌<◌, ◌≤◌, ◌⊎◌, ◌↔◌, ℕ, List, [], IfErr, IsTrue, OnErr, OnOk, false, length};
 ghost use Rattle.std.specs.Prelude.{true, zip};
 ghost use Rattle.mvd_host.specs.AtHand.{AllMayWait, MayWait, asks_of};
 ghost use Rattle.mvd_dots.specs.declared.refusals.Refusal.TheVariants as Refusal;
 ghost use Rattle.mvd_site.specs.Known.{IsValidRequest};
 
-use crate::front::{Asking, Front};
+use crate::front::{Asking, Front, some_waits};
 use http_server::Log;
 use mvd_dots::Refusal;
 use mvd_site::Site;
@@ -170,9 +170,10 @@ impl AtHand {
 
     /// Whether something waits.
     pub fn has_waiting(&self) -> bool
-        ensures { result ≡ false → self.now.waits ≡ [] }
+        ensures none { result ≡ false → self.now.waits ≡ [] }
+        ensures some { result ≡ true → self.now.waits ≢ [] }
     {
-        !self.asking.is_empty()
+        some_waits(&self.asking)
     }
 
     /// What a round asks of what waits: of each client a front, which is all that it asked, unless the states that the

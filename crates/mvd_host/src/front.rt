@@ -1,9 +1,10 @@
 //! What a round asks of what waits at hand: of each client a front, in order.
 ghost use Rattle.std.specs.Prelude.{◌≡◌, ◌≤◌, ◌++◌, OnOk, List, [], ℕ, false, length, true, vec_capacity};
+ghost use Rattle.std.specs.List.{list_any};
 ghost use Rattle.mvd_wire.specs.declared.request.Request.{Request};
 ghost use Rattle.mvd_host.specs.AtHand.{AllMayWait};
 ghost use Rattle.mvd_host.specs.Course.{own};
-ghost use Rattle.mvd_host.specs.Fronts.{waiting_in};
+ghost use Rattle.mvd_host.specs.Fronts.{has_some, waiting_in};
 
 use crate::arranging::note;
 use crate::weighing::{has_to_wait, weight};
@@ -18,6 +19,13 @@ use std::collections::{BTreeSet, VecDeque};
 pub(crate) struct Asking {
     pub(crate) client: u64,
     pub(crate) requests: VecDeque<Request>,
+}
+
+/// Whether something of what these ask waits.
+pub(crate) fn some_waits(asking: &[Asking]) -> bool
+    ensures { result ≡ list_any has_some asking.now }
+{
+    asking.iter().any(|one| !one.requests.is_empty())
 }
 
 /// What a round asks.

@@ -1,6 +1,6 @@
 //! What requests weigh in a round: each change something, and the bytes of states that they have it prepare.
 ghost use Rattle.std.specs.Prelude.{◌≡◌, ◌≤◌, ◌^◌, ◌-◌, min, true};
-ghost use Rattle.mvd_host.specs.Weights.{weight_of};
+ghost use Rattle.mvd_host.specs.Weights.{has_to_wait as waits_told, weight_of};
 
 use mvd_conn::Connection;
 use mvd_frames::decode_request;
@@ -38,7 +38,8 @@ pub(crate) fn weight(site: &Site, request: &Request) -> u64
 /// Whether a request that weighs so much has to wait for another round, where those of this one weigh so much: a change
 /// that weighs more than a little, once they weigh as much as they may, and any, once they weigh twice as much.
 pub(crate) fn has_to_wait(weighed: u64, weighs: u64) -> bool
-    ensures { result ≡ true → 4194304 ≤ weighed }
+    ensures told { result ≡ waits_told weighed weighs }
+    ensures heavy { result ≡ true → 4194304 ≤ weighed }
 {
     (weighed >= WEIGHT_MAX && weighs > LITTLE) || (weighed >= 2 * WEIGHT_MAX && weighs > 0)
 }

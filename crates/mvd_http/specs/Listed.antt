@@ -1,9 +1,10 @@
 -- What is told of a page where it is to have more than the site's own, from the states of its keys, or fewer entries.
-use Rattle.std.specs.Prelude.{◌≡◌, ⊤, ℕ, ℤ, ◌+◌, ◌-◌, ◌++◌, ◌||◌, ◌==◌, nat_lt, not, if◌then◌else◌, Bool, true, false, List, [], ◌∷◌, codes, filter, length, take, Option, Some, None, Result, Ok, Err}
+use Rattle.std.specs.Prelude.{◌≡◌, ◌⊎◌, ⊤, ℕ, ℤ, ◌+◌, ◌-◌, ◌++◌, ◌||◌, ◌==◌, nat_lt, not, if◌then◌else◌, Bool, true, false, List, [], ◌∷◌, codes, filter, length, take, Option, Some, None, Result, Ok, Err}
 use Rattle.std.specs.FinMap.{get}
 use Rattle.std.specs.Fmt.{decimal}
 use Rattle.sha2.specs.Sha256.{sha256}
 use Rattle.mvd_dots.specs.declared.refusals.Refusal.{Refusal}
+use Rattle.mvd_dots.specs.declared.refusals.Refusal.TheVariants.{Memory}
 use Rattle.mvd_dots.specs.Dot.{DotValue}
 use Rattle.mvd_docs.specs.declared.term.Term.{Term}
 use Rattle.mvd_keys.specs.State.{State, Text}
@@ -146,3 +147,14 @@ listed_told wanted states (reply.Places places more) = Ok (places_listed wanted 
 listed_told wanted states (reply.Rows rows more) = Ok (first_rows wanted rows more)
 listed_told wanted states (reply.Keys keys more) = Ok (first_keys wanted keys more)
 listed_told wanted states told = Err (refusal_in told)
+
+-- ---- refusals
+
+-- what is not told, where states may be refused so: for want of memory, or for want of a state
+abbrev pub IsUntold : Refusal → Refusal → Type 0
+IsUntold held refusal = (refusal ≡ Memory) ⊎ (refusal ≡ held)
+
+-- a page, which a reply may refuse, too
+abbrev pub IsUnlisted : Result (List ℕ) Refusal → Refusal → Refusal → Type 0
+IsUnlisted (Ok text) held refusal = IsUntold held refusal
+IsUnlisted (Err told) held refusal = refusal ≡ told

@@ -1,6 +1,7 @@
 //! What changed, where each key may be told in its state.
-ghost use Rattle.std.specs.Prelude.{◌≡◌, ◌++◌, [], IfOk, OnOk, string_bytes, true};
+ghost use Rattle.std.specs.Prelude.{◌≡◌, ◌++◌, [], IfErr, IfOk, OnOk, string_bytes, true};
 ghost use Rattle.mvd_http.specs.Followed.{changed_states_text, changed_text, state_or_later, states_text};
+ghost use Rattle.mvd_http.specs.Listed.{IsUntold};
 
 use crate::documents::push_state;
 use crate::json_words::{push_digest, push_word};
@@ -24,8 +25,9 @@ pub fn push_changed<H: Holds>(
     keys: &[Key],
     out: &mut String,
 ) -> Result<(), Refusal>
-    ensures { OnOk result (string_bytes out.new ≡
+    ensures text { OnOk result (string_bytes out.new ≡
         string_bytes out.old ++ changed_text (H.states held.now) states root keys.now) }
+    ensures refused { IfErr result (IsUntold (H.refusal held.now)) }
 {
     match states {
         Some(spelling) => push_changed_states(alloc, held, spelling, root, keys, out),
@@ -41,8 +43,9 @@ fn push_changed_states<H: Holds>(
     keys: &[Key],
     out: &mut String,
 ) -> Result<(), Refusal>
-    ensures { OnOk result (string_bytes out.new ≡
+    ensures text { OnOk result (string_bytes out.new ≡
         string_bytes out.old ++ changed_states_text (H.states held.now) spelling root keys.now) }
+    ensures refused { IfErr result (IsUntold (H.refusal held.now)) }
 {
     push_word(out, "{\"root\":")?;
     push_digest(alloc, out, root)?;
@@ -59,7 +62,9 @@ fn states_of<H: Holds>(
     spelling: Spelling,
     keys: &[Key],
 ) -> Result<String, Refusal>
-    ensures { IfOk result (λ text. string_bytes text ≡ states_text (H.states held.now) spelling true [] keys.now) }
+    ensures text { IfOk result (λ text. string_bytes text ≡
+        states_text (H.states held.now) spelling true [] keys.now) }
+    ensures refused { IfErr result (IsUntold (H.refusal held.now)) }
 {
     let mut told = String::new(alloc);
     let mut is_first = true;
@@ -79,8 +84,9 @@ fn push_state_or_later<H: Holds>(
     key: &Key,
     told: &mut String,
 ) -> Result<(), Refusal>
-    ensures { OnOk result (string_bytes told.new ≡
+    ensures text { OnOk result (string_bytes told.new ≡
         string_bytes told.old ++ state_or_later (H.states held.now) spelling (string_bytes told.old) key.now) }
+    ensures refused { IfErr result (IsUntold (H.refusal held.now)) }
 {
     if told.len() >= TOLD_MAX {
         return push_later_key(alloc, key, told);

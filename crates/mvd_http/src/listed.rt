@@ -1,10 +1,10 @@
 //! Pages of which more is told than a reply has, or less.
-ghost use Rattle.std.specs.Prelude.{◌≡◌, ◌≤◌, ◌-◌, ◌++◌, ◌||◌, List, ℕ, Ok, IfOk, OnOk, length, nat_lt, string_bytes, take, true};
+ghost use Rattle.std.specs.Prelude.{◌≡◌, ◌≤◌, ◌-◌, ◌++◌, ◌||◌, List, ℕ, Ok, IfErr, IfOk, IsOkUnless, OnOk, length, nat_lt, string_bytes, take, true};
 ghost use Rattle.sha2.specs.Sha256.{sha256};
 ghost use Rattle.mvd_keys.specs.State.{State};
 ghost use Rattle.mvd_keys.specs.Writes.{Key};
 ghost use Rattle.mvd_http.specs.Json.{comma_if, led_if};
-ghost use Rattle.mvd_http.specs.Listed.{count_json, digest_told, first_keys, first_rows, front_of, hashed_bytes};
+ghost use Rattle.mvd_http.specs.Listed.{IsUnlisted, IsUntold, count_json, digest_told, first_keys, first_rows, front_of, hashed_bytes};
 ghost use Rattle.mvd_http.specs.Listed.{is_told as told_of, item_bytes, item_json, items_json, listed_json, listed_told};
 ghost use Rattle.mvd_http.specs.Listed.{siblings_told, spelling, state_digest};
 
@@ -26,12 +26,18 @@ pub const ROOM: usize = 1_048_576;
 
 /// Where the keys are held of which a page tells.
 pub trait Holds {
+    ghost use Rattle.mvd_dots.specs.declared.refusals.Refusal.{Refusal};
+
     /// The state of each.
     ghost states: { Self → Key → State };
 
+    /// Why one is not told.
+    ghost refusal: { Self → Refusal };
+
     /// The state of a key, or why it is not told.
     fn state_of(&self, key: &Key) -> Result<KeyState, Refusal>
-        ensures { IfOk result (λ state. state ≡ states self.now key.now) };
+        ensures state { IfOk result (λ state. state ≡ states self.now key.now) }
+        ensures refused { IsOkUnless result (refusal self.now) };
 }
 
 /// Puts the page of keys that a reply tells, with what is wanted of each, behind what `out` holds.
@@ -42,8 +48,10 @@ pub fn push_listed<H: Holds>(
     reply: &Reply,
     out: &mut String,
 ) -> Result<(), Refusal>
-    ensures { OnOk result ((text : List ℕ) × (listed_told wanted (H.states held.now) reply.now ≡ Ok text)
+    ensures text { OnOk result ((text : List ℕ) × (listed_told wanted (H.states held.now) reply.now ≡ Ok text)
         × (string_bytes out.new ≡ string_bytes out.old ++ text)) }
+    ensures refused { IfErr result
+        (IsUnlisted (listed_told wanted (H.states held.now) reply.now) (H.refusal held.now)) }
 {
     match reply {
         Reply::Counts(keys, more) => push_page(alloc, held, wanted, keys.as_slice(), *more, out),
@@ -77,7 +85,8 @@ fn push_first_rows(
     more: bool,
     out: &mut String,
 ) -> Result<(), Refusal>
-    ensures { OnOk result (string_bytes out.new ≡ string_bytes out.old ++ first_rows wanted rows.now more) }
+    ensures text { OnOk result (string_bytes out.new ≡ string_bytes out.old ++ first_rows wanted rows.now more) }
+    ensures memory { IsOkUnless result Refusal.Memory }
 {
     let first = first_of(rows, wanted.limit);
     push_rows_page(alloc, out, first, has_more(more, wanted.limit, rows.len()))
@@ -90,7 +99,8 @@ fn push_first_keys(
     more: bool,
     out: &mut String,
 ) -> Result<(), Refusal>
-    ensures { OnOk result (string_bytes out.new ≡ string_bytes out.old ++ first_keys wanted keys.now more) }
+    ensures text { OnOk result (string_bytes out.new ≡ string_bytes out.old ++ first_keys wanted keys.now more) }
+    ensures memory { IsOkUnless result Refusal.Memory }
 {
     let first = first_of(keys, wanted.limit);
     push_keys_page(alloc, out, first, has_more(more, wanted.limit, keys.len()))
@@ -104,8 +114,9 @@ fn push_page<H: Holds>(
     more: bool,
     out: &mut String,
 ) -> Result<(), Refusal>
-    ensures { OnOk result (string_bytes out.new ≡
+    ensures text { OnOk result (string_bytes out.new ≡
         string_bytes out.old ++ listed_json wanted (H.states held.now) keys.now more) }
+    ensures refused { IfErr result (IsUntold (H.refusal held.now)) }
 {
     push_word(out, "{\"keys\":[")?;
     let first = first_of(keys, wanted.limit);
@@ -128,6 +139,7 @@ fn push_items<H: Holds>(
     ensures front { IfOk result (λ count. take count keys.now ≡ front_of wanted (H.states held.now) keys.now) }
     ensures text { IfOk result (λ count. string_bytes out.new ≡
         string_bytes out.old ++ items_json wanted (H.states held.now) (take count keys.now)) }
+    ensures refused { IfErr result (IsUntold (H.refusal held.now)) }
 {
     let mut room = ROOM;
     let mut is_first = true;
@@ -165,6 +177,7 @@ fn push_item<H: Holds>(
     ensures text { OnOk result (string_bytes out.new ≡ string_bytes out.old
         ++ led_if is_first (λ e. item_json wanted e (H.states held.now e.0)) entry.now) }
     ensures room { IfOk result (λ left. left ≡ room - item_bytes wanted entry.now (H.states held.now entry.now.0)) }
+    ensures refused { IfErr result (IsUntold (H.refusal held.now)) }
 {
     push_comma(out, is_first)?;
     let before = out.len();
@@ -191,6 +204,7 @@ fn push_entry(
     ensures text { OnOk result (string_bytes out.new ≡
         string_bytes out.old ++ item_json wanted entry.now state.now) }
     ensures hashed { IfOk result (λ count. count ≡ hashed_bytes wanted.digests entry.now.0 state.now) }
+    ensures memory { IsOkUnless result Refusal.Memory }
 {
     push_word(out, "{\"key\":")?;
     push_quoted(alloc, out, entry.0.text())?;
@@ -208,7 +222,9 @@ fn push_siblings_of(
     count: u32,
     state: &KeyState,
 ) -> Result<(), Refusal>
-    ensures { OnOk result (string_bytes out.new ≡ string_bytes out.old ++ siblings_told documents count state.now) }
+    ensures text { OnOk result (string_bytes out.new ≡
+        string_bytes out.old ++ siblings_told documents count state.now) }
+    ensures memory { IsOkUnless result Refusal.Memory }
 {
     match documents {
         Some(spelling) => push_members(alloc, out, spelling, state),
@@ -217,7 +233,8 @@ fn push_siblings_of(
 }
 
 fn push_sibling_count(out: &mut String, count: u32) -> Result<(), Refusal>
-    ensures { OnOk result (string_bytes out.new ≡ string_bytes out.old ++ count_json count) }
+    ensures text { OnOk result (string_bytes out.new ≡ string_bytes out.old ++ count_json count) }
+    ensures memory { IsOkUnless result Refusal.Memory }
 {
     push_word(out, ",\"siblings\":")?;
     Ok(push_number(out, u64::from(count))?)
@@ -234,6 +251,7 @@ fn push_digest_if(
     ensures text { OnOk result (string_bytes out.new ≡
         string_bytes out.old ++ digest_told is_wanted key.now state.now) }
     ensures hashed { IfOk result (λ count. count ≡ hashed_bytes is_wanted key.now state.now) }
+    ensures memory { IsOkUnless result Refusal.Memory }
 {
     if !is_wanted {
         return Ok(0);

@@ -1,10 +1,10 @@
 //! Pages of an index, of which a document may be told with each place.
-ghost use Rattle.std.specs.Prelude.{◌≡◌, ◌≤◌, ◌++◌, IfOk, IfSome, IsTrue, OnOk, Some, length, option_map, string_bytes, take, true};
+ghost use Rattle.std.specs.Prelude.{◌≡◌, ◌≤◌, ◌++◌, IfErr, IfOk, IfSome, IsOkUnless, IsTrue, OnOk, Some, length, option_map, string_bytes, take, true};
 ghost use Rattle.std.specs.FinMap.Entries.{find};
 ghost use Rattle.std.specs.Option.{option_copied};
 ghost use Rattle.mvd_dots.specs.Dot.{dot_cmp};
 ghost use Rattle.mvd_keys.specs.State.{pairs_of, rises};
-ghost use Rattle.mvd_http.specs.Listed.{Serves, document_at, place_front_of, place_in, places_listed, places_told};
+ghost use Rattle.mvd_http.specs.Listed.{IsUntold, Serves, document_at, place_front_of, place_in, places_listed, places_told};
 
 use crate::documents::push_document;
 use crate::json_lists::{push_place, push_place_front, push_place_next};
@@ -25,8 +25,9 @@ pub fn push_places_listed<H: Holds>(
     more: bool,
     out: &mut String,
 ) -> Result<(), Refusal>
-    ensures { OnOk result (string_bytes out.new ≡
+    ensures text { OnOk result (string_bytes out.new ≡
         string_bytes out.old ++ places_listed wanted (H.states held.now) places.now more) }
+    ensures refused { IfErr result (IsUntold (H.refusal held.now)) }
 {
     push_word(out, "{\"places\":[")?;
     let first = first_of(places, wanted.limit);
@@ -51,6 +52,7 @@ fn push_items<H: Holds>(
         take count places.now ≡ place_front_of documents (H.states held.now) places.now) }
     ensures text { IfOk result (λ count. string_bytes out.new ≡
         string_bytes out.old ++ places_told documents (H.states held.now) (take count places.now)) }
+    ensures refused { IfErr result (IsUntold (H.refusal held.now)) }
 {
     let mut room = ROOM;
     let mut state = KeyState::empty(alloc);
@@ -78,7 +80,8 @@ fn look_up<H: Holds>(
     state: &mut KeyState,
 ) -> Result<(), Refusal>
     requires { IfSome last (λ last. Serves documents (H.states held.now) state.old last.now) }
-    ensures { OnOk result (Serves documents (H.states held.now) state.new key.now) }
+    ensures served { OnOk result (Serves documents (H.states held.now) state.new key.now) }
+    ensures refused { IsOkUnless result (H.refusal held.now) }
 {
     if documents.is_some() && !is_key(last, key) {
         *state = held.state_of(key)?;
@@ -107,6 +110,7 @@ fn push_item(
     ensures text { OnOk result (string_bytes out.new ≡
         string_bytes out.old ++ place_in documents state.now place.now) }
     ensures told { IfOk result (λ told. told ≡ length (place_in documents state.now place.now)) }
+    ensures memory { IsOkUnless result Refusal.Memory }
 {
     let before = out.len();
     push_told(alloc, documents, place, state, out)?;
@@ -120,8 +124,9 @@ fn push_told(
     state: &KeyState,
     out: &mut String,
 ) -> Result<(), Refusal>
-    ensures { OnOk result (string_bytes out.new ≡
+    ensures text { OnOk result (string_bytes out.new ≡
         string_bytes out.old ++ place_in documents state.now place.now) }
+    ensures memory { IsOkUnless result Refusal.Memory }
 {
     let Some(spelling) = documents else {
         return push_place(alloc, out, place);
@@ -139,8 +144,9 @@ fn push_document_at(
     dot: Dot,
     state: &KeyState,
 ) -> Result<(), Refusal>
-    ensures { OnOk result (string_bytes out.new ≡
+    ensures text { OnOk result (string_bytes out.new ≡
         string_bytes out.old ++ document_at spelling dot state.now) }
+    ensures memory { IsOkUnless result Refusal.Memory }
 {
     let Some(document) = document_of_dot(state.siblings(), dot) else {
         return Ok(());

@@ -1,5 +1,4 @@
 mod Addressed
-mod Asked
 mod Commands
 mod Consumed
 mod Defined

@@ -12,6 +12,6 @@ pub(crate) mod turns;
 
 pub use caller::Caller;
 pub use loan::Loan;
-pub use pace::{Met, Pace, are_same, is_among};
+pub use pace::{Met, Pace, is_among};
 pub use schedule::{Author, Schedule};
 pub use stepping::{Course, Meeting};

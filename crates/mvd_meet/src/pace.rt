@@ -67,11 +67,6 @@ impl Pace {
     }
 }
 
-/// Whether the same keys were refused, by the same sides and in the same way.
-pub fn are_same(first: &[Left], second: &[Left]) -> bool {
-    first.len() == second.len() && first.iter().zip(second).all(|(a, b)| is_same(a, b))
-}
-
 /// Whether a key stands among others, refused by the same side and in the same way.
 pub fn is_among(left: &Left, others: &[Left]) -> bool {
     others.iter().any(|other| is_same(left, other))

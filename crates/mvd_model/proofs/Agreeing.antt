@@ -16,9 +16,9 @@ use Rattle.mvd_wire.specs.declared.reply.Reply.{Reply}
 use Rattle.mvd_wire.specs.declared.reply.Reply.TheVariants.{Done, Written}
 use Rattle.mvd_kept.specs.Answer.{answer}
 use Rattle.mvd_kept.specs.Known.{Adds}
-use Rattle.mvd_model.specs.TheStore.{AddAll, Event, Happen, Knows, Next, Opened, Setup, Site, Told, config}
+use Rattle.mvd_model.specs.TheStore.{AddAll, Broke, Event, Happen, Knows, Next, Opened, Setup, Site, Told, config}
 use Rattle.mvd_model.specs.Handed.{AllBring, AreHanded, AreSound, Brings, IsHanded, knows, nothing_known}
-use Rattle.mvd_model.proofs.Runs.{answer_written, refuses_same}
+use Rattle.mvd_model.proofs.Runs.{answer_written, breaks_same, refuses_same}
 
 -- ---- what is known with more
 
@@ -150,6 +150,9 @@ sound_next a (Told i request reply) b (inl told, others) brings sound =
     (sound_learns (knows a) i told.2 sound (request_adds (knows a) i (a i).setup (a i).known request reply told.2 refl told.1 told.3 brings))
 sound_next a (Told i request reply) b (inr refused, others) brings sound =
     known_after a b i [] (refuses_same (config i (a i).setup) (a i) request reply (b i) refused ∙ sym (append-nil (a i).known)) others
+    (sound_learns (knows a) i [] sound (none_added (knows a) i [] refl))
+sound_next a (Broke i requests) b (breaks, others) brings sound =
+    known_after a b i [] (breaks_same (config i (a i).setup) (a i) requests (b i) breaks ∙ sym (append-nil (a i).known)) others
     (sound_learns (knows a) i [] sound (none_added (knows a) i [] refl))
 sound_next a (Opened i setup some) b (opens, others) brings sound =
     known_after a b i opens.1 (ap (λ (s : Site). s.known) opens.3) others

@@ -22,7 +22,7 @@ use Rattle.mvd_kept.specs.Known.{Adds, ChangesKey}
 use Rattle.mvd_kept.proofs.Answered.{answered, changed_alike}
 use Rattle.mvd_kept.proofs.KnownKeys.{states_of-stands}
 use Rattle.mvd_kept.proofs.Steps.{state_known}
-use Rattle.mvd_model.specs.TheStore.{AddAll, Answers, AreAmong, Event, Happen, Knows, Next, Opened, Refuses, Setup, Site, Told, config}
+use Rattle.mvd_model.specs.TheStore.{AddAll, Answers, AreAmong, Breaks, Broke, Event, Happen, Knows, Next, Opened, Refuses, Setup, Site, Told, config}
 use Rattle.mvd_model.specs.Handed.{AllBring, AreHanded, Brings, Handed, IsHanded, IsPairIn, IsSame, IsToldPush, PushTold, knows, nothing_known}
 use Rattle.mvd_model.proofs.Runs.{next_grows}
 use Rattle.mvd_model.proofs.Placing.{placed, placed_at, placed_else}
@@ -159,6 +159,10 @@ told_push : (told : List (Key × State)) (requests : List Request) (request : Re
 told_push told [] request all is = (is, tt)
 told_push told (r ∷ requests) request all is = (all.0, told_push told requests request all.1 is)
 
+told_both : (told : List (Key × State)) (requests more : List Request) → AllByRecursion (IsToldPush told) requests → AllByRecursion (IsToldPush told) more → AllByRecursion (IsToldPush told) (requests ++ more)
+told_both told [] more all too = too
+told_both told (r ∷ requests) more all too = (all.0, told_both told requests more all.1 too)
+
 -- the other run's next step
 record Steps (a' : Knows) (event : Event) (told : List (Key × State)) (b : Knows) : Type 0 where
   other : Knows
@@ -185,12 +189,12 @@ record Refusing (i : ℕ) (told : List (Key × State)) (s' : Site) (request : Re
   same : IsSame after other
   all : AllByRecursion (IsToldPush told) after.refused
 
-abbrev refused_more : Site → Request → Bool → Site
-refused_more s request broken = record { setup = s.setup; known = s.known; refused = s.refused ++ request ∷ []; broken = broken }
+abbrev refused_more : Site → List Request → Bool → Site
+refused_more s more broken = record { setup = s.setup; known = s.known; refused = s.refused ++ more; broken = broken }
 
-more_refused : (s s' after : Site) (request : Request) (broken broken' : Bool) → IsSame s s' → broken ≡ broken' → after ≡ refused_more s request broken → IsSame after (refused_more s' request broken')
-more_refused s s' after request broken broken' same b is = subst (λ t. IsSame t (refused_more s' request broken')) (sym is)
-    (record { setup = same.setup; refused = ap (λ rs. rs ++ request ∷ []) same.refused; broken = b; states = same.states })
+more_refused : (s s' after : Site) (more : List Request) (broken broken' : Bool) → IsSame s s' → broken ≡ broken' → after ≡ refused_more s more broken → IsSame after (refused_more s' more broken')
+more_refused s s' after more broken broken' same b is = subst (λ t. IsSame t (refused_more s' more broken')) (sym is)
+    (record { setup = same.setup; refused = ap (λ rs. rs ++ more) same.refused; broken = b; states = same.states })
 
 refusing : (i : ℕ) (told : List (Key × State)) (s s' : Site) (request : Request) (reply : Reply) (after : Site) → IsSame s s' → AllByRecursion (IsToldPush told) s.refused → IsToldPush told request → Refuses (config i s.setup) s request reply after → Refusing i told s' request reply after
 refusing i told s s' request (Refused Memory) after same all is_told h = record {
@@ -200,18 +204,33 @@ refusing i told s s' request (Refused Memory) after same all is_told h = record 
   all = subst (λ (t : Site). AllByRecursion (IsToldPush told) t.refused) (sym h) all;
 }
 refusing i told s s' request (Refused Store) after same all is_told (whole, changes, is) = record {
-  other = refused_more s' request s'.broken;
+  other = refused_more s' (request ∷ []) s'.broken;
   refuses = (sym same.broken ∙ whole, same_changes i s s' request same changes, refl);
-  same = more_refused s s' after request s.broken s'.broken same same.broken is;
+  same = more_refused s s' after (request ∷ []) s.broken s'.broken same same.broken is;
   all = subst (λ (t : Site). AllByRecursion (IsToldPush told) t.refused) (sym is) (told_push told s.refused request all is_told);
 }
-refusing i told s s' request (Refused Broken) after same all is_told (why, is) = record {
-  other = refused_more s' request true;
-  refuses = (⊎_elim (λ was. inl (sym same.broken ∙ was)) (λ changes. inr (same_changes i s s' request same changes)) why, refl);
-  same = more_refused s s' after request true true same refl is;
-  all = subst (λ (t : Site). AllByRecursion (IsToldPush told) t.refused) (sym is) (told_push told s.refused request all is_told);
+refusing i told s s' request (Refused Broken) after same all is_told (broken, is) = record {
+  other = s';
+  refuses = (sym same.broken ∙ broken, refl);
+  same = subst (λ t. IsSame t s') (sym is) same;
+  all = subst (λ (t : Site). AllByRecursion (IsToldPush told) t.refused) (sym is) all;
 }
 refusing i told s s' request reply after same all is_told h = absurd h
+
+record Breaking (i : ℕ) (told : List (Key × State)) (s' : Site) (requests : List Request) (after : Site) : Type 0 where
+  other : Site
+  breaks : Breaks (config i s'.setup) s' requests other
+  same : IsSame after other
+  all : AllByRecursion (IsToldPush told) after.refused
+
+breaking : (i : ℕ) (told : List (Key × State)) (s s' : Site) (requests : List Request) (after : Site) → IsSame s s' → AllByRecursion (IsToldPush told) s.refused → AllByRecursion (IsToldPush told) requests → Breaks (config i s.setup) s requests after → Breaking i told s' requests after
+breaking i told s s' [] after same all are_told h = absurd h
+breaking i told s s' (request ∷ behind) after same all are_told (whole, changes, is) = record {
+  other = refused_more s' (request ∷ behind) true;
+  breaks = (sym same.broken ∙ whole, same_changes i s s' request same changes, refl);
+  same = more_refused s s' after (request ∷ behind) true true same refl is;
+  all = subst (λ (t : Site). AllByRecursion (IsToldPush told) t.refused) (sym is) (told_both told s.refused (request ∷ behind) all are_told);
+}
 
 module _ (a a' b : Knows) (i : ℕ) (told : List (Key × State)) (same : (j : ℕ) → IsSame (a j) (a' j)) (past : ArePast (knows a') told) (refused : RefusedTold told a) (others : (j : ℕ) → j ≢ i → b j ≡ a j) where
   refused_every : AllByRecursion (IsToldPush told) (b i).refused → RefusedTold told b
@@ -241,6 +260,17 @@ module _ (a a' b : Knows) (i : ℕ) (told : List (Key × State)) (same : (j : �
       record {
         other = placed a' i r.other;
         next = (inr (subst (λ s. Refuses (config i (a' i).setup) (a' i) request reply s) (sym (placed_at a' i r.other)) r.refuses), λ j other. placed_else a' i r.other j other);
+        brings = tt;
+        same = at_every IsSame a a' b i r.other r.same same others;
+        refused = refused_every r.all;
+      }
+
+  step_broke : (requests : List Request) → AllByRecursion (IsToldPush told) requests → Breaks (config i (a i).setup) (a i) requests (b i) → Steps a' (Broke i requests) told b
+  step_broke requests are_told h =
+      let r = breaking i told (a i) (a' i) requests (b i) (same i) (refused i) are_told h in
+      record {
+        other = placed a' i r.other;
+        next = (subst (λ s. Breaks (config i (a' i).setup) (a' i) requests s) (sym (placed_at a' i r.other)) r.breaks, λ j other. placed_else a' i r.other j other);
         brings = tt;
         same = at_every IsSame a a' b i r.other r.same same others;
         refused = refused_every r.all;
@@ -307,6 +337,10 @@ follows a a' (Told i request reply ∷ events) end told (b, next, rest) (is_told
     let step = step_told a a' b i told same past refused next.1 request reply is_told next.0 in
     first_step a' (Told i request reply) events told b end step
     (follows b step.other events end told rest tells step.same (past_next a' step.other (Told i request reply) told step.next past) step.refused)
+follows a a' (Broke i requests ∷ events) end told (b, next, rest) (are_told, tells) same past refused =
+    let step = step_broke a a' b i told same past refused next.1 requests are_told next.0 in
+    first_step a' (Broke i requests) events told b end step
+    (follows b step.other events end told rest tells step.same (past_next a' step.other (Broke i requests) told step.next past) step.refused)
 follows a a' (Opened i setup some ∷ events) end told (b, (opens, others), rest) tells same past refused =
     let step = step_opened a a' b i told same past refused others setup some opens.1 opens.0 opens.2 opens.3 in
     first_step a' (Opened i setup some) events told b end step

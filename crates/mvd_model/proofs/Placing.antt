@@ -1,5 +1,5 @@
 -- One site put in place of another; and to each request a site tells something.
-use Rattle.std.proofs.Common.{◌≡◌, ◌≢◌, ℕ, ◌==◌, true, false, if◌then◌else◌, List, [], ◌∷◌, ◌++◌, refl, sym, ap, subst, inl, inr, eq-eqb, ne_eqb}
+use Rattle.std.proofs.Common.{◌≡◌, ◌≢◌, ℕ, ◌==◌, true, false, if◌then◌else◌, List, [], ◌++◌, refl, sym, ap, subst, inl, inr, eq-eqb, ne_eqb}
 use Rattle.mvd_dots.specs.declared.refusals.Refusal.TheVariants.{Broken}
 use Rattle.mvd_keys.specs.Writes.{Write, writes_for}
 use Rattle.mvd_keys.proofs.Sets.{AreOf-writes_for, state-writes_for}
@@ -41,9 +41,7 @@ adds_some request reply valid = ([], refl)
 pub tells : (a : Knows) (i : ℕ) (request : Request) → IsValidRequest request → (reply : Reply) × (b : Knows) × Next a (Told i request reply) b
 tells a i request valid =
     elim (a i).broken as (λ b. (a i).broken ≡ b → (reply : Reply) × (b : Knows) × Next a (Told i request reply) b) [
-      | true ↦ λ broken.
-          let t : Site = record { setup = (a i).setup; known = (a i).known; refused = (a i).refused ++ request ∷ []; broken = true } in
-          (Refused Broken, placed a i t, does_next a (Told i request (Refused Broken)) t (inr (inl broken, refl)))
+      | true ↦ λ broken. (Refused Broken, placed a i (a i), does_next a (Told i request (Refused Broken)) (a i) (inr (broken, refl)))
       | false ↦ λ whole.
           let reply : Reply = answer (config i (a i).setup) (a i).known request in
           let adds = adds_some request reply valid in

@@ -32,7 +32,7 @@ use Rattle.mvd_kept.proofs.Answered.{limited_cases}
 use Rattle.mvd_kept.proofs.OfTheSet.{of_the_set}
 use Rattle.mvd_kept.proofs.Steps.{state_known}
 use Rattle.mvd_model.proofs.Alike.{spoken}
-use Rattle.mvd_model.specs.TheStore.{Event, Happen, Knows, Next, Opened, Promise, Refuses, Site, Told, config, put_told}
+use Rattle.mvd_model.specs.TheStore.{Breaks, Broke, Event, Happen, Knows, Next, Opened, Promise, Refuses, Site, Told, config, put_told}
 
 -- ---- what is known stays known
 
@@ -61,12 +61,17 @@ refuses_same c s request (Refused Store) t h = ap (λ (x : Site). x.known) h.2
 refuses_same c s request (Refused Broken) t h = ap (λ (x : Site). x.known) h.1
 refuses_same c s request reply t h = absurd h
 
+pub breaks_same : (c : ConfigValue) (s : Site) (requests : List Request) (t : Site) → Breaks c s requests t → t.known ≡ s.known
+breaks_same c s [] t h = absurd h
+breaks_same c s (request ∷ behind) t h = ap (λ (x : Site). x.known) h.2
+
 pub next_grows : (a : Knows) (event : Event) (b : Knows) → Next a event b → Grows a b
 next_grows a (Told i request reply) b next = site_grows a b i
     (⊎_elim
     (λ h. (h.2, ap (λ (x : Site). x.known) h.4))
     (λ h. ([], refuses_same (config i (a i).setup) (a i) request reply (b i) h ∙ sym (append-nil (a i).known)))
     next.0) next.1
+next_grows a (Broke i requests) b next = site_grows a b i ([], breaks_same (config i (a i).setup) (a i) requests (b i) next.0 ∙ sym (append-nil (a i).known)) next.1
 next_grows a (Opened i setup some) b next = site_grows a b i (next.0.1, ap (λ (x : Site). x.known) next.0.3) next.1
 
 pub happen_grows : (a : Knows) (events : List Event) (end : Knows) → Happen a events end → Grows a end

@@ -2,6 +2,7 @@
 -- state that a site told does. There no two documents have one dot, at one site or at two.
 use Rattle.std.proofs.Common.{inl, inr}
 use Rattle.std.specs.Prelude.{◌≡◌, ◌⊎◌, ⊤, false, ℕ, Contains, List, [], ◌∷◌, ◌++◌}
+use Rattle.std.specs.List.{AllByRecursion}
 use Rattle.mvd_dots.specs.Dot.{DotValue}
 use Rattle.mvd_dots.specs.Context.{DotSet}
 use Rattle.mvd_keys.specs.State.{State, Text}
@@ -10,7 +11,7 @@ use Rattle.mvd_wire.specs.declared.request.Request.{Request}
 use Rattle.mvd_wire.specs.declared.request.Request.TheVariants.{Get, Push}
 use Rattle.mvd_wire.specs.declared.reply.Reply.TheVariants.{State as Shown}
 use Rattle.mvd_kept.specs.Config.{ConfigValue}
-use Rattle.mvd_model.specs.TheStore.{AddAll, Event, Happen, Knows, Next, Opened, Setup, Site, Told, config}
+use Rattle.mvd_model.specs.TheStore.{AddAll, Broke, Event, Happen, Knows, Next, Opened, Setup, Site, Told, config}
 
 -- at first nobody knows anything
 abbrev pub nothing_known : (ℕ → Setup) → Knows
@@ -35,6 +36,7 @@ AreHanded known c here (request ∷ requests) added (first, rest, is, one, other
 abbrev pub Brings : (a : Knows) (event : Event) (b : Knows) → Next a event b → Type 0
 Brings a (Told i request reply) b (inl told, others) = IsHanded (knows a) request told.2
 Brings a (Told i request reply) b (inr refused, others) = ⊤
+Brings a (Broke i requests) b next = ⊤
 Brings a (Opened i setup some) b (opens, others) =
     AreHanded (knows a) (config i (a i).setup) (a i).known some opens.1 opens.2
 
@@ -66,6 +68,7 @@ abbrev pub PushTold : List (Key × State) → List Event → Type 0
 PushTold told [] = ⊤
 PushTold told (Told i (Get key) (Shown s) ∷ events) = PushTold ((key, s) ∷ told) events
 PushTold told (Told i request reply ∷ events) = IsToldPush told request × PushTold told events
+PushTold told (Broke i requests ∷ events) = AllByRecursion (IsToldPush told) requests × PushTold told events
 PushTold told (Opened i setup some ∷ events) = PushTold told events
 
 -- two sites with the same states and all else

@@ -26,8 +26,8 @@ pub record Setup : Type 0 where
   pub max_keys : ℕ
   pub defs : Definitions
 
--- A site: the writes that it knows, which its file holds; the requests that it refused with 21 or 22 since it was
--- opened, which its file may hold all the same; and whether one of them broke it
+-- A site: the writes that it knows, which its file holds; the requests that it refused with 21 since it was opened, and
+-- those with which it broke, which its file may hold all the same; and whether it is broken
 pub record Site : Type 0 where
   pub setup : Setup
   pub known : List Write
@@ -44,6 +44,8 @@ config i setup = record { site = i; max_keys = setup.max_keys; defs = setup.defs
 pub data Event : Type 0 where
   -- a script, a shell, a frame, HTTP, a session or a call asked this site, and was told
   Told : ℕ → Request → Reply → Event
+  -- this site broke: these, which it was asked at once, are told 22, and its file may hold them all the same
+  Broke : ℕ → List Request → Event
   -- this site was closed, killed or without power, and is opened again; its file holds these, which it had refused
   Opened : ℕ → Setup → List Request → Event
 
@@ -53,14 +55,19 @@ Answers c s request reply t = (s.broken ≡ false) × (reply ≡ answer c s.know
     × (added : List Write) × Adds request reply added × (t ≡ record s { known = s.known ++ added })
 
 -- Or it refuses, and knows no more: for want of memory (20); or, only where its answer would change a state
--- (`ChangesKey`), for its store (21), or broken by it (22). A broken site tells 22, or 20, until it is opened again
+-- (`ChangesKey`), for its store (21). A broken site tells 22, or 20, until it is opened again, and nothing changes
 abbrev pub Refuses : ConfigValue → Site → Request → Reply → Site → Type 0
 Refuses c s request (Refused Memory) t = t ≡ s
 Refuses c s request (Refused Store) t =
     (s.broken ≡ false) × ChangesKey c s.known request × (t ≡ record s { refused = s.refused ++ request ∷ [] })
-Refuses c s request (Refused Broken) t = ((s.broken ≡ true) ⊎ ChangesKey c s.known request)
-    × (t ≡ record s { refused = s.refused ++ request ∷ []; broken = true })
+Refuses c s request (Refused Broken) t = (s.broken ≡ true) × (t ≡ s)
 Refuses c s request reply t = ⊥
+
+-- It breaks at a request whose answer would change a state. That is told 22, and so are those asked with it behind it
+abbrev pub Breaks : ConfigValue → Site → List Request → Site → Type 0
+Breaks c s [] t = ⊥
+Breaks c s (request ∷ behind) t = (s.broken ≡ false) × ChangesKey c s.known request
+    × (t ≡ record s { refused = s.refused ++ request ∷ behind; broken = true })
 
 -- these are some of those, in their order
 abbrev pub AreAmong : List Request → List Request → Type 0
@@ -82,11 +89,13 @@ Reopens c s setup some t = AreAmong some s.refused × (added : List Write) × Ad
 -- where an event happens, and what it does to that site
 abbrev pub at_site : Event → ℕ
 at_site (Told i request reply) = i
+at_site (Broke i requests) = i
 at_site (Opened i setup some) = i
 
 abbrev pub Does : Event → Site → Site → Type 0
 Does (Told i request reply) s t =
     Answers (config i s.setup) s request reply t ⊎ Refuses (config i s.setup) s request reply t
+Does (Broke i requests) s t = Breaks (config i s.setup) s requests t
 Does (Opened i setup some) s t = Reopens (config i s.setup) s setup some t
 
 -- a step: all other sites are as they were

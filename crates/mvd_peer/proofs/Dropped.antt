@@ -21,18 +21,18 @@ most = 2 ^ 64 - 1
 -- what is so of the answer is so of what is held of it
 pub held_ok : (P : State → Type 0) (old new : ℕ) (answer result : Result State Refusal) → HoldsState old new answer result → IfOk answer P → IfOk result P
 held_ok P old new answer result (held s is told low more) h = subst (λ r. IfOk r P) (sym told) (subst (λ a. IfOk a P) is h)
-held_ok P old new answer result (dropped s is told same) h = subst (λ r. IfOk r P) (sym told) tt
+held_ok P old new answer result (dropped s is much told same) h = subst (λ r. IfOk r P) (sym told) tt
 held_ok P old new answer result (refused e is told same) h = subst (λ r. IfOk r P) (sym told) tt
 
 pub held_on : (P : Type 0) (old new : ℕ) (answer result : Result State Refusal) → HoldsState old new answer result → OnOk answer P → OnOk result P
 held_on P old new answer result (held s is told low more) h = subst (λ r. OnOk r P) (sym told) (subst (λ a. OnOk a P) is h)
-held_on P old new answer result (dropped s is told same) h = subst (λ r. OnOk r P) (sym told) tt
+held_on P old new answer result (dropped s is much told same) h = subst (λ r. OnOk r P) (sym told) tt
 held_on P old new answer result (refused e is told same) h = subst (λ r. OnOk r P) (sym told) tt
 
 -- and a refusal is its own, or for want of memory after an answer
 pub held_err : (Q : Refusal → Type 0) (old new : ℕ) (answer result : Result State Refusal) → HoldsState old new answer result → IfErr answer Q → OnOk answer (Q Memory) → IfErr result Q
 held_err Q old new answer result (held s is told low more) h lack = subst (λ r. IfErr r Q) (sym told) tt
-held_err Q old new answer result (dropped s is told same) h lack = subst (λ r. IfErr r Q) (sym told) (subst (λ a. OnOk a (Q Memory)) is lack)
+held_err Q old new answer result (dropped s is much told same) h lack = subst (λ r. IfErr r Q) (sym told) (subst (λ a. OnOk a (Q Memory)) is lack)
 held_err Q old new answer result (refused e is told same) h lack = subst (λ r. IfErr r Q) (sym told) (subst (λ a. IfErr a Q) is h)
 
 pub ok_then : {A P Q : Type 0} (answer : Result A Refusal) → OnOk answer P → (P → Q) → OnOk answer Q
@@ -45,7 +45,7 @@ always_memory (Err e) = tt
 
 pub held_within : (old new : ℕ) (answer result : Result State Refusal) → HoldsState old new answer result → GivesWithin old new result
 held_within old new answer result (held s is told low more) = subst (GivesWithin old new) (sym told) (low, more)
-held_within old new answer result (dropped s is told same) = subst (GivesWithin old new) (sym told) same
+held_within old new answer result (dropped s is much told same) = subst (GivesWithin old new) (sym told) same
 held_within old new answer result (refused e is told same) = subst (GivesWithin old new) (sym told) same
 
 -- at a live side
@@ -57,7 +57,7 @@ module _ {S : Type 0} (is_live : S → Type 0) (states : S → States) where
   pub held_live : (key : Key) (old new : S) (before after : ℕ) (answer result : Result State Refusal) → HoldsState before after answer result → TellsOne is_live states StateTold key answer old new → TellsOne is_live states StateTold key result old new
   held_live key old new before after answer result (held s is told low more) h = subst (λ r. TellsOne is_live states StateTold key r old new) (is ∙ sym told) h
   held_live key old new before after answer result (refused e is told same) h = subst (λ r. TellsOne is_live states StateTold key r old new) (is ∙ sym told) h
-  held_live key old new before after answer result (dropped s is told same) h =
+  held_live key old new before after answer result (dropped s is much told same) h =
       subst (λ r. TellsOne is_live states StateTold key r old new) (sym told)
       (λ _ live. let g = subst (λ a. TellsOne is_live states StateTold key a old new) is h (λ e. absurd (cc)) live in (g.0, g.1, lacks_live key s (states old) (states new) g.1 g.2))
 

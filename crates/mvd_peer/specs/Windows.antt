@@ -63,7 +63,8 @@ IsNode held path d =
 pub data HoldsState (old new : ℕ) (answer result : Result State Refusal) : Type 0 where
   held : (state : State) → answer ≡ Ok state → result ≡ Ok state → old < 1048576
       → new ≡ min (old + length (spell_state state)) (2 ^ 64 - 1) → HoldsState old new answer result
-  dropped : (state : State) → answer ≡ Ok state → result ≡ Err Memory → new ≡ old → HoldsState old new answer result
+  dropped : (state : State) → answer ≡ Ok state → 1048576 ≤ old → result ≡ Err Memory → new ≡ old
+      → HoldsState old new answer result
   refused : (refusal : Refusal) → answer ≡ Err refusal → result ≡ Err refusal → new ≡ old
       → HoldsState old new answer result
 

@@ -12,8 +12,7 @@ use Rattle.mvd_site.specs.Config.{ConfigValue}
 use Rattle.mvd_site.specs.FromStates.{after_from}
 use Rattle.mvd_site.specs.Held.{States}
 use Rattle.mvd_site.specs.Sites.{SiteValue}
-use Rattle.mvd_model.specs.TheStore.{AddAll, AreAmong, Event, Happen, Knows, Opened, Site, config}
-use Rattle.mvd_replica.specs.Batch.{AreAmongTurns as AreAmongTurns, HoldsLost, Loses, lost_requests}
+use Rattle.mvd_model.specs.TheStore.{AddAll, AreAmong, Happen, Knows, Opened, Site, config}
 use Rattle.mvd_replica.specs.File.{HoldsFile, IsFoundAt}
 use Rattle.mvd_replica.specs.Restarts.{Run}
 use Rattle.mvd_replica.specs.Turns.{AreUndoneIn, Turn}
@@ -27,10 +26,12 @@ use Rattle.mvd_replica.proofs.RestoredOrder.{just_one}
 use Rattle.sqlite.specs.Effect.{Database}
 use Rattle.sqlite.specs.Recovery.{Image}
 use Rattle.sqlite.specs.State.{State}
-use Rattle.mvd_runs.specs.Events.{AreEvents, IsSiteKnown, events_of}
+use Rattle.mvd_runs.specs.Calls.{AreUndoneAtOnce, HoldsUndone, all_turns}
+use Rattle.mvd_runs.specs.Events.{AreEvents, AreTurns, IsSiteKnown, events_of}
 use Rattle.mvd_runs.specs.Files.{AreChained, Begins, CarriedRuns, Closes, IsFile, IsNewFile, IsValidTurn, Passed, Passes, PassesFrom, Stops, setup_of}
 use Rattle.mvd_model.proofs.Placing.{adds_some, placed, placed_at, placed_else}
-use Rattle.mvd_runs.proofs.Telling.{come}
+use Rattle.mvd_runs.proofs.Calling.{back_of, front_of, none_at_once}
+use Rattle.mvd_runs.proofs.Telling.{come, happen_append}
 
 -- ---- what requests add
 
@@ -75,24 +76,12 @@ valid_undone (turn ∷ turns) (request ∷ requests) (valid, others) h = ⊎_eli
     (λ later. valid_undone turns (request ∷ requests) others later)
     h
 
-undone_later : (front turns : List Turn) (requests : List Request) → AreUndoneIn turns requests → AreUndoneIn (front ++ turns) requests
-undone_later [] turns requests h = h
-undone_later (turn ∷ front) turns [] h = tt
-undone_later (turn ∷ front) turns (request ∷ requests) h = inr (undone_later front turns (request ∷ requests) h)
-
-undone_among : (turns : List Turn) (requests : List Request) → AreAmongTurns requests turns → AreUndoneIn turns requests
-undone_among turns [] h = tt
-undone_among [] (request ∷ requests) h = absurd h
-undone_among (turn ∷ turns) (request ∷ requests) h = ⊎_elim
-    (λ here. inl ((here.0.0, inr here.0.1), undone_among turns requests here.1))
-    (λ later. inr (undone_among turns (request ∷ requests) later))
+valid_at_once : (calls : List (List Turn)) (requests : List Request) → AllByRecursion IsValidTurn (all_turns calls) → AreUndoneAtOnce calls requests → AllByRecursion IsValidRequest requests
+valid_at_once [] requests valid none = subst (AllByRecursion IsValidRequest) (sym none) tt
+valid_at_once (turns ∷ calls) requests valid h = ⊎_elim
+    (λ here. valid_undone turns requests (front_of IsValidTurn turns (all_turns calls) valid) here)
+    (λ later. valid_at_once calls requests (back_of IsValidTurn turns (all_turns calls) valid) later.1)
     h
-
--- what was lost was undone
-lost_undone : (turns : List Turn) (site : SiteValue) (lost : Loses turns site) → AreUndoneIn turns (lost_requests lost)
-lost_undone turns site lost = subst (λ ts. AreUndoneIn ts (lost_requests lost)) (sym lost.all)
-    (undone_later lost.before (lost.broke ∷ lost.later) (lost_requests lost)
-    (inl ((lost.asked.0, inr lost.asked.1), undone_among lost.later lost.rest lost.among)))
 
 -- ---- what was found
 
@@ -112,15 +101,15 @@ record IsFoundAs (a : Knows) (i : ℕ) (states : States) : Type 0 where
 none_among : (requests : List Request) → AreAmong [] requests
 none_among requests = tt
 
-of_file : {C : Type 0} (f : C → State) (i : ℕ) (run : Run C) (begins : Begins f run) (a : Knows) (sound : IsSound (f run.before)) → IsFile a i run.image ⊎ IsNewFile a i run.image → IsFoundAs a i run.old.states
-of_file f i run begins a sound (inl file) = record {
+of_file : {C : Type 0} (f : C → State) (i : ℕ) (calls : List (List Turn)) (run : Run C) (begins : Begins f calls run) (a : Knows) (sound : IsSound (f run.before)) → IsFile a i run.image ⊎ IsNewFile a i run.image → IsFoundAs a i run.old.states
+of_file f i calls run begins a sound (inl file) = record {
   some = file.some;
   among = file.among;
   added = file.added;
   adds = file.adds;
   stands = subst (λ m. Stands m ((a i).known ++ file.added)) (sym ((begins.opens sound).just i file.states file.holds)) file.stands;
 }
-of_file f i run begins a sound (inr new) =
+of_file f i calls run begins a sound (inr new) =
     let it = begins.opens sound in
     let is : run.old.states ≡ empty = just_one it.was run.old.states empty (it.opened (new.ours it.was it.found)).spelled (just_none it.was (new.none it.was it.found).0 (new.none it.was it.found).1) in
     record {
@@ -133,9 +122,9 @@ of_file f i run begins a sound (inr new) =
 
 -- ---- a run
 
-module _ {C : Type 0} (f : C → State) (i : ℕ) (run : Run C) (begins : Begins f run) (number : run.config.site ≡ i) (a : Knows) (sound : IsSound (f run.before)) (file : IsFile a i run.image ⊎ IsNewFile a i run.image) where
+module _ {C : Type 0} (f : C → State) (i : ℕ) (calls : List (List Turn)) (run : Run C) (begins : Begins f calls run) (number : run.config.site ≡ i) (a : Knows) (sound : IsSound (f run.before)) (file : IsFile a i run.image ⊎ IsNewFile a i run.image) where
   found : IsFoundAs a i run.old.states
-  found = of_file f i run begins a sound file
+  found = of_file f i calls run begins a sound file
 
   abbrev opened : Site
   opened = record { setup = setup_of run.config; known = (a i).known ++ found.added; refused = []; broken = false }
@@ -151,47 +140,48 @@ module _ {C : Type 0} (f : C → State) (i : ℕ) (run : Run C) (begins : Begins
       (λ h. record { config = h.0; broken = h.1.0; stands = h.1.1 })
       (begins.config ∙ configured, (begins.whole, found.stands))
 
-  came : AreEvents after_open i run.turns run.new
-  came = come after_open i run.turns run.old run.new begins.turns is_site
+  came : AreEvents after_open i calls run.new
+  came = come after_open i calls run.old run.new (subst (λ (ts : List Turn). AreTurns ts run.old run.new) begins.all begins.turns) is_site
+
+  opened_whole : (after_open i).broken ≡ false
+  opened_whole = ap (λ (s : Site). s.broken) (placed_at a i opened)
 
   numbered : run.new.config.site ≡ i
   numbered = ap (λ (c : ConfigValue). c.site) (begins.turns.config ∙ begins.config) ∙ number
 
   -- the file holds what the site then has, and what some requests were to change that it refused
   abbrev Leaves : Type 0
-  Leaves = (some : List Request) × AreUndoneIn run.turns some × HoldsFile run.left i (after_all run.new.config run.new.states some)
+  Leaves = (some : List Request) × AreUndoneAtOnce calls some × HoldsFile run.left i (after_all run.new.config run.new.states some)
 
   -- what it leaves in the file passes on
-  passes : Leaves → PassesFrom a i (setup_of run.config) run.turns run.left
+  passes : Leaves → PassesFrom a i (setup_of run.config) calls run.left
   passes (some, undone, holds) = (
     found.some,
     came.end,
-    (after_open, ((found.among, found.added, found.adds, placed_at a i opened), λ j other. placed_else a i opened j other), came.happen),
-    file_of came.end i run.left run.new some came.site (came.refused some undone) (valid_undone run.turns some begins.valid undone) holds,
+    (after_open, ((found.among, found.added, found.adds, placed_at a i opened), λ j other. placed_else a i opened j other), subst (λ b. Happen after_open (events_of i b calls) came.end) opened_whole came.happen),
+    file_of came.end i run.left run.new some came.site (came.refused opened_whole some undone)
+        (valid_at_once calls some (subst (AllByRecursion IsValidTurn) begins.all begins.valid) undone) holds,
     λ j other. came.others j other ∙ placed_else a i opened j other,
   )
 
   -- ---- that closed its file
 
-  none_undone : (turns : List Turn) → AreUndoneIn turns []
-  none_undone turns = tt
-
-  module _ (closes : Closes f run) where
+  module _ (closes : Closes f calls run) where
     held_before : HoldsSite run.old (f run.before).committed
     held_before = let it = begins.opens sound in (it.opened (ours_found a i run.image it.was it.found file)).holds
 
     closed_as : (is : Bool) → run.new.broken ≡ is → Leaves
     closed_as false whole = (
       [],
-      none_undone run.turns,
+      none_at_once calls,
       closes.closes i run.new.states
-          (subst (λ n. HoldsStates n run.new.states (f run.after).committed) numbered (closes.holds whole (closes.follows.holds closes.sound held_before))),
+          (subst (λ n. HoldsStates n run.new.states (f run.after).committed) numbered (closes.holds whole (closes.follows.store.holds closes.sound held_before))),
     )
     closed_as true broken =
-        let it : HoldsLost run.turns run.new (f run.after).committed = closes.follows.stored closes.sound held_before begins.whole broken in (
-          lost_requests it.lost,
-          lost_undone run.turns run.new it.lost,
-          closes.closes i _ (subst (λ n. HoldsStates n (after_all run.new.config run.new.states (lost_requests it.lost)) (f run.after).committed) numbered it.holds),
+        let it : HoldsUndone calls run.new (f run.after).committed = closes.follows.store.stored closes.sound held_before begins.whole broken in (
+          it.some,
+          it.undone,
+          closes.closes i _ (subst (λ n. HoldsStates n (after_all run.new.config run.new.states it.some) (f run.after).committed) numbered it.holds),
         )
 
     closed : Leaves
@@ -199,7 +189,7 @@ module _ {C : Type 0} (f : C → State) (i : ℕ) (run : Run C) (begins : Begins
 
   -- ---- that was stopped
 
-  module _ (stops : Stops f run) where
+  module _ (stops : Stops f calls run) where
     stopped : Leaves
     stopped =
         let rests = stops.rests in
@@ -210,26 +200,22 @@ module _ {C : Type 0} (f : C → State) (i : ℕ) (run : Run C) (begins : Begins
               (held_in_file run.left run.new.config.site _ stops.trees it.left stops.holds),
         )
 
-pub run_closed : {C : Type 0} (f : C → State) (i : ℕ) (run : Run C) → Begins f run → run.config.site ≡ i → Closes f run → Passes i (setup_of run.config) run.turns run.image run.left
-run_closed f i run begins number closes a file =
-    let sound : IsSound (f run.before) = closes.follows.sound closes.sound in
-    passes f i run begins number a sound file (closed f i run begins number a sound file closes)
+pub run_closed : {C : Type 0} (f : C → State) (i : ℕ) (calls : List (List Turn)) (run : Run C) → Begins f calls run → run.config.site ≡ i → Closes f calls run → Passes i (setup_of run.config) calls run.image run.left
+run_closed f i calls run begins number closes a file =
+    let sound : IsSound (f run.before) = closes.follows.store.sound closes.sound in
+    passes f i calls run begins number a sound file (closed f i calls run begins number a sound file closes)
 
-pub run_stopped : {C : Type 0} (f : C → State) (i : ℕ) (run : Run C) → Begins f run → run.config.site ≡ i → Stops f run → Passes i (setup_of run.config) run.turns run.image run.left
-run_stopped f i run begins number stops a file =
-    passes f i run begins number a stops.opened file (stopped f i run begins number a stops.opened file stops)
+pub run_stopped : {C : Type 0} (f : C → State) (i : ℕ) (calls : List (List Turn)) (run : Run C) → Begins f calls run → run.config.site ≡ i → Stops f calls run → Passes i (setup_of run.config) calls run.image run.left
+run_stopped f i calls run begins number stops a file =
+    passes f i calls run begins number a stops.opened file (stopped f i calls run begins number a stops.opened file stops)
 
 -- ---- many runs
 
-happen_append : (a b end : Knows) (first rest : List Event) → Happen a first b → Happen b rest end → Happen a (first ++ rest) end
-happen_append a b end [] rest is later = subst (λ k. Happen k rest end) is later
-happen_append a b end (event ∷ first) rest (c, next, happen) later = (c, next, happen_append c b end first rest happen later)
-
-after_one : (i : ℕ) (image : Image) (a : Knows) (run : Passed) (runs : List Passed) (h : PassesFrom a i run.setup run.turns run.after) → CarriedRuns h.1 i run.after runs → CarriedRuns a i image (run ∷ runs)
+after_one : (i : ℕ) (image : Image) (a : Knows) (run : Passed) (runs : List Passed) (h : PassesFrom a i run.setup run.calls run.after) → CarriedRuns h.1 i run.after runs → CarriedRuns a i image (run ∷ runs)
 after_one i image a run runs h t = record {
-  events = (Opened i run.setup h.0 ∷ events_of i run.turns) ++ t.events;
+  events = (Opened i run.setup h.0 ∷ events_of i false run.calls) ++ t.events;
   end = t.end;
-  happen = happen_append a h.1 t.end (Opened i run.setup h.0 ∷ events_of i run.turns) t.events h.2 t.happen;
+  happen = happen_append a h.1 t.end (Opened i run.setup h.0 ∷ events_of i false run.calls) t.events h.2 t.happen;
   tell = (h.0, t.events, refl, t.tell);
   file = t.file;
   others = λ j other. t.others j other ∙ h.4 j other;

@@ -1,3 +1,4 @@
+pub mod Calling
 pub mod Telling
 pub mod Filing
 pub mod Pushing

@@ -14,7 +14,7 @@ use Rattle.mvd_replica.specs.ReplicaCalls.{PushesState}
 use Rattle.mvd_replica.specs.Replicas.{site_of, store_of, stored_of}
 use Rattle.sqlite_trees.specs.declared.store.Store.{Ghosts}
 use Rattle.mvd_runs.specs.Sessions.{SideTakes, push_turn}
-use Rattle.mvd_runs.proofs.Pushing.{asks_push, push_takes, valid_push}
+use Rattle.mvd_runs.proofs.Pushing.{asks_push, push_takes, side_one, valid_push}
 
 told_broken : (old new : SiteValue) (result : Result (Unit {0}) Refusal) → IfErr result (λ refusal. refusal ≡ Broken → new ≡ broken_site old) → IfErr result (λ refusal. refusal ≡ Broken → new.broken ≡ true)
 told_broken old new (Ok done) told = tt
@@ -27,9 +27,6 @@ state_pushed old new key pushed result it =
     (told_broken (site_of old) (site_of new) result it.told) it.unchanged it.valid it.follows it.leaves it.form
 
 pub side_push : {S : Type 0} {g : Ghosts S} (old new : Replica S g) (key : Key) (pushed : State) (result : Result (Unit {0}) Refusal) → IsValid pushed → PushesState old key pushed result new → SideTakes (stored_of old) (stored_of new)
-side_push old new key pushed result valid it = record {
-  turns = push_turn key pushed (push_reply result) ∷ [];
-  pushes = asks_push key pushed (push_reply result);
-  valid = valid_push key pushed (push_reply result) valid;
-  takes = state_pushed old new key pushed result it;
-}
+side_push old new key pushed result valid it =
+    side_one (push_turn key pushed (push_reply result) ∷ []) (site_of old) (site_of new) (store_of old) (store_of new) (asks_push key pushed (push_reply result))
+    (valid_push key pushed (push_reply result) valid) (state_pushed old new key pushed result it)

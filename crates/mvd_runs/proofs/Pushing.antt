@@ -28,8 +28,10 @@ use Rattle.mvd_replica.proofs.Positions.{AnswersAll, ReplicaFollows, SideFollows
 use Rattle.mvd_replica.proofs.Pushed.{follows_pushes}
 use Rattle.sqlite.specs.Effect.{Database}
 use Rattle.sqlite.specs.State.{State}
+use Rattle.mvd_runs.specs.Calls.{all_turns}
 use Rattle.mvd_runs.specs.Files.{IsValidTurn}
 use Rattle.mvd_runs.specs.Sessions.{AsksPush, SideTakes, push_turn}
+use Rattle.mvd_runs.proofs.Calling.{both, calls_append, calls_none, calls_one, turns_append, turns_one}
 
 pub lost_one : (request : Request) (reply : Reply) (site : SiteValue) (db : Database) → reply ≡ Refused Broken → HoldsBroken (λ asked. asked ≡ request) site db → HoldsLost (record { asked = Ok request; reply = reply } ∷ []) site db
 lost_one request reply site db told holds = record {
@@ -136,23 +138,30 @@ valid_push key s reply valid = ((λ request is. subst IsValidRequest (sym (the_p
 -- ---- a session
 
 pub side_none : (site : SiteValue) (s : State) → SideTakes (stored_site site s) (stored_site site s)
-side_none site s = record { turns = []; pushes = tt; valid = tt; takes = TakesTurns-none site s }
+side_none site s = record { calls = []; pushes = tt; valid = tt; takes = TakesTurns-none site s; follows = calls_none (stored_site site s) }
 
-pub both : (P : Turn → Type 0) (first second : List Turn) → AllByRecursion P first → AllByRecursion P second → AllByRecursion P (first ++ second)
-both P [] second one other = other
-both P (turn ∷ first) second one other = (one.0, both P first second one.1 other)
+pub side_one : (turns : List Turn) (old new : SiteValue) (before after : State) → AllByRecursion AsksPush turns → AllByRecursion IsValidTurn turns → TakesTurns turns old new before after → SideTakes (stored_site old before) (stored_site new after)
+side_one turns old new before after pushes valid takes = record {
+  calls = turns ∷ [];
+  pushes = subst (AllByRecursion AsksPush) (sym (turns_one turns)) pushes;
+  valid = subst (AllByRecursion IsValidTurn) (sym (turns_one turns)) valid;
+  takes = subst (λ (ts : List Turn). TakesTurns ts old new before after) (sym (turns_one turns)) takes;
+  follows = calls_one turns (stored_site old before) (stored_site new after) takes.follows;
+}
 
 pub side_append : (old mid new : SiteValue) (before between after : State) → SideTakes (stored_site old before) (stored_site mid between) → SideTakes (stored_site mid between) (stored_site new after) → SideTakes (stored_site old before) (stored_site new after)
 side_append old mid new before between after p q = record {
-  turns = p.turns ++ q.turns;
-  pushes = both AsksPush p.turns q.turns p.pushes q.pushes;
-  valid = both IsValidTurn p.turns q.turns p.valid q.valid;
-  takes = TakesTurns-append p.turns q.turns old mid new before between after p.takes q.takes;
+  calls = p.calls ++ q.calls;
+  pushes = subst (AllByRecursion AsksPush) (sym (turns_append p.calls q.calls)) (both AsksPush (all_turns p.calls) (all_turns q.calls) p.pushes q.pushes);
+  valid = subst (AllByRecursion IsValidTurn) (sym (turns_append p.calls q.calls)) (both IsValidTurn (all_turns p.calls) (all_turns q.calls) p.valid q.valid);
+  takes = subst (λ (ts : List Turn). TakesTurns ts old new before after) (sym (turns_append p.calls q.calls))
+      (TakesTurns-append (all_turns p.calls) (all_turns q.calls) old mid new before between after p.takes q.takes);
+  follows = calls_append p.calls q.calls (stored_site old before) (stored_site mid between) (stored_site new after) p.follows q.follows p.takes.told;
 }
 
 -- what is said of a session today follows from its turns, and from how its states came
 pub side_follows : (old new : SiteValue) (before after : State) → SideTakes (stored_site old before) (stored_site new after) → ComesByPushes (λ _ _. Unit {0}) old.states new.states → SideFollows old new before after
-side_follows old new before after it comes = follows_pushes it.turns old new before after it.pushes it.takes.follows comes
+side_follows old new before after it comes = follows_pushes (all_turns it.calls) old new before after it.pushes it.takes.follows comes
 
 -- a window of pushes
 pushes_asked : (pairs : List (Key × Keyed)) (turns : List Turn) → map (λ (t : Turn). t.asked) turns ≡ map (λ (request : Request). Ok request) (map push_of pairs) → Each (λ (p : Key × Keyed). IsValid p.1) pairs → AllByRecursion AsksPush turns × AllByRecursion IsValidTurn turns
@@ -171,7 +180,7 @@ pushes_asked (p ∷ pairs) (turn ∷ turns) e valid =
 pub side_window : (pairs : List (Key × Keyed)) (replies : List Reply) (old new : SiteValue) (before after : State) → Each (λ (p : Key × Keyed). IsValid p.1) pairs → AnswersAll (map push_of pairs) replies old new before after → SideTakes (stored_site old before) (stored_site new after)
 side_window pairs replies old new before after valid it =
     let asked = pushes_asked pairs it.turns it.asked valid in
-    record { turns = it.turns; pushes = asked.0; valid = asked.1; takes = it.takes }
+    side_one it.turns old new before after asked.0 asked.1 it.takes
 
 -- ---- one push
 

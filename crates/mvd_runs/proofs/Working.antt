@@ -20,26 +20,45 @@ use Rattle.mvd_replica.specs.ReplicaCalls.{ReplicaAnswers}
 use Rattle.mvd_replica.specs.Replicas.{site_of, store_of, stored_of}
 use Rattle.mvd_replica.specs.Restored.{HasWrites}
 use Rattle.mvd_replica.specs.Turns.{IsToldElse, MayReplyStored, RepliesOne, Turn}
-use Rattle.mvd_replica.proofs.Batched.{TakesTurns-none, TurnsFollow-append}
+use Rattle.mvd_replica.proofs.Batched.{TakesTurns-none}
 use Rattle.mvd_replica.proofs.Batching.{HasChoice-turn}
 use Rattle.mvd_replica.proofs.Positions.{TakesTurns, TurnsFollow, stored_site}
 use Rattle.mvd_replica.proofs.Replying.{HasChoice-append, Replies-append, Replies-one, StandsOn-append, StandsOn-one}
+use Rattle.mvd_runs.specs.Calls.{CallsFollow, all_turns}
+use Rattle.mvd_runs.specs.Events.{AreTurns}
 use Rattle.mvd_runs.specs.Files.{IsValidTurn, WorksBy}
-use Rattle.mvd_runs.proofs.Pushing.{both, lost_one}
+use Rattle.mvd_runs.proofs.Calling.{both, calls_append, calls_none, calls_one, turns_append, turns_one}
+use Rattle.mvd_runs.proofs.Pushing.{lost_one}
 
-abbrev pub Works : List Turn → SiteValue → SiteValue → State → State → Type 0
-Works turns old new before after = WorksBy turns (stored_site old before) (stored_site new after)
+abbrev pub Works : List (List Turn) → SiteValue → SiteValue → State → State → Type 0
+Works calls old new before after = WorksBy calls (stored_site old before) (stored_site new after)
 
-pub works_turns : (turns : List Turn) (old new : SiteValue) (before after : State) → AllByRecursion IsValidTurn turns → TakesTurns turns old new before after → Works turns old new before after
-works_turns turns old new before after valid takes = record {
+-- calls that took these turns
+pub works_calls : (calls : List (List Turn)) (old new : SiteValue) (before after : State) → AllByRecursion IsValidTurn (all_turns calls) → TakesTurns (all_turns calls) old new before after →
+    CallsFollow calls (stored_site old before) (stored_site new after) → Works calls old new before after
+works_calls calls old new before after valid takes follows = record {
   site = record { replies = takes.replies; stands = takes.stands; config = takes.config; choice = takes.choice };
   valid = valid;
   told = takes.told;
-  follows = takes.follows;
+  follows = follows;
 }
 
+-- a call, by what is said of its turns
+pub works_one : (turns : List Turn) (old new : SiteValue) (before after : State) → AllByRecursion IsValidTurn turns → AreTurns turns old new → (new.broken ≡ false → AllByRecursion IsToldElse turns) → TurnsFollow turns old new before after →
+    Works (turns ∷ []) old new before after
+works_one turns old new before after valid are told follows = record {
+  site = subst (λ (ts : List Turn). AreTurns ts old new) (sym (turns_one turns)) are;
+  valid = subst (AllByRecursion IsValidTurn) (sym (turns_one turns)) valid;
+  told = λ whole. subst (AllByRecursion IsToldElse) (sym (turns_one turns)) (told whole);
+  follows = calls_one turns (stored_site old before) (stored_site new after) follows;
+}
+
+pub works_turns : (turns : List Turn) (old new : SiteValue) (before after : State) → AllByRecursion IsValidTurn turns → TakesTurns turns old new before after → Works (turns ∷ []) old new before after
+works_turns turns old new before after valid takes =
+    works_one turns old new before after valid (record { replies = takes.replies; stands = takes.stands; config = takes.config; choice = takes.choice }) takes.told takes.follows
+
 pub works_none : (site : SiteValue) (s : State) → Works [] site site s s
-works_none site s = works_turns [] site site s s tt (TakesTurns-none site s)
+works_none site s = works_calls [] site site s s tt (TakesTurns-none site s) (calls_none (stored_site site s))
 
 -- ---- one after the other
 
@@ -47,17 +66,18 @@ whole_before : (mid new : SiteValue) (is : Bool) → mid.broken ≡ is → SiteF
 whole_before mid new false is follows whole = is
 whole_before mid new true is follows whole = absurd (true≢false (sym is ∙ sym (ap (λ (s : SiteValue). s.broken) (follows.1 is)) ∙ whole))
 
-pub works_append : (first second : List Turn) (old mid new : SiteValue) (before between after : State) → Works first old mid before between → Works second mid new between after → Works (first ++ second) old new before after
+pub works_append : (first second : List (List Turn)) (old mid new : SiteValue) (before between after : State) → Works first old mid before between → Works second mid new between after → Works (first ++ second) old new before after
 works_append first second old mid new before between after one other = record {
-  site = record {
-    replies = Replies-append old mid new first second one.site.config one.site.replies other.site.replies;
-    stands = StandsOn-append old mid new first second one.site.stands other.site.stands;
+  site = subst (λ (ts : List Turn). AreTurns ts old new) (sym (turns_append first second)) (record {
+    replies = Replies-append old mid new (all_turns first) (all_turns second) one.site.config one.site.replies other.site.replies;
+    stands = StandsOn-append old mid new (all_turns first) (all_turns second) one.site.stands other.site.stands;
     config = other.site.config ∙ one.site.config;
-    choice = HasChoice-append first second one.site.choice other.site.choice;
-  };
-  valid = both IsValidTurn first second one.valid other.valid;
-  told = λ whole. both IsToldElse first second (one.told (whole_before mid new mid.broken refl other.follows.site whole)) (other.told whole);
-  follows = TurnsFollow-append first second old mid new before between after one.follows other.follows one.told;
+    choice = HasChoice-append (all_turns first) (all_turns second) one.site.choice other.site.choice;
+  });
+  valid = subst (AllByRecursion IsValidTurn) (sym (turns_append first second)) (both IsValidTurn (all_turns first) (all_turns second) one.valid other.valid);
+  told = λ whole. subst (AllByRecursion IsToldElse) (sym (turns_append first second))
+      (both IsToldElse (all_turns first) (all_turns second) (one.told (whole_before mid new mid.broken refl other.follows.site whole)) (other.told whole));
+  follows = calls_append first second (stored_site old before) (stored_site mid between) (stored_site new after) one.follows other.follows one.told;
 }
 
 -- ---- a request that was asked
@@ -109,7 +129,7 @@ module _ {S : Type 0} {g : Ghosts S} (old new : Replica S g) (request : Request)
   the_request : (other : Request) → ◌≡◌ {A = Result Request Refusal} (Ok request) (Ok other) → other ≡ request
   the_request other e = cc
 
-  pub works_asked : WorksBy (turn ∷ []) (stored_of old) (stored_of new)
+  pub works_asked : WorksBy ((turn ∷ []) ∷ []) (stored_of old) (stored_of new)
   works_asked = record {
     site = record {
       replies = Replies-one (site_of old) (site_of new) turn one;
@@ -119,7 +139,7 @@ module _ {S : Type 0} {g : Ghosts S} (old new : Replica S g) (request : Request)
     };
     valid = ((λ other is. subst IsValidRequest (sym (the_request other is)) valid), tt);
     told = λ whole. ((λ other is. whole_told (site_of old).config writes.0 (site_of old).broken (site_of new).broken request reply may whole is.1), tt);
-    follows = follows_one;
+    follows = calls_one (turn ∷ []) (stored_of old) (stored_of new) follows_one;
   }
 
   -- and there are writes that the site then stands for

@@ -10,6 +10,7 @@ use Rattle.mvd_replica.specs.Batch.{TakesTurns}
 use Rattle.mvd_replica.specs.Replicas.{StoredSite}
 use Rattle.mvd_replica.specs.Sides.{IsPush}
 use Rattle.mvd_replica.specs.Turns.{Turn}
+use Rattle.mvd_runs.specs.Calls.{CallsFollow, all_turns}
 use Rattle.mvd_runs.specs.Files.{IsValidTurn}
 
 -- a push with its reply
@@ -20,9 +21,10 @@ push_turn key s reply = record { asked = Ok (Push key s); reply = reply }
 abbrev pub AsksPush : Turn → Type 0
 AsksPush turn = (request : Request) → turn.asked ≡ Ok request → IsPush request
 
--- What calls of a session did to a replica: its turns, each of which pushed the state of some writes
+-- What calls of a session did to a replica: the turns of each, which pushed states of some writes
 pub record SideTakes (old new : StoredSite) : Type 0 where
-  pub turns : List Turn
-  pub pushes : AllByRecursion AsksPush turns
-  pub valid : AllByRecursion IsValidTurn turns
-  pub takes : TakesTurns turns old new
+  pub calls : List (List Turn)
+  pub pushes : AllByRecursion AsksPush (all_turns calls)
+  pub valid : AllByRecursion IsValidTurn (all_turns calls)
+  pub takes : TakesTurns (all_turns calls) old new
+  pub follows : CallsFollow calls old new

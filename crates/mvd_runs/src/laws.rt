@@ -37,6 +37,7 @@ ghost use Rattle.sqlite.specs.State.{HasCleanDisk};
 ghost use Rattle.sqlite.specs.Tree.{Trees};
 ghost use Rattle.sqlite.specs.WalFiles.{outcomes};
 ghost use Rattle.sqlite.specs.WalReads.{AreClean};
+ghost use Rattle.mvd_runs.specs.Calls.{all_turns};
 ghost use Rattle.mvd_runs.specs.Events.{AreEvents, AreTurns, IsSiteKnown};
 ghost use Rattle.mvd_runs.specs.Files.{AreChained, Begins, CarriedRuns, Closes, IsFile, IsNewFile, Passed, Passes};
 ghost use Rattle.mvd_runs.specs.Files.{IsValidTurn, Stops, WorksBy, setup_of};
@@ -46,10 +47,10 @@ use mvd_replica::Replica;
 use sqlite::{Alter, FileStore, Files};
 use sqlite_disk::Disk;
 
-/// Turns of a site, of a connection, of rounds of many or of requests at once, are events of the store.
+/// Turns of a site, of a connection, of rounds of many or of requests at once, are events of the store, call by call.
 pub fn turns_are_events<S: Alter>()
-    ensures site { (a : Knows) (i : ℕ) (turns : List Turn) (old new : SiteValue) → AreTurns turns old new
-        → IsSiteKnown a i old → AreEvents a i turns new }
+    ensures site { (a : Knows) (i : ℕ) (calls : List (List Turn)) (old new : SiteValue)
+        → AreTurns (all_turns calls) old new → IsSiteKnown a i old → AreEvents a i calls new }
     ensures replica { (turns : List Turn) (old new : SiteValue) (before after : Held S)
         → TakesTurns turns (stored_by S.Store old before) (stored_by S.Store new after) → AreTurns turns old new }
     // What `Replica::answer` promises is one turn, and what `answer_all` promises one for each request.
@@ -63,24 +64,26 @@ pub fn turns_are_events<S: Alter>()
 /// opened, and the turns are events. What is known goes on through the file, so runs of any programs follow one
 /// another.
 pub fn a_run_is_events<S: Alter>()
-    ensures closed { (i : ℕ) (run : Run (Held S)) → Begins (state S.Store) run → run.config.site ≡ i
-        → Closes (state S.Store) run → Passes i (setup_of run.config) run.turns run.image run.left }
-    ensures stopped { (i : ℕ) (run : Run (Held S)) → Begins (state S.Store) run → run.config.site ≡ i
-        → Stops (state S.Store) run → Passes i (setup_of run.config) run.turns run.image run.left }
+    ensures closed { (i : ℕ) (calls : List (List Turn)) (run : Run (Held S)) → Begins (state S.Store) calls run
+        → run.config.site ≡ i → Closes (state S.Store) calls run
+        → Passes i (setup_of run.config) calls run.image run.left }
+    ensures stopped { (i : ℕ) (calls : List (List Turn)) (run : Run (Held S)) → Begins (state S.Store) calls run
+        → run.config.site ≡ i → Stops (state S.Store) calls run
+        → Passes i (setup_of run.config) calls run.image run.left }
 {}
 
-/// What is done to a replica is turns: nothing; one thing after the other; turns that a call tells; and a request that
+/// What is done to a replica is calls: nothing; one thing after the other; turns that a call tells; and a request that
 /// is asked.
 pub fn work_is_turns<S: Alter>()
     ensures none { (replica : Replica S S.Store) → WorksBy [] (stored_of replica) (stored_of replica) }
-    ensures on { (first second : List Turn) (old mid new : Replica S S.Store)
+    ensures on { (first second : List (List Turn)) (old mid new : Replica S S.Store)
         → WorksBy first (stored_of old) (stored_of mid)
         → WorksBy second (stored_of mid) (stored_of new) → WorksBy (first ++ second) (stored_of old) (stored_of new) }
     ensures turns { (turns : List Turn) (old new : Replica S S.Store) → AllByRecursion IsValidTurn turns
-        → TakesTurns turns (stored_of old) (stored_of new) → WorksBy turns (stored_of old) (stored_of new) }
+        → TakesTurns turns (stored_of old) (stored_of new) → WorksBy (turns ∷ []) (stored_of old) (stored_of new) }
     ensures asked { (old new : Replica S S.Store) (request : Request) (reply : Reply) → IsValidRequest request
         → HasWrites (site_of old) → ReplicaAnswers old new request reply
-        → WorksBy (record { asked = Ok request; reply = reply } ∷ []) (stored_of old) (stored_of new) }
+        → WorksBy ((record { asked = Ok request; reply = reply } ∷ []) ∷ []) (stored_of old) (stored_of new) }
 {}
 
 /// What the calls of a command promise of its file is such a run: it was opened as a site, work on the site was turns,
@@ -90,19 +93,19 @@ pub fn a_command_is_a_run<D: Disk + Drop>(
     new: &Replica<FileStore<D>>,
     files: &Files<D>,
 )
-    ensures closed { (i : ℕ) (image : Image) (config : ConfigValue) (turns : List Turn) → config.site ≡ i
-        → OpensAsSite image config (Ok old.now) → WorksBy turns (stored_of old.now) (stored_of new.now)
+    ensures closed { (i : ℕ) (image : Image) (config : ConfigValue) (calls : List (List Turn)) → config.site ≡ i
+        → OpensAsSite image config (Ok old.now) → WorksBy calls (stored_of old.now) (stored_of new.now)
         → AreClean D.Disk files.now.log files.now.db → ClosesInto new.now files.now
-        → Passes i (setup_of config) turns image (image_of D.Disk files.now) }
-    ensures left { (i : ℕ) (image after : Image) (config : ConfigValue) (turns : List Turn) → config.site ≡ i
-        → OpensAsSite image config (Ok old.now) → WorksBy turns (stored_of old.now) (stored_of new.now)
+        → Passes i (setup_of config) calls image (image_of D.Disk files.now) }
+    ensures left { (i : ℕ) (image after : Image) (config : ConfigValue) (calls : List (List Turn)) → config.site ≡ i
+        → OpensAsSite image config (Ok old.now) → WorksBy calls (stored_of old.now) (stored_of new.now)
         → AreClean D.Disk files.now.log files.now.db → ClosesInto new.now files.now
-        → outcomes D.Disk files.now.log files.now.db after → Passes i (setup_of config) turns image after }
-    ensures stopped { (i : ℕ) (image after : Image) (config : ConfigValue) (turns : List Turn) (trees : Trees)
+        → outcomes D.Disk files.now.log files.now.db after → Passes i (setup_of config) calls image after }
+    ensures stopped { (i : ℕ) (image after : Image) (config : ConfigValue) (calls : List (List Turn)) (trees : Trees)
         → config.site ≡ i → OpensAsSite image config (Ok old.now)
-        → WorksBy turns (stored_of old.now) (stored_of new.now) → HasCleanDisk (store_of new.now)
+        → WorksBy calls (stored_of old.now) (stored_of new.now) → HasCleanDisk (store_of new.now)
         → (store_of new.now).may_leave trees → ∥ HoldsDatabase after trees ∥₁
-        → Passes i (setup_of config) turns image after }
+        → Passes i (setup_of config) calls image after }
 {}
 
 /// The first run of all is on a new file: one in which no database is found, or an empty one.

@@ -21,6 +21,7 @@ use Rattle.mvd_host.proofs.Own.{own-append, own-other, own-same}
 use Rattle.mvd_host.proofs.Within.{within}
 use Rattle.mvd_host.specs.AtHand.{AtHandValue, TakesFirst, asked_by_one, asks_of, first_at_hand}
 use Rattle.mvd_host.specs.Course.{own}
+use Rattle.mvd_host.specs.Feeds.{FeedValue}
 use Rattle.mvd_host.specs.Hosts.{HostValue}
 use Rattle.mvd_host.specs.Round.{AnswersAtHand}
 use Rattle.mvd_http.specs.Guard.{Named}
@@ -34,18 +35,20 @@ use Rattle.mvd_server.proofs.Keyed.{found_at}
 use Rattle.mvd_server.proofs.Writing.{responded, told_ends}
 use Rattle.mvd_server.specs.Admitted.{Decides}
 use Rattle.mvd_server.specs.Batches.{BeginsBatch, HandsBatch, asked_if, asked_in, is_web_request}
-use Rattle.mvd_server.specs.Errands.{Asks as Taking, AsksAtHand, AsksNextOf, AsksOne, Desk, DoesPlan, Errand, Forgoes, IsBatchFor, KeepsWrites, RunsErrand, Stops, StopsIf, TakesIf, Tells, TellsAllLines, TellsBatch, TellsChange, TellsMany, TellsOrWaits, batch_in}
+use Rattle.mvd_server.specs.Errands.{Asks as Taking, AsksAtHand, AsksNextOf, AsksOne, Desk, DoesPlan, Errand, Forgoes, IsBatchFor, KeepsWrites, RunsErrand, Stops, StopsIf, TakesIf, Tells, TellsAllLines, TellsBatch, TellsChange, TellsHealth, TellsMany, TellsNews, TellsOrWaits, batch_in, root_text}
 use Rattle.mvd_server.specs.Listings.{TellsListed}
 use Rattle.mvd_server.specs.Plans.{IsFreePlan, IsPlanFor, IsPlanIf, IsPlanOf, TellsMethods}
-use Rattle.mvd_server.specs.Questions.{TellsAsks, TellsBadLine}
+use Rattle.mvd_server.specs.Questions.{TellsAsks, TellsBadLine, TellsText}
 use Rattle.mvd_server.specs.Responding.{AnswersWeb, RefusesWeb, TellsBody, json_answer}
 use Rattle.mvd_server.specs.Rounds.{IsAllowed, KnowsPass, with_round}
-use Rattle.mvd_server.specs.Talking.{Attends, Begins, Calls, Comes, ComesByWeb, ComesOwn, Deed, Drops, Goes, GoesOwn, Hands, IsWriting, MayBeginWrites, Rotates, Talking, TurnsBack, new_talking, web_in, with_host, with_web}
+use Rattle.mvd_server.specs.Since.{followed_in, since_told}
+use Rattle.mvd_server.specs.Talking.{Act, Attends, Begins, Calls, Comes, ComesByWeb, ComesOwn, DoesAct, Drops, Follows, Goes, GoesOwn, Hands, IsWriting, MayBeginWrites, Rotates, Talking, TurnsBack, new_talking, web_in, with_host, with_web}
 use Rattle.mvd_server.specs.Wires.{GivesOut, SendsBy, TakesBy, TakesInput}
 use Rattle.mvd_server.specs.declared.batch.Batch.{Batch}
 use Rattle.mvd_server.specs.declared.gate.Plan.{Plan}
 use Rattle.mvd_server.specs.declared.gate.Plan.TheVariants as plan
 use Rattle.mvd_server.specs.declared.gate.Rest.{Rest}
+use Rattle.mvd_site.specs.Held.{States}
 use Rattle.mvd_site.specs.Sites.{SiteValue}
 use Rattle.mvd_web.specs.Asked.{IsEntry, right_in, shown_by}
 use Rattle.mvd_web.specs.Inside.{web_of}
@@ -125,9 +128,21 @@ looks_asks true old new none = inl none.asked
 
 -- ---- what is done
 
-waits_asks : (since : Option (List ℕ)) (wait : ℕ) (old new : WebValue) (left : Rest) → TellsOrWaits since wait old new left → StillAsks old new
-waits_asks since wait old new left (inl (none, body)) = body_asks content.Json old new body
-waits_asks since wait old new left (inr (root, some, waits, same)) = same_asks old new same
+text_asks : (kind : Content) (told : Result (List ℕ) Refusal) (old new : WebValue) → TellsText kind told old new → StillAsks old new
+text_asks kind told old new (inl (text, is, responds)) = responded old.asked old _ text new responds
+text_asks kind told old new (inr (refusal, refuses)) = refuses_asks refusal old new refuses
+
+news_asks : (feed : FeedValue) (states : States) (old new : WebValue) → TellsNews feed states old new → StillAsks old new
+news_asks feed states old new (followed, is, inl (text, news, responds)) = responded old.asked old _ text new responds
+news_asks feed states old new (followed, is, inr (refusal, refuses)) = refuses_asks refusal old new refuses
+
+health_asks : (site : SiteValue) (old new : WebValue) → TellsHealth site old new → StillAsks old new
+health_asks site old new (inl (whole, responds)) = responded old.asked old _ _ new responds
+health_asks site old new (inr (refusal, refuses)) = refuses_asks refusal old new refuses
+
+waits_asks : (feed : FeedValue) (states : States) (since : Option (List ℕ)) (wait : ℕ) (old new : WebValue) (left : Rest) → TellsOrWaits feed states since wait old new left → StillAsks old new
+waits_asks feed states since wait old new left (inl (none, body)) = text_asks content.Json (since_told feed states since (followed_in old.asked)) old new body
+waits_asks feed states since wait old new left (inr (root, quiet, waits, same)) = same_asks old new same
 
 hand_asks : (n : ℕ) (request : Request) (old : WebValue) (hand : AtHandValue) (new : WebValue) (hand' : AtHandValue) → AsksAtHand n request old hand new hand' → StillAsks old new
 hand_asks n request old hand new hand' (inl (may, is, same)) = same_asks old new same
@@ -151,20 +166,20 @@ stop_asks : (guarded : Bool) (old new : WebValue) (left : Rest) → StopsIf guar
 stop_asks true old new left (stops, responds) = responded old.asked old _ _ new responds
 stop_asks false old new left (none, responds) = responded old.asked old _ _ new responds
 
-plan_asks : (n : ℕ) (p : Plan) (old : WebValue) (hand : AtHandValue) (new : WebValue) (hand' : AtHandValue) (left : Rest) → DoesPlan n p old hand new hand' left → StillAsks old new
-plan_asks n (plan.Ask request) old hand new hand' left (asks, none) = hand_asks n request old hand new hand' asks
-plan_asks n (plan.Writes batch) old hand new hand' left (is, same, writes) = same_asks old new same
-plan_asks n (plan.Changes since wait) old hand new hand' left (is, tells) = waits_asks since wait old new left tells
-plan_asks n (plan.Asks right) old hand new hand' left (told, (site, tells)) = lines_asks right site old.asked old new tells
-plan_asks n plan.Listed old hand new hand' left (told, (site, tells)) = page_asks site old.asked old new tells
-plan_asks n (plan.BadLine line) old hand new hand' left (told, tells) = bad_asks line old new tells
-plan_asks n plan.Root old hand new hand' left (told, body) = body_asks content.Json old new body
-plan_asks n plan.Metrics old hand new hand' left (told, body) = body_asks content.Plain old new body
-plan_asks n plan.Health old hand new hand' left (told, body) = body_asks content.Json old new body
-plan_asks n plan.Stop old hand new hand' left (is, (guarded, stops)) = stop_asks guarded old new left stops
-plan_asks n (plan.Told answer body) old hand new hand' left (told, responds) = responded old.asked old answer _ new responds
-plan_asks n plan.NotAdmitted old hand new hand' left (told, responds) = responded old.asked old _ _ new responds
-plan_asks n (plan.Refused refusal) old hand new hand' left (told, refuses) = refuses_asks refusal old new refuses
+plan_asks : (site : SiteValue) (feed : FeedValue) (guarded : Bool) (n : ℕ) (p : Plan) (old : WebValue) (hand : AtHandValue) (new : WebValue) (hand' : AtHandValue) (left : Rest) → DoesPlan site feed guarded n p old hand new hand' left → StillAsks old new
+plan_asks site feed guarded n (plan.Ask request) old hand new hand' left (asks, none) = hand_asks n request old hand new hand' asks
+plan_asks site feed guarded n (plan.Writes batch) old hand new hand' left (is, same, writes) = same_asks old new same
+plan_asks site feed guarded n (plan.Changes since wait) old hand new hand' left (is, tells) = waits_asks feed site.states since wait old new left tells
+plan_asks site feed guarded n (plan.Asks right) old hand new hand' left (told, tells) = lines_asks right site old.asked old new tells
+plan_asks site feed guarded n plan.Listed old hand new hand' left (told, tells) = page_asks site old.asked old new tells
+plan_asks site feed guarded n (plan.BadLine line) old hand new hand' left (told, tells) = bad_asks line old new tells
+plan_asks site feed guarded n plan.Root old hand new hand' left (told, (live, body)) = text_asks content.Json (Ok (root_text site live)) old new body
+plan_asks site feed guarded n plan.Metrics old hand new hand' left (told, body) = body_asks content.Plain old new body
+plan_asks site feed guarded n plan.Health old hand new hand' left (told, health) = health_asks site old new health
+plan_asks site feed guarded n plan.Stop old hand new hand' left (is, stops) = stop_asks guarded old new left stops
+plan_asks site feed guarded n (plan.Told answer body) old hand new hand' left (told, responds) = responded old.asked old answer _ new responds
+plan_asks site feed guarded n plan.NotAdmitted old hand new hand' left (told, responds) = responded old.asked old _ _ new responds
+plan_asks site feed guarded n (plan.Refused refusal) old hand new hand' left (told, refuses) = refuses_asks refusal old new refuses
 
 -- ---- only what a right allows is asked
 
@@ -403,23 +418,23 @@ module _ (Known : Pass → Type 0) (passes : Option (List Pass)) where
 
   -- ---- errands
 
-  hand_plan : (n : ℕ) (p : Plan) (asked : Asked) (old : WebValue) (hand : AtHandValue) (new : WebValue) (hand' : AtHandValue) (left : Rest) → Decides asked.entry asked.question p → IsOpenTo Known passes (Some asked) → DoesPlan n p old hand new hand' left → HandMay hand → HandMay hand'
-  hand_plan n (plan.Ask request) asked old hand new hand' left decides opened (inl (may, is, same), none) all =
+  hand_plan : (site : SiteValue) (feed : FeedValue) (guarded : Bool) (n : ℕ) (p : Plan) (asked : Asked) (old : WebValue) (hand : AtHandValue) (new : WebValue) (hand' : AtHandValue) (left : Rest) → Decides asked.entry asked.question p → IsOpenTo Known passes (Some asked) → DoesPlan site feed guarded n p old hand new hand' left → HandMay hand → HandMay hand'
+  hand_plan site feed guarded n (plan.Ask request) asked old hand new hand' left decides opened (inl (may, is, same), none) all =
       let by = decides_may asked.entry asked.question request decides in
       hand_to (asked_by_one hand n (request ∷ [])) hand' is (hand_more n hand (request ∷ []) (allowed_by Known passes by.0 request (opened by.0 by.1) by.2, tt) all)
-  hand_plan n (plan.Ask request) asked old hand new hand' left decides opened (inr (same, refuses), none) all = hand_to hand hand' same all
-  hand_plan n (plan.Writes batch) asked old hand new hand' left decides opened (is, same, writes) all = hand_to hand hand' is all
-  hand_plan n (plan.Changes since wait) asked old hand new hand' left decides opened (is, tells) all = hand_to hand hand' is all
-  hand_plan n (plan.Asks right) asked old hand new hand' left decides opened (told, body) all = hand_to hand hand' told.0 all
-  hand_plan n plan.Listed asked old hand new hand' left decides opened (told, body) all = hand_to hand hand' told.0 all
-  hand_plan n (plan.BadLine line) asked old hand new hand' left decides opened (told, body) all = hand_to hand hand' told.0 all
-  hand_plan n plan.Root asked old hand new hand' left decides opened (told, body) all = hand_to hand hand' told.0 all
-  hand_plan n plan.Metrics asked old hand new hand' left decides opened (told, body) all = hand_to hand hand' told.0 all
-  hand_plan n plan.Health asked old hand new hand' left decides opened (told, body) all = hand_to hand hand' told.0 all
-  hand_plan n plan.Stop asked old hand new hand' left decides opened (is, stops) all = hand_to hand hand' is all
-  hand_plan n (plan.Told answer body) asked old hand new hand' left decides opened (told, responds) all = hand_to hand hand' told.0 all
-  hand_plan n plan.NotAdmitted asked old hand new hand' left decides opened (told, responds) all = hand_to hand hand' told.0 all
-  hand_plan n (plan.Refused refusal) asked old hand new hand' left decides opened (told, refuses) all = hand_to hand hand' told.0 all
+  hand_plan site feed guarded n (plan.Ask request) asked old hand new hand' left decides opened (inr (same, refuses), none) all = hand_to hand hand' same all
+  hand_plan site feed guarded n (plan.Writes batch) asked old hand new hand' left decides opened (is, same, writes) all = hand_to hand hand' is all
+  hand_plan site feed guarded n (plan.Changes since wait) asked old hand new hand' left decides opened (is, tells) all = hand_to hand hand' is all
+  hand_plan site feed guarded n (plan.Asks right) asked old hand new hand' left decides opened (told, body) all = hand_to hand hand' told.0 all
+  hand_plan site feed guarded n plan.Listed asked old hand new hand' left decides opened (told, body) all = hand_to hand hand' told.0 all
+  hand_plan site feed guarded n (plan.BadLine line) asked old hand new hand' left decides opened (told, body) all = hand_to hand hand' told.0 all
+  hand_plan site feed guarded n plan.Root asked old hand new hand' left decides opened (told, body) all = hand_to hand hand' told.0 all
+  hand_plan site feed guarded n plan.Metrics asked old hand new hand' left decides opened (told, body) all = hand_to hand hand' told.0 all
+  hand_plan site feed guarded n plan.Health asked old hand new hand' left decides opened (told, body) all = hand_to hand hand' told.0 all
+  hand_plan site feed guarded n plan.Stop asked old hand new hand' left decides opened (is, stops) all = hand_to hand hand' is all
+  hand_plan site feed guarded n (plan.Told answer body) asked old hand new hand' left decides opened (told, responds) all = hand_to hand hand' told.0 all
+  hand_plan site feed guarded n plan.NotAdmitted asked old hand new hand' left decides opened (told, responds) all = hand_to hand hand' told.0 all
+  hand_plan site feed guarded n (plan.Refused refusal) asked old hand new hand' left decides opened (told, refuses) all = hand_to hand hand' told.0 all
 
   desk_to : (old new : Desk) → new.hand ≡ old.hand → new.batches ≡ old.batches → StillAsks old.web new.web → DeskMay old → DeskMay new
   desk_to old new hand batches still all = record {
@@ -431,13 +446,13 @@ module _ (Known : Pass → Type 0) (passes : Option (List Pass)) where
   open_taken : (now : Option (List Pass)) (names : Named) → is_some now ≡ is_some passes → ((pass : Pass) → KnowsPass now pass → Known pass) → (old mid : WebValue) → TakesRequest now names old true mid → IsOpenTo Known passes mid.asked
   open_taken now names same all old mid (free, one) = subst (IsOpenTo Known passes) (sym one.kept) (λ right opened. entry_known Known passes now same all names (head_of one.call.0) one.asked.entry one.asks.entry right opened)
 
-  desk_one : (now : Option (List Pass)) (names : Named) (n : ℕ) (old new : Desk) (left : Rest) → is_some now ≡ is_some passes → ((pass : Pass) → KnowsPass now pass → Known pass) → AsksOne now names n old.web old.hand new.web new.hand left → new.batches ≡ old.batches → DeskMay old → DeskMay new
-  desk_one now names n old new left same known one batches all =
+  desk_one : (site : SiteValue) (feed : FeedValue) (now : Option (List Pass)) (names : Named) (n : ℕ) (old new : Desk) (left : Rest) → is_some now ≡ is_some passes → ((pass : Pass) → KnowsPass now pass → Known pass) → AsksOne site feed now names n old.web old.hand new.web new.hand left → new.batches ≡ old.batches → DeskMay old → DeskMay new
+  desk_one site feed now names n old new left same known one batches all =
       let mid : IsOpenTo Known passes one.mid.asked = open_taken now names same known old.web one.mid one.takes in
       record {
-        hand = hand_plan n one.plan one.asked one.mid old.hand new.web new.hand left one.decides (subst (IsOpenTo Known passes) one.kept mid) one.does all.hand;
+        hand = hand_plan site feed (is_some now) n one.plan one.asked one.mid old.hand new.web new.hand left one.decides (subst (IsOpenTo Known passes) one.kept mid) one.does all.hand;
         batches = subst (AllEntries MayBatch) (sym batches) all.batches;
-        web = open_still Known passes one.mid.asked new.web.asked (plan_asks n one.plan one.mid old.hand new.web new.hand left one.does) mid;
+        web = open_still Known passes one.mid.asked new.web.asked (plan_asks site feed (is_some now) n one.plan one.mid old.hand new.web new.hand left one.does) mid;
       }
 
   kept_batches : (n : ℕ) (batch : Batch) (old new : Desk) → KeepsWrites n batch old new → MayBatch batch → AllEntries MayBatch old.batches → AllEntries MayBatch new.batches
@@ -445,24 +460,24 @@ module _ (Known : Pass → Type 0) (passes : Option (List Pass)) where
   kept_batches n batch old new (inr (none, is)) one all =
       subst (AllEntries MayBatch) (sym is) (entries_less MayBatch n (set_value (is_at (nat_cmp n)) old.batches batch) (entries_set MayBatch n batch old.batches one all))
 
-  desk_errand : (errand : Errand) (now : Option (List Pass)) (names : Named) (n : ℕ) (old new : Desk) → is_some now ≡ is_some passes → ((pass : Pass) → KnowsPass now pass → Known pass) → RunsErrand errand now names n old new → DeskMay old → DeskMay new
-  desk_errand (Taking left) now names n old new same known (inl (told, none), batches) all = desk_to old new told.0 batches (looks_asks (is_free old.web) old.web new.web none) all
-  desk_errand (Taking left) now names n old new same known (inr one, batches) all = desk_one now names n old new left same known one batches all
-  desk_errand (Forgoes batch) now names n old new same known (writes, refuses, is) all =
+  desk_errand : (errand : Errand) (site : SiteValue) (feed : FeedValue) (now : Option (List Pass)) (names : Named) (n : ℕ) (old new : Desk) → is_some now ≡ is_some passes → ((pass : Pass) → KnowsPass now pass → Known pass) → RunsErrand errand site feed now names n old new → DeskMay old → DeskMay new
+  desk_errand (Taking left) site feed now names n old new same known (inl (told, none), batches) all = desk_to old new told.0 batches (looks_asks (is_free old.web) old.web new.web none) all
+  desk_errand (Taking left) site feed now names n old new same known (inr one, batches) all = desk_one site feed now names n old new left same known one batches all
+  desk_errand (Forgoes batch) site feed now names n old new same known (writes, refuses, is) all =
       desk_to old new (ap (λ (d : Desk). d.hand) is) (ap (λ (d : Desk). d.batches) is) (refuses_asks Memory old.web new.web refuses) all
-  desk_errand Tells now names n old new same known ((reply, takes, answers), batches) all = record {
+  desk_errand Tells site feed now names n old new same known ((reply, takes, answers), batches) all = record {
     hand = hand_taken old.hand new.hand (n, reply) takes all.hand;
     batches = subst (AllEntries MayBatch) (sym batches) all.batches;
     web = open_still Known passes old.web.asked new.web.asked (answers_asks old.web.asked reply old.web new.web answers refl) all.web;
   }
-  desk_errand (TellsMany batch batch') now names n old new same known (has, (only, (reply, takes), (told, each, gone, lines)), keeps) all = record {
+  desk_errand (TellsMany batch batch') site feed now names n old new same known (has, (only, (reply, takes), (told, each, gone, lines)), keeps) all = record {
     hand = hand_if n reply old.hand new.hand takes all.hand;
     batches = kept_batches n batch' old new keeps (subst (λ (b : Batch). AllByRecursion May b.requests.items) (sym only) (entries_at MayBatch n batch old.batches all.batches has)) all.batches;
     web = open_still Known passes old.web.asked new.web.asked (told_ends told old.web batch' new.web lines) all.web;
   }
-  desk_errand TellsChange now names n old new same known (awaits, body, is) all =
-      desk_to old new (ap (λ (d : Desk). d.hand) is) (ap (λ (d : Desk). d.batches) is) (body_asks content.Json old.web new.web body) all
-  desk_errand Stops now names n old new same known (ends, is) all =
+  desk_errand TellsChange site feed now names n old new same known (news, is) all =
+      desk_to old new (ap (λ (d : Desk). d.hand) is) (ap (λ (d : Desk). d.batches) is) (news_asks feed site.states old.web new.web news) all
+  desk_errand Stops site feed now names n old new same known (ends, is) all =
       desk_to old new (ap (λ (d : Desk). d.hand) is) (ap (λ (d : Desk). d.batches) is) (ends_asks old.web new.web ends) all
 
   -- ---- deeds
@@ -481,27 +496,27 @@ module _ (Known : Pass → Type 0) (passes : Option (List Pass)) where
   writing_may None t n batch at never all = absurd never
   writing_may (Some web) t n batch at is all = batch_may (web_of web).asked batch is (entries_at MayWeb n web t.webs all.webs at)
 
-  pub allowed_deed : (old new : Talking) → is_some old.passes ≡ is_some passes → ((pass : Pass) → KnowsPass old.passes pass → Known pass) → Deed old new → AreAllowed old → AreAllowed new
-  allowed_deed old new same known (Comes n, does) all = subst AreAllowed (sym does.1) (still old (with_host old new.host) refl refl refl all)
-  allowed_deed old new same known (ComesByWeb n web, does) all =
+  pub allowed_deed : (old new : Talking) → is_some old.passes ≡ is_some passes → ((pass : Pass) → KnowsPass old.passes pass → Known pass) → (act : Act) → DoesAct act old new → AreAllowed old → AreAllowed new
+  allowed_deed old new same known (Comes n) does all = subst AreAllowed (sym does.1) (still old (with_host old new.host) refl refl refl all)
+  allowed_deed old new same known (ComesByWeb n web) does all =
       subst AreAllowed (sym does.2) (record {
         hand = all.hand;
         batches = all.batches;
         webs = entries_more MayWeb n web old.webs (subst (λ (w : WebValue). IsOpenTo Known passes w.asked) (sym does.1.1) tt) all.webs;
       })
-  allowed_deed old new same known (ComesOwn n, does) all = subst AreAllowed (sym does.1) (still old _ refl refl refl all)
-  allowed_deed old new same known (TurnsBack n mid, does) all = subst AreAllowed (sym does.3) (still old _ refl refl refl all)
-  allowed_deed old new same known (Goes n, does) all =
+  allowed_deed old new same known (ComesOwn n) does all = subst AreAllowed (sym does.1) (still old _ refl refl refl all)
+  allowed_deed old new same known (TurnsBack n mid) does all = subst AreAllowed (sym does.3) (still old _ refl refl refl all)
+  allowed_deed old new same known (Goes n) does all =
       subst AreAllowed (sym does.2) (record { hand = all.hand; batches = entries_less MayBatch n old.batches all.batches; webs = entries_less MayWeb n old.webs all.webs })
-  allowed_deed old new same known (GoesOwn n, does) all = subst AreAllowed (sym does.2) (still old _ refl refl refl all)
-  allowed_deed old new same known (Calls n call, does) all = subst AreAllowed (sym does.1) (still old _ refl refl refl all)
-  allowed_deed old new same known (Attends n web web' errand, (has, runs, is)) all =
+  allowed_deed old new same known (GoesOwn n) does all = subst AreAllowed (sym does.2) (still old _ refl refl refl all)
+  allowed_deed old new same known (Calls n call) does all = subst AreAllowed (sym does.1) (still old _ refl refl refl all)
+  allowed_deed old new same known (Attends n web web' errand site) (has, runs, is) all =
       let before : DeskMay (record { hand = old.hand; web = web_of web; batches = old.batches }) = record { hand = all.hand; batches = all.batches; web = entries_at MayWeb n web old.webs all.webs has } in
-      let after : DeskMay (record { hand = new.hand; web = web_of web'; batches = new.batches }) = desk_errand errand old.passes old.names n _ _ same known runs before in
+      let after : DeskMay (record { hand = new.hand; web = web_of web'; batches = new.batches }) = desk_errand errand site old.feed old.passes old.names n _ _ same known runs before in
       subst AreAllowed (sym is) (record { hand = after.hand; batches = after.batches; webs = entries_set MayWeb n web' old.webs after.web all.webs })
-  allowed_deed old new same known (Begins n batch, (may, is)) all =
+  allowed_deed old new same known (Begins n batch) (may, is) all =
       subst AreAllowed (sym is) (record { hand = all.hand; batches = entries_more MayBatch n batch old.batches (writing_may (web_in old n) old n batch refl may.0 all) all.batches; webs = all.webs })
-  allowed_deed old new same known (Hands n batch batch', (has, inl asks, is)) all =
+  allowed_deed old new same known (Hands n batch batch') (has, inl asks, is) all =
       let one : MayBatch batch = entries_at MayBatch n batch old.batches all.batches has in
       let none : MayBatch batch' = subst (AllByRecursion May) (sym asks.gone) tt in
       subst AreAllowed (sym is) (record {
@@ -509,16 +524,17 @@ module _ (Known : Pass → Type 0) (passes : Option (List Pass)) where
         batches = entries_set MayBatch n batch' old.batches none all.batches;
         webs = all.webs;
       })
-  allowed_deed old new same known (Hands n batch batch', (has, inr (still', hand), is)) all =
+  allowed_deed old new same known (Hands n batch batch') (has, inr (still', hand), is) all =
       let one : MayBatch batch = entries_at MayBatch n batch old.batches all.batches has in
       subst AreAllowed (sym is) (record {
         hand = hand_to old.hand new.hand hand all.hand;
         batches = entries_set MayBatch n batch' old.batches (subst MayBatch (sym still') one) all.batches;
         webs = all.webs;
       })
-  allowed_deed old new same known (Drops n reply, (none, (takes, is))) all =
+  allowed_deed old new same known (Drops n reply) (none, (takes, is)) all =
       subst AreAllowed (sym is) (record { hand = hand_taken old.hand new.hand (n, reply) takes all.hand; batches = all.batches; webs = all.webs })
-  allowed_deed old new same known (Rotates passes', does) all = subst AreAllowed (sym does.1) (still old _ refl refl refl all)
+  allowed_deed old new same known (Rotates passes') does all = subst AreAllowed (sym does.1) (still old _ refl refl refl all)
+  allowed_deed old new same known (Follows feed site) does all = subst AreAllowed (sym does.1) (still old _ refl refl refl all)
 
   -- ---- bytes
 
@@ -547,5 +563,5 @@ module _ (Known : Pass → Type 0) (passes : Option (List Pass)) where
 
   -- ---- a round
 
-  pub allowed_round : (t : Talking) (host : HostValue) (hand : AtHandValue) (turns : List (ℕ × Turn)) → AnswersAtHand turns t.hand hand → AreAllowed t → AreAllowed (with_round t host hand)
-  allowed_round t host hand turns answers all = record { hand = hand_round turns t.hand hand answers all.hand; batches = all.batches; webs = all.webs }
+  pub allowed_round : (t : Talking) (host : HostValue) (hand : AtHandValue) (feed : FeedValue) (turns : List (ℕ × Turn)) → AnswersAtHand turns t.hand hand → AreAllowed t → AreAllowed (with_round t host hand feed)
+  allowed_round t host hand feed turns answers all = record { hand = hand_round turns t.hand hand answers all.hand; batches = all.batches; webs = all.webs }

@@ -18,7 +18,7 @@ use Rattle.mvd_server.specs.HostBytes.{TakesBytes, sent_of}
 use Rattle.mvd_server.specs.OwnSides.{DismissesIf, DismissesOwn}
 use Rattle.mvd_server.specs.Responding.{AnswersWeb, RefusesWeb}
 use Rattle.mvd_server.specs.Guarded.{first_guard}
-use Rattle.mvd_server.specs.Talking.{Act, Attends, Begins, Calls, Comes, ComesBy, ComesByWeb, Deed, Deeds, DoesAct, Drops, GoesOwn, Hands, IsWriting, KeepsBatch, LacksMemory, MayBeginWrites, MayCall, TakesReply, TalksDeeds, Talking, is_own_client, talking_of, web_in, with_host, with_web}
+use Rattle.mvd_server.specs.Talking.{Act, Attends, Begins, Calls, Comes, ComesBy, ComesByWeb, Deed, Deeds, DeedsAt, DoesAct, Drops, GoesOwn, Hands, IsOf, IsWriting, KeepsBatch, LacksMemory, MayBeginWrites, MayCall, TakesReply, TalksDeeds, Talking, is_own_client, talking_of, web_in, with_host, with_web}
 use Rattle.mvd_server.specs.Wires.{Carries, GivesOut, TakesInput, Wired, WiredStep}
 use Rattle.mvd_server.specs.declared.batch.Batch.{Batch}
 use Rattle.mvd_server.specs.declared.talks.Kind.TheVariants.{Http}
@@ -26,26 +26,35 @@ use Rattle.mvd_server.specs.declared.talks.Talks.{Talks}
 use Rattle.mvd_server.specs.declared.sockets.Sockets.{Ghosts}
 use Rattle.mvd_server.proofs.Keyed.{found_at, set_here}
 use Rattle.mvd_server.proofs.Paths.{path_map, path_none, path_on, path_one, path_same}
+use Rattle.mvd_site.specs.Sites.{SiteValue}
 use Rattle.mvd_wire.specs.declared.reply.Reply.{Reply}
 use Rattle.mvd_web.specs.Inside.{web_of}
 use Rattle.mvd_web.specs.Web.{EndsInput, IsNew, stopped_by}
 use Rattle.mvd_web.specs.declared.web_connection.WebConnection.{WebConnection}
 
 pub deeds_none : (t : Talking) → Deeds t t
-deeds_none t = path_none Deed t
+deeds_none t = λ site. path_none (Deed site) t
 
 pub deeds_same : (old new : Talking) → new ≡ old → Deeds old new
-deeds_same old new same = path_same Deed old new same
+deeds_same old new same = λ site. path_same (Deed site) old new same
 
 pub deeds_on : (old mid new : Talking) → Deeds old mid → Deeds mid new → Deeds old new
-deeds_on old mid new p q = path_on Deed old mid new p q
+deeds_on old mid new p q = λ site. path_on (Deed site) old mid new (p site) (q site)
 
-pub deeds_one : (act : Act) (old new : Talking) → DoesAct act old new → Deeds old new
-deeds_one act old new does = path_one Deed old new (act, does)
+-- at one site
+pub deeds_at : (site : SiteValue) (old mid new : Talking) → DeedsAt site old mid → DeedsAt site mid new → DeedsAt site old new
+deeds_at site old mid new p q = path_on (Deed site) old mid new p q
+
+pub deed_at : (site : SiteValue) (act : Act) (old new : Talking) → IsOf site act → DoesAct act old new → DeedsAt site old new
+deed_at site act old new of does = path_one (Deed site) old new (act, of, does)
+
+-- at any site
+pub deeds_one : (act : Act) (old new : Talking) → ((site : SiteValue) → IsOf site act) → DoesAct act old new → Deeds old new
+deeds_one act old new of does = λ site. deed_at site act old new (of site) does
 
 -- a call on one connection of the host
 pub deed_call : (n : ℕ) (call : Call) (old : Talking) (host : HostValue) → MayCall old n call → host ≡ altered old.host n (after_call call) → Deeds old (with_host old host)
-deed_call n call old host may is = deeds_one (Calls n call) old (with_host old host) (may, ap (with_host old) is)
+deed_call n call old host may is = deeds_one (Calls n call) old (with_host old host) (λ site. tt) (may, ap (with_host old) is)
 
 pub deed_closes : (n : ℕ) (why : Source) (old : Talking) (host : HostValue) → host ≡ altered old.host n (λ h. closed h why) → Deeds old (with_host old host)
 deed_closes n why old host is = deed_call n (Closes why) old host tt is
@@ -63,63 +72,72 @@ deed_feeds n bytes old host made (inr is) =
 pub deed_sends : (n count : ℕ) (old : Talking) (host : HostValue) → is_own_client old n ≡ true → host ≡ sent_of old.host n count → Deeds old (with_host old host)
 deed_sends n count old host made is = deed_call n (Sends count) old host made is
 
--- an errand for a client over HTTP
+-- an errand for a client over HTTP, at a site
+pub attends_at : (site : SiteValue) (n : ℕ) (errand : Errand) (web web' : WebConnection) (old : Talking) (hand : AtHandValue) (batches : List (ℕ × Batch)) (entries : List (ℕ × WebConnection)) → web_in old n ≡ Some web
+    → RunsErrand errand site old.feed old.passes old.names n (desk old.hand (web_of web) old.batches) (desk hand (web_of web') batches) → entries ≡ set_value (is_at (nat_cmp n)) old.webs web'
+    → DeedsAt site old (record old { hand = hand; webs = entries; batches = batches })
+attends_at site n errand web web' old hand batches entries has runs is =
+    subst (λ e. DeedsAt site old (record old { hand = hand; webs = e; batches = batches })) (sym is)
+    (deed_at site (Attends n web web' errand site) old (record (with_web old n web') { hand = hand; batches = batches }) refl (has, runs, refl))
+
+-- or at any
 pub deed_attends : (n : ℕ) (errand : Errand) (web web' : WebConnection) (old : Talking) (hand : AtHandValue) (batches : List (ℕ × Batch)) (entries : List (ℕ × WebConnection)) → web_in old n ≡ Some web
-    → RunsErrand errand old.passes old.names n (desk old.hand (web_of web) old.batches) (desk hand (web_of web') batches) → entries ≡ set_value (is_at (nat_cmp n)) old.webs web'
+    → ((site : SiteValue) → RunsErrand errand site old.feed old.passes old.names n (desk old.hand (web_of web) old.batches) (desk hand (web_of web') batches)) → entries ≡ set_value (is_at (nat_cmp n)) old.webs web'
     → Deeds old (record old { hand = hand; webs = entries; batches = batches })
-deed_attends n errand web web' old hand batches entries has runs is =
-    subst (λ e. Deeds old (record old { hand = hand; webs = e; batches = batches })) (sym is)
-    (deeds_one (Attends n web web' errand) old (record (with_web old n web') { hand = hand; batches = batches }) (has, runs, refl))
+deed_attends n errand web web' old hand batches entries has runs is = λ site. attends_at site n errand web web' old hand batches entries has (runs site) is
 
 -- one that leaves what is at hand and the writes as they are
 pub deed_stops : (n : ℕ) (web web' : WebConnection) (old : Talking) (entries : List (ℕ × WebConnection)) → web_in old n ≡ Some web → EndsInput (web_of web) (web_of web') ⊎ ((refusal : Refusal) × (web_of web' ≡ stopped_by (web_of web) refusal))
     → entries ≡ set_value (is_at (nat_cmp n)) old.webs web' → Deeds old (record old { webs = entries })
-deed_stops n web web' old entries has ends is = deed_attends n Stops web web' old old.hand old.batches entries has (ends, refl) is
+deed_stops n web web' old entries has ends is = deed_attends n Stops web web' old old.hand old.batches entries has (λ site. (ends, refl)) is
 
 -- one after the first reply that was left was taken away
 attends_taken : (n : ℕ) (errand : Errand) (web web' : WebConnection) (before old : Talking) (batches : List (ℕ × Batch)) (entries : List (ℕ × WebConnection)) → old ≡ record before { hand = old.hand } → web_in old n ≡ Some web
-    → RunsErrand errand old.passes old.names n (desk before.hand (web_of web) old.batches) (desk old.hand (web_of web') batches) → entries ≡ set_value (is_at (nat_cmp n)) old.webs web'
+    → ((site : SiteValue) → RunsErrand errand site old.feed old.passes old.names n (desk before.hand (web_of web) old.batches) (desk old.hand (web_of web') batches)) → entries ≡ set_value (is_at (nat_cmp n)) old.webs web'
     → Deeds before (record old { webs = entries; batches = batches })
 attends_taken n errand web web' before old batches entries same has runs is =
     let webs : old.webs ≡ before.webs = ap (λ (t : Talking). t.webs) same in
     let passes : old.passes ≡ before.passes = ap (λ (t : Talking). t.passes) same in
     let names : old.names ≡ before.names = ap (λ (t : Talking). t.names) same in
     let kept : old.batches ≡ before.batches = ap (λ (t : Talking). t.batches) same in
+    let feed : old.feed ≡ before.feed = ap (λ (t : Talking). t.feed) same in
     subst (λ (t : Talking). Deeds before (record t { webs = entries; batches = batches })) (sym same)
     (deed_attends n errand web web' before old.hand batches entries (subst (λ l. found_at n l ≡ Some web) webs has)
-    (subst (λ m. RunsErrand errand before.passes m n (desk before.hand (web_of web) before.batches) (desk old.hand (web_of web') batches)) names
-    (subst (λ g. RunsErrand errand g old.names n (desk before.hand (web_of web) before.batches) (desk old.hand (web_of web') batches)) passes
-    (subst (λ b. RunsErrand errand old.passes old.names n (desk before.hand (web_of web) b) (desk old.hand (web_of web') batches)) kept runs)))
+    (λ site.
+    subst (λ f. RunsErrand errand site f before.passes before.names n (desk before.hand (web_of web) before.batches) (desk old.hand (web_of web') batches)) feed
+    (subst (λ m. RunsErrand errand site old.feed before.passes m n (desk before.hand (web_of web) before.batches) (desk old.hand (web_of web') batches)) names
+    (subst (λ g. RunsErrand errand site old.feed g old.names n (desk before.hand (web_of web) before.batches) (desk old.hand (web_of web') batches)) passes
+    (subst (λ b. RunsErrand errand site old.feed old.passes old.names n (desk before.hand (web_of web) b) (desk old.hand (web_of web') batches)) kept (runs site)))))
     (subst (λ l. entries ≡ set_value (is_at (nat_cmp n)) l web') webs is))
 
 -- it is told
 pub deed_replied : (n : ℕ) (reply : Reply) (web web' : WebConnection) (before old : Talking) (entries : List (ℕ × WebConnection)) → TakesReply n reply before old → web_in old n ≡ Some web → AnswersWeb (web_of web).asked reply (web_of web) (web_of web')
     → entries ≡ set_value (is_at (nat_cmp n)) old.webs web' → Deeds before (record old { webs = entries })
 deed_replied n reply web web' before old entries (takes, same) has answers is =
-    attends_taken n Tells web web' before old old.batches entries same has ((reply, takes, answers), refl) is
+    attends_taken n Tells web web' before old old.batches entries same has (λ site. ((reply, takes, answers), refl)) is
 
 -- or it is one to many writes
 pub deed_lined : (n : ℕ) (reply : Reply) (web web' : WebConnection) (batch batch' : Batch) (before old : Talking) (batches : List (ℕ × Batch)) (entries : List (ℕ × WebConnection)) → TakesReply n reply before old → web_in old n ≡ Some web → batch_in old.batches n ≡ Some batch
     → TellsBatch n (web_of web) batch before.hand (web_of web') batch' old.hand → KeepsWrites n batch' (desk before.hand (web_of web) old.batches) (desk old.hand (web_of web') batches)
     → entries ≡ set_value (is_at (nat_cmp n)) old.webs web' → Deeds before (record old { webs = entries; batches = batches })
-deed_lined n reply web web' batch batch' before old batches entries (takes, same) has writes tells keeps is = attends_taken n (TellsMany batch batch') web web' before old batches entries same has (writes, tells, keeps) is
+deed_lined n reply web web' batch batch' before old batches entries (takes, same) has writes tells keeps is = attends_taken n (TellsMany batch batch') web web' before old batches entries same has (λ site. (writes, tells, keeps)) is
 
 -- or its client has gone
 pub deed_drops : (n : ℕ) (reply : Reply) (before old new : Talking) → TakesReply n reply before old → web_in old n ≡ None → new ≡ old → Deeds before new
 deed_drops n reply before old new takes none same =
     let webs : old.webs ≡ before.webs = ap (λ (t : Talking). t.webs) takes.1 in
-    subst (λ (t : Talking). Deeds before t) (sym same) (deeds_one (Drops n reply) before old (subst (λ l. ◌≡◌ {A = Option WebConnection} (found_at n l) None) webs none, takes))
+    subst (λ (t : Talking). Deeds before t) (sym same) (deeds_one (Drops n reply) before old (λ site. tt) (subst (λ l. ◌≡◌ {A = Option WebConnection} (found_at n l) None) webs none, takes))
 
 -- what many writes ask is asked, or not
 pub deed_hands : (n : ℕ) (batch batch' : Batch) (old : Talking) (hand : AtHandValue) (entries : List (ℕ × Batch)) → batch_in old.batches n ≡ Some batch → HandsBatch n batch old.hand batch' hand → entries ≡ set_value (is_at (nat_cmp n)) old.batches batch'
     → Deeds old (record old { hand = hand; batches = entries })
 deed_hands n batch batch' old hand entries has hands is =
     subst (λ e. Deeds old (record old { hand = hand; batches = e })) (sym is)
-    (deeds_one (Hands n batch batch') old (record old { hand = hand; batches = set_value (is_at (nat_cmp n)) old.batches batch' }) (has, hands, refl))
+    (deeds_one (Hands n batch batch') old (record old { hand = hand; batches = set_value (is_at (nat_cmp n)) old.batches batch' }) (λ site. tt) (has, hands, refl))
 
 -- they begin
 pub deed_begins : (n : ℕ) (batch : Batch) (old mid : Talking) → MayBeginWrites n batch old → KeepsBatch n batch old mid → Deeds old mid
-deed_begins n batch old mid may keeps = deeds_one (Begins n batch) old mid (may, keeps)
+deed_begins n batch old mid may keeps = deeds_one (Begins n batch) old mid (λ site. tt) (may, keeps)
 
 pub writing : (n : ℕ) (web web' : WebConnection) (webs entries : List (ℕ × WebConnection)) (batch : Batch) → found_at n webs ≡ Some web → entries ≡ set_value (is_at (nat_cmp n)) webs web' → IsBatchFor (web_of web').asked batch
     → IsWriting (found_at n entries) batch
@@ -130,7 +148,7 @@ writing n web web' webs entries batch has is mine =
 lacking : (n : ℕ) (batch : Batch) (web web' : WebConnection) (old new : Talking) → web_in old n ≡ Some web → IsBatchFor (web_of web).asked batch → batch_in old.batches n ≡ None → RefusesWeb Memory (web_of web) (web_of web') → new ≡ with_web old n web'
     → Deeds old new
 lacking n batch web web' old new has writes none refuses is =
-    subst (λ t. Deeds old t) (sym is) (deed_attends n (Forgoes batch) web web' old old.hand old.batches (set_value (is_at (nat_cmp n)) old.webs web') has ((writes, none), refuses, refl) refl)
+    subst (λ t. Deeds old t) (sym is) (deed_attends n (Forgoes batch) web web' old old.hand old.batches (set_value (is_at (nat_cmp n)) old.webs web') has (λ site. ((writes, none), refuses, refl)) refl)
 
 pub deed_lacks : (n : ℕ) (batch : Batch) (old new : Talking) → MayBeginWrites n batch old → LacksMemory n old new → Deeds old new
 deed_lacks n batch old new may (inl same) = deeds_same old new same
@@ -149,14 +167,14 @@ deeds_own n bytes old host own (inr takes) = deed_feeds n bytes old host own tak
 -- a client of frames comes, or nobody
 pub comes_frames : (old : Talking) (o : Option ℕ) (host : HostValue) → Admits (first_guard old.passes) old.host o host → Deeds old (with_host old host)
 comes_frames old None host (same, full) = deeds_same old (with_host old host) (ap (with_host old) same)
-comes_frames old (Some n) host one = deeds_one (Comes n) old (with_host old host) (one, refl)
+comes_frames old (Some n) host one = deeds_one (Comes n) old (with_host old host) (λ site. tt) (one, refl)
 
 -- one over HTTP
 pub does_web : (n : ℕ) (web : WebConnection) (old new : Talking) → n ≡ old.next → IsNew (web_of web) → new ≡ record old { webs = insert_entry nat_cmp old.webs n web; next = old.next + 1 } → ComesBy Http n old new
 does_web n web old new next fresh same = (web, (next, fresh, same))
 
 pub comes_web : (n : ℕ) (web : WebConnection) (old new : Talking) → n ≡ old.next → IsNew (web_of web) → new ≡ record old { webs = insert_entry nat_cmp old.webs n web; next = old.next + 1 } → Deeds old new
-comes_web n web old new next fresh same = deeds_one (ComesByWeb n web) old new (next, fresh, same)
+comes_web n web old new next fresh same = deeds_one (ComesByWeb n web) old new (λ site. tt) (next, fresh, same)
 
 -- no connection over HTTP is there
 pub unturned : (old : Talking) (host : HostValue) (entries : List (ℕ × WebConnection)) → entries ≡ old.webs → Deeds old (with_host old host) → Deeds old (record old { host = host; webs = entries })
@@ -169,7 +187,7 @@ comes_told old (Some n) host one = (one, refl)
 
 -- one of the server's own goes, or none does
 goes_if : (b : Bool) (n : ℕ) (old mid : Talks) → DismissesIf b old n mid → TalksDeeds old mid
-goes_if true n old mid goes = deeds_one (GoesOwn n) (talking_of old) (talking_of mid) goes
+goes_if true n old mid goes = deeds_one (GoesOwn n) (talking_of old) (talking_of mid) (λ site. tt) goes
 goes_if false n old mid same = deeds_same (talking_of old) (talking_of mid) (ap talking_of same)
 
 pub own_goes : (n : ℕ) (old mid new : Talks) → DismissesOwn old n mid → new ≡ mid → TalksDeeds old new
@@ -181,18 +199,18 @@ module _ {K : Type 0} (k : Ghosts K) where
   carries_deeds old new sockets sockets' same p = subst (λ s. Carries k (record { talking = old; sockets = sockets }) (record { talking = new; sockets = s })) (sym same) (on p)
     where
       on : Deeds old new → Carries k (record { talking = old; sockets = sockets }) (record { talking = new; sockets = sockets })
-      on q = path_map Deed (WiredStep k) (λ t. record { talking = t; sockets = sockets }) (λ a b one. inl (one, refl)) old new q
+      on q = λ site. path_map (Deed site) (WiredStep k site) (λ t. record { talking = t; sockets = sockets }) (λ a b one. inl (one, refl)) old new (q site)
 
   pub carries_none : (w : Wired K) → Carries k w w
-  carries_none w = path_none (WiredStep k) w
+  carries_none w = λ site. path_none (WiredStep k site) w
 
   pub carries_on : (old mid new : Wired K) → Carries k old mid → Carries k mid new → Carries k old new
-  carries_on old mid new p q = path_on (WiredStep k) old mid new p q
+  carries_on old mid new p q = λ site. path_on (WiredStep k site) old mid new (p site) (q site)
 
   -- bytes came
   pub carries_in : (n : ℕ) (bytes : List ℕ) (old new : Talking) (sockets sockets' : K) → k.gave sockets n bytes sockets' → TakesInput n bytes old new → Carries k (record { talking = old; sockets = sockets }) (record { talking = new; sockets = sockets' })
-  carries_in n bytes old new sockets sockets' gives takes = path_one (WiredStep k) _ _ (inr (inl (n, bytes, gives, takes)))
+  carries_in n bytes old new sockets sockets' gives takes = λ site. path_one (WiredStep k site) _ _ (inr (inl (n, bytes, gives, takes)))
 
   -- bytes left
   pub carries_out : (n : ℕ) (bytes : List ℕ) (old new : Talking) (sockets sockets' : K) → k.took sockets n bytes sockets' → GivesOut n bytes old new → Carries k (record { talking = old; sockets = sockets }) (record { talking = new; sockets = sockets' })
-  carries_out n bytes old new sockets sockets' takes gives = path_one (WiredStep k) _ _ (inr (inr (n, bytes, takes, gives)))
+  carries_out n bytes old new sockets sockets' takes gives = λ site. path_one (WiredStep k site) _ _ (inr (inr (n, bytes, takes, gives)))

@@ -1,11 +1,12 @@
 -- What an errand for a client over HTTP does at hand, and which writes are those of its request.
-use Rattle.std.proofs.Common.{◌≡◌, ◌≤◌, ◌⊎◌, length, Bool, Bor, is_some, option_copied, true, false, ℕ, List, [], ◌∷◌, Option, None, Some, Result, Ok, Err, inl, inr, refl, sym, subst, ap, ◌∙◌}
+use Rattle.std.proofs.Common.{◌≡◌, ◌<◌, ◌≤◌, ◌⊎◌, length, Bool, Bor, is_some, option_copied, true, false, ℕ, List, [], ◌∷◌, Option, None, Some, Result, Ok, Err, inl, inr, refl, sym, subst, ap, ◌∙◌}
 use Rattle.std.specs.Prelude.{string_bytes}
 use Rattle.mvd_conn.specs.declared.passes.Pass.{Pass}
 use Rattle.mvd_conn.specs.declared.right.Right.{Right}
 use Rattle.mvd_http.specs.Guard.{Named}
 use Rattle.mvd_dots.specs.declared.refusals.Refusal.{Refusal}
 use Rattle.mvd_host.specs.AtHand.{AtHandValue, StepsAtHand}
+use Rattle.mvd_host.specs.Feeds.{FeedValue}
 use Rattle.mvd_http.specs.declared.fields.Content.TheVariants as content
 use Rattle.mvd_http.specs.declared.question.Question.{Question}
 use Rattle.mvd_http.specs.declared.question.Question.TheVariants.{Page, Root, Metrics, Health, Stop, Ask, Asks, BadLine, Listed, Live, Changes, Many, Misread, Nowhere, NotAllowed, Texts, TooLong}
@@ -47,29 +48,29 @@ steps_asked : (n : ℕ) (request : Request) (old : WebValue) (hand : AtHandValue
 steps_asked n request old hand new hand' (inl (may, is, same)) = inr (inl (n, request ∷ [], (may, tt), is))
 steps_asked n request old hand new hand' (inr (same, refused)) = inl same
 
-steps_plan : (n : ℕ) (p : Plan) (old : WebValue) (hand : AtHandValue) (new : WebValue) (hand' : AtHandValue) (left : Rest) → DoesPlan n p old hand new hand' left → MayStep hand hand'
-steps_plan n (plan.Ask request) old hand new hand' left (asks, none) = steps_asked n request old hand new hand' asks
-steps_plan n (plan.Writes batch) old hand new hand' left (is, same, writes) = inl is
-steps_plan n (plan.Changes since wait) old hand new hand' left (is, tells) = inl is
-steps_plan n (plan.Asks right) old hand new hand' left (told, body) = inl told.0
-steps_plan n plan.Listed old hand new hand' left (told, body) = inl told.0
-steps_plan n (plan.BadLine line) old hand new hand' left (told, body) = inl told.0
-steps_plan n plan.Root old hand new hand' left (told, body) = inl told.0
-steps_plan n plan.Metrics old hand new hand' left (told, body) = inl told.0
-steps_plan n plan.Health old hand new hand' left (told, body) = inl told.0
-steps_plan n plan.Stop old hand new hand' left (is, stops) = inl is
-steps_plan n (plan.Told answer body) old hand new hand' left (told, responds) = inl told.0
-steps_plan n plan.NotAdmitted old hand new hand' left (told, responds) = inl told.0
-steps_plan n (plan.Refused refusal) old hand new hand' left (told, refuses) = inl told.0
+steps_plan : (site : SiteValue) (feed : FeedValue) (guarded : Bool) (n : ℕ) (p : Plan) (old : WebValue) (hand : AtHandValue) (new : WebValue) (hand' : AtHandValue) (left : Rest) → DoesPlan site feed guarded n p old hand new hand' left → MayStep hand hand'
+steps_plan site feed guarded n (plan.Ask request) old hand new hand' left (asks, none) = steps_asked n request old hand new hand' asks
+steps_plan site feed guarded n (plan.Writes batch) old hand new hand' left (is, same, writes) = inl is
+steps_plan site feed guarded n (plan.Changes since wait) old hand new hand' left (is, tells) = inl is
+steps_plan site feed guarded n (plan.Asks right) old hand new hand' left (told, body) = inl told.0
+steps_plan site feed guarded n plan.Listed old hand new hand' left (told, body) = inl told.0
+steps_plan site feed guarded n (plan.BadLine line) old hand new hand' left (told, body) = inl told.0
+steps_plan site feed guarded n plan.Root old hand new hand' left (told, body) = inl told.0
+steps_plan site feed guarded n plan.Metrics old hand new hand' left (told, body) = inl told.0
+steps_plan site feed guarded n plan.Health old hand new hand' left (told, body) = inl told.0
+steps_plan site feed guarded n plan.Stop old hand new hand' left (is, stops) = inl is
+steps_plan site feed guarded n (plan.Told answer body) old hand new hand' left (told, responds) = inl told.0
+steps_plan site feed guarded n plan.NotAdmitted old hand new hand' left (told, responds) = inl told.0
+steps_plan site feed guarded n (plan.Refused refusal) old hand new hand' left (told, refuses) = inl told.0
 
-pub steps_errand : (errand : Errand) (passes : Option (List Pass)) (names : Named) (n : ℕ) (old new : Desk) → RunsErrand errand passes names n old new → MayStep old.hand new.hand
-steps_errand (Asks left) passes names n old new (inl (told, none), same) = inl told.0
-steps_errand (Asks left) passes names n old new (inr one, same) = steps_plan n one.plan one.mid old.hand new.web new.hand left one.does
-steps_errand (Forgoes batch) passes names n old new (writes, refuses, is) = inl (ap (λ (d : Desk). d.hand) is)
-steps_errand Tells passes names n old new ((reply, takes, answers), same) = inr (inr ((n, reply), takes))
-steps_errand (TellsMany batch batch') passes names n old new (has, (only, (reply, takes), told), same) = steps_taken n reply old.hand new.hand takes
-steps_errand TellsChange passes names n old new (awaits, told, is) = inl (ap (λ (d : Desk). d.hand) is)
-steps_errand Stops passes names n old new (ends, is) = inl (ap (λ (d : Desk). d.hand) is)
+pub steps_errand : (errand : Errand) (site : SiteValue) (feed : FeedValue) (passes : Option (List Pass)) (names : Named) (n : ℕ) (old new : Desk) → RunsErrand errand site feed passes names n old new → MayStep old.hand new.hand
+steps_errand (Asks left) site feed passes names n old new (inl (told, none), same) = inl told.0
+steps_errand (Asks left) site feed passes names n old new (inr one, same) = steps_plan site feed (is_some passes) n one.plan one.mid old.hand new.web new.hand left one.does
+steps_errand (Forgoes batch) site feed passes names n old new (writes, refuses, is) = inl (ap (λ (d : Desk). d.hand) is)
+steps_errand Tells site feed passes names n old new ((reply, takes, answers), same) = inr (inr ((n, reply), takes))
+steps_errand (TellsMany batch batch') site feed passes names n old new (has, (only, (reply, takes), told), same) = steps_taken n reply old.hand new.hand takes
+steps_errand TellsChange site feed passes names n old new (news, is) = inl (ap (λ (d : Desk). d.hand) is)
+steps_errand Stops site feed passes names n old new (ends, is) = inl (ap (λ (d : Desk). d.hand) is)
 
 -- ---- many writes are those of the request that waits
 
@@ -152,51 +153,51 @@ writes_decided Conditional q batch never = absurd never
 writes_decided Preflight q batch never = absurd (permits_none q batch never)
 writes_decided NoToken q batch is = absurd (let no : ⊥ = cc in no)
 
-batch_left : (passes : Option (List Pass)) (n : ℕ) (p : Plan) (asked : Asked) (old : WebValue) (hand : AtHandValue) (new : WebValue) (hand' : AtHandValue) (batch : Batch) → old.asked ≡ Some asked → Decides asked.entry asked.question p
-    → DoesPlan n p old hand new hand' (rest.Writes batch) → IsBatchFor new.asked batch
-batch_left passes n (plan.Writes batch') asked old hand new hand' batch kept plans (is, same, left) =
+-- a server that is to end has no writes left
+stop_none : (guarded : Bool) (old new : WebValue) (batch : Batch) → StopsIf guarded old new (rest.Writes batch) → ⊥
+stop_none true old new batch (left, responds) = let no : ⊥ = cc in no
+stop_none false old new batch (left, responds) = let no : ⊥ = cc in no
+
+batch_left : (site : SiteValue) (feed : FeedValue) (guarded : Bool) (passes : Option (List Pass)) (n : ℕ) (p : Plan) (asked : Asked) (old : WebValue) (hand : AtHandValue) (new : WebValue) (hand' : AtHandValue) (batch : Batch) → old.asked ≡ Some asked → Decides asked.entry asked.question p
+    → DoesPlan site feed guarded n p old hand new hand' (rest.Writes batch) → IsBatchFor new.asked batch
+batch_left site feed guarded passes n (plan.Writes batch') asked old hand new hand' batch kept plans (is, same, left) =
     let one : batch ≡ batch' = cc in
     subst (λ o. IsBatchFor o batch) (sym (ap (λ (w : WebValue). w.asked) same ∙ kept)) (subst (λ b. IsBatchFor (Some asked) b) (sym one) (let decided = writes_decided asked.entry asked.question batch' plans in (decided.0, decided.1, batch_asked decided.0 asked.question batch' decided.2)))
-batch_left passes n (plan.Ask request) asked old hand new hand' batch kept plans (asks, left) = absurd (let no : ⊥ = cc in no)
-batch_left passes n (plan.Changes since wait) asked old hand new hand' batch kept plans (is, inl (left, body)) = absurd (let no : ⊥ = cc in no)
-batch_left passes n (plan.Changes since wait) asked old hand new hand' batch kept plans (is, inr (root, some, left, same)) = absurd (let no : ⊥ = cc in no)
-batch_left passes n (plan.Asks right) asked old hand new hand' batch kept plans (told, body) = let left = told.1 in absurd (let no : ⊥ = cc in no)
-batch_left passes n plan.Listed asked old hand new hand' batch kept plans (told, body) = let left = told.1 in absurd (let no : ⊥ = cc in no)
-batch_left passes n (plan.BadLine line) asked old hand new hand' batch kept plans (told, body) = let left = told.1 in absurd (let no : ⊥ = cc in no)
-batch_left passes n plan.Root asked old hand new hand' batch kept plans (told, body) = let left = told.1 in absurd (let no : ⊥ = cc in no)
-batch_left passes n plan.Health asked old hand new hand' batch kept plans (told, body) = let left = told.1 in absurd (let no : ⊥ = cc in no)
-batch_left passes n plan.Stop asked old hand new hand' batch kept plans (is, (true, (left, responds))) = absurd (let no : ⊥ = cc in no)
-batch_left passes n plan.Stop asked old hand new hand' batch kept plans (is, (false, (left, responds))) = absurd (let no : ⊥ = cc in no)
-batch_left passes n plan.Metrics asked old hand new hand' batch kept plans (told, body) = let left = told.1 in absurd (let no : ⊥ = cc in no)
-batch_left passes n (plan.Told answer body) asked old hand new hand' batch kept plans (told, responds) = let left = told.1 in absurd (let no : ⊥ = cc in no)
-batch_left passes n plan.NotAdmitted asked old hand new hand' batch kept plans (told, responds) = let left = told.1 in absurd (let no : ⊥ = cc in no)
-batch_left passes n (plan.Refused refusal) asked old hand new hand' batch kept plans (told, refuses) = let left = told.1 in absurd (let no : ⊥ = cc in no)
+batch_left site feed guarded passes n (plan.Ask request) asked old hand new hand' batch kept plans (asks, left) = absurd (let no : ⊥ = cc in no)
+batch_left site feed guarded passes n (plan.Changes since wait) asked old hand new hand' batch kept plans (is, inl (left, body)) = absurd (let no : ⊥ = cc in no)
+batch_left site feed guarded passes n (plan.Changes since wait) asked old hand new hand' batch kept plans (is, inr (root, quiet, left, same)) = absurd (let no : ⊥ = cc in no)
+batch_left site feed guarded passes n (plan.Asks right) asked old hand new hand' batch kept plans (told, body) = let left = told.1 in absurd (let no : ⊥ = cc in no)
+batch_left site feed guarded passes n plan.Listed asked old hand new hand' batch kept plans (told, body) = let left = told.1 in absurd (let no : ⊥ = cc in no)
+batch_left site feed guarded passes n (plan.BadLine line) asked old hand new hand' batch kept plans (told, body) = let left = told.1 in absurd (let no : ⊥ = cc in no)
+batch_left site feed guarded passes n plan.Root asked old hand new hand' batch kept plans (told, body) = let left = told.1 in absurd (let no : ⊥ = cc in no)
+batch_left site feed guarded passes n plan.Health asked old hand new hand' batch kept plans (told, body) = let left = told.1 in absurd (let no : ⊥ = cc in no)
+batch_left site feed guarded passes n plan.Stop asked old hand new hand' batch kept plans (is, stops) = absurd (stop_none guarded old new batch stops)
+batch_left site feed guarded passes n plan.Metrics asked old hand new hand' batch kept plans (told, body) = let left = told.1 in absurd (let no : ⊥ = cc in no)
+batch_left site feed guarded passes n (plan.Told answer body) asked old hand new hand' batch kept plans (told, responds) = let left = told.1 in absurd (let no : ⊥ = cc in no)
+batch_left site feed guarded passes n plan.NotAdmitted asked old hand new hand' batch kept plans (told, responds) = let left = told.1 in absurd (let no : ⊥ = cc in no)
+batch_left site feed guarded passes n (plan.Refused refusal) asked old hand new hand' batch kept plans (told, refuses) = let left = told.1 in absurd (let no : ⊥ = cc in no)
 
-pub batch_of : (passes : Option (List Pass)) (names : Named) (n : ℕ) (old : WebValue) (hand : AtHandValue) (new : WebValue) (hand' : AtHandValue) (batch : Batch) → AsksNextOf passes names n old hand new hand' (rest.Writes batch) → IsBatchFor new.asked batch
-batch_of passes names n old hand new hand' batch (inl (told, none)) = let left = told.1 in absurd (let no : ⊥ = cc in no)
-batch_of passes names n old hand new hand' batch (inr one) = batch_left passes n one.plan one.asked one.mid hand new hand' batch one.kept one.decides one.does
+pub batch_of : (site : SiteValue) (feed : FeedValue) (passes : Option (List Pass)) (names : Named) (n : ℕ) (old : WebValue) (hand : AtHandValue) (new : WebValue) (hand' : AtHandValue) (batch : Batch) → AsksNextOf site feed passes names n old hand new hand' (rest.Writes batch) → IsBatchFor new.asked batch
+batch_of site feed passes names n old hand new hand' batch (inl (told, none)) = let left = told.1 in absurd (let no : ⊥ = cc in no)
+batch_of site feed passes names n old hand new hand' batch (inr one) = batch_left site feed (is_some passes) passes n one.plan one.asked one.mid hand new hand' batch one.kept one.decides one.does
 
 -- ---- a request is taken, or none is
 
-pub asks_none : (passes : Option (List Pass)) (names : Named) (n : ℕ) (old new : WebValue) (hand : AtHandValue) (took : Bool) → TakesRequest passes names old took new → took ≡ false → AsksNextOf passes names n old hand new hand rest.Nothing
-asks_none passes names n old new hand took takes is = inl ((refl, refl), subst (λ b. TakesRequest passes names old b new) is takes)
+pub asks_none : (site : SiteValue) (feed : FeedValue) (passes : Option (List Pass)) (names : Named) (n : ℕ) (old new : WebValue) (hand : AtHandValue) (took : Bool) → TakesRequest passes names old took new → took ≡ false → AsksNextOf site feed passes names n old hand new hand rest.Nothing
+asks_none site feed passes names n old new hand took takes is = inl ((refl, refl), subst (λ b. TakesRequest passes names old b new) is takes)
 
 -- ---- lists are told of a site
 
-pub asks_told : (n : ℕ) (p : Plan) (right : Right) (site : SiteValue) (old new : WebValue) (hand : AtHandValue) → p ≡ plan.Asks right → TellsAsks right site old.asked old new → DoesPlan n p old hand new hand rest.Nothing
-asks_told n p right site old new hand is told = subst (λ (q : Plan). DoesPlan n q old hand new hand rest.Nothing) (sym is) ((refl, refl), (site, told))
+pub asks_told : (feed : FeedValue) (guarded : Bool) (n : ℕ) (p : Plan) (right : Right) (site : SiteValue) (old new : WebValue) (hand : AtHandValue) → p ≡ plan.Asks right → TellsAsks right site old.asked old new → DoesPlan site feed guarded n p old hand new hand rest.Nothing
+asks_told feed guarded n p right site old new hand is told = subst (λ (q : Plan). DoesPlan site feed guarded n q old hand new hand rest.Nothing) (sym is) ((refl, refl), told)
 
-pub listed_told : (n : ℕ) (p : Plan) (site : SiteValue) (old new : WebValue) (hand : AtHandValue) → p ≡ plan.Listed → TellsListed site old.asked old new → DoesPlan n p old hand new hand rest.Nothing
-listed_told n p site old new hand is told = subst (λ (q : Plan). DoesPlan n q old hand new hand rest.Nothing) (sym is) ((refl, refl), (site, told))
+pub listed_told : (feed : FeedValue) (guarded : Bool) (n : ℕ) (p : Plan) (site : SiteValue) (old new : WebValue) (hand : AtHandValue) → p ≡ plan.Listed → TellsListed site old.asked old new → DoesPlan site feed guarded n p old hand new hand rest.Nothing
+listed_told feed guarded n p site old new hand is told = subst (λ (q : Plan). DoesPlan site feed guarded n q old hand new hand rest.Nothing) (sym is) ((refl, refl), told)
 
 -- ---- the server ends, or not
 
-pub stop_told : (n : ℕ) (p : Plan) (guarded : Bool) (old new : WebValue) (hand : AtHandValue) (left : Rest) → p ≡ plan.Stop → StopsIf guarded old new left → DoesPlan n p old hand new hand left
-stop_told n p guarded old new hand left is stops = subst (λ (q : Plan). DoesPlan n q old hand new hand left) (sym is) (refl, (guarded, stops))
-
-pub stops_guarded : (guarded : Bool) (old new : WebValue) (left : Rest) → StopsIf guarded old new left → left ≡ rest.Stops → guarded ≡ true
-stops_guarded true old new left stops is = refl
-stops_guarded false old new left (none, responds) is = absurd (let no : ⊥ = cc in no)
+pub stop_told : (site : SiteValue) (feed : FeedValue) (guarded : Bool) (n : ℕ) (p : Plan) (old new : WebValue) (hand : AtHandValue) (left : Rest) → p ≡ plan.Stop → StopsIf guarded old new left → DoesPlan site feed guarded n p old hand new hand left
+stop_told site feed guarded n p old new hand left is stops = subst (λ (q : Plan). DoesPlan site feed guarded n q old hand new hand left) (sym is) (refl, stops)
 
 pub copied_some : {A : Type 0} (o : Option (Bor A)) → is_some (option_copied o) ≡ is_some o
 copied_some None = refl
@@ -209,9 +210,9 @@ module _ (old : WebValue) (batch : Batch) (new : WebValue) (batch' : Batch) (rep
       → RespondsTo old.asked old (plain_answer 200 content.Lines) (string_bytes batch'.lines) new → (n : ℕ) (hand hand' : AtHandValue) → TakesIf n reply hand hand' → TellsBatch n old batch hand new batch' hand'
   tells_all only each all responds n hand hand' takes = (only, (reply, takes), (Ok true, each n hand hand' takes, tt, (all, responds)))
 
-  pub tells_none : IsOnlyTold batch batch' → ((n : ℕ) (hand hand' : AtHandValue) → TakesIf n reply hand hand' → TellsEachLine n batch hand batch' hand') → new ≡ old → (n : ℕ) (hand hand' : AtHandValue) → TakesIf n reply hand hand'
+  pub tells_none : IsOnlyTold batch batch' → ((n : ℕ) (hand hand' : AtHandValue) → TakesIf n reply hand hand' → TellsEachLine n batch hand batch' hand') → batch'.told < length batch'.refused.items → new ≡ old → (n : ℕ) (hand hand' : AtHandValue) → TakesIf n reply hand hand'
       → TellsBatch n old batch hand new batch' hand'
-  tells_none only each same n hand hand' takes = (only, (reply, takes), (Ok false, each n hand hand' takes, tt, same))
+  tells_none only each less same n hand hand' takes = (only, (reply, takes), (Ok false, each n hand hand' takes, tt, (less, same)))
 
   pub tells_stop : (refusal : Refusal) → IsOnlyTold batch batch' → IsUntold batch' → new ≡ stopped_by old refusal → (n : ℕ) (hand hand' : AtHandValue) → TakesIf n reply hand hand' → TellsBatch n old batch hand new batch' hand'
   tells_stop refusal only gone is n hand hand' takes = (only, (reply, takes), (Err refusal, tt, gone, is))

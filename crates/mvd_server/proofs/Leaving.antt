@@ -35,7 +35,7 @@ spent_over t n web has over = subst (λ o. HasNothingLeft (is_own_client t n) o 
 
 pub back_frames : (n : ℕ) (old : Talking) (host : HostValue) → ClientLeaves old.host n host → GoesAtOnce Frames n old (with_host old host)
 back_frames n old host leaves before (one, same) =
-    deeds_one (TurnsBack n old.host) before (with_host old host) (first_guard before.passes, one, leaves, ap (λ (t : Talking). with_host t host) same)
+    deeds_one (TurnsBack n old.host) before (with_host old host) (λ site. tt) (first_guard before.passes, one, leaves, ap (λ (t : Talking). with_host t host) same)
 
 fresh_goes : (n : ℕ) (web : WebConnection) (before old : Talking) → DoesAct (ComesByWeb n web) before old → MayPart n old
 fresh_goes n web before old (number, fresh, same) =
@@ -43,4 +43,4 @@ fresh_goes n web before old (number, fresh, same) =
     subst (λ o. HasNothingLeft (is_own_client old n) o (client_of old.host n)) (sym has) (inr fresh)
 
 pub back_web : (n : ℕ) (old new : Talking) → (MayPart n old → Deeds old new) → GoesAtOnce Http n old new
-back_web n old new goes before (web, does) = deeds_on before old new (deeds_one (ComesByWeb n web) before old does) (goes (fresh_goes n web before old does))
+back_web n old new goes before (web, does) = deeds_on before old new (deeds_one (ComesByWeb n web) before old (λ site. tt) does) (goes (fresh_goes n web before old does))

@@ -14,6 +14,7 @@ pub mod Hearing
 pub mod Keyed
 pub mod Leaving
 pub mod Lining
+pub mod Listing
 pub mod Meeting
 pub mod Moving
 pub mod Numbering

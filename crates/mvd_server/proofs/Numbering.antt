@@ -11,10 +11,11 @@ use Rattle.mvd_conn.specs.declared.passes.Pass.{Pass}
 use Rattle.mvd_http.specs.Guard.{Named}
 use Rattle.mvd_host.proofs.Hosts.{at_is}
 use Rattle.mvd_host.specs.AtHand.{AtHandValue, first_at_hand}
+use Rattle.mvd_host.specs.Feeds.{FeedValue}
 use Rattle.mvd_host.specs.Hosts.{HostValue}
 use Rattle.mvd_server.proofs.Keyed.{found_at}
 use Rattle.mvd_server.specs.Rounds.{with_round}
-use Rattle.mvd_server.specs.Talking.{Attends, Begins, Calls, Comes, ComesByWeb, ComesOwn, Deed, Drops, Goes, GoesOwn, Hands, Rotates, Talking, TurnsBack, new_talking, web_in, with_web}
+use Rattle.mvd_server.specs.Talking.{Act, Attends, Begins, Calls, Comes, ComesByWeb, ComesOwn, DoesAct, Drops, Follows, Goes, GoesOwn, Hands, Rotates, Talking, TurnsBack, new_talking, web_in, with_web}
 use Rattle.mvd_server.specs.Wires.{GivesOut, SendsBy, TakesBy, TakesInput}
 use Rattle.mvd_web.specs.declared.web_connection.WebConnection.{WebConnection}
 
@@ -79,26 +80,27 @@ still t mid next webs a = record { next = subst (λ n. first_at_hand ≤ n) (sym
 web_set : (t : Talking) (n : ℕ) (web : WebConnection) → AreNumbered t → AreNumbered (with_web t n web)
 web_set t n web a = record { next = a.next; webs = all_set n web t.webs a.webs }
 
-pub numbered_deed : (old new : Talking) → Deed old new → AreNumbered old → AreNumbered new
-numbered_deed old new (Comes n, does) a = still old new (ap (λ (t : Talking). t.next) does.1) (ap (λ (t : Talking). t.webs) does.1) a
-numbered_deed old new (ComesByWeb n web, does) a =
+pub numbered_deed : (old new : Talking) → (act : Act) → DoesAct act old new → AreNumbered old → AreNumbered new
+numbered_deed old new (Comes n) does a = still old new (ap (λ (t : Talking). t.next) does.1) (ap (λ (t : Talking). t.webs) does.1) a
+numbered_deed old new (ComesByWeb n web) does a =
     let next = a.next in
     to (record old { webs = insert_entry nat_cmp old.webs n web; next = old.next + 1 }) new does.2
     (record { next = omega (arith, next); webs = all_insert n web old.webs (subst (λ m. first_at_hand ≤ m) (sym does.0) next) a.webs })
-numbered_deed old new (ComesOwn n, does) a = still old new (ap (λ (t : Talking). t.next) does.1) (ap (λ (t : Talking). t.webs) does.1) a
-numbered_deed old new (TurnsBack n mid, does) a = still old new (ap (λ (t : Talking). t.next) does.3) (ap (λ (t : Talking). t.webs) does.3) a
-numbered_deed old new (Goes n, does) a =
+numbered_deed old new (ComesOwn n) does a = still old new (ap (λ (t : Talking). t.next) does.1) (ap (λ (t : Talking). t.webs) does.1) a
+numbered_deed old new (TurnsBack n mid) does a = still old new (ap (λ (t : Talking). t.next) does.3) (ap (λ (t : Talking). t.webs) does.3) a
+numbered_deed old new (Goes n) does a =
     record {
       next = subst (λ m. first_at_hand ≤ m) (sym (ap (λ (t : Talking). t.next) does.2)) a.next;
       webs = subst All (sym (ap (λ (t : Talking). t.webs) does.2)) (all_removed n old.webs a.webs);
     }
-numbered_deed old new (GoesOwn n, does) a = still old new (ap (λ (t : Talking). t.next) does.2) (ap (λ (t : Talking). t.webs) does.2) a
-numbered_deed old new (Calls n call, does) a = still old new (ap (λ (t : Talking). t.next) does.1) (ap (λ (t : Talking). t.webs) does.1) a
-numbered_deed old new (Attends n web web' errand, does) a = still (with_web old n web') new (ap (λ (t : Talking). t.next) does.2) (ap (λ (t : Talking). t.webs) does.2) (web_set old n web' a)
-numbered_deed old new (Begins n batch, does) a = still old new (ap (λ (t : Talking). t.next) does.1) (ap (λ (t : Talking). t.webs) does.1) a
-numbered_deed old new (Hands n batch batch', does) a = still old new (ap (λ (t : Talking). t.next) does.2) (ap (λ (t : Talking). t.webs) does.2) a
-numbered_deed old new (Drops n reply, does) a = still old new (ap (λ (t : Talking). t.next) does.1.1) (ap (λ (t : Talking). t.webs) does.1.1) a
-numbered_deed old new (Rotates passes, does) a = still old new (ap (λ (t : Talking). t.next) does.1) (ap (λ (t : Talking). t.webs) does.1) a
+numbered_deed old new (GoesOwn n) does a = still old new (ap (λ (t : Talking). t.next) does.2) (ap (λ (t : Talking). t.webs) does.2) a
+numbered_deed old new (Calls n call) does a = still old new (ap (λ (t : Talking). t.next) does.1) (ap (λ (t : Talking). t.webs) does.1) a
+numbered_deed old new (Attends n web web' errand site) does a = still (with_web old n web') new (ap (λ (t : Talking). t.next) does.2) (ap (λ (t : Talking). t.webs) does.2) (web_set old n web' a)
+numbered_deed old new (Begins n batch) does a = still old new (ap (λ (t : Talking). t.next) does.1) (ap (λ (t : Talking). t.webs) does.1) a
+numbered_deed old new (Hands n batch batch') does a = still old new (ap (λ (t : Talking). t.next) does.2) (ap (λ (t : Talking). t.webs) does.2) a
+numbered_deed old new (Drops n reply) does a = still old new (ap (λ (t : Talking). t.next) does.1.1) (ap (λ (t : Talking). t.webs) does.1.1) a
+numbered_deed old new (Rotates passes) does a = still old new (ap (λ (t : Talking). t.next) does.1) (ap (λ (t : Talking). t.webs) does.1) a
+numbered_deed old new (Follows feed site) does a = still old new (ap (λ (t : Talking). t.next) does.1) (ap (λ (t : Talking). t.webs) does.1) a
 
 numbered_by : (web : Option WebConnection) (n : ℕ) (bytes : List ℕ) (old new : Talking) → TakesBy web n bytes old new → AreNumbered old → AreNumbered new
 numbered_by None n bytes old new (apart, takes, same) a = still old new (ap (λ (t : Talking). t.next) same) (ap (λ (t : Talking). t.webs) same) a
@@ -116,5 +118,5 @@ pub numbered_out : (n : ℕ) (bytes : List ℕ) (old new : Talking) → GivesOut
 numbered_out n bytes old new (inl (first, sends)) a = numbered_sends (web_in old n) n (length bytes) old new sends a
 numbered_out n bytes old new (inr (same, none)) a = to old new same a
 
-pub numbered_round : (t : Talking) (host : HostValue) (hand : AtHandValue) → AreNumbered t → AreNumbered (with_round t host hand)
-numbered_round t host hand a = record { next = a.next; webs = a.webs }
+pub numbered_round : (t : Talking) (host : HostValue) (hand : AtHandValue) (feed : FeedValue) → AreNumbered t → AreNumbered (with_round t host hand feed)
+numbered_round t host hand feed a = record { next = a.next; webs = a.webs }

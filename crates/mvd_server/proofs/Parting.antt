@@ -10,7 +10,7 @@ use Rattle.mvd_conn.specs.declared.guard.Guard.{Guard}
 use Rattle.mvd_server.proofs.Keyed.{has_set}
 use Rattle.mvd_server.specs.HostBytes.{TakesBytes, waits_of}
 use Rattle.mvd_server.specs.Guarded.{first_guard}
-use Rattle.mvd_server.specs.Talking.{Attends, Begins, Calls, Comes, ComesByWeb, ComesOwn, Deed, Drops, Goes, GoesOwn, Hands, IsMadeFor, HasNothingLeft, Rotates, Talking, TurnsBack, is_own_client, web_in}
+use Rattle.mvd_server.specs.Talking.{Act, Attends, Begins, Calls, Comes, ComesByWeb, ComesOwn, DoesAct, Drops, Follows, Goes, GoesOwn, Hands, IsMadeFor, HasNothingLeft, Rotates, Talking, TurnsBack, is_own_client, web_in}
 use Rattle.mvd_server.specs.Wires.{GivesOut, SendsBy, TakesBy, TakesInput}
 use Rattle.mvd_web.specs.declared.web_connection.WebConnection.{WebConnection}
 
@@ -74,26 +74,27 @@ module _ (old new : Talking) (n : ℕ) (h : History) (found : client_of old.host
   still : {P : Type 0} → new.host ≡ old.host → P
   still same = never (here_same old.host new.host n same here)
 
-  pub parts_deed : n < old.host.admitted → web_in old n ≡ None → Deed old new → Parts old n h
-  parts_deed given apart (Comes m, does) = never (here_came (first_guard old.passes) old.host new.host m n does.0 here)
-  parts_deed given apart (ComesByWeb m web, does) = still (ap (λ (t : Talking). t.host) does.2)
-  parts_deed given apart (ComesOwn m, does) = never (here_came None old.host new.host m n does.0 here)
-  parts_deed given apart (TurnsBack m mid, does) =
+  pub parts_deed : n < old.host.admitted → web_in old n ≡ None → (act : Act) → DoesAct act old new → Parts old n h
+  parts_deed given apart (Comes m) does = never (here_came (first_guard old.passes) old.host new.host m n does.0 here)
+  parts_deed given apart (ComesByWeb m web) does = still (ap (λ (t : Talking). t.host) does.2)
+  parts_deed given apart (ComesOwn m) does = never (here_came None old.host new.host m n does.0 here)
+  parts_deed given apart (TurnsBack m mid) does =
       let is : n ≡ m = gone_is mid new.host m n does.2 (here_came does.0 old.host mid m n does.1 here) gone in
       let number = does.1.number in
       absurd (let no : ⊥ = omega (arith, is, number, given) in no)
-  parts_deed given apart (Goes m, does) =
+  parts_deed given apart (Goes m) does =
       let is : n ≡ m = gone_is old.host new.host m n does.1 here gone in
       parts_spent old n h found apart (subst (λ i. HasNothingLeft (is_own_client old i) (web_in old i) (client_of old.host i)) (sym is) does.0)
-  parts_deed given apart (GoesOwn m, does) =
+  parts_deed given apart (GoesOwn m) does =
       let is : n ≡ m = gone_is old.host new.host m n does.1 here gone in
       inr (subst (λ i. is_own_client old i ≡ true) (sym is) does.0)
-  parts_deed given apart (Calls m call, does) = never (here_same (altered old.host m (after_call call)) new.host n (ap (λ (t : Talking). t.host) does.1) (here_altered old.host m n (after_call call) here))
-  parts_deed given apart (Attends m web web' errand, does) = still (ap (λ (t : Talking). t.host) does.2)
-  parts_deed given apart (Begins m batch, does) = still (ap (λ (t : Talking). t.host) does.1)
-  parts_deed given apart (Hands m batch batch', does) = still (ap (λ (t : Talking). t.host) does.2)
-  parts_deed given apart (Drops m reply, does) = still (ap (λ (t : Talking). t.host) does.1.1)
-  parts_deed given apart (Rotates passes, does) = still (ap (λ (t : Talking). t.host) does.1)
+  parts_deed given apart (Calls m call) does = never (here_same (altered old.host m (after_call call)) new.host n (ap (λ (t : Talking). t.host) does.1) (here_altered old.host m n (after_call call) here))
+  parts_deed given apart (Attends m web web' errand site) does = still (ap (λ (t : Talking). t.host) does.2)
+  parts_deed given apart (Begins m batch) does = still (ap (λ (t : Talking). t.host) does.1)
+  parts_deed given apart (Hands m batch batch') does = still (ap (λ (t : Talking). t.host) does.2)
+  parts_deed given apart (Drops m reply) does = still (ap (λ (t : Talking). t.host) does.1.1)
+  parts_deed given apart (Rotates passes) does = still (ap (λ (t : Talking). t.host) does.1)
+  parts_deed given apart (Follows feed site) does = still (ap (λ (t : Talking). t.host) does.1)
 
   parts_by : (web : Option WebConnection) (m : ℕ) (bytes : List ℕ) → TakesBy web m bytes old new → Parts old n h
   parts_by None m bytes (apart, takes, same) = never (here_bytes m n bytes old.host new.host takes here)

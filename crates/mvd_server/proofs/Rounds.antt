@@ -25,9 +25,9 @@ use Rattle.mvd_server.proofs.Paths.{path_map, path_none, path_on, path_one}
 use Rattle.mvd_server.proofs.Deeds.{carries_deeds}
 use Rattle.mvd_server.proofs.Showing.{AreGuarded, AreKnown, Fits, IfAsked, guarded_deed, guarded_in, guarded_new, guarded_out, guarded_round, kept_deed, kept_in, kept_out}
 use Rattle.mvd_server.specs.Closing.{EndsServed, IsDeserted}
-use Rattle.mvd_server.specs.Paths.{IsWay}
+use Rattle.mvd_server.specs.Paths.{IsWay, Path}
 use Rattle.mvd_server.specs.Rounds.{AnswersClients, BeginsServing, KnowsPass, IsLetIn, MayAllTurn, WasKnown, WasKnownIn, GoesOnServing, HasRound, IsServed, ServeStep, Serving, ServingStep, WasMadeFor, WasThere, World, begun, hand_in, host_in, moment_of, with_round, world_of}
-use Rattle.mvd_server.specs.Talking.{Deeds, IsMadeFor, TalksDeeds, Talking, new_talking, talking_of, web_in}
+use Rattle.mvd_server.specs.Talking.{Deed, Deeds, DeedsAt, IsMadeFor, TalksDeeds, Talking, new_talking, talking_of, web_in}
 use Rattle.mvd_server.specs.Wires.{Carries, Wired, WiredStep, wired_of}
 use Rattle.mvd_server.specs.declared.sockets.Sockets.{Ghosts as SocketGhosts}
 use Rattle.mvd_server.specs.declared.talks.Talks.{Talks}
@@ -82,8 +82,8 @@ record Each (passes : Option (List Pass)) (Known : Pass → Type 0) (Made : ℕ 
   told : (turns ≡ []) ⊎ Told n turns
 
 module _ {K C : Type 0} (f : C → State) (k : SocketGhosts K) where
-  of_wired : (site : SiteValue) (conn : C) (old new : Wired K) → WiredStep k old new → Calm f (moment f site conn old.talking) (moment f site conn new.talking)
-  of_wired site conn old new (inl (deed, same)) = of_deed f site conn old.talking new.talking deed
+  of_wired : (site : SiteValue) (conn : C) (old new : Wired K) → WiredStep k site old new → Calm f (moment f site conn old.talking) (moment f site conn new.talking)
+  of_wired site conn old new (inl (deed, same)) = of_deed f site conn old.talking new.talking deed.0 deed.2
   of_wired site conn old new (inr (inl (n, bytes, gives, takes))) = of_in f site conn n bytes old.talking new.talking takes
   of_wired site conn old new (inr (inr (n, bytes, takes, gives))) = of_out f site conn n bytes old.talking new.talking gives
 
@@ -108,20 +108,20 @@ module _ {K C : Type 0} (f : C → State) (k : SocketGhosts K) where
     apart : AreNumbered t
     allowed : AreAllowed Known passes t
 
-  guards_wired : (passes : Option (List Pass)) (Known : Pass → Type 0) (old new : Wired K) → AreKnown Known old.talking → WiredStep k old new → Guards passes Known old.talking → Guards passes Known new.talking
-  guards_wired passes Known old new all (inl (deed, same)) s = record {
-    kept = kept_deed old.talking new.talking deed ∙ s.kept;
-    each = guarded_deed Known old.talking new.talking all deed s.each;
-    apart = numbered_deed old.talking new.talking deed s.apart;
-    allowed = allowed_deed Known passes old.talking new.talking s.kept all deed s.allowed;
+  guards_wired : (site : SiteValue) (passes : Option (List Pass)) (Known : Pass → Type 0) (old new : Wired K) → AreKnown Known old.talking → WiredStep k site old new → Guards passes Known old.talking → Guards passes Known new.talking
+  guards_wired site passes Known old new all (inl (deed, same)) s = record {
+    kept = kept_deed old.talking new.talking deed.0 deed.2 ∙ s.kept;
+    each = guarded_deed Known old.talking new.talking all deed.0 deed.2 s.each;
+    apart = numbered_deed old.talking new.talking deed.0 deed.2 s.apart;
+    allowed = allowed_deed Known passes old.talking new.talking s.kept all deed.0 deed.2 s.allowed;
   }
-  guards_wired passes Known old new all (inr (inl (n, bytes, gives, takes))) s = record {
+  guards_wired site passes Known old new all (inr (inl (n, bytes, gives, takes))) s = record {
     kept = kept_in n bytes old.talking new.talking takes ∙ s.kept;
     each = guarded_in Known n bytes old.talking new.talking takes s.each;
     apart = numbered_in n bytes old.talking new.talking takes s.apart;
     allowed = allowed_in Known passes n bytes old.talking new.talking takes s.allowed;
   }
-  guards_wired passes Known old new all (inr (inr (n, bytes, takes, gives))) s = record {
+  guards_wired site passes Known old new all (inr (inr (n, bytes, takes, gives))) s = record {
     kept = kept_out n bytes old.talking new.talking gives ∙ s.kept;
     each = guarded_out Known n bytes old.talking new.talking gives s.each;
     apart = numbered_out n bytes old.talking new.talking gives s.apart;
@@ -129,15 +129,15 @@ module _ {K C : Type 0} (f : C → State) (k : SocketGhosts K) where
   }
 
   guards_step : (passes : Option (List Pass)) (Known : Pass → Type 0) (old new : World K C) → AreKnown Known old.wired.talking → ServeStep f k old new → Guards passes Known old.wired.talking → Guards passes Known new.wired.talking
-  guards_step passes Known old new all (inl b) s = guards_wired passes Known old.wired new.wired all b.wired s
+  guards_step passes Known old new all (inl b) s = guards_wired old.site passes Known old.wired new.wired all b.wired s
   guards_step passes Known old new all (inr r) s =
       let t = old.wired.talking in
       subst (Guards passes Known) (sym (ap (λ (w : Wired K). w.talking) r.wired))
       (record {
         kept = s.kept;
-        each = guarded_round Known t (host_in new) (hand_in new) r.turns r.round.clients s.each;
-        apart = numbered_round t (host_in new) (hand_in new) s.apart;
-        allowed = allowed_round Known passes t (host_in new) (hand_in new) r.turns r.round.at_hand s.allowed;
+        each = guarded_round Known t (host_in new) (hand_in new) r.feed r.turns r.round.clients s.each;
+        apart = numbered_round t (host_in new) (hand_in new) r.feed s.apart;
+        allowed = allowed_round Known passes t (host_in new) (hand_in new) r.feed r.turns r.round.at_hand s.allowed;
       })
 
   -- whoever has gone has no turn in a step
@@ -153,14 +153,14 @@ module _ {K C : Type 0} (f : C → State) (k : SocketGhosts K) where
       ap (own n) (append-nil r.turns) ∙ r.round.spares.none n below (none_before (client_of (host_in old) n) (client_of (host_in new) n) (ClientCourse (own n r.turns)) (r.round.clients n) gone)
 
   -- and for whoever goes in one, nothing was left to do, or the server made its frames
-  parts_wired : (old new : Wired K) (n : ℕ) (h : History) → client_of old.talking.host n ≡ Some h → client_of new.talking.host n ≡ None → n < old.talking.host.admitted → web_in old.talking n ≡ None → WiredStep k old new
+  parts_wired : (site : SiteValue) (old new : Wired K) (n : ℕ) (h : History) → client_of old.talking.host n ≡ Some h → client_of new.talking.host n ≡ None → n < old.talking.host.admitted → web_in old.talking n ≡ None → WiredStep k site old new
       → (is_done h ≡ true) ⊎ IsMadeFor old.talking n
-  parts_wired old new n h found gone given apart (inl (deed, same)) = parts_deed old.talking new.talking n h found gone given apart deed
-  parts_wired old new n h found gone given apart (inr (inl (m, bytes, gives, takes))) = parts_in old.talking new.talking n h found gone m bytes takes
-  parts_wired old new n h found gone given apart (inr (inr (m, bytes, takes, gives))) = parts_out old.talking new.talking n h found gone m bytes gives
+  parts_wired site old new n h found gone given apart (inl (deed, same)) = parts_deed old.talking new.talking n h found gone given apart deed.0 deed.2
+  parts_wired site old new n h found gone given apart (inr (inl (m, bytes, gives, takes))) = parts_in old.talking new.talking n h found gone m bytes takes
+  parts_wired site old new n h found gone given apart (inr (inr (m, bytes, takes, gives))) = parts_out old.talking new.talking n h found gone m bytes gives
 
   parts_step : (old new : World K C) (n : ℕ) (h : History) → client_of (host_in old) n ≡ Some h → client_of (host_in new) n ≡ None → n < (host_in old).admitted → web_in old.wired.talking n ≡ None → ServeStep f k old new → (is_done h ≡ true) ⊎ IsMadeFor old.wired.talking n
-  parts_step old new n h found gone given apart (inl b) = parts_wired old.wired new.wired n h found gone given apart b.wired
+  parts_step old new n h found gone given apart (inl b) = parts_wired old.site old.wired new.wired n h found gone given apart b.wired
   parts_step old new n h found gone given apart (inr r) =
       let none = none_before (client_of (host_in old) n) (client_of (host_in new) n) (ClientCourse (own n r.turns)) (r.round.clients n) gone in
       absurd (let no : ◌≡◌ {A = Option History} (Some h) None = sym found ∙ none in cc)
@@ -300,10 +300,19 @@ module _ {S : Type 0} {g : Ghosts S} {K : Type 0} (k : SocketGhosts K) where
   pub goes_on : (wired mid wired' : Wired K) (old now new : Replica S g) → GoesOnServing k wired old mid now → GoesOnServing k mid now wired' new → GoesOnServing k wired old wired' new
   goes_on wired mid wired' old now new p q = path_on _ _ (world_of mid now) _ p q
 
-  pub goes_carries : (wired wired' : Wired K) (replica : Replica S g) → Carries k wired wired' → GoesOnServing k wired replica wired' replica
-  goes_carries wired wired' replica p =
-      path_map (WiredStep k) (ServeStep (state g) k) (λ w. record { wired = w; site = site_of replica; conn = conn_of replica })
+  goes_path : (wired wired' : Wired K) (replica : Replica S g) → Path (WiredStep k (site_of replica)) wired wired' → GoesOnServing k wired replica wired' replica
+  goes_path wired wired' replica p =
+      path_map (WiredStep k (site_of replica)) (ServeStep (state g) k) (λ w. record { wired = w; site = site_of replica; conn = conn_of replica })
       (λ a b one. inl (record { wired = one; site = refl; conn = refl })) wired wired' p
+
+  pub goes_carries : (wired wired' : Wired K) (replica : Replica S g) → Carries k wired wired' → GoesOnServing k wired replica wired' replica
+  goes_carries wired wired' replica p = goes_path wired wired' replica (p (site_of replica))
+
+  -- at the site as it is
+  goes_at : (old new : Talking) (sockets : K) (replica : Replica S g) → DeedsAt (site_of replica) old new → GoesOnServing k (record { talking = old; sockets = sockets }) replica (record { talking = new; sockets = sockets }) replica
+  goes_at old new sockets replica p =
+      goes_path (record { talking = old; sockets = sockets }) (record { talking = new; sockets = sockets }) replica
+      (path_map (Deed (site_of replica)) (WiredStep k (site_of replica)) (λ (t : Talking). record { talking = t; sockets = sockets }) (λ a b one. inl (one, refl)) old new p)
 
   pub goes_deeds : (old new : Talking) (sockets : K) (replica : Replica S g) → Deeds old new → GoesOnServing k (record { talking = old; sockets = sockets }) replica (record { talking = new; sockets = sockets }) replica
   goes_deeds old new sockets replica p = goes_carries (record { talking = old; sockets = sockets }) (record { talking = new; sockets = sockets }) replica (carries_deeds k old new sockets sockets refl p)
@@ -311,9 +320,9 @@ module _ {S : Type 0} {g : Ghosts S} {K : Type 0} (k : SocketGhosts K) where
   pub goes_round : (old new : Talking) (sockets : K) (replica replica' : Replica S g) → HasRound old new replica replica' → GoesOnServing k (record { talking = old; sockets = sockets }) replica (record { talking = new; sockets = sockets }) replica'
   goes_round old new sockets replica replica' r =
       let at : Talking → Wired K = λ t. record { talking = t; sockets = sockets } in
-      let after = with_round r.before r.host r.hand in
-      path_on _ _ (world_of (at r.before) replica) _ (goes_deeds old r.before sockets replica r.first)
-      (path_on _ _ (world_of (at after) replica') _ (path_one _ _ _ (inr (record { ready = r.ready; turns = r.turns; round = r.round; known = r.known; wired = refl }))) (goes_deeds after new sockets replica' r.last))
+      let after = with_round r.before r.host r.hand r.feed in
+      path_on _ _ (world_of (at r.before) replica) _ (goes_at old r.before sockets replica r.first)
+      (path_on _ _ (world_of (at after) replica') _ (path_one _ _ _ (inr (record { ready = r.ready; turns = r.turns; round = r.round; known = r.known; feed = r.feed; lists = r.lists; wired = refl }))) (goes_at after new sockets replica' r.last))
 
   -- rounds, and deeds between them
   answers_one : (old new : Serving (Replica S g)) (sockets : K) → ServingStep old new → GoesOnServing k (record { talking = old.talking; sockets = sockets }) old.replica (record { talking = new.talking; sockets = sockets }) new.replica

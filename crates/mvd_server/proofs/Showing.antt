@@ -21,13 +21,14 @@ use Rattle.mvd_wire.specs.Frames.{FrameValue}
 use Rattle.mvd_host.proofs.RoundLemmas.{was}
 use Rattle.mvd_host.specs.AtHand.{AtHandValue}
 use Rattle.mvd_host.specs.Course.{BothClients, own}
+use Rattle.mvd_host.specs.Feeds.{FeedValue}
 use Rattle.mvd_host.specs.Hosts.{AdmitsOne, ClientLeaves, HostValue, altered, altered_if, client_of}
 use Rattle.mvd_host.specs.Round.{ClientCourse}
 use Rattle.mvd_host.specs.Runs.{Call, Closes, Cuts, Feeds, Meets, Releases, Sends, after_call}
 use Rattle.mvd_replica.specs.Turns.{Turn}
 use Rattle.mvd_server.proofs.Keyed.{any_last, any_more, any_without, each_set}
 use Rattle.mvd_server.specs.HostBytes.{TakesBytes, waits_of}
-use Rattle.mvd_server.specs.Talking.{Attends, Begins, Calls, Comes, ComesByWeb, ComesOwn, Deed, Drops, Goes, GoesOwn, Hands, IsMadeFor, MayCall, Rotates, Talking, TurnsBack, new_talking, web_in, with_host, with_web, left_without}
+use Rattle.mvd_server.specs.Talking.{Act, Attends, Begins, Calls, Comes, ComesByWeb, ComesOwn, DoesAct, Drops, Follows, Goes, GoesOwn, Hands, IsMadeFor, MayCall, Rotates, Talking, TurnsBack, new_talking, web_in, with_host, with_web, left_without}
 use Rattle.mvd_server.specs.Guarded.{first_guard}
 use Rattle.mvd_server.specs.Rounds.{KnowsPass, with_round}
 use Rattle.mvd_server.specs.Wires.{GivesOut, SendsBy, TakesBy, TakesInput}
@@ -138,14 +139,14 @@ guarded_altered Known t n f still each = altered_by Known t n f still (client_of
 to : (Known : Pass → Type 0) (old new : Talking) → new ≡ old → AreGuarded Known old → AreGuarded Known new
 to Known old new same each = subst (AreGuarded Known) (sym same) each
 
-pub guarded_deed : (Known : Pass → Type 0) (old new : Talking) → AreKnown Known old → Deed old new → AreGuarded Known old → AreGuarded Known new
-guarded_deed Known old new all (Comes n, does) each = to Known (with_host old new.host) new does.1 (λ q h found. on q h (came (first_guard old.passes) old.host new.host n q h does.0 found))
+pub guarded_deed : (Known : Pass → Type 0) (old new : Talking) → AreKnown Known old → (act : Act) → DoesAct act old new → AreGuarded Known old → AreGuarded Known new
+guarded_deed Known old new all (Comes n) does each = to Known (with_host old new.host) new does.1 (λ q h found. on q h (came (first_guard old.passes) old.host new.host n q h does.0 found))
   where
     on : (q : ℕ) (h : History) → ((q ≡ n) × (h.guard ≡ first_guard old.passes)) ⊎ (client_of old.host q ≡ Some h) → IfAsked old.passes (Fits Known h.guard) ⊎ IsMadeFor old q
     on q h (inl (at, is)) = inl (subst (λ (x : Option Guard). IfAsked old.passes (Fits Known x)) (sym is) (first_fits Known old.passes))
     on q h (inr at) = each q h at
-guarded_deed Known old new all (ComesByWeb n web, does) each = to Known (record old { webs = insert_entry nat_cmp old.webs n web; next = old.next + 1 }) new does.2 each
-guarded_deed Known old new all (ComesOwn n, does) each = to Known (record old { host = new.host; own = old.own ++ n ∷ [] }) new does.1 (λ q h found. on q h (came None old.host new.host n q h does.0 found))
+guarded_deed Known old new all (ComesByWeb n web) does each = to Known (record old { webs = insert_entry nat_cmp old.webs n web; next = old.next + 1 }) new does.2 each
+guarded_deed Known old new all (ComesOwn n) does each = to Known (record old { host = new.host; own = old.own ++ n ∷ [] }) new does.1 (λ q h found. on q h (came None old.host new.host n q h does.0 found))
   where
     more : (q : ℕ) (h : History) → IfAsked old.passes (Fits Known h.guard) ⊎ IsMadeFor old q → IfAsked old.passes (Fits Known h.guard) ⊎ IsMadeFor (record old { host = new.host; own = old.own ++ n ∷ [] }) q
     more q h (inl is) = inl is
@@ -154,25 +155,25 @@ guarded_deed Known old new all (ComesOwn n, does) each = to Known (record old { 
     on : (q : ℕ) (h : History) → ((q ≡ n) × (h.guard ≡ None)) ⊎ (client_of old.host q ≡ Some h) → IfAsked old.passes (Fits Known h.guard) ⊎ IsMadeFor (record old { host = new.host; own = old.own ++ n ∷ [] }) q
     on q h (inl (at, is)) = inr (subst (λ i. list_any (λ x. x == i) (old.own ++ n ∷ []) ≡ true) (sym at) (any_last n old.own))
     on q h (inr at) = more q h (each q h at)
-guarded_deed Known old new all (TurnsBack n mid, does) each = to Known (with_host old new.host) new does.3 (λ q h found. let at = stayed mid new.host n q h does.2 found in on q h at.0 (came does.0 old.host mid n q h does.1 at.1))
+guarded_deed Known old new all (TurnsBack n mid) does each = to Known (with_host old new.host) new does.3 (λ q h found. let at = stayed mid new.host n q h does.2 found in on q h at.0 (came does.0 old.host mid n q h does.1 at.1))
   where
     on : (q : ℕ) (h : History) → (q == n) ≡ false → ((q ≡ n) × (h.guard ≡ does.0)) ⊎ (client_of old.host q ≡ Some h) → IfAsked old.passes (Fits Known h.guard) ⊎ IsMadeFor old q
     on q h apart (inl (at, is)) = absurd (let no : ⊥ = grind (arith, nat_tests, apart, at) in no)
     on q h apart (inr at) = each q h at
-guarded_deed Known old new all (Goes n, does) each =
+guarded_deed Known old new all (Goes n) does each =
     to Known (record old { host = new.host; webs = remove_entry (is_at (nat_cmp n)) old.webs; batches = remove_entry (is_at (nat_cmp n)) old.batches }) new does.2
     (λ q h found. each q h (stayed old.host new.host n q h does.1 found).1)
-guarded_deed Known old new all (GoesOwn n, does) each = to Known (record old { host = new.host; own = left_without n old.own }) new does.2 (λ q h found. let at = stayed old.host new.host n q h does.1 found in on q h at.0 (each q h at.1))
+guarded_deed Known old new all (GoesOwn n) does each = to Known (record old { host = new.host; own = left_without n old.own }) new does.2 (λ q h found. let at = stayed old.host new.host n q h does.1 found in on q h at.0 (each q h at.1))
   where
     on : (q : ℕ) (h : History) → (q == n) ≡ false → IfAsked old.passes (Fits Known h.guard) ⊎ IsMadeFor old q → IfAsked old.passes (Fits Known h.guard) ⊎ IsMadeFor (record old { host = new.host; own = left_without n old.own }) q
     on q h apart (inl is) = inl is
     on q h apart (inr is) = inr (any_without n q old.own apart is)
-guarded_deed Known old new all (Calls n call, does) each = to Known (with_host old (altered old.host n (after_call call))) new does.1 (guarded_altered Known old n (after_call call) (call_fits Known old n call all does.0) each)
-guarded_deed Known old new all (Attends n web web' errand, does) each = to Known (record (with_web old n web') { hand = new.hand; batches = new.batches }) new does.2 each
-guarded_deed Known old new all (Begins n batch, does) each = to Known (record old { batches = insert_entry nat_cmp old.batches n batch }) new does.1 each
-guarded_deed Known old new all (Hands n batch batch', does) each = to Known (record old { hand = new.hand; batches = set_value (is_at (nat_cmp n)) old.batches batch' }) new does.2 each
-guarded_deed Known old new all (Drops n reply, does) each = to Known (record old { hand = new.hand }) new does.1.1 each
-guarded_deed Known old new all (Rotates passes, does) each = to Known (record old { passes = Some passes }) new does.1 (λ q h found. on q h (each q h found))
+guarded_deed Known old new all (Calls n call) does each = to Known (with_host old (altered old.host n (after_call call))) new does.1 (guarded_altered Known old n (after_call call) (call_fits Known old n call all does.0) each)
+guarded_deed Known old new all (Attends n web web' errand site) does each = to Known (record (with_web old n web') { hand = new.hand; batches = new.batches }) new does.2 each
+guarded_deed Known old new all (Begins n batch) does each = to Known (record old { batches = insert_entry nat_cmp old.batches n batch }) new does.1 each
+guarded_deed Known old new all (Hands n batch batch') does each = to Known (record old { hand = new.hand; batches = set_value (is_at (nat_cmp n)) old.batches batch' }) new does.2 each
+guarded_deed Known old new all (Drops n reply) does each = to Known (record old { hand = new.hand }) new does.1.1 each
+guarded_deed Known old new all (Rotates passes) does each = to Known (record old { passes = Some passes }) new does.1 (λ q h found. on q h (each q h found))
   where
     asked_so : (asked : Option (List Pass)) (P : Type 0) → is_some asked ≡ true → IfAsked asked P → P
     asked_so None P some is = absurd (true≢false (sym some))
@@ -181,6 +182,8 @@ guarded_deed Known old new all (Rotates passes, does) each = to Known (record ol
     on : (q : ℕ) (h : History) → IfAsked old.passes (Fits Known h.guard) ⊎ IsMadeFor old q → Fits Known h.guard ⊎ IsMadeFor old q
     on q h (inl is) = inl (asked_so old.passes (Fits Known h.guard) does.0 is)
     on q h (inr made) = inr made
+
+guarded_deed Known old new all (Follows feed site) does each = to Known (record old { feed = feed }) new does.1 each
 
 -- ---- bytes
 
@@ -208,8 +211,8 @@ guarded_out Known n bytes old new (inr (same, none)) each = to Known old new sam
 
 -- ---- a round
 
-pub guarded_round : (Known : Pass → Type 0) (t : Talking) (host : HostValue) (hand : AtHandValue) (turns : List (ℕ × Turn)) → ((q : ℕ) → BothClients (client_of t.host q) (client_of host q) (ClientCourse (own q turns))) → AreGuarded Known t → AreGuarded Known (with_round t host hand)
-guarded_round Known t host hand turns both each q h found =
+pub guarded_round : (Known : Pass → Type 0) (t : Talking) (host : HostValue) (hand : AtHandValue) (feed : FeedValue) (turns : List (ℕ × Turn)) → ((q : ℕ) → BothClients (client_of t.host q) (client_of host q) (ClientCourse (own q turns))) → AreGuarded Known t → AreGuarded Known (with_round t host hand feed)
+guarded_round Known t host hand feed turns both each q h found =
     let k = was (client_of t.host q) h (ClientCourse (own q turns)) (subst (λ o. BothClients (client_of t.host q) o (ClientCourse (own q turns))) found (both q)) in
     on k.0 k.2 (each q k.0 k.1)
   where
@@ -222,19 +225,20 @@ guarded_round Known t host hand turns both each q h found =
 kept : (old new mid : Talking) → is_some mid.passes ≡ is_some old.passes → new ≡ mid → is_some new.passes ≡ is_some old.passes
 kept old new mid is same = ap (λ (t : Talking). is_some t.passes) same ∙ is
 
-pub kept_deed : (old new : Talking) → Deed old new → is_some new.passes ≡ is_some old.passes
-kept_deed old new (Comes n, does) = kept old new (with_host old new.host) refl does.1
-kept_deed old new (ComesByWeb n web, does) = kept old new _ refl does.2
-kept_deed old new (ComesOwn n, does) = kept old new _ refl does.1
-kept_deed old new (TurnsBack n mid, does) = kept old new _ refl does.3
-kept_deed old new (Goes n, does) = kept old new _ refl does.2
-kept_deed old new (GoesOwn n, does) = kept old new _ refl does.2
-kept_deed old new (Calls n call, does) = kept old new _ refl does.1
-kept_deed old new (Attends n web web' errand, does) = kept old new _ refl does.2
-kept_deed old new (Begins n batch, does) = kept old new _ refl does.1
-kept_deed old new (Hands n batch batch', does) = kept old new _ refl does.2
-kept_deed old new (Drops n reply, does) = kept old new _ refl does.1.1
-kept_deed old new (Rotates passes, does) = kept old new (record old { passes = Some passes }) (sym does.0) does.1
+pub kept_deed : (old new : Talking) → (act : Act) → DoesAct act old new → is_some new.passes ≡ is_some old.passes
+kept_deed old new (Comes n) does = kept old new (with_host old new.host) refl does.1
+kept_deed old new (ComesByWeb n web) does = kept old new _ refl does.2
+kept_deed old new (ComesOwn n) does = kept old new _ refl does.1
+kept_deed old new (TurnsBack n mid) does = kept old new _ refl does.3
+kept_deed old new (Goes n) does = kept old new _ refl does.2
+kept_deed old new (GoesOwn n) does = kept old new _ refl does.2
+kept_deed old new (Calls n call) does = kept old new _ refl does.1
+kept_deed old new (Attends n web web' errand site) does = kept old new _ refl does.2
+kept_deed old new (Begins n batch) does = kept old new _ refl does.1
+kept_deed old new (Hands n batch batch') does = kept old new _ refl does.2
+kept_deed old new (Drops n reply) does = kept old new _ refl does.1.1
+kept_deed old new (Rotates passes) does = kept old new (record old { passes = Some passes }) (sym does.0) does.1
+kept_deed old new (Follows feed site) does = kept old new _ refl does.1
 
 kept_by : (web : Option WebConnection) (n : ℕ) (bytes : List ℕ) (old new : Talking) → TakesBy web n bytes old new → is_some new.passes ≡ is_some old.passes
 kept_by None n bytes old new (apart, takes, same) = kept old new _ refl same

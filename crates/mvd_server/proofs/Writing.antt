@@ -17,7 +17,7 @@ responded (Some asked) old answer body new (inr is) = inr (ap (λ (w : WebValue)
 
 pub told_ends : (told : Result Bool Refusal) (old : WebValue) (batch : Batch) (new : WebValue) → TellsAllLines told old batch new → (new.asked ≡ old.asked) ⊎ (new.asked ≡ None)
 told_ends (Ok true) old batch new (all, responds) = responded old.asked old _ _ new responds
-told_ends (Ok false) old batch new same = inl (ap (λ (w : WebValue). w.asked) same)
+told_ends (Ok false) old batch new (less, same) = inl (ap (λ (w : WebValue). w.asked) same)
 told_ends (Err refusal) old batch new stopped = inl (ap (λ (w : WebValue). w.asked) stopped)
 
 pub asked_none : (o : Option (Bor Asked)) (asked : Option Asked) (none : Bool) → option_copied o ≡ asked → is_some o ≡ not none → none ≡ true → asked ≡ None

@@ -10,6 +10,7 @@ pub mod Lines
 pub mod Listings
 pub mod Looking
 pub mod Moves
+pub mod News
 pub mod OwnSides
 pub mod Paths
 pub mod PeerCounted

@@ -1,5 +1,5 @@
 -- What a client over HTTP is told of the reply to its request.
-use Rattle.std.specs.Prelude.{◌≡◌, ◌⊎◌, ◌&&◌, if◌then◌else◌, nat_le, codes, ℕ, Bool, true, false, List, [], ◌∷◌, Option, Some, None, Result, Ok}
+use Rattle.std.specs.Prelude.{◌≡◌, ◌⊎◌, ◌&&◌, if◌then◌else◌, nat_le, codes, ℕ, Bool, true, false, List, [], ◌∷◌, Option, Some, None, Result, Ok, Err}
 use Rattle.mvd_dots.specs.declared.refusals.Refusal.{Refusal}
 use Rattle.mvd_http.specs.Answers.{Responds, IsToldAs, Told, is_stored, live_told, misread_told, refused_told, reply_told, texts_told}
 use Rattle.mvd_http.specs.declared.fields.Answer.{Answer}
@@ -76,6 +76,11 @@ abbrev pub TellsBody : Content → WebValue → WebValue → Type 0
 TellsBody content old new =
     ((body : List ℕ) × RespondsTo old.asked old (plain_answer 200 content) body new)
     ⊎ ((refusal : Refusal) × RefusesWeb refusal old new)
+
+-- this body is told, where it was put down; else why not
+abbrev pub TellsPushed : {A : Type 0} → Result A Refusal → List ℕ → WebValue → WebValue → Type 0
+TellsPushed (Ok done) body old new = RespondsTo old.asked old (plain_answer 200 Json) body new
+TellsPushed (Err refusal) body old new = RefusesWeb refusal old new
 
 -- a token is asked for
 abbrev pub token_answer : Answer

@@ -5,7 +5,9 @@ use Rattle.mvd_conn.specs.declared.passes.Pass.{Pass}
 use Rattle.mvd_conn.specs.History.{History, is_done}
 use Rattle.mvd_host.specs.AtHand.{AtHandValue, first_at_hand, none_at_hand}
 use Rattle.mvd_host.specs.Course.{own}
+use Rattle.mvd_host.specs.Feeds.{FeedValue}
 use Rattle.mvd_host.specs.Hosts.{HostValue, IsClient, client_of, new_host}
+use Rattle.mvd_host.specs.Lists.{Lists, ListsOn}
 use Rattle.mvd_host.specs.Round.{Round, Side, host_side}
 use Rattle.mvd_host.specs.Runs.{Happening, HostMoment, IsHelloOf, OneList, Runs, TellsOwn, after_run, turns_in}
 use Rattle.mvd_host.specs.Within.{AreWithin, IsWithin}
@@ -15,11 +17,12 @@ use Rattle.mvd_replica.specs.Turns.{Turn}
 use Rattle.mvd_replica.specs.declared.replica.Replica.{Replica}
 use Rattle.mvd_server.specs.Guarded.{IsKnownNow}
 use Rattle.mvd_server.specs.Paths.{Path}
-use Rattle.mvd_server.specs.Talking.{Deeds, IsMadeFor, Talking, new_talking, talking_of}
+use Rattle.mvd_server.specs.Talking.{Deeds, DeedsAt, IsMadeFor, Talking, new_talking, talking_of}
 use Rattle.mvd_server.specs.Wires.{Wired, WiredStep}
 use Rattle.mvd_server.specs.declared.sockets.Sockets.{Ghosts as SocketGhosts}
 use Rattle.mvd_server.specs.declared.talks.Talks.{Talks}
 use Rattle.mvd_wire.specs.declared.request.Request.{Request}
+use Rattle.mvd_site.specs.Held.{States}
 use Rattle.mvd_site.specs.Sites.{SiteValue}
 use Rattle.sqlite.specs.Held.{Held, state}
 use Rattle.sqlite.specs.State.{State}
@@ -50,9 +53,13 @@ moment_of w = record { host = host_in w; hand = hand_in w; site = w.site; conn =
 abbrev pub side_in : {K C : Type 0} → (C → State) → World K C → Side
 side_in f w = record { host = host_in w; hand = hand_in w; site = w.site; store = f w.conn }
 
--- what a round leaves of the host, and at hand
-abbrev pub with_round : Talking → HostValue → AtHandValue → Talking
-with_round t host hand = record t { host = host; hand = hand }
+-- the feed lists what changed, up to the site as it is
+abbrev pub FeedLists : {K C : Type 0} → World K C → Type 0
+FeedLists w = (past : List States) × Lists w.wired.talking.feed past w.site.states
+
+-- what a round leaves of the host, at hand, and in the feed
+abbrev pub with_round : Talking → HostValue → AtHandValue → FeedValue → Talking
+with_round t host hand feed = record t { host = host; hand = hand; feed = feed }
 
 -- at one of these moments the server made the frames of a client
 abbrev pub WasMadeFor : {K C : Type 0} → ℕ → List (World K C) → Type 0
@@ -102,19 +109,22 @@ IsAllowed Known None request = ⊤
 IsAllowed Known (Some passes) request = (pass : Pass) × Known pass × IsWithin pass.right request
 
 module _ {K C : Type 0} (f : C → State) (k : SocketGhosts K) where
-  -- what a server does beside a round changes no site
+  -- what a server does beside a round changes no site, and is of the site as it is
   pub record Between (old new : World K C) : Type 0 where
-    pub wired : WiredStep k old.wired new.wired
+    pub wired : WiredStep k old.site old.wired new.wired
     pub site : new.site ≡ old.site
     pub conn : new.conn ≡ old.conn
 
-  -- a round of the host moves no byte of a socket
+  -- a round of the host moves no byte of a socket, and the feed lists what it changed
   pub record InRound (old new : World K C) : Type 0 where
     pub ready : List ℕ
     pub turns : List (ℕ × Turn)
     pub round : Round ready turns (side_in f old) (side_in f new)
     pub known : MayAllTurn old.wired.talking turns
-    pub wired : new.wired ≡ record (old.wired) { talking = with_round old.wired.talking (host_in new) (hand_in new) }
+    pub feed : FeedValue
+    pub lists : ListsOn old.wired.talking.feed old.site.states feed new.site.states
+    pub wired : new.wired
+        ≡ record (old.wired) { talking = with_round old.wired.talking (host_in new) (hand_in new) feed }
 
   abbrev pub ServeStep : World K C → World K C → Type 0
   ServeStep old new = Between old new ⊎ InRound old new
@@ -130,12 +140,14 @@ module _ {S : Type 0} {g : Ghosts S} where
     pub before : Talking
     pub host : HostValue
     pub hand : AtHandValue
-    pub first : Deeds old before
+    pub first : DeedsAt (site_of replica) old before
     pub ready : List ℕ
     pub turns : List (ℕ × Turn)
     pub round : Round ready turns (host_side before.host before.hand replica) (host_side host hand replica')
     pub known : MayAllTurn before turns
-    pub last : Deeds (with_round before host hand) new
+    pub feed : FeedValue
+    pub lists : ListsOn before.feed (site_of replica).states feed (site_of replica').states
+    pub last : DeedsAt (site_of replica') (with_round before host hand feed) new
 
   -- rounds, with deeds between them
   abbrev pub ServingStep : Serving (Replica S g) → Serving (Replica S g) → Type 0

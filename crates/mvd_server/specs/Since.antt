@@ -1,12 +1,17 @@
 -- What is told of the changes since a root.
-use Rattle.std.specs.Prelude.{ℕ, true, List, [], Option, Some, None}
+use Rattle.std.specs.Prelude.{◌≡◌, ◌⊎◌, ℕ, true, false, List, [], Option, Some, None, Result, Ok, Err}
+use Rattle.mvd_dots.specs.declared.refusals.Refusal.{Refusal}
+use Rattle.mvd_dots.specs.declared.refusals.Refusal.TheVariants.{BadKind}
 use Rattle.mvd_host.specs.Feeds.{ChangedValue, FeedValue, root_now, told_since}
 use Rattle.mvd_host.specs.Lists.{root_of}
 use Rattle.mvd_http.specs.Followed.{changed_text}
-use Rattle.mvd_http.specs.Json.{changes_text}
+use Rattle.mvd_http.specs.Json.{changes_text, not_waited_text}
 use Rattle.mvd_http.specs.declared.question.Followed.{Followed}
+use Rattle.mvd_http.specs.declared.question.Question.{Question}
+use Rattle.mvd_http.specs.declared.question.Question.TheVariants.{Changes}
 use Rattle.mvd_site.specs.Answer.{state_at}
 use Rattle.mvd_site.specs.Held.{States}
+use Rattle.mvd_web.specs.declared.taken.Asked.{Asked}
 
 -- the keys that changed, up to the root that is told, or that all is to be read anew, up to this root
 abbrev pub news_text : Followed → States → List ℕ → Option ChangedValue → List ℕ
@@ -27,3 +32,31 @@ text_from None feed followed states since = news_text followed states (root_of s
 -- what a feed tells of the changes since a root, at a site with these states
 abbrev pub since_text : FeedValue → Followed → States → Option (List ℕ) → List ℕ
 since_text feed followed states since = text_from (root_now feed) feed followed states since
+
+-- ---- a request for changes
+
+-- which changes it asks for, if it asks for such
+abbrev pub followed_of : Result Question Refusal → Option Followed
+followed_of (Ok (Changes since wait followed)) = Some followed
+followed_of question = None
+
+abbrev pub followed_in : Option Asked → Option Followed
+followed_in None = None
+followed_in (Some asked) = followed_of asked.question
+
+-- it is told what changed since the root that it names
+abbrev pub since_told : FeedValue → States → Option (List ℕ) → Option Followed → Result (List ℕ) Refusal
+since_told feed states since None = Err BadKind
+since_told feed states since (Some followed) = Ok (since_text feed followed states since)
+
+-- nothing that it asks for changed since, and the root now is this one
+abbrev pub IsQuiet : FeedValue → Option (List ℕ) → Option Followed → List ℕ → Type 0
+IsQuiet feed since None root = ⊥
+IsQuiet feed since (Some followed) root =
+    told_if feed followed.prefix since ≡ Some (record { keys = []; root = root })
+
+-- one that waited is told what changed since a root; or, of a root, that nothing did since, or that it did not wait
+abbrev pub IsNews : FeedValue → States → Followed → List ℕ → Type 0
+IsNews feed states followed text =
+    ((since : Option (List ℕ)) × (text ≡ since_text feed followed states since))
+    ⊎ ((root : List ℕ) × ((text ≡ changes_text root [] false) ⊎ (text ≡ not_waited_text root)))

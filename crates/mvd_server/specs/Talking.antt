@@ -9,7 +9,9 @@ use Rattle.mvd_conn.specs.declared.guard.Guard.{Guard}
 use Rattle.mvd_conn.specs.declared.passes.Pass.{Pass}
 use Rattle.mvd_dots.specs.declared.refusals.Refusal.TheVariants.{Memory}
 use Rattle.mvd_host.specs.AtHand.{AtHandValue, TakesFirst, first_at_hand, none_at_hand}
+use Rattle.mvd_host.specs.Feeds.{FeedValue, knows_nothing}
 use Rattle.mvd_host.specs.Hosts.{AdmitsOne, ClientLeaves, HostValue, IsClient, altered, client_of, new_host}
+use Rattle.mvd_host.specs.Lists.{ListsOn}
 use Rattle.mvd_host.specs.Runs.{Call, Closes, Cuts, Feeds, Meets, Releases, Sends, after_call}
 use Rattle.mvd_http.specs.Guard.{Named, named_by}
 use Rattle.mvd_server.specs.Batches.{HandsBatch}
@@ -21,14 +23,16 @@ use Rattle.mvd_server.specs.declared.batch.Batch.{Batch}
 use Rattle.mvd_server.specs.declared.talks.Kind.{Kind}
 use Rattle.mvd_server.specs.declared.talks.Kind.TheVariants.{Frames, Http}
 use Rattle.mvd_server.specs.declared.talks.Talks.{Talks}
+use Rattle.mvd_site.specs.Sites.{SiteValue}
 use Rattle.mvd_web.specs.Inside.{web_of}
 use Rattle.mvd_web.specs.Web.{IsNew, IsOver}
 use Rattle.mvd_web.specs.declared.web_connection.WebConnection.{WebConnection}
 use Rattle.mvd_wire.specs.declared.reply.Reply.{Reply}
 
--- the passes of those who may come in, if not everybody; by which names it is asked, and of which pages; the host, with the connections of frames; what those over HTTP
--- ask and are told; their connections, and the number of the next one; the writes of those of whose request some are not
--- answered; and the numbers of the server's own, for its sessions
+-- the passes of those who may come in, if not everybody; by which names it is asked, and of which pages; the host, with
+-- the connections of frames; what those over HTTP ask and are told; their connections, and the number of the next one;
+-- the writes of those of whose request some are not answered; the numbers of the server's own, for its sessions; and the
+-- feed of what changed
 pub record Talking : Type 0 where
   pub passes : Option (List Pass)
   pub names : Named
@@ -38,6 +42,7 @@ pub record Talking : Type 0 where
   pub next : ℕ
   pub batches : List (ℕ × Batch)
   pub own : List ℕ
+  pub feed : FeedValue
 
 abbrev pub talking_of : Talks → Talking
 talking_of t = record {
@@ -49,6 +54,7 @@ talking_of t = record {
   next = t.next;
   batches = t.batches.entries;
   own = t.own.items;
+  feed = t.changes;
 }
 
 abbrev pub new_talking : Option (List Pass) → Named → Talking
@@ -61,6 +67,7 @@ new_talking passes names = record {
   next = first_at_hand;
   batches = [];
   own = [];
+  feed = knows_nothing;
 }
 
 -- the connection of a client over HTTP, if this one is
@@ -137,7 +144,8 @@ MayCall t n Cuts = ⊤
 
 -- A client of frames comes, one over HTTP, or one of the server's own; one comes and goes at once; one goes, or one of
 -- the server's own; there is a call on the connection of one, or an errand for one over HTTP; its many writes begin, or
--- are asked; or a reply is dropped whose client has gone. Or other passes are known from now on
+-- are asked; or a reply is dropped whose client has gone. Or other passes are known from now on; or the feed begins. An
+-- errand and a beginning are of a site
 pub data Act : Type 0 where
   Comes : ℕ → Act
   ComesByWeb : ℕ → WebConnection → Act
@@ -146,11 +154,12 @@ pub data Act : Type 0 where
   Goes : ℕ → Act
   GoesOwn : ℕ → Act
   Calls : ℕ → Call → Act
-  Attends : ℕ → WebConnection → WebConnection → Errand → Act
+  Attends : ℕ → WebConnection → WebConnection → Errand → SiteValue → Act
   Begins : ℕ → Batch → Act
   Hands : ℕ → Batch → Batch → Act
   Drops : ℕ → Reply → Act
   Rotates : List Pass → Act
+  Follows : FeedValue → SiteValue → Act
 
 -- a client of frames has to show a token in its first frame; over HTTP each request has to
 abbrev pub DoesAct : Act → Talking → Talking → Type 0
@@ -174,9 +183,9 @@ DoesAct (GoesOwn n) old new =
     (is_own_client old n ≡ true) × ClientLeaves old.host n new.host
     × (new ≡ record old { host = new.host; own = left_without n old.own })
 DoesAct (Calls n call) old new = MayCall old n call × (new ≡ with_host old (altered old.host n (after_call call)))
-DoesAct (Attends n web web' errand) old new =
+DoesAct (Attends n web web' errand site) old new =
     (web_in old n ≡ Some web)
-    × RunsErrand errand old.passes old.names n (desk old.hand (web_of web) old.batches)
+    × RunsErrand errand site old.feed old.passes old.names n (desk old.hand (web_of web) old.batches)
     (desk new.hand (web_of web') new.batches)
     × (new ≡ record (with_web old n web') { hand = new.hand; batches = new.batches })
 DoesAct (Begins n batch) old new =
@@ -187,11 +196,25 @@ DoesAct (Hands n batch batch') old new =
 DoesAct (Drops n reply) old new = (web_in old n ≡ None) × TakesReply n reply old new
 DoesAct (Rotates passes) old new = (is_some old.passes ≡ true) × (new ≡ record old { passes = Some passes })
 
-abbrev pub Deed : Talking → Talking → Type 0
-Deed old new = (act : Act) × DoesAct act old new
+DoesAct (Follows feed site) old new =
+    ListsOn old.feed site.states feed site.states × (new ≡ record old { feed = feed })
 
+-- what is told at once is told of this site
+abbrev pub IsOf : SiteValue → Act → Type 0
+IsOf site (Attends n web web' errand of) = of ≡ site
+IsOf site (Follows feed of) = of ≡ site
+IsOf site act = ⊤
+
+abbrev pub Deed : SiteValue → Talking → Talking → Type 0
+Deed site old new = (act : Act) × IsOf site act × DoesAct act old new
+
+-- while the site is this one
+abbrev pub DeedsAt : SiteValue → Talking → Talking → Type 0
+DeedsAt site old new = Path (Deed site) old new
+
+-- whatever the site is
 abbrev pub Deeds : Talking → Talking → Type 0
-Deeds old new = Path Deed old new
+Deeds old new = (site : SiteValue) → DeedsAt site old new
 
 -- a client of this kind comes; it goes, and nothing is known but that it has just come
 abbrev pub ComesBy : Kind → ℕ → Talking → Talking → Type 0
@@ -203,3 +226,6 @@ GoesAtOnce kind n old new = (before : Talking) → ComesBy kind n before old →
 
 abbrev pub TalksDeeds : Talks → Talks → Type 0
 TalksDeeds old new = Deeds (talking_of old) (talking_of new)
+
+abbrev pub TalksAt : SiteValue → Talks → Talks → Type 0
+TalksAt site old new = DeedsAt site (talking_of old) (talking_of new)

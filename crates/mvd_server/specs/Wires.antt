@@ -8,6 +8,7 @@ use Rattle.mvd_server.specs.Paths.{Path}
 use Rattle.mvd_server.specs.Talking.{Deed, Talking, is_own_client, talking_of, web_in, with_host, with_web}
 use Rattle.mvd_server.specs.declared.sockets.Sockets.{Ghosts}
 use Rattle.mvd_server.specs.declared.talks.Talks.{Talks}
+use Rattle.mvd_site.specs.Sites.{SiteValue}
 use Rattle.mvd_web.specs.Inside.{web_of}
 use Rattle.mvd_web.specs.Web.{Feeds, web_sent}
 use Rattle.mvd_web.specs.declared.web_connection.WebConnection.{WebConnection}
@@ -107,12 +108,13 @@ wired_of talks sockets = record { talking = talking_of talks; sockets = sockets 
 
 module _ {K : Type 0} (k : Ghosts K) where
   -- a deed, while no byte moves by a socket; bytes came by a socket, or left by it
-  abbrev pub WiredStep : Wired K → Wired K → Type 0
-  WiredStep old new =
-      (Deed old.talking new.talking × (new.sockets ≡ old.sockets))
+  abbrev pub WiredStep : SiteValue → Wired K → Wired K → Type 0
+  WiredStep site old new =
+      (Deed site old.talking new.talking × (new.sockets ≡ old.sockets))
       ⊎ ((n : ℕ) × (bytes : List ℕ) × k.gave old.sockets n bytes new.sockets
       × TakesInput n bytes old.talking new.talking)
       ⊎ ((n : ℕ) × (bytes : List ℕ) × k.took old.sockets n bytes new.sockets × GivesOut n bytes old.talking new.talking)
 
+  -- whatever the site is
   abbrev pub Carries : Wired K → Wired K → Type 0
-  Carries old new = Path WiredStep old new
+  Carries old new = (site : SiteValue) → Path (WiredStep site) old new

@@ -1,5 +1,8 @@
 //! What is told at once, of what the server keeps.
-ghost use Rattle.mvd_http.specs.declared.fields.Content.TheVariants.{Json, Plain};
+ghost use Rattle.std.specs.Prelude.{◌≡◌, ◌++◌, ℕ, OnOk, string_bytes};
+ghost use Rattle.mvd_http.specs.declared.fields.Content.TheVariants.{Plain};
+ghost use Rattle.mvd_replica.specs.Replicas.{site_of};
+ghost use Rattle.mvd_server.specs.Errands.{TellsHealth, TellsRoot, root_text};
 ghost use Rattle.mvd_server.specs.Responding.{TellsBody};
 ghost use Rattle.mvd_web.specs.Inside.{web_of};
 
@@ -22,7 +25,7 @@ pub(crate) fn tell_root<S: Alter + Drop>(
     replica: &Replica<S>,
     counts: &mut Counts,
 )
-    ensures { TellsBody Json (web_of web.old) (web_of web.new) }
+    ensures { TellsRoot (site_of replica.now) (web_of web.old) (web_of web.new) }
 {
     let mut body = String::new(alloc);
     let pushed = push_root_of(alloc, replica, counts, &mut body);
@@ -34,7 +37,10 @@ fn push_root_of<S: Alter + Drop>(
     replica: &Replica<S>,
     counts: &mut Counts,
     body: &mut String,
-) -> Result<(), Refusal> {
+) -> Result<(), Refusal>
+    ensures { OnOk result ((live : ℕ) ×
+        (string_bytes body.new ≡ string_bytes body.old ++ root_text (site_of replica.now) live)) }
+{
     let digest = replica.root()?;
     let found = counts.census.found(alloc, replica.site(), digest)?;
     let totals = Totals {
@@ -52,7 +58,7 @@ pub(crate) fn tell_health<S: Alter + Drop>(
     replica: &Replica<S>,
     counts: &mut Counts,
 )
-    ensures { TellsBody Json (web_of web.old) (web_of web.new) }
+    ensures { TellsHealth (site_of replica.now) (web_of web.old) (web_of web.new) }
 {
     match replica.root() {
         Ok(_) => respond(web, counts, answer_of(StatusCode::OK, Content::Json), READY),

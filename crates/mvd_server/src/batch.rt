@@ -1,5 +1,6 @@
 //! Many writes of one request: what they ask, which is asked at hand all at once, and a line for each, as the replies come.
-ghost use Rattle.std.specs.Prelude.{◌≡◌, ◌≤◌, ◌++◌, IfErr, IfOk, OnErr, OnOk, Some, ℕ, length, option_copied, string_bytes, true};
+ghost use Rattle.std.specs.Prelude.{◌≡◌, ◌<◌, ◌≤◌, ◌++◌, IfErr, IfOk, OnErr, OnOk, Some, ℕ, false, length, option_copied, string_bytes};
+ghost use Rattle.std.specs.Prelude.{true};
 ghost use Rattle.mvd_host.specs.AtHand.{AtHandValue};
 ghost use Rattle.mvd_server.specs.Batches.{BeginsBatch, HandsBatch, asked_if, refused_if};
 ghost use Rattle.mvd_server.specs.Errands.{IsUntold, TakesIf};
@@ -64,8 +65,9 @@ impl Batch {
         ensures lines { (n : ℕ) (hand hand' : AtHandValue) → TakesIf n (option_copied reply.entry) hand hand' →
             OnOk result (TellsEachLine n self.old hand self.new hand') }
         ensures same { IsOnlyTold self.old self.new }
-        // All lines are there only where each write has one.
+        // All lines are there where each write has one.
         ensures all { IfOk result (λ all. all ≡ true → length self.new.refused.items ≤ self.new.told) }
+        ensures some { IfOk result (λ all. all ≡ false → self.new.told < length self.new.refused.items) }
         // Where a line cannot be put down, all are gone: with a reply less there is no response any more.
         ensures gone { OnErr result (IsUntold self.new) }
     {

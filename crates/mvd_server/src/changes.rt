@@ -1,8 +1,9 @@
 //! What changed since a root, as it is told over HTTP.
-ghost use Rattle.std.specs.Prelude.{◌≡◌, ◌++◌, [], IfOk, IfSome, IsTrue, OnOk, Some, is_some, option_copied, option_map, string_bytes};
+ghost use Rattle.std.specs.Prelude.{◌≡◌, ◌++◌, [], IfOk, IfSome, None, Ok, OnOk, Some, option_copied, option_map, string_bytes, true};
 ghost use Rattle.mvd_host.specs.Feeds.{changed_by, told_since};
 ghost use Rattle.mvd_replica.specs.Replicas.{site_of};
-ghost use Rattle.mvd_server.specs.Since.{since_text, told_if};
+ghost use Rattle.mvd_server.specs.News.{HasNews};
+ghost use Rattle.mvd_server.specs.Since.{IsQuiet, followed_in, since_text, told_if};
 
 use crate::listings::SiteStates;
 use mvd_dots::Refusal;
@@ -14,7 +15,9 @@ use sqlite::Alter;
 use std::alloc::Global;
 
 /// Which changes a request asks for, if it asks for such.
-pub(crate) fn followed_by(asked: Option<&Asked>) -> Option<&Followed> {
+pub(crate) fn followed_by(asked: Option<&Asked>) -> Option<&Followed>
+    ensures { option_copied result ≡ followed_in (option_copied asked.entry) }
+{
     match &asked?.question {
         Ok(Question::Changes(_, _, followed)) => Some(followed),
         _ => None,
@@ -89,7 +92,8 @@ pub(crate) fn root_to_wait_from(
     since: Option<[u8; 32]>,
     wait: u32,
 ) -> Result<Option<[u8; 32]>, Refusal>
-    ensures { IfOk result (λ quiet. IfSome quiet (λ _. IsTrue (is_some since))) }
+    ensures { IfOk result (λ quiet. IfSome quiet (λ root.
+        IsQuiet changes.now since (followed_in (option_copied asked.entry)) root)) }
 {
     match followed_by(asked) {
         Some(followed) if wait > 0 => quiet_root(changes, since, followed),
@@ -97,10 +101,11 @@ pub(crate) fn root_to_wait_from(
     }
 }
 
-/// What was told of late to one that waited, and of what it asked.
+/// What was told of late to one that waited, of the changes since a root, and of what it asked.
 #[derive(Drop)]
 pub(crate) struct News {
     alloc: Global,
+    since: Option<[u8; 32]>,
     asked: Option<Followed>,
     /// Whether there is something to tell, or why not.
     told: Result<bool, Refusal>,
@@ -108,30 +113,37 @@ pub(crate) struct News {
 }
 
 impl News {
-    pub fn new(alloc: Global) -> News {
+    pub fn new(alloc: Global, since: Option<[u8; 32]>) -> News
+        ensures { result.asked ≡ None }
+    {
         News {
             alloc,
+            since,
             asked: None,
             told: Ok(false),
             body: String::new(alloc),
         }
     }
 
-    /// Puts down what changed since a root, where something did that is asked for. Who asks for the same is told the same.
-    pub fn tell_since<S: Alter + Drop>(
+    /// Puts down what changed, where something did that is asked for. Who asks for the same is told the same.
+    pub fn tell<S: Alter + Drop>(
         &mut self,
         changes: &Feed,
         replica: &Replica<S>,
-        since: Option<[u8; 32]>,
         followed: &Followed,
-    ) -> Result<bool, Refusal> {
+    ) -> Result<bool, Refusal>
+        ensures news { HasNews changes.now (site_of replica.now).states self.old →
+            HasNews changes.now (site_of replica.now).states self.new }
+        ensures told { HasNews changes.now (site_of replica.now).states self.old → result ≡ Ok true →
+            string_bytes self.new.body ≡ since_text changes.now followed.now (site_of replica.now).states self.new.since }
+    {
         if !self.is_of(followed) {
             self.body.clear();
             self.told = push_news(
                 self.alloc,
                 changes,
                 replica,
-                since,
+                self.since,
                 followed,
                 &mut self.body,
             );
@@ -140,7 +152,9 @@ impl News {
         self.told
     }
 
-    fn is_of(&self, followed: &Followed) -> bool {
+    fn is_of(&self, followed: &Followed) -> bool
+        ensures { result ≡ true → self.now.asked ≡ Some followed.now }
+    {
         match &self.asked {
             Some(asked) => {
                 asked.states == followed.states && asked.prefix.text() == followed.prefix.text()
@@ -151,7 +165,9 @@ impl News {
 }
 
 /// What is asked for. Where memory is refused, nothing is.
-fn copy_followed(alloc: Global, followed: &Followed) -> Option<Followed> {
+fn copy_followed(alloc: Global, followed: &Followed) -> Option<Followed>
+    ensures { IfSome result (λ copy. copy ≡ followed.now) }
+{
     match followed.prefix.copy(alloc) {
         Ok(prefix) => Some(Followed {
             prefix,
@@ -169,7 +185,10 @@ fn push_news<S: Alter + Drop>(
     since: Option<[u8; 32]>,
     followed: &Followed,
     body: &mut String,
-) -> Result<bool, Refusal> {
+) -> Result<bool, Refusal>
+    ensures { result ≡ Ok true → string_bytes body.new ≡
+        string_bytes body.old ++ since_text changes.now followed.now (site_of replica.now).states since }
+{
     if quiet_root(changes, since, followed)?.is_some() {
         return Ok(false);
     }

@@ -1,13 +1,15 @@
 //! From a request of HTTP to what is asked of the site, and from the reply to the response.
-ghost use Rattle.std.specs.Prelude.{◌≡◌, ℕ, option_copied, true};
+ghost use Rattle.std.specs.Prelude.{ℕ, option_copied};
 ghost use Rattle.mvd_http.specs.declared.fields.Content.TheVariants.{Json};
 ghost use Rattle.mvd_http.specs.Guard.{named_by};
 ghost use Rattle.mvd_server.specs.Admitted.{Decides};
 ghost use Rattle.mvd_host.specs.AtHand.{AtHandValue};
 ghost use Rattle.mvd_server.specs.Errands.{AsksAtHand, AsksNextOf, DoesPlan, StopsIf, TakesIf, TellsBatch, TellsOrWaits};
 ghost use Rattle.mvd_server.specs.Plans.{IsFreePlan, IsPlanFor, IsPlanIf, TellsFault, TellsMethods};
-ghost use Rattle.mvd_server.specs.Responding.{TellsBody, not_admitted, token_answer};
-ghost use Rattle.mvd_server.specs.declared.gate.Rest.TheVariants.{Stops};
+ghost use Rattle.mvd_replica.specs.Replicas.{site_of};
+ghost use Rattle.mvd_server.specs.Questions.{TellsText};
+ghost use Rattle.mvd_server.specs.Responding.{not_admitted, token_answer};
+ghost use Rattle.mvd_server.specs.Since.{followed_in, since_told};
 ghost use Rattle.mvd_web.specs.Inside.{web_of};
 ghost use Rattle.mvd_web.specs.Rights.{may_ask};
 ghost use Rattle.mvd_web.specs.Web.{RespondsTo};
@@ -188,7 +190,7 @@ pub(crate) fn ask<S: Alter + Drop>(
     changes: &Feed,
     counts: &mut Counts,
 ) -> Rest
-    ensures { AsksNextOf (option_copied passes.entry) (named_by names.now) number
+    ensures { AsksNextOf (site_of replica.now) changes.now (option_copied passes.entry) (named_by names.now) number
         (web_of web.old) hand.old (web_of web.new) hand.new result }
 {
     if !web.next(passes, names) {
@@ -216,8 +218,8 @@ fn carry_out<S: Alter + Drop>(
     changes: &Feed,
     counts: &mut Counts,
 ) -> Rest
-    ensures does { DoesPlan number plan (web_of web.old) hand.old (web_of web.new) hand.new result }
-    ensures guarded { result ≡ Stops → is_guarded ≡ true }
+    ensures { DoesPlan (site_of replica.now) changes.now is_guarded number plan
+        (web_of web.old) hand.old (web_of web.new) hand.new result }
 {
     match plan {
         Plan::Ask(request) => {
@@ -294,7 +296,8 @@ fn wait_or_tell<S: Alter + Drop>(
     wait: u32,
     counts: &mut Counts,
 ) -> Rest
-    ensures { TellsOrWaits since wait (web_of web.old) (web_of web.new) result }
+    ensures { TellsOrWaits changes.now (site_of replica.now).states since wait
+        (web_of web.old) (web_of web.new) result }
 {
     match root_to_wait_from(web.asked(), changes, since, wait) {
         Ok(Some(root)) => Rest::Waits(root, wait),
@@ -348,7 +351,8 @@ fn tell_changes<S: Alter + Drop>(
     since: Option<[u8; 32]>,
     counts: &mut Counts,
 )
-    ensures { TellsBody Json (web_of web.old) (web_of web.new) }
+    ensures { TellsText Json (since_told changes.now (site_of replica.now).states since (followed_in (web_of web.old).asked))
+        (web_of web.old) (web_of web.new) }
 {
     let mut body = String::new(alloc);
     let pushed = match followed_by(web.asked()) {

@@ -4,7 +4,7 @@ ghost use Rattle.mvd_http.specs.Answers.{IsToldAs};
 ghost use Rattle.mvd_http.specs.declared.fields.Content.TheVariants.{Json};
 ghost use Rattle.mvd_server.specs.Errands.{AwaitsChange};
 ghost use Rattle.mvd_server.specs.Plans.{plain_answer};
-ghost use Rattle.mvd_server.specs.Responding.{AnswersReply, AnswersWeb, RefusesWeb, TellsBody, content_of as content_for};
+ghost use Rattle.mvd_server.specs.Responding.{AnswersReply, AnswersWeb, RefusesWeb, TellsPushed, content_of as content_for};
 ghost use Rattle.mvd_server.specs.Responding.{json_answer, refused_for, status_or_500};
 ghost use Rattle.mvd_web.specs.Inside.{web_of};
 ghost use Rattle.mvd_web.specs.Web.{RespondsTo};
@@ -115,7 +115,7 @@ pub(crate) fn tell_pushed(
     body: &str,
     counts: &mut Counts,
 )
-    ensures { TellsBody Json (web_of web.old) (web_of web.new) }
+    ensures { TellsPushed pushed body.now (web_of web.old) (web_of web.new) }
 {
     match pushed {
         Ok(()) => respond(web, counts, answer_of(StatusCode::OK, Content::Json), body),

@@ -6,9 +6,10 @@ mod waking;
 
 ghost use Rattle.std.specs.Prelude.{◌≡◌, ◌<◌, [], IfOk, OnErr, OnOk, false, length, true};
 ghost use Rattle.mvd_http.specs.Guard.{named_by};
+ghost use Rattle.mvd_replica.specs.Replicas.{site_of};
 ghost use Rattle.mvd_server.specs.Rounds.{HasRound};
 ghost use Rattle.mvd_server.specs.Talking.{Deeds, KeepsBatch, LacksMemory, MayBeginWrites, TakesReply, Talking};
-ghost use Rattle.mvd_server.specs.Talking.{TalksDeeds, new_talking, talking_of};
+ghost use Rattle.mvd_server.specs.Talking.{TalksAt, TalksDeeds, new_talking, talking_of};
 
 use crate::batch::Batch;
 use crate::gate::{Rest, answer_writes, ask};
@@ -141,7 +142,7 @@ impl Talks {
         counts: &mut Counts,
         now: u64,
     )
-        ensures { TalksDeeds self.old self.new }
+        ensures { TalksAt (site_of replica.now) self.old self.new }
     {
         if self.batches.contains_key(&number) {
             return self.hand_on_writes(number);

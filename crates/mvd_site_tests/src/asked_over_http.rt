@@ -98,9 +98,13 @@ struct SiteStates<'a> {
 }
 
 impl<'a> Holds for SiteStates<'a> {
+    ghost use Rattle.mvd_dots.specs.declared.refusals.Refusal.TheVariants.{Broken, Memory};
     ghost use Rattle.mvd_site.specs.Answer.{state_at};
+    ghost use Rattle.mvd_site.specs.FromStates.{unless_broken};
 
     ghost states = { λ held. state_at held.site.now.states };
+
+    ghost refusal = { λ held. unless_broken held.site.now.broken Broken Memory };
 
     fn state_of(&self, key: &Key) -> Result<KeyState, Refusal> {
         self.site.get(key)

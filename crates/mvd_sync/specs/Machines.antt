@@ -174,8 +174,8 @@ Walked work walk work' mine theirs result = MatchResult result
 
 -- It is planned what each side is to take of the first keys, and the local one begins; the later ones wait before all
 -- others (and by what the states weigh, how many keys are exchanged at once next)
-abbrev pub Met : Exchanging → Walking → (first later : List Entry) → (limit : ℕ) → Exchanging → (mine theirs : List State)
-    → Result Stage SyncFault → Type 0
+abbrev pub Met : Exchanging → Walking → (first later : List Entry) → (limit : ℕ) → Exchanging
+    → (mine theirs : List State) → Result Stage SyncFault → Type 0
 Met work walk first later limit work' mine theirs result = MatchResult result
     (λ stage. (meetings : List Meeting) × ArePlans work.number first mine theirs meetings
     × TurnBegins walk AtLocal meetings stage

@@ -5,7 +5,7 @@ ghost use Rattle.mvd_sync.specs.Level.{next_nodes};
 ghost use Rattle.mvd_sync.specs.Exchanges.{IsHeldByEither};
 ghost use Rattle.mvd_sync.specs.declared.meetings.Meeting.{Meeting};
 ghost use Rattle.mvd_sync.specs.Machines.{StageAsks, TurnBegins, CarriedOn, Descended, StageHears, HearsAt, IsFit, IsUnheard, Met, MetFirst, Pushed};
-ghost use Rattle.mvd_sync.specs.Machines.{ReadBoth, StageStands, StatesHeard, TakesShares, Walked, wanted_count, fault_at};
+ghost use Rattle.mvd_sync.specs.Machines.{ReadBoth, StageStands, StatesHeard, TakesShares, Walked, wanted_count};
 ghost use Rattle.mvd_sync.specs.Machines.{is_same, other_of, share_of};
 ghost use Rattle.mvd_sync.specs.Machines.{stays, told_by_side};
 ghost use Rattle.mvd_sync.specs.Meetings.{ArePlans};
@@ -20,7 +20,7 @@ use crate::exchange::Exchange;
 use crate::front::{cut_at, first_of};
 use crate::levels::Descent;
 use crate::meetings::{Meeting, count_held, plan_all};
-use crate::report::{Side, SyncFault};
+use crate::report::{Side, SyncFault, fault_at, other_of};
 use crate::stage::{Stage, begin, settle};
 use crate::telling::{
     Answers, Share, Shares, Told, pushes_in, read_nodes, read_pages, read_states, spend,
@@ -267,26 +267,6 @@ fn hear_turn(
     }
     let count = window(turn.rest());
     Ok(Stage::Carries(walk, turn, count))
-}
-
-/// The fault of a side.
-fn fault_at(side: Side, refusal: Refusal) -> SyncFault
-    ensures { result ≡ fault_at side refusal }
-{
-    match side {
-        Side::Local => SyncFault::Local(refusal),
-        Side::Peer => SyncFault::Peer(refusal),
-    }
-}
-
-/// The other side.
-fn other_of(side: Side) -> Side
-    ensures { result ≡ other_of side }
-{
-    match side {
-        Side::Local => Side::Peer,
-        Side::Peer => Side::Local,
-    }
 }
 
 /// The side in turn told of its pushes; the other was asked nothing.

@@ -1,4 +1,7 @@
 //! What a session tells.
+ghost use Rattle.std.specs.Prelude.{◌≡◌};
+ghost use Rattle.mvd_sync.specs.Machines.{fault_at, other_of};
+
 use mvd_dots::Refusal;
 use mvd_keys::Key;
 use mvd_wire::Items;
@@ -43,4 +46,24 @@ pub struct Report {
     pub old: u64,
     /// The keys that were refused, but at most a hundred of them.
     pub first_refused: Items<Left>,
+}
+
+/// The fault of a side.
+pub(crate) fn fault_at(side: Side, refusal: Refusal) -> SyncFault
+    ensures { result ≡ fault_at side refusal }
+{
+    match side {
+        Side::Local => SyncFault::Local(refusal),
+        Side::Peer => SyncFault::Peer(refusal),
+    }
+}
+
+/// The other side.
+pub(crate) fn other_of(side: Side) -> Side
+    ensures { result ≡ other_of side }
+{
+    match side {
+        Side::Local => Side::Peer,
+        Side::Peer => Side::Local,
+    }
 }

@@ -131,6 +131,7 @@ IsEntry passes names parts Conditional =
     IsKnown names parts × IsSome (right_in passes parts) × (is_conditional parts ≡ true)
 IsEntry passes names parts (Open right) =
     IsKnown names parts × (right_in passes parts ≡ Some right) × (is_conditional parts ≡ false)
+    × (is_preflight parts ≡ false)
 
 -- WHAT A REQUEST ASKS that comes in. Of any other nothing is read but its head: whatever its body is, it asks the same.
 abbrev pub AsksIf : Entry → Request (List ℕ) → Result Question Refusal → Type 0

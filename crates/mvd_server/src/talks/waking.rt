@@ -1,6 +1,9 @@
 //! Those that wait for a change.
-ghost use Rattle.std.specs.Prelude.{◌≡◌, IsTrue};
-ghost use Rattle.mvd_server.specs.Talking.{IsWaiting, TalksDeeds, talking_of, web_in};
+ghost use Rattle.std.specs.Prelude.{◌≡◌, IsTrue, option_copied};
+ghost use Rattle.mvd_replica.specs.Replicas.{site_of};
+ghost use Rattle.mvd_server.specs.News.{HasNews, IsNewsFor, followed_by as followed_for};
+ghost use Rattle.mvd_server.specs.Talking.{IsWaiting, TalksAt, TalksDeeds, talking_of, web_in};
+ghost use Rattle.mvd_site.specs.Sites.{SiteValue};
 
 use crate::changes::{News, followed_by};
 use crate::metrics::Counts;
@@ -53,7 +56,9 @@ impl Talks {
         body: &str,
         counts: &mut Counts,
     )
-        ensures { TalksDeeds self.old self.new }
+        ensures deeds { (site : SiteValue) → IsNewsFor site (talking_of self.old) number told body.now →
+            TalksAt site self.old self.new }
+        ensures feed { (talking_of self.new).feed ≡ (talking_of self.old).feed }
     {
         if !self.awaits_change(number) {
             return;
@@ -74,12 +79,13 @@ impl Talks {
 
     /// Tells those that wait what changed, if something did that they ask for.
     pub fn wake<S: Alter + Drop>(&mut self, replica: &Replica<S>, counts: &mut Counts)
-        ensures { TalksDeeds self.old self.new }
+        ensures { TalksAt (site_of replica.now) self.old self.new }
     {
-        if self.changes.root() == self.parked.root() {
+        let since = self.parked.root();
+        if self.changes.root() == since {
             return;
         }
-        let mut news = News::new(self.alloc);
+        let mut news = News::new(self.alloc, since);
         let mut from = 0;
         for _ in 0..u64::MAX {
             let Some(number) = self.parked.first_from(from) else {
@@ -99,25 +105,26 @@ impl Talks {
         news: &mut News,
         counts: &mut Counts,
     )
-        ensures { TalksDeeds self.old self.new }
+        ensures deeds { HasNews (talking_of self.old).feed (site_of replica.now).states news.old →
+            TalksAt (site_of replica.now) self.old self.new }
+        ensures feed { (talking_of self.new).feed ≡ (talking_of self.old).feed }
+        ensures news { HasNews (talking_of self.old).feed (site_of replica.now).states news.old →
+            HasNews (talking_of self.old).feed (site_of replica.now).states news.new }
     {
-        let told = match self.followed(number) {
-            Some(followed) => {
-                news.tell_since(&self.changes, replica, self.parked.root(), followed)
-            }
-            None => Ok(true),
+        let Some(followed) = self.followed(number) else {
+            return self.unpark(number);
         };
-        let told = match told {
-            Ok(true) => Ok(()),
-            Ok(false) => return,
-            Err(refusal) => Err(refusal),
-        };
-        self.unpark(number);
-        self.tell_change(number, told, news.body.as_str(), counts);
+        match news.tell(&self.changes, replica, followed) {
+            Ok(true) => self.tell_change(number, Ok(()), news.body.as_str(), counts),
+            Ok(false) => {}
+            Err(refusal) => self.tell_change(number, Err(refusal), "", counts),
+        }
     }
 
     /// Of which changes a client asks.
-    fn followed(&self, number: u64) -> Option<&Followed> {
+    fn followed(&self, number: u64) -> Option<&Followed>
+        ensures { option_copied result ≡ followed_for (web_in (talking_of self.now) number) }
+    {
         followed_by(self.webs.get(&number)?.asked())
     }
 
@@ -134,7 +141,7 @@ impl Talks {
         self.parked.follow(self.changes.root());
     }
 
-    /// Tells one that waits what changed.
+    /// Tells one that waits what changed. It waits no more.
     fn tell_change(
         &mut self,
         number: u64,
@@ -142,8 +149,11 @@ impl Talks {
         body: &str,
         counts: &mut Counts,
     )
-        ensures { TalksDeeds self.old self.new }
+        ensures deeds { (site : SiteValue) → IsNewsFor site (talking_of self.old) number told body.now →
+            TalksAt site self.old self.new }
+        ensures feed { (talking_of self.new).feed ≡ (talking_of self.old).feed }
     {
+        self.unpark(number);
         self.note_woken(number);
         self.tell_waiting(number, told, body, counts);
     }

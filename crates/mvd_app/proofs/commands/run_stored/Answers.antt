@@ -32,7 +32,7 @@ returns-in-Ok-opened g c =
     let runs = runs_of image c.args.setup.site c.in-Ok.read.0 set_up.site old new opened opened.rests does.0
     (does_by _ _ _ _ _ _ old new does.0 c.work_on-worked.result (task_of c.args.work) does.1 opened.stands) c.look-harm.result left c.finish-left.ensures.left in
     record {
-      file = inr (left, refl, record { config = c.in-Ok.read.0; keys = set_up.keys; new = new; turns = does.0; runs = runs });
+      file = inr (left, refl, record { config = c.in-Ok.read.0; keys = set_up.keys; new = new; calls = does.0; runs = runs });
       told = inr (record {
         config = c.in-Ok.read.0;
         set_up = set_up;
@@ -41,7 +41,7 @@ returns-in-Ok-opened g c =
         tokens = tokens;
         of_file = rw c.as_ref.ensures.value c.in-Ok.ensures.read.1;
         new = new;
-        turns = does.0;
+        calls = does.0;
         worked = c.work_on-worked.result;
         does = does.1;
         left = left;

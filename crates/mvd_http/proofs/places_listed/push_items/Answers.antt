@@ -12,9 +12,9 @@ loop-index-preserved g c =
     let x = c.index-places-index.result in
     let within = c.loop-index-test.true in
     let is = c.index-places-index.is in
-    let as_told = served documents states _ x c.in_ok-look_up.ensures in
+    let as_told = served documents states _ x c.in_ok-look_up.ensures.served in
     record {
-      near = c.in_ok-look_up.ensures;
+      near = c.in_ok-look_up.ensures.served;
       text = entry_on (place_told documents states) places i x (string_bytes c.args.out.now) _ _ _ _ within is c.loop-index.invariant.text refl c.in_ok-push_comma.ensures (c.in_ok-told.ensures.text ∙ ap (λ t. string_bytes c.push_comma.new.out ++ t) as_told);
       front = front_on (place_bytes documents states) places _ i c.loop-index.room _ x within is c.if-room-eq0.false (c.saturating_sub-room.ensures ∙ ap (λ n. c.loop-index.room - n) (c.in_ok-told.ensures.told ∙ ap length as_told)) c.loop-index.invariant.front;
     }

@@ -4,8 +4,8 @@ use Rattle.mvd_http.specs.Listed.{place_front_of, place_told}
 use Rattle.mvd_http.proofs.Listing.{page_put}
 use Rattle.mvd_http.proofs.places_listed.push_places_listed.Goals as goal
 
-pub returns : goal.returns
-returns g c =
+pub returns-clause-text : goal.returns-clause-text
+returns-clause-text g c =
     let states = g.H.Holds.states c.args.held.now in
     let documents = c.args.wanted.documents in
     page_put (place_told documents states) place_mark (codes "{\"places\":[") c.first_of-first.result.now c.args.places.now _ c.in_ok-count.count c.args.more c.has_more-goes_on.result (string_bytes c.args.out.now) _ _ _ _ _ c.in_ok-count.ensures.within

@@ -4,7 +4,9 @@ use Rattle.mvd_peer.proofs.Dropped.{holds_state}
 use Rattle.mvd_peer.proofs.holding.hold.Goals as goal
 
 pub returns-then-bytes-ge-HELD_BYTES : goal.returns-then-bytes-ge-HELD_BYTES
-returns-then-bytes-ge-HELD_BYTES c = dropped c.in-Ok.state c.in-Ok.is refl refl
+returns-then-bytes-ge-HELD_BYTES c =
+    let much = c.if-bytes-ge-HELD_BYTES.true in
+    dropped c.in-Ok.state c.in-Ok.is (omega (arith, much)) refl refl
 
 pub returns-else-bytes-ge-HELD_BYTES : goal.returns-else-bytes-ge-HELD_BYTES
 returns-else-bytes-ge-HELD_BYTES c =

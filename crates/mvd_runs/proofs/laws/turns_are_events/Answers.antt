@@ -5,7 +5,7 @@ use Rattle.mvd_runs.proofs.Telling.{come}
 use Rattle.mvd_runs.proofs.laws.turns_are_events.Goals as goal
 
 pub returns-clause-site : goal.returns-clause-site
-returns-clause-site g c = λ a i turns old new are site. come a i turns old new are site
+returns-clause-site g c = λ a i calls old new are site. come a i calls old new are site
 
 pub returns-clause-replica : goal.returns-clause-replica
 returns-clause-replica g c = λ turns old new before after takes. record { replies = takes.replies; stands = takes.stands; config = takes.config; choice = takes.choice }

@@ -22,7 +22,7 @@ returns-then-is_none c =
     let web = c.answer_writes.new.web in
     let batch = c.answer_writes.new.batch in
     deed_attends n (TellsMany c.in-Some-get_mut.batch.now batch) c.in-Some.web.now web old old.hand c.remove.new.self.entries (c.get_mut.follows.lender web).entries (sym c.in-Some.ensures.value)
-    (sym c.in-Some-get_mut.ensures.value, c.answer_writes.ensures n old.hand old.hand refl, inr (asked_none c.asked.result _ c.is_none.result c.asked.ensures c.is_none.ensures c.if-is_none.true, c.remove.ensures.entries ∙ ap (λ l. remove_entry (is_at (nat_cmp n)) l) (c.get_mut-2.follows.holds batch).0)) (c.get_mut.follows.holds web).0
+    (λ site. (sym c.in-Some-get_mut.ensures.value, c.answer_writes.ensures n old.hand old.hand refl, inr (asked_none c.asked.result _ c.is_none.result c.asked.ensures c.is_none.ensures c.if-is_none.true, c.remove.ensures.entries ∙ ap (λ l. remove_entry (is_at (nat_cmp n)) l) (c.get_mut-2.follows.holds batch).0))) (c.get_mut.follows.holds web).0
 
 pub returns-else-is_none : goal.returns-else-is_none
 returns-else-is_none c =
@@ -32,4 +32,4 @@ returns-else-is_none c =
     let batch = c.answer_writes.new.batch in
     let tells = c.answer_writes.ensures n old.hand old.hand refl in
     deed_attends n (TellsMany c.in-Some-get_mut.batch.now batch) c.in-Some.web.now web old old.hand (c.get_mut-2.follows.lender batch).entries (c.get_mut.follows.lender web).entries (sym c.in-Some.ensures.value)
-    (sym c.in-Some-get_mut.ensures.value, tells, inl (asked_kept c.asked.result c.is_none.result tells.2.0 _ batch _ c.asked.ensures c.is_none.ensures c.if-is_none.false tells.2.3, (c.get_mut-2.follows.holds batch).0)) (c.get_mut.follows.holds web).0
+    (λ site. (sym c.in-Some-get_mut.ensures.value, tells, inl (asked_kept c.asked.result c.is_none.result tells.2.0 _ batch _ c.asked.ensures c.is_none.ensures c.if-is_none.false tells.2.3, (c.get_mut-2.follows.holds batch).0))) (c.get_mut.follows.holds web).0

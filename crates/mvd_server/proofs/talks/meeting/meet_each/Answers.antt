@@ -14,7 +14,7 @@ loop-number-preserved c =
     record {
       deeds = λ t known from.
           deeds_on t (with_host t host) (with_host t c.meet.new.self) (c.loop-number.invariant.deeds t known from)
-          (deeds_one (Calls (slice_index c.args.ready.now count) (Meets passes)) (with_host t host) (with_host t c.meet.new.self) (known, ap (with_host t) c.meet.ensures));
+          (deeds_one (Calls (slice_index c.args.ready.now count) (Meets passes)) (with_host t host) (with_host t c.meet.new.self) (λ site. tt) (known, ap (with_host t) c.meet.ensures));
       settled =
           subst (AreSettled (Some passes) c.args.ready.now (count + 1)) (sym c.meet.ensures)
           (settled_more passes c.args.ready.now count host c.loop-number.invariant.settled);

@@ -1,5 +1,5 @@
 -- The request that waits is answered.
-use Rattle.std.proofs.Common.{◌≡◌, ◌∙◌, ap, false, inl, inr, ℕ, List, [], Option, Some, None, Result, Ok, Err, OnOk, subst}
+use Rattle.std.proofs.Common.{◌≡◌, ◌∙◌, ap, false, inl, inr, ℕ, List, [], Option, Some, None, Result, Ok, Err, OnOk, subst, sym}
 use Rattle.mvd_dots.specs.declared.refusals.Refusal.{Refusal}
 use Rattle.mvd_host.specs.Feeds.{FeedValue}
 use Rattle.mvd_http.specs.Answers.{IsToldAs}
@@ -7,7 +7,7 @@ use Rattle.mvd_http.specs.Json.{changes_text, not_waited_text}
 use Rattle.mvd_http.specs.declared.fields.Content.TheVariants.{Json}
 use Rattle.mvd_http.specs.declared.question.Followed.{Followed}
 use Rattle.mvd_http.specs.declared.question.Question.TheVariants.{Changes}
-use Rattle.mvd_server.specs.Errands.{AwaitsChange, TellsNews}
+use Rattle.mvd_server.specs.Errands.{AwaitsChange, TellsNews, TellsRoot, root_text}
 use Rattle.mvd_server.specs.News.{IsNewsFor, followed_by}
 use Rattle.mvd_server.specs.Questions.{TellsText}
 use Rattle.mvd_server.specs.Responding.{AnswersReply, AnswersWeb, RefusesWeb, TellsPushed, json_answer, refused_for}
@@ -63,6 +63,11 @@ pub tells_since : {A : Type 0} (feed : FeedValue) (states : States) (since : Opt
     → TellsText Json (since_told feed states since (followed_in old.asked)) old new
 tells_since feed states since o (Ok done) body old new same is responds = inl (body, subst (λ p. since_told feed states since p ≡ Ok body) same is, responds)
 tells_since feed states since o (Err refusal) body old new same is refuses = inr (refusal, refuses)
+
+-- the root is told
+pub tells_root : {A : Type 0} (site : SiteValue) (told : Result A Refusal) (body : List ℕ) (old new : WebValue) → OnOk told ((live : ℕ) × (body ≡ root_text site live)) → TellsPushed told body old new → TellsRoot site old new
+tells_root site (Ok done) body old new (live, is) responds = (live, inl (body, ap Ok (sym is), responds))
+tells_root site (Err refusal) body old new none refuses = (0, inr (refusal, refuses))
 
 -- ---- what one that waits is told
 

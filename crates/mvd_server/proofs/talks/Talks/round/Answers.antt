@@ -31,7 +31,7 @@ returns g c =
         host = host;
         hand = hand;
         first =
-            deeds_at site old begun before (deed_at site (Follows c.start.new.self site) old begun refl (c.start.ensures, refl))
+            deeds_at site old begun before (deed_at site (Follows c.start.new.self site) old begun refl (c.start.ensures.lists, refl))
             (deeds_at site begun taken before c.loop-number.invariant
             (deeds_at site taken told before (c.tell_all.ensures.deeds site) (c.meet_all.ensures.deeds site)));
         ready = c.args.ready.now;

@@ -104,7 +104,9 @@ def asked_for(folder, path, function):
         return [module_of(path)]
     if not is_outside(function):
         return [told_as(folder, path, function)]
-    files = [file for file in sorted(folder.glob("src/**/*.rt")) if re.search(rf"\b{function.split()[1]}\b", file.read_text())]
+    texts = [(file, file.read_text()) for file in sorted(folder.glob("src/**/*.rt"))]
+    # (a check knows no module without a function)
+    files = [file for file, text in texts if re.search(rf"\b{function.split()[1]}\b", text) and any(map(FN.match, text.split("\n")))]
     return [module_of(str(file.relative_to(folder))) for file in files if module_of(str(file.relative_to(folder)))]
 
 

@@ -182,7 +182,6 @@ guarded_deed Known old new all (Rotates passes) does each = to Known (record old
     on : (q : ℕ) (h : History) → IfAsked old.passes (Fits Known h.guard) ⊎ IsMadeFor old q → Fits Known h.guard ⊎ IsMadeFor old q
     on q h (inl is) = inl (asked_so old.passes (Fits Known h.guard) does.0 is)
     on q h (inr made) = inr made
-
 guarded_deed Known old new all (Follows feed site) does each = to Known (record old { feed = feed }) new does.1 each
 
 -- ---- bytes

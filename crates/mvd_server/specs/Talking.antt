@@ -195,7 +195,6 @@ DoesAct (Hands n batch batch') old new =
     × (new ≡ record old { hand = new.hand; batches = set_value (is_at (nat_cmp n)) old.batches batch' })
 DoesAct (Drops n reply) old new = (web_in old n ≡ None) × TakesReply n reply old new
 DoesAct (Rotates passes) old new = (is_some old.passes ≡ true) × (new ≡ record old { passes = Some passes })
-
 DoesAct (Follows feed site) old new =
     ListsOn old.feed site.states feed site.states × (new ≡ record old { feed = feed })
 

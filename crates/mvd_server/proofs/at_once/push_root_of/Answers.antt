@@ -9,6 +9,9 @@ pub returns : goal.returns
 returns g c =
     let site = site_of c.args.replica.now in
     on_ok_weaker c.push_root.result
-    (λ e. (c.in_ok-found.found.live, e ∙ ap (λ text. string_bytes c.args.body.now ++ text)
-    (root_told site c.in_ok-digest.digest _ _ c.in_ok-found.found.live _ (root_is site c.in_ok-digest.digest c.in_ok-digest.ensures.0) (c.from.ensures ∙ c.key_count.ensures.count) (c.from-2.ensures ∙ c.conflict_count.ensures.count) (c.site-2.ensures.site ∙ ap (λ config. config.site) c.config.ensures))))
+    (λ e. (
+      c.in_ok-found.found.live,
+      e ∙ ap (λ text. string_bytes c.args.body.now ++ text)
+          (root_told site c.in_ok-digest.digest _ _ c.in_ok-found.found.live _ (root_is site c.in_ok-digest.digest c.in_ok-digest.ensures.0) (c.from.ensures ∙ c.key_count.ensures.count) (c.from-2.ensures ∙ c.conflict_count.ensures.count) (c.site-2.ensures.site ∙ ap (λ config. config.site) c.config.ensures)),
+    ))
     c.push_root.ensures.text

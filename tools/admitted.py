@@ -476,7 +476,11 @@ def of_waiting(place):
     waits.join(PATIENCE)
     if '"k"' in told[0][2]:
         miss(f"who waits is told what came after its token was gone: {told}")
-    if '"a":1' not in server.asked("GET", "/keys/k", f"Bearer {ALL}")[2]:
+    for _ in range(100):
+        if '"a":1' in server.asked("GET", "/keys/k", f"Bearer {ALL}")[2]:
+            break
+        time.sleep(0.1)
+    else:
         miss("a server does not meet its peer")
     server.ends(), peer.ends()
 

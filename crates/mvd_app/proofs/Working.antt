@@ -26,6 +26,7 @@ use Rattle.mvd_replica.specs.declared.replica.Replica.{Replica}
 use Rattle.mvd_shell.specs.Asked.{Exchange}
 use Rattle.mvd_shell.specs.Talk.{AnswersExchanges, AsksInTurn}
 use Rattle.mvd_server.specs.Rounds.{IsServed}
+use Rattle.mvd_server.specs.TokenFiles.{Named}
 use Rattle.mvd_server.specs.declared.sockets.Sockets.{Ghosts as SocketGhosts}
 use Rattle.sqlite.specs.Held.{Held, state}
 use Rattle.sqlite.specs.State.{State}
@@ -79,7 +80,7 @@ module _ {S : Type 0} {g : Ghosts S} where
   }
 
   -- a server
-  pub served_works : {K : Type 0} {k : SocketGhosts K} {passes : Option (List Pass)} {sockets sockets' : K} (old new : Replica S g) → IsServed k passes sockets old sockets' new → WorksOn (stored_of old) (stored_of new)
+  pub served_works : {K : Type 0} {k : SocketGhosts K} {passes : Option (List Pass)} {names : Named} {sockets sockets' : K} (old new : Replica S g) → IsServed k passes names sockets old sockets' new → WorksOn (stored_of old) (stored_of new)
   served_works old new it = record {
     config = it.list.serves.config;
     keeps = turns_keep _ (site_of old) (site_of new) it.list.serves.stands it.list.serves.choice;
@@ -102,7 +103,7 @@ module _ {S : Type 0} {g : Ghosts S} where
       (asked_by exchanges between new (writes_then old between exchange.request exchange.reply asked writes one) rest others)
 
   -- those of a server
-  served_by : {K : Type 0} {k : SocketGhosts K} {passes : Option (List Pass)} {sockets sockets' : K} (old new : Replica S g) (it : IsServed k passes sockets old sockets' new) →
+  served_by : {K : Type 0} {k : SocketGhosts K} {passes : Option (List Pass)} {names : Named} {sockets sockets' : K} (old new : Replica S g) (it : IsServed k passes names sockets old sockets' new) →
       WorksBy (rounds_in it.all) (stored_of old) (stored_of new)
   served_by old new it =
       subst (λ (m : HostMoment (Held S)). Works (rounds_in it.all) (site_of old) m.site (store_of old) (state g m.conn)) it.ends (of_rounds (state g) _ it.all it.runs)
@@ -120,12 +121,12 @@ module _ {S : Type 0} {g : Ghosts S} where
       (calls : List (List Turn)) (result : Result (Unit {0}) Stop) where
     -- keeps the writes known
     pub does_work : (task : Task) → DoesTask k line gives task tokens was old now new calls result → WorksOn (stored_of old) (stored_of new)
-    does_work Serving (it, is, still) = served_works old new it.served
+    does_work Serving (hosts, origins, it, is, still) = served_works old new it.served
     does_work Typing (it, is, still) = asks_work old new (record { exchanges = it.exchanges; answered = it.asked })
     does_work (Syncing address) (it, is) = pushed_works old new it.pushed
 
     -- and its calls are all that was done
     pub does_by : (task : Task) → DoesTask k line gives task tokens was old now new calls result → HasWrites (site_of old) → WorksBy calls (stored_of old) (stored_of new)
-    does_by Serving (it, is, still) writes = by_calls old new calls (rounds_in it.served.all) is (served_by old new it.served)
+    does_by Serving (hosts, origins, it, is, still) writes = by_calls old new calls (rounds_in it.served.all) is (served_by old new it.served)
     does_by Typing (it, is, still) writes = by_calls old new calls (calls_asked it.exchanges) is (asked_by it.exchanges old new writes it.valid it.asked)
     does_by (Syncing address) (it, is) writes = by_calls old new calls it.takes.calls is (pushed_by old new it.takes)

@@ -28,7 +28,7 @@ use Rattle.mvd_script.specs.Script.{Simulates}
 use Rattle.mvd_server.specs.Closing.{EndsAtFault, EndsServed}
 use Rattle.mvd_server.specs.Rounds.{IsServed}
 use Rattle.mvd_conn.specs.declared.passes.Pass.{Pass}
-use Rattle.mvd_server.specs.TokenFiles.{passes_in}
+use Rattle.mvd_server.specs.TokenFiles.{Named, passes_in}
 use Rattle.mvd_server.specs.declared.sockets.Sockets.{Ghosts as SocketGhosts}
 use Rattle.mvd_server.specs.declared.tokens.Tokens.{Tokens}
 use Rattle.mvd_shell.specs.Asked.{Exchange}
@@ -108,10 +108,10 @@ module _ {S : Type 0} {g : Ghosts S} where
 module _ {S : Type 0} {g : Ghosts S} {K : Type 0} (k : SocketGhosts K) where
   -- A server ran, and this is how it ended: well, and then nobody but its own is left; or with its fault, and where it
   -- could not listen it did nothing
-  pub record ServesTo (passes : Option (List Pass)) (sockets : K) (old : Replica S g) (sockets' : K) (new : Replica S g)
-      (result : Result (Unit {0}) Stop) : Type 0 where
-    pub served : IsServed k passes sockets old sockets' new
-    pub left : OnOk result (EndsServed k passes sockets old sockets' new)
+  pub record ServesTo (passes : Option (List Pass)) (names : Named) (sockets : K) (old : Replica S g) (sockets' : K)
+      (new : Replica S g) (result : Result (Unit {0}) Stop) : Type 0 where
+    pub served : IsServed k passes names sockets old sockets' new
+    pub left : OnOk result (EndsServed k passes names sockets old sockets' new)
     pub cause : IfErr result (λ stop. EndsAtFault (site_of new) stop.fault)
     pub unheard : IfErr result (λ stop. IsSome stop.hint → (sockets' ≡ sockets) × (new ≡ old))
 
@@ -123,7 +123,9 @@ module _ {S : Type 0} {g : Ghosts S} {K L : Type 0} (k : SocketGhosts K) (line :
   abbrev pub DoesTask : Task → Option Tokens → Outside K L → Replica S g → Outside K L → Replica S g
       → List (List Turn) → Result (Unit {0}) Stop → Type 0
   DoesTask Serving tokens was old now new calls result =
-      (it : ServesTo k (passes_in tokens) was.sockets old now.sockets new result)
+      (hosts : List ℕ) × (origins : List ℕ)
+      × (it : ServesTo k (passes_in tokens) (record { hosts = hosts; origins = origins; any_host = is_some tokens })
+      was.sockets old now.sockets new result)
       × (calls ≡ rounds_in it.served.all) × (now.gone ≡ was.gone)
   DoesTask Typing tokens was old now new calls result =
       (it : TypesLines (at old was.input was.out) (at new now.input now.out) result)

@@ -3,7 +3,7 @@ ghost use Rattle.std.specs.Prelude.{◌≡◌, ◌++◌, IfErr, IfOk, IsErrAnd, 
 ghost use Rattle.mvd_app.specs.Tasks.{ServesTo};
 ghost use Rattle.mvd_input.specs.Ends.{ReadsNot};
 ghost use Rattle.mvd_replica.specs.FileCalls.{IsNoFile, OpensAsSite};
-ghost use Rattle.mvd_server.specs.TokenFiles.{IsUnreadSo, passes_asked};
+ghost use Rattle.mvd_server.specs.TokenFiles.{IsUnreadSo, names_asked, passes_asked};
 ghost use Rattle.sqlite.specs.WalFiles.{image_at};
 
 use mvd_dots::Refusal;
@@ -152,7 +152,7 @@ impl<'p> Paths<'p> {
         writer: &mut W,
         errors: &mut E,
     ) -> Result<(), Stop<'a>>
-        ensures { ServesTo K.Sockets (passes_asked terms.entry)
+        ensures { ServesTo K.Sockets (passes_asked terms.entry) (names_asked terms.entry)
             sockets.old replica.old sockets.new replica.new result }
     {
         serve_run(

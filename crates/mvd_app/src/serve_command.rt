@@ -3,7 +3,7 @@ ghost use Rattle.std.specs.Option.{ForSome};
 ghost use Rattle.mvd_app.specs.Tasks.{ServesTo};
 ghost use Rattle.mvd_input.specs.Addresses.{IsAddressList};
 ghost use Rattle.mvd_input.specs.Orders.{ArePeers};
-ghost use Rattle.mvd_server.specs.TokenFiles.{passes_asked};
+ghost use Rattle.mvd_server.specs.TokenFiles.{names_asked, passes_asked};
 
 use crate::outlet::{Outlet, STANDARD_ERROR, STANDARD_OUTPUT};
 use crate::paths::Paths;
@@ -36,7 +36,7 @@ pub(crate) fn serve_stored<'a, N: Net, K: Sockets, S: Alter + Drop, W: Write>(
     writer: &mut W,
 ) -> Result<(), Stop<'a>>
     requires { ForSome peers ArePeers }
-    ensures { ServesTo K.Sockets (passes_asked terms.entry)
+    ensures { ServesTo K.Sockets (passes_asked terms.entry) (names_asked terms.entry)
         sockets.old replica.old sockets.new replica.new result }
 {
     let mut outlet = match Outlet::new(rt, paths.alloc(), STANDARD_OUTPUT, writer) {
@@ -70,7 +70,7 @@ fn serve_met<'a, N: Net, K: Sockets, S: Alter + Drop, W: Write>(
     writer: &mut W,
 ) -> Result<(), Stop<'a>>
     requires { ForSome peers ArePeers }
-    ensures { ServesTo K.Sockets (passes_asked terms.entry)
+    ensures { ServesTo K.Sockets (passes_asked terms.entry) (names_asked terms.entry)
         sockets.old replica.old sockets.new replica.new result }
 {
     let alloc = paths.alloc();

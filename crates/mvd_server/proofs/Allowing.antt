@@ -16,7 +16,7 @@ use Rattle.mvd_conn.specs.Rights.{may}
 use Rattle.mvd_conn.specs.declared.passes.Pass.{Pass}
 use Rattle.mvd_conn.specs.declared.right.Right.{Right}
 use Rattle.mvd_dots.specs.declared.refusals.Refusal.{Refusal}
-use Rattle.mvd_dots.specs.declared.refusals.Refusal.TheVariants.{Memory}
+use Rattle.mvd_dots.specs.declared.refusals.Refusal.TheVariants.{Broken, Memory}
 use Rattle.mvd_host.proofs.Own.{own-append, own-other, own-same}
 use Rattle.mvd_host.proofs.Within.{within}
 use Rattle.mvd_host.specs.AtHand.{AtHandValue, TakesFirst, asked_by_one, asks_of, first_at_hand}
@@ -48,6 +48,7 @@ use Rattle.mvd_server.specs.declared.batch.Batch.{Batch}
 use Rattle.mvd_server.specs.declared.gate.Plan.{Plan}
 use Rattle.mvd_server.specs.declared.gate.Plan.TheVariants as plan
 use Rattle.mvd_server.specs.declared.gate.Rest.{Rest}
+use Rattle.mvd_site.specs.FromStates.{unless_broken}
 use Rattle.mvd_site.specs.Held.{States}
 use Rattle.mvd_site.specs.Sites.{SiteValue}
 use Rattle.mvd_web.specs.Asked.{IsEntry, right_in, shown_by}
@@ -138,7 +139,7 @@ news_asks feed states old new (followed, is, inr (refusal, refuses)) = refuses_a
 
 health_asks : (site : SiteValue) (old new : WebValue) → TellsHealth site old new → StillAsks old new
 health_asks site old new (inl (whole, responds)) = responded old.asked old _ _ new responds
-health_asks site old new (inr (refusal, refuses)) = refuses_asks refusal old new refuses
+health_asks site old new (inr refuses) = refuses_asks (unless_broken site.broken Broken Memory) old new refuses
 
 waits_asks : (feed : FeedValue) (states : States) (since : Option (List ℕ)) (wait : ℕ) (old new : WebValue) (left : Rest) → TellsOrWaits feed states since wait old new left → StillAsks old new
 waits_asks feed states since wait old new left (inl (none, body)) = text_asks content.Json (since_told feed states since (followed_in old.asked)) old new body

@@ -1,5 +1,5 @@
 -- One host, from its first client on.
-use Rattle.std.proofs.Common.{◌≡◌, ◌∙◌, ◌⊎◌, ◌<◌, true, false, ℕ, List, [], ◌∷◌, ◌++◌, Option, None, Some, is_some, inl, inr, ap, refl, sym, subst, append-nil, append_assoc, true≢false}
+use Rattle.std.proofs.Common.{◌≡◌, ◌∙◌, ◌⊎◌, ◌<◌, true, false, ℕ, List, [], ◌∷◌, ◌++◌, Option, None, Some, is_some, inl, inr, ap, ap₂, refl, sym, subst, append-nil, append_assoc, true≢false}
 use Rattle.mvd_conn.specs.declared.guard.Guard.{Guard}
 use Rattle.mvd_conn.specs.declared.guard.Guard.TheVariants.{Asks, Knows, Left}
 use Rattle.mvd_conn.specs.declared.passes.Pass.{Pass}
@@ -242,15 +242,11 @@ module _ {K C : Type 0} (f : C → State) (k : SocketGhosts K) where
 -- ---- what a server does
 
 -- it begins with who may come in, and with its names
-pub begins_serving : (passes : Option (List Pass)) (names : Named) (talks : Talks) → talking_of talks ≡ new_talking passes names → BeginsServing passes talks
-begins_serving passes names talks is = (names, is)
+pub begins_serving : (now passes : Option (List Pass)) (names asked : Named) (talks : Talks) → talking_of talks ≡ new_talking now names → now ≡ passes → names ≡ asked → BeginsServing passes asked talks
+begins_serving now passes names asked talks is same named = is ∙ ap₂ new_talking same named
 
 none_made : (passes : Option (List Pass)) (names : Named) (n : ℕ) → IsMadeFor (new_talking passes names) n → ⊥
 none_made passes names n is = absurd (true≢false (sym is))
-
--- a server without a name
-no_names : Named
-no_names = record { hosts = []; origins = []; any_host = false }
 
 none_shown : (Known : Pass → Type 0) (passes : Option (List Pass)) → IsLetIn Known passes []
 none_shown Known None = tt
@@ -258,7 +254,7 @@ none_shown Known (Some passes) = tt
 
 module _ {S : Type 0} {g : Ghosts S} {K : Type 0} (k : SocketGhosts K) where
   pub served : (passes : Option (List Pass)) (names : Named) (last : Talking) (sockets : K) (old : Replica S g) (sockets' : K) (new : Replica S g)
-      → GoesOnServing k (begun passes names sockets) old (record { talking = last; sockets = sockets' }) new → IsServed k passes sockets old sockets' new
+      → GoesOnServing k (begun passes names sockets) old (record { talking = last; sockets = sockets' }) new → IsServed k passes names sockets old sockets' new
   served passes names last sockets old sockets' new p =
       let start = moment_of (world_of (begun passes names sockets) old) in
       let h = of_steps (state g) k (world_of (begun passes names sockets) old) (world_of (record { talking = last; sockets = sockets' }) new) p.mids p.steps in
@@ -281,7 +277,6 @@ module _ {S : Type 0} {g : Ghosts S} {K : Type 0} (k : SocketGhosts K) where
       let each = shows_each (state g) k passes Known start Made Told Done (turns_in h.all) end shows in
       let one = subst (λ m. OneList (turns_in h.all) (side_at (state g) start) (side_at (state g) m)) h.ends (one_list (state g) start h.all refl refl h.runs) in
       record {
-        names = names;
         last = last;
         goes = p;
         all = h.all;
@@ -340,19 +335,19 @@ module _ {S : Type 0} {g : Ghosts S} {K : Type 0} (k : SocketGhosts K) where
   pub goes_answers : (old new : Talks) (sockets : K) (replica replica' : Replica S g) → AnswersClients old replica new replica' → GoesOnServing k (wired_of old sockets) replica (wired_of new sockets) replica'
   goes_answers old new sockets replica replica' p = answers_on (record { talking = talking_of old; replica = replica }) (record { talking = talking_of new; replica = replica' }) sockets p.mids p.steps
 
-  pub served_none : (passes : Option (List Pass)) (sockets : K) (replica : Replica S g) → IsServed k passes sockets replica sockets replica
-  served_none passes sockets replica = served passes no_names (new_talking passes no_names) sockets replica sockets replica (goes_none (begun passes no_names sockets) replica)
+  pub served_none : (passes : Option (List Pass)) (names : Named) (sockets : K) (replica : Replica S g) → IsServed k passes names sockets replica sockets replica
+  served_none passes names sockets replica = served passes names (new_talking passes names) sockets replica sockets replica (goes_none (begun passes names sockets) replica)
 
-  pub served_from : (passes : Option (List Pass)) (first last : Talks) (sockets : K) (old : Replica S g) (sockets' : K) (new : Replica S g) → BeginsServing passes first
-      → GoesOnServing k (wired_of first sockets) old (wired_of last sockets') new → IsServed k passes sockets old sockets' new
-  served_from passes first last sockets old sockets' new (names, is) p =
+  pub served_from : (passes : Option (List Pass)) (names : Named) (first last : Talks) (sockets : K) (old : Replica S g) (sockets' : K) (new : Replica S g) → BeginsServing passes names first
+      → GoesOnServing k (wired_of first sockets) old (wired_of last sockets') new → IsServed k passes names sockets old sockets' new
+  served_from passes names first last sockets old sockets' new is p =
       served passes names (talking_of last) sockets old sockets' new (subst (λ (t : Talking). GoesOnServing k (record { talking = t; sockets = sockets }) old (wired_of last sockets') new) is p)
 
   -- and at the end nobody is left but its own
-  pub left_from : (passes : Option (List Pass)) (first last : Talks) (sockets : K) (old : Replica S g) (sockets' : K) (new : Replica S g) → BeginsServing passes first
-      → GoesOnServing k (wired_of first sockets) old (wired_of last sockets') new → IsDeserted (talking_of last) → EndsServed k passes sockets old sockets' new
+  pub left_from : (passes : Option (List Pass)) (names : Named) (first last : Talks) (sockets : K) (old : Replica S g) (sockets' : K) (new : Replica S g) → BeginsServing passes names first
+      → GoesOnServing k (wired_of first sockets) old (wired_of last sockets') new → IsDeserted (talking_of last) → EndsServed k passes names sockets old sockets' new
   unfolding served_from served
-  left_from passes first last sockets old sockets' new (names, is) p left = (served_from passes first last sockets old sockets' new (names, is) p, left)
+  left_from passes names first last sockets old sockets' new is p left = (served_from passes names first last sockets old sockets' new is p, left)
 
   -- ---- one after the other
 

@@ -8,6 +8,7 @@ use Rattle.mvd_input.specs.declared.fault.Fault.TheVariants.{Stopped, Line}
 use Rattle.mvd_print.specs.Text.{root_text}
 use Rattle.mvd_replica.specs.ReplicaCalls.{root_answer}
 use Rattle.mvd_replica.specs.declared.replica.Replica.{Replica}
+use Rattle.mvd_http.specs.Guard.{Named}
 use Rattle.mvd_server.specs.Rounds.{IsServed}
 use Rattle.mvd_server.specs.Talking.{Talking}
 use Rattle.mvd_server.specs.declared.sockets.Sockets.{Ghosts as SocketGhosts}
@@ -40,5 +41,7 @@ EndsWithRoot site new = (old : Option (List ℕ)) × PrintsRoot site old new
 
 module _ {S : Type 0} {g : Ghosts S} where
   -- it has served, and at the end nobody is left but its own
-  abbrev pub EndsServed : {K : Type 0} → SocketGhosts K → Option (List Pass) → K → Replica S g → K → Replica S g → Type 0
-  EndsServed k passes sockets old sockets' new = (it : IsServed k passes sockets old sockets' new) × IsDeserted it.last
+  abbrev pub EndsServed : {K : Type 0} → SocketGhosts K → Option (List Pass) → Named → K → Replica S g → K → Replica S g
+      → Type 0
+  EndsServed k passes names sockets old sockets' new =
+      (it : IsServed k passes names sockets old sockets' new) × IsDeserted it.last

@@ -7,7 +7,7 @@ use Rattle.std.specs.Ordering.{nat_cmp}
 use Rattle.mvd_conn.specs.declared.passes.Pass.{Pass}
 use Rattle.mvd_conn.specs.declared.right.Right.{Right}
 use Rattle.mvd_dots.specs.declared.refusals.Refusal.{Refusal}
-use Rattle.mvd_dots.specs.declared.refusals.Refusal.TheVariants.{Memory}
+use Rattle.mvd_dots.specs.declared.refusals.Refusal.TheVariants.{Broken, Memory}
 use Rattle.mvd_host.specs.AtHand.{AtHandValue, MayWait, TakesFirst, asked_by_one}
 use Rattle.mvd_host.specs.Feeds.{FeedValue}
 use Rattle.mvd_host.specs.Lists.{root_of}
@@ -47,11 +47,12 @@ use Rattle.mvd_wire.specs.declared.request.Request.{Request}
 abbrev pub IsToldRest : AtHandValue → AtHandValue → Rest → Type 0
 IsToldRest old new left = (new ≡ old) × (left ≡ rest.Nothing)
 
--- what changed is told, or the request waits for that: then nothing did that it asks for
+-- what changed is told, or the request waits for that, where it is to: then nothing did that it asks for
 abbrev pub TellsOrWaits : FeedValue → States → Option (List ℕ) → ℕ → WebValue → WebValue → Rest → Type 0
 TellsOrWaits feed states since wait old new left =
     ((left ≡ rest.Nothing) × TellsText content.Json (since_told feed states since (followed_in old.asked)) old new)
-    ⊎ ((root : List ℕ) × IsQuiet feed since (followed_in old.asked) root × (left ≡ rest.Waits root wait) × (new ≡ old))
+    ⊎ ((root : List ℕ) × ((0 < wait) × IsQuiet feed since (followed_in old.asked) root)
+    × (left ≡ rest.Waits root wait) × (new ≡ old))
 
 -- the root of the states, the numbers of keys, of which so many have a sibling, and the site's own
 abbrev pub root_text : SiteValue → ℕ → List ℕ
@@ -69,7 +70,7 @@ TellsRoot site old new = (live : ℕ) × TellsText content.Json (Ok (root_text s
 abbrev pub TellsHealth : SiteValue → WebValue → WebValue → Type 0
 TellsHealth site old new =
     ((site.broken ≡ false) × RespondsTo old.asked old (plain_answer 200 content.Json) (codes "{\"ready\":true}") new)
-    ⊎ ((refusal : Refusal) × RefusesWeb refusal old new)
+    ⊎ RefusesWeb (unless_broken site.broken Broken Memory) old new
 
 -- the request is asked at hand, once; or it is refused, for want of memory, or since it is none that may wait
 abbrev pub AsksAtHand : ℕ → Request → WebValue → AtHandValue → WebValue → AtHandValue → Type 0
@@ -84,7 +85,8 @@ StopsIf true old new left =
 StopsIf false old new left =
     (left ≡ rest.Nothing) × RespondsTo old.asked old (answer_of NotFound) (fault_text NotFound) new
 
--- it is done, once, where tokens are asked for (`guarded`) or not: the site is asked, or a response is queued, or it is told what is left to do
+-- it is done, once, where tokens are asked for (`guarded`) or not: the site is asked, or a response is queued, or it is
+-- told what is left to do
 abbrev pub DoesPlan : SiteValue → FeedValue → Bool → ℕ → Plan → WebValue → AtHandValue → WebValue → AtHandValue → Rest → Type 0
 DoesPlan site feed guarded n (plan.Ask request) old hand new hand' left =
     AsksAtHand n request old hand new hand' × (left ≡ rest.Nothing)

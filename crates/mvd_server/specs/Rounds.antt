@@ -32,8 +32,8 @@ use Rattle.sqlite_trees.specs.declared.store.Store.{Ghosts}
 abbrev pub begun : {K : Type 0} → Option (List Pass) → Named → K → Wired K
 begun passes names sockets = record { talking = new_talking passes names; sockets = sockets }
 
-abbrev pub BeginsServing : Option (List Pass) → Talks → Type 0
-BeginsServing passes talks = (names : Named) × (talking_of talks ≡ new_talking passes names)
+abbrev pub BeginsServing : Option (List Pass) → Named → Talks → Type 0
+BeginsServing passes names talks = talking_of talks ≡ new_talking passes names
 
 -- the clients of a server, with their sockets, and the replica that answers them
 pub record World (K C : Type 0) : Type 0 where
@@ -170,10 +170,8 @@ module _ {S : Type 0} {g : Ghosts S} where
 
   -- From a new host on: what happened to the host, as one list. Its turns are all that was done to the replica, and
   -- those of each client are what that asked and was told
-  pub record IsServed {K : Type 0} (k : SocketGhosts K) (passes : Option (List Pass)) (sockets : K) (old : Replica S g)
-      (sockets' : K)
-      (new : Replica S g) : Type 0 where
-    pub names : Named
+  pub record IsServed {K : Type 0} (k : SocketGhosts K) (passes : Option (List Pass)) (names : Named) (sockets : K)
+      (old : Replica S g) (sockets' : K) (new : Replica S g) : Type 0 where
     pub last : Talking
     pub goes : GoesOnServing k (begun passes names sockets) old (record { talking = last; sockets = sockets' }) new
     pub all : List (Happening (Held S))

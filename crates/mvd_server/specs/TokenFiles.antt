@@ -1,8 +1,9 @@
 -- What a file with tokens lets in.
-use Rattle.std.specs.Prelude.{◌≡◌, ℕ, List, [], ◌∷◌, Option, Some, None, option_map, option_copied, ⊤}
+use Rattle.std.specs.Prelude.{◌≡◌, ℕ, List, [], ◌∷◌, Option, Some, None, is_some, option_map, option_copied, ⊤}
 use Rattle.sha2.specs.Sha256.{sha256}
 use Rattle.mvd_conn.specs.Rights.{prefix_of}
 use Rattle.mvd_conn.specs.declared.passes.Pass.{Pass}
+pub use Rattle.mvd_http.specs.Guard.{Named}
 use Rattle.mvd_input.specs.Ends.{ReadsNot}
 use Rattle.mvd_input.specs.Passes.{PassText}
 use Rattle.mvd_server.specs.declared.terms.Terms.{Terms}
@@ -34,3 +35,8 @@ passes_in tokens = option_map (λ t. t.passes) tokens
 -- the passes of those who may come in, if not everybody may
 abbrev pub passes_asked : Terms → Option (List Pass)
 passes_asked terms = passes_in (option_copied terms.tokens)
+
+-- by which names it is asked, and of which origins a page may ask: by any name, where a token is asked for
+abbrev pub names_asked : Terms → Named
+names_asked terms =
+    record { hosts = terms.hosts.now; origins = terms.origins.now; any_host = is_some (option_copied terms.tokens) }

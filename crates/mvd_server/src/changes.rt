@@ -1,5 +1,5 @@
 //! What changed since a root, as it is told over HTTP.
-ghost use Rattle.std.specs.Prelude.{◌≡◌, ◌++◌, [], IfOk, IfSome, None, Ok, OnOk, Some, option_copied, option_map, string_bytes, true};
+ghost use Rattle.std.specs.Prelude.{◌≡◌, ◌<◌, ◌++◌, [], IfOk, IfSome, None, Ok, OnOk, Some, option_copied, option_map, string_bytes, true};
 ghost use Rattle.mvd_host.specs.Feeds.{changed_by, told_since};
 ghost use Rattle.mvd_replica.specs.Replicas.{site_of};
 ghost use Rattle.mvd_server.specs.News.{HasNews};
@@ -93,7 +93,7 @@ pub(crate) fn root_to_wait_from(
     wait: u32,
 ) -> Result<Option<[u8; 32]>, Refusal>
     ensures { IfOk result (λ quiet. IfSome quiet (λ root.
-        IsQuiet changes.now since (followed_in (option_copied asked.entry)) root)) }
+        (0 < wait) × IsQuiet changes.now since (followed_in (option_copied asked.entry)) root)) }
 {
     match followed_by(asked) {
         Some(followed) if wait > 0 => quiet_root(changes, since, followed),

@@ -6,7 +6,7 @@ ghost use Rattle.std.specs.Prelude.{◌≡◌, IfOk, IsTrue};
 ghost use Rattle.mvd_server.specs.Closing.{IsDeserted};
 ghost use Rattle.mvd_server.specs.Rounds.{BeginsServing, HasRound};
 ghost use Rattle.mvd_server.specs.Talking.{MayPart, TalksDeeds, talking_of};
-ghost use Rattle.mvd_server.specs.TokenFiles.{passes_asked};
+ghost use Rattle.mvd_server.specs.TokenFiles.{names_asked, passes_asked};
 ghost use Rattle.mvd_server.specs.Wires.{Carries, wired_of};
 
 use crate::client::{Client, PIECE, Piece, Stage};
@@ -72,7 +72,8 @@ impl Crowd {
         terms: Terms<'_>,
         start: Instant,
     ) -> Result<Crowd, AllocError>
-        ensures { IfOk result (λ crowd. BeginsServing (passes_asked terms.entry) crowd.talks) }
+        ensures { IfOk result (λ crowd.
+            BeginsServing (passes_asked terms.entry) (names_asked terms.entry) crowd.talks) }
     {
         let piece = Piece::new(alloc)?;
         let told = String::with_capacity(alloc, PIECE)?;

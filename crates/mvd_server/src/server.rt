@@ -10,7 +10,7 @@ ghost use Rattle.mvd_replica.specs.Replicas.{site_of};
 ghost use Rattle.mvd_server.specs.Closing.{EndsAtFault, EndsServed, EndsWithRoot, IsDeserted};
 ghost use Rattle.mvd_server.specs.Rounds.{BeginsServing, GoesOnServing, IsServed};
 ghost use Rattle.mvd_server.specs.Talking.{TalksDeeds, talking_of};
-ghost use Rattle.mvd_server.specs.TokenFiles.{passes_asked};
+ghost use Rattle.mvd_server.specs.TokenFiles.{names_asked, passes_asked};
 ghost use Rattle.mvd_server.specs.Wires.{Carries, wired_of};
 
 use crate::crowd::{Crowd, SPARE};
@@ -81,11 +81,11 @@ pub fn serve_run<
 ) -> Result<(), Stop<'a>>
     // However it ends, the site changed by turns of one host alone, fed by its sockets and its sessions with peers, and
     // its records follow.
-    ensures served { IsServed K.Sockets (passes_asked terms.entry)
+    ensures served { IsServed K.Sockets (passes_asked terms.entry) (names_asked terms.entry)
         sockets.old replica.old sockets.new replica.new }
     // Where it ends well, nobody is left but the server's own.
-    ensures left { OnOk result (EndsServed K.Sockets (passes_asked terms.entry) sockets.old replica.old
-        sockets.new replica.new) }
+    ensures left { OnOk result (EndsServed K.Sockets (passes_asked terms.entry) (names_asked terms.entry)
+        sockets.old replica.old sockets.new replica.new) }
     // Then the last line that it printed is the root of its site.
     ensures root { OnOk result (EndsWithRoot (site_of replica.new) (W.contents writer.new)) }
     // Else there is a cause; where it could not listen, nothing was served.
@@ -110,7 +110,8 @@ fn listening<'a, N: Net + Clock + RandomSource>(
     number: u32,
     terms: Terms<'_>,
 ) -> Result<Server, Stop<'a>>
-    ensures begins { IfOk result (λ server. BeginsServing (passes_asked terms.entry) server.crowd.talks) }
+    ensures begins { IfOk result (λ server.
+        BeginsServing (passes_asked terms.entry) (names_asked terms.entry) server.crowd.talks) }
     ensures unheard { IfErr result (λ stop. stop.fault ≡ Stopped ReadFailed) }
 {
     match Server::new(rt, alloc, address, number, terms) {
@@ -148,7 +149,8 @@ impl Server {
         number: u32,
         terms: Terms<'_>,
     ) -> io::Result<Server>
-        ensures { IfOk result (λ server. BeginsServing (passes_asked terms.entry) server.crowd.talks) }
+        ensures { IfOk result (λ server.
+            BeginsServing (passes_asked terms.entry) (names_asked terms.entry) server.crowd.talks) }
     {
         let start = Instant::now(rt)?;
         let keys = RandomState::new(rt)?;

@@ -27,8 +27,9 @@ pub struct Terms<'a> {
 }
 
 impl Terms<'_> {
-    ghost use Rattle.std.specs.Prelude.{◌≡◌, IfOk};
-    ghost use Rattle.mvd_server.specs.TokenFiles.{passes_asked};
+    ghost use Rattle.std.specs.Prelude.{◌≡◌, ◌/◌, IfOk};
+    ghost use Rattle.mvd_http.specs.Guard.{named_by};
+    ghost use Rattle.mvd_server.specs.TokenFiles.{names_asked, passes_asked};
 
     /// The passes of those who may come in, if not everybody may.
     pub(crate) fn passes(self, alloc: Global) -> Result<Option<Passes>, AllocError>
@@ -46,7 +47,10 @@ impl Terms<'_> {
     }
 
     /// By which names it is asked, and of which origins a page may ask: by any name, where a token is asked for.
-    pub(crate) fn names(self, alloc: Global) -> Result<Names, AllocError> {
+    #[tactic(auto, using(crate::proofs::Errands::copied_some))]
+    pub(crate) fn names(self, alloc: Global) -> Result<Names, AllocError>
+        ensures { IfOk result (λ names. named_by names ≡ names_asked self.entry) }
+    {
         Ok(Names {
             hosts: String::from_str(alloc, self.hosts)?,
             origins: String::from_str(alloc, self.origins)?,
@@ -55,7 +59,9 @@ impl Terms<'_> {
     }
 
     /// The most clients that may wait for a change at once, so that there are places for those who write.
-    pub(crate) fn waits_max(self) -> usize {
+    pub(crate) fn waits_max(self) -> usize
+        ensures { result ≡ self.entry.clients / 2 }
+    {
         self.clients as usize / 2
     }
 }

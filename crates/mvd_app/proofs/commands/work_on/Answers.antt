@@ -5,7 +5,7 @@ use Rattle.mvd_client.specs.SyncsAt.{TellsSession}
 use Rattle.mvd_app.proofs.commands.work_on.Goals as goal
 
 pub returns-in-Serve : goal.returns-in-Serve
-returns-in-Serve g c = rw c.in-Serve.is (rounds_in c.serve_stored.ensures.served.all, (c.in-Serve.terms.hosts.now, c.in-Serve.terms.origins.now, (c.serve_stored.ensures, refl, refl)))
+returns-in-Serve g c = rw c.in-Serve.is (rounds_in c.serve_stored.ensures.served.all, (c.in-Serve.terms.hosts.now, c.in-Serve.terms.origins.now, c.serve_stored.ensures, refl, refl))
 
 pub returns-in-Shell : goal.returns-in-Shell
 returns-in-Shell g c = rw c.in-Shell.is (calls_asked c.typed.ensures.exchanges, (c.typed.ensures, refl, refl))

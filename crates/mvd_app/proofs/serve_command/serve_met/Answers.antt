@@ -3,12 +3,12 @@ use Rattle.mvd_app.proofs.Unserved.{serves_nothing}
 use Rattle.mvd_app.proofs.serve_command.serve_met.Goals as goal
 use Rattle.mvd_replica.specs.Replicas.{site_of}
 use Rattle.mvd_server.proofs.Closing.{ends_unread}
-use Rattle.mvd_server.specs.TokenFiles.{passes_asked}
+use Rattle.mvd_server.specs.TokenFiles.{names_asked, passes_asked}
 
 pub returns-in-Err : goal.returns-in-Err
 returns-in-Err g c =
-    serves_nothing g.K.Sockets (passes_asked c.args.terms) c.args.sockets.now c.args.replica.now c.unheard.result (ends_unread (site_of c.args.replica.now) c.unheard.result.fault c.unheard.ensures)
+    serves_nothing g.K.Sockets (passes_asked c.args.terms) (names_asked c.args.terms) c.args.sockets.now c.args.replica.now c.unheard.result (ends_unread (site_of c.args.replica.now) c.unheard.result.fault c.unheard.ensures)
 
 pub returns-in_default-met_by : goal.returns-in_default-met_by
 returns-in_default-met_by g c =
-    serves_nothing g.K.Sockets (passes_asked c.args.terms) c.args.sockets.now c.args.replica.now c.from.result (rw c.from.ensures (λ other. absurd (other refl)))
+    serves_nothing g.K.Sockets (passes_asked c.args.terms) (names_asked c.args.terms) c.args.sockets.now c.args.replica.now c.from.result (rw c.from.ensures (λ other. absurd (other refl)))

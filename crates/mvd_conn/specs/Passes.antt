@@ -40,6 +40,11 @@ allows_same right (Some pass) = is_same_right right pass.right
 abbrev pub has_pass : List Pass → Pass → Bool
 has_pass passes pass = allows_same pass.right (pass_of_digest passes pass.digest)
 
+-- whether one of these passes has this right
+abbrev pub grants : List Pass → Right → Bool
+grants [] right = false
+grants (pass ∷ passes) right = if is_same_right right pass.right then true else grants passes right
+
 -- ---- a Hello
 
 -- a payload is the length of the token in two bytes, and the token

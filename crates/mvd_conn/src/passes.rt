@@ -2,7 +2,7 @@
 ghost use Rattle.std.specs.Prelude.{◌≡◌, ◌∷◌, ◌++◌, [], OnErr, OnOk, IfOk, option_copied};
 ghost use Rattle.std.specs.Str.{bytes_eq};
 ghost use Rattle.sha2.specs.Sha256.{sha256};
-ghost use Rattle.mvd_conn.specs.Passes.{admits, has_pass, pass_of, pass_of_digest, pass_shown, token_shown};
+ghost use Rattle.mvd_conn.specs.Passes.{admits, grants, has_pass, pass_of, pass_of_digest, pass_shown, token_shown};
 
 use crate::right::Right;
 use sha2::{Digest, Sha256};
@@ -91,6 +91,13 @@ impl Passes {
         }
     }
 
+    /// Whether one of them has a right.
+    pub fn grant(&self, right: &Right) -> bool
+        ensures { result ≡ grants self.now right.now }
+    {
+        is_granted(&self.list, right)
+    }
+
     /// Whether a pass is there still: its token is known, and allows the same.
     pub(crate) fn has(&self, pass: &Pass) -> bool
         ensures { result ≡ has_pass self.now pass.now }
@@ -100,6 +107,18 @@ impl Passes {
             None => false,
         }
     }
+}
+
+/// Whether one of these passes has a right.
+fn is_granted(passes: &[Pass], right: &Right) -> bool
+    ensures { result ≡ grants passes.now right.now }
+{
+    for pass in passes {
+        if right.is_same(&pass.right) {
+            return true;
+        }
+    }
+    false
 }
 
 /// The first of these passes that has a digest.

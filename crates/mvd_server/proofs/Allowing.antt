@@ -133,9 +133,9 @@ text_asks : (kind : Content) (told : Result (List ℕ) Refusal) (old new : WebVa
 text_asks kind told old new (inl (text, is, responds)) = responded old.asked old _ text new responds
 text_asks kind told old new (inr (refusal, refuses)) = refuses_asks refusal old new refuses
 
-news_asks : (feed : FeedValue) (states : States) (old new : WebValue) → TellsNews feed states old new → StillAsks old new
-news_asks feed states old new (followed, is, inl (text, news, responds)) = responded old.asked old _ text new responds
-news_asks feed states old new (followed, is, inr (refusal, refuses)) = refuses_asks refusal old new refuses
+news_asks : (now : Option (List Pass)) (feed : FeedValue) (states : States) (old new : WebValue) → TellsNews now feed states old new → StillAsks old new
+news_asks now feed states old new (followed, is, inl (text, news, responds)) = responded old.asked old _ text new responds
+news_asks now feed states old new (followed, is, inr (refusal, refuses)) = refuses_asks refusal old new refuses
 
 health_asks : (site : SiteValue) (old new : WebValue) → TellsHealth site old new → StillAsks old new
 health_asks site old new (inl (whole, responds)) = responded old.asked old _ _ new responds
@@ -477,7 +477,7 @@ module _ (Known : Pass → Type 0) (passes : Option (List Pass)) where
     web = open_still Known passes old.web.asked new.web.asked (told_ends told old.web batch' new.web lines) all.web;
   }
   desk_errand TellsChange site feed now names n old new same known (news, is) all =
-      desk_to old new (ap (λ (d : Desk). d.hand) is) (ap (λ (d : Desk). d.batches) is) (news_asks feed site.states old.web new.web news) all
+      desk_to old new (ap (λ (d : Desk). d.hand) is) (ap (λ (d : Desk). d.batches) is) (news_asks now feed site.states old.web new.web news) all
   desk_errand Stops site feed now names n old new same known (ends, is) all =
       desk_to old new (ap (λ (d : Desk). d.hand) is) (ap (λ (d : Desk). d.batches) is) (ends_asks old.web new.web ends) all
 

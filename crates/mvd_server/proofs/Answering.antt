@@ -1,5 +1,6 @@
 -- The request that waits is answered.
 use Rattle.std.proofs.Common.{◌≡◌, ◌∙◌, ap, false, inl, inr, ℕ, List, [], Option, Some, None, Result, Ok, Err, OnOk, subst, sym}
+use Rattle.mvd_conn.specs.declared.passes.Pass.{Pass}
 use Rattle.mvd_dots.specs.declared.refusals.Refusal.{Refusal}
 use Rattle.mvd_host.specs.Feeds.{FeedValue}
 use Rattle.mvd_http.specs.Answers.{IsToldAs}
@@ -8,10 +9,10 @@ use Rattle.mvd_http.specs.declared.fields.Content.TheVariants.{Json}
 use Rattle.mvd_http.specs.declared.question.Followed.{Followed}
 use Rattle.mvd_http.specs.declared.question.Question.TheVariants.{Changes}
 use Rattle.mvd_server.specs.Errands.{AwaitsChange, TellsNews, TellsRoot, root_text}
-use Rattle.mvd_server.specs.News.{IsNewsFor, followed_by}
+use Rattle.mvd_server.specs.News.{IsNewsFor, asked_by, followed_by}
 use Rattle.mvd_server.specs.Questions.{TellsText}
 use Rattle.mvd_server.specs.Responding.{AnswersReply, AnswersWeb, RefusesWeb, TellsPushed, json_answer, refused_for}
-use Rattle.mvd_server.specs.Since.{IsNews, followed_in, followed_of, since_text, since_told}
+use Rattle.mvd_server.specs.Since.{IsLetStill, IsNews, followed_in, followed_of, since_text, since_told}
 use Rattle.mvd_server.specs.Talking.{Talking, web_in}
 use Rattle.mvd_site.specs.Held.{States}
 use Rattle.mvd_site.specs.Sites.{SiteValue}
@@ -53,10 +54,10 @@ awaits_so None never = absurd never
 awaits_so (Some asked) (since, wait, followed, is) = (followed, ap followed_of is)
 
 -- what was put down is told to it
-pub tells_news : {A : Type 0} (feed : FeedValue) (states : States) (followed : Followed) (told : Result A Refusal) (body : List ℕ) (old new : WebValue) → followed_in old.asked ≡ Some followed → OnOk told (IsNews feed states followed body) → TellsPushed told body old new
-    → TellsNews feed states old new
-tells_news feed states followed (Ok done) body old new is news responds = (followed, is, inl (body, news, responds))
-tells_news feed states followed (Err refusal) body old new is news refuses = (followed, is, inr (refusal, refuses))
+pub tells_news : {A : Type 0} (passes : Option (List Pass)) (feed : FeedValue) (states : States) (followed : Followed) (told : Result A Refusal) (body : List ℕ) (old new : WebValue) → followed_in old.asked ≡ Some followed → OnOk told (IsNews (IsLetStill passes old.asked) feed states followed body) → TellsPushed told body old new
+    → TellsNews passes feed states old new
+tells_news passes feed states followed (Ok done) body old new is news responds = (followed, is, inl (body, news, responds))
+tells_news passes feed states followed (Err refusal) body old new is news refuses = (followed, is, inr (refusal, refuses))
 
 -- what changed is told to one that asks for it
 pub tells_since : {A : Type 0} (feed : FeedValue) (states : States) (since : Option (List ℕ)) (o : Option Followed) (told : Result A Refusal) (body : List ℕ) (old new : WebValue) → o ≡ followed_in old.asked → OnOk told (since_told feed states since o ≡ Ok body) → TellsPushed told body old new
@@ -83,7 +84,7 @@ module _ {A : Type 0} (site : SiteValue) (t : Talking) (n : ℕ) where
   unwaited_news (Err refusal) root text is = λ followed at. tt
 
   -- something did
-  pub some_news : (done : A) (since : Option (List ℕ)) (asked : Followed) (text : List ℕ) → Some asked ≡ followed_by (web_in t n) → text ≡ since_text t.feed asked site.states since → IsNewsFor site t n (Ok done) text
-  some_news done since asked text at is = λ followed found.
+  pub some_news : (done : A) (since : Option (List ℕ)) (asked : Followed) (text : List ℕ) → IsLetStill t.passes (asked_by (web_in t n)) → Some asked ≡ followed_by (web_in t n) → text ≡ since_text t.feed asked site.states since → IsNewsFor site t n (Ok done) text
+  some_news done since asked text let_in at is = λ followed found.
       let same : asked ≡ followed = (let e = at ∙ found in cc) in
-      inl (since, is ∙ ap (λ (f : Followed). since_text t.feed f site.states since) same)
+      inl (let_in, since, is ∙ ap (λ (f : Followed). since_text t.feed f site.states since) same)

@@ -26,7 +26,7 @@ use Rattle.mvd_server.specs.Plans.{plain_answer}
 use Rattle.mvd_server.specs.Listings.{TellsListed}
 use Rattle.mvd_server.specs.Questions.{TellsAsks, TellsBadLine, TellsText}
 use Rattle.mvd_server.specs.Responding.{AnswersWeb, RefusesWeb, TellsBody, token_answer, not_admitted}
-use Rattle.mvd_server.specs.Since.{IsNews, IsQuiet, followed_in, since_told}
+use Rattle.mvd_server.specs.Since.{IsLetStill, IsNews, IsQuiet, followed_in, since_told}
 use Rattle.mvd_server.specs.declared.batch.Batch.{Batch}
 use Rattle.mvd_site.specs.FromStates.{unless_broken}
 use Rattle.mvd_site.specs.Held.{States}
@@ -171,10 +171,10 @@ TellsClient n old hand new hand' =
     (reply : Reply) × TakesFirst hand (Some (n, reply)) hand' × AnswersWeb old.asked reply old new
 
 -- it is told to one that waited
-abbrev pub TellsNews : FeedValue → States → WebValue → WebValue → Type 0
-TellsNews feed states old new =
+abbrev pub TellsNews : Option (List Pass) → FeedValue → States → WebValue → WebValue → Type 0
+TellsNews passes feed states old new =
     (followed : Followed) × (followed_in old.asked ≡ Some followed)
-    × (((text : List ℕ) × IsNews feed states followed text
+    × (((text : List ℕ) × IsNews (IsLetStill passes old.asked) feed states followed text
     × RespondsTo old.asked old (plain_answer 200 content.Json) text new)
     ⊎ ((refusal : Refusal) × RefusesWeb refusal old new))
 
@@ -228,7 +228,7 @@ RunsErrand (TellsMany batch batch') site feed passes names n old new =
     (batch_in old.batches n ≡ Some batch) × TellsBatch n old.web batch old.hand new.web batch' new.hand
     × KeepsWrites n batch' old new
 RunsErrand TellsChange site feed passes names n old new =
-    TellsNews feed site.states old.web new.web × (new ≡ record old { web = new.web })
+    TellsNews passes feed site.states old.web new.web × (new ≡ record old { web = new.web })
 RunsErrand Stops site feed passes names n old new =
     (EndsInput old.web new.web ⊎ ((refusal : Refusal) × (new.web ≡ stopped_by old.web refusal)))
     × (new ≡ record old { web = new.web })

@@ -1,5 +1,7 @@
 -- What is told of the changes since a root.
-use Rattle.std.specs.Prelude.{◌≡◌, ◌⊎◌, ℕ, true, false, List, [], Option, Some, None, Result, Ok, Err}
+use Rattle.std.specs.Prelude.{◌≡◌, ◌⊎◌, ⊤, ℕ, true, false, List, [], Option, Some, None, Result, Ok, Err}
+use Rattle.mvd_conn.specs.Passes.{grants}
+use Rattle.mvd_conn.specs.declared.passes.Pass.{Pass}
 use Rattle.mvd_dots.specs.declared.refusals.Refusal.{Refusal}
 use Rattle.mvd_dots.specs.declared.refusals.Refusal.TheVariants.{BadKind}
 use Rattle.mvd_host.specs.Feeds.{ChangedValue, FeedValue, root_now, told_since}
@@ -12,6 +14,8 @@ use Rattle.mvd_http.specs.declared.question.Question.TheVariants.{Changes}
 use Rattle.mvd_site.specs.Answer.{state_at}
 use Rattle.mvd_site.specs.Held.{States}
 use Rattle.mvd_web.specs.declared.taken.Asked.{Asked}
+use Rattle.mvd_web.specs.declared.taken.Entry.{Entry}
+use Rattle.mvd_web.specs.declared.taken.Entry.TheVariants.{Open}
 
 -- the keys that changed, up to the root that is told, or that all is to be read anew, up to this root
 abbrev pub news_text : Followed → States → List ℕ → Option ChangedValue → List ℕ
@@ -55,8 +59,19 @@ IsQuiet feed since None root = ⊥
 IsQuiet feed since (Some followed) root =
     told_if feed followed.prefix since ≡ Some (record { keys = []; root = root })
 
--- one that waited is told what changed since a root; or, of a root, that nothing did since, or that it did not wait
-abbrev pub IsNews : FeedValue → States → Followed → List ℕ → Type 0
-IsNews feed states followed text =
-    ((since : Option (List ℕ)) × (text ≡ since_text feed followed states since))
+-- where tokens are asked for, a pass that is known now has the right by which it came in
+abbrev pub IsLetBy : List Pass → Entry → Type 0
+IsLetBy passes (Open right) = grants passes right ≡ true
+IsLetBy passes entry = ⊥
+
+abbrev pub IsLetStill : Option (List Pass) → Option Asked → Type 0
+IsLetStill None asked = ⊤
+IsLetStill (Some passes) None = ⊥
+IsLetStill (Some passes) (Some asked) = IsLetBy passes asked.entry
+
+-- one that waited is told what changed since a root, while it may be let in; or, of a root, that nothing did since, or
+-- that it did not wait
+abbrev pub IsNews : Type 0 → FeedValue → States → Followed → List ℕ → Type 0
+IsNews Let feed states followed text =
+    (Let × (since : Option (List ℕ)) × (text ≡ since_text feed followed states since))
     ⊎ ((root : List ℕ) × ((text ≡ changes_text root [] false) ⊎ (text ≡ not_waited_text root)))

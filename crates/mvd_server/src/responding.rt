@@ -1,22 +1,24 @@
 //! The responses to requests of HTTP, as they are queued.
-ghost use Rattle.std.specs.Prelude.{◌≡◌, IfOk, IsTrue, option_copied, string_bytes};
+ghost use Rattle.std.specs.Prelude.{◌≡◌, IfOk, IsTrue, Some, option_copied, string_bytes, true};
 ghost use Rattle.mvd_http.specs.Answers.{IsToldAs};
 ghost use Rattle.mvd_http.specs.declared.fields.Content.TheVariants.{Json};
 ghost use Rattle.mvd_server.specs.Errands.{AwaitsChange};
 ghost use Rattle.mvd_server.specs.Plans.{plain_answer};
 ghost use Rattle.mvd_server.specs.Responding.{AnswersReply, AnswersWeb, RefusesWeb, TellsPushed, content_of as content_for};
 ghost use Rattle.mvd_server.specs.Responding.{json_answer, refused_for, status_or_500};
+ghost use Rattle.mvd_server.specs.Since.{IsLetStill};
 ghost use Rattle.mvd_web.specs.Inside.{web_of};
 ghost use Rattle.mvd_web.specs.Web.{RespondsTo};
 
 use crate::metrics::Counts;
 use http::StatusCode;
+use mvd_conn::Passes;
 use mvd_dots::Refusal;
 use mvd_http::{
     Answer, Content, Question, live_response_of, misread_response, refused_response, response_of,
     texts_response_of,
 };
-use mvd_web::{Asked, WebConnection};
+use mvd_web::{Asked, Entry, WebConnection};
 use mvd_wire::Reply;
 use std::alloc::{AllocError, Global};
 
@@ -103,6 +105,19 @@ pub(crate) fn asks_changes(web: &WebConnection) -> bool
 {
     match web.asked() {
         Some(asked) => matches!(asked.question, Ok(Question::Changes(..))),
+        None => false,
+    }
+}
+
+/// Whether the request that waits has a right that one of these passes gives.
+pub(crate) fn is_let_by(passes: &Passes, asked: Option<&Asked>) -> bool
+    ensures { result ≡ true → IsLetStill (Some passes.now) (option_copied asked.entry) }
+{
+    match asked {
+        Some(asked) => match &asked.entry {
+            Entry::Open(right) => passes.grant(right),
+            _ => false,
+        },
         None => false,
     }
 }

@@ -1,13 +1,14 @@
 //! Those that wait for a change.
-ghost use Rattle.std.specs.Prelude.{◌≡◌, IsTrue, option_copied};
+ghost use Rattle.std.specs.Prelude.{◌≡◌, IsTrue, option_copied, true};
 ghost use Rattle.mvd_replica.specs.Replicas.{site_of};
-ghost use Rattle.mvd_server.specs.News.{HasNews, IsNewsFor, followed_by as followed_for};
+ghost use Rattle.mvd_server.specs.News.{HasNews, IsNewsFor, asked_by, followed_by as followed_for};
+ghost use Rattle.mvd_server.specs.Since.{IsLetStill};
 ghost use Rattle.mvd_server.specs.Talking.{IsWaiting, TalksAt, TalksDeeds, talking_of, web_in};
 ghost use Rattle.mvd_site.specs.Sites.{SiteValue};
 
 use crate::changes::{News, followed_by};
 use crate::metrics::Counts;
-use crate::responding::{asks_changes, tell_pushed};
+use crate::responding::{asks_changes, is_let_by, tell_pushed};
 use crate::talks::Talks;
 use mvd_dots::Refusal;
 use mvd_http::{Followed, push_changes, push_not_waited};
@@ -114,6 +115,9 @@ impl Talks {
         let Some(followed) = self.followed(number) else {
             return self.unpark(number);
         };
+        if !self.is_let(number) {
+            return;
+        }
         match news.tell(&self.changes, replica, followed) {
             Ok(true) => self.tell_change(number, Ok(()), news.body.as_str(), counts),
             Ok(false) => {}
@@ -126,6 +130,20 @@ impl Talks {
         ensures { option_copied result ≡ followed_for (web_in (talking_of self.now) number) }
     {
         followed_by(self.webs.get(&number)?.asked())
+    }
+
+    /// Whether a client that waits may be let in still.
+    fn is_let(&self, number: u64) -> bool
+        ensures { result ≡ true → IsLetStill (talking_of self.now).passes
+            (asked_by (web_in (talking_of self.now) number)) }
+    {
+        let Some(passes) = &self.passes else {
+            return true;
+        };
+        match self.webs.get(&number) {
+            Some(web) => is_let_by(passes, web.asked()),
+            None => false,
+        }
     }
 
     fn unpark(&mut self, number: u64)

@@ -33,7 +33,7 @@ SENTENCE = 45
 LINES = {"README.md": 174, "docs/THEOREM.md": 120, "docs/PROOFS.md": 150}
 CRATE_LINES = 30
 # Of those of docs/, 190 are docs/OFFLINE.md, and 160 "A back end" and "Behind a proxy" of docs/USING.md, whose blocks are files.
-DOCS_LINES = 3930
+DOCS_LINES = 3940
 # Words of other projects, of the toolchain, of HTTP and of the command line that no file of ours has as a name.
 FOREIGN = {
     "rt", "cargo", "valgrind", "perf", "top", "du", "sqlite3", "taskset", "sha256sum", "curl", "chromium", "python3", "Wait",

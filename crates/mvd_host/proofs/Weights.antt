@@ -1,9 +1,10 @@
 -- What requests weigh, one after the other.
-use Rattle.std.proofs.Common.{◌≡◌, ◌∙◌, ℕ, ◌+◌, ◌-◌, ◌^◌, ◌≤◌, List, [], ◌∷◌, ◌++◌, map, min, sym, ap, subst, arith}
+use Rattle.std.proofs.Common.{◌≡◌, ◌∙◌, true, ℕ, ◌+◌, ◌-◌, ◌^◌, ◌≤◌, List, [], ◌∷◌, ◌++◌, map, min, sym, ap, subst, arith}
+use Rattle.std.proofs.lemmas.Bool.Decides.{nat_tests}
 use Rattle.std.proofs.lemmas.List.{map-append}
 use Rattle.mvd_site.specs.Held.{States}
 use Rattle.mvd_wire.specs.declared.request.Request.{Request}
-use Rattle.mvd_host.specs.Weights.{AreHeavy, IsWeighed, weight_of, weights_in}
+use Rattle.mvd_host.specs.Weights.{AreHeavy, IsWeighed, has_to_wait, weight_of, weights_in}
 
 pub weights_append : (states : States) (xs ys : List Request) → weights_in states (xs ++ ys) ≡ weights_in states xs + weights_in states ys
 weights_append states [] ys = omega arith
@@ -11,6 +12,10 @@ weights_append states (x ∷ xs) ys = let rest = weights_append states xs ys in 
 
 pub weights_push : (states : States) (xs : List Request) (x : Request) → weights_in states (xs ++ x ∷ []) ≡ weights_in states xs + weight_of states x
 weights_push states xs x = let both = weights_append states xs (x ∷ []) in omega (arith, both)
+
+-- what has to wait does so behind this weight
+pub waits_heavy : (weighed weighs : ℕ) → has_to_wait weighed weighs ≡ true → 4194304 ≤ weighed
+waits_heavy weighed weighs is = grind (arith, nat_tests, is)
 
 -- one more is counted
 pub weighed_more : (states : States) (xs all : List Request) (x : Request) (n w m : ℕ) → IsWeighed states xs n → w ≡ min (weight_of states x) (2 ^ 64 - 1) → m ≡ min (n + w) (2 ^ 64 - 1) → all ≡ xs ++ x ∷ [] → IsWeighed states all m

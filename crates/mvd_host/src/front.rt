@@ -72,6 +72,7 @@ impl Front {
 
     /// Takes the next request of a client, unless there is none, or it has to wait for another round. Whether it was
     /// taken.
+    #[tactic(auto, using(crate::proofs::Weights::waits_heavy))]
     fn take_one(&mut self, site: &Site, asking: &mut Asking) -> bool
         ensures takes { result ≡ true → TakesOne site.now.states asking.old asking.new self.old self.new }
         ensures stops { result ≡ false → StopsTaking asking.old asking.new self.old self.new }

@@ -38,8 +38,7 @@ pub(crate) fn weight(site: &Site, request: &Request) -> u64
 /// Whether a request that weighs so much has to wait for another round, where those of this one weigh so much: a change
 /// that weighs more than a little, once they weigh as much as they may, and any, once they weigh twice as much.
 pub(crate) fn has_to_wait(weighed: u64, weighs: u64) -> bool
-    ensures told { result ≡ waits_told weighed weighs }
-    ensures heavy { result ≡ true → 4194304 ≤ weighed }
+    ensures { result ≡ waits_told weighed weighs }
 {
     (weighed >= WEIGHT_MAX && weighs > LITTLE) || (weighed >= 2 * WEIGHT_MAX && weighs > 0)
 }

@@ -4,6 +4,7 @@ use Rattle.std.specs.Option.{IfSome}
 use Rattle.std.specs.BTreeMap.{insert_entry, is_at}
 use Rattle.std.specs.Map.{set_value}
 use Rattle.std.specs.Ordering.{nat_cmp}
+use Rattle.mvd_conn.specs.declared.passes.Pass.{Pass}
 use Rattle.mvd_conn.specs.declared.source.Source.{Source}
 use Rattle.mvd_conn.specs.declared.source.Source.TheVariants as source
 use Rattle.mvd_conn.specs.History.{closed, cut, released}
@@ -13,7 +14,7 @@ use Rattle.mvd_host.specs.Hosts.{Admits, HostValue, altered}
 use Rattle.mvd_host.specs.Runs.{Call, Closes, Cuts, Feeds, Releases, Sends, after_call}
 use Rattle.mvd_dots.specs.declared.refusals.Refusal.{Refusal}
 use Rattle.mvd_server.specs.Batches.{HandsBatch}
-use Rattle.mvd_server.specs.Errands.{Errand, Forgoes, IsBatchFor, KeepsWrites, RunsErrand, Stops, Tells, TellsBatch, TellsMany, batch_in, desk}
+use Rattle.mvd_server.specs.Errands.{Asks, AsksNextOf, Errand, Forgoes, IsBatchFor, KeepsWrites, RunsErrand, Stops, Tells, TellsBatch, TellsMany, batch_in, desk}
 use Rattle.mvd_server.specs.HostBytes.{TakesBytes, sent_of}
 use Rattle.mvd_server.specs.OwnSides.{DismissesIf, DismissesOwn}
 use Rattle.mvd_server.specs.Responding.{AnswersWeb, RefusesWeb}
@@ -21,6 +22,7 @@ use Rattle.mvd_server.specs.Guarded.{first_guard}
 use Rattle.mvd_server.specs.Talking.{Act, Attends, Begins, Calls, Comes, ComesBy, ComesByWeb, Deed, Deeds, DeedsAt, DoesAct, Drops, GoesOwn, Hands, IsOf, IsWriting, KeepsBatch, LacksMemory, MayBeginWrites, MayCall, TakesReply, TalksDeeds, Talking, is_own_client, talking_of, web_in, with_host, with_web}
 use Rattle.mvd_server.specs.Wires.{Carries, GivesOut, TakesInput, Wired, WiredStep}
 use Rattle.mvd_server.specs.declared.batch.Batch.{Batch}
+use Rattle.mvd_server.specs.declared.gate.Rest.{Rest}
 use Rattle.mvd_server.specs.declared.talks.Kind.TheVariants.{Http}
 use Rattle.mvd_server.specs.declared.talks.Talks.{Talks}
 use Rattle.mvd_server.specs.declared.sockets.Sockets.{Ghosts}
@@ -85,6 +87,12 @@ pub deed_attends : (n : ℕ) (errand : Errand) (web web' : WebConnection) (old :
     → ((site : SiteValue) → RunsErrand errand site old.feed old.passes old.names n (desk old.hand (web_of web) old.batches) (desk hand (web_of web') batches)) → entries ≡ set_value (is_at (nat_cmp n)) old.webs web'
     → Deeds old (record old { hand = hand; webs = entries; batches = batches })
 deed_attends n errand web web' old hand batches entries has runs is = λ site. attends_at site n errand web web' old hand batches entries has (runs site) is
+
+-- a request is taken, by the passes that are known
+pub asks_at : (site : SiteValue) (n : ℕ) (left : Rest) (passes : Option (List Pass)) (web web' : WebConnection) (old : Talking) (hand : AtHandValue) (entries : List (ℕ × WebConnection)) → web_in old n ≡ Some web → passes ≡ old.passes
+    → AsksNextOf site old.feed passes old.names n (web_of web) old.hand (web_of web') hand left → entries ≡ set_value (is_at (nat_cmp n)) old.webs web' → DeedsAt site old (record old { hand = hand; webs = entries })
+asks_at site n left passes web web' old hand entries has known asks is =
+    attends_at site n (Asks left) web web' old hand old.batches entries has (subst (λ p. AsksNextOf site old.feed p old.names n (web_of web) old.hand (web_of web') hand left) known asks, refl) is
 
 -- one that leaves what is at hand and the writes as they are
 pub deed_stops : (n : ℕ) (web web' : WebConnection) (old : Talking) (entries : List (ℕ × WebConnection)) → web_in old n ≡ Some web → EndsInput (web_of web) (web_of web') ⊎ ((refusal : Refusal) × (web_of web' ≡ stopped_by (web_of web) refusal))

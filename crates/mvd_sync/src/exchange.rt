@@ -1,6 +1,6 @@
 //! The exchange of keys, one window after another.
-ghost use Rattle.std.specs.Prelude.{◌≡◌, ◌≤◌, ◌<◌, ◌+◌, ◌^◌, ◌++◌, ◌∷◌, ◌↔◌, ◌⊎◌, [], cond, drop, length, map, max, take, IsTrue};
-ghost use Rattle.std.specs.Prelude.{IfErr, IfOk, OnOk};
+ghost use Rattle.std.specs.Prelude.{◌≡◌, ◌≤◌, ◌<◌, ◌+◌, ◌^◌, ◌++◌, ◌∷◌, ◌↔◌, ◌⊎◌, []};
+ghost use Rattle.std.specs.Prelude.{IfErr, IfOk, IsTrue, OnOk, cond, drop, length, map, max, take};
 ghost use Rattle.mvd_sync.specs.Weights.{next_most, weight};
 ghost use Rattle.mvd_sync.specs.Exchanges.{CountsDone, IsHeldByEither};
 ghost use Rattle.mvd_sync.specs.Meetings.{done_of};

@@ -17,14 +17,14 @@ use Rattle.mvd_site.specs.Sites.{SiteStands, SiteValue}
 use Rattle.mvd_replica.specs.Turns.{AddsAt, AllTold, AreFrames, TurnEvent, IsNoBye, MayTell, Replies, RepliesOne, StandsOn, TellsTurns, Turn, known_after_turns}
 use Rattle.mvd_replica.specs.Steps.{IsSent}
 
-record Split (events : List TurnEvent) (first second : List Turn) : Type 0 where
+pub record Split (events : List TurnEvent) (first second : List Turn) : Type 0 where
   pub before : List TurnEvent
   pub after : List TurnEvent
   pub all : events ≡ before ++ after
   pub one : TellsTurns before first
   pub other : TellsTurns after second
 
-split : (first second : List Turn) (events : List TurnEvent) → TellsTurns events (first ++ second) → Split events first second
+pub split : (first second : List Turn) (events : List TurnEvent) → TellsTurns events (first ++ second) → Split events first second
 split [] second events tells = record { before = []; after = events; all = refl; one = record { told = refl; fits = tt }; other = tells }
 split (t ∷ first) second [] tells = absurd (let none : ◌≡◌ {A = List Turn} [] (t ∷ (first ++ second)) = tells.told in cc)
 split (t ∷ first) second (e ∷ es) tells =

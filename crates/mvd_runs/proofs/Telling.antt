@@ -22,6 +22,7 @@ use Rattle.mvd_model.specs.TheStore.{Answers, AreAmong, Breaks, Broke, Event, Ha
 use Rattle.mvd_model.proofs.Placing.{does_next, placed, placed_at, placed_else}
 use Rattle.mvd_model.proofs.Refusals.{IsUndone, answer_none}
 use Rattle.mvd_replica.specs.Asks.{TellsAnswer}
+use Rattle.mvd_replica.proofs.Replying.{Split, split}
 use Rattle.mvd_replica.specs.Turns.{AddsAt, AllTold, AreUndoneIn, TurnEvent as Added, IsMemory, IsToldElse, IsToldUndone, MayReplyStored, MayTell, TellsTurns, Turn, known_after_turns}
 use Rattle.mvd_runs.specs.Calls.{AreUndoneAtOnce, all_turns}
 use Rattle.mvd_runs.specs.Events.{AreEvents, AreTurns, IsSiteKnown, broke_with, broken_at, broken_in, each_told, else_told, events_of, is_broken_by, told_at, told_else_at}
@@ -417,29 +418,6 @@ call_of : (a : Knows) (i : ℕ) (turns : List Turn) (added : List Write) (is : B
 call_of a i turns added is w = ⊎_elim (λ h. call_whole a i turns added is w h.0 h.1) (λ h. call_broken a i turns added is w h.0 h.1) w.breaks
 
 -- ---- one call after the other
-
-record Split (events : List Added) (first second : List Turn) : Type 0 where
-  before : List Added
-  after : List Added
-  all : events ≡ before ++ after
-  one : TellsTurns before first
-  other : TellsTurns after second
-
-split : (first second : List Turn) (events : List Added) → TellsTurns events (first ++ second) → Split events first second
-split [] second events tells = record { before = []; after = events; all = refl; one = record { told = refl; fits = tt }; other = tells }
-split (t ∷ first) second [] tells = absurd (let none : ◌≡◌ {A = List Turn} [] (t ∷ (first ++ second)) = tells.told in cc)
-split (t ∷ first) second (e ∷ es) tells =
-    let all : ◌≡◌ {A = List Turn} (e.turn ∷ map (λ event. event.turn) es) (t ∷ (first ++ second)) = tells.told in
-    let head : e.turn ≡ t = cc in
-    let rest : map (λ event. event.turn) es ≡ first ++ second = cc in
-    let later : Split es first second = split first second es (record { told = rest; fits = tells.fits.1 }) in
-    record {
-      before = e ∷ later.before;
-      after = later.after;
-      all = ap (λ l. e ∷ l) later.all;
-      one = record { told = λ i. head i ∷ later.one.told i; fits = (tells.fits.0, later.one.fits) };
-      other = later.other;
-    }
 
 told_split : (c : ConfigValue) (known : List Write) (was is : Bool) (es fs : List Added) → AllTold c known was (es ++ fs) is → (m : Bool) × (AllTold c known was es m × AllTold c (known ++ known_after_turns es) m fs is)
 told_split c known was is [] fs told = (was, (refl, subst (λ W. AllTold c W was fs is) (sym (append-nil known)) told))

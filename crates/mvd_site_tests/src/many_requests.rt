@@ -74,7 +74,9 @@ pub const MANY: &[Row] = &[
         None,
         b"",
         200,
-        "{\"keys\":[{\"key\":\"a\",\"siblings\":0,\"digest\":\"295635a0e46e5083d9bf811f77a3a2abfb3fdfa05bb3f750c4a6c16c32c51083\"},{\"key\":\"b\",\"siblings\":1,\"digest\":\"ec45f7290824517307ee6cea62d0afc1fe0f826f5f590759a4096615488d34c3\"}]}",
+        "{\"keys\":[{\"key\":\"a\",\"siblings\":0,\
+        \"digest\":\"295635a0e46e5083d9bf811f77a3a2abfb3fdfa05bb3f750c4a6c16c32c51083\"},{\"key\":\"b\",\
+        \"siblings\":1,\"digest\":\"ec45f7290824517307ee6cea62d0afc1fe0f826f5f590759a4096615488d34c3\"}]}",
     ),
     (
         "GET",
@@ -236,6 +238,8 @@ pub const OTHER_LINES: &[Row] = &[
         None,
         b"",
         200,
-        "None 0{\"root\":\"0000000000000000000000000000000000000000000000000000000000000000\",\"keys\":[{\"key\":\"k\",\"context\":\"-\",\"siblings\":[]},{\"key\":\"none\",\"context\":\"-\",\"siblings\":[]}],\"resync\":false}",
+        "None 0{\"root\":\"0000000000000000000000000000000000000000000000000000000000000000\",\
+        \"keys\":[{\"key\":\"k\",\"context\":\"-\",\"siblings\":[]},{\"key\":\"none\",\"context\":\"-\",\
+        \"siblings\":[]}],\"resync\":false}",
     ),
 ];

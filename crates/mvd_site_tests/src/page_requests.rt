@@ -62,7 +62,9 @@ pub const PAGES: &[Row] = &[
         None,
         b"",
         200,
-        "{\"keys\":[{\"key\":\"a\",\"context\":\"1:2\",\"siblings\":[{\"dot\":\"1:1\",\"document\":{\"city\":\"Oslo\"}},{\"dot\":\"1:2\",\"document\":{\"amount\":9007199254740993,\"city\":\"Oslo\"}}]}],\"next\":\"a\"}",
+        "{\"keys\":[{\"key\":\"a\",\"context\":\"1:2\",\"siblings\":[{\"dot\":\"1:1\",\
+        \"document\":{\"city\":\"Oslo\"}},{\"dot\":\"1:2\",\"document\":{\"amount\":9007199254740993,\
+        \"city\":\"Oslo\"}}]}],\"next\":\"a\"}",
     ),
     (
         "GET",
@@ -70,7 +72,9 @@ pub const PAGES: &[Row] = &[
         None,
         b"",
         200,
-        "{\"keys\":[{\"key\":\"a\",\"context\":\"1:2\",\"siblings\":[{\"dot\":\"1:1\",\"text\":\"{\\\"city\\\":\\\"Oslo\\\"}\"},{\"dot\":\"1:2\",\"text\":\"{\\\"amount\\\":9007199254740993,\\\"city\\\":\\\"Oslo\\\"}\"}]}]}",
+        "{\"keys\":[{\"key\":\"a\",\"context\":\"1:2\",\"siblings\":[{\"dot\":\"1:1\",\
+        \"text\":\"{\\\"city\\\":\\\"Oslo\\\"}\"},{\"dot\":\"1:2\",\
+        \"text\":\"{\\\"amount\\\":9007199254740993,\\\"city\\\":\\\"Oslo\\\"}\"}]}]}",
     ),
     (
         "GET",
@@ -78,7 +82,9 @@ pub const PAGES: &[Row] = &[
         None,
         b"",
         200,
-        "{\"places\":[{\"term\":\"Oslo\",\"key\":\"a\",\"dot\":\"1:1\",\"document\":{\"city\":\"Oslo\"}},{\"term\":\"Oslo\",\"key\":\"a\",\"dot\":\"1:2\",\"document\":{\"amount\":9007199254740993,\"city\":\"Oslo\"}}],\"next\":\"1:2 a \\\"Oslo\\\"\"}",
+        "{\"places\":[{\"term\":\"Oslo\",\"key\":\"a\",\"dot\":\"1:1\",\"document\":{\"city\":\"Oslo\"}},\
+        {\"term\":\"Oslo\",\"key\":\"a\",\"dot\":\"1:2\",\"document\":{\"amount\":9007199254740993,\
+        \"city\":\"Oslo\"}}],\"next\":\"1:2 a \\\"Oslo\\\"\"}",
     ),
     (
         "GET",
@@ -102,7 +108,8 @@ pub const PAGES: &[Row] = &[
         None,
         b"",
         200,
-        "{\"rows\":[{\"term\":\"Oslo\",\"count\":2,\"sum\":9007199254740993,\"least\":9007199254740993,\"greatest\":9007199254740993}],\"next\":\"\\\"Oslo\\\"\"}",
+        "{\"rows\":[{\"term\":\"Oslo\",\"count\":2,\"sum\":9007199254740993,\"least\":9007199254740993,\
+        \"greatest\":9007199254740993}],\"next\":\"\\\"Oslo\\\"\"}",
     ),
     (
         "GET",

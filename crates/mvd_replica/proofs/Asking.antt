@@ -24,6 +24,7 @@ use Rattle.mvd_site.proofs.Answered.{limited_cases}
 use Rattle.mvd_site.proofs.Outcomes.{err_is}
 use Rattle.mvd_replica.specs.Asks.{ArePlaces, AreRows, IsReplyTo, IsRow, IsWritten, TellsAnswer}
 use Rattle.mvd_replica.specs.Batch.{AnswersOneFrom}
+use Rattle.mvd_replica.proofs.Batching.{stays_from, stored_from}
 
 refused_is : (request : Request) (refusal : Refusal) → IsReplyTo request (Refused refusal)
 refused_is (Get key) refusal = tt
@@ -79,8 +80,8 @@ refusal_is_reply request told refusal is = subst (IsReplyTo request) (sym is) (r
 
 pub is_reply : (old new : SiteValue) (request : Request) (told : Reply) → AnswersOneFrom old new request told → IsReplyTo request told
 is_reply old new request told it = elim old.broken as (λ b. old.broken ≡ b → IsReplyTo request told) [
-  | true ↦ λ broken. refusal_is_reply request told Broken (it.broken broken).0
-  | false ↦ λ whole. elim it.whole [
+  | true ↦ λ broken. refusal_is_reply request told Broken (stays_from it broken).0
+  | false ↦ λ whole. elim (stored_from it) [
     | inl from ↦ elim (from whole) [
       | inl answered ↦ subst (IsReplyTo request) (sym answered.answers) (answer_is old.config old.states request)
       | inr (inl memory) ↦ refusal_is_reply request told _ memory.0

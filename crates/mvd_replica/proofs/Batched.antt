@@ -8,7 +8,6 @@ use Rattle.mvd_wire.specs.declared.reply.Reply.TheVariants.{Refused}
 use Rattle.mvd_records.specs.Records.{IsSound}
 use Rattle.mvd_site.specs.Sites.{SiteValue}
 use Rattle.mvd_site.proofs.Pushes.{refusal_is}
-use Rattle.mvd_peer.specs.Sides.{SiteFollows, site_follows_on, site_follows_self}
 use Rattle.mvd_replica.specs.Batch.{AreAmongTurns, HoldsLost, Loses}
 use Rattle.mvd_replica.specs.Holds.{HoldsSite}
 use Rattle.mvd_replica.specs.Whole.{leaves_on, leaves_self, leaves_wider}
@@ -68,7 +67,7 @@ module _ (first second : List Turn) (old mid new : SiteValue) (before between af
   lost_on : (is : Bool) → mid.broken ≡ is → IsSound after → HoldsSite old before.committed → old.broken ≡ false → new.broken ≡ true → HoldsLost (first ++ second) new after.committed
   lost_on true is sound holds whole broken =
       lost_more first second new after.committed
-      (subst (λ s. HoldsLost first s after.committed) (sym (q.site.1 is)) (subst (HoldsLost first mid) (sym (q.stays is)) (p.stored (q.sound sound) holds whole is)))
+      (subst (λ s. HoldsLost first s after.committed) (sym (q.still is)) (subst (HoldsLost first mid) (sym (q.stays is)) (p.stored (q.sound sound) holds whole is)))
   lost_on false is sound holds whole broken = lost_later first second new after.committed (none is) (q.stored sound (p.holds (q.sound sound) holds) is broken)
 
   shut_on : (is : Bool) → between.is_open ≡ is → HasCleanDisk after → before.is_open ≡ false → new ≡ old
@@ -79,23 +78,24 @@ module _ (first second : List Turn) (old mid new : SiteValue) (before between af
 
   pub TurnsFollow-append : TurnsFollow (first ++ second) old new before after
   TurnsFollow-append = record {
-    site = site_follows_on old mid new p.site q.site;
+    config = q.config ∙ p.config;
+    still = λ broken. q.still (ap (λ (s : SiteValue). s.broken) (p.still broken) ∙ broken) ∙ p.still broken;
     sound = λ sound. p.sound (q.sound sound);
     holds = λ sound holds. q.holds sound (p.holds (q.sound sound) holds);
-    stays = λ broken. q.stays (subst (λ (s : SiteValue). s.broken ≡ true) (sym (p.site.1 broken)) broken) ∙ p.stays broken;
+    stays = λ broken. q.stays (subst (λ (s : SiteValue). s.broken ≡ true) (sym (p.still broken)) broken) ∙ p.stays broken;
     stored = lost_on mid.broken refl;
     clean = λ clean. p.clean (q.clean clean);
     shut = shut_on between.is_open refl;
     leaves = leaves_on (AreUndoneIn (first ++ second)) (stored_site old before) (stored_site mid between) (stored_site new after)
         (leaves_wider _ _ _ _ (undone_more first second) p.leaves) (leaves_wider _ _ _ _ (undone_later first second) q.leaves)
-        p.site.1 q.site.1 p.sound q.sound q.clean p.holds q.shut;
+        p.still q.still p.sound q.sound q.clean p.holds q.shut;
   }
 
 -- ---- both
 
-whole_before : (mid new : SiteValue) (is : Bool) → mid.broken ≡ is → SiteFollows mid new → new.broken ≡ false → mid.broken ≡ false
-whole_before mid new false is follows whole = is
-whole_before mid new true is follows whole = sym (site_broken new mid (follows.1 is)) ∙ whole
+whole_before : (mid new : SiteValue) (is : Bool) → mid.broken ≡ is → (mid.broken ≡ true → new ≡ mid) → new.broken ≡ false → mid.broken ≡ false
+whole_before mid new false is still whole = is
+whole_before mid new true is still whole = sym (site_broken new mid (still is)) ∙ whole
 
 breaks_both : (first second : List Turn) (old mid new : SiteValue) (is : Bool) → mid.broken ≡ is → (mid.broken ≡ false → AllByRecursion IsToldElse first) → (mid.broken ≡ true → (request : Request) × IsFirstBroken first request) →
     (mid.broken ≡ false → (request : Request) × IsFirstBroken second request) → (request : Request) × IsFirstBroken (first ++ second) request
@@ -105,7 +105,8 @@ breaks_both first second old mid new false is none one other = let found : (requ
 -- nothing was done
 pub still_follows : (turns : List Turn) (site : SiteValue) (s : State) → TurnsFollow turns site site s s
 still_follows turns site s = record {
-  site = site_follows_self site;
+  config = refl;
+  still = λ _. refl;
   sound = λ sound. sound;
   holds = λ _ holds. holds;
   stays = λ _. refl;
@@ -127,20 +128,23 @@ TakesTurns-append first second old mid new before between after one other = reco
   stands = StandsOn-append old mid new first second one.stands other.stands;
   config = other.config ∙ one.config;
   choice = HasChoice-append first second one.choice other.choice;
-  told = λ whole. else_both first second (one.told (whole_before mid new mid.broken refl other.follows.site whole)) (other.told whole);
+  told = λ whole. else_both first second (one.told (whole_before mid new mid.broken refl other.follows.still whole)) (other.told whole);
   breaks = λ whole broken. breaks_both first second old mid new mid.broken refl (one.told) (one.breaks whole) (λ is. other.breaks is broken);
   follows = TurnsFollow-append first second old mid new before between after one.follows other.follows one.told;
 }
 
 -- want of memory in place of a reply
+pub RepliesOne-memory : (site : SiteValue) (asked : Result Request Refusal) → RepliesOne site site (record { asked = asked; reply = Refused Memory })
+RepliesOne-memory site asked = record {
+  replies = λ known stands. MayTell-memory site.config known site.broken site.broken asked refl;
+  stands = λ known added stands adds whole. still_stands site site known added refl (stands whole) (AddsAt-Refused asked Memory added adds);
+  keeps = λ known added stands adds. still_stands site site known added refl stands (AddsAt-Refused asked Memory added adds);
+}
+
 pub TakesTurns-memory : (site : SiteValue) (s : State) (asked : Result Request Refusal) → TakesTurns (record { asked = asked; reply = Refused Memory } ∷ []) site site s s
 TakesTurns-memory site s asked =
     let turn : Turn = record { asked = asked; reply = Refused Memory } in
-    let one : RepliesOne site site turn = record {
-      replies = λ known stands. MayTell-memory site.config known site.broken site.broken asked refl;
-      stands = λ known added stands adds whole. still_stands site site known added refl (stands whole) (AddsAt-Refused asked Memory added adds);
-      keeps = λ known added stands adds. still_stands site site known added refl stands (AddsAt-Refused asked Memory added adds);
-    } in
+    let one : RepliesOne site site turn = RepliesOne-memory site asked in
     record {
       replies = Replies-one site site turn one;
       stands = StandsOn-one site site turn one;

@@ -15,13 +15,16 @@ use Rattle.mvd_site.specs.Held.{AreHeld, States}
 use Rattle.mvd_site.specs.Known.{Adds, ChangesKey}
 use Rattle.mvd_site.specs.Sites.{SiteStands, SiteValue}
 use Rattle.mvd_site.proofs.Answered.{after_stands, answered, changed_alike, with_state-same}
+use Rattle.mvd_site.proofs.AnsweredAtOnce.{adds_some, told_broken}
 use Rattle.mvd_site.proofs.Fitting.{reply_fits}
 use Rattle.mvd_site.proofs.Outcomes.{refused_fits}
+use Rattle.mvd_site.proofs.Pushes.{refusal_is}
 use Rattle.mvd_site.proofs.Steps.{Stands-nothing, state_at-stands}
 use Rattle.mvd_replica.specs.Batch.{AnswersOneFrom, TakesAllFrom, TakesFrom}
+use Rattle.mvd_replica.specs.Sides.{AnswersFromStored}
 use Rattle.mvd_replica.specs.Turns.{AddsAt, TurnEvent, IsFirstBroken, IsToldBroken, IsToldElse, MayReplyStored, MayTell, Replies, RepliesOne, StandsOn, Turn}
 use Rattle.mvd_replica.proofs.Positions.{TakesTurns, TurnsFollow}
-use Rattle.mvd_replica.proofs.Replying.{AddsAt-Refused, HasChoice, HasChoice-append, HasChoice-none, Replies-append, Replies-none, Replies-one, StandsOn-append, StandsOn-none, StandsOn-one}
+use Rattle.mvd_replica.proofs.Replying.{AddsAt-Refused, AddsAt-Refused-none, HasChoice, HasChoice-append, HasChoice-none, Replies-append, Replies-none, Replies-one, StandsOn-append, StandsOn-none, StandsOn-one}
 use Rattle.sqlite.specs.State.{State}
 
 -- ---- one request, from the states and so from the writes
@@ -34,6 +37,27 @@ changes_known : (config : ConfigValue) (m : States) (known : List Write) (reques
 changes_known config m known request stands differs =
     subst (λ o. IsSomeAnd o (λ c. c.1 ≢ state c.0 known)) (changed_alike config m known request stands)
     (some_differs m known (change_from m request (answer_from config m request)) stands differs)
+
+module _ {old new : SiteValue} {request : Request} {reply : Reply} (one : AnswersOneFrom old new request reply) where
+  -- what it does with a request where it is not broken, and where it is
+  pub stored_from : AnswersFromStored old new request reply
+  stored_from = elim one.does [ inl does ↦ inl does.step | inr store ↦ inr store ]
+
+  pub stays_from : old.broken ≡ true → (reply ≡ Refused Broken) × (new ≡ old)
+  stays_from was = elim one.does [ inl does ↦ does.broken was | inr store ↦ absurd (true≢false (sym was ∙ store.whole)) ]
+
+  pub broken_from : reply ≡ Refused Broken → new.broken ≡ true
+  broken_from told = elim one.does [
+    | inl does ↦ told_broken old new request reply does told
+    | inr store ↦ absurd (let wrong : ◌≡◌ {A = Refusal} Broken Store = refusal_is Broken Store (sym told ∙ store.told) in cc)
+  ]
+
+  -- there are writes that it adds
+  pub choice_from : (added : List Write) × Adds request reply added
+  choice_from = elim one.does [
+    | inl does ↦ adds_some old new request reply does
+    | inr store ↦ ([], subst (λ r. Adds request r []) (sym store.told) (AddsAt-Refused-none (Ok request) Store))
+  ]
 
 pub site_broken : (a b : SiteValue) → a ≡ b → a.broken ≡ b.broken
 site_broken a b same = ap (λ (s : SiteValue). s.broken) same
@@ -58,8 +82,8 @@ module _ (old new : SiteValue) (request : Request) (reply : Reply) (known : List
       (subst (λ b. MayReplyStored old.config known b request reply true) (sym was) (inl (told, changes_known old.config old.states known request stands changes)))
 
   pub may_from : (was : Bool) → old.broken ≡ was → AnswersOneFrom old new request reply → SiteStands old known → MayReplyStored old.config known old.broken request reply new.broken
-  may_from true was one stands = may_broken was (one.broken was).0 (one.broken was).1
-  may_from false was one stands = elim one.whole [
+  may_from true was one stands = may_broken was (stays_from one was).0 (stays_from one was).1
+  may_from false was one stands = elim (stored_from one) [
     | inr store ↦ inr (record {
       told = store.told;
       changes = changes_known old.config old.states known request (stands was) store.changes;
@@ -86,8 +110,8 @@ site_states a b same = ap (λ (s : SiteValue). s.states) same
 pub keeps_from : (old new : SiteValue) (request : Request) (reply : Reply) (was : Bool) → old.broken ≡ was → AnswersOneFrom old new request reply → (known added : List Write) → Stands old.states known → Adds request reply added →
     Stands new.states (known ++ added)
 keeps_from old new request reply true was one known added stands adds =
-    still_stands old new known added (site_states new old (one.broken was).1) stands (refused_adds request reply Broken added (one.broken was).0 adds)
-keeps_from old new request reply false was one known added stands adds = elim one.whole [
+    still_stands old new known added (site_states new old (stays_from one was).1) stands (refused_adds request reply Broken added (stays_from one was).0 adds)
+keeps_from old new request reply false was one known added stands adds = elim (stored_from one) [
   | inr store ↦ still_stands old new known added (site_states new old store.site) stands (refused_adds request reply Store added store.told adds)
   | inl from ↦ elim (from was) [
     | inl it ↦ subst (λ m. Stands m (known ++ added)) (sym (site_states new _ it.site))
@@ -100,7 +124,7 @@ keeps_from old new request reply false was one known added stands adds = elim on
 -- a site that is not broken was not
 was_whole : (old new : SiteValue) (request : Request) (reply : Reply) (was : Bool) → old.broken ≡ was → AnswersOneFrom old new request reply → new.broken ≡ false → old.broken ≡ false
 was_whole old new request reply false was one whole = was
-was_whole old new request reply true was one whole = sym (site_broken new old (one.broken was).1) ∙ whole
+was_whole old new request reply true was one whole = sym (site_broken new old (stays_from one was).1) ∙ whole
 
 pub replies_one : (old new : SiteValue) (request : Request) (reply : Reply) → AnswersOneFrom old new request reply → RepliesOne old new (record { asked = Ok request; reply = reply })
 replies_one old new request reply one = record {
@@ -129,13 +153,13 @@ replies_fault old new fault reply one = record {
 -- ---- one turn
 
 module _ (old new : SiteValue) where
-  replies_turn : (asked : Result Request Refusal) (reply : Reply) → TakesFrom old new asked reply → RepliesOne old new (record { asked = asked; reply = reply })
+  pub replies_turn : (asked : Result Request Refusal) (reply : Reply) → TakesFrom old new asked reply → RepliesOne old new (record { asked = asked; reply = reply })
   replies_turn (Ok request) reply one = replies_one old new request reply one
   replies_turn (Err fault) reply one = replies_fault old new fault reply one
 
   config_stored : (request : Request) (reply : Reply) (was : Bool) → old.broken ≡ was → AnswersOneFrom old new request reply → new.config ≡ old.config
-  config_stored request reply true was one = ap (λ (s : SiteValue). s.config) (one.broken was).1
-  config_stored request reply false was one = elim one.whole [
+  config_stored request reply true was one = ap (λ (s : SiteValue). s.config) (stays_from one was).1
+  config_stored request reply false was one = elim (stored_from one) [
     | inr store ↦ ap (λ (s : SiteValue). s.config) store.site
     | inl from ↦ elim (from was) [
       | inl it ↦ ap (λ (s : SiteValue). s.config) it.site
@@ -144,13 +168,13 @@ module _ (old new : SiteValue) where
     ]
   ]
 
-  config_turn : (asked : Result Request Refusal) (reply : Reply) → TakesFrom old new asked reply → new.config ≡ old.config
+  pub config_turn : (asked : Result Request Refusal) (reply : Reply) → TakesFrom old new asked reply → new.config ≡ old.config
   config_turn (Ok request) reply one = config_stored request reply old.broken refl one
   config_turn (Err fault) reply one = ap (λ (s : SiteValue). s.config) one.1
 
   pub fits_one : (request : Request) (reply : Reply) → AreHeld old.states → AnswersOneFrom old new request reply → CanBeSent reply
-  fits_one request reply held one = elim one.whole [
-    | inl from ↦ reply_fits old new request reply held from (λ was. (one.broken was).0)
+  fits_one request reply held one = elim (stored_from one) [
+    | inl from ↦ reply_fits old new request reply held from (λ was. (stays_from one was).0)
     | inr store ↦ subst CanBeSent (sym store.told) (refused_fits Store)
   ]
 
@@ -162,15 +186,15 @@ module _ (old new : SiteValue) where
   form_turn (Ok request) reply held one = one.form held
   form_turn (Err fault) reply held one = subst (λ (s : SiteValue). AreHeld s.states) (sym one.1) held
 
-  choice_turn : (asked : Result Request Refusal) (reply : Reply) → TakesFrom old new asked reply → (added : List Write) × AddsAt asked reply added
-  choice_turn (Ok request) reply one = one.choice
+  pub choice_turn : (asked : Result Request Refusal) (reply : Reply) → TakesFrom old new asked reply → (added : List Write) × AddsAt asked reply added
+  choice_turn (Ok request) reply one = choice_from one
   choice_turn (Err fault) reply one = ([], refl)
 
   pub told_turn : (asked : Result Request Refusal) (reply : Reply) → TakesFrom old new asked reply → new.broken ≡ false → IsToldElse (record { asked = asked; reply = reply })
-  told_turn (Ok request) reply one whole = λ other told. true≢false (sym (one.told told.1) ∙ whole)
+  told_turn (Ok request) reply one whole = λ other told. true≢false (sym (broken_from one told.1) ∙ whole)
   told_turn (Err fault) reply one whole = λ other told. (let bad : ◌≡◌ {A = Result Request Refusal} (Err fault) (Ok other) = told.0 in absurd cc)
 
-  whole_turn : (asked : Result Request Refusal) (reply : Reply) → TakesFrom old new asked reply → new.broken ≡ false → old.broken ≡ false
+  pub whole_turn : (asked : Result Request Refusal) (reply : Reply) → TakesFrom old new asked reply → new.broken ≡ false → old.broken ≡ false
   whole_turn (Ok request) reply one whole = was_whole old new request reply old.broken refl one whole
   whole_turn (Err fault) reply one whole = sym (site_broken new old one.1) ∙ whole
 
@@ -179,7 +203,7 @@ module _ (old new : SiteValue) where
     request,
     (
       refl,
-      elim one.whole [
+      elim (stored_from one) [
         | inr store ↦ absurd (true≢false (sym broken ∙ site_broken new old store.site ∙ whole))
         | inl from ↦ elim (from whole) [
           | inl it ↦ absurd (true≢false (sym broken ∙ site_broken new _ it.site))

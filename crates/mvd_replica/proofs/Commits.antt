@@ -29,7 +29,7 @@ use Rattle.mvd_replica.specs.Stops.{LeavesSome, LeavesRequests}
 use Rattle.mvd_replica.specs.Turns.{AnswersStored, AreAskedIn, Turn}
 use Rattle.mvd_replica.specs.Whole.{after_all, leaves_self}
 use Rattle.mvd_replica.proofs.Batched.{TurnsFollow-append, still_follows}
-use Rattle.mvd_replica.proofs.Batching.{TakesAllFrom-append, breaks_turn, config_all, keeps_from, may_from, replies_one, takes, told_all}
+use Rattle.mvd_replica.proofs.Batching.{TakesAllFrom-append, breaks_turn, broken_from, config_all, keeps_from, may_from, replies_one, stays_from, stored_from, takes, told_all}
 use Rattle.mvd_replica.proofs.Counting.{along_none, along_then, asked_changes, asks_most, unchanged_site}
 use Rattle.mvd_replica.proofs.Grouped.{refuses_nothing}
 use Rattle.mvd_replica.proofs.Positions.{AnswersAll, ReplicaFollows, TurnsFollow}
@@ -87,8 +87,8 @@ along_alone old new turn all = elim all.3 [
 -- a refusal other than 22 leaves it as it was
 refused_same : (old new : SiteValue) (request : Request) (reply : Reply) (refusal : Refusal) → AnswersOneFrom old new request reply → reply ≡ Refused refusal → refusal ≢ Broken → new ≡ old
 refused_same old new request reply refusal one told other = elim old.broken as (λ b. old.broken ≡ b → new ≡ old) [
-  | true ↦ λ was. (one.broken was).1
-  | false ↦ λ whole. elim one.whole [
+  | true ↦ λ was. (stays_from one was).1
+  | false ↦ λ whole. elim (stored_from one) [
     | inr store ↦ store.site
     | inl from ↦ elim (from whole) [
       | inl it ↦ unchanged_site old new request it.site whole (refuses_nothing old.config old.states request refusal (sym it.answers ∙ told))
@@ -149,7 +149,8 @@ module _ {S : Type 0} {g : Ghosts S} where
     -- the records follow
     pub commit_follows : TurnsFollow turns (site_of old) (site_of new) (store_of old) (store_of new)
     commit_follows = record {
-      site = (config_all turns (site_of old) (site_of new) it.takes, λ broken. ap (λ (r : Replica S g). site_of r) (stays broken));
+      config = config_all turns (site_of old) (site_of new) it.takes;
+      still = λ broken. ap (λ (r : Replica S g). site_of r) (stays broken);
       sound = it.before;
       holds = it.records;
       stays = λ broken. ap (λ (r : Replica S g). committed_of r) (stays broken);
@@ -184,7 +185,7 @@ module _ {S : Type 0} {g : Ghosts S} where
     -- a site that is broken afterwards told 22
     pub answer_broken : (site_of new).broken ≡ true → reply ≡ Refused Broken
     answer_broken broken = elim (site_of old).broken as (λ b. (site_of old).broken ≡ b → reply ≡ Refused Broken) [
-      | true ↦ λ was. (answers_one.broken was).0
+      | true ↦ λ was. (stays_from answers_one was).0
       | false ↦ λ was. (breaks_turn (site_of old) (site_of new) (Ok request) reply answers_one was broken).1.1
     ] refl
 
@@ -206,7 +207,7 @@ module _ {S : Type 0} {g : Ghosts S} where
     -- the records follow the states
     pub answer_follows : ReplicaFollows (λ asked. asked ≡ request) (site_of old) (site_of new) (store_of old) (store_of new)
     answer_follows = let follows = commit_follows (turn_of request reply ∷ []) old new it in record {
-      site = follows.site;
+      site = (follows.config, follows.still);
       store = record {
         sound = follows.sound;
         holds = follows.holds;
@@ -220,8 +221,8 @@ module _ {S : Type 0} {g : Ghosts S} where
     -- where the change breaks the site, the records hold the states with the change in
     pub answer_stored : StoresThoughBroken old request (reply ≡ Refused Broken) new
     answer_stored sound holds whole told =
-        let broken : (site_of new).broken ≡ true = answers_one.told told in
-        let broke : Broke (site_of old) (site_of new) request = broke_by (site_of old) (site_of new) request reply whole broken answers_one.whole in
+        let broken : (site_of new).broken ≡ true = broken_from answers_one told in
+        let broke : Broke (site_of old) (site_of new) request = broke_by (site_of old) (site_of new) request reply whole broken (stored_from answers_one) in
         let more = lost_request request reply (site_of new) (committed_of new) (it.lost sound holds whole broken) in
         subst (λ (s : SiteValue). HoldsStates s.config.site (after_from s.config s.states request) (committed_of new)) broke.site
         (subst (λ r. HoldsStates (site_of new).config.site (after_from (site_of new).config (site_of new).states r) (committed_of new)) more.asked more.holds)

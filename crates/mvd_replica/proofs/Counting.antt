@@ -18,6 +18,7 @@ use Rattle.mvd_site.specs.FromStates.{after_from}
 use Rattle.mvd_replica.specs.Groups.{AreSendable, ComeInOrder, StandTogether, pairs_in}
 use Rattle.mvd_replica.specs.Turns.{Turn}
 use Rattle.mvd_replica.specs.Replicas.{next_count}
+use Rattle.mvd_replica.proofs.Batching.{stays_from, stored_from}
 use Rattle.mvd_replica.proofs.Grouping.{pairs_none}
 use Rattle.mvd_replica.proofs.Putting.{one_answers, ordered_after, still_end, takes_put, turns_of}
 
@@ -79,8 +80,8 @@ unchanged_site old new request is whole same = is ∙ (λ i. record { config = o
 -- what would change nothing does not
 nothing_changed : (old new : SiteValue) (request : Request) (reply : Reply) → AnswersOneFrom old new request reply → after_from old.config old.states request ≡ old.states → new ≡ old
 nothing_changed old new request reply one same = elim old.broken as (λ b. old.broken ≡ b → new ≡ old) [
-  | true ↦ λ was. (one.broken was).1
-  | false ↦ λ whole. elim one.whole [
+  | true ↦ λ was. (stays_from one was).1
+  | false ↦ λ whole. elim (stored_from one) [
     | inr store ↦ store.site
     | inl from ↦ elim (from whole) [
       | inl it ↦ unchanged_site old new request it.site whole same

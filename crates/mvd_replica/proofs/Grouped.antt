@@ -28,13 +28,12 @@ use Rattle.mvd_kept.specs.declared.prepared.Prepared.TheVariants.{Answer, Change
 use Rattle.mvd_site.specs.Sites.{SiteValue}
 use Rattle.mvd_site.proofs.Outcomes.{change_plain, refused_fits}
 use Rattle.mvd_site.proofs.Pushes.{refusal_is}
-use Rattle.mvd_site.proofs.Runs.{fitting}
 use Rattle.mvd_replica.specs.Groups.{ComesTo, IsGivenReply, IsSendable, pairs_in}
 use Rattle.sqlite.specs.Effect.{Database}
 use Rattle.sqlite.specs.State.{State as Shown, Survives}
 use Rattle.sqlite.proofs.StateLemmas.{survives_weaker}
 use Rattle.mvd_replica.specs.Shared.{LeavesPairs}
-use Rattle.mvd_replica.proofs.Putting.{nothing_added}
+use Rattle.mvd_replica.proofs.Putting.{no_done}
 
 -- ---- what was prepared, as the code has it
 
@@ -64,7 +63,7 @@ comes_refused site request refusal whole from broken frugal = (
   record {
     other = λ bad. true≢false (sym (broken (refusal_is refusal Broken bad)) ∙ whole);
     fits = refused_fits refusal;
-    choice = nothing_added request refusal;
+    valid = no_done request refusal;
   },
 )
 
@@ -72,7 +71,7 @@ plain_reply : (request : Request) (reply : Reply) → IsPlain reply → IsValidR
 plain_reply request reply plain valid = record {
   other = λ bad. true≢false (sym (ap is_refusal bad) ∙ plain.accepts);
   fits = plain.fits;
-  choice = fitting request reply valid;
+  valid = λ _. valid;
 }
 
 pub comes_answer : (site : SiteValue) (request : Request) (reply : Reply) → PreparesFrom site.config site.states request (Ok (Answer reply)) → IsReady site (Answer reply) → IsValidRequest request →

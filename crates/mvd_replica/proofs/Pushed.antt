@@ -36,7 +36,7 @@ use Rattle.mvd_replica.specs.Sides.{AnswersFromStored, ArePushes, HoldsBroken, H
 use Rattle.mvd_replica.specs.Whole.{leaves_wider}
 use Rattle.mvd_replica.specs.Turns.{AreUndoneIn, LeavesTurns, Turn}
 use Rattle.mvd_replica.proofs.Positions.{AnswersAll, ReplicaFollows, SideFollows, TurnsFollow, stored_site}
-use Rattle.mvd_replica.proofs.Batching.{whole_all}
+use Rattle.mvd_replica.proofs.Batching.{stays_from, stored_from, whole_all}
 use Rattle.mvd_replica.proofs.Sides.{push_refuses, pushed_reply, stored_facts}
 use Rattle.sqlite.specs.Effect.{Database}
 use Rattle.sqlite.specs.State.{State as Shown}
@@ -155,8 +155,8 @@ module _ (old new : SiteValue) (p : Key × State) (seen : AreSeen old.states) (v
 
   pub one_turn : old.broken ≡ false → (reply : Reply) → AnswersOneFrom old new (push_of p) reply → Pushes1 old new p (told_of reply)
   one_turn whole reply one =
-      let told : reply ≡ push_reply (told_of reply) = pushed_reply old new p.0 p.1 reply (told_of reply) whole one.whole (told_matches reply) in
-      let answers : AnswersFromStored old new (Push p.0 p.1) (push_reply (told_of reply)) = subst (AnswersFromStored old new (Push p.0 p.1)) told one.whole in
+      let told : reply ≡ push_reply (told_of reply) = pushed_reply old new p.0 p.1 reply (told_of reply) whole (stored_from one) (told_matches reply) in
+      let answers : AnswersFromStored old new (Push p.0 p.1) (push_reply (told_of reply)) = subst (AnswersFromStored old new (Push p.0 p.1)) told (stored_from one) in
       by_facts whole (told_of reply) answers (stored_facts old new p.0 p.1 (told_of reply) whole answers)
 
   come_by : (r : Told) → Pushes1 old new p r → ComesByPushes (λ _ _. Unit {0}) old.states new.states
@@ -165,7 +165,7 @@ module _ (old new : SiteValue) (p : Key × State) (seen : AreSeen old.states) (v
 
   pub one_comes : (was : Bool) → old.broken ≡ was → (reply : Reply) → AnswersOneFrom old new (push_of p) reply → ComesByPushes (λ _ _. Unit {0}) old.states new.states × AreSeen new.states
   one_comes true was reply one =
-      let same : new.states ≡ old.states = ap (λ (v : SiteValue). v.states) (one.broken was).1 in
+      let same : new.states ≡ old.states = ap (λ (v : SiteValue). v.states) (stays_from one was).1 in
       (no_pushes _ _ _ same, subst AreSeen (sym same) seen)
   one_comes false was reply one = let it = one_turn was reply one in (come_by (told_of reply) it, it.seen)
 
@@ -283,7 +283,7 @@ undone_pushes (turn ∷ turns) (request ∷ requests) all (inr later) = undone_p
 
 pub follows_pushes : (turns : List Turn) (old new : SiteValue) (before after : Shown) → AllByRecursion AsksPush turns → TurnsFollow turns old new before after → ComesByPushes (λ _ _. Unit {0}) old.states new.states → SideFollows old new before after
 follows_pushes turns old new before after all follows comes = record {
-  site = follows.site;
+  site = (follows.config, follows.still);
   store = record {
     sound = follows.sound;
     holds = follows.holds;

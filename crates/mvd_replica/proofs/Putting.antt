@@ -4,7 +4,7 @@ use Rattle.std.specs.FinMap.{insert}
 use Rattle.mvd_dots.specs.declared.refusals.Refusal.{Refusal}
 use Rattle.mvd_dots.specs.declared.refusals.Refusal.TheVariants.{Broken, Memory, Store}
 use Rattle.mvd_keys.specs.State.{State as Keyed, join}
-use Rattle.mvd_keys.specs.Writes.{Key, Write}
+use Rattle.mvd_keys.specs.Writes.{Key}
 use Rattle.mvd_wire.specs.declared.request.Request.{Request}
 use Rattle.mvd_wire.specs.declared.request.Request.TheVariants.{Bye, Hello, Node, Push, Row}
 use Rattle.mvd_wire.specs.declared.reply.Reply.{Reply}
@@ -13,7 +13,7 @@ use Rattle.mvd_site.specs.Change.{ChangeValue, change_reply}
 use Rattle.mvd_site.specs.Config.{ConfigValue}
 use Rattle.mvd_site.specs.FromStates.{AnswersFrom, answer_from, change_from}
 use Rattle.mvd_site.specs.Held.{AreHeld, States, state_at}
-use Rattle.mvd_site.specs.Known.{Adds}
+use Rattle.mvd_site.specs.Known.{IsValidRequest}
 use Rattle.mvd_site.specs.Prepared.{IsFrugal, PreparesChangeFrom, is_refusal}
 use Rattle.mvd_kept.specs.declared.prepared.Prepared.{Prepared}
 use Rattle.mvd_kept.specs.declared.prepared.Prepared.TheVariants.{Answer, Change}
@@ -29,7 +29,6 @@ use Rattle.mvd_replica.specs.Groups.{AllComeAlone, AreSendable, ComeInOrder, Com
 use Rattle.mvd_replica.specs.Sides.{AnswersFromStored}
 use Rattle.mvd_replica.specs.Whole.{after_all}
 use Rattle.mvd_replica.specs.Turns.{IsToldElse, Turn}
-use Rattle.mvd_replica.proofs.Replying.{AddsAt-Refused-none}
 use Rattle.mvd_replica.proofs.Batching.{told_turn}
 use Rattle.mvd_replica.proofs.Batched.{loses_later}
 use Rattle.mvd_replica.proofs.Grouping.{ordered_next}
@@ -81,18 +80,19 @@ answers_same old request reply comes = elim comes.0 [
   | inr memory ↦ λ whole. inr (inl (memory, refl))
 ]
 
-pub nothing_added : (request : Request) (refusal : Refusal) → (added : List Write) × Adds request (Refused refusal) added
-nothing_added request refusal = ([], AddsAt-Refused-none (Ok request) refusal)
+pub no_done : (request : Request) (refusal : Refusal) → Refused refusal ≡ Done → IsValidRequest request
+no_done request refusal is = absurd (let wrong : ◌≡◌ {A = Reply} (Refused refusal) Done = is in cc)
 
 module _ (old new : SiteValue) (request : Request) where
   -- a broken site
   one_broken : (reply : Reply) → old.broken ≡ true → reply ≡ Refused Broken → new ≡ old → AnswersOneFrom old new request reply
   one_broken reply was told same = record {
-    whole = inl (λ whole. absurd (true≢false (sym was ∙ whole)));
-    broken = λ _. (told, same);
-    told = λ _. ap (λ (s : SiteValue). s.broken) same ∙ was;
-    frugal = λ _ bad. (let other : Refused Broken ≡ Refused Memory = sym told ∙ bad in cc);
-    choice = subst (λ x. (added : List Write) × Adds request x added) (sym told) (nothing_added request Broken);
+    does = inl (record {
+      step = λ whole. absurd (true≢false (sym was ∙ whole));
+      broken = λ _. (told, same);
+      valid = λ done. no_done request Broken (sym told ∙ done);
+      frugal = λ _ bad. (let other : Refused Broken ≡ Refused Memory = sym told ∙ bad in cc);
+    });
     form = λ held. subst (λ (s : SiteValue). AreHeld s.states) (sym same) held;
   }
 
@@ -100,22 +100,27 @@ module _ (old new : SiteValue) (request : Request) where
   one_whole : (reply given : Reply) → old.broken ≡ false → given ≡ reply → IsGivenReply request reply → AnswersFromStored old new request given →
       (IsFrugal old.states request → given ≢ Refused Memory) → (AreHeld old.states → AreHeld new.states) → AnswersOneFrom old new request given
   one_whole reply given was told is whole frugal form = record {
-    whole = whole;
-    broken = λ broken. absurd (true≢false (sym broken ∙ was));
-    told = λ bad. absurd (is.other (sym told ∙ bad));
-    frugal = frugal;
-    choice = subst (λ x. (added : List Write) × Adds request x added) (sym told) is.choice;
+    does = elim whole [
+      | inr store ↦ inr store
+      | inl from ↦ inl (record {
+        step = from;
+        broken = λ broken. absurd (true≢false (sym broken ∙ was));
+        valid = λ done. is.valid (sym told ∙ done);
+        frugal = frugal;
+      })
+    ];
     form = form;
   }
 
   -- one that breaks
   one_breaks : (change : ChangeValue) (given : Reply) → old.broken ≡ false → given ≡ Refused Broken → new ≡ broken_site old → PreparesChangeFrom old.config old.states request change → AnswersOneFrom old new request given
   one_breaks change given was told breaks comes = record {
-    whole = subst (λ x. AnswersFromStored old new request x) (sym told) (inl (answers_from_breaking old new request change Broken refl breaks (λ _. comes)));
-    broken = λ broken. absurd (true≢false (sym broken ∙ was));
-    told = λ _. ap (λ (s : SiteValue). s.broken) breaks;
-    frugal = λ _ bad. (let other : Refused Broken ≡ Refused Memory = sym told ∙ bad in cc);
-    choice = subst (λ x. (added : List Write) × Adds request x added) (sym told) (nothing_added request Broken);
+    does = inl (record {
+      step = subst (λ x. AnswersFrom old new request x) (sym told) (answers_from_breaking old new request change Broken refl breaks (λ _. comes));
+      broken = λ broken. absurd (true≢false (sym broken ∙ was));
+      valid = λ done. no_done request Broken (sym told ∙ done);
+      frugal = λ _ bad. (let other : Refused Broken ≡ Refused Memory = sym told ∙ bad in cc);
+    });
     form = λ held. subst (λ (s : SiteValue). AreHeld s.states) (sym breaks) held;
   }
 
@@ -171,7 +176,7 @@ no_change config m request change frugal comes = absurd frugal
 pub one_forgone : (old : SiteValue) (request : Request) (change : ChangeValue) (refusal : Refusal) → old.broken ≡ false → refusal ≡ Memory → IsAlone old request change → AnswersOneFrom old old request (Refused refusal)
 one_forgone old request change refusal whole memory alone =
     one_whole old old request (Refused Memory) (Refused refusal) whole (ap Refused memory)
-    (record { other = λ bad. cc; fits = refused_fits Memory; choice = nothing_added request Memory })
+    (record { other = λ bad. cc; fits = refused_fits Memory; valid = no_done request Memory })
     (inl (λ _. inr (inl (ap Refused memory, refl)))) (λ frugal _. absurd (no_change old.config old.states request change frugal alone.0.0)) (λ held. held)
 
 pub together_alone : (site : SiteValue) (request : Request) (change : ChangeValue) → IsAlone site request change → StandTogether site (request ∷ []) (Change change ∷ [])
@@ -202,7 +207,7 @@ one_unstored_from : (old : SiteValue) (request : Request) (prepared : Prepared) 
 one_unstored_from old request (Answer reply) was comes sendable = one_whole old old request reply reply was refl sendable (inl (answers_same old request reply comes)) comes.1 (λ held. held)
 one_unstored_from old request (Change change) was comes sendable =
     one_whole old old request (Refused Store) (Refused Store) was refl
-    (record { other = λ bad. cc; fits = refused_fits Store; choice = nothing_added request Store })
+    (record { other = λ bad. cc; fits = refused_fits Store; valid = no_done request Store })
     (inr (record { told = refl; changes = λ same. insert_differs old.states comes.0.key comes.0.state comes.1.0.differs (sym comes.1.0.after ∙ same); whole = was; site = refl }))
     (λ _ bad. cc) (λ held. held)
 

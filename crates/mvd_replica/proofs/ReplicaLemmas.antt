@@ -20,6 +20,7 @@ use Rattle.mvd_replica.specs.declared.replica.Replica.{Replica}
 use Rattle.mvd_replica.specs.Batch.{AnswersOneFrom}
 use Rattle.mvd_replica.specs.Commits.{AnswersOneRequest}
 use Rattle.mvd_replica.specs.ReplicaCalls.{PushesState}
+use Rattle.mvd_replica.proofs.Batching.{stored_from}
 use Rattle.mvd_replica.proofs.Commits.{answer_follows, answer_still, answer_stored, answer_survives, answer_unstored, answers_one, clean}
 use Rattle.mvd_replica.specs.Replicas.{KeepsCommit, committed_of, site_of, store_of, stored_of}
 use Rattle.mvd_replica.specs.Sides.{AnswersFromStored, replica_follows_self}
@@ -51,9 +52,9 @@ module _ {S : Type 0} {g : Ghosts S} where
   push_answered old new key pushed request reply result whole valid same told it =
       let asked : AnswersOneRequest old (Push key pushed) reply new = subst (λ (r : Request). AnswersOneRequest old r reply new) (sym (the_request (Push key pushed) request same)) it in
       let one : AnswersOneFrom (site_of old) (site_of new) (Push key pushed) reply = answers_one old new (Push key pushed) reply asked in
-      let is : reply ≡ push_reply result = pushed_reply (site_of old) (site_of new) key pushed reply result whole one.whole told in
+      let is : reply ≡ push_reply result = pushed_reply (site_of old) (site_of new) key pushed reply result whole (stored_from one) told in
       let answer : AnswersFromStored (site_of old) (site_of new) (Push key pushed) (push_reply result) =
-      subst (λ (r : Reply). AnswersFromStored (site_of old) (site_of new) (Push key pushed) r) is one.whole in
+      subst (λ (r : Reply). AnswersFromStored (site_of old) (site_of new) (Push key pushed) r) is (stored_from one) in
       let facts : PushFacts (site_of old) (site_of new) key pushed result = stored_facts (site_of old) (site_of new) key pushed result whole answer in
       record {
         answer = answer;

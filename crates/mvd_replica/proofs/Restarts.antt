@@ -57,7 +57,7 @@ module _ {C : Type 0} (f : C → State) (site : ℕ) (image : Image) (states : S
 
   -- the configuration stays
   configured : run.new.config ≡ run.config
-  configured = is.follows.site.0 ∙ is.config
+  configured = is.follows.config ∙ is.config
 
   numbered : run.new.config.site ≡ site
   numbered = ap (λ (c : ConfigValue). c.site) configured ∙ number
@@ -149,7 +149,8 @@ broken_lost turns site db it =
 pub turns_follow : (turns : List Turn) (old new : SiteValue) (before after : State) → ReplicaFollows (IsFirstBroken turns) old new before after →
     LeavesTurns turns (stored_site old before) (stored_site new after) → TurnsFollow turns old new before after
 turns_follow turns old new before after it leaves = record {
-  site = it.site;
+  config = it.site.0;
+  still = it.site.1;
   sound = it.store.sound;
   holds = it.store.holds;
   stays = it.store.stays;

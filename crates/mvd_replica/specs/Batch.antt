@@ -2,22 +2,19 @@
 use Rattle.std.specs.Prelude.{◌≡◌, ◌≢◌, ◌⊎◌, ⊤, ℕ, ◌<◌, ◌≤◌, ◌+◌, false, true, List, [], ◌∷◌, ◌++◌, length, map, take, Result, Ok, Err}
 use Rattle.std.specs.List.{AllByRecursion}
 use Rattle.mvd_dots.specs.declared.refusals.Refusal.{Refusal}
-use Rattle.mvd_dots.specs.declared.refusals.Refusal.TheVariants.{Broken, Memory}
-use Rattle.mvd_keys.specs.Writes.{Write}
+use Rattle.mvd_dots.specs.declared.refusals.Refusal.TheVariants.{Memory}
 use Rattle.mvd_wire.specs.declared.request.Request.{Request}
 use Rattle.mvd_wire.specs.declared.request.Request.TheVariants.{Put, Delete, Push}
 use Rattle.mvd_wire.specs.declared.reply.Reply.{Reply}
 use Rattle.mvd_wire.specs.declared.reply.Reply.TheVariants.{Refused}
 use Rattle.mvd_records.specs.Records.{IsSound}
+use Rattle.mvd_site.specs.AtOnce.{AnswersRequest}
 use Rattle.mvd_site.specs.FromStates.{after_from}
 use Rattle.mvd_site.specs.Held.{AreHeld}
-use Rattle.mvd_site.specs.Known.{Adds}
-use Rattle.mvd_site.specs.Prepared.{IsFrugal}
 use Rattle.mvd_site.specs.Sites.{SiteValue}
-use Rattle.mvd_peer.specs.Sides.{SiteFollows}
 use Rattle.mvd_replica.specs.Holds.{HoldsSite, HoldsStates}
 use Rattle.mvd_replica.specs.Replicas.{StoredSite}
-use Rattle.mvd_replica.specs.Sides.{AnswersFromStored}
+use Rattle.mvd_replica.specs.Sides.{StoreRefusedFrom}
 use Rattle.mvd_replica.specs.Whole.{after_all}
 use Rattle.mvd_replica.specs.Turns.{TurnEvent, IsFirstBroken, IsToldBroken, IsToldElse, LeavesTurns, Replies, StandsOn, TellsTurns, Turn}
 use Rattle.sqlite.specs.Effect.{Database}
@@ -36,15 +33,11 @@ changes_asked (request ∷ requests) = asks_change request + changes_asked reque
 
 -- ---- the site, turn by turn
 
--- What one request does to a site, from its states alone: a broken site refuses it and stays as it is. A request that
--- takes no memory is not told want of it. There are writes that the request adds, and states in form stay so: from such
--- no reply is too long for its frame (law `replies_fit_their_frames`)
+-- What one request does to a site, from its states alone: what a site does with it, or, only where there was something
+-- to store, the store refused. States in form stay so: from such no reply is too long for its frame (law
+-- `replies_fit_their_frames`)
 pub record AnswersOneFrom (old new : SiteValue) (request : Request) (reply : Reply) : Type 0 where
-  pub whole : AnswersFromStored old new request reply
-  pub broken : old.broken ≡ true → (reply ≡ Refused Broken) × (new ≡ old)
-  pub told : reply ≡ Refused Broken → new.broken ≡ true
-  pub frugal : IsFrugal old.states request → reply ≢ Refused Memory
-  pub choice : (added : List Write) × Adds request reply added
+  pub does : AnswersRequest old new request reply ⊎ StoreRefusedFrom old new request reply
   pub form : AreHeld old.states → AreHeld new.states
 
 -- and a frame, which is told its fault, or want of memory in its place, where it is no request
@@ -105,7 +98,8 @@ pub record HoldsLost (turns : List Turn) (site : SiteValue) (db : Database) : Ty
 -- was, and if it held the site it does; once the site is broken the store stays as it is, and if that came by these
 -- turns it holds what was lost as well. A store that was shut takes no change. A stop leaves whole turns.
 pub record TurnsFollow (turns : List Turn) (old new : StoredSite) : Type 0 where
-  pub site : SiteFollows old.site new.site
+  pub config : new.site.config ≡ old.site.config
+  pub still : old.site.broken ≡ true → new.site ≡ old.site
   pub sound : IsSound new.store → IsSound old.store
   pub holds : IsSound new.store → HoldsSite old.site old.store.committed → HoldsSite new.site new.store.committed
   pub stays : old.site.broken ≡ true → new.store.committed ≡ old.store.committed

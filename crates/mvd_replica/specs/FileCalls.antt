@@ -2,7 +2,7 @@
 use Rattle.std.specs.Prelude.{◌≡◌, false, ℕ, Result, IfErr, IfOk, IsTrue}
 use Rattle.mvd_records.specs.Records.{IsOurs, IsSound}
 use Rattle.mvd_site.specs.Config.{ConfigValue}
-use Rattle.mvd_site.specs.Held.{States}
+use Rattle.mvd_site.specs.Held.{AreHeld, States}
 use Rattle.sqlite_disk.specs.declared.Disk.{Ghosts}
 use Rattle.sqlite_disk.specs.declared.Files.{Files}
 use Rattle.sqlite_store.specs.declared.store.FileStore.{FileStore}
@@ -47,8 +47,9 @@ module _ {D : Type 0} {g : Ghosts D} {f : store.Ghosts (FileStore D g)} where
       (result : Result (Replica (FileStore D g) f) (FileFault D g)) : Type 0 where
     -- the site is set up so, and not broken
     pub site : IfOk result (λ replica. IsFresh config (site_of replica))
-    -- there is a set of writes that it stands for
+    -- there is a set of writes that it stands for, and the states that it holds are in form
     pub stands : IfOk result (λ replica. HasWrites (site_of replica))
+    pub held : IfOk result (λ replica. AreHeld (site_of replica).states)
     -- where nobody else has written the files, and the disk has returned what was written, it is the site that they
     -- hold
     pub opens : IfOk result (λ replica. HasCleanDisk (file_of replica) →

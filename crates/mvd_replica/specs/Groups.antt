@@ -5,19 +5,19 @@ use Rattle.std.specs.FinMap.{insert}
 use Rattle.mvd_dots.specs.declared.refusals.Refusal.TheVariants.{Broken, Memory, Store}
 use Rattle.mvd_keys.specs.Key.{is_key}
 use Rattle.mvd_keys.specs.State.{IsValid, State}
-use Rattle.mvd_keys.specs.Writes.{Key, Write}
+use Rattle.mvd_keys.specs.Writes.{Key}
 use Rattle.mvd_wire.specs.Codecs.{spell_state, IsInForm}
 use Rattle.mvd_wire.specs.declared.request.Request.{Request}
 use Rattle.mvd_wire.specs.declared.request.Request.TheVariants.{Get, Put, Delete, Push, Hello, Bye}
 use Rattle.mvd_wire.specs.declared.reply.Reply.{Reply}
-use Rattle.mvd_wire.specs.declared.reply.Reply.TheVariants.{Refused}
+use Rattle.mvd_wire.specs.declared.reply.Reply.TheVariants.{Done, Refused}
 use Rattle.mvd_wire.specs.Replies.{CanBeSent}
 use Rattle.mvd_site.specs.Change.{ChangeValue, change_reply}
 use Rattle.mvd_site.specs.Config.{ConfigValue}
 use Rattle.mvd_site.specs.FromStates.{answer_from}
 use Rattle.mvd_site.specs.Held.{IsHeldState, States}
 use Rattle.mvd_site.specs.Installs.{with_group, with_prepared}
-use Rattle.mvd_site.specs.Known.{Adds}
+use Rattle.mvd_site.specs.Known.{IsValidRequest}
 use Rattle.mvd_site.specs.Prepared.{IsFrugal, PreparesAnswerFrom, PreparesChangeFrom}
 use Rattle.mvd_kept.specs.declared.prepared.Prepared.{Prepared}
 use Rattle.mvd_kept.specs.declared.prepared.Prepared.TheVariants.{Answer, Change}
@@ -61,11 +61,11 @@ abbrev pub ComesAlone : ConfigValue → States → Request → Prepared → Type
 ComesAlone config states request (Answer reply) = ComesTo config states request (Answer reply)
 ComesAlone config states request (Change change) = (own : ChangeValue) × ComesTo config states request (Change own)
 
--- the reply can be sent, and there are writes that the request then adds
+-- the reply can be sent, and a push that is done is of the state of some writes
 pub record IsGivenReply (request : Request) (reply : Reply) : Type 0 where
   pub other : reply ≢ Refused Broken
   pub fits : CanBeSent reply
-  pub choice : (added : List Write) × Adds request reply added
+  pub valid : reply ≡ Done → IsValidRequest request
 
 -- what holds of it from whatever states
 abbrev pub IsSendable : Request → Prepared → Type 0

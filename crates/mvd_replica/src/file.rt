@@ -38,7 +38,10 @@ pub fn open_file<S: Start>(
         Err((error, left)) => return Err(FileFault::File(error, left)),
     };
     match Replica::open(rt.alloc(), conn, config) {
-        Ok(replica) => Ok(replica),
+        Ok(replica) => {
+            replica.stands();
+            Ok(replica)
+        }
         Err((refusal, conn)) => Err(FileFault::Records(refusal, conn)),
     }
 }

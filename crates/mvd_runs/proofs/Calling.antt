@@ -96,7 +96,7 @@ calls_none stored = record { site = site_follows_self stored.site; store = store
 
 pub calls_one : (turns : List Turn) (old new : StoredSite) → TurnsFollow turns old new → CallsFollow (turns ∷ []) old new
 calls_one turns old new it = record {
-  site = it.site;
+  site = (it.config, it.still);
   store = record {
     sound = it.sound;
     holds = it.holds;

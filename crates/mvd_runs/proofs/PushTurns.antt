@@ -1,13 +1,9 @@
 -- What a push by reference does is a turn.
-use Rattle.std.proofs.Common.{◌≡◌, true, [], ◌∷◌, Result, Ok, Err, ap}
-use Rattle.std.specs.Result.{IfErr}
+use Rattle.std.proofs.Common.{◌≡◌, [], ◌∷◌, Result, ap}
 use Rattle.mvd_dots.specs.declared.refusals.Refusal.{Refusal}
-use Rattle.mvd_dots.specs.declared.refusals.Refusal.TheVariants.{Broken}
 use Rattle.mvd_keys.specs.State.{IsValid, State}
 use Rattle.mvd_keys.specs.Writes.{Key}
 use Rattle.mvd_site.specs.FromStates.{push_reply}
-use Rattle.mvd_site.specs.Installs.{broken_site}
-use Rattle.mvd_site.specs.Sites.{SiteValue}
 use Rattle.mvd_replica.specs.declared.replica.Replica.{Replica}
 use Rattle.mvd_replica.specs.Batch.{TakesTurns}
 use Rattle.mvd_replica.specs.ReplicaCalls.{PushesState}
@@ -16,15 +12,11 @@ use Rattle.sqlite_trees.specs.declared.store.Store.{Ghosts}
 use Rattle.mvd_runs.specs.Sessions.{SideTakes, push_turn}
 use Rattle.mvd_runs.proofs.Pushing.{asks_push, push_takes, side_one, valid_push}
 
-told_broken : (old new : SiteValue) (result : Result (Unit {0}) Refusal) → IfErr result (λ refusal. refusal ≡ Broken → new ≡ broken_site old) → IfErr result (λ refusal. refusal ≡ Broken → new.broken ≡ true)
-told_broken old new (Ok done) told = tt
-told_broken old new (Err refusal) told = λ is. ap (λ (s : SiteValue). s.broken) (told is)
-
 pub state_pushed : {S : Type 0} {g : Ghosts S} (old new : Replica S g) (key : Key) (pushed : State) (result : Result (Unit {0}) Refusal) → PushesState old key pushed result new →
     TakesTurns (push_turn key pushed (push_reply result) ∷ []) (stored_of old) (stored_of new)
 state_pushed old new key pushed result it =
     push_takes (site_of old) (site_of new) (store_of old) (store_of new) key pushed result it.answer (λ was. ((it.stays was).0, ap (λ r. r.site) (it.stays was).1))
-    (told_broken (site_of old) (site_of new) result it.told) it.unchanged it.valid it.follows it.leaves it.form
+    it.unchanged it.valid it.follows it.leaves it.form
 
 pub side_push : {S : Type 0} {g : Ghosts S} (old new : Replica S g) (key : Key) (pushed : State) (result : Result (Unit {0}) Refusal) → IsValid pushed → PushesState old key pushed result new → SideTakes (stored_of old) (stored_of new)
 side_push old new key pushed result valid it =

@@ -5,8 +5,7 @@ use Rattle.std.specs.Result.{IfErr, OnOk}
 use Rattle.mvd_dots.specs.declared.refusals.Refusal.{Refusal}
 use Rattle.mvd_dots.specs.declared.refusals.Refusal.TheVariants.{Broken, Memory}
 use Rattle.mvd_keys.specs.State.{IsValid, State as Keyed}
-use Rattle.mvd_keys.specs.Writes.{Key, writes_for}
-use Rattle.mvd_keys.proofs.Sets.{AreOf-writes_for, state-writes_for}
+use Rattle.mvd_keys.specs.Writes.{Key}
 use Rattle.mvd_wire.specs.declared.request.Request.{Request}
 use Rattle.mvd_wire.specs.declared.request.Request.TheVariants.{Push}
 use Rattle.mvd_wire.specs.declared.reply.Reply.{Reply}
@@ -26,6 +25,7 @@ use Rattle.mvd_replica.proofs.Batched.{TakesTurns-append, TakesTurns-memory, Tak
 use Rattle.mvd_replica.proofs.Batching.{takes}
 use Rattle.mvd_replica.proofs.Positions.{AnswersAll, ReplicaFollows, SideFollows, TakesTurns, TurnsFollow, stored_site}
 use Rattle.mvd_replica.proofs.Pushed.{follows_pushes}
+use Rattle.mvd_replica.proofs.Putting.{no_done}
 use Rattle.sqlite.specs.Effect.{Database}
 use Rattle.sqlite.specs.State.{State}
 use Rattle.mvd_runs.specs.Calls.{all_turns}
@@ -66,7 +66,8 @@ module _ (old new : SiteValue) (before after : State) (key : Key) (s : Keyed) wh
   turn_follows : (reply : Reply) → (new.broken ≡ true → reply ≡ Refused Broken) → ReplicaFollows (λ asked. asked ≡ Push key s) old new before after → LeavesTurns (push_turn key s reply ∷ []) (stored_site old before) (stored_site new after) →
       TurnsFollow (push_turn key s reply ∷ []) old new before after
   turn_follows reply told follows leaves = record {
-    site = follows.site;
+    config = follows.site.0;
+    still = follows.site.1;
     sound = follows.store.sound;
     holds = follows.store.holds;
     stays = follows.store.stays;
@@ -96,18 +97,22 @@ module _ (old new : SiteValue) (before after : State) (key : Key) (s : Keyed) wh
       LeavesTurns (push_turn key s Done ∷ []) (stored_site old before) (stored_site new after) → (AreHeld old.states → AreHeld new.states) → TakesTurns (push_turn key s Done ∷ []) old new before after
   done_turn answers stays valid follows leaves form =
       let one : AnswersOneFrom old new (Push key s) Done = record {
-        whole = answers;
-        broken = λ was. absurd (let bad : Done ≡ Refused Broken = stays was in cc);
-        told = λ e. absurd (cc);
-        frugal = λ _ e. absurd (cc);
-        choice = (writes_for key s, (AreOf-writes_for key s, state-writes_for key s valid));
+        does = elim answers [
+          | inr store ↦ inr store
+          | inl from ↦ inl (record {
+            step = from;
+            broken = λ was. absurd (let bad : Done ≡ Refused Broken = stays was in cc);
+            valid = λ _. valid;
+            frugal = λ _ e. absurd (cc);
+          })
+        ];
         form = form;
       } in
       takes _ old new before after (new, one, refl) (turn_follows Done (breaks_told old.broken refl Done answers stays) follows leaves)
 
-  pub refused_turn : (refusal : Refusal) → AnswersFromStored old new (Push key s) (Refused refusal) → (old.broken ≡ true → (Refused refusal ≡ Refused Broken) × (new ≡ old)) → (refusal ≡ Broken → new.broken ≡ true) → (refusal ≢ Broken → new ≡ old) →
+  pub refused_turn : (refusal : Refusal) → AnswersFromStored old new (Push key s) (Refused refusal) → (old.broken ≡ true → (Refused refusal ≡ Refused Broken) × (new ≡ old)) → (refusal ≢ Broken → new ≡ old) →
       ReplicaFollows (λ asked. asked ≡ Push key s) old new before after → LeavesTurns (push_turn key s (Refused refusal) ∷ []) (stored_site old before) (stored_site new after) → (AreHeld old.states → AreHeld new.states) → TakesTurns (push_turn key s (Refused refusal) ∷ []) old new before after
-  refused_turn refusal answers stays told unchanged follows leaves form = elim (memory_or_not refusal) [
+  refused_turn refusal answers stays unchanged follows leaves form = elim (memory_or_not refusal) [
     | inl memory ↦
         subst (λ r. TakesTurns (push_turn key s (Refused r) ∷ []) old new before after) (sym memory)
         (memory_turn (unchanged (λ broken. let bad : Memory ≡ Broken = sym memory ∙ broken in absurd cc)) follows
@@ -116,11 +121,10 @@ module _ (old new : SiteValue) (before after : State) (key : Key) (s : Keyed) wh
         (turn_follows (Refused refusal) (breaks_told old.broken refl (Refused refusal) answers (λ was. (stays was).0)) follows leaves)))
     | inr other ↦
         let one : AnswersOneFrom old new (Push key s) (Refused refusal) = record {
-          whole = answers;
-          broken = stays;
-          told = λ e. told (refusal_is refusal Broken e);
-          frugal = λ _. not_memory refusal other;
-          choice = ([], refl);
+          does = elim answers [
+            | inr store ↦ inr store
+            | inl from ↦ inl (record { step = from; broken = stays; valid = λ done. no_done (Push key s) refusal done; frugal = λ _. not_memory refusal other })
+          ];
           form = form;
         } in
         takes _ old new before after (new, one, refl) (turn_follows (Refused refusal) (breaks_told old.broken refl (Refused refusal) answers (λ was. (stays was).0)) follows leaves)
@@ -185,10 +189,10 @@ side_window pairs replies old new before after valid it =
 -- ---- one push
 
 pub push_takes : (old new : SiteValue) (before after : State) (key : Key) (s : Keyed) (result : Result (Unit {0}) Refusal) → AnswersFromStored old new (Push key s) (push_reply result) →
-    (old.broken ≡ true → (result ≡ Err Broken) × (new ≡ old)) → IfErr result (λ refusal. refusal ≡ Broken → new.broken ≡ true) → IfErr result (λ refusal. refusal ≢ Broken → new ≡ old) → OnOk result (IsValid s) →
+    (old.broken ≡ true → (result ≡ Err Broken) × (new ≡ old)) → IfErr result (λ refusal. refusal ≢ Broken → new ≡ old) → OnOk result (IsValid s) →
     ReplicaFollows (λ asked. asked ≡ Push key s) old new before after → LeavesTurns (push_turn key s (push_reply result) ∷ []) (stored_site old before) (stored_site new after) →
     (AreHeld old.states → AreHeld new.states) → TakesTurns (push_turn key s (push_reply result) ∷ []) old new before after
-push_takes old new before after key s (Ok done) answers stays told unchanged valid follows leaves form =
+push_takes old new before after key s (Ok done) answers stays unchanged valid follows leaves form =
     done_turn old new before after key s answers (λ was. absurd (let bad : ◌≡◌ {A = Result (Unit {0}) Refusal} (Ok done) (Err Broken) = (stays was).0 in cc)) valid follows leaves form
-push_takes old new before after key s (Err refusal) answers stays told unchanged valid follows leaves form =
-    refused_turn old new before after key s refusal answers (λ was. (ap push_reply (stays was).0, (stays was).1)) told unchanged follows leaves form
+push_takes old new before after key s (Err refusal) answers stays unchanged valid follows leaves form =
+    refused_turn old new before after key s refusal answers (λ was. (ap push_reply (stays was).0, (stays was).1)) unchanged follows leaves form

@@ -114,7 +114,8 @@ module _ {S : Type 0} {g : Ghosts S} (old new : Replica S g) (request : Request)
 
   follows_one : TurnsFollow (turn ∷ []) (site_of old) (site_of new) (store_of old) (store_of new)
   follows_one = record {
-    site = it.follows.site;
+    config = it.follows.site.0;
+    still = it.follows.site.1;
     sound = it.follows.store.sound;
     holds = it.follows.store.holds;
     stays = it.follows.store.stays;

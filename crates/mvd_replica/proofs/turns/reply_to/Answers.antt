@@ -1,7 +1,7 @@
 use Rattle.std.proofs.Common.{◌≡◌, [], ◌∷◌, sym, ap, subst, ◌∙◌}
 use Rattle.mvd_wire.specs.Requests.{request_of}
 use Rattle.mvd_replica.proofs.Answering.{asked_as, refused_frame, replied}
-use Rattle.mvd_replica.proofs.Batching.{fits_one}
+use Rattle.mvd_replica.proofs.Batching.{broken_from, choice_from, fits_one, stays_from, stored_from}
 use Rattle.mvd_replica.proofs.Commits.{answer_broken, answer_config, answer_follows, answers_one, answers_stored}
 use Rattle.mvd_replica.proofs.Sides.{follows_wider}
 use Rattle.mvd_replica.specs.Replicas.{stored_of}
@@ -21,9 +21,9 @@ returns-clause-told g c =
     let said = c.answer.ensures in
     let one = answers_one c.args.replica.now c.answer.new.self c.in-Ok.request c.answer.result said in
     replied c.args.replica.now.site c.answer.new.self.site (request_of c.args.frame.now.kind c.args.frame.now.payload.items) c.in-Ok.request c.answer.result (same ∙ c.in-Ok.ensures.exact)
-    (answers_stored c.args.replica.now c.answer.new.self c.in-Ok.request c.answer.result said) one.whole (fits_one c.args.replica.now.site c.answer.new.self.site c.in-Ok.request c.answer.result c.stands.ensures.held one) (c.is_bye.ensures.no c.if-is_bye.false) one.choice
-    (answer_config c.args.replica.now c.answer.new.self c.in-Ok.request c.answer.result said) (answer_broken c.args.replica.now c.answer.new.self c.in-Ok.request c.answer.result said) one.told
-    (λ broken. (one.broken broken).1)
+    (answers_stored c.args.replica.now c.answer.new.self c.in-Ok.request c.answer.result said) (stored_from one) (fits_one c.args.replica.now.site c.answer.new.self.site c.in-Ok.request c.answer.result c.stands.ensures.held one) (c.is_bye.ensures.no c.if-is_bye.false) (choice_from one)
+    (answer_config c.args.replica.now c.answer.new.self c.in-Ok.request c.answer.result said) (answer_broken c.args.replica.now c.answer.new.self c.in-Ok.request c.answer.result said) (broken_from one)
+    (λ broken. (stays_from one broken).1)
 
 pub returns-in-Err-clause-follows : goal.returns-in-Err-clause-follows
 returns-in-Err-clause-follows g c = replica_follows_self _

@@ -15,9 +15,10 @@ use Rattle.mvd_host.specs.Hosts.{AreKept, IfClient, client_in}
 use Rattle.mvd_host.specs.Course.{BothClients, IsOut, own}
 use Rattle.mvd_host.specs.Taking.{AreFaults, IsFair, HasNoNext, IsNothingTaken, TakesOnly}
 use Rattle.mvd_host.specs.Queueing.{QueuesReplies, refused_all, refused_faults}
-use Rattle.mvd_host.specs.Round.{AnswersAtHand, ClientCourse, GoesForward, Round, Side, Spares, turns_of}
+use Rattle.mvd_host.specs.Round.{AnswersAtHand, ClientCourse, GoesForward, IsIdle, Round, Side, Spares, turns_of}
 use Rattle.mvd_host.specs.Weights.{AreHeavy, AreHeavyTurns}
 use Rattle.mvd_host.specs.declared.taking.Taken.{Taken}
+use Rattle.mvd_host.proofs.Idle.{idle_if}
 use Rattle.mvd_host.proofs.Numbers.{low_or_high, none_at_hand_there, own_at_hand, own_below}
 use Rattle.mvd_host.proofs.Own.{both_none, own-append}
 use Rattle.mvd_host.proofs.Positions.{Serves}
@@ -198,6 +199,10 @@ module _ (asks_at_hand : List (ℕ × Request)) (ready : List ℕ) (old mid betw
       ]
 
   module _ (hand begun : AtHandValue) (none : hand.left ≡ []) (begins : BeginsWith asks_at_hand hand begun) (all_may : AllMayWait hand.waits) (may : AllMayWait asks_at_hand) (kept : AreKept old admitted) where
+    -- nothing comes next of a client that had none
+    idle_after : (n : ℕ) → IfClient (client_in new n) HasNoNext → IfClient (client_in new n) IsIdle
+    idle_after n = idle_if (client_in new n) ((round_kept kept).answered n)
+
     -- what waits at hand is of no connection
     none_low : (n : ℕ) → n < first_at_hand → (own n took.all.requests ≡ own n asks_at_hand) × (own n took.all.faulty ≡ []) → (own n took.all.requests ≡ []) × (own n took.all.faulty ≡ [])
     none_low n low is = (is.0 ∙ own_below n asks_at_hand may low, is.1)
@@ -274,7 +279,11 @@ module _ (asks_at_hand : List (ℕ × Request)) (ready : List ℕ) (old mid betw
       all_turns,
       is_round,
       subst (λ r. GoesForward r ready all_turns site.states new_side.host hand_after) (sym is) (record {
-        fair = fair_turns (fair refl);
+        fair = λ i below. elim (fair_turns (fair refl) i below) [
+          | inl some ↦ inl some
+          | inr (inl none) ↦ inr (inl (idle_after (slice_index ready i) none))
+          | inr (inr heavy) ↦ inr (inr heavy)
+        ];
         at_hand = rest_turns (rests refl);
         some = λ _. some_turns some;
         none = λ no. absurd (true≢false no);
@@ -290,10 +299,10 @@ module _ (asks_at_hand : List (ℕ × Request)) (ready : List ℕ) (old mid betw
       all_turns,
       is_round,
       subst (λ r. GoesForward r ready all_turns site.states new_side.host hand_after) (sym is) (record {
-        fair = λ i below. inr (inl (all_idle none (fair refl) i below));
+        fair = λ i below. inr (inl (idle_after (slice_index ready i) (all_idle none (fair refl) i below)));
         at_hand = rest_turns (rests refl);
         some = λ yes. absurd (true≢false (sym yes));
         none = λ _. none_rests none (rests refl);
-        idle = λ _. all_idle none (fair refl);
+        idle = λ _ i below. idle_after (slice_index ready i) (all_idle none (fair refl) i below);
       }),
     )

@@ -19,6 +19,7 @@ use Rattle.mvd_site.specs.FromStates.{answer_from, unless_broken, with_state}
 use Rattle.mvd_site.specs.Held.{States, state_at}
 use Rattle.mvd_site.specs.Sites.{SiteValue}
 use Rattle.mvd_replica.specs.Batch.{AnswersOneFrom, TakesAllFrom, TakesFrom}
+use Rattle.mvd_replica.proofs.Batching.{stays_from, stored_from}
 use Rattle.mvd_replica.specs.Commits.{AnswersInCommits}
 use Rattle.mvd_replica.specs.ReplicaCalls.{root_answer}
 use Rattle.mvd_replica.specs.Replicas.{commits_of, site_of}
@@ -68,8 +69,8 @@ module _ (old new : SiteValue) (request : Request) (reply : Reply) where
   request_changes : AnswersOneFrom old new request reply → ChangesAmong (option_to_list (key_to_change request)) old.states new.states
   request_changes one =
       elim old.broken as (λ b. old.broken ≡ b → ChangesAmong (option_to_list (key_to_change request)) old.states new.states) [
-        | true ↦ λ broken. same_changes _ old.states new.states (ap (λ (s : SiteValue). s.states) ((one.broken broken).1))
-        | false ↦ λ whole. from_changes whole one.whole
+        | true ↦ λ broken. same_changes _ old.states new.states (ap (λ (s : SiteValue). s.states) (stays_from one broken).1)
+        | false ↦ λ whole. from_changes whole (stored_from one)
       ] refl
 
 -- ---- many

@@ -12,6 +12,8 @@ pub mod Beginning
 pub mod ToldLemmas
 pub mod TurnWeights
 pub mod Weights
+pub mod Idle
+pub mod Known
 pub mod Serving
 pub mod RoundLemmas
 pub mod Answering

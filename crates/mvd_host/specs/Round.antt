@@ -1,22 +1,20 @@
 -- One round: frames of many clients, as turns of one list.
 use Rattle.std.specs.Prelude.{◌≡◌, ◌≢◌, ◌⊎◌, ◌<◌, ◌≤◌, Bool, ℕ, List, [], ◌∷◌, ◌++◌, map, length, slice_index, None, Ok, Result, IfOk, OnOk, true, false}
-use Rattle.std.specs.List.{AllByRecursion}
 use Rattle.mvd_dots.specs.declared.refusals.Refusal.{Refusal}
 use Rattle.mvd_dots.specs.declared.refusals.Refusal.TheVariants.{Memory}
 use Rattle.mvd_wire.specs.declared.reply.Reply.TheVariants.{Refused}
 use Rattle.mvd_wire.specs.Frames.{FrameValue}
 use Rattle.mvd_wire.specs.declared.request.Request.{Request}
 use Rattle.mvd_conn.specs.Guard.{IsShown}
-use Rattle.mvd_conn.specs.History.{History}
+use Rattle.mvd_conn.specs.History.{History, Waits, next_of}
 use Rattle.mvd_site.specs.Held.{States}
 use Rattle.mvd_site.specs.Sites.{SiteValue}
-use Rattle.mvd_replica.specs.Turns.{TurnEvent, IsToldElse, Replies, StandsOn, TellsTurns, Turn}
+use Rattle.mvd_replica.specs.Turns.{Turn}
 use Rattle.mvd_replica.specs.Batch.{TakesFrom, TurnsFollow}
 use Rattle.mvd_replica.specs.Replicas.{StoredSite, site_of, store_of}
 use Rattle.mvd_replica.specs.declared.replica.Replica.{Replica}
 use Rattle.mvd_host.specs.AtHand.{AllMayWait, AtHandValue, first_at_hand}
 use Rattle.mvd_host.specs.Hosts.{HostValue, IfClient, client_of}
-use Rattle.mvd_host.specs.Taking.{HasNoNext}
 use Rattle.mvd_host.specs.Weights.{AreHeavyTurns}
 use Rattle.mvd_host.specs.Course.{AreQueued, BothClients, IsOut, MayGoOn, NoneMoved, asked_by, own}
 use Rattle.sqlite.specs.State.{State}
@@ -40,26 +38,19 @@ stored_in side = record { site = side.site; store = side.store }
 abbrev pub turns_of : List (ℕ × Turn) → List Turn
 turns_of = map (λ t. t.1)
 
--- a turn does to the site what its frame asks, and is told that; or it is told want of memory, and changes nothing
-abbrev pub ServesFrom : SiteValue → SiteValue → Turn → Type 0
-ServesFrom old new turn = TakesFrom old new turn.asked turn.reply ⊎ ((turn.reply ≡ Refused Memory) × (new ≡ old))
-
--- each turn finds the site as the one before it left it
+-- Each turn finds the site as the one before it left it. It does to it what its frame asks, and is told that; or it is
+-- told want of memory, and changes nothing
 abbrev pub ServesAllFrom : SiteValue → SiteValue → List Turn → Type 0
 ServesAllFrom old new [] = new ≡ old
-ServesAllFrom old new (turn ∷ turns) = (mid : SiteValue) × ServesFrom old mid turn × ServesAllFrom mid new turns
+ServesAllFrom old new (turn ∷ turns) = (mid : SiteValue)
+    × (TakesFrom old mid turn.asked turn.reply ⊎ ((turn.reply ≡ Refused Memory) × (mid ≡ old)))
+    × ServesAllFrom mid new turns
 
--- What turns do to a replica: each reply is one that may be given from the writes known before it, the states stand for
--- the writes known and those that the turns added, of which there is a choice, and the records follow. 22 is told only
--- where the site is broken afterwards. And each turn is of the states that the one before it left
+-- What turns do to a replica: each is of the states that the one before it left, and the records follow. What that is
+-- from the writes known is a law (`turns_are_known`)
 pub record Serves (turns : List Turn) (old new : StoredSite) : Type 0 where
-  pub replies : Replies old.site new.site turns
-  pub stands : StandsOn old.site new.site turns
-  pub config : new.site.config ≡ old.site.config
-  pub choice : (events : List TurnEvent) × TellsTurns events turns
-  pub told : new.site.broken ≡ false → AllByRecursion IsToldElse turns
-  pub follows : TurnsFollow turns old new
   pub states : ServesAllFrom old.site new.site turns
+  pub follows : TurnsFollow turns old new
 
 -- The frames that were taken of a connection are those of these turns, in order, each of what its client's right allows,
 -- and the replies that were queued on it are theirs, in order. Where there is a guard, the first frame of all shows a
@@ -81,6 +72,12 @@ pub record Spares (ready : List ℕ) (turns : List (ℕ × Turn)) (old new : Hos
   pub only : (n : ℕ) → n < first_at_hand → IsOut n ready (length ready) → own n turns ≡ []
   pub same : (n : ℕ) → IsOut n ready (length ready) → client_of new n ≡ client_of old n
 
+-- Nothing comes next of a connection whose frames are answered: it has ended, or failed, 262,144 bytes have to leave
+-- first, or more bytes are wanted. Then a look at it leaves it as it is (law `nothing_comes_of_the_idle`)
+pub record IsIdle (h : History) : Type 0 where
+  pub hand : h.hand ≡ None
+  pub next : (h.last ≢ None) ⊎ (h.failed ≡ true) ⊎ (262144 ≤ length h.waits) ⊎ (next_of h ≡ Waits)
+
 -- What a round that was not refused memory gives: each client that is ready had a turn, or nothing comes next of it, or
 -- the states of the keys that the turns change, as they were before, have 4,194,304 bytes with what is put and pushed;
 -- only then something waits at hand still. There may be more only where there was a turn, and where there is no more
@@ -88,13 +85,13 @@ pub record Spares (ready : List ℕ) (turns : List (ℕ × Turn)) (old new : Hos
 pub record GoesForward (result : Result Bool Refusal) (ready : List ℕ) (turns : List (ℕ × Turn)) (states : States)
     (new : HostValue) (hand : AtHandValue) : Type 0 where
   pub fair : OnOk result ((i : ℕ) → i < length ready →
-      (own (slice_index ready i) turns ≢ []) ⊎ IfClient (client_of new (slice_index ready i)) HasNoNext
+      (own (slice_index ready i) turns ≢ []) ⊎ IfClient (client_of new (slice_index ready i)) IsIdle
       ⊎ AreHeavyTurns states turns)
   pub at_hand : OnOk result ((hand.waits ≡ []) ⊎ AreHeavyTurns states turns)
   pub some : IfOk result (λ more. more ≡ true → turns ≢ [])
   pub none : IfOk result (λ more. more ≡ false → hand.waits ≡ [])
   pub idle : IfOk result (λ more. more ≡ false → (i : ℕ) → i < length ready →
-      IfClient (client_of new (slice_index ready i)) HasNoNext)
+      IfClient (client_of new (slice_index ready i)) IsIdle)
 
 -- OF WHAT WAITED at hand a front of each client's is asked in turns, in order, and the rest waits still; each client is
 -- told the replies to its own turns. No earlier reply was left

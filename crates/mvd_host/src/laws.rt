@@ -1,6 +1,7 @@
 //! Laws of many rounds, each as the contract of an empty function.
-ghost use Rattle.std.specs.Prelude.{◌≡◌, ◌∷◌, ◌++◌, [], ℕ, List, Some, true};
-ghost use Rattle.mvd_conn.specs.History.{History, last_bytes};
+ghost use Rattle.std.specs.Prelude.{◌≡◌, ◌↔◌, ◌∷◌, ◌++◌, [], ℕ, List, Some, false, length, true};
+ghost use Rattle.std.specs.List.{AllByRecursion};
+ghost use Rattle.mvd_conn.specs.History.{History, after_next, last_bytes};
 ghost use Rattle.mvd_conn.specs.Rights.{may};
 ghost use Rattle.mvd_conn.specs.declared.right.Right.{Right};
 ghost use Rattle.mvd_conn.specs.Stands.{IsLast, HistoryStands};
@@ -8,13 +9,14 @@ ghost use Rattle.mvd_host.specs.AtHand.{none_at_hand};
 ghost use Rattle.mvd_host.specs.Course.{own};
 ghost use Rattle.mvd_host.specs.Grown.{Grows};
 ghost use Rattle.mvd_host.specs.Hosts.{HostValue, client_of, new_host};
-ghost use Rattle.mvd_host.specs.Round.{Round};
+ghost use Rattle.mvd_host.specs.Round.{IsIdle, Round, ServesAllFrom};
 ghost use Rattle.mvd_host.specs.Runs.{Goes, Happening, HasRight, HasShown, HostMoment, OneList, Runs};
 ghost use Rattle.mvd_host.specs.Runs.{TellsOwn, after_run, side_at, turns_in};
 ghost use Rattle.mvd_host.specs.Within.{IsWithin};
-ghost use Rattle.mvd_replica.specs.Turns.{Turn};
+ghost use Rattle.mvd_replica.specs.Turns.{IsToldElse, Replies, StandsOn, TellsTurns, Turn, TurnEvent};
 ghost use Rattle.mvd_wire.specs.declared.request.Request.{Request};
 ghost use Rattle.mvd_site.specs.Held.{AreHeld};
+ghost use Rattle.mvd_site.specs.Sites.{SiteValue};
 ghost use Rattle.sqlite.specs.Held.{Held, state};
 
 use sqlite::Alter;
@@ -42,6 +44,25 @@ pub fn none_before_the_token()
     ensures right { (turns : List Turn) (h : History) → TellsOwn turns h → HasRight h.guard turns }
     ensures told { (h : History) → TellsOwn [] h → HistoryStands h →
         (h.left ++ h.waits ≡ last_bytes h.last) × IsLast h h.last }
+{}
+
+/// What turns of rounds are from the writes known. From any that the site stood for, and for every choice of what the
+/// turns added, each reply is one that may be given from the writes known before it; and the states stand afterwards
+/// for all of them, also where the site is broken. There is such a choice. 22 is told only where the site is broken
+/// afterwards.
+pub fn turns_are_known()
+    ensures replies { (turns : List Turn) (old new : SiteValue) → ServesAllFrom old new turns → Replies old new turns }
+    ensures stands { (turns : List Turn) (old new : SiteValue) → ServesAllFrom old new turns → StandsOn old new turns }
+    ensures choice { (turns : List Turn) (old new : SiteValue) → ServesAllFrom old new turns →
+        (events : List TurnEvent) × TellsTurns events turns }
+    ensures told { (turns : List Turn) (old new : SiteValue) → ServesAllFrom old new turns → new.broken ≡ false →
+        AllByRecursion IsToldElse turns }
+{}
+
+/// Where each frame that was taken of a client was answered, it is idle just where a look at what comes next hands out no
+/// frame, and leaves it as it is.
+pub fn nothing_comes_of_the_idle()
+    ensures { (h : History) → length h.answers ≡ length h.taken → IsIdle h ↔ (after_next h ≡ (false, h)) }
 {}
 
 /// Whatever clients ask in a round, and whatever they push, each key's state afterwards includes its state before: what

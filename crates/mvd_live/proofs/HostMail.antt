@@ -23,7 +23,8 @@ use Rattle.mvd_remote.specs.Lines.{TrueReply}
 use Rattle.mvd_replica.specs.Turns.{Turn}
 use Rattle.mvd_replica.proofs.Batching.{fits_turn, form_turn}
 use Rattle.mvd_host.specs.Course.{AreQueued, own}
-use Rattle.mvd_host.specs.Round.{ServesAllFrom, ServesFrom, turns_of}
+use Rattle.mvd_host.specs.Round.{ServesAllFrom, turns_of}
+use Rattle.mvd_host.proofs.Positions.{ServesFrom}
 use Rattle.mvd_host.specs.Runs.{TellsOwn}
 use Rattle.mvd_meet.specs.Callers.{requests_of}
 use Rattle.mvd_sync.specs.declared.asked.Window.{Window}

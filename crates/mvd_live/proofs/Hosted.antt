@@ -3,35 +3,24 @@ use Rattle.std.proofs.Common.{◌≡◌, ◌⊎◌, inl, inr, ℕ, List, [], ◌
 use Rattle.std.specs.Prelude.{Ok, Err, Result}
 use Rattle.mvd_dots.specs.declared.refusals.Refusal.{Refusal}
 use Rattle.mvd_dots.specs.declared.refusals.Refusal.TheVariants.{Memory, Store}
-use Rattle.mvd_keys.specs.State.{IsValid}
-use Rattle.mvd_keys.specs.Writes.{Write}
-use Rattle.mvd_keys.proofs.Sets.{IsValid-state}
 use Rattle.mvd_keys.proofs.Standing.{Stands-for}
 use Rattle.mvd_wire.specs.declared.reply.Reply.{Reply}
-use Rattle.mvd_wire.specs.declared.reply.Reply.TheVariants.{Done, Refused}
+use Rattle.mvd_wire.specs.declared.reply.Reply.TheVariants.{Refused}
 use Rattle.mvd_wire.specs.declared.request.Request.{Request}
-use Rattle.mvd_wire.specs.declared.request.Request.TheVariants.{Push}
 use Rattle.mvd_site.specs.Held.{AreHeld, States}
-use Rattle.mvd_site.specs.Known.{Adds, IsValidRequest}
 use Rattle.mvd_site.specs.Sites.{SiteValue}
 use Rattle.mvd_peer.specs.Live.{Grows}
 use Rattle.mvd_remote.specs.Lines.{TrueReply}
 use Rattle.mvd_remote.proofs.SiteReplies.{refused_so, replies_truly}
 use Rattle.mvd_replica.specs.Batch.{AnswersOneFrom}
 use Rattle.mvd_replica.specs.Turns.{Turn}
-use Rattle.mvd_replica.proofs.Batching.{config_all, replies_one}
-use Rattle.mvd_host.specs.Round.{ServesAllFrom, ServesFrom, turns_of}
+use Rattle.mvd_replica.proofs.Batching.{choice_from, config_all, replies_one}
+use Rattle.mvd_host.specs.Round.{ServesAllFrom, turns_of}
 use Rattle.mvd_host.proofs.Growths.{grows_by}
+use Rattle.mvd_host.proofs.Positions.{ServesFrom}
 use Rattle.mvd_live.specs.Answers.{SiteAnswers, SiteTurn}
 use Rattle.mvd_live.specs.Hosts.{and_turn, site_turns}
 use Rattle.mvd_live.proofs.Whole.{grows_self}
-
--- what was pushed and is done is valid
-valid_where : (q : Request) (reply : Reply) (added : List Write) → Adds q reply added → reply ≡ Done → IsValidRequest q
-valid_where (Push key s) reply added adds done =
-    let here : Adds (Push key s) Done added = subst (λ r. Adds (Push key s) r added) done adds in
-    subst IsValid here.1 (IsValid-state key added)
-valid_where q reply added adds done = tt
 
 -- a refusal for the site's own sake, which is as it was
 own_refusal : (old mid : SiteValue) (q : Request) (reply : Reply) → mid ≡ old → (reply ≡ Refused Memory) ⊎ (reply ≡ Refused Store) → TrueReply old.config old.states q reply mid.states
@@ -60,12 +49,13 @@ leaves_one old mid q reply held one =
     let turn : Turn = record { asked = Ok q; reply = reply } in
     let known = Stands-for old.states (λ key s found. (held.valid key s found, (held.held key s found).seen)) in
     let each = replies_one old mid q reply one in
+    let choice = choice_from one in
     record {
       config = config_all (turn ∷ []) old mid (mid, one, refl);
       form = one.form held;
-      grows = grows_by old.states mid.states known.0 one.choice.0 known.1 (each.keeps known.0 one.choice.0 known.1 one.choice.1);
-      so = elim one.whole [
-        | inl from ↦ replies_truly old mid q reply held (valid_where q reply one.choice.0 one.choice.1) from one.broken
+      grows = grows_by old.states mid.states known.0 choice.0 known.1 (each.keeps known.0 choice.0 known.1 choice.1);
+      so = elim one.does [
+        | inl does ↦ replies_truly old mid q reply held does.valid does.step does.broken
         | inr store ↦ own_refusal old mid q reply store.site (inr store.told)
       ];
     }

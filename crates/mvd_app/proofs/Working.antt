@@ -14,7 +14,8 @@ use Rattle.mvd_replica.specs.Programs.{KeepsWrites, WorksOn}
 use Rattle.mvd_replica.specs.ReplicaCalls.{ReplicaAnswers}
 use Rattle.mvd_hint.specs.declared.hint.Stop.{Stop}
 use Rattle.mvd_host.specs.Round.{Round, turns_of}
-use Rattle.mvd_host.specs.Runs.{Calls, Comes, Goes, Hands, Happening, HostMoment, Rounds, Runs, after_one, after_run, side_at}
+use Rattle.mvd_host.proofs.Known.{choice_known, replies_known, stands_known, told_known}
+use Rattle.mvd_host.specs.Runs.{Calls, Comes, Goes, Hands, Happening, HostMoment, Rounds, Runs, after_one, after_run, side_at, turns_in}
 use Rattle.mvd_remote.specs.declared.line.Line.{Ghosts as LineGhosts}
 use Rattle.mvd_replica.specs.Replicas.{site_of, store_of, stored_of}
 use Rattle.mvd_replica.specs.Restored.{HasWrites}
@@ -38,7 +39,13 @@ module _ {C : Type 0} (f : C → State) where
   of_round : (ready : List ℕ) (turns : List (ℕ × Turn)) (side new : HostMoment C) → Round ready turns (side_at f side) (side_at f new) → Works (turns_of turns ∷ []) side.site new.site (f side.conn) (f new.conn)
   of_round ready turns side new round =
       works_one (turns_of turns) side.site new.site (f side.conn) (f new.conn) (round_fine ready turns (side_at f side) (side_at f new) round)
-      (record { replies = round.serves.replies; stands = round.serves.stands; config = round.serves.config; choice = round.serves.choice }) round.serves.told round.serves.follows
+      (record {
+        replies = replies_known (turns_of turns) side.site new.site round.serves.states;
+        stands = stands_known (turns_of turns) side.site new.site round.serves.states;
+        config = round.serves.follows.config;
+        choice = choice_known (turns_of turns) side.site new.site round.serves.states;
+      })
+      (told_known (turns_of turns) side.site new.site round.serves.states) round.serves.follows
 
   of_rounds : (side : HostMoment C) (all : List (Happening C)) → Runs f side all → Works (rounds_in all) side.site (after_run side all).site (f side.conn) (f (after_run side all).conn)
   of_rounds side [] runs = works_none side.site (f side.conn)
@@ -81,13 +88,17 @@ module _ {S : Type 0} {g : Ghosts S} where
 
   -- a server
   pub served_works : {K : Type 0} {k : SocketGhosts K} {passes : Option (List Pass)} {names : Named} {sockets sockets' : K} (old new : Replica S g) → IsServed k passes names sockets old sockets' new → WorksOn (stored_of old) (stored_of new)
-  served_works old new it = record {
-    config = it.list.serves.config;
-    keeps = turns_keep _ (site_of old) (site_of new) it.list.serves.stands it.list.serves.choice;
-    sound = it.list.serves.follows.sound;
-    holds = it.list.serves.follows.holds;
-    stored = λ sound held whole broken. let more = it.list.serves.follows.stored sound held whole broken in (lost_requests more.lost, more.holds);
-  }
+  served_works old new it =
+      let turns : List Turn = turns_of (turns_in it.all) in
+      let states = it.list.serves.states in
+      let records = it.list.serves.follows in
+      record {
+        config = records.config;
+        keeps = turns_keep turns (site_of old) (site_of new) (stands_known turns (site_of old) (site_of new) states) (choice_known turns (site_of old) (site_of new) states);
+        sound = records.sound;
+        holds = records.holds;
+        stored = λ sound held whole broken. let more = records.stored sound held whole broken in (lost_requests more.lost, more.holds);
+      }
 
   -- ---- as turns, by calls
 

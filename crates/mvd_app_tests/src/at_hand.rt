@@ -1,11 +1,10 @@
 //! A session of a stored site with a site at hand, by what `mvd sync` calls.
-ghost use Rattle.std.specs.Prelude.{◌≡◌, None};
+ghost use Rattle.std.specs.Prelude.{◌≡◌, false, None};
 ghost use Rattle.std.specs.declared.net.socket_addr.SocketAddr.{SocketAddr};
 ghost use Rattle.mvd_client.specs.LetIn.{GivesIn};
 ghost use Rattle.mvd_client.specs.SyncsAt.{MeetsAt};
 ghost use Rattle.mvd_line_tests.specs.Serving.{IsAtHand};
 ghost use Rattle.mvd_replica.specs.Replicas.{site_of};
-ghost use Rattle.mvd_replica.specs.Sides.{IsTrueSite};
 
 use mvd_client::{Dial, DialFault, Gone, sync_run};
 use mvd_docs::Document;
@@ -50,7 +49,7 @@ fn sync_at_hand<'a, S: Alter + Drop, E: Write>(
     address: SocketAddr,
     told: Option<&mut E>,
 ) -> Result<Report, Stop<'a>>
-    ensures { IsTrueSite (site_of replica.old) → MeetsAt ⟦<Served as Line>⟧
+    ensures { (site_of replica.old).broken ≡ false → MeetsAt ⟦<Served as Line>⟧
         (GivesIn ⟦<Served as Line>⟧ IsAtHand None) address replica.old replica.new result }
 {
     sync_run(

@@ -16,6 +16,6 @@ use Rattle.sqlite_trees.specs.declared.store.Store.{Ghosts}
 
 pub meets_at : {S : Type 0} {g : Ghosts S} {L : Type 0} (line : LineGhosts L) (gives : L → Type 0) (address : SocketAddr) (was now : Gone L) (old new : Replica S g) (result : Result Report Stop) → SyncsAt line gives address was now old new result → AreTrue line gives → IsTrueSite (site_of old) → MeetsAt line gives address old new result
 meets_at line gives address was now old new result (nobody same stop e un) t s = unanswered same stop e un
-meets_at line gives address was now old new result (ran fresh left given told from goes tells) t s = met from.before from.after
+meets_at line gives address was now old new result (ran fresh left given told from goes tells) t s = met from.before left
     (subst gives (sym from.at_line) given) told
     (from.over_line.meets s (subst line.is_true (sym from.at_line) (t fresh given).0) (subst (λ l. (line.far l).due ≡ []) (sym from.at_line) (t fresh given).1) from.goes_on) tells

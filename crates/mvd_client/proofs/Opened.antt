@@ -13,11 +13,11 @@ module _ {L : Type 0} (line : Ghosts L) where
 
   pub in_free : (token : Option (List ℕ)) (fresh opened : L) → IsFree fresh → IsLetIn line token fresh opened → IsFree opened
   in_free None fresh opened free is = subst IsFree (sym is) free
-  in_free (Some token) fresh opened free is =
+  in_free (Some token) fresh opened free (after, is, left) =
       let true_before : IsTrueRemote line.is_true line.far is.before =
       fresh_is_true line.is_true line.far is.before (subst line.is_true (sym is.at_line) free.0) (subst (λ at. (line.far at).due ≡ []) (sym is.at_line) free.1) is.goes_on in
-      let true_after : IsTrueRemote line.is_true line.far is.after = (is.truth true_before).0 in
-      subst IsFree is.left_so (true_after.line, true_after.step is.asked.2.1)
+      let true_after : IsTrueRemote line.is_true line.far after = (is.truth true_before).0 in
+      subst IsFree (sym left) (true_after.line, true_after.step is.asked.2.1)
 
   -- where the lines of an address are true, so are those that come of them
   pub are_true_in : (gives : L → Type 0) (token : Option (List ℕ)) → AreTrue line gives → AreTrue line (GivesIn line gives token)

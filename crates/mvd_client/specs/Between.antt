@@ -17,7 +17,7 @@ use Rattle.mvd_client.specs.declared.meeting.Root.{Root}
 use Rattle.mvd_dots.specs.declared.refusals.Refusal.{Refusal}
 use Rattle.mvd_hint.specs.declared.hint.Stop.{Stop}
 use Rattle.mvd_peer.specs.Sides.{two}
-use Rattle.mvd_remote.specs.Lines.{IsTrueRemote, far_of, line_of, refused_of}
+use Rattle.mvd_remote.specs.Lines.{IsTrueRemote, far_of, line_of, refused_of, told_of}
 use Rattle.mvd_remote.specs.Remotes.{AsksOver, bye_query, link_of}
 use Rattle.mvd_remote.specs.declared.line.Line.{Ghosts as LineGhosts}
 use Rattle.mvd_remote.specs.declared.remote.Remote.{Remote}
@@ -45,6 +45,8 @@ module _ {L : Type 0} (line : LineGhosts L) (gives : SocketAddr → L → Type 0
     pub far_line : GivesIn line (gives far) token (line_of far_before)
     pub near_goes_on : refused_of near_before ≡ None
     pub far_goes_on : refused_of far_before ≡ None
+    pub near_untold : told_of near_before ≡ []
+    pub far_untold : told_of far_before ≡ []
     pub session : Session (sides_between (line_side line) (line_side line)) 10000000 (two near_before far_before)
         (two near' far') told
     pub runs : IfOk told (IsRun (sides_between (line_side line) (line_side line)) 10000000
@@ -55,11 +57,11 @@ module _ {L : Type 0} (line : LineGhosts L) (gives : SocketAddr → L → Type 0
   pub data FailsBetween (was now : Gone L) (stop : Stop) : Type 0 where
     no_near : (fault : DialFault) → LeadsNowhere line (gives near) token was now fault → StopsUndialed near fault stop
         → FailsBetween was now stop
-    no_far : (near_at : L) → GivesIn line (gives near) token near_at → (fault : DialFault) (mid : Gone L)
-        → LeadsNowhere line (gives far) token was mid fault → LetsGo near_at mid now → StopsUndialed far fault stop
+    no_far : (near' : Remote L) → GivesIn line (gives near) token (line_of near') → (fault : DialFault) (mid : Gone L)
+        → LeadsNowhere line (gives far) token was mid fault → LetsGo near' mid now → StopsUndialed far fault stop
         → FailsBetween was now stop
     faulted : (near' far' : Remote L) (fault : SyncFault) → MeetsBetween near' far' (Err fault) → (mid : Gone L)
-        → LetsGo (line_of near') was mid → LetsGo (line_of far') mid now → StopsBetween near far fault stop
+        → LetsGo near' was mid → LetsGo far' mid now → StopsBetween near far fault stop
         → FailsBetween was now stop
 
   -- how it ends: one that ended well lets no line go
@@ -114,7 +116,7 @@ module _ {L : Type 0} (line : LineGhosts L) where
       → Option (List ℕ) → Result (Unit {0}) Stop → Type 0
   EndsMeeting near far (Ok met) was now out out' result =
       (left : Met L) × TellsThenParts near far met left out out' result
-      × ((mid : Gone L) × LetsGo (line_of left.near) was mid × LetsGo (line_of left.far) mid now)
+      × ((mid : Gone L) × LetsGo left.near was mid × LetsGo left.far mid now)
   EndsMeeting near far (Err stop) was now out out' result = (result ≡ Err stop) × (now ≡ was) × (out' ≡ out)
 
   -- FROM TWO ADDRESSES TO WHAT IS PRINTED

@@ -1,7 +1,8 @@
--- The lines that were let go, each as it was then.
+-- The lines that were let go, each with its side as that was then.
 use Rattle.std.specs.Prelude.{◌≡◌, ◌++◌, ◌∷◌, []}
 use Rattle.mvd_client.specs.declared.gone.Gone.{Gone}
+use Rattle.mvd_remote.specs.declared.remote.Remote.{Remote}
 
--- one more was let go, which was left so
-abbrev pub LetsGo : {L : Type 0} → L → Gone L → Gone L → Type 0
-LetsGo line old new = new.lines.items ≡ old.lines.items ++ (line, tt) ∷ []
+-- one more was let go, whose side was left so
+abbrev pub LetsGo : {L : Type 0} → Remote L → Gone L → Gone L → Type 0
+LetsGo remote old new = new.lines.items ≡ old.lines.items ++ (remote, tt) ∷ []

@@ -13,21 +13,21 @@ use Rattle.mvd_remote.specs.declared.line.Line.{Ghosts}
 use Rattle.mvd_remote.specs.declared.remote.Remote.{Remote}
 
 module _ {L : Type 0} (line : Ghosts L) where
-  -- THE TOKEN IS SHOWN over a line: a Hello with it was asked, and nothing else, and this was told; the line is left so
-  pub record ShowsToken (token : List ℕ) (fresh left : L) (told : Result (Unit {0}) Refusal) : Type 0 where
-    pub before : Remote L
-    pub after : Remote L
-    pub at_line : line_of before ≡ fresh
-    pub goes_on : refused_of before ≡ None
-    pub asked : AsksOver line (hello_query token) before after told
-    pub truth : AsksTruly line (hello_query token) before after told
-    pub live : AsksLive line (Hello token) as_done before after told
-    pub left_so : line_of after ≡ left
+  -- THE TOKEN IS SHOWN over a line: a Hello with it was asked, and nothing else, and this was told; its side is left so
+  pub record ShowsToken (token : List ℕ) (fresh : L) (after : Remote L) (told : Result (Unit {0}) Refusal) : Type 0
+    where
+      pub before : Remote L
+      pub at_line : line_of before ≡ fresh
+      pub goes_on : refused_of before ≡ None
+      pub asked : AsksOver line (hello_query token) before after told
+      pub truth : AsksTruly line (hello_query token) before after told
+      pub live : AsksLive line (Hello token) as_done before after told
 
   -- a line over which the token was shown, if there is one, and nothing else went
   abbrev pub IsLetIn : Option (List ℕ) → L → L → Type 0
   IsLetIn None fresh opened = opened ≡ fresh
-  IsLetIn (Some token) fresh opened = ShowsToken token fresh opened (Ok tt)
+  IsLetIn (Some token) fresh opened =
+      (after : Remote L) × ShowsToken token fresh after (Ok tt) × (opened ≡ line_of after)
 
   -- the lines that come of those which an address gives
   abbrev pub GivesIn : (L → Type 0) → Option (List ℕ) → L → Type 0
@@ -38,6 +38,6 @@ module _ {L : Type 0} (line : Ghosts L) where
   pub data LeadsNowhere (gives : L → Type 0) (token : Option (List ℕ)) (old new : Gone L) (fault : DialFault) : Type 0
     where
       no_line : new ≡ old → LeadsNowhere gives token old new fault
-      not_taken : (shown : List ℕ) → token ≡ Some shown → (fresh left : L) → gives fresh → (refusal : Refusal)
-          → ShowsToken shown fresh left (Err refusal) → LetsGo left old new → fault ≡ faults.Refused refusal
+      not_taken : (shown : List ℕ) → token ≡ Some shown → (fresh : L) → gives fresh → (left : Remote L)
+          → (refusal : Refusal) → ShowsToken shown fresh left (Err refusal) → LetsGo left old new → fault ≡ faults.Refused refusal
           → LeadsNowhere gives token old new fault

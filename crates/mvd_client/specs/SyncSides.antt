@@ -1,9 +1,8 @@
 -- The two sides of a session that a command holds: a stored site, and what is asked over a line.
 use Rattle.std.specs.Prelude.{◌≡◌, false, List, None, Some}
-use Rattle.mvd_dots.specs.declared.refusals.Refusal.{Refusal}
 use Rattle.mvd_peer.specs.Sides.{SideOf, Sides}
 use Rattle.mvd_wire.specs.declared.request.Request.{Request}
-use Rattle.mvd_remote.specs.Lines.{Far, IsTrueRemote, RemoteFollows, far_of, refused_of}
+use Rattle.mvd_remote.specs.Lines.{Far, IsTrueRemote, RemoteFollows, RemoteRefuses, far_of, refused_of}
 use Rattle.mvd_remote.specs.LiveRemotes.{IsLiveRemote}
 use Rattle.mvd_remote.specs.declared.line.Line.{Ghosts as LineGhosts}
 use Rattle.mvd_remote.specs.declared.remote.Remote.{Remote}
@@ -38,7 +37,7 @@ line_side line =
     record { is_true = line.is_true; far = line.far; is_live = line.is_live; awaits = line.awaits }
 
 -- what is asked over a line: it is faithful where the line is true, live where the line is live, and a link that
--- refuses stays as it is
+-- refuses stays as it is. It refuses as its link does, or as a question was told, or for want of memory
 abbrev pub far_side : {L : Type 0} → LineSide L → SideOf (Remote L)
 far_side line = record {
   states = λ remote. (far_of line.far remote).states;
@@ -46,7 +45,7 @@ far_side line = record {
   is_live = IsLiveRemote line.is_live line.awaits;
   can_give = λ _ _. Unit {0};
   follows = λ _. RemoteFollows line.far;
-  can_refuse = λ remote refusal. (own : Refusal) → refused_of remote ≡ Some own → refusal ≡ own;
+  can_refuse = RemoteRefuses;
   can_answer = λ remote. refused_of remote ≡ None;
   most_keys = λ remote. (far_of line.far remote).config.max_keys;
   number = λ _. None;

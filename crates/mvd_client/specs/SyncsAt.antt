@@ -1,5 +1,5 @@
 -- A session with what an address leads to.
-use Rattle.std.specs.Prelude.{◌≡◌, ℕ, List, [], None, Option, Result, Ok, Err, IfOk}
+use Rattle.std.specs.Prelude.{◌≡◌, false, ℕ, List, [], None, Option, Result, Ok, Err, IfOk}
 use Rattle.std.specs.declared.net.socket_addr.SocketAddr.{SocketAddr}
 use Rattle.mvd_dots.specs.declared.refusals.Refusal.{Refusal}
 use Rattle.mvd_client.specs.Gone.{LetsGo}
@@ -11,8 +11,10 @@ use Rattle.mvd_client.specs.declared.gone.Gone.{Gone}
 use Rattle.mvd_remote.specs.Remotes.{AsksOver, bye_query}
 use Rattle.mvd_hint.specs.declared.hint.Stop.{Stop}
 use Rattle.mvd_peer.specs.Sides.{two}
-use Rattle.mvd_remote.specs.Lines.{line_of, refused_of}
+use Rattle.mvd_remote.specs.Lines.{as_done, line_of, refused_of, told_of}
+use Rattle.mvd_remote.specs.LiveRemotes.{AsksLive}
 use Rattle.mvd_remote.specs.declared.line.Line.{Ghosts as LineGhosts}
+use Rattle.mvd_wire.specs.declared.request.Request.TheVariants.{Bye}
 use Rattle.mvd_remote.specs.declared.remote.Remote.{Remote}
 use Rattle.mvd_replica.specs.Replicas.{site_of}
 use Rattle.mvd_replica.specs.Sides.{IsTrueSite}
@@ -36,11 +38,12 @@ abbrev pub TellsRan : SiteValue → Option (List ℕ) → Option (List ℕ) → 
 TellsRan site out out' (Ok report) result = Reports report site out out' result
 TellsRan site out out' (Err stop) result = (result ≡ Err stop) × (out' ≡ out)
 
--- behind a session that ended well comes a Bye, and nothing else; behind another, nothing
+-- behind a session that ended well comes a Bye, and nothing else, over a live line, too; behind another, nothing
 abbrev pub EndsBy : {L : Type 0} → LineGhosts L → Result Report SyncFault → Remote L → Remote L
     → Result Report SyncFault → Type 0
 EndsBy line (Ok report) mid after told =
-    (bye : Result (Unit {0}) Refusal) × AsksOver line bye_query mid after bye × (told ≡ report_told report bye)
+    (bye : Result (Unit {0}) Refusal) × AsksOver line bye_query mid after bye × AsksLive line Bye as_done mid after bye
+    × (told ≡ report_told report bye)
 EndsBy line (Err fault) mid after told = (after ≡ mid) × (told ≡ Err fault)
 
 -- a site `S`, and a line `L` over which the far side is asked
@@ -56,14 +59,14 @@ module _ {S : Type 0} {g : Ghosts S} {L : Type 0} (line : LineGhosts L) where
     pub meets : IsTrueSite (site_of old) → line.is_true (line_of before) → (line.far (line_of before)).due ≡ []
         → refused_of before ≡ None → MeetsFar line.is_true line.far old new before after told
 
-  -- over this line, which nothing was asked before, and which is left so
-  pub record SyncsFrom (fresh left : L) (old new : Replica S g) (told : Result Report SyncFault) : Type 0 where
-    pub before : Remote L
-    pub after : Remote L
-    pub at_line : line_of before ≡ fresh
-    pub goes_on : refused_of before ≡ None
-    pub over_line : SyncsOver old new before after told
-    pub left_so : line_of after ≡ left
+  -- over this line, which nothing was asked before, and whose side is left so
+  pub record SyncsFrom (fresh : L) (after : Remote L) (old new : Replica S g) (told : Result Report SyncFault) : Type 0
+    where
+      pub before : Remote L
+      pub at_line : line_of before ≡ fresh
+      pub goes_on : refused_of before ≡ None
+      pub untold : told_of before ≡ []
+      pub over_line : SyncsOver old new before after told
 
   -- WHAT AN ADDRESS LEADS TO is one of these lines. It leads to none, and nothing changes; or there is one line, over
   -- which runs one session, what is told is what came of that, and the line is let go as the session left it
@@ -71,7 +74,7 @@ module _ {S : Type 0} {g : Ghosts S} {L : Type 0} (line : LineGhosts L) where
       (result : Result Report Stop) : Type 0 where
     nobody : new ≡ old → (stop : Stop) → result ≡ Err stop → IsUndialed address stop
         → SyncsAt gives address was now old new result
-    ran : (at left : L) → gives at → (told : Result Report SyncFault) → SyncsFrom at left old new told
+    ran : (at : L) (left : Remote L) → gives at → (told : Result Report SyncFault) → SyncsFrom at left old new told
         → LetsGo left was now → TellsAs address told result → SyncsAt gives address was now old new result
 
 -- the lines that an address may give are true, and no reply is due on them
@@ -94,7 +97,7 @@ module _ {S : Type 0} {g : Ghosts S} {L : Type 0} (line : LineGhosts L) (gives :
       (result : Result (Unit {0}) Stop) : Type 0 where
     pub ran : Result Report Stop
     pub syncs : SyncsAt line gives address was now old new ran
-    pub meets : AreTrue line gives → IsTrueSite (site_of old) → MeetsAt old new ran
+    pub meets : AreTrue line gives → (site_of old).broken ≡ false → MeetsAt old new ran
     pub takes : TakesPushes old new
     pub pushed : FollowsPushed old new
     pub told : TellsRan (site_of new) out out' ran result

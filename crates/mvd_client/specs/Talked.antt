@@ -61,5 +61,5 @@ pub data ShellsAt {L : Type 0} (line : Ghosts L) (gives : L → Type 0) (shown :
       → refused_of before.remote ≡ None → before.is_down ≡ false → before.lost ≡ 0 → before.ended ≡ None
       → before.shown ≡ shown
       → ShellsOver (RepliesNoted line) lost_of (SaysBye line) address (at before input out)
-      (at after input' out') result → LetsGo (line_of after.remote) was now
+      (at after input' out') result → LetsGo after.remote was now
       → ShellsAt line gives shown address was now input out input' out' result

@@ -59,20 +59,6 @@ impl<L: Line> AskedServer<L> {
         }
     }
 
-    /// The line.
-    pub fn into_line(self) -> L
-        ensures { result ≡ line_of self.remote }
-    {
-        let AskedServer {
-            remote,
-            is_down: _,
-            lost: _,
-            ended: _,
-            shown: _,
-        } = self;
-        remote.into_line()
-    }
-
     /// Why a request is not handed to the link: it has no frame, or memory is refused for that. A link that has broken
     /// is asked whatever it is, and says how it broke.
     fn framed(&self, request: &Request) -> Result<(), Refusal>

@@ -4,7 +4,6 @@ ghost use Rattle.mvd_client.specs.Between.{EndsSession, GivesRoot, GoesOn, Meets
 ghost use Rattle.mvd_client.specs.Between.{TellsThenParts};
 ghost use Rattle.mvd_client.specs.Gone.{LetsGo};
 ghost use Rattle.mvd_client.specs.declared.gone.Gone.{Gone};
-ghost use Rattle.mvd_remote.specs.Lines.{line_of};
 
 use crate::dial::{Dial, let_in, undialed};
 use crate::gone::Gone;
@@ -47,11 +46,11 @@ struct Met<L: Line> {
 impl<L: Line> Met<L> {
     /// Lets both lines go.
     fn lets_go(self, gone: &mut Gone<L>)
-        ensures { (mid : Gone L) × LetsGo (line_of self.near) gone.old mid × LetsGo (line_of self.far) mid gone.new }
+        ensures { (mid : Gone L) × LetsGo self.near gone.old mid × LetsGo self.far mid gone.new }
     {
         let Met { near, far, report } = self;
-        gone.lets_go(near.into_line());
-        gone.lets_go(far.into_line());
+        gone.lets_go(near);
+        gone.lets_go(far);
         drop(report);
     }
 }
@@ -136,15 +135,15 @@ fn session<'a, D: Dial, E: Write>(
             return Err(Failure { stop, goes_on });
         }
     };
+    let mut local = Remote::over(alloc, near_line);
     let far_line = match let_in(dial, alloc, far, terms.idle, terms.token, gone) {
         Ok(line) => line,
         Err(fault) => {
-            gone.lets_go(near_line);
+            gone.lets_go(local);
             let stop = undialed(far, fault);
             return Err(Failure { stop, goes_on });
         }
     };
-    let mut local = Remote::over(alloc, near_line);
     let mut peer = Watched {
         side: Remote::over(alloc, far_line),
         asked: Log::new(),
@@ -159,8 +158,8 @@ fn session<'a, D: Dial, E: Write>(
         }),
         Err(fault) => {
             let goes_on = is_spent(fault, peer.moved);
-            gone.lets_go(local.into_line());
-            gone.lets_go(peer.side.into_line());
+            gone.lets_go(local);
+            gone.lets_go(peer.side);
             let stop = failed(near, far, fault);
             Err(Failure { stop, goes_on })
         }

@@ -111,23 +111,23 @@ pub(crate) fn let_in<D: Dial>(
     let Some(token) = token else {
         return Ok(line);
     };
-    let (line, told) = shown(alloc, line, token);
+    let (remote, told) = shown(alloc, line, token);
     match told {
-        Ok(()) => Ok(line),
+        Ok(()) => Ok(remote.into_line()),
         Err(refusal) => {
-            gone.lets_go(line);
+            gone.lets_go(remote);
             Err(DialFault::Refused(refusal))
         }
     }
 }
 
-/// Shows a token over a line over which nothing went: a Hello, and nothing else. It gives the line, and what was told.
-fn shown<L: Line>(alloc: Global, line: L, token: &Token) -> (L, Result<(), Refusal>)
+/// Shows a token over a line over which nothing went: a Hello, and nothing else. It gives the side, and what was told.
+fn shown<L: Line>(alloc: Global, line: L, token: &Token) -> (Remote<L>, Result<(), Refusal>)
     ensures { ShowsToken L.Line token.now line result.0 result.1 }
 {
     let mut remote = Remote::over(alloc, line);
     let told = remote.hello(token);
-    (remote.into_line(), told)
+    (remote, told)
 }
 
 /// What a command is stopped with where an address leads to no line.

@@ -1,5 +1,5 @@
 //! The commands that meet a server: sessions of a stored site, and shells.
-ghost use Rattle.std.specs.Prelude.{◌≡◌, ◌≢◌, ◌≤◌, ◌+◌, ◌++◌, [], IfErr, IfOk, IsErr, OnOk, is_some, option_copied, string_bytes};
+ghost use Rattle.std.specs.Prelude.{◌≡◌, ◌≢◌, ◌≤◌, ◌+◌, ◌++◌, [], IfErr, IfOk, IsErr, OnOk, false, is_some, option_copied, string_bytes};
 ghost use Rattle.std.specs.Io.KnownBytes.{Appends};
 ghost use Rattle.mvd_client.specs.AskedServer.{RepliesNoted, lost_of};
 ghost use Rattle.mvd_client.specs.Gone.{LetsGo};
@@ -18,6 +18,7 @@ ghost use Rattle.mvd_replica.specs.Replicas.{site_of};
 ghost use Rattle.mvd_replica.specs.Sides.{IsTrueSite};
 ghost use Rattle.mvd_shell.specs.Shell.{at};
 ghost use Rattle.mvd_remote.specs.Lines.{IsTrueRemote, far_of};
+ghost use Rattle.mvd_remote.specs.declared.remote.Remote.{Remote};
 ghost use Rattle.mvd_sync.specs.Ran.{IsRun};
 ghost use Rattle.mvd_sync.specs.Session.{Session};
 
@@ -62,8 +63,8 @@ pub fn sync_run<'a, D: Dial, S: Alter + Drop, E: Write>(
     ensures syncs { SyncsAt D.Dialed.Line
         (GivesIn D.Dialed.Line (D.gives dial.now address) (option_copied token.entry)) address
         gone.old gone.new replica.old replica.new result }
-    // Where what the address leads to is true, and so is the site, the two meet.
-    ensures meets { AreTrue D.Dialed.Line (D.gives dial.now address) → IsTrueSite (site_of replica.old) →
+    // Where what the address leads to is true, and the site is not broken, the two meet.
+    ensures meets { AreTrue D.Dialed.Line (D.gives dial.now address) → (site_of replica.old).broken ≡ false →
         MeetsAt D.Dialed.Line (GivesIn D.Dialed.Line (D.gives dial.now address) (option_copied token.entry)) address
         replica.old replica.new result }
     // However it ends, all that was done to the site is turns, each of which pushed a state.
@@ -71,6 +72,7 @@ pub fn sync_run<'a, D: Dial, S: Alter + Drop, E: Write>(
     // It changed by these pushes alone, and its records follow.
     ensures pushed { FollowsPushed replica.old replica.new }
 {
+    replica.stands();
     let line = match let_in(dial, alloc, address, idle, token, gone) {
         Ok(line) => line,
         Err(fault) => return Err(undialed(address, fault)),
@@ -109,6 +111,7 @@ pub fn sync_told<'a, D: Dial, S: Alter + Drop, W: Write, E: Write>(
         (GivesIn D.Dialed.Line (D.gives dial.now address) (option_copied token.entry)) address
         gone.old gone.new replica.old replica.new (W.contents writer.old) (W.contents writer.new) result }
 {
+    replica.stands();
     let told = if verbose { Some(&mut *errors) } else { None };
     match sync_run(dial, alloc, replica, address, idle, token, gone, told) {
         Ok(report) => tell_report(alloc, replica, &report, writer, errors),
@@ -124,7 +127,7 @@ fn sync_line<L: Line, S: Alter + Drop, E: Write>(
     gone: &mut Gone<L>,
     told: Option<&mut E>,
 ) -> Result<Report, SyncFault>
-    ensures syncs { (left : L) × SyncsFrom L.Line line left replica.old replica.new result
+    ensures syncs { (left : Remote L) × SyncsFrom L.Line line left replica.old replica.new result
         × LetsGo left gone.old gone.new }
     ensures takes { TakesPushes replica.old replica.new }
     ensures pushed { FollowsPushed replica.old replica.new }
@@ -136,7 +139,7 @@ fn sync_line<L: Line, S: Alter + Drop, E: Write>(
         told,
     };
     let ran = sync_over(alloc, replica, &mut watched);
-    gone.lets_go(watched.side.into_line());
+    gone.lets_go(watched.side);
     ran
 }
 
@@ -343,7 +346,7 @@ pub fn remote_shell_run<'a, D: Dial, R: BufRead, W: Write>(
     };
     let mut server = AskedServer::over(alloc, line, token.is_some());
     let ended = shell_over(alloc, &mut server, address, reader, writer);
-    gone.lets_go(server.into_line());
+    gone.lets_go(server.remote);
     ended
 }
 

@@ -1,5 +1,6 @@
 pub mod Turns
 pub mod Holding
+pub mod Noted
 pub mod RemoteSides
 pub mod Lined
 pub mod FarSides

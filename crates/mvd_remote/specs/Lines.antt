@@ -2,7 +2,7 @@
 -- is that hands on what is written and what is read, where the far side is faithful.
 use Rattle.std.proofs.Common.{refl, sym, ◌∙◌}
 use Rattle.std.specs.Prelude.{◌≡◌, ◌≢◌, ◌≤◌, ◌⊎◌, ℕ, Bool, true, false, List, [], ◌∷◌, ◌++◌, take, Option, Some, None}
-use Rattle.std.specs.Prelude.{IfSome, Result, Ok, Err, IfOk, IfErr}
+use Rattle.std.specs.Prelude.{Contains, IfSome, Result, Ok, Err, IfOk, IfErr, map}
 use Rattle.std.specs.FinMap.{empty}
 use Rattle.mvd_dots.specs.Refusal.{number_of}
 use Rattle.mvd_dots.specs.declared.refusals.Refusal.{Refusal}
@@ -138,6 +138,30 @@ line_of remote = remote.line
 abbrev pub refused_of : {L : Type 0} → Remote L → Option Refusal
 refused_of remote = remote.refused
 
+-- what its questions were told, one after the other: a reply, or why there was none
+abbrev pub told_of : {L : Type 0} → Remote L → List (Result Reply Refusal × Unit {0})
+told_of remote = remote.told.items
+
+-- as it is noted
+abbrev pub noted : List (Result Reply Refusal) → List (Result Reply Refusal × Unit {0})
+noted replies = map (λ told. (told, tt)) replies
+
+-- what was told stays
+abbrev pub ToldMore : {L : Type 0} → Remote L → Remote L → Type 0
+ToldMore old new = (told : Result Reply Refusal × Unit {0}) → Contains (told_of old) told → Contains (told_of new) told
+
+-- a question was told this refusal: by a reply, or since there was none
+abbrev pub WasTold : {L : Type 0} → Remote L → Refusal → Type 0
+WasTold remote refusal =
+    Contains (told_of remote) (Ok (Refused refusal), tt) ⊎ Contains (told_of remote) (Err refusal, tt)
+
+-- WHAT A REMOTE SIDE MAY REFUSE WITH, as it is after that: its link refuses so; or the link goes on, and a question was
+-- told so, or memory was refused
+abbrev pub RemoteRefuses : {L : Type 0} → Remote L → Refusal → Type 0
+RemoteRefuses remote refusal =
+    (remote.refused ≡ Some refusal)
+    ⊎ ((remote.refused ≡ None) × (WasTold remote refusal ⊎ (refusal ≡ Memory)))
+
 -- what is at the other end of its line
 abbrev pub far_of : {L : Type 0} → (L → Far) → Remote L → Far
 far_of far remote = far remote.line
@@ -152,20 +176,21 @@ pub record IsTrueRemote {L : Type 0} (is_true : L → Type 0) (far : L → Far) 
   pub step : remote.refused ≡ None → (far remote.line).due ≡ []
   pub own : (refusal : Refusal) → remote.refused ≡ Some refusal → leaves_open refusal ≡ true
 
--- a link that refuses stays as it is, and so does what the far side was set up with
+-- a link that refuses stays as it is; so do what the far side was set up with, and what was told
 abbrev pub RemoteFollows : {L : Type 0} → (L → Far) → Remote L → Remote L → Type 0
 RemoteFollows {L} far old new =
     Stays (λ (remote : Remote L). (refusal : Refusal) × (remote.refused ≡ Some refusal)) old new
-    × ((far new.line).config ≡ (far old.line).config)
+    × ((far new.line).config ≡ (far old.line).config) × ToldMore old new
 
 pub remote_follows_self : {L : Type 0} (far : L → Far) (remote : Remote L) → RemoteFollows far remote remote
-remote_follows_self far remote = (λ _. refl, refl)
+remote_follows_self far remote = (λ _. refl, refl, λ _ told. told)
 
 pub remote_follows_on : {L : Type 0} (far : L → Far) (old mid new : Remote L) → RemoteFollows far old mid
     → RemoteFollows far mid new → RemoteFollows far old new
 remote_follows_on {L} far old mid new p q = (
   stays_on (λ (remote : Remote L). (refusal : Refusal) × (remote.refused ≡ Some refusal)) old mid new p.0 q.0,
   q.1 ∙ p.1,
+  λ told was. q.2 told (p.2 told was),
 )
 
 -- where the link does not refuse, it refuses with none of its own

@@ -1,5 +1,5 @@
 -- What a remote side asks over its line, and what it is answered.
-use Rattle.std.specs.Prelude.{◌≡◌, ℕ, List, map, Option, Result, MatchResult}
+use Rattle.std.specs.Prelude.{◌≡◌, ◌⊎◌, ◌++◌, ◌∷◌, ℕ, List, [], map, Option, Some, Result, Err, MatchResult}
 use Rattle.std.specs.declared.alloc.Global.{Global}
 use Rattle.std.specs.declared.vec.Vec.{Vec}
 use Rattle.mvd_dots.specs.declared.refusals.Refusal.{Refusal}
@@ -11,11 +11,11 @@ use Rattle.mvd_wire.specs.declared.reply.Digests.{Digests}
 use Rattle.mvd_wire.specs.declared.reply.Reply.{Reply}
 use Rattle.mvd_site.specs.Config.{ConfigValue}
 use Rattle.mvd_site.specs.Held.{States}
-use Rattle.mvd_remote.specs.LinkWindows.{AsksForAll}
-use Rattle.mvd_remote.specs.Lines.{AnswersTruly, EndsOpen, IsTrueRemote, SettleTruly, Took}
-use Rattle.mvd_remote.specs.Lines.{as_digests, as_done, as_page, as_state, far_of, shown_reply}
+use Rattle.mvd_remote.specs.LinkWindows.{AsksForAll, IsToldBy}
+use Rattle.mvd_remote.specs.Lines.{AnswersTruly, EndsOpen, IsTrueRemote, RemoteRefuses, SettleTruly, ToldMore, Took}
+use Rattle.mvd_remote.specs.Lines.{as_digests, as_done, as_page, as_state, far_of, noted, shown_reply, told_of}
 use Rattle.mvd_remote.specs.Links.{Asks, AsksLinkFor, Link, link}
-use Rattle.mvd_peer.specs.Windows.{PageValue}
+use Rattle.mvd_peer.specs.Windows.{ForEach, PageValue}
 use Rattle.mvd_remote.specs.declared.line.Line.{Ghosts}
 use Rattle.mvd_remote.specs.declared.remote.Remote.{Remote}
 
@@ -86,6 +86,22 @@ abbrev pub AsksAllOver : {L A : Type 0} → Ghosts L → Queries A → (old new 
     → Result (Vec (Result A Refusal) Global) Refusal → Type 0
 AsksAllOver line queries old new =
     AsksForAll queries.as_reply queries.kind queries.requests (link_of line old) (link_of line new)
+
+-- ---- what is noted
+
+-- a question is answered as it was told, and that is noted; or its link refuses, and it was told nothing
+abbrev pub NotesOne : {L A : Type 0} → (A → Reply) → (old new : Remote L) → Result A Refusal → Type 0
+NotesOne as_reply old new result =
+    ((refusal : Refusal) × (result ≡ Err refusal) × (new.refused ≡ Some refusal) × (told_of new ≡ told_of old))
+    ⊎ ((told : Result Reply Refusal) × IsToldBy as_reply told result × (told_of new ≡ told_of old ++ (told, tt) ∷ []))
+
+-- so are the questions of a window; and one that is refused is so as the side then may
+abbrev pub NotesAll : {L A : Type 0} → (A → Reply) → (old new : Remote L)
+    → Result (Vec (Result A Refusal) Global) Refusal → Type 0
+NotesAll as_reply old new result = MatchResult result
+    (λ answers. (replies : List (Result Reply Refusal)) × ForEach (IsToldBy as_reply) replies answers.items
+    × (told_of new ≡ told_of old ++ noted replies))
+    (λ refusal. RemoteRefuses new refusal × ToldMore old new)
 
 -- ---- over a true line
 

@@ -7,19 +7,20 @@ mod window;
 ghost use Rattle.std.specs.Prelude.{◌≡◌, ◌⊎◌, [], IfOk, None, Some, Ok};
 ghost use Rattle.mvd_dots.specs.declared.refusals.Refusal.{Refusal};
 ghost use Rattle.mvd_wire.specs.declared.request.Request.{Request};
-ghost use Rattle.mvd_wire.specs.declared.request.Request.TheVariants.{Hello};
+ghost use Rattle.mvd_wire.specs.declared.request.Request.TheVariants.{Bye, Hello};
 ghost use Rattle.mvd_wire.specs.declared.reply.Reply.TheVariants.{Refused};
-ghost use Rattle.mvd_remote.specs.Lines.{IsTrueRemote, KeepsConfig, as_done, line_of, refused_of};
+ghost use Rattle.mvd_remote.specs.Lines.{IsTrueRemote, KeepsConfig, as_done, line_of, refused_of, told_of};
 ghost use Rattle.mvd_remote.specs.LiveRemotes.{AsksLive, IsLiveRemote, TakesLive};
 ghost use Rattle.mvd_remote.specs.Links.{Asks, ReadsReply, SendsAsked, StaysRefused, answered_by};
-ghost use Rattle.mvd_remote.specs.Remotes.{AsksOver, AsksTruly, TakesReply, any_query, bye_query, hello_query, link_of};
-ghost use Rattle.mvd_remote.specs.Remotes.{query};
+ghost use Rattle.mvd_remote.specs.Remotes.{AsksOver, AsksTruly, NotesOne, TakesReply, any_query, bye_query};
+ghost use Rattle.mvd_remote.specs.Remotes.{hello_query, link_of, query};
 ghost use Rattle.mvd_wire.specs.Codec.{Gives};
 ghost use Rattle.mvd_wire.specs.Replies.{reply_kind};
 ghost use Rattle.mvd_wire.specs.Requests.{IsRequest, request_frame};
 
 use crate::line::Line;
 pub use answer::{Answer, collect};
+use http_server::Log;
 use mvd_dots::Refusal;
 use mvd_frames::{decode_reply, encode_bye, encode_hello, encode_request};
 use mvd_wire::{Reply, Request, Token};
@@ -27,12 +28,13 @@ use std::alloc::Global;
 pub use window::{Window, kept};
 
 /// A site that is asked over a line. What it holds is known as far as the line is true; of a reader
-/// and a writer alone nothing is.
+/// and a writer alone nothing is. For proofs alone it notes what its questions were told; that takes no memory.
 #[derive(Drop)]
 pub struct Remote<L: Line> {
     alloc: Global,
     pub(crate) line: L,
     refused: Option<Refusal>,
+    told: Log<Result<Reply, Refusal>, ()>,
 }
 
 /// The kind byte of the replies that accept a request.
@@ -67,6 +69,7 @@ impl<L: Line> Remote<L> {
     pub fn over(alloc: Global, line: L) -> Self
         ensures line { line_of result ≡ line }
         ensures goes_on { refused_of result ≡ None }
+        ensures untold { told_of result ≡ [] }
         ensures truth { L.is_true line → (L.far line).due ≡ [] → IsTrueRemote L.is_true L.far result }
         ensures live { L.is_live line → L.awaits line ≡ [] → IsLiveRemote L.is_live L.awaits result }
     {
@@ -74,6 +77,7 @@ impl<L: Line> Remote<L> {
             alloc,
             line,
             refused: None,
+            told: Log::new(),
         }
     }
 
@@ -85,6 +89,7 @@ impl<L: Line> Remote<L> {
             alloc: _,
             line,
             refused: _,
+            told: _,
         } = self;
         line
     }
@@ -93,6 +98,7 @@ impl<L: Line> Remote<L> {
     fn breaks(&mut self, refusal: Refusal) -> Refusal
         ensures refused { (refused_of self.new ≡ Some refusal) × (result ≡ refusal) }
         ensures kept { line_of self.new ≡ line_of self.old }
+        ensures untold { told_of self.new ≡ told_of self.old }
     {
         self.refused = Some(refusal);
         refusal
@@ -105,6 +111,7 @@ impl<L: Line> Remote<L> {
             kind (refused_of self.new) result }
         ensures of_kind { IfOk result (λ reply. (reply_kind reply ≡ kind) ⊎ (reply_kind reply ≡ 0xEE)) }
         ensures unsent { L.contents (line_of self.new) ≡ L.contents (line_of self.old) }
+        ensures untold { told_of self.new ≡ told_of self.old }
         ensures config { KeepsConfig L.far self.old self.new }
         ensures truth { TakesReply L.Line self.old self.new result }
         ensures live { TakesLive L.Line self.old self.new result }
@@ -133,6 +140,7 @@ impl<L: Line> Remote<L> {
         requires { refused_of self.old ≡ None }
         ensures sends { SendsAsked (link_of L.Line self.old) (link_of L.Line self.new) frame.now kind result }
         ensures of_kind { IfOk result (λ reply. (reply_kind reply ≡ kind) ⊎ (reply_kind reply ≡ 0xEE)) }
+        ensures notes { NotesOne (λ reply. reply) self.old self.new result }
         ensures config { KeepsConfig L.far self.old self.new }
         ensures truth { (request : Request) → IsRequest request → request_frame request ≡ Ok frame.now →
             AsksTruly L.Line (any_query request) self.old self.new result }
@@ -140,7 +148,11 @@ impl<L: Line> Remote<L> {
             AsksLive L.Line request (λ reply. reply) self.old self.new result }
     {
         match self.line.send(frame) {
-            Ok(()) => self.read(kind),
+            Ok(()) => {
+                let told = self.read(kind);
+                self.told = self.told.and(&told, &());
+                told
+            }
             Err(refusal) => Err(self.breaks(refusal)),
         }
     }
@@ -151,6 +163,7 @@ impl<L: Line> Remote<L> {
     pub fn ask(&mut self, request: &Request) -> Result<Reply, Refusal>
         ensures asked { Asks (link_of L.Line self.old) (link_of L.Line self.new) request.now result }
         ensures stays { StaysRefused self.old self.new result }
+        ensures notes { NotesOne (λ reply. reply) self.old self.new result }
         ensures config { KeepsConfig L.far self.old self.new }
         ensures truth { AsksTruly L.Line (any_query request.now) self.old self.new result }
     {
@@ -159,7 +172,10 @@ impl<L: Line> Remote<L> {
         }
         match encode_request(self.alloc, request) {
             Ok(frame) => self.send(&frame, answered_by(request)),
-            Err(refusal) => Err(refusal),
+            Err(refusal) => {
+                self.told = self.told.and(&Err(refusal), &());
+                Err(refusal)
+            }
         }
     }
 
@@ -169,6 +185,7 @@ impl<L: Line> Remote<L> {
             Gives (λ v. v.items) frame (request_frame request) →
             AsksOver L.Line (query request A.as_reply) self.old self.new result }
         ensures stays { StaysRefused self.old self.new result }
+        ensures notes { NotesOne A.as_reply self.old self.new result }
         ensures config { KeepsConfig L.far self.old self.new }
         ensures truth { (request : Request) → IfOk frame (λ _. IsRequest request) →
             Gives (λ v. v.items) frame (request_frame request) →
@@ -182,7 +199,10 @@ impl<L: Line> Remote<L> {
         }
         let frame = match frame {
             Ok(frame) => frame,
-            Err(refusal) => return Err(refusal),
+            Err(refusal) => {
+                self.told = self.told.and(&Err(refusal), &());
+                return Err(refusal);
+            }
         };
         match self.send(&frame, A::kind()) {
             Ok(reply) => A::of(reply),
@@ -195,6 +215,7 @@ impl<L: Line> Remote<L> {
     pub fn hello(&mut self, token: &Token) -> Result<(), Refusal>
         ensures asked { AsksOver L.Line (hello_query token.now) self.old self.new result }
         ensures stays { StaysRefused self.old self.new result }
+        ensures notes { NotesOne as_done self.old self.new result }
         ensures config { KeepsConfig L.far self.old self.new }
         ensures truth { AsksTruly L.Line (hello_query token.now) self.old self.new result }
         ensures live { AsksLive L.Line (Hello token.now) as_done self.old self.new result }
@@ -206,8 +227,10 @@ impl<L: Line> Remote<L> {
     pub fn bye(&mut self) -> Result<(), Refusal>
         ensures asked { AsksOver L.Line bye_query self.old self.new result }
         ensures stays { StaysRefused self.old self.new result }
+        ensures notes { NotesOne as_done self.old self.new result }
         ensures config { KeepsConfig L.far self.old self.new }
         ensures truth { AsksTruly L.Line bye_query self.old self.new result }
+        ensures live { AsksLive L.Line Bye as_done self.old self.new result }
     {
         self.ask_for(encode_bye(self.alloc))
     }

@@ -1,6 +1,6 @@
 //! A site at the other end of a connection, as a side of a session.
 ghost use Rattle.std.specs.Prelude.{◌≡◌, IfOk, None, Some, map};
-ghost use Rattle.std.proofs.Common.{ap};
+ghost use Rattle.std.proofs.Common.{ap, inr, refl};
 ghost use Rattle.std.specs.Option.{option_copied};
 ghost use Rattle.mvd_dots.specs.declared.refusals.Refusal.{Refusal};
 ghost use Rattle.mvd_keys.specs.State.{IsValid};
@@ -9,12 +9,13 @@ ghost use Rattle.mvd_peer.specs.PushedStates.{Each};
 ghost use Rattle.mvd_peer.specs.Windows.{AreWithin};
 ghost use Rattle.mvd_wire.specs.Codec.{Gives};
 ghost use Rattle.mvd_wire.specs.Requests.{IsRequest, request_frame};
-ghost use Rattle.mvd_remote.specs.Lines.{IsTrueRemote, KeepsConfig, RemoteFollows, refuses_none};
+ghost use Rattle.mvd_remote.specs.Lines.{IsTrueRemote, KeepsConfig, RemoteFollows, RemoteRefuses};
 ghost use Rattle.mvd_remote.specs.Lines.{as_digests, as_done, as_page, as_state};
 ghost use Rattle.mvd_remote.specs.Lines.{far_of, line_of, refused_of, remote_follows_on, remote_follows_self};
 ghost use Rattle.mvd_remote.specs.LiveRemotes.{AsksLive, EndsLive, IsLiveRemote, SettlesLive};
 ghost use Rattle.mvd_remote.specs.Links.{StaysRefused};
 ghost use Rattle.mvd_remote.specs.Remotes.{AsksAllOver, AsksAllTruly, AsksOver, AsksTruly};
+ghost use Rattle.mvd_remote.specs.Remotes.{NotesAll, NotesOne};
 ghost use Rattle.mvd_remote.specs.Remotes.{node_queries, node_query, page_queries, page_query, push_queries, push_query};
 ghost use Rattle.mvd_remote.specs.Remotes.{state_queries, state_query};
 
@@ -56,8 +57,8 @@ impl<L: Line> Peer for Remote<L> {
     // A link that refuses stays as it is.
     ghost follows = { λ _. RemoteFollows L.far };
 
-    // Where the link itself refuses, it refuses so.
-    ghost can_refuse = { λ remote refusal. (own : Refusal) → refused_of remote ≡ Some own → refusal ≡ own };
+    // Its link refuses so; or a question was told so, or memory was refused.
+    ghost can_refuse = { RemoteRefuses };
 
     ghost can_answer = { λ remote. refused_of remote ≡ None };
 
@@ -73,8 +74,7 @@ impl<L: Line> Peer for Remote<L> {
 
     ghost follows_on = { λ _ _. remote_follows_on L.far };
 
-    // Where the link itself does not refuse, no other refusal is its own.
-    ghost lacks = { λ remote none own is. refuses_none (refused_of remote) own none is };
+    ghost lacks = { λ remote none. inr (none, inr refl) };
 
     ghost most_stays = { λ _ _ _ follows. ap (λ c. c.max_keys) follows.1 };
 
@@ -89,6 +89,7 @@ impl<L: Line> Peer for Remote<L> {
     fn node(&mut self, path: &Path) -> Result<Digests, Refusal>
         ensures asked { AsksOver L.Line (node_query path.now) self.old self.new result }
         ensures stays { StaysRefused self.old self.new result }
+        ensures notes { NotesOne as_digests self.old self.new result }
         ensures config { KeepsConfig L.far self.old self.new }
         ensures truth { AsksTruly L.Line (node_query path.now) self.old self.new result }
         ensures moment { AsksLive L.Line (Node path.now) as_digests self.old self.new result }
@@ -99,6 +100,7 @@ impl<L: Line> Peer for Remote<L> {
     fn bucket(&mut self, path: &Path, after: Option<&Key>) -> Result<Page, Refusal>
         ensures asked { AsksOver L.Line (page_query path.now (option_copied after.entry)) self.old self.new result }
         ensures stays { StaysRefused self.old self.new result }
+        ensures notes { NotesOne as_page self.old self.new result }
         ensures config { KeepsConfig L.far self.old self.new }
         ensures truth { AsksTruly L.Line (page_query path.now (option_copied after.entry)) self.old self.new result }
         ensures moment { AsksLive L.Line (Bucket path.now (option_copied after.entry)) as_page
@@ -110,6 +112,7 @@ impl<L: Line> Peer for Remote<L> {
     fn get(&mut self, key: &Key) -> Result<KeyState, Refusal>
         ensures asked { AsksOver L.Line (state_query key.now) self.old self.new result }
         ensures stays { StaysRefused self.old self.new result }
+        ensures notes { NotesOne as_state self.old self.new result }
         ensures config { KeepsConfig L.far self.old self.new }
         ensures truth { AsksTruly L.Line (state_query key.now) self.old self.new result }
         ensures moment { AsksLive L.Line (Get key.now) as_state self.old self.new result }
@@ -120,6 +123,7 @@ impl<L: Line> Peer for Remote<L> {
     fn push(&mut self, key: &Key, state: &KeyState) -> Result<(), Refusal>
         ensures asked { AsksOver L.Line (push_query key.now state.now) self.old self.new result }
         ensures stays { StaysRefused self.old self.new result }
+        ensures notes { NotesOne as_done self.old self.new result }
         ensures config { KeepsConfig L.far self.old self.new }
         ensures truth { AsksTruly L.Line (push_query key.now state.now) self.old self.new result }
         ensures moment { AsksLive L.Line (Push key.now state.now) as_done self.old self.new result }
@@ -133,6 +137,7 @@ impl<L: Line> Peer for Remote<L> {
     fn nodes(&mut self, paths: &[Path]) -> Result<Vec<Result<Digests, Refusal>>, Refusal>
         ensures asked { AsksAllOver L.Line (node_queries paths.now) self.old self.new result }
         ensures stays { StaysRefused self.old self.new result }
+        ensures notes { NotesAll as_digests self.old self.new result }
         ensures config { KeepsConfig L.far self.old self.new }
         ensures truth { AsksAllTruly L.Line (node_queries paths.now) self.old self.new result }
         ensures moments { EndsLive L.Line (SettlesLive as_digests) (λ told. told.items)
@@ -151,6 +156,7 @@ impl<L: Line> Peer for Remote<L> {
     ) -> Result<Vec<Result<Page, Refusal>>, Refusal>
         ensures asked { AsksAllOver L.Line (page_queries asked.now) self.old self.new result }
         ensures stays { StaysRefused self.old self.new result }
+        ensures notes { NotesAll as_page self.old self.new result }
         ensures config { KeepsConfig L.far self.old self.new }
         ensures truth { AsksAllTruly L.Line (page_queries asked.now) self.old self.new result }
         ensures moments { EndsLive L.Line (SettlesLive as_page) (λ told. told.items)
@@ -166,6 +172,7 @@ impl<L: Line> Peer for Remote<L> {
     fn get_all(&mut self, keys: &[Key]) -> Result<Vec<Result<KeyState, Refusal>>, Refusal>
         ensures asked { AsksAllOver L.Line (state_queries keys.now) self.old self.new result }
         ensures stays { StaysRefused self.old self.new result }
+        ensures notes { NotesAll as_state self.old self.new result }
         ensures config { KeepsConfig L.far self.old self.new }
         ensures truth { AsksAllTruly L.Line (state_queries keys.now) self.old self.new result }
         ensures moments { EndsLive L.Line (SettlesLive as_state) (λ told. told.items)
@@ -182,6 +189,7 @@ impl<L: Line> Peer for Remote<L> {
     fn push_all(&mut self, pairs: &[(Key, KeyState)]) -> Result<Vec<Result<(), Refusal>>, Refusal>
         ensures asked { AsksAllOver L.Line (push_queries pairs.now) self.old self.new result }
         ensures stays { StaysRefused self.old self.new result }
+        ensures notes { NotesAll as_done self.old self.new result }
         ensures config { KeepsConfig L.far self.old self.new }
         ensures truth { AsksAllTruly L.Line (push_queries pairs.now) self.old self.new result }
         ensures moments { EndsLive L.Line (SettlesLive as_done) (λ told. told.items)

@@ -1,5 +1,5 @@
 //! Many questions over a link: all frames out, then all replies in.
-ghost use Rattle.std.specs.Prelude.{◌≡◌, ◌≢◌, Err, List, ℕ, Result as Spelled, [], None, Some, OnOk, IfOk};
+ghost use Rattle.std.specs.Prelude.{◌≡◌, ◌≢◌, ◌++◌, Err, List, ℕ, Result as Spelled, [], None, Some, OnOk, IfOk};
 ghost use Rattle.std.specs.Prelude.{IfErr, MatchResult, All, true};
 ghost use Rattle.mvd_dots.specs.declared.refusals.Refusal.TheVariants.{Memory};
 ghost use Rattle.mvd_wire.specs.Codec.{Gives};
@@ -9,10 +9,11 @@ ghost use Rattle.mvd_remote.specs.LinkWindows.{IsKeptOf, IsToldBy, and_frame, fr
 ghost use Rattle.mvd_peer.specs.Windows.{AreWithin, ForEach, GivesWithin};
 ghost use Rattle.mvd_wire.specs.declared.reply.Reply.{Reply as Told};
 ghost use Rattle.mvd_remote.specs.Lines.{AreGets, HaveFrames, DueTurn, DueTurns, KeepsConfig};
-ghost use Rattle.mvd_remote.specs.Lines.{TellsAllTruly, TookTurns, line_of, refused_of};
+ghost use Rattle.mvd_remote.specs.Lines.{RemoteRefuses, TellsAllTruly, ToldMore, TookTurns, line_of, noted};
+ghost use Rattle.mvd_remote.specs.Lines.{refused_of, told_of};
 ghost use Rattle.mvd_remote.specs.LiveRemotes.{EndsLive, SettlesLive, ToldLive, TookLiveTurns, TookTurn};
 ghost use Rattle.mvd_remote.specs.Links.{ReadCause};
-ghost use Rattle.mvd_remote.specs.Remotes.{AsksAllTruly, EndsTruly, link_of, queries};
+ghost use Rattle.mvd_remote.specs.Remotes.{AsksAllTruly, EndsTruly, NotesAll, link_of, queries};
 ghost use Rattle.mvd_wire.specs.declared.request.Request.{Request};
 ghost use Rattle.mvd_dots.specs.declared.refusals.Refusal.{Refusal as Cause};
 
@@ -113,6 +114,7 @@ impl<L: Line> Remote<L> {
             (L.remaining (line_of self.old)) (L.remaining (line_of self.new))
             kind refusal × (refused_of self.new ≡ Some refusal)) }
         ensures unsent { L.contents (line_of self.new) ≡ L.contents (line_of self.old) }
+        ensures untold { told_of self.new ≡ told_of self.old }
         ensures config { KeepsConfig L.far self.old self.new }
         ensures truth { L.is_true (line_of self.old) →
             TookTurns L.is_true L.far (DueTurn none) self.old self.new result }
@@ -149,6 +151,8 @@ impl<L: Line> Remote<L> {
             (L.remaining (line_of self.old)) (L.remaining (line_of self.new)) refusal
             × (refused_of self.new ≡ Some refusal)) }
         ensures unsent { L.contents (line_of self.new) ≡ L.contents (line_of self.old) }
+        ensures notes { OnOk result (told_of self.new ≡ told_of self.old ++ noted replies.new.items) }
+        ensures more { ToldMore self.old self.new }
         ensures config { KeepsConfig L.far self.old self.new }
         ensures truth { L.is_true (line_of self.old) → TookTurns L.is_true L.far
             (λ due left _. DueTurns nones.now replies.new.items due left) self.old self.new result }
@@ -158,7 +162,9 @@ impl<L: Line> Remote<L> {
         let mut bytes = 0;
         for none in nones {
             let reply = self.turn(*none, kind)?;
-            if replies.push(kept(&mut bytes, reply)).is_err() {
+            let told = kept(&mut bytes, reply);
+            self.told = self.told.and(&told, &());
+            if replies.push(told).is_err() {
                 return Err(self.breaks(Refusal::Memory));
             }
         }
@@ -177,6 +183,9 @@ impl<L: Line> Remote<L> {
             (RefusesAll kind window.now (link_of L.Line self.old) (link_of L.Line self.new)) }
         ensures of_kind { IfOk result (λ replies. All (IsOfKind kind) replies.items) }
         ensures within { IfOk result (λ replies. AreWithin 0 (states_in replies.items)) }
+        ensures notes { MatchResult result
+            (λ replies. told_of self.new ≡ told_of self.old ++ noted replies.items)
+            (λ refusal. RemoteRefuses self.new refusal × ToldMore self.old self.new) }
         ensures config { KeepsConfig L.far self.old self.new }
         ensures truth { (requests : List Request) → window.now ≡ frames_of requests → HaveFrames requests →
             EndsTruly L.Line (λ config before told. TellsAllTruly config before requests told.items)
@@ -204,6 +213,7 @@ impl<L: Line> Remote<L> {
             (λ told. AsksAll A.as_reply A.of_kind window.now told.items
             (link_of L.Line self.old) (link_of L.Line self.new))
             (RefusesAll A.of_kind window.now (link_of L.Line self.old) (link_of L.Line self.new)) }
+        ensures notes { NotesAll A.as_reply self.old self.new result }
         ensures config { KeepsConfig L.far self.old self.new }
         ensures within { IfOk result (λ told. (replies : List (Spelled Told Cause)) × AreWithin 0 (states_in replies)
             × ForEach (IsToldBy A.as_reply) replies told.items) }

@@ -2,7 +2,6 @@ use Rattle.std.proofs.Common.{◌∙◌, option_copied, subst, sym}
 use Rattle.mvd_client.specs.Between.FailsBetween.{faulted, no_far, no_near}
 use Rattle.mvd_client.specs.Gone.{LetsGo}
 use Rattle.mvd_client.specs.LetIn.{GivesIn, LeadsNowhere}
-use Rattle.mvd_remote.specs.Lines.{line_of}
 use Rattle.mvd_client.proofs.between.session.Goals as goal
 
 pub returns-in-Err : goal.returns-in-Err
@@ -10,7 +9,7 @@ returns-in-Err g c = no_near c.in-Err.fault c.in-Err.ensures.nowhere c.undialed-
 
 pub returns-in-Err-let_in : goal.returns-in-Err-let_in
 returns-in-Err-let_in g c =
-    no_far c.in-Ok.line c.in-Ok.ensures.line c.in-Err-let_in.fault c.let_in-2.new.gone
+    no_far c.over-local.result (subst (GivesIn g.D.Dialed.Line (g.D.Dial.gives c.args.dial.now c.args.near) (option_copied c.args.terms.token)) (sym c.over-local.ensures.line) c.in-Ok.ensures.line) c.in-Err-let_in.fault c.let_in-2.new.gone
     (subst (λ was. LeadsNowhere g.D.Dialed.Line (g.D.Dial.gives c.args.dial.now c.args.far) (option_copied c.args.terms.token) was c.let_in-2.new.gone c.in-Err-let_in.fault) c.in-Ok.ensures.kept c.in-Err-let_in.ensures.nowhere)
     c.lets_go.ensures c.undialed-stop-in-Err-let_in.ensures
 
@@ -23,6 +22,8 @@ returns-in-Ok-meet_over g c = (
     far_line = subst (GivesIn g.D.Dialed.Line (g.D.Dial.gives c.args.dial.now c.args.far) (option_copied c.args.terms.token)) (sym c.over.ensures.line) c.in-Ok-let_in.ensures.line;
     near_goes_on = c.over-local.ensures.goes_on;
     far_goes_on = c.over.ensures.goes_on;
+    near_untold = c.over-local.ensures.untold;
+    far_untold = c.over.ensures.untold;
     session = c.in-Ok-meet_over.ensures.session;
     runs = c.in-Ok-meet_over.ensures.ran;
   },
@@ -39,11 +40,12 @@ returns-in-Err-meet_over g c =
       far_line = subst (GivesIn g.D.Dialed.Line (g.D.Dial.gives c.args.dial.now c.args.far) (option_copied c.args.terms.token)) (sym c.over.ensures.line) c.in-Ok-let_in.ensures.line;
       near_goes_on = c.over-local.ensures.goes_on;
       far_goes_on = c.over.ensures.goes_on;
+      near_untold = c.over-local.ensures.untold;
+      far_untold = c.over.ensures.untold;
       session = c.in-Err-meet_over.ensures.session;
       runs = tt;
     })
     c.lets_go-in-Err-meet_over.new.self
-    (subst (λ gone. LetsGo (line_of c.meet_over.new.near) gone c.lets_go-in-Err-meet_over.new.self) (c.in-Ok-let_in.ensures.kept ∙ c.in-Ok.ensures.kept)
-    (subst (λ line. LetsGo line c.let_in-2.new.gone c.lets_go-in-Err-meet_over.new.self) c.into_line.ensures c.lets_go-in-Err-meet_over.ensures))
-    (subst (λ line. LetsGo line c.lets_go-in-Err-meet_over.new.self c.lets_go-in-Err-meet_over-2.new.self) c.into_line-in-Err-meet_over.ensures c.lets_go-in-Err-meet_over-2.ensures)
+    (subst (λ gone. LetsGo c.meet_over.new.near gone c.lets_go-in-Err-meet_over.new.self) (c.in-Ok-let_in.ensures.kept ∙ c.in-Ok.ensures.kept) c.lets_go-in-Err-meet_over.ensures)
+    c.lets_go-in-Err-meet_over-2.ensures
     c.failed-stop.ensures

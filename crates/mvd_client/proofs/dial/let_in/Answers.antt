@@ -4,9 +4,9 @@ use Rattle.mvd_client.specs.LetIn.LeadsNowhere.{not_taken}
 use Rattle.mvd_client.proofs.dial.let_in.Goals as goal
 
 pub returns-in-Ok-told-clause-line : goal.returns-in-Ok-told-clause-line
-returns-in-Ok-told-clause-line g c = (c.in-Ok.line, c.in-Ok.ensures, rw c.in-Some.is (subst (ShowsToken g.D.Dialed.Line c.in-Some.token.now c.in-Ok.line c.shown-line.result.0) c.in-Ok-told.is c.shown-line.ensures))
+returns-in-Ok-told-clause-line g c = (c.in-Ok.line, c.in-Ok.ensures, rw c.in-Some.is (c.shown-remote.result.0, subst (ShowsToken g.D.Dialed.Line c.in-Some.token.now c.in-Ok.line c.shown-remote.result.0) c.in-Ok-told.is c.shown-remote.ensures, c.into_line.ensures))
 
 pub returns-in-Err-told-clause-nowhere : goal.returns-in-Err-told-clause-nowhere
 returns-in-Err-told-clause-nowhere g c =
-    not_taken c.in-Some.token.now (rw c.in-Some.is refl) c.in-Ok.line c.shown-line.result.0 c.in-Ok.ensures c.in-Err-told.refusal (subst (ShowsToken g.D.Dialed.Line c.in-Some.token.now c.in-Ok.line c.shown-line.result.0) c.in-Err-told.is c.shown-line.ensures) c.lets_go.ensures
+    not_taken c.in-Some.token.now (rw c.in-Some.is refl) c.in-Ok.line c.in-Ok.ensures c.shown-remote.result.0 c.in-Err-told.refusal (subst (ShowsToken g.D.Dialed.Line c.in-Some.token.now c.in-Ok.line c.shown-remote.result.0) c.in-Err-told.is c.shown-remote.ensures) c.lets_go.ensures
     refl

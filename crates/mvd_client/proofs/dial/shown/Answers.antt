@@ -1,14 +1,11 @@
-use Rattle.std.proofs.Common.{sym}
 use Rattle.mvd_client.proofs.dial.shown.Goals as goal
 
 pub returns : goal.returns
 returns g c = record {
   before = c.over-remote.result;
-  after = c.hello-told.new.self;
   at_line = c.over-remote.ensures.line;
   goes_on = c.over-remote.ensures.goes_on;
   asked = c.hello-told.ensures.asked;
   truth = c.hello-told.ensures.truth;
   live = c.hello-told.ensures.live;
-  left_so = sym c.into_line.ensures;
 }

@@ -17,5 +17,5 @@ pub returns : goal.returns
 returns g c = record {
   shells = ran c.in-Ok.line c.in-Ok.ensures.line c.over-server.result c.shell_over-ended.new.server c.over-server.ensures.line c.over-server.ensures.goes_on c.over-server.ensures.up c.over-server.ensures.none_lost c.over-server.ensures.goes
       (c.over-server.ensures.shown ∙ c.is_some.ensures ∙ copied c.args.token) c.shell_over-ended.ensures.shells
-      (subst (λ line. LetsGo line c.args.gone.now c.lets_go.new.self) c.into_line.ensures (subst (λ gone. LetsGo c.into_line.result gone c.lets_go.new.self) c.in-Ok.ensures.kept c.lets_go.ensures));
+      (subst (λ gone. LetsGo c.shell_over-ended.new.server.remote gone c.lets_go.new.self) c.in-Ok.ensures.kept c.lets_go.ensures);
 }

@@ -32,7 +32,7 @@ returns-in-Ok-bye-clause-syncs g c = record {
   ran = c.session_of.result;
   session = c.session_of.ensures.session;
   runs = c.session_of.ensures.ran;
-  ends = rw c.in-Ok.is (c.bye.result, c.bye.ensures.asked, rw c.in-Ok-bye.is refl);
+  ends = rw c.in-Ok.is (c.bye.result, c.bye.ensures.asked, c.bye.ensures.live, rw c.in-Ok-bye.is refl);
   meets = λ s t d n. returns-in-Ok-bye-clause-meets g c s (fresh_is_true g.L.Line.is_true g.L.Line.far c.args.watched.now.side t d n);
 }
 
@@ -50,6 +50,6 @@ returns-in-Err-bye-clause-syncs g c = record {
   ran = c.session_of.result;
   session = c.session_of.ensures.session;
   runs = c.session_of.ensures.ran;
-  ends = rw c.in-Ok.is (c.bye.result, c.bye.ensures.asked, rw c.in-Err-bye.is refl);
+  ends = rw c.in-Ok.is (c.bye.result, c.bye.ensures.asked, c.bye.ensures.live, rw c.in-Err-bye.is refl);
   meets = λ s t d n. returns-in-Err-bye-clause-meets g c s (fresh_is_true g.L.Line.is_true g.L.Line.far c.args.watched.now.side t d n);
 }

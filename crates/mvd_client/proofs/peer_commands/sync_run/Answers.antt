@@ -20,10 +20,10 @@ returns-in-Err-sync_line-clause-syncs g c =
     (rw c.in-Err-sync_line.is (c.faulted.result, refl, c.faulted.ensures))
 
 pub returns-in-Err-clause-meets : goal.returns-in-Err-clause-meets
-returns-in-Err-clause-meets g c = λ t s. meets_at _ _ _ _ _ _ _ _ (returns-in-Err-clause-syncs g c) (are_true_in g.D.Dialed.Line _ _ t) s
+returns-in-Err-clause-meets g c = λ t s. meets_at _ _ _ _ _ _ _ _ (returns-in-Err-clause-syncs g c) (are_true_in g.D.Dialed.Line _ _ t) (s, c.stands.ensures.held)
 
 pub returns-in-Ok-sync_line-clause-meets : goal.returns-in-Ok-sync_line-clause-meets
-returns-in-Ok-sync_line-clause-meets g c = λ t s. meets_at _ _ _ _ _ _ _ _ (returns-in-Ok-sync_line-clause-syncs g c) (are_true_in g.D.Dialed.Line _ _ t) s
+returns-in-Ok-sync_line-clause-meets g c = λ t s. meets_at _ _ _ _ _ _ _ _ (returns-in-Ok-sync_line-clause-syncs g c) (are_true_in g.D.Dialed.Line _ _ t) (s, c.stands.ensures.held)
 
 pub returns-in-Err-sync_line-clause-meets : goal.returns-in-Err-sync_line-clause-meets
-returns-in-Err-sync_line-clause-meets g c = λ t s. meets_at _ _ _ _ _ _ _ _ (returns-in-Err-sync_line-clause-syncs g c) (are_true_in g.D.Dialed.Line _ _ t) s
+returns-in-Err-sync_line-clause-meets g c = λ t s. meets_at _ _ _ _ _ _ _ _ (returns-in-Err-sync_line-clause-syncs g c) (are_true_in g.D.Dialed.Line _ _ t) (s, c.stands.ensures.held)

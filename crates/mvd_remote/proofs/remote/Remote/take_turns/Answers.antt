@@ -1,10 +1,11 @@
-use Rattle.std.proofs.Common.{◌≡◌, rules, ◌∷◌, ◌++◌, ◌+◌, ◌-◌, ◌^◌, [], List, arith, min, refl, sym, subst, ◌∙◌}
+use Rattle.std.proofs.Common.{◌≡◌, rules, ◌∷◌, ◌++◌, ◌+◌, ◌-◌, ◌^◌, [], List, append-nil, append_assoc, ap, arith, min, refl, sym, subst, ◌∙◌}
 use Rattle.std.specs.Prelude.{All, Err, Result}
 use Rattle.std.proofs.lemmas.Result.{err_from_is_err_and}
 use Rattle.std.proofs.lemmas.List.Elements.{All-push}
 use Rattle.mvd_dots.specs.declared.refusals.Refusal.{Refusal}
 use Rattle.mvd_wire.specs.declared.reply.Reply.{Reply}
-use Rattle.mvd_remote.specs.Lines.{refuses_none}
+use Rattle.mvd_remote.specs.Lines.{noted, refuses_none}
+use Rattle.mvd_remote.proofs.Noted.{more_of, noted_more}
 use Rattle.mvd_remote.specs.LinkWindows.{IsOfKind, states_in}
 use Rattle.mvd_peer.specs.Windows.{AreWithin}
 use Rattle.mvd_peer.proofs.Dropped.{bytes_of}
@@ -22,25 +23,26 @@ pub loop-none-preserved : goal.loop-none-preserved
 loop-none-preserved g c =
     let before = c.loop-none.invariant in
     let reply = c.in_ok-reply.reply in
-    let told = c.kept.result in
+    let told = c.kept-told.result in
     let items : c.push.new.self.items ≡ c.loop-none.replies.items ++ told ∷ [] = grind arith in
-    let turn = kept_turn c.args.kind _ reply told (g.L.Line.remaining c.loop-none.self.line) (g.L.Line.remaining c.turn.new.self.line) c.kept.ensures.kept c.in_ok-reply.ensures.told in
+    let turn = kept_turn c.args.kind _ reply told (g.L.Line.remaining c.loop-none.self.line) (g.L.Line.remaining c.turn.new.self.line) c.kept-told.ensures.kept c.in_ok-reply.ensures.told in
     record {
       read = turns_more_at c.args.kind c.args.nones.now c.loop-none.none-index _ _ c.loop-none.replies.items c.push.new.self.items told (g.L.Line.remaining c.args.self.now.line) (g.L.Line.remaining c.loop-none.self.line) (g.L.Line.remaining c.turn.new.self.line) c.loop-none-test.true refl items before.read turn;
-      of_kind = subst (λ (us : List (Result Reply Refusal)). All (IsOfKind c.args.kind) us) (sym items) (All-push (IsOfKind c.args.kind) c.loop-none.replies.items told before.of_kind (kept_kind c.args.kind reply told c.kept.ensures.kept c.in_ok-reply.ensures.of_kind));
-      within = within_replies c.loop-none.bytes c.kept.new.bytes c.loop-none.replies.items c.push.new.self.items told items before.within.0 before.within.1 c.kept.ensures.within;
+      of_kind = subst (λ (us : List (Result Reply Refusal)). All (IsOfKind c.args.kind) us) (sym items) (All-push (IsOfKind c.args.kind) c.loop-none.replies.items told before.of_kind (kept_kind c.args.kind reply told c.kept-told.ensures.kept c.in_ok-reply.ensures.of_kind));
+      within = within_replies c.loop-none.bytes c.kept-told.new.bytes c.loop-none.replies.items c.push.new.self.items told items before.within.0 before.within.1 c.kept-told.ensures.within;
       goes_on = c.in_ok-reply.ensures.goes_on;
+      notes = noted_more c.args.self.now.told.items c.loop-none.self.told.items _ c.loop-none.replies.items c.push.new.self.items told items before.notes (c.and-self.ensures ∙ ap (λ m. m ++ (told, tt) ∷ []) c.turn.ensures.untold);
       unsent = c.turn.ensures.unsent ∙ before.unsent;
       config = c.turn.ensures.config ∙ before.config;
       line = λ t. (c.turn.ensures.truth (before.line t)).line;
       states = λ t. (c.turn.ensures.truth (before.line t)).states ∙ before.states t;
       due = λ t.
           due_more_at c.args.nones.now c.loop-none.none-index _ _ c.loop-none.replies.items c.push.new.self.items told (g.L.Line.far c.args.self.now.line).due (g.L.Line.far c.loop-none.self.line).due (g.L.Line.far c.turn.new.self.line).due c.loop-none-test.true refl items (before.due t)
-          (kept_due _ reply told (g.L.Line.far c.loop-none.self.line).due (g.L.Line.far c.turn.new.self.line).due c.kept.ensures.kept (c.in_ok-reply.ensures.truth (before.line t)).due);
+          (kept_due _ reply told (g.L.Line.far c.loop-none.self.line).due (g.L.Line.far c.turn.new.self.line).due c.kept-told.ensures.kept (c.in_ok-reply.ensures.truth (before.line t)).due);
       live = λ t.
           let was = before.live t in
           took_more g.L.Line g.met.L.Line.live_form c.args.self.now c.loop-none.self c.turn.new.self c.args.nones.now c.loop-none.none-index _ _ c.loop-none.replies.items c.push.new.self.items told c.loop-none-test.true refl items t was.0 before.config was.1 was.2 was.3
-          (kept_live g.L.Line _ reply told c.loop-none.self c.turn.new.self c.kept.ensures.kept (c.in_ok-reply.ensures.live was.0));
+          (kept_live g.L.Line _ reply told c.loop-none.self c.turn.new.self c.kept-told.ensures.kept (c.in_ok-reply.ensures.live was.0));
     }
 
 pub loop-none-init : goal.loop-none-init
@@ -49,6 +51,7 @@ loop-none-init g c = record {
   of_kind = search rules;
   within = subst (λ us. AreWithin 0 (states_in us) × (0 ≡ min (0 + bytes_of (states_in us)) (2 ^ 64 - 1))) (sym c.requires.empty) (tt, refl);
   goes_on = search rules;
+  notes = sym (append-nil c.args.self.now.told.items) ∙ ap (λ us. c.args.self.now.told.items ++ noted us) (sym c.requires.empty);
   unsent = search rules;
   config = search rules;
   line = search rules;
@@ -80,3 +83,15 @@ returns-then-is_err-clause-live g c t =
     let was = c.loop-none.invariant.live t in
     let turn = c.in_ok-reply.ensures.live was.0 in
     turns_broke g.L.Line g.met.L.Line.live_form c.args.nones.now _ c.args.self.now c.loop-none.self c.breaks.new.self c.turn.new.self.line _ (Err c.breaks.result) (c.breaks.result, refl) c.breaks.ensures.kept c.breaks.ensures.refused.0 refl t was.0 turn.live was.1 turn.grows
+
+pub returns-clause-more : goal.returns-clause-more
+returns-clause-more g c = more_of c.args.self.now c.loop-none.self (noted c.loop-none.replies.items) c.loop-none.invariant.notes
+
+pub returns-in_err-reply-clause-more : goal.returns-in_err-reply-clause-more
+returns-in_err-reply-clause-more g c = more_of c.args.self.now c.turn.new.self (noted c.loop-none.replies.items) (c.turn.ensures.untold ∙ c.loop-none.invariant.notes)
+
+pub returns-then-is_err-clause-more : goal.returns-then-is_err-clause-more
+returns-then-is_err-clause-more g c =
+    let one = (c.kept-told.result, tt) ∷ [] in
+    more_of c.args.self.now c.breaks.new.self (noted c.loop-none.replies.items ++ one)
+    (c.breaks.ensures.untold ∙ c.and-self.ensures ∙ ap (λ m. m ++ one) (c.turn.ensures.untold ∙ c.loop-none.invariant.notes) ∙ append_assoc c.args.self.now.told.items (noted c.loop-none.replies.items) one)

@@ -1,9 +1,9 @@
-use Rattle.std.proofs.Common.{◌≡◌, ◌+◌, ◌-◌, ◌^◌, List, min, take}
+use Rattle.std.proofs.Common.{◌≡◌, ◌++◌, ◌+◌, ◌-◌, ◌^◌, List, min, take}
 use Rattle.mvd_peer.specs.Windows.{AreWithin}
 use Rattle.mvd_peer.proofs.Dropped.{bytes_of}
 use Rattle.std.specs.Prelude.{All, None}
 use Rattle.mvd_remote.specs.LinkWindows.{IsOfKind, TakeTurns, states_in}
-use Rattle.mvd_remote.specs.Lines.{DueTurns}
+use Rattle.mvd_remote.specs.Lines.{DueTurns, noted}
 use Rattle.mvd_site.specs.Held.{States}
 use Rattle.mvd_peer.specs.Live.{Grows}
 use Rattle.mvd_remote.specs.LiveRemotes.{LiveTurns}
@@ -16,6 +16,7 @@ invariant-loop-none g l = record {
   of_kind : All (IsOfKind l.kind) l.replies.items;
   within : AreWithin 0 (states_in l.replies.items) × (l.bytes ≡ min (0 + bytes_of (states_in l.replies.items)) (2 ^ 64 - 1));
   goes_on : l.self.refused ≡ None;
+  notes : l.self.told.items ≡ l.fn.self.told.items ++ noted l.replies.items;
   unsent : g.L.Line.contents l.self.line ≡ g.L.Line.contents l.fn.self.line;
   config : (g.L.Line.far l.self.line).config ≡ (g.L.Line.far l.fn.self.line).config;
   line : g.L.Line.is_true l.fn.self.line → g.L.Line.is_true l.self.line;

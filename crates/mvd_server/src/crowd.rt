@@ -57,6 +57,8 @@ pub(crate) struct Crowd {
     piece: Piece,
     /// The time, in milliseconds since the server's start.
     pub now: u64,
+    /// Until when all that came is heard of.
+    pub heard: u64,
     /// For as many milliseconds no byte need move.
     idle: u64,
     /// A connection that ended well is not told.
@@ -98,6 +100,7 @@ impl Crowd {
             timers: Timers::new(alloc),
             piece,
             now: 0,
+            heard: 0,
             idle: u64::from(terms.idle).saturating_mul(1_000),
             is_quiet: terms.quiet,
             told,
@@ -316,12 +319,13 @@ impl Crowd {
         }
     }
 
-    /// Ends the clients of which no byte moved for too long.
+    /// Ends the clients of which no byte moved for too long. What came before they were due is heard of, however long
+    /// this program stood still.
     pub fn end_idle(&mut self, ready: &mut Vec<u64>)
         ensures { TalksDeeds self.old.talks self.new.talks }
     {
         for _ in 0..u64::MAX {
-            match self.timers.take_due(self.now) {
+            match self.timers.take_due(self.heard) {
                 Some(number) => self.look_after(number, ready),
                 None => return,
             }

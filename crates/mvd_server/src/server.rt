@@ -285,10 +285,10 @@ impl Server {
         ensures cause { IfErr result (λ fault. fault ≡ Stopped ReadFailed) }
     {
         let pause = self.pause();
-        self.poll_once(pause)?;
-        // A wait that was broken off, as where this program stood still, tells of nothing, also of what came meanwhile.
-        if self.events.is_empty() {
-            self.poll_once(Some(Duration::ZERO))?;
+        // What came until now is told by this wait.
+        self.crowd.heard = self.crowd.now;
+        if self.poll.poll(&mut self.events, pause).is_err() {
+            return Err(Fault::Stopped(Refusal::ReadFailed));
         }
         // A clock that cannot be read stands still.
         if let Ok(passed) = self.start.elapsed(rt) {
@@ -308,17 +308,6 @@ impl Server {
             }
         }
         Ok(())
-    }
-
-    /// Has the system tell of what there is, after so long at most.
-    fn poll_once(&mut self, pause: Option<Duration>) -> Result<(), Fault>
-        ensures talks { self.new.crowd.talks ≡ self.old.crowd.talks }
-        ensures cause { IfErr result (λ fault. fault ≡ Stopped ReadFailed) }
-    {
-        match self.poll.poll(&mut self.events, pause) {
-            Ok(()) => Ok(()),
-            Err(_) => Err(Fault::Stopped(Refusal::ReadFailed)),
-        }
     }
 
     /// How long nothing needs to be done if the system tells of nothing.

@@ -29,7 +29,8 @@ from web_table import by_curl
 IS_SHORT = sys.argv[1:2] == ["--short"]
 PROGRAM = os.path.realpath(sys.argv[-1]) if len(sys.argv) == 2 + IS_SHORT else sys.exit(__doc__)
 SECONDS = float(os.environ.get("WEB_SECONDS", "3"))
-PATIENCE = 60
+# (a slow machine takes a minute for the writes that take long)
+PATIENCE = 200
 DOCUMENT = {"city": "Oslo", "days": 3}
 # what is no request, or one that is too long: its status, and its name
 FAULTS = (

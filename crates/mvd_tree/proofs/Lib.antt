@@ -13,4 +13,5 @@ pub mod Answers
 pub mod Midstates
 pub mod Held
 pub mod Renewing
+pub mod BitSet
 pub mod Wholly

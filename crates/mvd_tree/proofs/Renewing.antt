@@ -1,11 +1,11 @@
 -- Many keys change at once: the numbers of the nodes over them, and the buckets.
-use Rattle.std.proofs.Common.{◌≡◌, ℕ, zero, suc, ◌+◌, ◌/◌, ◌<◌, ◌≤◌, Bool, true, false, ◌||◌, List, [], ◌∷◌, ◌++◌, length, length-append, get_or, set, map, take, refl, sym, ap, subst, ◌∙◌, add-one, arith, Option}
+use Rattle.std.proofs.Common.{◌≡◌, ℕ, ◌+◌, ◌/◌, ◌<◌, ◌≤◌, Bool, true, false, ◌||◌, List, [], ◌∷◌, ◌++◌, length, length-append, get_or, set, map, take, refl, sym, ap, subst, ◌∙◌, add-one, arith, Option}
 use Rattle.std.specs.Prelude.{nat_eq}
 use Rattle.std.specs.Cmp.{unsigned_Decides}
 use Rattle.std.specs.List.{AllByRecursion, IsDistinct, list_any}
 use Rattle.std.specs.Set.{is_member}
 use Rattle.std.proofs.Math.Seq.{take-suc}
-use Rattle.std.proofs.lemmas.List.{length-set, map-append}
+use Rattle.std.proofs.lemmas.List.{length-set, map-append, take_all}
 use Rattle.std.proofs.lemmas.List.Folds.{list_any-append}
 use Rattle.mvd_digest.specs.Counted.{Hashes}
 use Rattle.mvd_digest.specs.declared.digest.Hashed.{Hashed}
@@ -95,18 +95,6 @@ fused by (c ∷ all) = ap (λ ns. bucket_of c.0 / by ∷ ns) (fused by all)
 
 -- ---- the nodes over the first keys
 
--- the node over a key is among those over all
-pub stands_at : (by : ℕ) (cs : Changes) (i : ℕ) (d : List ℕ × Option (List ℕ)) → i < length cs → is_member nat_eq (map (λ c. bucket_of c.0 / by) cs) (bucket_of (get_or cs i d).0 / by) ≡ true
-stands_at by [] i d within = absurd (omega arith)
-stands_at by (c ∷ cs) zero d within =
-    ap (λ b. b || is_member nat_eq (map (λ e. bucket_of e.0 / by) cs) (bucket_of c.0 / by)) ((unsigned_Decides (bucket_of c.0 / by) (bucket_of c.0 / by)).1 refl)
-stands_at by (c ∷ cs) (suc i) d within =
-    ap (λ b. nat_eq (bucket_of (get_or cs i d).0 / by) (bucket_of c.0 / by) || b) (stands_at by cs i d (omega arith)) ∙ or_true _
-  where
-    or_true : (a : Bool) → (a || true) ≡ true
-    or_true true = refl
-    or_true false = refl
-
 set_each-more : (told : ℕ → Option (List ℕ)) (ns : List ℕ) (q : ℕ) (nodes : List (Option (List ℕ))) → set_each told (ns ++ q ∷ []) nodes ≡ set (set_each told ns nodes) q (told q)
 set_each-more told [] q nodes = refl
 set_each-more told (n ∷ ns) q nodes = set_each-more told ns q (set nodes n (told n))
@@ -151,6 +139,15 @@ module _ (told : ℕ → Option (List ℕ)) (bytes : List ℕ → ℕ) (by : ℕ
         hashes = hashes_then (length r.found) (bytes r.found) 1 w (length (r.found ++ q ∷ [])) (bytes (r.found ++ q ∷ [])) b m a
             (omega (arith, length-append r.found (q ∷ []))) (more r.found) r.hashes one;
       }
+
+  -- the one change that there is
+  pub renews_one : (d : List ℕ × Option (List ℕ)) (w : ℕ) (old new : List (Option (List ℕ))) (b a : Hashed) → length cs ≡ 1
+      → ((ns : List ℕ) → bytes ns + w ≤ bytes (ns ++ (bucket_of (get_or cs 0 d).0 / by) ∷ []))
+      → new ≡ set old (bucket_of (get_or cs 0 d).0 / by) (told (bucket_of (get_or cs 0 d).0 / by)) → Hashes 1 w b a
+      → Renews told bytes by cs old new b a
+  renews_one d w old new b a all more is one =
+      subst (λ es. Renews told bytes by es old new b a) (take_all 1 cs (omega (arith, all)))
+      (renews_first 0 d w old old new b b a (omega (arith, all)) refl more is one (renews_none old b))
 
 -- ---- the buckets
 

@@ -10,3 +10,4 @@ pub mod Split
 pub mod Counted
 pub mod Touched
 pub mod Renewed
+pub mod BitSet

@@ -7,6 +7,7 @@ pub mod laws;
 mod level;
 mod node_text;
 mod nodes;
+mod numbers;
 mod touched;
 mod tree;
 

@@ -1,10 +1,9 @@
 //! Changes of keys: their buckets and the nodes over those, each of which is made anew once. It needs memory for the
 //! keys that are put in alone: a midstate for which there is none is not kept.
-ghost use Rattle.std.specs.Prelude.{◌≡◌, ℕ, ◌<◌, ◌+◌, ◌*◌, ◌/◌, List, IfErr, OnErr, OnOk, length, map, nat_eq};
-ghost use Rattle.std.specs.Prelude.{slice_index_or, slice_range, take};
+ghost use Rattle.std.specs.Prelude.{◌≡◌, ℕ, ◌<◌, ◌≤◌, ◌+◌, ◌*◌, ◌/◌, List, IfErr, OnErr, OnOk, length, take};
+ghost use Rattle.std.specs.Prelude.{slice_index_or, slice_range, slice_set};
 ghost use Rattle.std.specs.FinMap.{empty, entries, len};
 ghost use Rattle.std.specs.List.{sum_by};
-ghost use Rattle.std.specs.Set.{is_member};
 ghost use Rattle.mvd_digest.specs.Counted.{Hashes};
 ghost use Rattle.mvd_tree.specs.Kept.{kept_bucket, kept_inner};
 ghost use Rattle.mvd_tree.specs.Layout.{bucket_of};
@@ -13,6 +12,7 @@ ghost use Rattle.mvd_tree.specs.Renewed.{Renews, with_changes};
 use crate::bucket::Bucket;
 use crate::buckets::{bucket_number, change_bucket};
 use crate::level::Level;
+use crate::numbers::Numbers;
 use mvd_digest::Hashed;
 use mvd_dots::Refusal;
 use mvd_keys::Key;
@@ -71,19 +71,6 @@ impl KeyChange {
     }
 }
 
-/// Whether a node stands over one of these keys.
-fn stands_over(changes: &[KeyChange], by: usize, number: usize) -> bool
-    requires { 0 < by }
-    ensures { result ≡ is_member nat_eq (map (λ c. bucket_of c.0 / by) changes.now) number }
-{
-    for change in changes {
-        if change.number_over(by) == number {
-            return true;
-        }
-    }
-    false
-}
-
 /// Changes each key in its bucket, up to one for which memory is refused.
 pub(crate) fn change_buckets(
     buckets: &mut Vec<Bucket>,
@@ -105,6 +92,19 @@ pub(crate) fn change_buckets(
     Ok(())
 }
 
+/// Makes anew what is kept of a bucket.
+fn renew_bucket(buckets: &mut Vec<Bucket>, lowest: &mut Level, number: usize, hashed: &mut Hashed)
+    requires bucket { number < length buckets.old.items }
+    requires node { number < length lowest.old }
+    ensures same { buckets.new.items ≡ buckets.old.items }
+    ensures node { lowest.new ≡
+        slice_set lowest.old number (kept_bucket (entries (slice_index_or buckets.old.items number empty))) }
+    ensures counts { Hashes 1 (32 * len (slice_index_or buckets.old.items number empty)) hashed.old hashed.new }
+{
+    let kept = buckets[number].digest(hashed);
+    lowest.put(number, kept);
+}
+
 /// Makes anew, once each, what is kept of the buckets of these keys.
 pub(crate) fn renew_buckets(
     buckets: &mut Vec<Bucket>,
@@ -120,13 +120,30 @@ pub(crate) fn renew_buckets(
         (λ ns. 32 * sum_by (λ n. len (slice_index_or buckets.old.items n empty)) ns)
         1 changes.now lowest.old lowest.new hashed.old hashed.new }
 {
+    if changes.len() == 1 {
+        renew_bucket(buckets, lowest, changes[0].number_over(1), hashed);
+        return;
+    }
+    let mut done = Numbers::none();
     for index in 0..changes.len() {
-        let number = changes[index].number_over(1);
-        if !stands_over(&changes[..index], 1, number) {
-            let kept = buckets[number].digest(hashed);
-            lowest.put(number, kept);
+        let bucket = changes[index].number_over(1);
+        if done.insert(bucket) {
+            renew_bucket(buckets, lowest, bucket, hashed);
         }
     }
+}
+
+/// Makes anew what is kept of a node, from what is kept of those below.
+fn renew_node(below: &mut Level, above: &mut Level, number: usize, hashed: &mut Hashed)
+    requires below { number * 16 + 16 ≤ length below.old }
+    requires above { number < length above.old }
+    ensures same { below.new ≡ below.old }
+    ensures node { above.new ≡
+        slice_set above.old number (kept_inner (slice_range below.old (number * 16) (number * 16 + 16))) }
+    ensures counts { Hashes 1 512 hashed.old hashed.new }
+{
+    let kept = below.over(number, hashed);
+    above.put(number, kept);
 }
 
 /// Makes anew, once each, what is kept of the nodes over these keys, from what is kept of those below. Under each are
@@ -147,11 +164,15 @@ pub(crate) fn renew_nodes(
         (λ ns. 512 * length ns)
         by changes.now above.old above.new hashed.old hashed.new }
 {
+    if changes.len() == 1 {
+        renew_node(below, above, changes[0].number_over(by), hashed);
+        return;
+    }
+    let mut done = Numbers::none();
     for index in 0..changes.len() {
         let number = changes[index].number_over(by);
-        if !stands_over(&changes[..index], by, number) {
-            let kept = below.over(number, hashed);
-            above.put(number, kept);
+        if done.insert(number) {
+            renew_node(below, above, number, hashed);
         }
     }
 }

@@ -1,3 +1,4 @@
 pub mod Pieces
 pub mod Talking
 pub mod Typing
+pub mod Fronts

@@ -12,6 +12,7 @@ use Rattle.mvd_input.specs.declared.fault.Fault.{Fault}
 use Rattle.mvd_input.specs.declared.fault.Fault.TheVariants as of_fault
 use Rattle.mvd_input.specs.Hexadecimal.{lines_of}
 use Rattle.mvd_input.specs.Lines.{IsNotTyped, IsTyped, said}
+use Rattle.mvd_wire.specs.Frames.{AppendsFront}
 use Rattle.mvd_wire.specs.declared.reply.Reply.{Reply}
 use Rattle.mvd_wire.specs.declared.request.Request.{Request}
 use Rattle.mvd_shell.specs.declared.shell.TheConstants.{HELP}
@@ -81,7 +82,8 @@ MayTellLine Answers lost number line old new =
     (new ≡ old) ⊎ ((text : List ℕ) × TellsLine Answers lost number line old new text)
 
 -- Why the line of a number was not told. Memory was refused, before it was answered or then; the reader failed; the
--- line is too long, or there are more lines than can be counted; or the writer failed, once it was answered.
+-- line is too long, or there are more lines than can be counted; or the writer failed, once it was answered, behind a
+-- front of what is told
 abbrev pub IsUntold : {A : Type 0} → (A → A → Request → Reply → Type 0) → (A → ℕ) → Refusal → ℕ → List ℕ → At A → At A
     → Type 0
 IsUntold Answers lost Memory number line old new =
@@ -90,7 +92,7 @@ IsUntold Answers lost ReadFailed number line old new = (new.asked ≡ old.asked)
 IsUntold Answers lost FrameTooLong number line old new =
     (new.asked ≡ old.asked) × (new.out ≡ old.out) × ((16777216 < length line) ⊎ (number ≡ 2 ^ 64 - 1))
 IsUntold Answers lost WriteFailed number line old new =
-    (text : List ℕ) × TellsLine Answers lost number line old.asked new.asked text
+    (text : List ℕ) × TellsLine Answers lost number line old.asked new.asked text × AppendsFront old.out new.out text
 IsUntold Answers lost _ number line old new = ⊥
 
 -- The first lines were told, and the next one is not

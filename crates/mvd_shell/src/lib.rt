@@ -8,8 +8,10 @@ mod pages;
 mod shell;
 mod talk;
 mod text_requests;
+mod written;
 
 pub use losses::{Losses, NoLosses};
 pub use page_fits::fits;
 pub use shell::shell_run;
 pub use talk::{answer, begin_line, say, settle};
+pub use written::write_lines;

@@ -10,8 +10,9 @@ ghost use Rattle.mvd_shell.specs.Talk.{AsksInTurn};
 use crate::line_reader::read_line;
 use crate::losses::Losses;
 use crate::talk::answer;
+use crate::written::write_lines;
 use mvd_dots::Refusal;
-use mvd_input::{Fault, Typed, tell, text_of, typed_of};
+use mvd_input::{Fault, Typed, text_of, typed_of};
 use mvd_peer::Endpoint;
 use std::alloc::Global;
 use std::fmt::Write as Print;
@@ -84,7 +85,7 @@ fn take_line<A: Endpoint, L: Losses<A>, R: BufRead, W: Write>(
     let mut line = Vec::new(alloc);
     match read_line(reader, &mut line) {
         Ok(goes_on) => match take::<A, L>(alloc, asked, number, &line, out) {
-            Ok(()) => match tell(writer, out) {
+            Ok(()) => match write_lines(writer, out.as_str()) {
                 Ok(()) => Ok(goes_on),
                 Err(fault) => Err(fault),
             },

@@ -12,7 +12,6 @@ use Rattle.mvd_wire.specs.declared.request.Request.{Request}
 use Rattle.mvd_wire.specs.declared.request.Request.TheVariants.{Bucket, Get, Node, Push}
 use Rattle.mvd_frames.proofs.FrameLemmas.{frame_again}
 use Rattle.mvd_frames.proofs.ReplyLaws.{replies_again}
-use Rattle.mvd_conn.specs.History.{History}
 use Rattle.mvd_conn.specs.Stands.{IsQueued}
 use Rattle.mvd_conn.proofs.LengthLemmas.{payload_fits}
 use Rattle.mvd_site.specs.Config.{ConfigValue}
@@ -25,7 +24,6 @@ use Rattle.mvd_replica.proofs.Batching.{fits_turn, form_turn}
 use Rattle.mvd_host.specs.Course.{AreQueued, own}
 use Rattle.mvd_host.specs.Round.{ServesAllFrom, turns_of}
 use Rattle.mvd_host.proofs.Positions.{ServesFrom}
-use Rattle.mvd_host.specs.Runs.{TellsOwn}
 use Rattle.mvd_meet.specs.Callers.{requests_of}
 use Rattle.mvd_sync.specs.declared.asked.Window.{Window}
 use Rattle.mvd_sync.specs.declared.asked.Window.TheVariants as wanted
@@ -220,10 +218,13 @@ own_fits n (t ∷ ts) old new held all =
 abbrev AsksAndTells : List SiteTurn → List Turn → List Request → Type 0
 AsksAndTells site mine requests = (own_requests site ≡ requests) × (own_replies site ≡ map (λ (turn : Turn). turn.reply) mine)
 
-abbrev asked_by_turns : List Turn → List (Result Request Refusal)
+abbrev pub asked_by_turns : List Turn → List (Result Request Refusal)
 asked_by_turns mine = map (λ (turn : Turn). turn.asked) mine
 
-abbrev all_ok : List Request → List (Result Request Refusal)
+abbrev pub told_by_turns : List Turn → List Reply
+told_by_turns mine = map (λ (turn : Turn). turn.reply) mine
+
+abbrev pub all_ok : List Request → List (Result Request Refusal)
 all_ok requests = map (λ (request : Request). Ok request) requests
 
 first_ok : (q : Request) (others : List (Result Request Refusal)) (requests : List Request) → Ok q ∷ others ≡ all_ok requests → (later : List Request) × (requests ≡ q ∷ later) × (others ≡ all_ok later)
@@ -257,13 +258,13 @@ own_all n [] (q ∷ requests) e = absurd (cc)
 own_all n (t ∷ ts) requests e = own_more n t.0 t.1.asked t.1.reply (own n ts) (site_turns n ts) requests (λ later is. own_all n ts later is) e
 
 -- WHAT A HOST QUEUED FOR A CLIENT whose frames asked windows
-pub host_tells : (n : ℕ) (turns : List (ℕ × Turn)) (old new : SiteValue) (h : History) (windows : List Window) → AreHeld old.states → ServesAllFrom old new (turns_of turns) → TellsOwn (own n turns) h →
-    map (λ (turn : Turn). turn.asked) (own n turns) ≡ map (λ (request : Request). Ok request) (flat_map requests_of windows) → TellsWindows old.config windows (concat h.answers) old.states new.states
-host_tells n turns old new h windows form all mine asked =
+pub host_tells : (n : ℕ) (turns : List (ℕ × Turn)) (old new : SiteValue) (answers : List (List ℕ)) (windows : List Window) → AreHeld old.states → ServesAllFrom old new (turns_of turns) → AreQueued (told_by_turns (own n turns)) answers →
+    asked_by_turns (own n turns) ≡ all_ok (flat_map requests_of windows) → TellsWindows old.config windows (concat answers) old.states new.states
+host_tells n turns old new answers windows form all told_all asked =
     let requests = flat_map requests_of windows in
     let here : AsksAndTells (site_turns n turns) (own n turns) requests = own_all n turns requests asked in
     let among = turns_among old.config (site_turns n turns) old.states new.states form (host_answers n turns old new form all) in
-    let told : AnswersAmong old.config requests (map (λ (turn : Turn). turn.reply) (own n turns)) old.states among.0 new.states =
-    subst (λ qs. AnswersAmong old.config qs (map (λ (turn : Turn). turn.reply) (own n turns)) old.states among.0 new.states) here.0 (subst (λ rs. AnswersAmong old.config (own_requests (site_turns n turns)) rs old.states among.0 new.states) here.1 among.1) in
-    let queued = requeued old.config requests (map (λ (turn : Turn). turn.reply) (own n turns)) h.answers old.states new.states among.0 (windows_ask windows) told mine.told (own_fits n turns old new form all) in
-    windows_told old.config windows queued.0 (concat h.answers) old.states new.states among.0 form queued.2 queued.1
+    let told : AnswersAmong old.config requests (told_by_turns (own n turns)) old.states among.0 new.states =
+    subst (λ qs. AnswersAmong old.config qs (told_by_turns (own n turns)) old.states among.0 new.states) here.0 (subst (λ rs. AnswersAmong old.config (own_requests (site_turns n turns)) rs old.states among.0 new.states) here.1 among.1) in
+    let queued = requeued old.config requests (told_by_turns (own n turns)) answers old.states new.states among.0 (windows_ask windows) told told_all (own_fits n turns old new form all) in
+    windows_told old.config windows queued.0 (concat answers) old.states new.states among.0 form queued.2 queued.1

@@ -1,5 +1,5 @@
 -- What a host does turn by turn is what a site does that answers many.
-use Rattle.std.proofs.Common.{◌≡◌, ◌⊎◌, inl, inr, ℕ, List, [], ◌∷◌, refl, sym, ap, subst, arith}
+use Rattle.std.proofs.Common.{◌≡◌, ◌⊎◌, inl, inr, ℕ, List, [], ◌∷◌, refl, sym, ap, subst, ◌∙◌, arith}
 use Rattle.std.specs.Prelude.{Ok, Err, Result}
 use Rattle.mvd_dots.specs.declared.refusals.Refusal.{Refusal}
 use Rattle.mvd_dots.specs.declared.refusals.Refusal.TheVariants.{Memory, Store}
@@ -20,6 +20,7 @@ use Rattle.mvd_host.proofs.Growths.{grows_by}
 use Rattle.mvd_host.proofs.Positions.{ServesFrom}
 use Rattle.mvd_live.specs.Answers.{SiteAnswers, SiteTurn}
 use Rattle.mvd_live.specs.Hosts.{and_turn, site_turns}
+use Rattle.mvd_live.proofs.Moments.{grown_on}
 use Rattle.mvd_live.proofs.Whole.{grows_self}
 
 -- a refusal for the site's own sake, which is as it was
@@ -83,3 +84,31 @@ pub host_answers : (n : ℕ) (turns : List (ℕ × Turn)) (old new : SiteValue) 
 host_answers n [] old new held all = ap (λ (s : SiteValue). s.states) all
 host_answers n (t ∷ ts) old new held all =
     more n t.0 t.1.asked t.1.reply (site_turns n ts) old all.0 new.states held all.1 (λ form. host_answers n ts all.0 new form all.2)
+
+-- ---- what all turns leave
+
+-- the setup stays, and what is held only grows
+pub record LeavesAll (old new : SiteValue) : Type 0 where
+  pub config : new.config ≡ old.config
+  pub form : AreHeld new.states
+  pub grows : Grows old.states new.states
+
+none_left : (old new : SiteValue) → AreHeld old.states → new ≡ old → LeavesAll old new
+none_left old new held same = subst (LeavesAll old) (sym same) (record { config = refl; form = held; grows = grows_self old.states held })
+
+one_left : (old mid : SiteValue) (asked : Result Request Refusal) (reply : Reply) → AreHeld old.states → ServesFrom old mid (record { asked = asked; reply = reply }) → LeavesAll old mid
+one_left old mid (Ok q) reply held one =
+    let it : Leaves old mid q reply = leaves old mid q reply held one in
+    record { config = it.config; form = it.form; grows = it.grows }
+one_left old mid (Err fault) reply held one = none_left old mid held (still old mid fault reply one)
+
+pub all_left : (turns : List Turn) (old new : SiteValue) → AreHeld old.states → ServesAllFrom old new turns → LeavesAll old new
+all_left [] old new held all = none_left old new held all
+all_left (t ∷ ts) old new held (mid, one, more) =
+    let first : LeavesAll old mid = one_left old mid t.asked t.reply held one in
+    let rest : LeavesAll mid new = all_left ts mid new first.form more in
+    record {
+      config = rest.config ∙ first.config;
+      form = rest.form;
+      grows = grown_on old.states mid.states new.states held first.form rest.form first.grows rest.grows;
+    }

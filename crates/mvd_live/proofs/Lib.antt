@@ -25,10 +25,12 @@ pub mod Runner
 pub mod Answered
 pub mod Mailed
 pub mod Sent
+pub mod Broken
 pub mod Alone
 pub mod Replied
 pub mod Hosted
 pub mod HostMail
+pub mod HostBetween
 pub mod Between
 pub mod Right
 pub mod InWindows

@@ -50,7 +50,7 @@ asks_counted (Some window) old new sends =
     let most = at_most (old.questions + length (asked_in_window window).frames.1) (2 ^ 64 - 1) in
     omega (arith, turns, n, count, most)
 
-tells_counted : (asked : Option Asked) (old new : Caller) (t : Option Told) → CallerTells asked old new t → questions_at new ≡ questions_at old
+pub tells_counted : (asked : Option Asked) (old new : Caller) (t : Option Told) → CallerTells asked old new t → questions_at new ≡ questions_at old
 tells_counted None old new t h = ap (λ (c : Caller). questions_at c) h.1
 tells_counted (Some asked) old new None h = absurd h
 tells_counted (Some asked) old new (Some t) h = h.questions

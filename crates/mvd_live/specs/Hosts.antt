@@ -1,5 +1,6 @@
 -- What a host tells one of its clients: the replies of a site that answers many.
-use Rattle.std.specs.Prelude.{◌≡◌, ℕ, ◌==◌, List, [], ◌∷◌, Result, Ok, Err}
+use Rattle.std.specs.Prelude.{◌≡◌, ℕ, ◌==◌, List, [], ◌∷◌, Result, Ok, Err, drop, flat_map, length, take}
+use Rattle.std.specs.List.{concat}
 use Rattle.mvd_dots.specs.declared.refusals.Refusal.{Refusal}
 use Rattle.mvd_wire.specs.declared.reply.Reply.{Reply}
 use Rattle.mvd_wire.specs.declared.request.Request.{Request}
@@ -29,3 +30,14 @@ TellsWindows config (window ∷ windows) bytes old new =
     (replies : List Reply) × (rest : List ℕ) × AreReplyFrames replies bytes rest
     × (moments : List States) × (mid : States) × AreHeld mid
     × AnswersAmong config (requests_of window) replies old moments mid × TellsWindows config windows rest mid new
+
+-- WHAT IS TOLD OF WINDOWS BETWEEN OTHER TURNS of a client: behind the replies to as many turns before, those to the
+-- windows are told, and then come others. Meanwhile what the site holds only grows
+pub record TellsBetween (config : ConfigValue) (before : ℕ) (windows : List Window) (answers : List (List ℕ))
+    (old new : States) : Type 0 where
+  pub begun : States
+  pub ended : States
+  pub form : AreHeld begun × AreHeld ended
+  pub grows : Grows old begun × Grows ended new
+  pub tells : TellsWindows config windows (concat (take (length (flat_map requests_of windows)) (drop before answers)))
+      begun ended

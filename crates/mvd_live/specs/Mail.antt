@@ -1,14 +1,15 @@
 -- A session of two sides that are asked by mail, to which others write.
-use Rattle.std.specs.Prelude.{◌≡◌, ℕ, true, false, List, [], ◌∷◌, ◌++◌, Option, Some, None}
+use Rattle.std.specs.Prelude.{◌≡◌, ℕ, true, false, List, [], ◌∷◌, ◌++◌, Ok, Option, Some, None}
 use Rattle.mvd_site.specs.Held.{AreHeld, States}
 use Rattle.mvd_peer.specs.Sides.{Two}
-use Rattle.mvd_sync.specs.Machines.{Starts}
+use Rattle.mvd_sync.specs.Machines.{HasNext, Starts}
 use Rattle.mvd_sync.specs.Steps.{Wanted, asked}
 use Rattle.mvd_sync.specs.declared.asked.Step.{Step}
+use Rattle.mvd_sync.specs.declared.report.SyncFault.{SyncFault}
 use Rattle.mvd_sync.specs.declared.telling.Told.{Told}
 use Rattle.mvd_sync.specs.declared.telling.Told.TheVariants as told
 use Rattle.mvd_meet.specs.Callers.{CallerTells, asked_of_caller, questions_at}
-use Rattle.mvd_meet.specs.Meetings.{MeetingSteps}
+use Rattle.mvd_meet.specs.Meetings.{AsksUntil, MeetingHears, MeetingSteps}
 use Rattle.mvd_meet.specs.declared.caller.Caller.{Caller}
 use Rattle.mvd_meet.specs.declared.stepping.Course.TheVariants as course
 use Rattle.mvd_meet.specs.declared.stepping.Meeting.{Meeting}
@@ -72,6 +73,22 @@ pub record MailEnds (most : Two ℕ ℕ) (old : Waiting) (mail : Mail) (new : St
   pub steps : MeetingSteps old.meeting mail.near mail.far meeting mail.near' mail.far' course.Done
   pub live : AreLive most old mail new.local new.peer
   pub machine : new.machine ≡ meeting.machine
+
+-- a step takes what came, and ends by a fault: either side was asked its part of what is next, or nothing
+pub record MailBreaks (most : Two ℕ ℕ) (old : Waiting) (mail : Mail) (new : Waiting) (fault : SyncFault) : Type 0 where
+  pub began : old.meeting.began ≡ true
+  pub mid : Meeting
+  pub near : Caller
+  pub far : Caller
+  pub hears : MeetingHears old.meeting mail.near mail.far mid near far (Ok tt)
+  pub next : HasNext mid.machine new.meeting.machine (Some new.step)
+  pub asks : AsksUntil new.step fault near far mail.near' mail.far'
+  pub live : AreLive most old mail new.local new.peer
+
+-- a step asked neither side a question
+abbrev pub AsksNoQuestion : Mail → Type 0
+AsksNoQuestion mail =
+    (questions_at mail.near' ≡ questions_at mail.near) × (questions_at mail.far' ≡ questions_at mail.far)
 
 -- A SESSION BY MAIL, step after step
 abbrev pub MailSteps : Two ℕ ℕ → Waiting → List (Mail × Waiting) → Type 0

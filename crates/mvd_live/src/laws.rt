@@ -1,5 +1,6 @@
 //! What a session comes to beside other writers, each law as the contract of an empty function.
-ghost use Rattle.std.specs.Prelude.{◌≡◌, ◌+◌, ℕ, List, [], ◌∷◌, ◌++◌, flat_map, map, Option, None, Some, Result, Ok, Err};
+ghost use Rattle.std.specs.Prelude.{◌≡◌, ◌⊎◌, ◌+◌, ℕ, List, [], ◌∷◌, ◌++◌, flat_map, length, map, Option, None, Some};
+ghost use Rattle.std.specs.Prelude.{Result, Ok, Err, true};
 ghost use Rattle.std.specs.List.{concat};
 ghost use Rattle.std.specs.declared.alloc.Global.{Global};
 ghost use Rattle.std.specs.declared.vec.Vec.{Vec};
@@ -8,6 +9,7 @@ ghost use Rattle.mvd_keys.specs.State.{IsValid, State};
 ghost use Rattle.mvd_keys.specs.Writes.{Key};
 ghost use Rattle.mvd_wire.specs.declared.reply.Digests.{Digests};
 ghost use Rattle.mvd_wire.specs.declared.reply.Reply.{Reply};
+ghost use Rattle.mvd_wire.specs.declared.request.Request.{Request};
 ghost use Rattle.mvd_site.specs.Answer.{digests};
 ghost use Rattle.mvd_site.specs.Config.{ConfigValue};
 ghost use Rattle.mvd_site.specs.Held.{AreHeld, States, state_at};
@@ -34,13 +36,15 @@ ghost use Rattle.mvd_live.specs.Alone.{AreAlone, JoinsAlone};
 ghost use Rattle.mvd_live.specs.Answers.{SiteAnswers, AnswersAmong, AreReplyFrames, HaveFrames, SiteTurn};
 ghost use Rattle.mvd_live.specs.Answers.{own_replies, own_requests};
 ghost use Rattle.mvd_live.specs.Few.{AsksFew, CountsSent, HasAllThatDiffered, MailsFew, asked_local, asked_peer};
-ghost use Rattle.mvd_live.specs.Hosts.{TellsWindows, site_turns};
+ghost use Rattle.mvd_live.specs.Hosts.{TellsBetween, TellsWindows, site_turns};
 ghost use Rattle.mvd_live.specs.InWindows.{EndsOver, RanInWindows};
 ghost use Rattle.mvd_live.specs.Lives.{IsGiven, Lives};
 ghost use Rattle.mvd_meet.specs.declared.stepping.Meeting.{Meeting};
-ghost use Rattle.mvd_live.specs.Mail.{MailEnds, IsLiveMail, KeepsCounts, Mail, MailSteps, Sits, Waiting};
+ghost use Rattle.mvd_live.specs.Mail.{AreLive, AsksNoQuestion, IsLiveMail, KeepsCounts, Mail, MailBreaks, MailEnds};
+ghost use Rattle.mvd_live.specs.Mail.{MailSteps, Sits, Waiting};
 ghost use Rattle.mvd_live.specs.Mail.{mail_locals, mail_peers, standing, waits_at};
 ghost use Rattle.mvd_meet.specs.Callers.{asked_in_window, asked_of_caller, came_at, requests_of};
+ghost use Rattle.mvd_meet.specs.Meetings.{MeetingFails};
 ghost use Rattle.mvd_meet.specs.declared.caller.Caller.{Caller};
 ghost use Rattle.mvd_live.specs.Over.{LivesOver};
 ghost use Rattle.mvd_live.specs.Runs.{GoesOnAsking, StartsRun, TakesLeg, Leg, RunsLegs, Standing};
@@ -48,6 +52,7 @@ ghost use Rattle.mvd_live.specs.Runs.{all_locals, all_peers};
 ghost use Rattle.mvd_live.specs.Runs.{both_asked};
 ghost use Rattle.mvd_live.specs.Told.{LiveTells, TellsEach, TellsPush, TellsQuietly};
 ghost use Rattle.mvd_sync.specs.declared.report.Report.{Report};
+ghost use Rattle.mvd_sync.specs.declared.report.SyncFault.{SyncFault};
 ghost use Rattle.mvd_world.specs.Machine.{Setting};
 ghost use Rattle.mvd_world.specs.OpenWorlds.{Scene};
 ghost use Rattle.sqlite.specs.Held.{Held, state};
@@ -83,6 +88,26 @@ pub fn a_session_by_mail_lives()
         → KeepsCounts first legs → CountsSent first now legs }
 {}
 
+/// A step that ends by a fault has asked neither side a question, or of either side its part of what is next, or
+/// nothing of it. Of what is next nothing is made up, and with all of it few are asked.
+pub fn a_session_by_mail_breaks()
+    ensures fails { (most : Two ℕ ℕ) (old : Waiting) (mail : Mail) (meeting : Meeting) (local peer : States)
+        (fault : SyncFault) → old.meeting.began ≡ true
+        → MeetingFails old.meeting mail.near mail.far meeting mail.near' mail.far' fault
+        → AreLive most old mail local peer
+        → AsksNoQuestion mail ⊎ ((new : Waiting) × MailBreaks most old mail new fault) }
+    ensures given { (number : Option ℕ) (questions : ℕ) (most : Two ℕ ℕ) (begun : Meeting) (first last : Mail)
+        (now new : Waiting) (legs : List (Mail × Waiting)) (fault : SyncFault) → Sits number questions begun first now
+        → MailSteps most now legs → MailBreaks most (waits_at now legs) last new fault
+        → IsGiven (mail_locals legs ++ last.locals) (mail_peers legs ++ last.peers) new.step }
+    ensures few { (number : Option ℕ) (questions : ℕ) (most : Two ℕ ℕ) (begun : Meeting) (first last : Mail)
+        (now new : Waiting) (legs : List (Mail × Waiting)) (fault : SyncFault) (differed : List Key)
+        → Sits number questions begun first now → MailSteps most now legs
+        → MailBreaks most (waits_at now legs) last new fault
+        → HasAllThatDiffered (mail_locals legs ++ last.locals) (mail_peers legs ++ last.peers) differed
+        → MailsFew now (legs ++ (last, new) ∷ []) differed }
+{}
+
 /// What comes by mail of a site that answers many is live: the site's replies to a window are those of a faithful side,
 /// each at a moment of its own, and others write from one to the next. So the premise of sessions by mail can be met,
 /// and of a server it says only that the bytes that came are the frames of its replies.
@@ -115,6 +140,14 @@ pub fn a_host_answers_many<S: Alter>()
         → OneList turns (side_at (state S.Store) old) (side_at (state S.Store) new) → TellsOwn (own n turns) h
         → map (λ turn. turn.asked) (own n turns) ≡ map (λ request. Ok request) (flat_map requests_of windows)
         → TellsWindows old.site.config windows (concat h.answers) old.site.states new.site.states }
+    // The windows may stand between other turns of that client, as behind its Hello and before its Bye: whatever these
+    // ask, or do not, of its replies those to the windows are told so.
+    ensures between { (n : ℕ) (turns : List (ℕ × Turn)) (old new : HostMoment (Held S)) (h : History)
+        (before later : List (Result Request Refusal)) (windows : List Window) → AreHeld old.site.states
+        → OneList turns (side_at (state S.Store) old) (side_at (state S.Store) new) → TellsOwn (own n turns) h
+        → map (λ turn. turn.asked) (own n turns)
+        ≡ before ++ (map (λ request. Ok request) (flat_map requests_of windows) ++ later)
+        → TellsBetween old.site.config (length before) windows h.answers old.site.states new.site.states }
 {}
 
 /// A session makes nothing up: each state that it pushes into a side is what the other told of that key, at a moment of

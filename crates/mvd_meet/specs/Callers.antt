@@ -7,7 +7,7 @@ use Rattle.mvd_wire.specs.declared.request.Request.{Request}
 use Rattle.mvd_wire.specs.declared.request.Request.TheVariants.{Get, Node, Bucket, Push}
 use Rattle.mvd_remote.specs.LinkWindows.{frames_of}
 use Rattle.mvd_remote.specs.Links.{Link}
-use Rattle.mvd_meet.specs.Posts.{TellsBy, has_come, link_by}
+use Rattle.mvd_meet.specs.Posts.{CannotSend, TellsBy, has_come, link_by}
 use Rattle.mvd_meet.specs.declared.asked.Asked.{Asked}
 use Rattle.mvd_meet.specs.declared.asked.Sort.{Sort}
 use Rattle.mvd_meet.specs.declared.asked.Sort.TheVariants as sort
@@ -73,6 +73,10 @@ CallerAsks window old new = SendsTo (asked_in_window window) old new
 -- the frame of a request that Done answers
 abbrev pub CallerSays : Request → Caller → Caller → Type 0
 CallerSays request old new = SendsTo (record { sort = sort.Pushes; frames = frames_of (request ∷ []) }) old new
+
+-- WHY IT IS NOT ASKED
+abbrev pub CannotAsk : Caller → Refusal → Type 0
+CannotAsk caller refusal = CannotSend caller.post refusal
 
 -- ---- what is told
 

@@ -1,6 +1,7 @@
 -- A session of two sides that are asked by mail.
-use Rattle.std.specs.Prelude.{◌≡◌, ℕ, true, false, Bool, Option, Some, None, Result, Ok}
-use Rattle.mvd_meet.specs.Callers.{CallerAsks, CallerTells, asked_of_caller}
+use Rattle.std.specs.Prelude.{◌≡◌, ◌⊎◌, ℕ, true, false, Bool, Option, Some, None, Result, Ok, Err}
+use Rattle.mvd_dots.specs.declared.refusals.Refusal.TheVariants.{Memory}
+use Rattle.mvd_meet.specs.Callers.{CallerAsks, CallerTells, CannotAsk, asked_of_caller}
 use Rattle.mvd_meet.specs.declared.caller.Caller.{Caller}
 use Rattle.mvd_meet.specs.declared.stepping.Course.{Course}
 use Rattle.mvd_meet.specs.declared.stepping.Course.TheVariants as course
@@ -11,6 +12,8 @@ use Rattle.mvd_sync.specs.declared.asked.Step.{Step}
 use Rattle.mvd_sync.specs.declared.asked.Window.{Window}
 use Rattle.mvd_sync.specs.declared.report.Report.{Report}
 use Rattle.mvd_sync.specs.declared.report.SyncFault.{SyncFault}
+use Rattle.mvd_sync.specs.declared.report.SyncFault.TheVariants.{Local, Peer}
+use Rattle.mvd_sync.specs.declared.stage.Stage.TheVariants.{Failed}
 use Rattle.mvd_sync.specs.declared.telling.Told.{Told}
 
 -- a session of a site of this number, in which nothing was asked
@@ -99,3 +102,46 @@ pub record MeetingGoes (old : Meeting) (near far : Caller) (new : Meeting) (near
 abbrev pub MeetingSteps : Meeting → Caller → Caller → Meeting → Caller → Caller → Course → Type 0
 MeetingSteps old near far new near' far' course.Waits = MeetingStays old near far new near' far'
 MeetingSteps old near far new near' far' course = MeetingGoes old near far new near' far' course
+
+-- ---- a step that ends by a fault
+
+-- a side cannot be asked
+abbrev pub EitherCannot : Caller → Caller → SyncFault → Type 0
+EitherCannot near far (Local refusal) = CannotAsk near refusal
+EitherCannot near far (Peer refusal) = CannotAsk far refusal
+
+-- why nothing more is asked: memory was refused, the session had failed so, or a side cannot be asked
+abbrev pub AskFails : Meeting → Caller → Caller → SyncFault → Type 0
+AskFails old near far why =
+    (why ≡ Local Memory) ⊎ ((old.machine.stage ≡ Failed why) ⊎ EitherCannot near far why)
+
+-- neither side was asked
+abbrev pub AsksNeither : Caller → Caller → Caller → Caller → Type 0
+AsksNeither near far near' far' = (near' ≡ near) × (far' ≡ far)
+
+-- a side refused its window: it was asked nothing, nor was the peer before it
+abbrev pub AsksUntil : Step → SyncFault → Caller → Caller → Caller → Caller → Type 0
+AsksUntil step (Local refusal) near far near' far' = AsksNeither near far near' far'
+AsksUntil step (Peer refusal) near far near' far' = AsksIf step.local near near' × (far' ≡ far)
+
+-- what is next is not asked of both: the machine fails, and neither is asked; or a side refuses what is next
+abbrev pub AsksPart : Meeting → Caller → Caller → Meeting → Caller → Caller → SyncFault → Type 0
+AsksPart old near far new near' far' fault =
+    AsksNeither near far near' far'
+    ⊎ ((step : Step) × HasNext old.machine new.machine (Some step) × AsksUntil step fault near far near' far')
+
+-- what was told was taken, and then not all was asked, for a cause
+pub record MeetingBreaks (old : Meeting) (near far : Caller) (new : Meeting) (near' far' : Caller)
+    (fault : SyncFault) : Type 0 where
+  pub mid : Meeting
+  pub near_mid : Caller
+  pub far_mid : Caller
+  pub hears : MeetingHears old near far mid near_mid far_mid (Ok tt)
+  pub asks : AsksPart mid near_mid far_mid new near' far' fault
+  pub why : AskFails mid near_mid far_mid fault
+
+-- A STEP THAT ENDS BY A FAULT has asked no more than a step does: what both sides told is at fault, and neither is
+-- asked; or that was taken, and of what the machine wants next at most the local side was asked its part
+abbrev pub MeetingFails : Meeting → Caller → Caller → Meeting → Caller → Caller → SyncFault → Type 0
+MeetingFails old near far new near' far' fault =
+    MeetingHears old near far new near' far' (Err fault) ⊎ MeetingBreaks old near far new near' far' fault

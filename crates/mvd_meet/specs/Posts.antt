@@ -1,10 +1,10 @@
 -- What is asked by mail, and what came of it.
-use Rattle.std.specs.Prelude.{◌≡◌, ◌≢◌, ◌++◌, ◌-◌, ◌<◌, ℕ, Bool, true, false, List, [], ◌∷◌, Option, Some, None}
+use Rattle.std.specs.Prelude.{◌≡◌, ◌≢◌, ◌⊎◌, ◌++◌, ◌-◌, ◌<◌, ℕ, Bool, true, false, List, [], ◌∷◌, Option, Some, None}
 use Rattle.std.specs.Prelude.{IsSomeAnd, Result, Ok, Err, length}
 use Rattle.std.specs.declared.alloc.Global.{Global}
 use Rattle.std.specs.declared.vec.Vec.{Vec}
 use Rattle.mvd_dots.specs.declared.refusals.Refusal.{Refusal}
-use Rattle.mvd_dots.specs.declared.refusals.Refusal.TheVariants.{Truncated}
+use Rattle.mvd_dots.specs.declared.refusals.Refusal.TheVariants.{BadBody, Memory, Truncated}
 use Rattle.mvd_wire.specs.Frames.{FrameValue, frame_at}
 use Rattle.mvd_wire.specs.declared.reply.Reply.{Reply}
 use Rattle.mvd_remote.specs.LinkWindows.{Collects}
@@ -105,6 +105,12 @@ pub record PostSends (window : Asked) (old new : PostValue) : Type 0 where
   pub leaving : new.leaving ≡ old.leaving ++ window.frames.0
   pub came : new.came ≡ old.came
   pub asked : new.asked ≡ Some window
+
+-- why nothing is sent: memory was refused; what was asked before was not told, or more came (33); or nothing more is
+-- asked, since that was refused so
+abbrev pub CannotSend : PostValue → Refusal → Type 0
+CannotSend post refusal = (refusal ≡ Memory)
+    ⊎ (((refusal ≡ BadBody) × ((post.asked ≢ None) ⊎ (post.came ≢ []))) ⊎ (post.refused ≡ Some refusal))
 
 -- ---- what is told
 

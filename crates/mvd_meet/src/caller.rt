@@ -2,7 +2,7 @@
 ghost use Rattle.std.specs.Prelude.{◌≡◌, ◌≢◌, ◌≤◌, ◌++◌, [], Err, None, IfErr, IfOk, OnErr, OnOk, drop, false, length};
 ghost use Rattle.std.specs.Prelude.{true};
 ghost use Rattle.mvd_dots.specs.declared.refusals.Refusal.TheVariants.{BadBody, Memory};
-ghost use Rattle.mvd_meet.specs.Callers.{CallerAsks, CallerHears, CallerSays, CallerTells, SendsTo};
+ghost use Rattle.mvd_meet.specs.Callers.{CallerAsks, CallerHears, CallerSays, CallerTells, CannotAsk, SendsTo};
 ghost use Rattle.mvd_meet.specs.Callers.{asked_in_window, asked_of_caller, came_at, has_all, has_ended};
 ghost use Rattle.mvd_meet.specs.Callers.{leaving_at, only_of, questions_at};
 ghost use Rattle.mvd_meet.specs.Posts.{TookAll, asks_pushes};
@@ -117,11 +117,12 @@ impl Caller {
     }
 
     /// The frames of a window are to leave, and what they ask for is due. Where more came than was asked before, it is
-    /// refused with 33.
+    /// refused with 33. Where it is refused, it is as it was: no part of a frame leaves.
     pub fn ask(&mut self, window: &Window) -> Result<(), Refusal>
         ensures asks { OnOk result (CallerAsks window.now self.old self.new) }
-        ensures err { OnErr result (asked_of_caller self.new ≡ asked_of_caller self.old) }
+        ensures err { OnErr result (self.new ≡ self.old) }
         ensures more { came_at self.old ≢ [] → result ≡ Err BadBody }
+        ensures cannot { IfErr result (CannotAsk self.old) }
     {
         if !self.post.is_quiet() {
             return Err(Refusal::BadBody);
@@ -132,7 +133,9 @@ impl Caller {
 
     /// A Hello that shows a token is to leave.
     pub fn greet(&mut self, token: &Token) -> Result<(), Refusal>
-        ensures { OnOk result (CallerSays (Hello token.now) self.old self.new) }
+        ensures says { OnOk result (CallerSays (Hello token.now) self.old self.new) }
+        ensures err { OnErr result (self.new ≡ self.old) }
+        ensures cannot { IfErr result (CannotAsk self.old) }
     {
         let frames = Frames::hello(self.alloc, token)?;
         self.send(Asked {
@@ -143,7 +146,9 @@ impl Caller {
 
     /// A Bye is to leave.
     pub fn part(&mut self) -> Result<(), Refusal>
-        ensures { OnOk result (CallerSays Bye self.old self.new) }
+        ensures says { OnOk result (CallerSays Bye self.old self.new) }
+        ensures err { OnErr result (self.new ≡ self.old) }
+        ensures cannot { IfErr result (CannotAsk self.old) }
     {
         let frames = Frames::bye(self.alloc)?;
         self.send(Asked {
@@ -155,7 +160,8 @@ impl Caller {
     /// Frames are to leave, and what they ask for is due.
     fn send(&mut self, asked: Asked) -> Result<(), Refusal>
         ensures asks { OnOk result (SendsTo asked self.old self.new) }
-        ensures err { OnErr result (asked_of_caller self.new ≡ asked_of_caller self.old) }
+        ensures err { OnErr result (self.new ≡ self.old) }
+        ensures cannot { IfErr result (CannotAsk self.old) }
     {
         let count = asked.frames.nones().len() as u64;
         match self.post.send(asked) {
@@ -198,7 +204,8 @@ fn only_of(answers: &[Result<(), Refusal>]) -> Result<(), Refusal>
 
 /// The frames of a window.
 fn asked_by(alloc: Global, window: &Window) -> Result<Asked, Refusal>
-    ensures { IfOk result (λ asked. asked ≡ asked_in_window window.now) }
+    ensures frames { IfOk result (λ asked. asked ≡ asked_in_window window.now) }
+    ensures memory { IfErr result (λ refusal. refusal ≡ Memory) }
 {
     let (sort, frames) = match window {
         Window::Nodes(paths) => (Sort::Nodes, Frames::nodes(alloc, paths)?),

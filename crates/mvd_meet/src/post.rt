@@ -1,5 +1,5 @@
 //! A window that leaves by mail, and the replies to it, which are taken as they come.
-ghost use Rattle.std.specs.Prelude.{◌≡◌, ◌≤◌, ◌<◌, ◌++◌, [], IfErr, None, OnErr, OnOk, drop, false, length, true};
+ghost use Rattle.std.specs.Prelude.{◌≡◌, ◌≢◌, ◌≤◌, ◌<◌, ◌⊎◌, ◌++◌, [], IfErr, None, OnErr, OnOk, drop, false, length, true};
 ghost use Rattle.mvd_dots.specs.declared.refusals.Refusal.TheVariants.{Memory};
 
 use crate::asked::{Asked, Sort};
@@ -52,7 +52,7 @@ impl Model for Post {
 }
 
 impl Post {
-    ghost use Rattle.mvd_meet.specs.Posts.{PostSends, PostTells, TookAll, asks_pushes, due_of, has_come};
+    ghost use Rattle.mvd_meet.specs.Posts.{CannotSend, PostSends, PostTells, TookAll, asks_pushes, due_of, has_come};
 
     /// One by which nothing was asked.
     pub fn new(alloc: Global) -> Post
@@ -142,7 +142,8 @@ impl Post {
 
     /// Whether nothing came that was not told, and nothing is asked.
     pub fn is_quiet(&self) -> bool
-        ensures { result ≡ true → self.now.came ≡ [] }
+        ensures quiet { result ≡ true → self.now.came ≡ [] }
+        ensures busy { result ≡ false → (self.now.asked ≢ None) ⊎ (self.now.came ≢ []) }
     {
         self.asked.is_none() && self.came.is_empty()
     }
@@ -150,7 +151,8 @@ impl Post {
     /// The frames of a window are to leave. It is refused with 33 while another one is not told.
     pub fn send(&mut self, asked: Asked) -> Result<(), Refusal>
         ensures sends { OnOk result (PostSends asked self.old self.new) }
-        ensures err { OnErr result (self.new.asked ≡ self.old.asked) }
+        ensures err { OnErr result (self.new ≡ self.old) }
+        ensures cannot { IfErr result (CannotSend self.old) }
     {
         if let Some(refusal) = self.refused {
             return Err(refusal);

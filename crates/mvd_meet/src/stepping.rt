@@ -1,7 +1,8 @@
 //! A session of two sides that are asked by mail, step by step.
-ghost use Rattle.std.specs.Prelude.{◌≡◌, false, IfOk, Ok};
+ghost use Rattle.std.specs.Prelude.{◌≡◌, ◌≢◌, false, true, IfErr, IfOk, Ok, OnOk};
 ghost use Rattle.mvd_meet.specs.Callers.{has_all};
-ghost use Rattle.mvd_meet.specs.Meetings.{AsksBoth, AsksNext, MeetingHears, MeetingSteps, OpensMeeting, ReportsOn};
+ghost use Rattle.mvd_meet.specs.Meetings.{AskFails, AsksBoth, AsksNext, AsksPart, AsksUntil, EitherCannot};
+ghost use Rattle.mvd_meet.specs.Meetings.{MeetingFails, MeetingHears, MeetingSteps, OpensMeeting, ReportsOn};
 
 use crate::caller::Caller;
 use mvd_sync::{MOST_QUESTIONS, Machine, Report, Step, SyncFault};
@@ -38,11 +39,14 @@ impl Meeting {
     }
 
     /// Takes what came of both sides, once all came, and asks what is next. As long as something is due, it does
-    /// nothing.
+    /// nothing. Where it ends by a fault, it has asked no more than is next.
     pub fn step(&mut self, near: &mut Caller, far: &mut Caller) -> Result<Course, SyncFault>
         ensures waits { has_all near.old ≡ false → result ≡ Ok Course.Waits }
         ensures waits_too { has_all far.old ≡ false → result ≡ Ok Course.Waits }
+        // Where nothing is due, it does not wait.
+        ensures goes { has_all near.old ≡ true → has_all far.old ≡ true → result ≢ Ok Course.Waits }
         ensures steps { IfOk result (MeetingSteps self.old near.old far.old self.new near.new far.new) }
+        ensures fails { IfErr result (MeetingFails self.old near.old far.old self.new near.new far.new) }
     {
         if !near.has_all() || !far.has_all() {
             return Ok(Course::Waits);
@@ -67,6 +71,9 @@ impl Meeting {
     /// Asks what is next.
     fn ask(&mut self, near: &mut Caller, far: &mut Caller) -> Result<Course, SyncFault>
         ensures asks { IfOk result (AsksNext self.old near.old far.old self.new near.new far.new) }
+        ensures part { IfErr result (AsksPart self.old near.old far.old self.new near.new far.new) }
+        ensures ended { IfErr result (AskFails self.old near.old far.old) }
+        ensures goes { result ≢ Ok Course.Waits }
     {
         match self.machine.next()? {
             Some(step) => {
@@ -86,9 +93,11 @@ impl Meeting {
     }
 }
 
-/// Asks each side what a step wants of it.
+/// Asks each side what a step wants of it, the local one first.
 fn ask_both(step: &Step, near: &mut Caller, far: &mut Caller) -> Result<(), SyncFault>
-    ensures { IfOk result (λ _. AsksBoth step.now near.old far.old near.new far.new) }
+    ensures asks { OnOk result (AsksBoth step.now near.old far.old near.new far.new) }
+    ensures until { IfErr result (λ fault. AsksUntil step.now fault near.old far.old near.new far.new) }
+    ensures ended { IfErr result (EitherCannot near.old far.old) }
 {
     if let Some(window) = &step.local
         && let Err(refusal) = near.ask(window)

@@ -8,3 +8,4 @@ pub mod Opened
 pub mod PushTurns
 pub mod Seen
 pub mod Ran
+pub mod Refusing

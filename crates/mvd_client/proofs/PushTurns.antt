@@ -1,5 +1,5 @@
 -- Pushes to a stored site are turns, and it follows as a side of a session does.
-use Rattle.std.proofs.Common.{◌≡◌, ◌≢◌, ◌∙◌, List, [], ◌∷◌, length, map, Result, Ok, Err, ap, refl, sym, subst, inl, inr, arith, false, true, true≢false}
+use Rattle.std.proofs.Common.{◌≡◌, ◌≢◌, ◌∙◌, ◌++◌, List, [], ◌∷◌, length, map, Result, Ok, Err, ap, refl, sym, subst, inl, inr, arith, false, true, true≢false}
 use Rattle.std.specs.Prelude.{Vec}
 use Rattle.std.specs.Result.{IfErr, IfOk, OnErr}
 use Rattle.std.specs.declared.alloc.Global.{Global}
@@ -19,14 +19,16 @@ use Rattle.mvd_replica.specs.Batch.{AnswersAll}
 use Rattle.mvd_replica.specs.Pushes.{push_of}
 use Rattle.mvd_replica.specs.Replicas.{site_of, store_of, stored_of}
 use Rattle.mvd_replica.specs.SideCalls.{PushesOnSide}
-use Rattle.mvd_replica.specs.Sides.{IsTrueSite, ReplicaRefuses, SideFollows}
+use Rattle.mvd_replica.specs.Sides.{IsTrueSite, SideFollows}
 use Rattle.mvd_replica.specs.declared.replica.Replica.{Replica}
 use Rattle.mvd_replica.proofs.Pushed.{answered_follow}
 use Rattle.mvd_runs.proofs.Pushing.{side_append, side_none, side_window}
 use Rattle.mvd_runs.specs.Sessions.{SideTakes}
 use Rattle.mvd_runs.proofs.PushTurns.{side_push}
 use Rattle.mvd_client.specs.Pushing.{EndsPushes, FollowsTurns, TakesThrough, TellsPushes, turns_self}
+use Rattle.mvd_client.proofs.Refusing.{each_refused}
 use Rattle.mvd_client.proofs.Watching.{err_as, ok_as}
+use Rattle.mvd_client.specs.Refusals.{StoredRefuses, refused_of_window}
 use Rattle.sqlite_trees.specs.declared.store.Store.{Ghosts}
 
 -- one call
@@ -56,24 +58,25 @@ takes_turns old new it = through_takes it.moments old new it.takes
 
 -- ---- a window, as a side of a session tells it
 
-module _ {S T : Type 0} {g : Ghosts S} (old new : T) (inner : T → Replica S g) (follows : T → T → Type 0) (all : follows old new) (self : follows new new) (pairs : List (Key × State)) where
+module _ {S T : Type 0} {g : Ghosts S} (old new : T) (inner : T → Replica S g) (noted : T → List (Refusal × Unit {0})) (follows : T → T → Type 0) (all : follows old new) (self : follows new new) (pairs : List (Key × State)) where
   abbrev Refuses : T → Refusal → Type 0
-  Refuses side refusal = ReplicaRefuses (site_of (inner side)) refusal
+  Refuses side refusal = StoredRefuses (site_of (inner side)) (noted side) refusal
 
   abbrev Answers : T → Type 0
   Answers side = (site_of (inner side)).broken ≡ false
 
-  window_asked : (told : List (Result (Unit {0}) Refusal)) → Answers new → EachAnswer (λ _ _. Unit {0}) pairs told → EachTold (Unit {0}) (ReplicaRefuses (site_of (inner new))) told → Asked (manner (λ _. follows) Refuses Answers) for_pushes pairs told old new
+  window_asked : (told : List (Result (Unit {0}) Refusal)) → Answers new → EachAnswer (λ _ _. Unit {0}) pairs told → EachTold (Unit {0}) (StoredRefuses (site_of (inner new)) (noted new)) told → Asked (manner (λ _. follows) Refuses Answers) for_pushes pairs told old new
   window_asked told whole each are = record {
     count = all;
     may = each;
     right = λ never. absurd never;
-    told = told_still (Unit {0}) _ (ReplicaRefuses (site_of (inner new))) _ told (λ _. (new, (0, all), whole, (0, self))) (λ r refuses. (new, (0, all), refuses, (0, self))) are;
+    told = told_still (Unit {0}) _ (StoredRefuses (site_of (inner new)) (noted new)) _ told (λ _. (new, (0, all), whole, (0, self))) (λ r refuses. (new, (0, all), refuses, (0, self))) are;
     not_of_question = λ never. absurd never;
   }
 
-  pub window_told : (result : Result (Vec (Result (Unit {0}) Refusal) Global) Refusal) → IfOk result (TellsPushes (inner old) pairs (inner new)) → IfOk result (λ told. Asked (manner (λ _. follows) Refuses Answers) for_pushes pairs told.items old new)
-  window_told result tells = ok_as result tells (λ told it. window_asked told.items it.whole it.each it.told)
+  pub window_told : (result : Result (Vec (Result (Unit {0}) Refusal) Global) Refusal) → IfOk result (TellsPushes (inner old) pairs (inner new)) → noted new ≡ noted old ++ refused_of_window result → IfOk result (λ told. Asked (manner (λ _. follows) Refuses Answers) for_pushes pairs told.items old new)
+  window_told (Ok told) it notes = window_asked told.items it.whole it.each (each_refused (site_of (inner new)) (noted old) (noted new) told.items it.told notes)
+  window_told (Err refusal) it notes = tt
 
   pub window_pushes : (result : Result (Vec (Result (Unit {0}) Refusal) Global) Refusal) → IfOk result (TellsPushes (inner old) pairs (inner new)) → IsTrueSite (site_of (inner old)) →
       IfOk result (λ told. IsTrueSite (site_of (inner new)) × Pushes (site_of (inner old)).config.max_keys (site_of (inner old)).states pairs told.items (site_of (inner new)).states)
@@ -84,7 +87,7 @@ module _ {S T : Type 0} {g : Ghosts S} (old new : T) (inner : T → Replica S g)
   window_live result tells = ok_as result tells (λ told it. it.live)
 
   broken_refuses : (refusal : Refusal) → refusal ≡ Broken → (site_of (inner new)).broken ≡ true → Refuses new refusal
-  broken_refuses refusal is broken = inl (subst (λ r. is_site_refusal r ≡ true) (sym is) refl, broken ∙ sym (ap tells_broken is))
+  broken_refuses refusal is broken = (inl (subst (λ r. is_site_refusal r ≡ true) (sym is) refl, broken ∙ sym (ap tells_broken is)), inr (inr is))
 
   ended_by : (refusal : Refusal) → EndsPushes (inner old) (inner new) refusal → Ends (λ _. follows) Refuses (length pairs) old new refusal
   ended_by refusal (inl (is, same)) = record { count = (0, omega arith, all); cause = inr is }

@@ -1,9 +1,9 @@
 -- A session of two servers, each at the other end of a line that its address leads to, and what is printed of it.
-use Rattle.std.specs.Prelude.{◌≡◌, ◌⊎◌, ◌+◌, ℕ, List, [], false, Option, None, Result, Ok, Err, IfOk}
+use Rattle.std.specs.Prelude.{◌≡◌, ◌+◌, ℕ, List, [], false, Option, None, Result, Ok, Err, IfOk}
 use Rattle.std.specs.Result.{result_and}
 use Rattle.std.specs.declared.net.socket_addr.SocketAddr.{SocketAddr}
 use Rattle.mvd_client.specs.Gone.{LetsGo}
-use Rattle.mvd_client.specs.LetIn.{GivesIn, LeadsNowhere}
+use Rattle.mvd_client.specs.LetIn.{ComesIn, LeadsNowhere}
 use Rattle.mvd_client.specs.Met.{AsksRoot}
 use Rattle.mvd_client.specs.Reported.{ReportsAs, meeting_text, root_in_states}
 use Rattle.mvd_client.specs.Stopped.{IsAtServer, StopsUndialed}
@@ -37,12 +37,13 @@ StopsBetween near far (Peer refusal) stop = IsAtServer far refusal stop
 module _ {L : Type 0} (line : LineGhosts L) (gives : SocketAddr → L → Type 0) (token : Option (List ℕ))
     (near far : SocketAddr) where
   -- ONE SESSION, over a line to each server that its address gives, over which nothing was asked but for a token that
-  -- was shown. It is a run of the machine where it ends well
-  pub record MeetsBetween (near' far' : Remote L) (told : Result Report SyncFault) : Type 0 where
+  -- was shown: these two were had, and no other. It is a run of the machine where it ends well
+  pub record MeetsBetween (was now : Gone L) (near' far' : Remote L) (told : Result Report SyncFault) : Type 0 where
     pub near_before : Remote L
     pub far_before : Remote L
-    pub near_line : GivesIn line (gives near) token (line_of near_before)
-    pub far_line : GivesIn line (gives far) token (line_of far_before)
+    pub mid : Gone L
+    pub near_line : ComesIn line (gives near) token was mid (line_of near_before)
+    pub far_line : ComesIn line (gives far) token mid now (line_of far_before)
     pub near_goes_on : refused_of near_before ≡ None
     pub far_goes_on : refused_of far_before ≡ None
     pub near_untold : told_of near_before ≡ []
@@ -57,16 +58,16 @@ module _ {L : Type 0} (line : LineGhosts L) (gives : SocketAddr → L → Type 0
   pub data FailsBetween (was now : Gone L) (stop : Stop) : Type 0 where
     no_near : (fault : DialFault) → LeadsNowhere line (gives near) token was now fault → StopsUndialed near fault stop
         → FailsBetween was now stop
-    no_far : (near' : Remote L) → GivesIn line (gives near) token (line_of near') → (fault : DialFault) (mid : Gone L)
-        → LeadsNowhere line (gives far) token was mid fault → LetsGo near' mid now → StopsUndialed far fault stop
-        → FailsBetween was now stop
-    faulted : (near' far' : Remote L) (fault : SyncFault) → MeetsBetween near' far' (Err fault) → (mid : Gone L)
-        → LetsGo near' was mid → LetsGo far' mid now → StopsBetween near far fault stop
-        → FailsBetween was now stop
+    no_far : (near' : Remote L) (first : Gone L) → ComesIn line (gives near) token was first (line_of near')
+        → (fault : DialFault) (mid : Gone L) → LeadsNowhere line (gives far) token first mid fault
+        → LetsGo near' [] mid now → StopsUndialed far fault stop → FailsBetween was now stop
+    faulted : (near' far' : Remote L) (fault : SyncFault) (begun mid : Gone L)
+        → MeetsBetween was begun near' far' (Err fault) → LetsGo near' [] begun mid → LetsGo far' [] mid now
+        → StopsBetween near far fault stop → FailsBetween was now stop
 
   -- how it ends: one that ended well lets no line go
   abbrev pub EndsSession : Gone L → Gone L → Result (Met L) Failure → Type 0
-  EndsSession was now (Ok met) = MeetsBetween met.near met.far (Ok met.report) × (now ≡ was)
+  EndsSession was now (Ok met) = MeetsBetween was now met.near met.far (Ok met.report)
   EndsSession was now (Err failure) = FailsBetween was now failure.stop
 
   -- IT GOES ON over new lines behind at most so many that failed, and comes to this
@@ -116,7 +117,7 @@ module _ {L : Type 0} (line : LineGhosts L) where
       → Option (List ℕ) → Result (Unit {0}) Stop → Type 0
   EndsMeeting near far (Ok met) was now out out' result =
       (left : Met L) × TellsThenParts near far met left out out' result
-      × ((mid : Gone L) × LetsGo left.near was mid × LetsGo left.far mid now)
+      × ((mid : Gone L) × LetsGo left.near [] was mid × LetsGo left.far [] mid now)
   EndsMeeting near far (Err stop) was now out out' result = (result ≡ Err stop) × (now ≡ was) × (out' ≡ out)
 
   -- FROM TWO ADDRESSES TO WHAT IS PRINTED

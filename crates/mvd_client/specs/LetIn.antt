@@ -1,6 +1,6 @@
 -- How a line comes to be one over which its far side serves: by a Hello that shows the token, where there is one.
-use Rattle.std.specs.Prelude.{◌≡◌, ℕ, List, Option, Some, None, Result, Ok, Err}
-use Rattle.mvd_client.specs.Gone.{LetsGo}
+use Rattle.std.specs.Prelude.{◌≡◌, ℕ, List, [], Option, Some, None, Result, Ok, Err}
+use Rattle.mvd_client.specs.Gone.{HasLine, LetsGo}
 use Rattle.mvd_client.specs.declared.dial.DialFault.{DialFault}
 use Rattle.mvd_client.specs.declared.dial.DialFault.TheVariants as faults
 use Rattle.mvd_client.specs.declared.gone.Gone.{Gone}
@@ -33,11 +33,15 @@ module _ {L : Type 0} (line : Ghosts L) where
   abbrev pub GivesIn : (L → Type 0) → Option (List ℕ) → L → Type 0
   GivesIn gives token opened = (fresh : L) × gives fresh × IsLetIn token fresh opened
 
-  -- Why an address leads to no line: there is none, and none is let go; or the token was shown over one and not taken,
-  -- and that one is let go
+  -- ONE LINE WAS HAD, one that an address gives, and this is what came of it
+  abbrev pub ComesIn : (L → Type 0) → Option (List ℕ) → Gone L → Gone L → L → Type 0
+  ComesIn gives token was now opened =
+      (fresh : L) × gives fresh × HasLine fresh was now × IsLetIn token fresh opened
+
+  -- Why an address leads to no line: none was had; or the token was shown over one and not taken, and that is let go
   pub data LeadsNowhere (gives : L → Type 0) (token : Option (List ℕ)) (old new : Gone L) (fault : DialFault) : Type 0
     where
       no_line : new ≡ old → LeadsNowhere gives token old new fault
-      not_taken : (shown : List ℕ) → token ≡ Some shown → (fresh : L) → gives fresh → (left : Remote L)
-          → (refusal : Refusal) → ShowsToken shown fresh left (Err refusal) → LetsGo left old new → fault ≡ faults.Refused refusal
-          → LeadsNowhere gives token old new fault
+      not_taken : (shown : List ℕ) → token ≡ Some shown → (fresh : L) → gives fresh → (mid : Gone L)
+          → HasLine fresh old mid → (left : Remote L) (refusal : Refusal) → ShowsToken shown fresh left (Err refusal)
+          → LetsGo left [] mid new → fault ≡ faults.Refused refusal → LeadsNowhere gives token old new fault

@@ -3,6 +3,7 @@ pub mod Gone
 pub mod Met
 pub mod Pushing
 pub mod Questioned
+pub mod Refusals
 pub mod Reported
 pub mod Sent
 pub mod Stopped

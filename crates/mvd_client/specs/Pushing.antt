@@ -8,7 +8,7 @@ use Rattle.mvd_keys.specs.State.{State}
 use Rattle.mvd_keys.specs.Writes.{Key}
 use Rattle.mvd_peer.specs.Windows.{EachAnswer, EachTold, Pushes}
 use Rattle.mvd_replica.specs.Replicas.{site_of, stored_of}
-use Rattle.mvd_replica.specs.SideCalls.{TellsMoments}
+use Rattle.mvd_replica.specs.SideCalls.{IsToldAlike, TellsMoments}
 use Rattle.mvd_replica.specs.Sides.{IsTrueSite, ReplicaRefuses, SideFollows, side_follows_on, side_follows_self}
 use Rattle.mvd_replica.specs.declared.replica.Replica.{Replica}
 use Rattle.mvd_runs.specs.Sessions.{SideTakes}
@@ -30,6 +30,8 @@ module _ {S : Type 0} {g : Ghosts S} where
   pub record TellsPushes (old : Replica S g) (pairs : List (Key × State)) (new : Replica S g)
       (answers : Vec (Result (Unit {0}) Refusal) Global) : Type 0 where
     pub whole : (site_of new).broken ≡ false
+    -- each is told as the request to push it is: 21 where the store refused that
+    pub alike : IsToldAlike old pairs new answers
     pub each : EachAnswer (λ _ _. Unit {0}) pairs answers.items
     pub told : EachTold (Unit {0}) (ReplicaRefuses (site_of new)) answers.items
     pub pushes : IsTrueSite (site_of old) → IsTrueSite (site_of new)

@@ -3,10 +3,12 @@ use Rattle.std.specs.Prelude.{◌≡◌, false, ℕ, List, [], None, Option, Res
 use Rattle.std.specs.declared.net.socket_addr.SocketAddr.{SocketAddr}
 use Rattle.mvd_dots.specs.declared.refusals.Refusal.{Refusal}
 use Rattle.mvd_client.specs.Gone.{LetsGo}
+use Rattle.mvd_client.specs.LetIn.{ComesIn, GivesIn, LeadsNowhere}
 use Rattle.mvd_client.specs.Reported.{Reports}
-use Rattle.mvd_client.specs.Stopped.{IsUndialed, TellsAs}
-use Rattle.mvd_client.specs.SyncSides.{sides_at}
+use Rattle.mvd_client.specs.Stopped.{IsUndialed, StopsUndialed, TellsAs}
+use Rattle.mvd_client.specs.SyncSides.{InSession, in_session, sides_at}
 use Rattle.mvd_client.specs.Synced.{FollowsPushed, MeetsFar, TakesPushes}
+use Rattle.mvd_client.specs.declared.dial.DialFault.{DialFault}
 use Rattle.mvd_client.specs.declared.gone.Gone.{Gone}
 use Rattle.mvd_remote.specs.Remotes.{AsksOver, bye_query}
 use Rattle.mvd_hint.specs.declared.hint.Stop.{Stop}
@@ -49,45 +51,50 @@ EndsBy line (Err fault) mid after told = (after ≡ mid) × (told ≡ Err fault)
 -- a site `S`, and a line `L` over which the far side is asked
 module _ {S : Type 0} {g : Ghosts S} {L : Type 0} (line : LineGhosts L) where
   -- ONE SESSION over a line, which is a run of the machine where it ends well, and a Bye
-  pub record SyncsOver (old new : Replica S g) (before after : Remote L) (told : Result Report SyncFault) : Type 0 where
-    pub mid : Remote L
-    pub ran : Result Report SyncFault
-    pub session : Session (sides_at line) 10000000 (two old before) (two new mid) ran
-    pub runs : IfOk ran (IsRun (sides_at line) 10000000 (two old before) (two new mid))
-    pub ends : EndsBy line ran mid after told
-    -- where the line is true, no reply is due, and so is the site, the two meet
-    pub meets : IsTrueSite (site_of old) → line.is_true (line_of before) → (line.far (line_of before)).due ≡ []
-        → refused_of before ≡ None → MeetsFar line.is_true line.far old new before after told
-
-  -- over this line, which nothing was asked before, and whose side is left so
-  pub record SyncsFrom (fresh : L) (after : Remote L) (old new : Replica S g) (told : Result Report SyncFault) : Type 0
+  pub record SyncsOver (old new : InSession S g) (before after : Remote L) (told : Result Report SyncFault) : Type 0
     where
-      pub before : Remote L
-      pub at_line : line_of before ≡ fresh
-      pub goes_on : refused_of before ≡ None
-      pub untold : told_of before ≡ []
-      pub over_line : SyncsOver old new before after told
+      pub mid : Remote L
+      pub ran : Result Report SyncFault
+      pub session : Session (sides_at line) 10000000 (two old before) (two new mid) ran
+      pub runs : IfOk ran (IsRun (sides_at line) 10000000 (two old before) (two new mid))
+      pub ends : EndsBy line ran mid after told
+      -- where the line is true, no reply is due, and so is the site, the two meet
+      pub meets : IsTrueSite (site_of old.replica) → line.is_true (line_of before)
+          → (line.far (line_of before)).due ≡ [] → refused_of before ≡ None
+          → MeetsFar line.is_true line.far old.replica new.replica before after told
 
-  -- WHAT AN ADDRESS LEADS TO is one of these lines. It leads to none, and nothing changes; or there is one line, over
-  -- which runs one session, what is told is what came of that, and the line is let go as the session left it
-  pub data SyncsAt (gives : L → Type 0) (address : SocketAddr) (was now : Gone L) (old new : Replica S g)
-      (result : Result Report Stop) : Type 0 where
-    nobody : new ≡ old → (stop : Stop) → result ≡ Err stop → IsUndialed address stop
-        → SyncsAt gives address was now old new result
-    ran : (at : L) (left : Remote L) → gives at → (told : Result Report SyncFault) → SyncsFrom at left old new told
-        → LetsGo left was now → TellsAs address told result → SyncsAt gives address was now old new result
+  -- over this line, which nothing was asked before, and whose side is left so; the site refused this in it
+  pub record SyncsFrom (fresh : L) (after : Remote L) (old new : Replica S g) (refused : List (Refusal × Unit {0}))
+      (told : Result Report SyncFault) : Type 0 where
+    pub before : Remote L
+    pub at_line : line_of before ≡ fresh
+    pub goes_on : refused_of before ≡ None
+    pub untold : told_of before ≡ []
+    pub over_line : SyncsOver (in_session old []) (in_session new refused) before after told
+
+  -- WHAT AN ADDRESS LEADS TO is one of these lines, over which the token was shown, if there is one. It leads to none,
+  -- and nothing changes; or one line was had, over which runs one session, what is told is what came of that, and the
+  -- line is let go as the session left it, noted with what the site refused in it
+  pub data SyncsAt (gives : L → Type 0) (token : Option (List ℕ)) (address : SocketAddr) (was now : Gone L)
+      (old new : Replica S g) (result : Result Report Stop) : Type 0 where
+    nobody : new ≡ old → (fault : DialFault) → LeadsNowhere line gives token was now fault → (stop : Stop)
+        → result ≡ Err stop → StopsUndialed address fault stop → SyncsAt gives token address was now old new result
+    ran : (mid : Gone L) (opened : L) → ComesIn line gives token was mid opened → (left : Remote L)
+        (refused : List (Refusal × Unit {0})) (told : Result Report SyncFault)
+        → SyncsFrom opened left old new refused told → LetsGo left refused mid now → TellsAs address told result
+        → SyncsAt gives token address was now old new result
 
 -- the lines that an address may give are true, and no reply is due on them
 abbrev pub AreTrue : {L : Type 0} → LineGhosts L → (L → Type 0) → Type 0
 AreTrue {L} line gives = (fresh : L) → gives fresh → line.is_true fresh × ((line.far fresh).due ≡ [])
 
 module _ {S : Type 0} {g : Ghosts S} {L : Type 0} (line : LineGhosts L) (gives : L → Type 0)
-    (address : SocketAddr) where
+    (token : Option (List ℕ)) (address : SocketAddr) where
   -- WHERE THEY ARE, the site and what answers there meet: what differed is joined on both sides, and what is told is
   -- what came of that. Or the address leads to no line, and nothing changes
   pub data MeetsAt (old new : Replica S g) (result : Result Report Stop) : Type 0 where
     unanswered : new ≡ old → (stop : Stop) → result ≡ Err stop → IsUndialed address stop → MeetsAt old new result
-    met : (before after : Remote L) → gives (line_of before) → (told : Result Report SyncFault)
+    met : (before after : Remote L) → GivesIn line gives token (line_of before) → (told : Result Report SyncFault)
         → MeetsFar line.is_true line.far old new before after told → TellsAs address told result
         → MeetsAt old new result
 
@@ -96,8 +103,8 @@ module _ {S : Type 0} {g : Ghosts S} {L : Type 0} (line : LineGhosts L) (gives :
   pub record TellsSession (was now : Gone L) (old new : Replica S g) (out out' : Option (List ℕ))
       (result : Result (Unit {0}) Stop) : Type 0 where
     pub ran : Result Report Stop
-    pub syncs : SyncsAt line gives address was now old new ran
-    pub meets : AreTrue line gives → (site_of old).broken ≡ false → MeetsAt old new ran
+    pub syncs : SyncsAt line gives token address was now old new ran
+    pub meets : AreTrue line (GivesIn line gives token) → (site_of old).broken ≡ false → MeetsAt old new ran
     pub takes : TakesPushes old new
     pub pushed : FollowsPushed old new
     pub told : TellsRan (site_of new) out out' ran result

@@ -1,11 +1,13 @@
 -- A shell over a line to a server.
-use Rattle.std.specs.Prelude.{◌≡◌, ℕ, Bool, false, List, None, Some, Option, Result, Ok, Err}
+use Rattle.std.specs.Prelude.{◌≡◌, ℕ, false, is_some, List, [], None, Some, Option, Result, Ok, Err}
 use Rattle.std.specs.declared.net.socket_addr.SocketAddr.{SocketAddr}
 use Rattle.mvd_client.specs.declared.asked_server.AskedServer.{AskedServer}
+use Rattle.mvd_client.specs.declared.dial.DialFault.{DialFault}
 use Rattle.mvd_client.specs.declared.gone.Gone.{Gone}
 use Rattle.mvd_client.specs.AskedServer.{RepliesNoted, lost_of}
 use Rattle.mvd_client.specs.Gone.{LetsGo}
-use Rattle.mvd_client.specs.Stopped.{IsAtServer, IsUndialed}
+use Rattle.mvd_client.specs.LetIn.{ComesIn, LeadsNowhere}
+use Rattle.mvd_client.specs.Stopped.{IsAtServer, StopsUndialed}
 use Rattle.mvd_dots.specs.declared.refusals.Refusal.{Refusal}
 use Rattle.mvd_input.specs.declared.fault.Fault.{Fault}
 use Rattle.mvd_shell.specs.Shell.{At, Shells, at}
@@ -50,16 +52,17 @@ pub record ShellsOver {A : Type 0} (Answers : A → A → Request → Reply → 
   pub shells : Shells Answers lost old (at last new.input new.out) told
   pub ends : EndsLines Byes address told last new.asked result
 
--- A SHELL OVER WHAT AN ADDRESS LEADS TO, one of these lines, over which a token was shown or none. It leads to none, and
--- nothing is read or printed; or it is a shell over one line, which nothing was asked before, so no write is lost at
--- first; the line is let go as it is left
-pub data ShellsAt {L : Type 0} (line : Ghosts L) (gives : L → Type 0) (shown : Bool) (address : SocketAddr) (was now : Gone L)
-    (input out input' out' : Option (List ℕ)) (result : Result (Unit {0}) Stop) : Type 0 where
-  nobody : (stop : Stop) → result ≡ Err stop → IsUndialed address stop → input' ≡ input → out' ≡ out
-      → ShellsAt line gives shown address was now input out input' out' result
-  ran : (fresh : L) → gives fresh → (before after : AskedServer L) → line_of before.remote ≡ fresh
-      → refused_of before.remote ≡ None → before.is_down ≡ false → before.lost ≡ 0 → before.ended ≡ None
-      → before.shown ≡ shown
+-- A SHELL OVER WHAT AN ADDRESS LEADS TO, one of these lines, over which the token was shown, if there is one. It leads
+-- to none, and nothing is read or printed; or one line was had, and it is a shell over that, which nothing was asked
+-- before, so no write is lost at first; the line is let go as it is left
+pub data ShellsAt {L : Type 0} (line : Ghosts L) (gives : L → Type 0) (token : Option (List ℕ)) (address : SocketAddr)
+    (was now : Gone L) (input out input' out' : Option (List ℕ)) (result : Result (Unit {0}) Stop) : Type 0 where
+  nobody : (fault : DialFault) → LeadsNowhere line gives token was now fault → (stop : Stop) → result ≡ Err stop
+      → StopsUndialed address fault stop → input' ≡ input → out' ≡ out
+      → ShellsAt line gives token address was now input out input' out' result
+  ran : (mid : Gone L) (opened : L) → ComesIn line gives token was mid opened → (before after : AskedServer L)
+      → line_of before.remote ≡ opened → refused_of before.remote ≡ None → before.is_down ≡ false → before.lost ≡ 0
+      → before.ended ≡ None → before.shown ≡ is_some token
       → ShellsOver (RepliesNoted line) lost_of (SaysBye line) address (at before input out)
-      (at after input' out') result → LetsGo after.remote was now
-      → ShellsAt line gives shown address was now input out input' out' result
+      (at after input' out') result → LetsGo after.remote [] mid now
+      → ShellsAt line gives token address was now input out input' out' result

@@ -1,5 +1,5 @@
 //! A session of two servers, each at the other end of a line that its address leads to, and what is told of it.
-ghost use Rattle.std.specs.Prelude.{◌≡◌, option_copied};
+ghost use Rattle.std.specs.Prelude.{◌≡◌, [], option_copied};
 ghost use Rattle.mvd_client.specs.Between.{EndsSession, GivesRoot, GoesOn, MeetsServers, Parts, StopsBetween};
 ghost use Rattle.mvd_client.specs.Between.{TellsThenParts};
 ghost use Rattle.mvd_client.specs.Gone.{LetsGo};
@@ -46,7 +46,7 @@ struct Met<L: Line> {
 impl<L: Line> Met<L> {
     /// Lets both lines go.
     fn lets_go(self, gone: &mut Gone<L>)
-        ensures { (mid : Gone L) × LetsGo self.near gone.old mid × LetsGo self.far mid gone.new }
+        ensures { (mid : Gone L) × LetsGo self.near [] gone.old mid × LetsGo self.far [] mid gone.new }
     {
         let Met { near, far, report } = self;
         gone.lets_go(near);

@@ -1,7 +1,8 @@
 //! What leads from an address to a line.
-ghost use Rattle.std.specs.Prelude.{◌≡◌, IfErr, IfOk, OnOk, option_copied};
+ghost use Rattle.std.specs.Prelude.{◌≡◌, IfErr, IfOk, OnErr, option_copied};
 ghost use Rattle.std.specs.declared.net.socket_addr.SocketAddr.{SocketAddr};
-ghost use Rattle.mvd_client.specs.LetIn.{GivesIn, LeadsNowhere, ShowsToken};
+ghost use Rattle.mvd_client.specs.Gone.{HasLine};
+ghost use Rattle.mvd_client.specs.LetIn.{ComesIn, LeadsNowhere, ShowsToken};
 ghost use Rattle.mvd_client.specs.Stopped.{StopsUndialed};
 
 use crate::both_ways::{BothWays, Nonblocking};
@@ -36,9 +37,16 @@ pub trait Dial {
     ghost gives: { Self → SocketAddr → Self.Dialed → Type 0 };
 
     /// A line to what answers at an address, over which nothing went, and on which no read and no write waits for more
-    /// than so many seconds.
-    fn dial(&self, alloc: Global, address: SocketAddr, idle: u32) -> Result<Self::Dialed, DialFault>
-        ensures { IfOk result (gives self.now address) };
+    /// than so many seconds. It is noted that it was had.
+    fn dial(
+        &self,
+        alloc: Global,
+        address: SocketAddr,
+        idle: u32,
+        gone: &mut Gone<Self::Dialed>,
+    ) -> Result<Self::Dialed, DialFault>
+        ensures line { IfOk result (λ line. gives self.now address line × HasLine line gone.old gone.new) }
+        ensures none { OnErr result (gone.new ≡ gone.old) };
 }
 
 /// What dials over the system's sockets.
@@ -56,6 +64,7 @@ impl<N: Net> Dial for Sockets<'_, N> {
         alloc: Global,
         address: SocketAddr,
         idle: u32,
+        gone: &mut Gone<Link<BothWays<Socket<N::Stream>>>>,
     ) -> Result<Link<BothWays<Socket<N::Stream>>>, DialFault> {
         let Ok(events) = Events::with_capacity(alloc, 1) else {
             return Err(DialFault::Memory);
@@ -65,7 +74,10 @@ impl<N: Net> Dial for Sockets<'_, N> {
             Err(error) => return Err(DialFault::Unanswered(error)),
         };
         match linked(alloc, socket) {
-            Ok(link) => Ok(link),
+            Ok(link) => {
+                gone.has(&link);
+                Ok(link)
+            }
             Err(_) => Err(DialFault::Memory),
         }
     }
@@ -99,12 +111,12 @@ pub(crate) fn let_in<D: Dial>(
     token: Option<&Token>,
     gone: &mut Gone<D::Dialed>,
 ) -> Result<D::Dialed, DialFault>
-    ensures line { IfOk result (GivesIn D.Dialed.Line (D.gives dial.now address) (option_copied token.entry)) }
-    ensures kept { OnOk result (gone.new ≡ gone.old) }
+    ensures line { IfOk result (ComesIn D.Dialed.Line (D.gives dial.now address) (option_copied token.entry)
+        gone.old gone.new) }
     ensures nowhere { IfErr result (LeadsNowhere D.Dialed.Line (D.gives dial.now address) (option_copied token.entry)
         gone.old gone.new) }
 {
-    let line = match dial.dial(alloc, address, idle) {
+    let line = match dial.dial(alloc, address, idle, gone) {
         Ok(line) => line,
         Err(fault) => return Err(fault),
     };

@@ -13,7 +13,6 @@ mod progress;
 mod pushing;
 mod socket;
 mod stored_side;
-mod written;
 
 pub use between::{MeetingTerms, meet_run};
 pub use both_ways::{BothWays, Nonblocking};

@@ -14,7 +14,6 @@ ghost use Rattle.mvd_sync.specs.Session.{Session};
 
 use crate::peer_commands::{left_with, print_refused};
 use crate::progress::Watched;
-use crate::written::write_lines;
 use mvd_dots::Refusal;
 use mvd_hint::Stop;
 use mvd_input::Fault;
@@ -22,6 +21,7 @@ use mvd_keys::Path;
 use mvd_peer::Peer;
 use mvd_print::print_keys;
 use mvd_remote::{Line, Remote};
+use mvd_shell::write_lines;
 use mvd_sync::{Left, Report, Side, SyncFault, sync};
 use std::alloc::Global;
 use std::fmt::Write as Print;

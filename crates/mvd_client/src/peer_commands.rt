@@ -1,16 +1,17 @@
 //! The commands that meet a server: sessions of a stored site, and shells.
-ghost use Rattle.std.specs.Prelude.{◌≡◌, ◌≢◌, ◌≤◌, ◌+◌, ◌++◌, [], IfErr, IfOk, IsErr, OnOk, false, is_some, option_copied, string_bytes};
+ghost use Rattle.std.specs.Prelude.{◌≡◌, ◌≢◌, ◌≤◌, ◌+◌, ◌++◌, [], IfErr, IfOk, IsErr, List, OnOk, false, option_copied, string_bytes};
 ghost use Rattle.std.specs.Io.KnownBytes.{Appends};
 ghost use Rattle.mvd_client.specs.AskedServer.{RepliesNoted, lost_of};
 ghost use Rattle.mvd_client.specs.Gone.{LetsGo};
-ghost use Rattle.mvd_client.specs.LetIn.{GivesIn};
 ghost use Rattle.mvd_client.specs.Questioned.{CountsFew, questions};
+ghost use Rattle.mvd_client.specs.Refusals.{noted_in};
 ghost use Rattle.mvd_client.specs.Reported.{CutReport, HasNoLines, Reports, StopsLeft, refused_keys_text, root_in_states, session_text};
 ghost use Rattle.mvd_client.specs.Stopped.{StopsFaulted};
 ghost use Rattle.mvd_client.specs.Synced.{FollowsPushed, MeetsFar, TakesPushes};
-ghost use Rattle.mvd_client.specs.SyncSides.{sides_at};
+ghost use Rattle.mvd_client.specs.SyncSides.{in_session, sides_at};
 ghost use Rattle.mvd_client.specs.SyncsAt.{AreTrue, MeetsAt, SyncsAt, SyncsFrom, SyncsOver, TellsSession};
 ghost use Rattle.mvd_client.specs.Talked.{SaysBye, ShellsAt, ShellsOver};
+ghost use Rattle.mvd_dots.specs.declared.refusals.Refusal.{Refusal};
 ghost use Rattle.mvd_dots.specs.declared.refusals.Refusal.TheVariants.{Memory};
 ghost use Rattle.mvd_peer.specs.Sides.{two};
 ghost use Rattle.mvd_print.specs.Text.{root_text};
@@ -26,8 +27,7 @@ use crate::asked_server::{AskedServer, Noted};
 use crate::dial::{Dial, let_in, undialed};
 use crate::gone::Gone;
 use crate::progress::Watched;
-use crate::stored_side::StoredSide;
-use crate::written::write_lines;
+use crate::stored_side::{Refusals, StoredSide};
 use http_server::Log;
 use mvd_dots::Refusal;
 use mvd_hint::{Hint, Older, Stop};
@@ -37,7 +37,7 @@ use mvd_peer::Peer;
 use mvd_print::{print_keys, print_root};
 use mvd_remote::{Line, Remote};
 use mvd_replica::Replica;
-use mvd_shell::shell_run;
+use mvd_shell::{shell_run, write_lines};
 use mvd_sync::{Left, Report, Side, SyncFault, sync};
 use mvd_wire::Token;
 use sqlite::Alter;
@@ -60,12 +60,11 @@ pub fn sync_run<'a, D: Dial, S: Alter + Drop, E: Write>(
     told: Option<&mut E>,
 ) -> Result<Report, Stop<'a>>
     // A session ran over a line that the address gives, and what is told is what came of it; or there is no line.
-    ensures syncs { SyncsAt D.Dialed.Line
-        (GivesIn D.Dialed.Line (D.gives dial.now address) (option_copied token.entry)) address
+    ensures syncs { SyncsAt D.Dialed.Line (D.gives dial.now address) (option_copied token.entry) address
         gone.old gone.new replica.old replica.new result }
     // Where what the address leads to is true, and the site is not broken, the two meet.
     ensures meets { AreTrue D.Dialed.Line (D.gives dial.now address) → (site_of replica.old).broken ≡ false →
-        MeetsAt D.Dialed.Line (GivesIn D.Dialed.Line (D.gives dial.now address) (option_copied token.entry)) address
+        MeetsAt D.Dialed.Line (D.gives dial.now address) (option_copied token.entry) address
         replica.old replica.new result }
     // However it ends, all that was done to the site is turns, each of which pushed a state.
     ensures takes { TakesPushes replica.old replica.new }
@@ -107,8 +106,7 @@ pub fn sync_told<'a, D: Dial, S: Alter + Drop, W: Write, E: Write>(
     errors: &mut E,
 ) -> Result<(), Stop<'a>>
     // What is printed is what came of the session, and what was done to the site is its turns.
-    ensures tells { TellsSession D.Dialed.Line
-        (GivesIn D.Dialed.Line (D.gives dial.now address) (option_copied token.entry)) address
+    ensures tells { TellsSession D.Dialed.Line (D.gives dial.now address) (option_copied token.entry) address
         gone.old gone.new replica.old replica.new (W.contents writer.old) (W.contents writer.new) result }
 {
     replica.stands();
@@ -127,8 +125,8 @@ fn sync_line<L: Line, S: Alter + Drop, E: Write>(
     gone: &mut Gone<L>,
     told: Option<&mut E>,
 ) -> Result<Report, SyncFault>
-    ensures syncs { (left : Remote L) × SyncsFrom L.Line line left replica.old replica.new result
-        × LetsGo left gone.old gone.new }
+    ensures syncs { (left : Remote L) × (refused : List (Refusal × Unit {0}))
+        × SyncsFrom L.Line line left replica.old replica.new refused result × LetsGo left refused gone.old gone.new }
     ensures takes { TakesPushes replica.old replica.new }
     ensures pushed { FollowsPushed replica.old replica.new }
 {
@@ -138,16 +136,19 @@ fn sync_line<L: Line, S: Alter + Drop, E: Write>(
         moved: 0,
         told,
     };
-    let ran = sync_over(alloc, replica, &mut watched);
-    gone.lets_go(watched.side);
+    let mut refused = Refusals::none();
+    let ran = sync_over(alloc, replica, &mut refused, &mut watched);
+    gone.lets_go_with(watched.side, refused);
     ran
 }
 
 /// Runs a session over a line, and says Bye. Where the line is true, what is at its other end is a true side: both
-/// sides' states are joined, and where no fault is told all that differed, but for the keys that the session leaves.
+/// sides' states are joined, and where no fault is told all that differed, but for the keys that the session leaves. What
+/// the site refused in it is noted behind what it had refused.
 pub fn sync_over<L: Line, S: Alter + Drop, E: Write>(
     alloc: Global,
     replica: &mut Replica<S>,
+    refused: &mut Refusals,
     watched: &mut Watched<'_, Remote<L>, E>,
 ) -> Result<Report, SyncFault>
     ensures meets { IsTrueSite (site_of replica.old) → IsTrueRemote L.is_true L.far watched.old.side →
@@ -157,12 +158,13 @@ pub fn sync_over<L: Line, S: Alter + Drop, E: Write>(
         CountsFew (questions watched.old.asked.items) (questions watched.new.asked.items)
         (site_of replica.old).states (far_of L.far watched.old.side).states }
     // Whatever is at the other end.
-    ensures syncs { SyncsOver L.Line replica.old replica.new watched.old.side watched.new.side result }
+    ensures syncs { SyncsOver L.Line (in_session replica.old (noted_in refused.old))
+        (in_session replica.new (noted_in refused.new)) watched.old.side watched.new.side result }
     ensures takes { TakesPushes replica.old replica.new }
     ensures pushed { FollowsPushed replica.old replica.new }
     ensures most { questions watched.new.asked.items ≤ questions watched.old.asked.items + 10000000 }
 {
-    let report = match session_of(alloc, replica, watched) {
+    let report = match session_of(alloc, replica, refused, watched) {
         Ok(report) => report,
         Err(fault) => return Err(fault),
     };
@@ -176,12 +178,15 @@ pub fn sync_over<L: Line, S: Alter + Drop, E: Write>(
 fn session_of<L: Line, S: Alter + Drop, E: Write>(
     alloc: Global,
     replica: &mut Replica<S>,
+    refused: &mut Refusals,
     watched: &mut Watched<'_, Remote<L>, E>,
 ) -> Result<Report, SyncFault>
-    ensures session { Session (sides_at L.Line) 10000000 (two replica.old watched.old.side)
-        (two replica.new watched.new.side) result }
-    ensures ran { IfOk result (IsRun (sides_at L.Line) 10000000 (two replica.old watched.old.side)
-        (two replica.new watched.new.side)) }
+    ensures session { Session (sides_at L.Line) 10000000
+        (two (in_session replica.old (noted_in refused.old)) watched.old.side)
+        (two (in_session replica.new (noted_in refused.new)) watched.new.side) result }
+    ensures ran { IfOk result (IsRun (sides_at L.Line) 10000000
+        (two (in_session replica.old (noted_in refused.old)) watched.old.side)
+        (two (in_session replica.new (noted_in refused.new)) watched.new.side)) }
     // What it does to the site is turns.
     ensures takes { TakesPushes replica.old replica.new }
     ensures pushed { FollowsPushed replica.old replica.new }
@@ -190,21 +195,24 @@ fn session_of<L: Line, S: Alter + Drop, E: Write>(
         (site_of replica.old).states (far_of L.far watched.old.side).states }
     ensures most { questions watched.new.asked.items ≤ questions watched.old.asked.items + 10000000 }
 {
-    let mut side = StoredSide { replica };
+    let mut side = StoredSide { replica, refused };
     session_with(alloc, &mut side, watched)
 }
 
-/// The same of the site behind a reference.
+/// The same of the site behind references.
 fn session_with<L: Line, S: Alter + Drop, E: Write>(
     alloc: Global,
     side: &mut StoredSide<'_, S>,
     watched: &mut Watched<'_, Remote<L>, E>,
 ) -> Result<Report, SyncFault>
     ensures same_reference { side.new.replica.ghost_name ≡ side.old.replica.ghost_name }
-    ensures session { Session (sides_at L.Line) 10000000 (two side.old.replica.now watched.old.side)
-        (two side.new.replica.now watched.new.side) result }
-    ensures ran { IfOk result (IsRun (sides_at L.Line) 10000000 (two side.old.replica.now watched.old.side)
-        (two side.new.replica.now watched.new.side)) }
+    ensures same_notes { side.new.refused.ghost_name ≡ side.old.refused.ghost_name }
+    ensures session { Session (sides_at L.Line) 10000000
+        (two (in_session side.old.replica.now (noted_in side.old.refused.now)) watched.old.side)
+        (two (in_session side.new.replica.now (noted_in side.new.refused.now)) watched.new.side) result }
+    ensures ran { IfOk result (IsRun (sides_at L.Line) 10000000
+        (two (in_session side.old.replica.now (noted_in side.old.refused.now)) watched.old.side)
+        (two (in_session side.new.replica.now (noted_in side.new.refused.now)) watched.new.side)) }
     ensures takes { TakesPushes side.old.replica.now side.new.replica.now }
     ensures pushed { FollowsPushed side.old.replica.now side.new.replica.now }
     ensures few { IsTrueSite (site_of side.old.replica.now) → IsTrueRemote L.is_true L.far watched.old.side →
@@ -335,9 +343,8 @@ pub fn remote_shell_run<'a, D: Dial, R: BufRead, W: Write>(
     writer: &mut W,
 ) -> Result<(), Stop<'a>>
     // The shell is over a line that the address gives; or there is no line.
-    ensures shells { ShellsAt D.Dialed.Line
-        (GivesIn D.Dialed.Line (D.gives dial.now address) (option_copied token.entry))
-        (is_some (option_copied token.entry)) address gone.old gone.new
+    ensures shells { ShellsAt D.Dialed.Line (D.gives dial.now address) (option_copied token.entry) address
+        gone.old gone.new
         (R.remaining reader.old) (W.contents writer.old) (R.remaining reader.new) (W.contents writer.new) result }
 {
     let line = match let_in(dial, alloc, address, idle, token, gone) {

@@ -1,15 +1,17 @@
-//! A stored site as a side of a session, of which each push is a turn.
-ghost use Rattle.std.specs.Prelude.{◌≡◌, false, Some, IfErr, IfOk};
+//! A stored site as a side of a session, of which each push is a turn, and each refusal is noted.
+ghost use Rattle.std.specs.Prelude.{◌≡◌, ◌++◌, ◌∷◌, [], false, Some, IfErr, IfOk};
 ghost use Rattle.std.specs.Option.{option_copied};
-ghost use Rattle.std.proofs.Common.{ap, inl, refl, ◌∙◌};
+ghost use Rattle.std.proofs.Common.{ap, inl, inr, refl, ◌∙◌};
 ghost use Rattle.mvd_client.specs.Pushing.{EndsPushes, FollowsTurns, TellsPushes, turns_on, turns_self};
+ghost use Rattle.mvd_client.specs.Refusals.{StaysNoted, StoredRefuses, noted_in, refused_in, refused_of_window};
 ghost use Rattle.mvd_keys.specs.State.{IsValid};
 ghost use Rattle.mvd_replica.specs.ReplicaCalls.{TellsBucketPage, TellsState, node_told};
 ghost use Rattle.mvd_replica.specs.Replicas.{site_of};
 ghost use Rattle.mvd_replica.specs.SideCalls.{PushesOnSide};
-ghost use Rattle.mvd_replica.specs.Sides.{IsTrueSite, ReplicaRefuses};
+ghost use Rattle.mvd_replica.specs.Sides.{IsTrueSite};
 
 use crate::pushing::push_window;
+use http_server::Log;
 use mvd_dots::Refusal;
 use mvd_keys::{Key, KeyState, Path};
 use mvd_peer::{Page, Peer};
@@ -18,11 +20,54 @@ use mvd_wire::Digests;
 use sqlite::Alter;
 use std::alloc::Global;
 
+/// What the calls of a stored site were refused with in a session: for proofs alone, and it takes no memory. Nothing
+/// but its side notes anything here.
+#[derive(Drop)]
+pub struct Refusals {
+    noted: Log<Refusal, ()>,
+}
+
+impl Refusals {
+    pub fn none() -> Self
+        ensures { noted_in result ≡ [] }
+    {
+        Refusals { noted: Log::new() }
+    }
+
+    /// Notes the refusal of a call, if it was refused.
+    fn note<A>(&mut self, told: &Result<A, Refusal>)
+        ensures { noted_in self.new ≡ noted_in self.old ++ refused_in (told.now ∷ []) }
+    {
+        if let Err(refusal) = told {
+            self.noted = self.noted.and(refusal, &());
+        }
+    }
+
+    /// Notes the refusals of a window.
+    fn note_window(&mut self, told: &Result<Vec<Result<(), Refusal>>, Refusal>)
+        ensures { noted_in self.new ≡ noted_in self.old ++ refused_of_window told.now }
+    {
+        match told {
+            Ok(answers) => self.note_all(answers.as_slice()),
+            Err(refusal) => self.noted = self.noted.and(refusal, &()),
+        }
+    }
+
+    fn note_all(&mut self, told: &[Result<(), Refusal>])
+        ensures { noted_in self.new ≡ noted_in self.old ++ refused_in told.now }
+    {
+        for answer in told {
+            self.note(answer);
+        }
+    }
+}
+
 /// A replica as a side of a session. What a session does to it is turns, each of which pushes a state, with the reply
 /// that it has.
 #[derive(Drop)]
 pub struct StoredSide<'a, S: Alter + Drop> {
     pub replica: &'a mut Replica<S>,
+    pub refused: &'a mut Refusals,
 }
 
 /// It is asked what the replica is asked, in the same windows, and is as true.
@@ -36,11 +81,12 @@ impl<S: Alter + Drop> Peer for StoredSide<'_, S> {
 
     ghost can_give = { λ _ _. Unit {0} };
 
-    // It stays the same replica.
+    // It stays the same replica, and what was noted stays.
     ghost follows = { λ _ old new. (new.replica.ghost_name ≡ old.replica.ghost_name)
-        × FollowsTurns old.replica.now new.replica.now };
+        × FollowsTurns old.replica.now new.replica.now × (new.refused.ghost_name ≡ old.refused.ghost_name)
+        × StaysNoted (noted_in old.refused.now) (noted_in new.refused.now) };
 
-    ghost can_refuse = { λ side. ReplicaRefuses (site_of side.replica.now) };
+    ghost can_refuse = { λ side. StoredRefuses (site_of side.replica.now) (noted_in side.refused.now) };
 
     ghost can_answer = { λ side. (site_of side.replica.now).broken ≡ false };
 
@@ -52,12 +98,16 @@ impl<S: Alter + Drop> Peer for StoredSide<'_, S> {
 
     ghost live_form = { λ _ whole. whole.1 };
 
-    ghost follows_self = { λ side. (refl, turns_self side.replica.now) };
+    ghost follows_self = { λ side. (refl, turns_self side.replica.now, refl, λ _ was. was) };
 
-    ghost follows_on = { λ _ _ old mid new p q.
-        (q.0 ∙ p.0, turns_on old.replica.now mid.replica.now new.replica.now p.1 q.1) };
+    ghost follows_on = { λ _ _ old mid new p q. (
+      q.0 ∙ p.0,
+      turns_on old.replica.now mid.replica.now new.replica.now p.1 q.1,
+      q.2 ∙ p.2,
+      λ refusal was. q.3 refusal (p.3 refusal was),
+    ) };
 
-    ghost lacks = { λ _ whole. inl (refl, whole) };
+    ghost lacks = { λ _ whole. (inl (refl, whole), inr (inl refl)) };
 
     ghost most_stays = { λ _ old new follows. ap (λ c. c.max_keys) follows.1.follows.site.0 };
 
@@ -73,34 +123,50 @@ impl<S: Alter + Drop> Peer for StoredSide<'_, S> {
         ensures told { result ≡ node_told (site_of self.old.replica.now) path.now }
         ensures same { self.new.replica.now ≡ self.old.replica.now }
         ensures same_reference { self.new.replica.ghost_name ≡ self.old.replica.ghost_name }
+        ensures same_notes { self.new.refused.ghost_name ≡ self.old.refused.ghost_name }
+        ensures notes { noted_in self.new.refused.now ≡ noted_in self.old.refused.now ++ refused_in (result ∷ []) }
     {
-        Replica::node(self.replica, path)
+        let told = Replica::node(self.replica, path);
+        self.refused.note(&told);
+        told
     }
 
     fn bucket(&mut self, path: &Path, after: Option<&Key>) -> Result<Page, Refusal>
         ensures told { TellsBucketPage (site_of self.old.replica.now) path.now (option_copied after.entry) result }
         ensures same { self.new.replica.now ≡ self.old.replica.now }
         ensures same_reference { self.new.replica.ghost_name ≡ self.old.replica.ghost_name }
+        ensures same_notes { self.new.refused.ghost_name ≡ self.old.refused.ghost_name }
+        ensures notes { noted_in self.new.refused.now ≡ noted_in self.old.refused.now ++ refused_in (result ∷ []) }
     {
-        Replica::bucket(self.replica, path, after)
+        let told = Replica::bucket(self.replica, path, after);
+        self.refused.note(&told);
+        told
     }
 
     fn get(&mut self, key: &Key) -> Result<KeyState, Refusal>
         ensures told { TellsState (site_of self.old.replica.now) key.now result }
         ensures same { self.new.replica.now ≡ self.old.replica.now }
         ensures same_reference { self.new.replica.ghost_name ≡ self.old.replica.ghost_name }
+        ensures same_notes { self.new.refused.ghost_name ≡ self.old.refused.ghost_name }
+        ensures notes { noted_in self.new.refused.now ≡ noted_in self.old.refused.now ++ refused_in (result ∷ []) }
     {
-        Replica::get(self.replica, key)
+        let told = Replica::get(self.replica, key);
+        self.refused.note(&told);
+        told
     }
 
     fn push(&mut self, key: &Key, state: &KeyState) -> Result<(), Refusal>
         ensures pushes { PushesOnSide self.old.replica.now key.now state.now result self.new.replica.now }
         ensures valid { IsValid state.now }
         ensures same_reference { self.new.replica.ghost_name ≡ self.old.replica.ghost_name }
+        ensures same_notes { self.new.refused.ghost_name ≡ self.old.refused.ghost_name }
+        ensures notes { noted_in self.new.refused.now ≡ noted_in self.old.refused.now ++ refused_in (result ∷ []) }
     {
         // Here it is known that the pushed state's siblings have been seen.
         let _seen = state.context();
-        Peer::push(&mut *self.replica, key, state)
+        let told = Peer::push(&mut *self.replica, key, state);
+        self.refused.note(&told);
+        told
     }
 
     fn push_all(&mut self, pairs: &[(Key, KeyState)]) -> Result<Vec<Result<(), Refusal>>, Refusal>
@@ -108,7 +174,11 @@ impl<S: Alter + Drop> Peer for StoredSide<'_, S> {
         ensures ended { IfErr result (EndsPushes self.old.replica.now self.new.replica.now) }
         ensures turns { FollowsTurns self.old.replica.now self.new.replica.now }
         ensures same_reference { self.new.replica.ghost_name ≡ self.old.replica.ghost_name }
+        ensures same_notes { self.new.refused.ghost_name ≡ self.old.refused.ghost_name }
+        ensures notes { noted_in self.new.refused.now ≡ noted_in self.old.refused.now ++ refused_of_window result }
     {
-        push_window(self.replica, pairs)
+        let told = push_window(self.replica, pairs);
+        self.refused.note_window(&told);
+        told
     }
 }

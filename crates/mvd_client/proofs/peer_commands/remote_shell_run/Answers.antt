@@ -1,5 +1,4 @@
-use Rattle.std.proofs.Common.{◌≡◌, ◌∙◌, Bor, None, Option, Some, is_some, option_copied, refl, subst}
-use Rattle.mvd_client.specs.Gone.{LetsGo}
+use Rattle.std.proofs.Common.{◌≡◌, ◌∙◌, Bor, None, Option, Some, is_some, option_copied, refl}
 use Rattle.mvd_client.specs.Talked.ShellsAt.{nobody, ran}
 use Rattle.mvd_client.proofs.peer_commands.remote_shell_run.Goals as goal
 
@@ -10,12 +9,11 @@ copied (Some it) = refl
 
 pub returns-in-Err : goal.returns-in-Err
 returns-in-Err g c = record {
-  shells = nobody c.undialed.result refl (c.in-Err.fault, c.undialed.ensures) refl refl;
+  shells = nobody c.in-Err.fault c.in-Err.ensures.nowhere c.undialed.result refl c.undialed.ensures refl refl;
 }
 
 pub returns : goal.returns
 returns g c = record {
-  shells = ran c.in-Ok.line c.in-Ok.ensures.line c.over-server.result c.shell_over-ended.new.server c.over-server.ensures.line c.over-server.ensures.goes_on c.over-server.ensures.up c.over-server.ensures.none_lost c.over-server.ensures.goes
-      (c.over-server.ensures.shown ∙ c.is_some.ensures ∙ copied c.args.token) c.shell_over-ended.ensures.shells
-      (subst (λ gone. LetsGo c.shell_over-ended.new.server.remote gone c.lets_go.new.self) c.in-Ok.ensures.kept c.lets_go.ensures);
+  shells = ran c.let_in.new.gone c.in-Ok.line c.in-Ok.ensures.line c.over-server.result c.shell_over-ended.new.server c.over-server.ensures.line c.over-server.ensures.goes_on c.over-server.ensures.up c.over-server.ensures.none_lost c.over-server.ensures.goes
+      (c.over-server.ensures.shown ∙ c.is_some.ensures ∙ copied c.args.token) c.shell_over-ended.ensures.shells c.lets_go.ensures;
 }

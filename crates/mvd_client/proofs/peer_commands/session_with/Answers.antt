@@ -1,5 +1,6 @@
 use Rattle.std.proofs.Common.{arith}
-use Rattle.mvd_client.specs.SyncSides.{far_side, line_side, stored_side}
+use Rattle.mvd_client.specs.Refusals.{noted_in}
+use Rattle.mvd_client.specs.SyncSides.{far_side, in_session, line_side, stored_side}
 use Rattle.mvd_client.proofs.PushTurns.{takes_turns}
 use Rattle.mvd_client.proofs.Ran.{run_within}
 use Rattle.mvd_client.proofs.Seen.{session_within}
@@ -9,14 +10,17 @@ use Rattle.mvd_client.proofs.peer_commands.session_with.Goals as goal
 pub returns-clause-same_reference : goal.returns-clause-same_reference
 returns-clause-same_reference g c = c.sync.ensures.session.course.follows.0.0
 
+pub returns-clause-same_notes : goal.returns-clause-same_notes
+returns-clause-same_notes g c = c.sync.ensures.session.course.follows.0.2
+
 pub returns-clause-session : goal.returns-clause-session
 returns-clause-session g c =
-    session_within c.args.side.now c.sync.new.local c.args.watched.now c.sync.new.peer (λ side. side.replica.now) (λ watched. watched.side) stored_side (far_side (line_side g.L.Line)) _ _ 10000000 c.sync.result c.sync.ensures.session
-    (λ n old new way. way.1.follows) (λ n old new way. way.0.1)
+    session_within c.args.side.now c.sync.new.local c.args.watched.now c.sync.new.peer (λ side. in_session side.replica.now (noted_in side.refused.now)) (λ watched. watched.side) stored_side (far_side (line_side g.L.Line)) _ _ 10000000 c.sync.result c.sync.ensures.session
+    (λ n old new way. (way.1.follows, way.3)) (λ n old new way. way.0.1)
 
 pub returns-clause-ran : goal.returns-clause-ran
 returns-clause-ran g c =
-    run_within (λ side. side.replica.now) (λ watched. watched.side) stored_side (far_side (line_side g.L.Line)) _ _ (λ n old new way. way.1.follows) (λ n old new way. way.0.1)
+    run_within (λ side. in_session side.replica.now (noted_in side.refused.now)) (λ watched. watched.side) stored_side (far_side (line_side g.L.Line)) _ _ (λ n old new way. (way.1.follows, way.3)) (λ n old new way. way.0.1)
     10000000 c.args.side.now c.sync.new.local c.args.watched.now c.sync.new.peer c.sync.result c.sync.ensures.ran
 
 pub returns-clause-takes : goal.returns-clause-takes

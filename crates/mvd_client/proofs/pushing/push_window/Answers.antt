@@ -2,7 +2,8 @@ use Rattle.std.proofs.Common.{◌≡◌, ◌∙◌, ◌++◌, map, ap, refl, sym
 use Rattle.mvd_peer.specs.Windows.{EachAnswer, EachTold, Pushes}
 use Rattle.mvd_peer.proofs.OneByOne.{at_err}
 use Rattle.mvd_replica.specs.Pushes.{told_of}
-use Rattle.mvd_replica.specs.Replicas.{site_of, store_of}
+use Rattle.mvd_replica.specs.Batch.{AnswersAll}
+use Rattle.mvd_replica.specs.Replicas.{site_of, store_of, stored_of}
 use Rattle.mvd_replica.specs.Sides.{ReplicaRefuses}
 use Rattle.mvd_replica.specs.declared.replica.Replica.{Replica}
 use Rattle.mvd_replica.proofs.Commits.{answers_all}
@@ -58,6 +59,7 @@ returns-clause-told g c =
     let items : c.add_told.new.told.items ≡ map told_of c.in_ok-replies.replies.items = c.add_told.ensures.told ∙ ap (λ l. l ++ map told_of c.in_ok-replies.replies.items) c.in_ok-told.ensures.items in
     record {
       whole = whole;
+      alike = (c.in_ok-replies.replies.items, items, subst (λ qs. AnswersAll qs c.in_ok-replies.replies.items (stored_of old) (stored_of new)) asked all);
       each = subst (EachAnswer (λ _ _. Unit {0}) c.args.pairs.now) (sym items) each;
       told = subst (EachTold (Unit {0}) (ReplicaRefuses (site_of new))) (sym items) told.1;
       pushes = λ was. ((whole, c.stands-2.ensures.held), subst (λ ts. Pushes (site_of old).config.max_keys (site_of old).states c.args.pairs.now ts (site_of new).states) (sym items) told.0);

@@ -1,5 +1,5 @@
 use Rattle.std.proofs.Common.{Some}
-use Rattle.mvd_client.proofs.Cutting.{front_all}
+use Rattle.mvd_shell.proofs.Fronts.{front_all}
 use Rattle.mvd_client.specs.Sent.{bytes_in}
 use Rattle.mvd_client.proofs.link.LinkLine.send.Goals as goal
 

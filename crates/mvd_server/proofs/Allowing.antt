@@ -42,7 +42,7 @@ use Rattle.mvd_server.specs.Questions.{TellsAsks, TellsBadLine, TellsText}
 use Rattle.mvd_server.specs.Responding.{AnswersWeb, RefusesWeb, TellsBody, json_answer}
 use Rattle.mvd_server.specs.Rounds.{IsAllowed, KnowsPass, with_round}
 use Rattle.mvd_server.specs.Since.{followed_in, since_told}
-use Rattle.mvd_server.specs.Talking.{Act, Attends, Begins, Calls, Comes, ComesByWeb, ComesOwn, DoesAct, Drops, Follows, Goes, GoesOwn, Hands, IsWriting, MayBeginWrites, Rotates, Talking, TurnsBack, new_talking, web_in, with_host, with_web}
+use Rattle.mvd_server.specs.Talking.{Act, Attends, Begins, Calls, Comes, ComesByWeb, ComesOwn, DoesAct, Drops, Follows, Goes, GoesOwn, Hands, IsWriting, MayBeginWrites, Rotates, Talking, TurnsAway, TurnsBack, new_talking, web_in, with_host, with_web}
 use Rattle.mvd_server.specs.Wires.{GivesOut, SendsBy, TakesBy, TakesInput}
 use Rattle.mvd_server.specs.declared.batch.Batch.{Batch}
 use Rattle.mvd_server.specs.declared.gate.Plan.{Plan}
@@ -507,6 +507,7 @@ module _ (Known : Pass → Type 0) (passes : Option (List Pass)) where
       })
   allowed_deed old new same known (ComesOwn n) does all = subst AreAllowed (sym does.1) (still old _ refl refl refl all)
   allowed_deed old new same known (TurnsBack n mid) does all = subst AreAllowed (sym does.3) (still old _ refl refl refl all)
+  allowed_deed old new same known (TurnsAway n) does all = subst AreAllowed (sym does.1) (still old _ refl refl refl all)
   allowed_deed old new same known (Goes n) does all =
       subst AreAllowed (sym does.2) (record { hand = all.hand; batches = entries_less MayBatch n old.batches all.batches; webs = entries_less MayWeb n old.webs all.webs })
   allowed_deed old new same known (GoesOwn n) does all = subst AreAllowed (sym does.2) (still old _ refl refl refl all)
@@ -548,7 +549,7 @@ module _ (Known : Pass → Type 0) (passes : Option (List Pass)) where
 
   takes_by : (web : Option WebConnection) (n : ℕ) (bytes : List ℕ) (old new : Talking) → web_in old n ≡ web → TakesBy web n bytes old new → AreAllowed old → AreAllowed new
   takes_by None n bytes old new at (apart, takes, same) all = subst AreAllowed (sym same) (still old (with_host old new.host) refl refl refl all)
-  takes_by (Some web) n bytes old new at (web', (front, rest, both, feeds), same) all = subst AreAllowed (sym same) (web_still old n web web' at (fed_asks front rest (web_of web) (web_of web') feeds) all)
+  takes_by (Some web) n bytes old new at (web', (wants, (front, rest, both, feeds)), same) all = subst AreAllowed (sym same) (web_still old n web web' at (fed_asks front rest (web_of web) (web_of web') feeds) all)
 
   pub allowed_in : (n : ℕ) (bytes : List ℕ) (old new : Talking) → TakesInput n bytes old new → AreAllowed old → AreAllowed new
   allowed_in n bytes old new (inl takes) all = takes_by (web_in old n) n bytes old new refl takes all

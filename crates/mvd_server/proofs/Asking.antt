@@ -1,7 +1,7 @@
 -- Who asks is answered first.
-use Rattle.std.proofs.Common.{◌≡◌, subst, sym}
+use Rattle.std.proofs.Common.{◌≡◌}
 use Rattle.mvd_replica.specs.declared.replica.Replica.{Replica}
-use Rattle.mvd_server.proofs.Rounds.{goes_answers, goes_carries, goes_deeds, goes_in, goes_none, goes_on, goes_round}
+use Rattle.mvd_server.proofs.Rounds.{goes_answers, goes_carries, goes_deeds, goes_in, goes_on, goes_round}
 use Rattle.mvd_server.specs.Rounds.{AnswersClients, GoesOnServing, HasRound}
 use Rattle.mvd_server.specs.Talking.{TalksDeeds, talking_of}
 use Rattle.mvd_server.specs.Wires.{Carries, Wired, wired_of}
@@ -9,17 +9,11 @@ use Rattle.mvd_server.specs.declared.sockets.Sockets.{Ghosts as SocketGhosts}
 use Rattle.mvd_server.specs.declared.talks.Talks.{Talks}
 use Rattle.sqlite_trees.specs.declared.store.Store.{Ghosts}
 
-module _ {S : Type 0} {g : Ghosts S} {K : Type 0} (k : SocketGhosts K) where
-  -- nobody is
-  pub asked_none : (t listed : Talks) (s : K) (replica : Replica S g) → listed ≡ t → GoesOnServing k (wired_of t s) replica (wired_of listed s) replica
-  asked_none t listed s replica same = subst (λ (x : Talks). GoesOnServing k (wired_of t s) replica (wired_of x s) replica) (sym same) (goes_none k (wired_of t s) replica)
-
-  -- those who ask are listed, answered, and told
-  pub asked_first : (t listed asked told : Talks) (s s' : K) (old new : Replica S g) → listed ≡ t → HasRound (talking_of listed) (talking_of asked) old new → Carries k (wired_of asked s) (wired_of told s')
-      → GoesOnServing k (wired_of t s) old (wired_of told s') new
-  asked_first t listed asked told s s' old new same round sends =
-      subst (λ (x : Talks). GoesOnServing k (wired_of x s) old (wired_of told s') new) same
-      (goes_on k (wired_of listed s) (wired_of asked s) (wired_of told s') old new new (goes_round k (talking_of listed) (talking_of asked) s old new round) (goes_carries k (wired_of asked s) (wired_of told s') new sends))
+module _ {S : Type 0} {g : Ghosts S} {K I A T : Type 0} (k : SocketGhosts K I A T) where
+  -- those who ask are answered, and told
+  pub asked_first : (t asked told : Talks) (s s' : K) (old new : Replica S g) → HasRound (talking_of t) (talking_of asked) old new → Carries k (wired_of asked s) (wired_of told s') → GoesOnServing k (wired_of t s) old (wired_of told s') new
+  asked_first t asked told s s' old new round sends =
+      goes_on k (wired_of t s) (wired_of asked s) (wired_of told s') old new new (goes_round k (talking_of t) (talking_of asked) s old new round) (goes_carries k (wired_of asked s) (wired_of told s') new sends)
 
   -- a pass up to its commit: what came is taken in, and who asks is answered
   pub passes_in : (t mid t' a asked : Talks) (s s' s'' : K) (old now : Replica S g) → mid ≡ t → Carries k (wired_of mid s) (wired_of t' s') → TalksDeeds t' a → GoesOnServing k (wired_of a s') old (wired_of asked s'') now

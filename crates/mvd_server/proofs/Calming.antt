@@ -8,7 +8,7 @@ use Rattle.mvd_host.specs.Runs.{Calls as Called, Closes, Comes as Came, Feeds, G
 use Rattle.mvd_server.proofs.Errands.{MayStep, steps_batch, steps_errand}
 use Rattle.mvd_server.specs.HostBytes.{TakesBytes, sent_of, waits_of}
 use Rattle.mvd_server.specs.Guarded.{first_guard}
-use Rattle.mvd_server.specs.Talking.{Act, Attends, Begins, Calls, Comes, ComesByWeb, ComesOwn, DoesAct, Drops, Follows, Goes, GoesOwn, Hands, Rotates, Talking, TurnsBack, web_in}
+use Rattle.mvd_server.specs.Talking.{Act, Attends, Begins, Calls, Comes, ComesByWeb, ComesOwn, DoesAct, Drops, Follows, Goes, GoesOwn, Hands, Rotates, Talking, TurnsAway, TurnsBack, web_in}
 use Rattle.mvd_server.specs.Wires.{GivesOut, SendsBy, TakesBy, TakesInput}
 use Rattle.mvd_site.specs.Sites.{SiteValue}
 use Rattle.sqlite.specs.State.{State}
@@ -47,6 +47,7 @@ module _ {C : Type 0} (f : C → State) (site : SiteValue) (conn : C) where
   of_deed old new (ComesOwn n) does = of_host old new (ap (λ (t : Talking). t.hand) does.1) (record { all = Came n new.host ∷ []; runs = ((None, does.0), tt); ends = refl; none = refl })
   of_deed old new (TurnsBack n mid) does =
       of_host old new (ap (λ (t : Talking). t.hand) does.3) (record { all = Came n mid ∷ Gone n new.host ∷ []; runs = ((does.0, does.1), (does.2, tt)); ends = refl; none = refl })
+  of_deed old new (TurnsAway n) does = of_none old new (ap (λ (t : Talking). t.host) does.1) (ap (λ (t : Talking). t.hand) does.1)
   of_deed old new (Goes n) does = of_host old new (ap (λ (t : Talking). t.hand) does.2) (record { all = Gone n new.host ∷ []; runs = (does.1, tt); ends = refl; none = refl })
   of_deed old new (GoesOwn n) does = of_host old new (ap (λ (t : Talking). t.hand) does.2) (record { all = Gone n new.host ∷ []; runs = (does.1, tt); ends = refl; none = refl })
   of_deed old new (Calls n call) does = record { all = Called n call ∷ []; runs = (tt, tt); ends = ap moment (sym does.1); none = refl }

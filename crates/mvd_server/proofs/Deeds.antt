@@ -1,5 +1,5 @@
 -- Deeds, one after the other, and bytes carried between them.
-use Rattle.std.proofs.Common.{◌≡◌, ◌∙◌, ◌⊎◌, ◌+◌, ℕ, Bool, true, false, true≢false, List, Option, None, Some, is_some, inl, inr, refl, sym, subst, ap}
+use Rattle.std.proofs.Common.{◌≡◌, ◌∙◌, ◌⊎◌, ◌+◌, ◌<◌, ℕ, Bool, true, false, true≢false, List, length, Option, None, Some, is_some, inl, inr, refl, sym, subst, ap}
 use Rattle.std.specs.Option.{IfSome}
 use Rattle.std.specs.BTreeMap.{insert_entry, is_at}
 use Rattle.std.specs.Map.{set_value}
@@ -10,20 +10,22 @@ use Rattle.mvd_conn.specs.declared.source.Source.TheVariants as source
 use Rattle.mvd_conn.specs.History.{closed, cut, released}
 use Rattle.mvd_dots.specs.declared.refusals.Refusal.TheVariants.{Memory}
 use Rattle.mvd_host.specs.AtHand.{AtHandValue}
-use Rattle.mvd_host.specs.Hosts.{Admits, HostValue, altered}
+use Rattle.mvd_host.specs.Hosts.{Admits, HostValue, altered, clients_most}
 use Rattle.mvd_host.specs.Runs.{Call, Closes, Cuts, Feeds, Releases, Sends, after_call}
 use Rattle.mvd_dots.specs.declared.refusals.Refusal.{Refusal}
 use Rattle.mvd_server.specs.Batches.{HandsBatch}
 use Rattle.mvd_server.specs.Errands.{Asks, AsksNextOf, Errand, Forgoes, IsBatchFor, KeepsWrites, RunsErrand, Stops, Tells, TellsBatch, TellsMany, batch_in, desk}
 use Rattle.mvd_server.specs.HostBytes.{TakesBytes, sent_of}
+use Rattle.mvd_server.specs.Moves.{TakesOne}
 use Rattle.mvd_server.specs.OwnSides.{DismissesIf, DismissesOwn}
 use Rattle.mvd_server.specs.Responding.{AnswersWeb, RefusesWeb}
 use Rattle.mvd_server.specs.Guarded.{first_guard}
-use Rattle.mvd_server.specs.Talking.{Act, Attends, Begins, Calls, Comes, ComesBy, ComesByWeb, Deed, Deeds, DeedsAt, DoesAct, Drops, GoesOwn, Hands, IsOf, IsWriting, KeepsBatch, LacksMemory, MayBeginWrites, MayCall, TakesReply, TalksDeeds, Talking, is_own_client, talking_of, web_in, with_host, with_web}
-use Rattle.mvd_server.specs.Wires.{Carries, GivesOut, TakesInput, Wired, WiredStep}
+use Rattle.mvd_server.specs.Talking.{Act, Attends, Begins, Calls, Comes, ComesBy, ComesByWeb, Deed, Deeds, DeedsAt, DoesAct, Drops, GoesAtOnce, GoesOwn, Hands, IsOf, IsWriting, KeepsBatch, LacksMemory, MayBeginWrites, MayCall, TakesReply, TalksDeeds, Talking, TurnsBack, is_own_client, newcomer, talking_of, web_in, with_host, with_web}
+use Rattle.mvd_server.specs.Wires.{Carries, ComesBySocket, GivesOut, TakesInput, Wired, WiredStep}
 use Rattle.mvd_server.specs.declared.batch.Batch.{Batch}
 use Rattle.mvd_server.specs.declared.gate.Rest.{Rest}
-use Rattle.mvd_server.specs.declared.talks.Kind.TheVariants.{Http}
+use Rattle.mvd_server.specs.declared.talks.Kind.{Kind}
+use Rattle.mvd_server.specs.declared.talks.Kind.TheVariants.{Frames, Http}
 use Rattle.mvd_server.specs.declared.talks.Talks.{Talks}
 use Rattle.mvd_server.specs.declared.sockets.Sockets.{Ghosts}
 use Rattle.mvd_server.proofs.Keyed.{found_at, set_here}
@@ -178,11 +180,11 @@ comes_frames old None host (same, full) = deeds_same old (with_host old host) (a
 comes_frames old (Some n) host one = deeds_one (Comes n) old (with_host old host) (λ site. tt) (one, refl)
 
 -- one over HTTP
-pub does_web : (n : ℕ) (web : WebConnection) (old new : Talking) → n ≡ old.next → IsNew (web_of web) → new ≡ record old { webs = insert_entry nat_cmp old.webs n web; next = old.next + 1 } → ComesBy Http n old new
-does_web n web old new next fresh same = (web, (next, fresh, same))
+pub does_web : (n : ℕ) (web : WebConnection) (old new : Talking) → n ≡ old.next → length old.webs < clients_most → IsNew (web_of web) → new ≡ record old { webs = insert_entry nat_cmp old.webs n web; next = old.next + 1 } → ComesBy Http n old new
+does_web n web old new next few fresh same = (web, ((next, few), fresh, same))
 
-pub comes_web : (n : ℕ) (web : WebConnection) (old new : Talking) → n ≡ old.next → IsNew (web_of web) → new ≡ record old { webs = insert_entry nat_cmp old.webs n web; next = old.next + 1 } → Deeds old new
-comes_web n web old new next fresh same = deeds_one (ComesByWeb n web) old new (λ site. tt) (next, fresh, same)
+pub comes_web : (n : ℕ) (web : WebConnection) (old new : Talking) → n ≡ old.next → length old.webs < clients_most → IsNew (web_of web) → new ≡ record old { webs = insert_entry nat_cmp old.webs n web; next = old.next + 1 } → Deeds old new
+comes_web n web old new next few fresh same = deeds_one (ComesByWeb n web) old new (λ site. tt) ((next, few), fresh, same)
 
 -- no connection over HTTP is there
 pub unturned : (old : Talking) (host : HostValue) (entries : List (ℕ × WebConnection)) → entries ≡ old.webs → Deeds old (with_host old host) → Deeds old (record old { host = host; webs = entries })
@@ -193,6 +195,10 @@ pub comes_told : (old : Talking) (o : Option ℕ) (host : HostValue) → Admits 
 comes_told old None host none = tt
 comes_told old (Some n) host one = (one, refl)
 
+pub stays_told : (old : Talking) (o : Option ℕ) (host : HostValue) → Admits (first_guard old.passes) old.host o host → o ≡ None → with_host old host ≡ old
+stays_told old None host none is = ap (with_host old) none.0
+stays_told old (Some n) host one is = cc
+
 -- one of the server's own goes, or none does
 goes_if : (b : Bool) (n : ℕ) (old mid : Talks) → DismissesIf b old n mid → TalksDeeds old mid
 goes_if true n old mid goes = deeds_one (GoesOwn n) (talking_of old) (talking_of mid) (λ site. tt) goes
@@ -201,7 +207,7 @@ goes_if false n old mid same = deeds_same (talking_of old) (talking_of mid) (ap 
 pub own_goes : (n : ℕ) (old mid new : Talks) → DismissesOwn old n mid → new ≡ mid → TalksDeeds old new
 own_goes n old mid new goes same = subst (λ (t : Talks). TalksDeeds old t) (sym same) (goes_if (is_own_client (talking_of old) n) n old mid goes)
 
-module _ {K : Type 0} (k : Ghosts K) where
+module _ {K I A T : Type 0} (k : Ghosts K I A T) where
   -- deeds while no socket moves
   pub carries_deeds : (old new : Talking) (sockets sockets' : K) → sockets' ≡ sockets → Deeds old new → Carries k (record { talking = old; sockets = sockets }) (record { talking = new; sockets = sockets' })
   carries_deeds old new sockets sockets' same p = subst (λ s. Carries k (record { talking = old; sockets = sockets }) (record { talking = new; sockets = s })) (sym same) (on p)
@@ -221,4 +227,34 @@ module _ {K : Type 0} (k : Ghosts K) where
 
   -- bytes left
   pub carries_out : (n : ℕ) (bytes : List ℕ) (old new : Talking) (sockets sockets' : K) → k.took sockets n bytes sockets' → GivesOut n bytes old new → Carries k (record { talking = old; sockets = sockets }) (record { talking = new; sockets = sockets' })
-  carries_out n bytes old new sockets sockets' takes gives = λ site. path_one (WiredStep k site) _ _ (inr (inr (n, bytes, takes, gives)))
+  carries_out n bytes old new sockets sockets' takes gives = λ site. path_one (WiredStep k site) _ _ (inr (inr (inl (n, bytes, takes, gives))))
+
+  -- one comes by a socket
+  carries_new : (act : Act) (n : ℕ) (old new : Talking) (sockets sockets' : K) → ((site : SiteValue) → IsOf site act) → newcomer act ≡ Some n → DoesAct act old new → k.began sockets n sockets'
+      → Carries k (record { talking = old; sockets = sockets }) (record { talking = new; sockets = sockets' })
+  carries_new act n old new sockets sockets' of comes does began = λ site.
+      let from : Wired K = record { talking = old; sockets = sockets } in
+      let to : Wired K = record { talking = new; sockets = sockets' } in
+      let deed : Deed site old new = (act, of site, does) in
+      let one : ComesBySocket k site n from to = (began, deed, comes) in
+      path_one (WiredStep k site) from to (inr (inr (inr (n, one))))
+
+  -- or its socket is not taken over
+  pub carries_come : (act : Act) (n : ℕ) (old new : Talking) (sockets sockets' : K) → ((site : SiteValue) → IsOf site act) → newcomer act ≡ Some n → DoesAct act old new → TakesOne k.began n sockets sockets'
+      → Carries k (record { talking = old; sockets = sockets }) (record { talking = new; sockets = sockets' })
+  carries_come act n old new sockets sockets' of comes does (inl same) = carries_deeds old new sockets sockets' same (deeds_one act old new of does)
+  carries_come act n old new sockets sockets' of comes does (inr began) = carries_new act n old new sockets sockets' of comes does began
+
+  -- a client does
+  pub carries_comes : (kind : Kind) (n : ℕ) (old new : Talking) (sockets sockets' : K) → ComesBy kind n old new → TakesOne k.began n sockets sockets'
+      → Carries k (record { talking = old; sockets = sockets }) (record { talking = new; sockets = sockets' })
+  carries_comes Frames n old new sockets sockets' comes takes = carries_come (Comes n) n old new sockets sockets' (λ site. tt) refl comes takes
+  carries_comes Http n old new sockets sockets' (web, comes) takes = carries_come (ComesByWeb n web) n old new sockets sockets' (λ site. tt) refl comes takes
+
+  -- and it goes at once
+  pub carries_back : (kind : Kind) (n : ℕ) (before old new : Talking) (sockets sockets' : K) → ComesBy kind n before old → TakesOne k.began n sockets sockets' → GoesAtOnce kind n old new
+      → Carries k (record { talking = before; sockets = sockets }) (record { talking = new; sockets = sockets' })
+  carries_back Frames n before old new sockets sockets' comes takes goes = carries_come (TurnsBack n old.host) n before new sockets sockets' (λ site. tt) refl (goes before comes) takes
+  carries_back Http n before old new sockets sockets' comes takes goes =
+      carries_on (record { talking = before; sockets = sockets }) (record { talking = old; sockets = sockets' }) (record { talking = new; sockets = sockets' }) (carries_comes Http n before old sockets sockets' comes takes)
+      (carries_deeds old new sockets' sockets' refl (goes before comes))

@@ -1,5 +1,6 @@
 -- What an errand for a client over HTTP does at hand, and which writes are those of its request.
 use Rattle.std.proofs.Common.{◌≡◌, ◌<◌, ◌≤◌, ◌⊎◌, length, Bool, Bor, is_some, option_copied, true, false, ℕ, List, [], ◌∷◌, Option, None, Some, Result, Ok, Err, inl, inr, refl, sym, subst, ap, ◌∙◌}
+use Rattle.std.specs.List.{slice_get}
 use Rattle.std.specs.Prelude.{string_bytes}
 use Rattle.mvd_conn.specs.declared.passes.Pass.{Pass}
 use Rattle.mvd_conn.specs.declared.right.Right.{Right}
@@ -210,7 +211,7 @@ module _ (old : WebValue) (batch : Batch) (new : WebValue) (batch' : Batch) (rep
       → RespondsTo old.asked old (plain_answer 200 content.Lines) (string_bytes batch'.lines) new → (n : ℕ) (hand hand' : AtHandValue) → TakesIf n reply hand hand' → TellsBatch n old batch hand new batch' hand'
   tells_all only each all responds n hand hand' takes = (only, (reply, takes), (Ok true, each n hand hand' takes, tt, (all, responds)))
 
-  pub tells_none : IsOnlyTold batch batch' → ((n : ℕ) (hand hand' : AtHandValue) → TakesIf n reply hand hand' → TellsEachLine n batch hand batch' hand') → batch'.told < length batch'.refused.items → new ≡ old → (n : ℕ) (hand hand' : AtHandValue) → TakesIf n reply hand hand'
+  pub tells_none : IsOnlyTold batch batch' → ((n : ℕ) (hand hand' : AtHandValue) → TakesIf n reply hand hand' → TellsEachLine n batch hand batch' hand') → slice_get batch'.refused.items batch'.told ≡ Some None → new ≡ old → (n : ℕ) (hand hand' : AtHandValue) → TakesIf n reply hand hand'
       → TellsBatch n old batch hand new batch' hand'
   tells_none only each less same n hand hand' takes = (only, (reply, takes), (Ok false, each n hand hand' takes, tt, (less, same)))
 

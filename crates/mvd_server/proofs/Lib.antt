@@ -9,6 +9,7 @@ pub mod Closing
 pub mod Deeds
 pub mod Errands
 pub mod Failing
+pub mod Fresh
 pub mod Handing
 pub mod Hearing
 pub mod Keyed
@@ -20,6 +21,7 @@ pub mod Moving
 pub mod Numbering
 pub mod Parting
 pub mod Paths
+pub mod PeerTelling
 pub mod Placing
 pub mod Questions
 pub mod Rounds

@@ -1,5 +1,5 @@
 -- The lines of many writes.
-use Rattle.std.proofs.Common.{◌≡◌, ◌∙◌, ◌+◌, ◌<◌, ◌++◌, ℕ, List, length, Option, Some, None, ap, refl, subst, sym}
+use Rattle.std.proofs.Common.{◌≡◌, ◌∙◌, ◌+◌, ◌<◌, ◌≤◌, ◌++◌, arith, inl, inr, ℕ, List, length, Option, Some, None, ap, refl, subst, sym}
 use Rattle.std.specs.List.{slice_get}
 use Rattle.std.specs.Prelude.{string_bytes}
 use Rattle.mvd_dots.specs.declared.refusals.Refusal.{Refusal}
@@ -7,7 +7,7 @@ use Rattle.mvd_host.specs.AtHand.{AtHandValue}
 use Rattle.mvd_http.specs.Json.{line_text}
 use Rattle.mvd_server.proofs.Paths.{path_none, path_on, path_one}
 use Rattle.mvd_server.specs.Errands.{TakesIf}
-use Rattle.mvd_server.specs.Lines.{IsOnlyTold, Lining, TellsEachLine, TellsNext, TellsWriteLine, TellsSome, lining}
+use Rattle.mvd_server.specs.Lines.{IsAtReply, IsOnlyTold, Lining, TellsEachLine, TellsNext, TellsWriteLine, TellsSome, lining}
 use Rattle.mvd_server.specs.declared.batch.Batch.{Batch}
 use Rattle.mvd_wire.specs.declared.reply.Reply.{Reply}
 use Rattle.mvd_wire.specs.declared.reply.Reply.TheVariants.{Refused}
@@ -17,6 +17,11 @@ each_none n batch hand = path_none (TellsWriteLine batch.refused.items n) (linin
 
 pub only_on : (old mid new : Batch) → IsOnlyTold old mid → IsOnlyTold mid new → IsOnlyTold old new
 only_on old mid new first second = second ∙ ap (λ (b : Batch). record b { told = new.told; lines = new.lines }) first
+
+-- where a line is not there, the next one is of a reply
+pub waits_for_reply : (batch : Batch) → IsAtReply batch → batch.told < length batch.refused.items → slice_get batch.refused.items batch.told ≡ Some None
+waits_for_reply batch (inl all) less = absurd (omega (arith, all, less))
+waits_for_reply batch (inr next) less = next
 
 -- some lines, and some more
 pub each_on : (n : ℕ) (first mid last : Batch) (start hand end : AtHandValue) → IsOnlyTold first mid → TellsEachLine n first start mid hand → TellsEachLine n mid hand last end → TellsEachLine n first start last end

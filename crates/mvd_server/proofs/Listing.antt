@@ -4,7 +4,7 @@ use Rattle.mvd_host.specs.Feeds.{FeedValue}
 use Rattle.mvd_host.specs.Lists.{Lists, ListsOn}
 use Rattle.mvd_server.specs.Paths.{IsWay, Path}
 use Rattle.mvd_server.specs.Rounds.{ServeStep, World}
-use Rattle.mvd_server.specs.Talking.{Act, Attends, Begins, Calls, Comes, ComesByWeb, ComesOwn, DoesAct, Drops, Follows, Goes, GoesOwn, Hands, IsOf, Rotates, Talking, TurnsBack, web_in}
+use Rattle.mvd_server.specs.Talking.{Act, Attends, Begins, Calls, Comes, ComesByWeb, ComesOwn, DoesAct, Drops, Follows, Goes, GoesOwn, Hands, IsOf, Rotates, Talking, TurnsAway, TurnsBack, web_in}
 use Rattle.mvd_server.specs.Wires.{GivesOut, SendsBy, TakesBy, TakesInput, Wired, WiredStep}
 use Rattle.mvd_server.specs.declared.sockets.Sockets.{Ghosts as SocketGhosts}
 use Rattle.mvd_site.specs.Held.{States}
@@ -31,6 +31,7 @@ lists_deed site old new (Comes n) of does = by_feed site.states old new _ does.1
 lists_deed site old new (ComesByWeb n web) of does = by_feed site.states old new _ does.2 refl
 lists_deed site old new (ComesOwn n) of does = by_feed site.states old new _ does.1 refl
 lists_deed site old new (TurnsBack n mid) of does = by_feed site.states old new _ does.3 refl
+lists_deed site old new (TurnsAway n) of does = by_feed site.states old new _ does.1 refl
 lists_deed site old new (Goes n) of does = by_feed site.states old new _ does.2 refl
 lists_deed site old new (GoesOwn n) of does = by_feed site.states old new _ does.2 refl
 lists_deed site old new (Calls n call) of does = by_feed site.states old new _ does.1 refl
@@ -59,11 +60,12 @@ lists_out : (states : States) (n : ℕ) (bytes : List ℕ) (old new : Talking) �
 lists_out states n bytes old new (inl (first, sends)) = lists_sends states (web_in old n) n _ old new sends
 lists_out states n bytes old new (inr (same, none)) = by_feed states old new old same refl
 
-module _ {K C : Type 0} (f : C → State) (k : SocketGhosts K) where
+module _ {K I A T C : Type 0} (f : C → State) (k : SocketGhosts K I A T) where
   lists_wired : (site : SiteValue) (old new : Wired K) → WiredStep k site old new → IsListing old.talking.feed site.states → IsListing new.talking.feed site.states
   lists_wired site old new (inl (deed, same)) = lists_deed site old.talking new.talking deed.0 deed.1 deed.2
   lists_wired site old new (inr (inl (n, bytes, gives, takes))) = lists_in site.states n bytes old.talking new.talking takes
-  lists_wired site old new (inr (inr (n, bytes, takes, gives))) = lists_out site.states n bytes old.talking new.talking gives
+  lists_wired site old new (inr (inr (inl (n, bytes, takes, gives)))) = lists_out site.states n bytes old.talking new.talking gives
+  lists_wired site old new (inr (inr (inr (n, (began, deed, comes))))) = lists_deed site old.talking new.talking deed.0 deed.1 deed.2
 
   lists_step : (old new : World K C) → ServeStep f k old new → IsListing old.wired.talking.feed old.site.states → IsListing new.wired.talking.feed new.site.states
   lists_step old new (inl b) = λ is. subst (λ (s : SiteValue). IsListing new.wired.talking.feed s.states) (sym b.site) (lists_wired old.site old.wired new.wired b.wired is)

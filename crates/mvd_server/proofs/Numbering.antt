@@ -15,7 +15,7 @@ use Rattle.mvd_host.specs.Feeds.{FeedValue}
 use Rattle.mvd_host.specs.Hosts.{HostValue}
 use Rattle.mvd_server.proofs.Keyed.{found_at}
 use Rattle.mvd_server.specs.Rounds.{with_round}
-use Rattle.mvd_server.specs.Talking.{Act, Attends, Begins, Calls, Comes, ComesByWeb, ComesOwn, DoesAct, Drops, Follows, Goes, GoesOwn, Hands, Rotates, Talking, TurnsBack, new_talking, web_in, with_web}
+use Rattle.mvd_server.specs.Talking.{Act, Attends, Begins, Calls, Comes, ComesByWeb, ComesOwn, DoesAct, Drops, Follows, Goes, GoesOwn, Hands, Rotates, Talking, TurnsAway, TurnsBack, new_talking, web_in, with_web}
 use Rattle.mvd_server.specs.Wires.{GivesOut, SendsBy, TakesBy, TakesInput}
 use Rattle.mvd_web.specs.declared.web_connection.WebConnection.{WebConnection}
 
@@ -85,9 +85,12 @@ numbered_deed old new (Comes n) does a = still old new (ap (λ (t : Talking). t.
 numbered_deed old new (ComesByWeb n web) does a =
     let next = a.next in
     to (record old { webs = insert_entry nat_cmp old.webs n web; next = old.next + 1 }) new does.2
-    (record { next = omega (arith, next); webs = all_insert n web old.webs (subst (λ m. first_at_hand ≤ m) (sym does.0) next) a.webs })
+    (record { next = omega (arith, next); webs = all_insert n web old.webs (subst (λ m. first_at_hand ≤ m) (sym does.0.0) next) a.webs })
 numbered_deed old new (ComesOwn n) does a = still old new (ap (λ (t : Talking). t.next) does.1) (ap (λ (t : Talking). t.webs) does.1) a
 numbered_deed old new (TurnsBack n mid) does a = still old new (ap (λ (t : Talking). t.next) does.3) (ap (λ (t : Talking). t.webs) does.3) a
+numbered_deed old new (TurnsAway n) does a =
+    let next = a.next in
+    to (record old { next = old.next + 1 }) new does.1 (record { next = omega (arith, next); webs = a.webs })
 numbered_deed old new (Goes n) does a =
     record {
       next = subst (λ m. first_at_hand ≤ m) (sym (ap (λ (t : Talking). t.next) does.2)) a.next;

@@ -10,7 +10,7 @@ use Rattle.mvd_conn.specs.declared.guard.Guard.{Guard}
 use Rattle.mvd_server.proofs.Keyed.{has_set}
 use Rattle.mvd_server.specs.HostBytes.{TakesBytes, waits_of}
 use Rattle.mvd_server.specs.Guarded.{first_guard}
-use Rattle.mvd_server.specs.Talking.{Act, Attends, Begins, Calls, Comes, ComesByWeb, ComesOwn, DoesAct, Drops, Follows, Goes, GoesOwn, Hands, IsMadeFor, HasNothingLeft, Rotates, Talking, TurnsBack, is_own_client, web_in}
+use Rattle.mvd_server.specs.Talking.{Act, Attends, Begins, Calls, Comes, ComesByWeb, ComesOwn, DoesAct, Drops, Follows, Goes, GoesOwn, Hands, IsMadeFor, HasNothingLeft, Rotates, Talking, TurnsAway, TurnsBack, is_own_client, web_in}
 use Rattle.mvd_server.specs.Wires.{GivesOut, SendsBy, TakesBy, TakesInput}
 use Rattle.mvd_web.specs.declared.web_connection.WebConnection.{WebConnection}
 
@@ -82,6 +82,7 @@ module _ (old new : Talking) (n : ℕ) (h : History) (found : client_of old.host
       let is : n ≡ m = gone_is mid new.host m n does.2 (here_came does.0 old.host mid m n does.1 here) gone in
       let number = does.1.number in
       absurd (let no : ⊥ = omega (arith, is, number, given) in no)
+  parts_deed given apart (TurnsAway m) does = still (ap (λ (t : Talking). t.host) does.1)
   parts_deed given apart (Goes m) does =
       let is : n ≡ m = gone_is old.host new.host m n does.1 here gone in
       parts_spent old n h found apart (subst (λ i. HasNothingLeft (is_own_client old i) (web_in old i) (client_of old.host i)) (sym is) does.0)

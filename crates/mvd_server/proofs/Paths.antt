@@ -32,3 +32,12 @@ module _ {V W : Type 0} (step : V → V → Type 0) (step' : W → W → Type 0)
 
   pub path_map : (old new : V) → Path step old new → Path step' (f old) (f new)
   path_map old new p = record { mids = map f p.mids; steps = is_path_map old new p.mids p.steps }
+
+-- what each step keeps
+module _ {W : Type 0} (step : W → W → Type 0) (P : W → Type 0) (each : (a b : W) → step a b → P a → P b) where
+  is_path_keeps : (old new : W) (xs : List W) → IsWay step old xs new → P old → P new
+  is_path_keeps old new [] same p = subst P (sym same) p
+  is_path_keeps old new (x ∷ xs) (one, more) p = is_path_keeps x new xs more (each old x one p)
+
+  pub path_keeps : (old new : W) → Path step old new → P old → P new
+  path_keeps old new path p = is_path_keeps old new path.mids path.steps p

@@ -27,7 +27,7 @@ use Rattle.mvd_server.proofs.Showing.{AreGuarded, AreKnown, Fits, IfAsked, guard
 use Rattle.mvd_server.specs.Closing.{EndsServed, IsDeserted}
 use Rattle.mvd_server.specs.Paths.{IsWay, Path}
 use Rattle.mvd_server.specs.Rounds.{AnswersClients, BeginsServing, KnowsPass, IsLetIn, MayAllTurn, WasKnown, WasKnownIn, GoesOnServing, HasRound, IsServed, ServeStep, Serving, ServingStep, WasMadeFor, WasThere, World, begun, hand_in, host_in, moment_of, with_round, world_of}
-use Rattle.mvd_server.specs.Talking.{Deed, Deeds, DeedsAt, IsMadeFor, TalksDeeds, Talking, new_talking, talking_of, web_in}
+use Rattle.mvd_server.specs.Talking.{Act, Deed, Deeds, DeedsAt, DoesAct, IsMadeFor, TalksDeeds, Talking, new_talking, talking_of, web_in}
 use Rattle.mvd_server.specs.Wires.{Carries, Wired, WiredStep, wired_of}
 use Rattle.mvd_server.specs.declared.sockets.Sockets.{Ghosts as SocketGhosts}
 use Rattle.mvd_server.specs.declared.talks.Talks.{Talks}
@@ -81,11 +81,12 @@ record Each (passes : Option (List Pass)) (Known : Pass → Type 0) (Made : ℕ 
   shown : IsLetIn Known passes turns ⊎ Made n
   told : (turns ≡ []) ⊎ Told n turns
 
-module _ {K C : Type 0} (f : C → State) (k : SocketGhosts K) where
+module _ {K I A T C : Type 0} (f : C → State) (k : SocketGhosts K I A T) where
   of_wired : (site : SiteValue) (conn : C) (old new : Wired K) → WiredStep k site old new → Calm f (moment f site conn old.talking) (moment f site conn new.talking)
   of_wired site conn old new (inl (deed, same)) = of_deed f site conn old.talking new.talking deed.0 deed.2
   of_wired site conn old new (inr (inl (n, bytes, gives, takes))) = of_in f site conn n bytes old.talking new.talking takes
-  of_wired site conn old new (inr (inr (n, bytes, takes, gives))) = of_out f site conn n bytes old.talking new.talking gives
+  of_wired site conn old new (inr (inr (inl (n, bytes, takes, gives)))) = of_out f site conn n bytes old.talking new.talking gives
+  of_wired site conn old new (inr (inr (inr (n, (began, deed, comes))))) = of_deed f site conn old.talking new.talking deed.0 deed.2
 
   of_step : (old new : World K C) → ServeStep f k old new → Happened f (moment_of old) (moment_of new)
   of_step old new (inl b) =
@@ -108,20 +109,24 @@ module _ {K C : Type 0} (f : C → State) (k : SocketGhosts K) where
     apart : AreNumbered t
     allowed : AreAllowed Known passes t
 
-  guards_wired : (site : SiteValue) (passes : Option (List Pass)) (Known : Pass → Type 0) (old new : Wired K) → AreKnown Known old.talking → WiredStep k site old new → Guards passes Known old.talking → Guards passes Known new.talking
-  guards_wired site passes Known old new all (inl (deed, same)) s = record {
-    kept = kept_deed old.talking new.talking deed.0 deed.2 ∙ s.kept;
-    each = guarded_deed Known old.talking new.talking all deed.0 deed.2 s.each;
-    apart = numbered_deed old.talking new.talking deed.0 deed.2 s.apart;
-    allowed = allowed_deed Known passes old.talking new.talking s.kept all deed.0 deed.2 s.allowed;
+  guards_deed : (passes : Option (List Pass)) (Known : Pass → Type 0) (old new : Talking) (act : Act) → AreKnown Known old → DoesAct act old new → Guards passes Known old → Guards passes Known new
+  guards_deed passes Known old new act all does s = record {
+    kept = kept_deed old new act does ∙ s.kept;
+    each = guarded_deed Known old new all act does s.each;
+    apart = numbered_deed old new act does s.apart;
+    allowed = allowed_deed Known passes old new s.kept all act does s.allowed;
   }
+
+  guards_wired : (site : SiteValue) (passes : Option (List Pass)) (Known : Pass → Type 0) (old new : Wired K) → AreKnown Known old.talking → WiredStep k site old new → Guards passes Known old.talking → Guards passes Known new.talking
+  guards_wired site passes Known old new all (inl (deed, same)) s = guards_deed passes Known old.talking new.talking deed.0 all deed.2 s
+  guards_wired site passes Known old new all (inr (inr (inr (n, (began, deed, comes))))) s = guards_deed passes Known old.talking new.talking deed.0 all deed.2 s
   guards_wired site passes Known old new all (inr (inl (n, bytes, gives, takes))) s = record {
     kept = kept_in n bytes old.talking new.talking takes ∙ s.kept;
     each = guarded_in Known n bytes old.talking new.talking takes s.each;
     apart = numbered_in n bytes old.talking new.talking takes s.apart;
     allowed = allowed_in Known passes n bytes old.talking new.talking takes s.allowed;
   }
-  guards_wired site passes Known old new all (inr (inr (n, bytes, takes, gives))) s = record {
+  guards_wired site passes Known old new all (inr (inr (inl (n, bytes, takes, gives)))) s = record {
     kept = kept_out n bytes old.talking new.talking gives ∙ s.kept;
     each = guarded_out Known n bytes old.talking new.talking gives s.each;
     apart = numbered_out n bytes old.talking new.talking gives s.apart;
@@ -157,7 +162,8 @@ module _ {K C : Type 0} (f : C → State) (k : SocketGhosts K) where
       → (is_done h ≡ true) ⊎ IsMadeFor old.talking n
   parts_wired site old new n h found gone given apart (inl (deed, same)) = parts_deed old.talking new.talking n h found gone given apart deed.0 deed.2
   parts_wired site old new n h found gone given apart (inr (inl (m, bytes, gives, takes))) = parts_in old.talking new.talking n h found gone m bytes takes
-  parts_wired site old new n h found gone given apart (inr (inr (m, bytes, takes, gives))) = parts_out old.talking new.talking n h found gone m bytes gives
+  parts_wired site old new n h found gone given apart (inr (inr (inl (m, bytes, takes, gives)))) = parts_out old.talking new.talking n h found gone m bytes gives
+  parts_wired site old new n h found gone given apart (inr (inr (inr (m, (began, deed, comes))))) = parts_deed old.talking new.talking n h found gone given apart deed.0 deed.2
 
   parts_step : (old new : World K C) (n : ℕ) (h : History) → client_of (host_in old) n ≡ Some h → client_of (host_in new) n ≡ None → n < (host_in old).admitted → web_in old.wired.talking n ≡ None → ServeStep f k old new → (is_done h ≡ true) ⊎ IsMadeFor old.wired.talking n
   parts_step old new n h found gone given apart (inl b) = parts_wired old.site old.wired new.wired n h found gone given apart b.wired
@@ -252,7 +258,7 @@ none_shown : (Known : Pass → Type 0) (passes : Option (List Pass)) → IsLetIn
 none_shown Known None = tt
 none_shown Known (Some passes) = tt
 
-module _ {S : Type 0} {g : Ghosts S} {K : Type 0} (k : SocketGhosts K) where
+module _ {S : Type 0} {g : Ghosts S} {K I A T : Type 0} (k : SocketGhosts K I A T) where
   pub served : (passes : Option (List Pass)) (names : Named) (last : Talking) (sockets : K) (old : Replica S g) (sockets' : K) (new : Replica S g)
       → GoesOnServing k (begun passes names sockets) old (record { talking = last; sockets = sockets' }) new → IsServed k passes names sockets old sockets' new
   served passes names last sockets old sockets' new p =

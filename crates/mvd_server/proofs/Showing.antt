@@ -28,7 +28,7 @@ use Rattle.mvd_host.specs.Runs.{Call, Closes, Cuts, Feeds, Meets, Releases, Send
 use Rattle.mvd_replica.specs.Turns.{Turn}
 use Rattle.mvd_server.proofs.Keyed.{any_last, any_more, any_without, each_set}
 use Rattle.mvd_server.specs.HostBytes.{TakesBytes, waits_of}
-use Rattle.mvd_server.specs.Talking.{Act, Attends, Begins, Calls, Comes, ComesByWeb, ComesOwn, DoesAct, Drops, Follows, Goes, GoesOwn, Hands, IsMadeFor, MayCall, Rotates, Talking, TurnsBack, new_talking, web_in, with_host, with_web, left_without}
+use Rattle.mvd_server.specs.Talking.{Act, Attends, Begins, Calls, Comes, ComesByWeb, ComesOwn, DoesAct, Drops, Follows, Goes, GoesOwn, Hands, IsMadeFor, MayCall, Rotates, Talking, TurnsAway, TurnsBack, new_talking, web_in, with_host, with_web, left_without}
 use Rattle.mvd_server.specs.Guarded.{first_guard}
 use Rattle.mvd_server.specs.Rounds.{KnowsPass, with_round}
 use Rattle.mvd_server.specs.Wires.{GivesOut, SendsBy, TakesBy, TakesInput}
@@ -160,6 +160,7 @@ guarded_deed Known old new all (TurnsBack n mid) does each = to Known (with_host
     on : (q : ℕ) (h : History) → (q == n) ≡ false → ((q ≡ n) × (h.guard ≡ does.0)) ⊎ (client_of old.host q ≡ Some h) → IfAsked old.passes (Fits Known h.guard) ⊎ IsMadeFor old q
     on q h apart (inl (at, is)) = absurd (let no : ⊥ = grind (arith, nat_tests, apart, at) in no)
     on q h apart (inr at) = each q h at
+guarded_deed Known old new all (TurnsAway n) does each = to Known (record old { next = old.next + 1 }) new does.1 each
 guarded_deed Known old new all (Goes n) does each =
     to Known (record old { host = new.host; webs = remove_entry (is_at (nat_cmp n)) old.webs; batches = remove_entry (is_at (nat_cmp n)) old.batches }) new does.2
     (λ q h found. each q h (stayed old.host new.host n q h does.1 found).1)
@@ -229,6 +230,7 @@ kept_deed old new (Comes n) does = kept old new (with_host old new.host) refl do
 kept_deed old new (ComesByWeb n web) does = kept old new _ refl does.2
 kept_deed old new (ComesOwn n) does = kept old new _ refl does.1
 kept_deed old new (TurnsBack n mid) does = kept old new _ refl does.3
+kept_deed old new (TurnsAway n) does = kept old new _ refl does.1
 kept_deed old new (Goes n) does = kept old new _ refl does.2
 kept_deed old new (GoesOwn n) does = kept old new _ refl does.2
 kept_deed old new (Calls n call) does = kept old new _ refl does.1

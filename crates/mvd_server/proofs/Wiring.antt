@@ -15,7 +15,7 @@ use Rattle.mvd_web.specs.declared.web_connection.WebConnection.{WebConnection}
 
 takes_by : (web : Option WebConnection) (n : ℕ) (bytes : List ℕ) (old new : Talking) → MayFeedBy web n old → FeedsBy web n bytes old new → TakesBy web n bytes old new
 takes_by None n bytes old new (apart, wants) (feeds, same) = (apart, feeds wants, same)
-takes_by (Some web) n bytes old new may feeds = feeds
+takes_by (Some web) n bytes old new wants (web', feeds, same) = (web', (wants, feeds), same)
 
 -- what came of a client of which more is wanted is fed to it
 pub takes_in : (n : ℕ) (bytes : List ℕ) (old new : Talking) → MayFeed n old → FeedsTo n bytes old new → TakesInput n bytes old new
@@ -27,7 +27,7 @@ gives_out n count old new within sends =
     let same : length (take count (waits_for n old)) ≡ count = length-take-le count (waits_for n old) within in
     inl (ap (λ (i : ℕ). take i (waits_for n old)) (sym same), subst (λ (i : ℕ). SendsOf n i old new) (sym same) sends)
 
-module _ {K : Type 0} (k : Ghosts K) where
+module _ {K I A T : Type 0} (k : Ghosts K I A T) where
   abbrev at : Talking → K → Wired K
   at talking sockets = record { talking = talking; sockets = sockets }
 

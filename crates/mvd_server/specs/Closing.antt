@@ -41,7 +41,7 @@ EndsWithRoot site new = (old : Option (List ℕ)) × PrintsRoot site old new
 
 module _ {S : Type 0} {g : Ghosts S} where
   -- it has served, and at the end nobody is left but its own
-  abbrev pub EndsServed : {K : Type 0} → SocketGhosts K → Option (List Pass) → Named → K → Replica S g → K → Replica S g
-      → Type 0
+  abbrev pub EndsServed : {K I A T : Type 0} → SocketGhosts K I A T → Option (List Pass) → Named → K → Replica S g
+      → K → Replica S g → Type 0
   EndsServed k passes names sockets old sockets' new =
       (it : IsServed k passes names sockets old sockets' new) × IsDeserted it.last

@@ -2,6 +2,7 @@
 use Rattle.std.specs.Prelude.{◌≡◌, ◌<◌, ◌≤◌, ◌⊎◌, ℕ, Bool, true, false, codes, is_some, List, [], ◌∷◌, length, Option, Some, None, Result, Ok, OnOk, OnErr, Err, string_bytes}
 use Rattle.std.specs.BTreeMap.{is_at}
 use Rattle.std.specs.FinMap.{len}
+use Rattle.std.specs.List.{slice_get}
 use Rattle.std.specs.Map.{lookup, remove_entry, set_value}
 use Rattle.std.specs.Ordering.{nat_cmp}
 use Rattle.mvd_conn.specs.declared.passes.Pass.{Pass}
@@ -138,11 +139,11 @@ IsBatchFor None batch = ⊥
 IsBatchFor (Some asked) batch = (right : Right) × (asked.entry ≡ Open right)
     × ((writes : List (Result Request Refusal)) × (asked.question ≡ Ok (Many writes)) × BeginsBatch right writes batch)
 
--- replies are taken, and once there is a line for each, these are told
+-- replies are taken, and once there is a line for each, these are told. Until then the next line is of a reply to come
 abbrev pub TellsAllLines : Result Bool Refusal → WebValue → Batch → WebValue → Type 0
 TellsAllLines (Ok true) old batch new = (length batch.refused.items ≤ batch.told)
     × RespondsTo old.asked old (plain_answer 200 content.Lines) (string_bytes batch.lines) new
-TellsAllLines (Ok false) old batch new = (batch.told < length batch.refused.items) × (new ≡ old)
+TellsAllLines (Ok false) old batch new = (slice_get batch.refused.items batch.told ≡ Some None) × (new ≡ old)
 TellsAllLines (Err refusal) old batch new = new ≡ stopped_by old refusal
 
 -- the first reply that is left is this one, if there is one, and it is to this client

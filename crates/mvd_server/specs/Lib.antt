@@ -11,11 +11,13 @@ pub mod Listings
 pub mod Looking
 pub mod Moves
 pub mod News
+pub mod Numbers
 pub mod OwnSides
 pub mod Paths
 pub mod PeerCounted
 pub mod PeerLinks
 pub mod PeerNews
+pub mod PeerSays
 pub mod Peerings
 pub mod Plans
 pub mod Questions

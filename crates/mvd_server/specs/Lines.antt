@@ -1,5 +1,5 @@
 -- The lines of many writes: each is of the reply to its own write.
-use Rattle.std.specs.Prelude.{◌≡◌, ◌+◌, ◌<◌, ◌++◌, ℕ, List, length, Option, Some, string_bytes}
+use Rattle.std.specs.Prelude.{◌≡◌, ◌≤◌, ◌⊎◌, ◌+◌, ◌<◌, ◌++◌, ℕ, List, length, Option, Some, None, string_bytes}
 use Rattle.std.specs.List.{slice_get}
 use Rattle.mvd_dots.specs.declared.refusals.Refusal.{Refusal}
 use Rattle.mvd_host.specs.AtHand.{AtHandValue, TakesFirst}
@@ -42,3 +42,8 @@ TellsEachLine n batch hand batch' hand' = TellsSome batch.refused.items n (linin
 -- nothing of the writes changes but which are told
 abbrev pub IsOnlyTold : Batch → Batch → Type 0
 IsOnlyTold old new = new ≡ record old { told = new.told; lines = new.lines }
+
+-- each line is there that needs no reply: the next one is of a reply that is to come, or there is none
+abbrev pub IsAtReply : Batch → Type 0
+IsAtReply batch =
+    (length batch.refused.items ≤ batch.told) ⊎ (slice_get batch.refused.items batch.told ≡ Some None)

@@ -32,3 +32,7 @@ module _ {K : Type 0} (moves : K → ℕ → List ℕ → K → Type 0) (n : ℕ
   -- at most one read was made
   abbrev pub ReadsOnce : K → K → Type 0
   ReadsOnce old new = (new ≡ old) ⊎ ((bytes : List ℕ) × moves old n bytes new)
+
+-- a socket was taken over under a number, or none
+abbrev pub TakesOne : {K : Type 0} → (K → ℕ → K → Type 0) → ℕ → K → K → Type 0
+TakesOne began n old new = (new ≡ old) ⊎ began old n new

@@ -1,16 +1,21 @@
 -- What those that wait for a change are told, which is put down once for all that ask for the same.
-use Rattle.std.specs.Prelude.{◌≡◌, true, List, ℕ, Option, None, Some, Result, Ok, OnOk, string_bytes}
+use Rattle.std.specs.Prelude.{◌≡◌, true, List, ℕ, length, Option, None, Some, Result, Ok, OnOk, string_bytes}
 use Rattle.mvd_dots.specs.declared.refusals.Refusal.{Refusal}
 use Rattle.mvd_host.specs.Feeds.{FeedValue}
 use Rattle.mvd_http.specs.declared.question.Followed.{Followed}
 use Rattle.mvd_server.specs.Since.{IsLetStill, IsNews, followed_in, since_text}
 use Rattle.mvd_server.specs.Talking.{Talking, web_in}
 use Rattle.mvd_server.specs.declared.changes.News.{News}
+use Rattle.mvd_server.specs.declared.talks.Talks.{Talks}
 use Rattle.mvd_site.specs.Held.{States}
 use Rattle.mvd_site.specs.Sites.{SiteValue}
 use Rattle.mvd_web.specs.Inside.{web_of}
 use Rattle.mvd_web.specs.declared.taken.Asked.{Asked}
 use Rattle.mvd_web.specs.declared.web_connection.WebConnection.{WebConnection}
+
+-- how many wait for a change
+abbrev pub waiting_in : Talks → ℕ
+waiting_in talks = length talks.parked.times.entries
 
 -- what was put down for who asks for this is what changed since the root
 abbrev pub HasNews : FeedValue → States → News → Type 0

@@ -108,7 +108,7 @@ abbrev pub IsAllowed : (Pass → Type 0) → Option (List Pass) → Request → 
 IsAllowed Known None request = ⊤
 IsAllowed Known (Some passes) request = (pass : Pass) × Known pass × IsWithin pass.right request
 
-module _ {K C : Type 0} (f : C → State) (k : SocketGhosts K) where
+module _ {K I A T C : Type 0} (f : C → State) (k : SocketGhosts K I A T) where
   -- what a server does beside a round changes no site, and is of the site as it is
   pub record Between (old new : World K C) : Type 0 where
     pub wired : WiredStep k old.site old.wired new.wired
@@ -165,13 +165,14 @@ module _ {S : Type 0} {g : Ghosts S} where
 
   -- ONE HOST served all the while: by reads and writes of the sockets, by rounds, and by deeds, which feed it frames for
   -- its own sessions alone, and ask at hand what requests over HTTP ask
-  abbrev pub GoesOnServing : {K : Type 0} → SocketGhosts K → Wired K → Replica S g → Wired K → Replica S g → Type 0
+  abbrev pub GoesOnServing : {K I A T : Type 0} → SocketGhosts K I A T → Wired K → Replica S g → Wired K → Replica S g
+      → Type 0
   GoesOnServing k wired old wired' new = Path (ServeStep (state g) k) (world_of wired old) (world_of wired' new)
 
   -- From a new host on: what happened to the host, as one list. Its turns are all that was done to the replica, and
-  -- those of each client are what that asked and was told
-  pub record IsServed {K : Type 0} (k : SocketGhosts K) (passes : Option (List Pass)) (names : Named) (sockets : K)
-      (old : Replica S g) (sockets' : K) (new : Replica S g) : Type 0 where
+  -- those of each client are what that asked and was told. Each client but the server's own is one socket (`WiredStep`)
+  pub record IsServed {K I A T : Type 0} (k : SocketGhosts K I A T) (passes : Option (List Pass)) (names : Named)
+      (sockets : K) (old : Replica S g) (sockets' : K) (new : Replica S g) : Type 0 where
     pub last : Talking
     pub goes : GoesOnServing k (begun passes names sockets) old (record { talking = last; sockets = sockets' }) new
     pub all : List (Happening (Held S))

@@ -1,5 +1,5 @@
 -- The clients of a server, and what it does with them between two rounds.
-use Rattle.std.specs.Prelude.{◌≡◌, ◌⊎◌, ◌+◌, ◌==◌, ℕ, Bool, true, false, not, List, [], ◌∷◌, ◌++◌, is_some, Option, None, Some, ⊤}
+use Rattle.std.specs.Prelude.{◌≡◌, ◌⊎◌, ◌+◌, ◌<◌, ◌==◌, ℕ, Bool, true, false, not, List, [], ◌∷◌, ◌++◌, length, is_some, Option, None, Some, ⊤}
 use Rattle.std.specs.BTreeMap.{insert_entry, is_at}
 use Rattle.std.specs.List.{filter, list_any}
 use Rattle.std.specs.Map.{lookup, remove_entry, set_value}
@@ -10,7 +10,7 @@ use Rattle.mvd_conn.specs.declared.passes.Pass.{Pass}
 use Rattle.mvd_dots.specs.declared.refusals.Refusal.TheVariants.{Memory}
 use Rattle.mvd_host.specs.AtHand.{AtHandValue, TakesFirst, first_at_hand, none_at_hand}
 use Rattle.mvd_host.specs.Feeds.{FeedValue, knows_nothing}
-use Rattle.mvd_host.specs.Hosts.{AdmitsOne, ClientLeaves, HostValue, IsClient, altered, client_of, new_host}
+use Rattle.mvd_host.specs.Hosts.{AdmitsOne, ClientLeaves, HostValue, IsClient, altered, client_of, clients_most, new_host}
 use Rattle.mvd_host.specs.Lists.{ListsOn}
 use Rattle.mvd_host.specs.Runs.{Call, Closes, Cuts, Feeds, Meets, Releases, Sends, after_call}
 use Rattle.mvd_http.specs.Guard.{Named, named_by}
@@ -142,8 +142,8 @@ MayCall t n Releases = ⊤
 MayCall t n (Closes source) = ⊤
 MayCall t n Cuts = ⊤
 
--- A client of frames comes, one over HTTP, or one of the server's own; one comes and goes at once; one goes, or one of
--- the server's own; there is a call on the connection of one, or an errand for one over HTTP; its many writes begin, or
+-- A client of frames comes, one over HTTP, or one of the server's own; one comes and goes at once, or is turned away and
+-- no client; one goes, or one of the server's own; there is a call on the connection of one, or an errand for one over HTTP; its many writes begin, or
 -- are asked; or a reply is dropped whose client has gone. Or other passes are known from now on; or the feed begins. An
 -- errand and a beginning are of a site
 pub data Act : Type 0 where
@@ -151,6 +151,7 @@ pub data Act : Type 0 where
   ComesByWeb : ℕ → WebConnection → Act
   ComesOwn : ℕ → Act
   TurnsBack : ℕ → HostValue → Act
+  TurnsAway : ℕ → Act
   Goes : ℕ → Act
   GoesOwn : ℕ → Act
   Calls : ℕ → Call → Act
@@ -161,17 +162,19 @@ pub data Act : Type 0 where
   Rotates : List Pass → Act
   Follows : FeedValue → SiteValue → Act
 
--- a client of frames has to show a token in its first frame; over HTTP each request has to
+-- a client of frames has to show a token in its first frame; over HTTP each request has to. There are at most 10,000 of
+-- either kind
 abbrev pub DoesAct : Act → Talking → Talking → Type 0
 DoesAct (Comes n) old new = AdmitsOne (first_guard old.passes) old.host new.host n × (new ≡ with_host old new.host)
 DoesAct (ComesByWeb n web) old new =
-    (n ≡ old.next) × IsNew (web_of web)
+    ((n ≡ old.next) × (length old.webs < clients_most)) × IsNew (web_of web)
     × (new ≡ record old { webs = insert_entry nat_cmp old.webs n web; next = old.next + 1 })
 DoesAct (ComesOwn n) old new =
     AdmitsOne None old.host new.host n × (new ≡ record old { host = new.host; own = old.own ++ n ∷ [] })
 DoesAct (TurnsBack n mid) old new =
     (guard : Option Guard) × AdmitsOne guard old.host mid n × ClientLeaves mid n new.host
     × (new ≡ with_host old new.host)
+DoesAct (TurnsAway n) old new = (n ≡ old.next) × (new ≡ record old { next = old.next + 1 })
 DoesAct (Goes n) old new =
     MayPart n old × ClientLeaves old.host n new.host
     × (new ≡ record old {
@@ -215,13 +218,28 @@ DeedsAt site old new = Path (Deed site) old new
 abbrev pub Deeds : Talking → Talking → Type 0
 Deeds old new = (site : SiteValue) → DeedsAt site old new
 
--- a client of this kind comes; it goes, and nothing is known but that it has just come
+-- the number that one gets who comes by a socket
+abbrev pub newcomer : Act → Option ℕ
+newcomer (Comes n) = Some n
+newcomer (ComesByWeb n web) = Some n
+newcomer (TurnsBack n mid) = Some n
+newcomer (TurnsAway n) = Some n
+newcomer act = None
+
+-- a client of this kind comes; one goes that has just come
 abbrev pub ComesBy : Kind → ℕ → Talking → Talking → Type 0
 ComesBy Frames n old new = DoesAct (Comes n) old new
 ComesBy Http n old new = (web : WebConnection) × DoesAct (ComesByWeb n web) old new
 
 abbrev pub GoesAtOnce : Kind → ℕ → Talking → Talking → Type 0
-GoesAtOnce kind n old new = (before : Talking) → ComesBy kind n before old → Deeds before new
+GoesAtOnce Frames n old new =
+    (before : Talking) → DoesAct (Comes n) before old → DoesAct (TurnsBack n old.host) before new
+GoesAtOnce Http n old new = (before : Talking) → ComesBy Http n before old → Deeds old new
+
+-- WHO GOES is no client of this kind any more: its place is free
+abbrev pub IsGoneBy : Kind → ℕ → Talking → Talking → Type 0
+IsGoneBy Frames n old new = ClientLeaves old.host n new.host
+IsGoneBy Http n old new = new.webs ≡ remove_entry (is_at (nat_cmp n)) old.webs
 
 abbrev pub TalksDeeds : Talks → Talks → Type 0
 TalksDeeds old new = Deeds (talking_of old) (talking_of new)

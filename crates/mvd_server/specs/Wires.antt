@@ -1,16 +1,16 @@
 -- What comes by the clients' sockets, and what leaves by them.
-use Rattle.std.specs.Prelude.{◌≡◌, ◌⊎◌, ◌++◌, ℕ, false, List, [], codes, length, min, take, Option, None, Some, ⊤}
+use Rattle.std.specs.Prelude.{◌≡◌, ◌⊎◌, ◌++◌, ℕ, false, List, [], codes, length, min, take, Option, None, Some}
 use Rattle.mvd_conn.specs.History.{WantsInput}
 use Rattle.mvd_dots.specs.declared.refusals.Refusal.TheVariants.{TooManyRequests}
 use Rattle.mvd_host.specs.Hosts.{IsClient, client_of}
 use Rattle.mvd_server.specs.HostBytes.{TakesBytes, sent_of, waits_of}
 use Rattle.mvd_server.specs.Paths.{Path}
-use Rattle.mvd_server.specs.Talking.{Deed, Talking, is_own_client, talking_of, web_in, with_host, with_web}
+use Rattle.mvd_server.specs.Talking.{Deed, Talking, is_own_client, newcomer, talking_of, web_in, with_host, with_web}
 use Rattle.mvd_server.specs.declared.sockets.Sockets.{Ghosts}
 use Rattle.mvd_server.specs.declared.talks.Talks.{Talks}
 use Rattle.mvd_site.specs.Sites.{SiteValue}
 use Rattle.mvd_web.specs.Inside.{web_of}
-use Rattle.mvd_web.specs.Web.{Feeds, web_sent}
+use Rattle.mvd_web.specs.Web.{Feeds, WantsBytes, web_sent}
 use Rattle.mvd_web.specs.declared.web_connection.WebConnection.{WebConnection}
 use Rattle.mvd_wire.specs.Replies.{reply_bytes}
 use Rattle.mvd_wire.specs.declared.reply.Reply.TheVariants.{Refused}
@@ -18,12 +18,14 @@ use Rattle.mvd_wire.specs.declared.reply.Reply.TheVariants.{Refused}
 -- ---- what comes
 
 -- Bytes are fed to the connection of a client, over HTTP or not; or memory is refused for them, and no more is taken of
--- it. Who sends frames by a socket is none of the server's own, which show no token
+-- it. Who sends frames by a socket is none of the server's own, which show no token. Nothing is read of one over HTTP
+-- that wants no more, so what is held of it is bounded
 abbrev pub TakesBy : Option WebConnection → ℕ → List ℕ → Talking → Talking → Type 0
 TakesBy None n bytes old new =
     (is_own_client old n ≡ false) × TakesBytes old.host n bytes new.host × (new ≡ with_host old new.host)
 TakesBy (Some web) n bytes old new =
-    (web' : WebConnection) × Feeds (web_of web) bytes (web_of web') × (new ≡ with_web old n web')
+    (web' : WebConnection) × (WantsBytes (web_of web) × Feeds (web_of web) bytes (web_of web'))
+    × (new ≡ with_web old n web')
 
 -- there is no such client: it has left, or it was turned away
 abbrev pub IsNoClient : Talking → ℕ → Type 0
@@ -34,22 +36,23 @@ abbrev pub TakesInput : ℕ → List ℕ → Talking → Talking → Type 0
 TakesInput n bytes old new =
     TakesBy (web_in old n) n bytes old new ⊎ ((new ≡ old) × (IsNoClient old n ⊎ (bytes ≡ [])))
 
--- a client of frames is fed where the host wants more of it
+-- a client is fed where its connection wants more, of frames where the host does
 abbrev pub IsFedBySocket : ℕ → Talking → Type 0
 IsFedBySocket n t = (is_own_client t n ≡ false) × IsClient (client_of t.host n) WantsInput
 
 abbrev pub MayFeedBy : Option WebConnection → ℕ → Talking → Type 0
 MayFeedBy None n t = IsFedBySocket n t
-MayFeedBy (Some web) n t = ⊤
+MayFeedBy (Some web) n t = WantsBytes (web_of web)
 
 abbrev pub MayFeed : ℕ → Talking → Type 0
 MayFeed n t = MayFeedBy (web_in t n) n t
 
--- then all of them are
+-- then all of them are, over HTTP in any case
 abbrev pub FeedsBy : Option WebConnection → ℕ → List ℕ → Talking → Talking → Type 0
 FeedsBy None n bytes old new =
     (IsClient (client_of old.host n) WantsInput → TakesBytes old.host n bytes new.host) × (new ≡ with_host old new.host)
-FeedsBy (Some web) n bytes old new = TakesBy (Some web) n bytes old new
+FeedsBy (Some web) n bytes old new =
+    (web' : WebConnection) × Feeds (web_of web) bytes (web_of web') × (new ≡ with_web old n web')
 
 abbrev pub FeedsTo : ℕ → List ℕ → Talking → Talking → Type 0
 FeedsTo n bytes old new = FeedsBy (web_in old n) n bytes old new
@@ -106,14 +109,20 @@ pub record Wired (K : Type 0) : Type 0 where
 abbrev pub wired_of : {K : Type 0} → Talks → K → Wired K
 wired_of talks sockets = record { talking = talking_of talks; sockets = sockets }
 
-module _ {K : Type 0} (k : Ghosts K) where
-  -- a deed, while no byte moves by a socket; bytes came by a socket, or left by it
+module _ {K I A T : Type 0} (k : Ghosts K I A T) where
+  -- WHO COMES BY A SOCKET: that is taken over under the number which its client gets
+  abbrev pub ComesBySocket : SiteValue → ℕ → Wired K → Wired K → Type 0
+  ComesBySocket site n old new =
+      k.began old.sockets n new.sockets × (deed : Deed site old.talking new.talking) × (newcomer deed.0 ≡ Some n)
+
+  -- a deed, while no byte moves by a socket; bytes came by a socket, or left by it; or one comes by a socket
   abbrev pub WiredStep : SiteValue → Wired K → Wired K → Type 0
   WiredStep site old new =
       (Deed site old.talking new.talking × (new.sockets ≡ old.sockets))
       ⊎ ((n : ℕ) × (bytes : List ℕ) × k.gave old.sockets n bytes new.sockets
       × TakesInput n bytes old.talking new.talking)
       ⊎ ((n : ℕ) × (bytes : List ℕ) × k.took old.sockets n bytes new.sockets × GivesOut n bytes old.talking new.talking)
+      ⊎ ((n : ℕ) × ComesBySocket site n old new)
 
   -- whatever the site is
   abbrev pub Carries : Wired K → Wired K → Type 0

@@ -1,10 +1,11 @@
 //! Many writes of one request: what they ask, which is asked at hand all at once, and a line for each, as the replies come.
-ghost use Rattle.std.specs.Prelude.{◌≡◌, ◌<◌, ◌≤◌, ◌++◌, IfErr, IfOk, OnErr, OnOk, Some, ℕ, false, length, option_copied, string_bytes};
+ghost use Rattle.std.specs.Prelude.{◌≡◌, ◌<◌, ◌≤◌, ◌++◌, IfErr, IfOk, None, OnErr, OnOk, Some, ℕ, false, length, option_copied, string_bytes};
+ghost use Rattle.std.specs.List.{slice_get};
 ghost use Rattle.std.specs.Prelude.{true};
 ghost use Rattle.mvd_host.specs.AtHand.{AtHandValue};
 ghost use Rattle.mvd_server.specs.Batches.{BeginsBatch, HandsBatch, asked_if, refused_if};
 ghost use Rattle.mvd_server.specs.Errands.{IsUntold, TakesIf};
-ghost use Rattle.mvd_server.specs.Lines.{IsOnlyTold, TellsEachLine};
+ghost use Rattle.mvd_server.specs.Lines.{IsAtReply, IsOnlyTold, TellsEachLine};
 
 use crate::copying::copy_request;
 use mvd_conn::Right;
@@ -60,6 +61,7 @@ impl Batch {
 
     /// Puts down the line of a reply, if there is one, and those of the writes beside it that were refused at once.
     /// Whether all lines are there.
+    #[tactic(auto, using(crate::proofs::Lining::waits_for_reply))]
     pub fn tell(&mut self, reply: Option<&Reply>) -> Result<bool, Refusal>
         // The line of each write is of the reply to it. Nothing else of the writes changes.
         ensures lines { (n : ℕ) (hand hand' : AtHandValue) → TakesIf n (option_copied reply.entry) hand hand' →
@@ -67,7 +69,9 @@ impl Batch {
         ensures same { IsOnlyTold self.old self.new }
         // All lines are there where each write has one.
         ensures all { IfOk result (λ all. all ≡ true → length self.new.refused.items ≤ self.new.told) }
-        ensures some { IfOk result (λ all. all ≡ false → self.new.told < length self.new.refused.items) }
+        // Until then the next line is of a reply that is to come.
+        ensures some { IfOk result (λ all. all ≡ false →
+            slice_get self.new.refused.items self.new.told ≡ Some None) }
         // Where a line cannot be put down, all are gone: with a reply less there is no response any more.
         ensures gone { OnErr result (IsUntold self.new) }
     {
@@ -85,6 +89,7 @@ impl Batch {
     fn tell_lines(&mut self, reply: Option<&Reply>) -> Result<(), Refusal>
         ensures lines { (n : ℕ) (hand hand' : AtHandValue) → TakesIf n (option_copied reply.entry) hand hand' →
             OnOk result (TellsEachLine n self.old hand self.new hand') }
+        ensures next { OnOk result (IsAtReply self.new) }
         ensures same { IsOnlyTold self.old self.new }
     {
         self.tell_refused()?;
@@ -96,6 +101,7 @@ impl Batch {
     fn tell_next(&mut self, reply: Option<&Reply>) -> Result<(), Refusal>
         ensures lines { (n : ℕ) (hand hand' : AtHandValue) → TakesIf n (option_copied reply.entry) hand hand' →
             OnOk result (TellsEachLine n self.old hand self.new hand') }
+        ensures next { IsAtReply self.old → OnOk result (IsAtReply self.new) }
         ensures same { IsOnlyTold self.old self.new }
     {
         match reply {
@@ -110,13 +116,15 @@ impl Batch {
     /// Puts down the lines of the next writes that were refused at once.
     fn tell_refused(&mut self) -> Result<(), Refusal>
         ensures lines { (n : ℕ) (hand : AtHandValue) → OnOk result (TellsEachLine n self.old hand self.new hand) }
+        ensures next { OnOk result (IsAtReply self.new) }
         ensures same { IsOnlyTold self.old self.new }
     {
         for _left in self.told..self.refused.len() {
-            let Some(Some(refusal)) = self.refused.get(self.told) else {
-                return Ok(());
-            };
-            push_line(&mut self.lines, &Reply::Refused(*refusal))?;
+            match self.refused.get(self.told) {
+                Some(Some(refusal)) => push_line(&mut self.lines, &Reply::Refused(*refusal))?,
+                Some(None) => return Ok(()),
+                None => return Ok(()),
+            }
             self.told = self.told.saturating_add(1);
         }
         Ok(())

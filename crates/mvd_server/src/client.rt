@@ -4,10 +4,8 @@ ghost use Rattle.mvd_server.specs.Moves.{GivesOne, IsMoved, ReadsOnce, MovesOne}
 
 use crate::sockets::Sockets;
 use mio::event::Event;
-use mio::net::TcpStream;
 use std::alloc::{AllocError, Global};
 use std::io::{self, ErrorKind};
-use std::net::Shutdown;
 
 /// The most bytes that are read at once.
 pub(crate) const PIECE: usize = 65_536;
@@ -38,10 +36,9 @@ pub(crate) enum Stage {
 
 /// A client's socket, and what is known of it.
 #[derive(Drop)]
-pub(crate) struct Client {
-    stream: TcpStream,
-    /// Its number among those that are served, or another that none of these has.
-    pub number: u64,
+pub(crate) struct Client<K: Sockets> {
+    /// It was taken over under the client's number, which may be that of one who is turned away.
+    pub socket: K::Socket,
     /// Its number as it was accepted, counted from 1.
     pub ordinal: u64,
     pub stage: Stage,
@@ -60,11 +57,12 @@ pub(crate) struct Client {
     pub alarm: u64,
 }
 
-impl Client {
-    pub fn new(stream: TcpStream, number: u64, ordinal: u64, deadline: u64) -> Client {
+impl<K: Sockets> Client<K> {
+    pub fn new(socket: K::Socket, ordinal: u64, deadline: u64) -> Client<K>
+        ensures { result.socket ≡ socket }
+    {
         Client {
-            stream,
-            number,
+            socket,
             ordinal,
             stage: Stage::Served,
             readable: true,
@@ -85,23 +83,18 @@ impl Client {
         self.writable = self.writable || fails || event.is_writable() || event.is_write_closed();
     }
 
-    /// Whether this end is connected, which it asked for. What is written leaves at once, unless that is refused.
-    pub fn begins(&self) -> bool {
-        let _ = self.stream.set_nodelay(true);
-        matches!(self.stream.take_error(), Ok(None))
-    }
-
     /// Whether the system told that the peer sends no more.
     pub fn has_left(&self) -> bool {
         self.ends
     }
 
     /// Reads once. Where less comes than there is room for, that was all: the system tells of what comes later.
-    pub fn read<K: Sockets>(&mut self, sockets: &mut K, piece: &mut Piece) -> Moved
-        ensures gives { GivesOne K.gave self.old.number result piece.new.bytes.items sockets.old sockets.new }
-        ensures number { self.new.number ≡ self.old.number }
+    pub fn read(&mut self, sockets: &mut K, piece: &mut Piece) -> Moved
+        ensures gives { GivesOne K.gave (K.number_of self.old.socket) result piece.new.bytes.items
+            sockets.old sockets.new }
+        ensures socket { self.new.socket ≡ self.old.socket }
     {
-        let moved = moved_by(piece.read_from(sockets, self.number, &self.stream));
+        let moved = moved_by(piece.read_from(sockets, &self.socket));
         match moved {
             Moved::Bytes(count) => self.readable = self.ends || count == PIECE,
             Moved::Nothing => self.readable = false,
@@ -111,11 +104,11 @@ impl Client {
     }
 
     /// Writes once.
-    pub fn write<K: Sockets>(&mut self, sockets: &mut K, bytes: &[u8]) -> Moved
-        ensures takes { MovesOne K.took self.old.number result bytes.now sockets.old sockets.new }
-        ensures number { self.new.number ≡ self.old.number }
+    pub fn write(&mut self, sockets: &mut K, bytes: &[u8]) -> Moved
+        ensures takes { MovesOne K.took (K.number_of self.old.socket) result bytes.now sockets.old sockets.new }
+        ensures socket { self.new.socket ≡ self.old.socket }
     {
-        let moved = moved_by(sockets.write(self.number, &self.stream, bytes));
+        let moved = moved_by(sockets.write(&self.socket, bytes));
         if let Moved::Nothing = moved {
             self.writable = false;
         }
@@ -126,17 +119,12 @@ impl Client {
     pub fn leave(&mut self) -> bool {
         self.stage = Stage::Left(DROPPED_MAX);
         self.readable = true;
-        self.stream.shutdown(Shutdown::Write).is_ok()
+        K::shut(&self.socket)
     }
 
     /// Reads once, and drops what came, which may be so many bytes. It is `false` where nothing more is read.
-    pub fn drop_input<K: Sockets>(
-        &mut self,
-        sockets: &mut K,
-        piece: &mut Piece,
-        most: usize,
-    ) -> bool
-        ensures { ReadsOnce K.gave self.old.number sockets.old sockets.new }
+    pub fn drop_input(&mut self, sockets: &mut K, piece: &mut Piece, most: usize) -> bool
+        ensures { ReadsOnce K.gave (K.number_of self.old.socket) sockets.old sockets.new }
     {
         match self.read(sockets, piece) {
             Moved::Bytes(count) if count < most => {
@@ -176,16 +164,12 @@ impl Piece {
         })
     }
 
-    fn read_from<K: Sockets>(
-        &mut self,
-        sockets: &mut K,
-        number: u64,
-        stream: &TcpStream,
-    ) -> io::Result<usize>
-        ensures gave { IfOk result (λ n. K.gave sockets.old number (take n self.new.bytes.items) sockets.new) }
+    fn read_from<K: Sockets>(&mut self, sockets: &mut K, socket: &K::Socket) -> io::Result<usize>
+        ensures gave { IfOk result (λ n.
+            K.gave sockets.old (K.number_of socket.now) (take n self.new.bytes.items) sockets.new) }
         ensures none { OnErr result (sockets.new ≡ sockets.old) }
     {
-        sockets.read(number, stream, &mut self.bytes)
+        sockets.read(socket, &mut self.bytes)
     }
 
     /// The first bytes.

@@ -1,11 +1,11 @@
 //! The listener, and whom it lets in.
 ghost use Rattle.mvd_server.specs.Wires.{Carries, wired_of};
 
+use crate::clientele::Clientele;
 use crate::crowd::Crowd;
 use crate::sockets::Sockets;
 use crate::talks::Kind;
-use mio::net::TcpListener;
-use mio::{Interest, Registry, Token};
+use mio::{Registry, Token};
 use std::alloc::AllocError;
 use std::io::{self, ErrorKind};
 use std::net::{Net, SocketAddr};
@@ -23,8 +23,8 @@ const PAUSE: u64 = 100;
 
 /// A listener.
 #[derive(Drop)]
-pub(crate) struct Door {
-    listener: TcpListener,
+pub(crate) struct Door<K: Sockets> {
+    listener: K::Listener,
     /// Somebody may wait.
     pub knocks: bool,
     /// What those speak who come through it.
@@ -33,21 +33,19 @@ pub(crate) struct Door {
     opens: u64,
 }
 
-impl Door {
+impl<K: Sockets> Door<K> {
     pub fn new<N: Net>(
         rt: &N,
         registry: &Registry,
         address: SocketAddr,
         kind: Kind,
-    ) -> io::Result<Door> {
-        let mut listener = TcpListener::bind(rt, address)?;
+    ) -> io::Result<Door<K>> {
         let token = match kind {
             Kind::Frames => FRAMES,
             Kind::Http => HTTP,
         };
-        registry.register(&mut listener, token, Interest::READABLE)?;
         Ok(Door {
-            listener,
+            listener: K::listen(rt, registry, token, address)?,
             knocks: true,
             kind,
             opens: 0,
@@ -55,8 +53,8 @@ impl Door {
     }
 
     /// When somebody may be let in. It is `None` where nobody waits, or nobody more may come.
-    pub fn next_due(&self, crowd: &Crowd) -> Option<u64> {
-        if self.knocks && crowd.is_open() {
+    pub fn next_due(&self, clientele: &Clientele<K>, crowd: &Crowd) -> Option<u64> {
+        if self.knocks && clientele.is_open(crowd) {
             Some(self.opens)
         } else {
             None
@@ -64,37 +62,39 @@ impl Door {
     }
 
     /// Lets in who waits. Where all places are taken, that is told.
-    pub fn admit<K: Sockets>(
+    pub fn admit(
         &mut self,
         registry: &Registry,
         sockets: &mut K,
+        clientele: &mut Clientele<K>,
         crowd: &mut Crowd,
         ready: &mut Vec<u64>,
     ) -> Result<(), AllocError>
         ensures { Carries K.Sockets (wired_of crowd.old.talks sockets.old) (wired_of crowd.new.talks sockets.new) }
     {
         for _ in 0..ROUND_MAX {
-            match self.next_due(crowd) {
+            match self.next_due(clientele, crowd) {
                 Some(due) if due <= crowd.now => {}
                 _ => return Ok(()),
             }
-            self.admit_one(registry, sockets, crowd, ready)?;
+            self.admit_one(registry, sockets, clientele, crowd, ready)?;
         }
         Ok(())
     }
 
     /// Lets in one, if one waits.
-    fn admit_one<K: Sockets>(
+    fn admit_one(
         &mut self,
         registry: &Registry,
         sockets: &mut K,
+        clientele: &mut Clientele<K>,
         crowd: &mut Crowd,
         ready: &mut Vec<u64>,
     ) -> Result<(), AllocError>
         ensures { Carries K.Sockets (wired_of crowd.old.talks sockets.old) (wired_of crowd.new.talks sockets.new) }
     {
-        match self.listener.accept() {
-            Ok((stream, _)) => crowd.admit(registry, sockets, stream, self.kind, ready),
+        match K::accept(&self.listener) {
+            Ok(arrival) => clientele.admit(crowd, registry, sockets, arrival, self.kind, ready),
             Err(error) => {
                 self.refused(error.kind(), crowd.now);
                 Ok(())

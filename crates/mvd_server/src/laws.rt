@@ -1,4 +1,4 @@
-//! Laws of what is told over HTTP, each as the contract of an empty function.
+//! Laws of what is told over HTTP, and of the clients' numbers, each as the contract of an empty function.
 ghost use Rattle.std.specs.Prelude.{◌≡◌, ℕ, List, Option, Result, true};
 ghost use Rattle.mvd_conn.specs.declared.right.Right.{Right};
 ghost use Rattle.mvd_dots.specs.declared.refusals.Refusal.{Refusal};
@@ -9,6 +9,7 @@ ghost use Rattle.mvd_http.specs.declared.question.Question.TheVariants.{Changes,
 ghost use Rattle.mvd_http.specs.declared.question.Wanted.{Wanted};
 ghost use Rattle.mvd_keys.specs.Writes.{Key};
 ghost use Rattle.mvd_server.specs.Bounds.{LinesWithin, NewsWithin, PageWithin};
+ghost use Rattle.mvd_server.specs.Numbers.{IsOneSocket};
 ghost use Rattle.mvd_server.specs.Paths.{Path};
 ghost use Rattle.mvd_server.specs.Rounds.{FeedLists, ServeStep, World};
 ghost use Rattle.mvd_site.specs.Held.{States};
@@ -39,4 +40,10 @@ pub fn changes_tell_all<K: Sockets, S: Alter>()
         FeedLists old → FeedLists new }
     ensures told { (feed : FeedValue) (past : List States) (now : States) (prefix root : List ℕ) →
         Lists feed past now → IsListed prefix root past (told_since feed prefix root) }
+{}
+
+/// A number is one socket for good: once a socket was taken over under it, as one came who got that number, no other is,
+/// while the server runs.
+pub fn a_number_is_one_socket<K: Sockets, S: Alter>()
+    ensures { (n : ℕ) → IsOneSocket (state S.Store) K.Sockets n }
 {}

@@ -1,8 +1,8 @@
 //! A session of this server's own site: the side that is near is a client of the host.
-ghost use Rattle.std.specs.Prelude.{◌≡◌, ◌-◌, ◌&&◌, IfOk, OnOk, false, length, not, true, IfSome};
+ghost use Rattle.std.specs.Prelude.{◌≡◌, ◌-◌, ◌&&◌, IfErr, IfOk, OnOk, false, length, not, true, IfSome};
 ghost use Rattle.mvd_meet.specs.Callers.{asked_of_caller, has_all, has_ended, questions_at};
 ghost use Rattle.mvd_meet.specs.Posts.{asks_pushes};
-ghost use Rattle.mvd_meet.specs.Meetings.{MeetingSteps, ReportsOn};
+ghost use Rattle.mvd_meet.specs.Meetings.{MeetingFails, MeetingSteps, ReportsOn};
 ghost use Rattle.mvd_server.specs.OwnSides.{AdmitsOwn, BeginsOwn, DismissesOwn, HandsToOwn};
 ghost use Rattle.mvd_server.specs.OwnSides.{HearsWaiting, TakesReplies};
 ghost use Rattle.mvd_server.specs.Peerings.{SwapsPlaces};
@@ -112,6 +112,7 @@ impl OwnSession {
         ensures swaps { SwapsPlaces self.old.runs free.old self.new.runs free.new }
         ensures turn { result ≡ true → self.new.runs ≡ true }
         ensures rests { self.old.runs ≡ false → free.old ≡ 0 → self.new ≡ self.old }
+        ensures session { self.new ≡ record self.old { runs = self.new.runs } }
     {
         self.wants_place(far, is_unread) && self.take_place(free) && self.can_step(far)
     }
@@ -152,6 +153,8 @@ impl OwnSession {
     pub fn step(&mut self, far: &mut Caller) -> Result<Course, SyncFault>
         ensures steps { IfOk result
             (MeetingSteps self.old.meeting self.old.near far.old self.new.meeting self.new.near far.new) }
+        ensures fails { IfErr result
+            (MeetingFails self.old.meeting self.old.near far.old self.new.meeting self.new.near far.new) }
         ensures client { self.new.client ≡ self.old.client }
         ensures runs { self.new.runs ≡ self.old.runs }
     {

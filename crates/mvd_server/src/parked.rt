@@ -1,4 +1,6 @@
 //! The clients that wait for a change.
+ghost use Rattle.std.specs.Prelude.{◌≡◌, length};
+
 use crate::timers::Timers;
 use std::alloc::Global;
 use std::collections::BTreeMap;
@@ -21,7 +23,9 @@ impl Parked {
         }
     }
 
-    pub fn len(&self) -> usize {
+    pub fn len(&self) -> usize
+        ensures { result ≡ length self.now.times.entries }
+    {
         self.times.len()
     }
 

@@ -10,13 +10,13 @@ use mvd_conn::{Front, front_of};
 pub(crate) fn receive<K: Sockets>(
     talks: &mut Talks,
     sockets: &mut K,
-    client: &mut Client,
+    client: &mut Client<K>,
     piece: &mut Piece,
     due: u64,
 )
     ensures { Carries K.Sockets (wired_of talks.old sockets.old) (wired_of talks.new sockets.new) }
 {
-    let number = client.number;
+    let number = K::number(&client.socket);
     if !talks.wants_input(number) {
         return;
     }
@@ -37,23 +37,23 @@ pub(crate) fn receive<K: Sockets>(
 pub(crate) fn drop_left<K: Sockets>(
     talks: &Talks,
     sockets: &mut K,
-    client: &mut Client,
+    client: &mut Client<K>,
     piece: &mut Piece,
     most: usize,
 ) -> bool
     ensures { Carries K.Sockets (wired_of talks.now sockets.old) (wired_of talks.now sockets.new) }
 {
-    if talks.has(client.number) {
+    if talks.has(K::number(&client.socket)) {
         return false;
     }
     client.drop_input(sockets, piece, most)
 }
 
 /// Writes once to a client of what waits.
-pub(crate) fn send<K: Sockets>(talks: &mut Talks, sockets: &mut K, client: &mut Client, due: u64)
+pub(crate) fn send<K: Sockets>(talks: &mut Talks, sockets: &mut K, client: &mut Client<K>, due: u64)
     ensures { Carries K.Sockets (wired_of talks.old sockets.old) (wired_of talks.new sockets.new) }
 {
-    let number = client.number;
+    let number = K::number(&client.socket);
     if talks.is_own(number) {
         return;
     }

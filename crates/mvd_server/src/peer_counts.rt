@@ -1,9 +1,10 @@
 //! What is counted of the sessions with a peer.
-ghost use Rattle.std.specs.Prelude.{◌≡◌};
+ghost use Rattle.std.specs.Prelude.{◌≡◌, length};
 ghost use Rattle.mvd_server.specs.PeerCounted.{ended_with, one_more};
 
 use crate::metrics::print_head;
 use mvd_dots::Refusal;
+use mvd_sync::Report;
 use std::fmt::Write as Print;
 use std::net::SocketAddr;
 
@@ -61,6 +62,24 @@ impl PeerCounts {
             "mvd_peer_sessions_total{{peer=\"{address}\",outcome=\"{outcome}\"}} {count}"
         )?;
         Ok(())
+    }
+}
+
+/// Counts a session with the peer at this place that is done.
+pub(crate) fn count_done(peers: &mut Vec<PeerCounts>, place: usize, report: &Report, now: u64)
+    ensures { length peers.new.items ≡ length peers.old.items }
+{
+    if let Some(counts) = peers.get_mut(place) {
+        counts.end(report.keys, report.refused > 0, now);
+    }
+}
+
+/// Counts one that failed.
+pub(crate) fn count_failed(peers: &mut Vec<PeerCounts>, place: usize)
+    ensures { length peers.new.items ≡ length peers.old.items }
+{
+    if let Some(counts) = peers.get_mut(place) {
+        counts.fail();
     }
 }
 

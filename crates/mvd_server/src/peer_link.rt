@@ -6,10 +6,10 @@ ghost use Rattle.mvd_server.specs.OwnSides.{IsUnasked};
 ghost use Rattle.mvd_server.specs.PeerLinks.{MovesBytes, is_rest};
 
 use crate::client::{Client, Moved, Piece};
-use crate::sockets::Direct;
+use crate::sockets::{Direct, Sockets};
 use mio::event::Event;
 use mio::net::TcpStream;
-use mio::{Interest, Registry, Token};
+use mio::{Registry, Token};
 use mvd_dots::Refusal;
 use mvd_meet::{Caller, Loan};
 use std::alloc::Global;
@@ -43,7 +43,7 @@ pub(crate) enum Stage {
 /// The socket, and the side that is asked over it. All times are in milliseconds since the server's start.
 #[derive(Drop)]
 pub(crate) struct PeerLink {
-    socket: Client,
+    socket: Client<Direct>,
     pub stage: Stage,
     pub far: Caller,
     /// A session went on over it before.
@@ -73,9 +73,9 @@ impl PeerLink {
     ) -> io::Result<PeerLink>
         ensures { IfOk result (λ link. IsUnasked link.far × (link.stage ≡ Stage.Connects)) }
     {
-        let mut stream = TcpStream::connect(rt, address)?;
-        registry.register(&mut stream, token, Interest::READABLE | Interest::WRITABLE)?;
-        let mut socket = Client::new(stream, token.0 as u64, 0, now);
+        let stream = TcpStream::connect(rt, address)?;
+        let taken = Direct {}.take_over(registry, token.0 as u64, stream)?;
+        let mut socket = Client::<Direct>::new(taken, 0, now);
         socket.readable = false;
         socket.writable = false;
         Ok(PeerLink {
@@ -103,7 +103,7 @@ impl PeerLink {
         if !self.socket.writable {
             return Ok(false);
         }
-        if self.socket.begins() {
+        if self.socket.socket.begins() {
             Ok(true)
         } else {
             Err(Refusal::ReadFailed)
@@ -298,8 +298,15 @@ impl PeerLink {
         }
     }
 
+    /// Whether it was kept since the session before, and a byte came meanwhile, or its end.
+    pub fn is_stale(&mut self, piece: &mut Piece) -> bool
+        ensures { self.new ≡ record self.old { socket = self.new.socket } }
+    {
+        self.is_kept && !self.is_quiet(piece)
+    }
+
     /// Whether it is still as it was while nothing is asked: no byte came, and no end.
-    pub fn is_quiet(&mut self, piece: &mut Piece) -> bool
+    fn is_quiet(&mut self, piece: &mut Piece) -> bool
         ensures { self.new ≡ record self.old { socket = self.new.socket } }
     {
         if !self.socket.readable {

@@ -1,8 +1,10 @@
 //! The peers that this server meets while it serves.
 ghost use Rattle.std.specs.Prelude.{◌≡◌, ◌≢◌, ◌≤◌, ◌+◌, ◌-◌, length, true};
 ghost use Rattle.std.specs.List.{All};
+ghost use Rattle.mvd_server.specs.PeerSays.{PeersSay, said_by_all};
 ghost use Rattle.mvd_server.specs.Peerings.{HaveNews, IsLentAt, LooksInTime, places_taken};
 ghost use Rattle.mvd_server.specs.Talking.{TalksDeeds};
+ghost use Rattle.mvd_server.specs.declared.crowd.Crowd.{Crowd};
 
 use crate::crowd::{Crowd, LAST};
 use crate::peer_counts::PeerCounts;
@@ -113,11 +115,12 @@ impl Peers {
     /// Connects to those that are due, and goes on with each session as far as can be without waiting. Before that,
     /// places are given up; then the one behind who took a place last comes first, so that each gets one in its turn.
     pub fn go_on<N: Net>(&mut self, rt: &N, registry: &Registry, crowd: &mut Crowd)
-        ensures { TalksDeeds crowd.old.talks crowd.new.talks }
+        ensures deeds { TalksDeeds crowd.old.talks crowd.new.talks }
+        // Of its peers the server tells what their sessions came to, and nothing else.
+        ensures says { PeersSay (said_by_all self.old.list.items self.old.setting crowd.old)
+            (said_by_all self.new.list.items self.new.setting crowd.new) }
     {
-        if crowd.talks.is_ending {
-            self.close(crowd.now);
-        }
+        self.close(crowd.talks.is_ending, crowd.now);
         let waits = self.wait();
         self.give_back(waits, crowd.now);
         let mut free = self.free();
@@ -131,12 +134,19 @@ impl Peers {
         }
     }
 
-    /// No session begins any more. Where none goes on, or they had their time, there is no peer any more.
-    fn close(&mut self, now: u64) {
+    /// Where the server is to end, no session begins any more. Where none goes on, or they had their time, there is no
+    /// peer any more.
+    fn close(&mut self, is_ending: bool, now: u64)
+        ensures says { (crowd : Crowd) → PeersSay (said_by_all self.old.list.items self.old.setting crowd)
+            (said_by_all self.new.list.items self.new.setting crowd) }
+    {
+        if !is_ending {
+            return;
+        }
         if !self.setting.is_ending {
-            self.setting.is_ending = true;
             self.until = now.saturating_add(LAST);
         }
+        self.setting.is_ending = true;
         if self.free() == SESSIONS_MAX || self.until <= now {
             self.list.clear();
         }
@@ -169,6 +179,8 @@ impl Peers {
     fn give_back(&mut self, waits: bool, now: u64)
         // Where others wait, no place is kept past its loan.
         ensures lends { waits ≡ true → All (IsLentAt now) self.new.list.items }
+        ensures says { (crowd : Crowd) → PeersSay (said_by_all self.old.list.items self.old.setting crowd)
+            (said_by_all self.new.list.items self.new.setting crowd) }
     {
         for peering in self.list.iter_mut() {
             peering.give_back(waits, now);
@@ -188,6 +200,8 @@ impl Peers {
         ensures few { places_taken self.new.list.items + free.new ≤ 4 }
         ensures all { length self.new.list.items ≡ length self.old.list.items }
         ensures deeds { TalksDeeds crowd.old.talks crowd.new.talks }
+        ensures says { PeersSay (said_by_all self.old.list.items self.old.setting crowd.old)
+            (said_by_all self.new.list.items self.new.setting crowd.new) }
     {
         if place < self.list.len() {
             let peering = &mut self.list[place];
@@ -199,7 +213,9 @@ impl Peers {
 
     /// Hands on what the sessions ask of this server's site, and lists their clients.
     pub fn list(&mut self, crowd: &mut Crowd, ready: &mut Vec<u64>)
-        ensures { TalksDeeds crowd.old.talks crowd.new.talks }
+        ensures deeds { TalksDeeds crowd.old.talks crowd.new.talks }
+        ensures says { PeersSay (said_by_all self.old.list.items self.old.setting crowd.old)
+            (said_by_all self.new.list.items self.new.setting crowd.new) }
     {
         for peering in self.list.iter_mut() {
             peering.list(crowd, ready);
@@ -211,6 +227,8 @@ impl Peers {
         ensures news { self.old.commits ≢ commits → HaveNews self.new.list.items }
         ensures noted { self.new.commits ≡ commits }
         ensures deeds { TalksDeeds crowd.old.talks crowd.new.talks }
+        ensures says { PeersSay (said_by_all self.old.list.items self.old.setting crowd.old)
+            (said_by_all self.new.list.items self.new.setting crowd.new) }
     {
         let changed = commits != self.commits;
         self.commits = commits;

@@ -1,6 +1,7 @@
 //! What all sessions with peers share, and what is told of them.
-ghost use Rattle.std.specs.Prelude.{◌≡◌, ◌++◌, OnOk, string_bytes};
-ghost use Rattle.mvd_server.specs.PeerNews.{noted_with, peer_text, some_text, told_at};
+ghost use Rattle.std.specs.Prelude.{◌≡◌, ◌++◌, IfOk, OnOk, string_bytes};
+ghost use Rattle.mvd_server.specs.PeerNews.{MayTell, TellsIf, again_text, failed_text, is_due, noted_with, peer_text};
+ghost use Rattle.mvd_server.specs.PeerNews.{some_text, told_at};
 
 use crate::client::Piece;
 use crate::terms::Terms;
@@ -103,26 +104,40 @@ impl Untold {
     }
 
     /// Tells it, at most once a second. What memory is refused for is not told.
+    #[tactic(auto, using(crate::proofs::PeerTelling::tells_on, crate::proofs::PeerTelling::tells_off))]
     pub fn tell(&mut self, address: SocketAddr, now: u64, told: &mut String)
-        ensures { self.new ≡ told_at now self.old }
+        ensures untold { self.new ≡ told_at now self.old }
+        ensures told { TellsIf (is_due now self.old) (peer_text address self.old)
+            (string_bytes told.old) (string_bytes told.new) }
     {
         if self.keys == 0 || now < self.next {
             return;
         }
-        let _ = self.print(address, told);
+        self.tell_line(address, told);
         *self = Untold::new();
         self.next = now.saturating_add(APART_TOLD);
     }
 
-    /// Prints how many keys were exchanged, how many were refused and how many were older, where some were.
-    fn print(&self, address: SocketAddr, told: &mut String) -> Result<(), Refusal>
-        ensures { OnOk result (string_bytes told.new ≡ string_bytes told.old ++ peer_text address self.now) }
+    /// Tells it in a line, or nothing where memory is refused.
+    #[tactic(auto, using(crate::proofs::PeerTelling::whole_line))]
+    fn tell_line(&self, address: SocketAddr, told: &mut String)
+        ensures { MayTell (peer_text address self.now) (string_bytes told.old) (string_bytes told.new) }
     {
-        write!(told, "peer {address} keys {}", self.keys)?;
-        print_some("refused", self.refused, told)?;
-        print_some("older", self.older, told)?;
-        told.push('\n')?;
-        Ok(())
+        if let Ok(line) = self.line(*told.allocator(), address) {
+            let _ = told.push_str(line.as_str());
+        }
+    }
+
+    /// A line with how many keys were exchanged, how many were refused and how many were older, where some were.
+    fn line(&self, alloc: Global, address: SocketAddr) -> Result<String, Refusal>
+        ensures { IfOk result (λ line. string_bytes line ≡ peer_text address self.now) }
+    {
+        let mut line = String::new(alloc);
+        write!(line, "peer {address} keys {}", self.keys)?;
+        print_some("refused", self.refused, &mut line)?;
+        print_some("older", self.older, &mut line)?;
+        line.push('\n')?;
+        Ok(line)
     }
 }
 
@@ -134,6 +149,28 @@ fn print_some(name: &str, count: u64, told: &mut String) -> Result<(), Refusal>
         write!(told, " {name} {count}")?;
     }
     Ok(())
+}
+
+/// Tells that a session with a peer failed, and why; or nothing where memory is refused.
+#[tactic(auto, using(crate::proofs::PeerTelling::whole_line))]
+pub(crate) fn tell_failed(address: SocketAddr, refusal: Refusal, told: &mut String)
+    ensures { MayTell (failed_text address refusal) (string_bytes told.old) (string_bytes told.new) }
+{
+    let alloc = *told.allocator();
+    if let Ok(line) = format!(in alloc; "peer {address} {refusal}\n") {
+        let _ = told.push_str(line.as_str());
+    }
+}
+
+/// Tells that a session with a peer is done after one that failed; or nothing where memory is refused.
+#[tactic(auto, using(crate::proofs::PeerTelling::whole_line))]
+pub(crate) fn tell_again(address: SocketAddr, told: &mut String)
+    ensures { MayTell (again_text address) (string_bytes told.old) (string_bytes told.new) }
+{
+    let alloc = *told.allocator();
+    if let Ok(line) = format!(in alloc; "peer {address} again\n") {
+        let _ = told.push_str(line.as_str());
+    }
 }
 
 /// Tells which keys were left, by which side, and how, but for those that were left so before.

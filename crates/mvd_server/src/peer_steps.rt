@@ -1,20 +1,24 @@
 //! What goes on with a peer, step by step, without waiting.
-ghost use Rattle.std.specs.Prelude.{◌≡◌, ◌<◌, IfOk, OnErr, OnOk, false, true};
+ghost use Rattle.std.specs.Prelude.{◌≡◌, ◌<◌, IfOk, IsSome, None, OnErr, OnOk, Some, false, string_bytes, true};
 ghost use Rattle.mvd_meet.specs.Times.{due_of, ended_of};
 ghost use Rattle.mvd_server.specs.PeerLinks.{LetsIn, ShowsIf};
-ghost use Rattle.mvd_server.specs.Peerings.{BeginsMeeting, EndsMeeting, HoldsBack, IsLentAt, StaysWithout, SwapsPlaces, TakesFree};
-ghost use Rattle.mvd_server.specs.Peerings.{TakesNoPlace, has_place};
+ghost use Rattle.mvd_server.specs.PeerNews.{TellsIf, again_text, noted_unless};
+ghost use Rattle.mvd_server.specs.PeerSays.{IsDone, PeerGoes, PeerSays, PeerWent, said_by, sitting, sitting_of};
+ghost use Rattle.mvd_server.specs.Peerings.{BeginsMeeting, EndsMeeting, HoldsBack, IsLentAt, StaysWithout, TakesFree};
+ghost use Rattle.mvd_server.specs.Peerings.{TakesNoPlace};
 ghost use Rattle.mvd_server.specs.Talking.{TalksDeeds};
+ghost use Rattle.mvd_server.specs.declared.peer_news.Setting.{Setting};
 
 use crate::crowd::Crowd;
 use crate::own_session::OwnSession;
+use crate::peer_counts::count_done;
 use crate::peer_link::{PeerLink, Stage};
-use crate::peer_news::{Setting, tell_left};
+use crate::peer_news::{Setting, tell_again, tell_left};
+use crate::peer_turn::{Went, has_turn_in, refusal_in, step_of};
 use crate::peering::{MOST_QUESTIONS, Peering, let_go};
 use mvd_dots::Refusal;
-use mvd_meet::{Caller, Course, Met};
-use mvd_sync::{Report, SyncFault};
-use std::fmt::Write as Print;
+use mvd_meet::Met;
+use mvd_sync::Report;
 
 /// The most steps that are taken of a session before others have their turn.
 const STEPS: usize = 16;
@@ -24,6 +28,8 @@ impl Peering {
     pub fn go_on(&mut self, setting: &mut Setting, crowd: &mut Crowd, free: &mut usize)
         ensures free { TakesFree self.old free.old self.new free.new }
         ensures deeds { TalksDeeds crowd.old.talks crowd.new.talks }
+        // Of its sessions nothing is told but what they came to.
+        ensures says { PeerSays (said_by self.old setting.old crowd.old) (said_by self.new setting.new crowd.new) }
     {
         for _turn in 0..STEPS {
             match self.step(setting, crowd, free) {
@@ -43,21 +49,37 @@ impl Peering {
     ) -> Result<bool, Refusal>
         ensures free { TakesFree self.old free.old self.new free.new }
         ensures deeds { TalksDeeds crowd.old.talks crowd.new.talks }
+        ensures says { PeerGoes result (said_by self.old setting.old crowd.old)
+            (said_by self.new setting.new crowd.new) }
+    {
+        if self.move_on(setting, crowd, free)? {
+            return Ok(true);
+        }
+        self.give_up(crowd.now)
+    }
+
+    /// What is next at its stage. Whether another step may follow at once.
+    fn move_on(
+        &mut self,
+        setting: &mut Setting,
+        crowd: &mut Crowd,
+        free: &mut usize,
+    ) -> Result<bool, Refusal>
+        ensures free { TakesFree self.old free.old self.new free.new }
+        ensures deeds { TalksDeeds crowd.old.talks crowd.new.talks }
+        ensures says { PeerGoes result (said_by self.old setting.old crowd.old)
+            (said_by self.new setting.new crowd.new) }
     {
         let Some(link) = &mut self.link else {
             return Ok(false);
         };
-        let goes_on = match link.stage {
-            Stage::Connects => connects(link, setting, crowd.now)?,
-            Stage::Greets => greets(link, setting, crowd.now)?,
-            Stage::Rests => self.rests(setting, crowd)?,
-            Stage::Meets => self.meets(setting, crowd, free)?,
-            Stage::Parts => self.parts(setting, crowd.now),
-        };
-        if goes_on {
-            return Ok(true);
+        match link.stage {
+            Stage::Connects => connects(link, setting, crowd.now),
+            Stage::Greets => greets(link, setting, crowd.now),
+            Stage::Rests => self.rests(setting, crowd),
+            Stage::Meets => self.meets(setting, crowd, free),
+            Stage::Parts => Ok(self.parts(setting, crowd.now)),
         }
-        self.give_up(crowd.now)
     }
 
     /// A peer is given up of which no byte came for too long. One that does not answer a Bye is let go.
@@ -86,11 +108,13 @@ impl Peering {
         ensures early { crowd.old.now < due_of self.old.schedule → self.new.session ≡ self.old.session }
         ensures places { TakesNoPlace self.old self.new }
         ensures deeds { TalksDeeds crowd.old.talks crowd.new.talks }
+        ensures says { PeerGoes result (said_by self.old setting.old crowd.old)
+            (said_by self.new setting.new crowd.new) }
     {
         let Some(link) = &mut self.link else {
             return Ok(false);
         };
-        if link.is_kept && !link.is_quiet(&mut setting.piece) {
+        if link.is_stale(&mut setting.piece) {
             self.link = None;
             return Ok(false);
         }
@@ -98,7 +122,7 @@ impl Peering {
             return Ok(false);
         }
         if link.far.questions() >= MOST_QUESTIONS {
-            return self.part(crowd.now);
+            return Ok(self.part(crowd.now));
         }
         link.stage = Stage::Meets;
         link.has_heard = false;
@@ -111,7 +135,9 @@ impl Peering {
     fn begin(&mut self, setting: &Setting, crowd: &mut Crowd) -> Result<(), Refusal>
         ensures begins { OnOk result (BeginsMeeting setting.now.number self.old self.new) }
         ensures fails { OnErr result (self.new ≡ self.old) }
+        ensures rest { self.new ≡ record self.old { session = self.new.session; schedule = self.new.schedule } }
         ensures places { TakesNoPlace self.old self.new }
+        ensures crowd { crowd.new ≡ record crowd.old { talks = crowd.new.talks } }
         ensures deeds { TalksDeeds crowd.old.talks crowd.new.talks }
     {
         match OwnSession::begin(setting.alloc, &mut crowd.talks, setting.number) {
@@ -133,6 +159,8 @@ impl Peering {
         ensures takes { TakesFree self.old free.old self.new free.new }
         ensures stays { StaysWithout self.old free.old self.new }
         ensures deeds { TalksDeeds crowd.old.talks crowd.new.talks }
+        ensures says { PeerGoes result (said_by self.old setting.old crowd.old)
+            (said_by self.new setting.new crowd.new) }
     {
         let Some(link) = &mut self.link else {
             return Ok(false);
@@ -151,6 +179,8 @@ impl Peering {
         ensures places { TakesNoPlace self.old self.new }
         ensures lends { waits ≡ true → IsLentAt now self.new }
         ensures held { HoldsBack self.old self.new }
+        ensures rest { self.new ≡ record self.old { link = self.new.link; session = self.new.session } }
+        ensures sits { sitting_of self.new.session ≡ sitting_of self.old.session }
     {
         let Some(link) = &mut self.link else {
             return;
@@ -169,20 +199,26 @@ impl Peering {
     fn ask(&mut self, setting: &mut Setting, crowd: &mut Crowd) -> Result<bool, Refusal>
         ensures places { TakesNoPlace self.old self.new }
         ensures deeds { TalksDeeds crowd.old.talks crowd.new.talks }
+        ensures says { PeerGoes result (said_by self.old setting.old crowd.old)
+            (said_by self.new setting.new crowd.new) }
+        // No session fails that is done.
+        ensures stays { OnErr result (IsSome self.old.session → IsSome self.new.session) }
     {
         if setting.is_ending {
-            return self.leave(crowd);
+            return Ok(self.leave(crowd));
         }
         match self.ask_next(crowd.now)? {
-            Course::Waits => Ok(false),
-            Course::Asks => Ok(true),
-            Course::Done => self.done(setting, crowd),
+            Went::Waits => Ok(false),
+            Went::Asks => Ok(true),
+            Went::Done(session) => Ok(self.done(setting, crowd, session)),
         }
     }
 
     /// The session ends where it is, between two of its windows.
-    fn leave(&mut self, crowd: &mut Crowd) -> Result<bool, Refusal>
+    fn leave(&mut self, crowd: &mut Crowd) -> bool
+        ensures rest { self.new ≡ record self.old { link = self.new.link; session = None } }
         ensures places { TakesNoPlace self.old self.new }
+        ensures crowd { crowd.new ≡ record crowd.old { talks = crowd.new.talks } }
         ensures deeds { TalksDeeds crowd.old.talks crowd.new.talks }
     {
         let_go(self.session.take(), &mut crowd.talks);
@@ -190,45 +226,57 @@ impl Peering {
     }
 
     /// A step of the session, if there is one.
-    #[tactic(auto, using(crate::proofs::Placing::place_stays))]
-    fn ask_next(&mut self, now: u64) -> Result<Course, Refusal>
-        ensures { TakesNoPlace self.old self.new }
+    fn ask_next(&mut self, now: u64) -> Result<Went, Refusal>
+        ensures places { TakesNoPlace self.old self.new }
+        ensures rest { self.new ≡ record self.old { link = self.new.link; session = self.new.session } }
+        ensures steps { IfOk result (PeerWent self.old self.new) }
+        ensures stays { OnErr result (IsSome self.old.session → IsSome self.new.session) }
     {
         let Some(link) = &mut self.link else {
-            return Ok(Course::Waits);
+            return Ok(Went::Waits);
         };
         link.moved = now;
-        step_of(&mut self.session, &mut link.far)
+        step_of(&mut self.session, link)
     }
 
     /// A session is done: that is told, and the connection rests, or ends.
-    fn done(&mut self, setting: &mut Setting, crowd: &mut Crowd) -> Result<bool, Refusal>
+    fn done(&mut self, setting: &mut Setting, crowd: &mut Crowd, session: OwnSession) -> bool
+        requires { IsDone (sitting session) }
         ensures places { TakesNoPlace self.old self.new }
         ensures deeds { TalksDeeds crowd.old.talks crowd.new.talks }
+        // What is told is what its machine reports.
+        ensures says { self.old.session ≡ None →
+            PeerSays (record (said_by self.old setting.old crowd.old) { session = Some (sitting session) })
+            (said_by self.new setting.new crowd.new) }
     {
-        let Some(session) = self.session.take() else {
-            return Ok(false);
-        };
         crowd.talks.dismiss_own(session.client);
         let report = session.report();
-        self.tell_again(&mut crowd.told);
-        self.is_failing = false;
+        self.note_again(&mut crowd.told);
         self.note_exchanged(setting, &report);
         self.tell(crowd);
         self.note_done(setting, crowd, report);
-        if let Some(link) = &mut self.link {
-            link.is_kept = true;
-            link.stage = Stage::Rests;
-        }
+        self.keep();
         if setting.stays {
-            return Ok(false);
+            return false;
         }
         self.part(crowd.now)
     }
 
+    /// Over its connection nothing is asked from now on.
+    fn keep(&mut self)
+        ensures { self.new ≡ record self.old { link = self.new.link } }
+    {
+        if let Some(link) = &mut self.link {
+            link.is_kept = true;
+            link.stage = Stage::Rests;
+        }
+    }
+
     /// Notes what a session exchanged, where that is told.
     fn note_exchanged(&mut self, setting: &Setting, report: &Report)
-        ensures { self.new ≡ record self.old { untold = self.new.untold } }
+        ensures { self.new ≡ record self.old {
+          untold = noted_unless setting.now.is_quiet report.now self.old.untold;
+        } }
     {
         if !setting.is_quiet {
             self.untold.note(report);
@@ -239,28 +287,34 @@ impl Peering {
     pub fn tell(&mut self, crowd: &mut Crowd)
         ensures peering { self.new ≡ record self.old { untold = self.new.untold } }
         ensures talks { crowd.new.talks ≡ crowd.old.talks }
+        ensures says { (setting : Setting) → PeerSays (said_by self.old setting crowd.old)
+            (said_by self.new setting crowd.new) }
     {
         self.untold.tell(self.address, crowd.now, &mut crowd.told);
     }
 
-    /// Tells that a session is done after one that failed.
-    fn tell_again(&self, told: &mut String) {
+    /// Notes that a session is done. Where the one before failed, that is told.
+    fn note_again(&mut self, told: &mut String)
+        ensures peering { self.new ≡ record self.old { is_failing = false } }
+        ensures told { TellsIf self.old.is_failing (again_text self.old.address)
+            (string_bytes told.old) (string_bytes told.new) }
+    {
         if self.is_failing {
-            let _ = writeln!(told, "peer {} again", self.address);
+            tell_again(self.address, told);
         }
+        self.is_failing = false;
     }
 
     /// Notes how a session ended that is done, and tells which keys were left, but for those that the session before
     /// left.
     fn note_done(&mut self, setting: &mut Setting, crowd: &mut Crowd, report: Report)
-        ensures session { self.new.session ≡ self.old.session }
+        ensures peering { self.new ≡ record self.old { schedule = self.new.schedule; left = self.new.left } }
         ensures ends { EndsMeeting (ended_of report) crowd.old.now self.old.schedule self.new.schedule }
-        ensures talks { crowd.new.talks ≡ crowd.old.talks }
+        ensures crowd { crowd.new ≡ record crowd.old { counts = crowd.new.counts } }
+        ensures setting { setting.new ≡ record setting.old { errors = setting.new.errors } }
     {
         self.schedule.end(Met::with(&report), crowd.now);
-        if let Some(counts) = crowd.counts.peers.get_mut(self.place) {
-            counts.end(report.keys, report.refused > 0, crowd.now);
-        }
+        count_done(&mut crowd.counts.peers, self.place, &report, crowd.now);
         tell_left(
             self.address,
             &self.left,
@@ -271,29 +325,30 @@ impl Peering {
     }
 
     /// Says Bye. What came of a window and was not told is given up.
-    fn part(&mut self, now: u64) -> Result<bool, Refusal>
+    fn part(&mut self, now: u64) -> bool
         ensures { self.new ≡ record self.old { link = self.new.link } }
     {
         let Some(link) = &mut self.link else {
-            return Ok(false);
+            return false;
         };
         let _ = link.far.tell();
         match link.far.part() {
             Ok(()) => {
                 link.stage = Stage::Parts;
                 link.moved = now;
-                Ok(true)
+                true
             }
             Err(_) => {
                 self.link = None;
-                Ok(false)
+                false
             }
         }
     }
 
     /// The connection ends once the Bye is answered. What else comes does not put that off.
     fn parts(&mut self, setting: &mut Setting, now: u64) -> bool
-        ensures { self.new ≡ record self.old { link = self.new.link } }
+        ensures peering { self.new ≡ record self.old { link = self.new.link } }
+        ensures setting { setting.new ≡ record setting.old { piece = setting.new.piece } }
     {
         let Some(link) = &mut self.link else {
             return false;
@@ -328,7 +383,8 @@ fn connects(link: &mut PeerLink, setting: &Setting, now: u64) -> Result<bool, Re
 
 /// The token is answered by Done.
 fn greets(link: &mut PeerLink, setting: &mut Setting, now: u64) -> Result<bool, Refusal>
-    ensures { IfOk result (λ is. LetsIn is link.old link.new) }
+    ensures lets { IfOk result (λ is. LetsIn is link.old link.new) }
+    ensures setting { setting.new ≡ record setting.old { piece = setting.new.piece } }
 {
     link.move_bytes(&mut setting.piece, now)?;
     if !link.far.has_all() {
@@ -337,47 +393,4 @@ fn greets(link: &mut PeerLink, setting: &mut Setting, now: u64) -> Result<bool, 
     link.far.is_answered()?;
     link.stage = Stage::Rests;
     Ok(true)
-}
-
-/// Whether there is a session that may go on at once, and has a place for that.
-#[tactic(auto, using(crate::proofs::Placing::place_swaps, crate::proofs::Placing::place_rests))]
-fn has_turn_in(
-    session: &mut Option<OwnSession>,
-    link: &mut PeerLink,
-    now: u64,
-    free: &mut usize,
-) -> bool
-    ensures swaps { SwapsPlaces (has_place session.old) free.old (has_place session.new) free.new }
-    ensures turn { result ≡ true → has_place session.new ≡ true }
-    ensures rests { has_place session.old ≡ false → free.old ≡ 0 → session.new ≡ session.old }
-{
-    let Some(session) = session else {
-        return false;
-    };
-    let had = session.runs;
-    let is_turn = session.has_turn(&link.far, link.is_unread(), free);
-    if session.runs && !had {
-        link.lend(now);
-    }
-    is_turn
-}
-
-/// A step of a session, if there is one.
-#[tactic(auto, using(crate::proofs::Placing::place_steps))]
-fn step_of(session: &mut Option<OwnSession>, far: &mut Caller) -> Result<Course, Refusal>
-    ensures { has_place session.new ≡ has_place session.old }
-{
-    match session {
-        Some(session) => match session.step(far) {
-            Ok(course) => Ok(course),
-            Err(fault) => Err(refusal_in(fault)),
-        },
-        None => Ok(Course::Waits),
-    }
-}
-
-fn refusal_in(fault: SyncFault) -> Refusal {
-    match fault {
-        SyncFault::Local(refusal) | SyncFault::Peer(refusal) => refusal,
-    }
 }

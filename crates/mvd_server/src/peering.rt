@@ -1,14 +1,18 @@
 //! A peer: when it is met, and the connection and the session with it, if there are any.
-ghost use Rattle.std.specs.Prelude.{◌≡◌, ◌<◌, ◌≤◌, IsSomeAnd, None, Some, true};
+ghost use Rattle.std.specs.Prelude.{◌≡◌, ◌<◌, ◌≤◌, IsSomeAnd, None, Some, false, not, string_bytes, true};
 ghost use Rattle.mvd_meet.specs.Times.{due_of, news_at};
+ghost use Rattle.mvd_server.specs.PeerNews.{TellsIf, failed_text};
+ghost use Rattle.mvd_server.specs.PeerSays.{PeerFails, PeerSays, said_by};
 ghost use Rattle.mvd_server.specs.Peerings.{FailsMeeting, HearsNews, MayGoOn, MayTryAgain, TakesNoPlace, author_of};
 ghost use Rattle.mvd_server.specs.Peerings.{has_place, is_resting};
 ghost use Rattle.mvd_server.specs.Talking.{TalksDeeds};
+ghost use Rattle.mvd_server.specs.declared.peer_news.Setting.{Setting};
 
 use crate::crowd::Crowd;
 use crate::own_session::OwnSession;
+use crate::peer_counts::count_failed;
 use crate::peer_link::PeerLink;
-use crate::peer_news::{Setting, Untold};
+use crate::peer_news::{Setting, Untold, tell_failed};
 use crate::talks::Talks;
 use crate::timers::earlier;
 use mio::event::Event;
@@ -17,7 +21,6 @@ use mvd_dots::Refusal;
 use mvd_meet::{Author, Met, Schedule};
 use mvd_sync::Left;
 use mvd_wire::Items;
-use std::fmt::Write as Print;
 use std::net::{Net, SocketAddr};
 
 /// The most questions that may have been asked over a connection on which another session begins. No session that asked
@@ -165,6 +168,7 @@ impl Peering {
         ensures early { crowd.old.now < due_of self.old.schedule → self.new ≡ self.old }
         ensures places { TakesNoPlace self.old self.new }
         ensures deeds { TalksDeeds crowd.old.talks crowd.new.talks }
+        ensures says { PeerSays (said_by self.old setting.now crowd.old) (said_by self.new setting.now crowd.new) }
     {
         if self.link.is_some() || self.schedule.due() > crowd.now || setting.is_ending {
             return;
@@ -190,6 +194,10 @@ impl Peering {
         ensures places { TakesNoPlace self.old self.new }
         ensures schedule { FailsMeeting crowd.old.now self.old self.new.schedule }
         ensures deeds { TalksDeeds crowd.old.talks crowd.new.talks }
+        ensures says { (setting : Setting) → PeerFails refusal (said_by self.old setting crowd.old)
+            (said_by self.new setting crowd.new) }
+        // It is noted, unless it may be tried again.
+        ensures noted { self.new.is_failing ≡ false → MayTryAgain self.old.link self.old.session }
     {
         let is_again = self.is_again(refusal);
         self.link = None;
@@ -198,11 +206,18 @@ impl Peering {
             return self.schedule.again();
         }
         self.schedule.end(Met::Failed, crowd.now);
-        if let Some(counts) = crowd.counts.peers.get_mut(self.place) {
-            counts.fail();
-        }
+        count_failed(&mut crowd.counts.peers, self.place);
+        self.note_failed(refusal, &mut crowd.told);
+    }
+
+    /// Notes that a session failed. That is told, unless the one before failed too.
+    fn note_failed(&mut self, refusal: Refusal, told: &mut String)
+        ensures peering { self.new ≡ record self.old { is_failing = true } }
+        ensures told { TellsIf (not self.old.is_failing) (failed_text self.old.address refusal)
+            (string_bytes told.old) (string_bytes told.new) }
+    {
         if !self.is_failing {
-            let _ = writeln!(crowd.told, "peer {} {refusal}", self.address);
+            tell_failed(self.address, refusal, told);
         }
         self.is_failing = true;
     }
@@ -223,6 +238,8 @@ impl Peering {
         ensures places { TakesNoPlace self.old self.new }
         ensures schedule { self.new.schedule ≡ self.old.schedule }
         ensures deeds { TalksDeeds crowd.old.talks crowd.new.talks }
+        ensures says { (setting : Setting) → PeerSays (said_by self.old setting crowd.old)
+            (said_by self.new setting crowd.new) }
     {
         if let Some(session) = &mut self.session
             && session.is_busy()
@@ -238,6 +255,8 @@ impl Peering {
         ensures places { TakesNoPlace self.old self.new }
         ensures news { HearsNews changed (author_of self.old.session) crowd.old.now self.old.schedule self.new.schedule }
         ensures deeds { TalksDeeds crowd.old.talks crowd.new.talks }
+        ensures says { (setting : Setting) → PeerSays (said_by self.old setting crowd.old)
+            (said_by self.new setting crowd.new) }
     {
         let now = crowd.now;
         let author = self.author();
@@ -254,11 +273,15 @@ impl Peering {
         ensures places { TakesNoPlace self.old self.new }
         ensures news { self.new.schedule.news ≡ self.old.schedule.news }
         ensures deeds { TalksDeeds crowd.old.talks crowd.new.talks }
+        ensures says { (setting : Setting) → PeerSays (said_by self.old setting crowd.old)
+            (said_by self.new setting crowd.new) }
     {
-        if let Some(session) = &mut self.session
-            && let Err(refusal) = session.take_replies(&mut crowd.talks)
-        {
-            self.fail(crowd, refusal);
+        let Some(session) = &mut self.session else {
+            return;
+        };
+        match session.take_replies(&mut crowd.talks) {
+            Ok(()) => {}
+            Err(refusal) => self.fail(crowd, refusal),
         }
     }
 }

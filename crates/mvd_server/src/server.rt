@@ -1,26 +1,28 @@
 //! A server of many clients at once, from one thread.
 mod asking;
+mod opening;
 
 ghost use Rattle.mvd_server.specs.Peerings.{WakesInTime};
-ghost use Rattle.std.specs.Prelude.{◌≡◌, ◌≢◌, ◌⊎◌, [], IfErr, IfOk, IsSome, IsSomeAnd, OnOk};
+ghost use Rattle.std.specs.Prelude.{◌≡◌, ◌≢◌, ◌⊎◌, [], IfErr, IsSome, IsSomeAnd, OnOk};
 ghost use Rattle.std.specs.Duration.{as_nanos};
 ghost use Rattle.mvd_dots.specs.declared.refusals.Refusal.TheVariants.{Memory, ReadFailed, WriteFailed};
 ghost use Rattle.mvd_input.specs.declared.fault.Fault.TheVariants.{Stopped};
 ghost use Rattle.mvd_replica.specs.Replicas.{site_of};
 ghost use Rattle.mvd_server.specs.Closing.{EndsAtFault, EndsServed, EndsWithRoot, IsDeserted};
-ghost use Rattle.mvd_server.specs.Rounds.{BeginsServing, GoesOnServing, IsServed};
+ghost use Rattle.mvd_server.specs.Rounds.{GoesOnServing, IsServed};
 ghost use Rattle.mvd_server.specs.Talking.{TalksDeeds, talking_of};
 ghost use Rattle.mvd_server.specs.TokenFiles.{names_asked, passes_asked};
 ghost use Rattle.mvd_server.specs.Wires.{Carries, wired_of};
 
-use crate::crowd::{Crowd, SPARE};
+use crate::clientele::Clientele;
+use crate::crowd::Crowd;
 use crate::door::{Door, FRAMES, HTTP};
 use crate::look::Look;
 use crate::peer_list::Peers;
 use crate::rotation::Rotation;
+use crate::server::opening::listening;
 use crate::sockets::Sockets;
-use crate::talks::Kind;
-use crate::telling::{tell_listening, tell_root, web_address};
+use crate::telling::{tell_listening, tell_root};
 use crate::terms::Terms;
 use crate::timers::{earlier, millis_of};
 use mio::{Events, Poll};
@@ -31,8 +33,7 @@ use mvd_replica::Replica;
 use sqlite::Alter;
 use std::alloc::{AllocError, Global};
 use std::fs::Files;
-use std::hash::RandomState;
-use std::io::{self, Write};
+use std::io::Write;
 use std::mem;
 use std::net::{Net, SocketAddr};
 use std::random::RandomSource;
@@ -40,13 +41,14 @@ use std::time::{Clock, Duration, Instant};
 
 /// The clients, the listeners, the peers, and those clients for which there may be something to do.
 #[derive(Drop)]
-struct Server {
+struct Server<K: Sockets> {
     poll: Poll,
     events: Events,
-    frames: Door,
-    http: Option<Door>,
+    frames: Door<K>,
+    http: Option<Door<K>>,
     peers: Peers,
     crowd: Crowd,
+    clientele: Clientele<K>,
     ready: Vec<u64>,
     next: Vec<u64>,
     start: Instant,
@@ -94,102 +96,17 @@ pub fn serve_run<
         (sockets.new ≡ sockets.old) × (replica.new ≡ replica.old)) }
 {
     let number = replica.config().site();
-    let mut server = listening(rt, alloc, address, number, terms)?;
-    let served = server.serve_at::<N, K, S, W, E>(
+    let mut server = listening::<N, K>(rt, alloc, address, number, terms)?;
+    let served = server.serve_at::<N, S, W, E>(
         rt, alloc, sockets, replica, address, terms, watch, writer, errors,
     );
     drop(server);
     Ok(served?)
 }
 
-/// A server that listens at an address, and for HTTP at its own port, if it serves that too.
-fn listening<'a, N: Net + Clock + RandomSource>(
-    rt: &N,
-    alloc: Global,
-    address: SocketAddr,
-    number: u32,
-    terms: Terms<'_>,
-) -> Result<Server, Stop<'a>>
-    ensures begins { IfOk result (λ server.
-        BeginsServing (passes_asked terms.entry) (names_asked terms.entry) server.crowd.talks) }
-    ensures unheard { IfErr result (λ stop. stop.fault ≡ Stopped ReadFailed) }
-{
-    match Server::new(rt, alloc, address, number, terms) {
-        Ok(server) => with_web(rt, server, web_address(address, terms)),
-        Err(error) => Err(Stop::unheard(address, error)),
-    }
-}
-
-/// The same server, which listens at this address too, if there is one.
-fn with_web<'a, N: Net>(
-    rt: &N,
-    mut server: Server,
-    address: Option<SocketAddr>,
-) -> Result<Server, Stop<'a>>
-    ensures talks { IfOk result (λ new. new.crowd.talks ≡ server.crowd.talks) }
-    ensures unheard { IfErr result (λ stop. stop.fault ≡ Stopped ReadFailed) }
-{
-    let Some(address) = address else {
-        return Ok(server);
-    };
-    match server.open_web(rt, address) {
-        Ok(()) => Ok(server),
-        Err(error) => {
-            drop(server);
-            Err(Stop::unheard(address, error))
-        }
-    }
-}
-
-impl Server {
-    fn new<N: Net + Clock + RandomSource>(
-        rt: &N,
-        alloc: Global,
-        address: SocketAddr,
-        number: u32,
-        terms: Terms<'_>,
-    ) -> io::Result<Server>
-        ensures { IfOk result (λ server.
-            BeginsServing (passes_asked terms.entry) (names_asked terms.entry) server.crowd.talks) }
-    {
-        let start = Instant::now(rt)?;
-        let keys = RandomState::new(rt)?;
-        let sockets = terms.clients as usize + SPARE;
-        let ready = Vec::with_capacity(alloc, 2 * sockets)?;
-        let next = Vec::with_capacity(alloc, 2 * sockets)?;
-        let events = Events::with_capacity(alloc, sockets.saturating_add(terms.peers.len()))?;
-        let poll = Poll::new(rt)?;
-        let frames = Door::new(rt, poll.registry(), address, Kind::Frames)?;
-        // Those that own most come last: each value before them is let go where a later one fails.
-        let rotation = Rotation::new(alloc, terms.token_file)?;
-        let peers = Peers::new(alloc, number, terms)?;
-        let crowd = Crowd::new(alloc, keys, terms, start)?;
-        Ok(Server {
-            poll,
-            events,
-            frames,
-            http: None,
-            peers,
-            crowd,
-            ready,
-            next,
-            start,
-            look: Look::new(),
-            rotation,
-        })
-    }
-
-    /// Listens at an address for HTTP, too.
-    fn open_web<N: Net>(&mut self, rt: &N, address: SocketAddr) -> io::Result<()>
-        ensures { self.new.crowd.talks ≡ self.old.crowd.talks }
-    {
-        let door = Door::new(rt, self.poll.registry(), address, Kind::Http)?;
-        self.http = Some(door);
-        Ok(())
-    }
-
+impl<K: Sockets> Server<K> {
     /// Serves, and tells the address before and the root digest after that.
-    fn serve_at<N: Net + Clock + Files, K: Sockets, S: Alter + Drop, W: Write, E: Write>(
+    fn serve_at<N: Net + Clock + Files, S: Alter + Drop, W: Write, E: Write>(
         &mut self,
         rt: &N,
         alloc: Global,
@@ -214,7 +131,7 @@ impl Server {
 
     /// Serves until all connections have ended. Where a client asked for that, nobody is let in any more, and sessions
     /// with peers end between two of their windows.
-    fn serve<N: Net + Clock + Files, K: Sockets, S: Alter + Drop, W: Write, E: Write>(
+    fn serve<N: Net + Clock + Files, S: Alter + Drop, W: Write, E: Write>(
         &mut self,
         rt: &N,
         sockets: &mut K,
@@ -229,7 +146,7 @@ impl Server {
         ensures cause { IfErr result (EndsAtFault (site_of replica.new)) }
     {
         for _round in 0..u64::MAX {
-            if self.crowd.is_over() && !self.peers.are_ending() {
+            if self.clientele.is_over(&self.crowd) && !self.peers.are_ending() {
                 return Ok(());
             }
             self.crowd.counts.lengths = watch.lengths();
@@ -242,7 +159,7 @@ impl Server {
     }
 
     /// Waits until there may be something to do, and does what there is.
-    fn serve_once<N: Net + Clock + Files, K: Sockets, S: Alter + Drop, W: Write, E: Write>(
+    fn serve_once<N: Net + Clock + Files, S: Alter + Drop, W: Write, E: Write>(
         &mut self,
         rt: &N,
         sockets: &mut K,
@@ -260,7 +177,7 @@ impl Server {
         self.peers.go_on(rt, self.poll.registry(), &mut self.crowd);
         self.answer_asking(rt, sockets, replica);
         self.answer(rt, replica);
-        self.crowd.wake(&mut self.ready);
+        self.clientele.wake(&mut self.crowd, &mut self.ready);
         self.give_out(sockets, writer)?;
         self.peers.tell_errors(errors);
         self.rotation.tell_errors(errors);
@@ -304,7 +221,7 @@ impl Server {
                     door.knocks = true;
                 }
             } else if !self.peers.note(event) {
-                self.crowd.note(event, &mut self.ready);
+                self.clientele.note(event, &mut self.ready);
             }
         }
         Ok(())
@@ -319,7 +236,8 @@ impl Server {
         if !self.ready.is_empty() || self.peers.are_busy() || self.crowd.talks.has_waiting() {
             return Some(Duration::ZERO);
         }
-        let due = earlier(self.crowd.next_due(), self.peers.next_due());
+        let clients = self.clientele.next_due(&self.crowd);
+        let due = earlier(clients, self.peers.next_due());
         let looks = earlier(self.next_in(), self.next_look());
         let first = earlier(due, looks)?;
         Some(Duration::from_millis(first.saturating_sub(self.crowd.now)))
@@ -332,53 +250,62 @@ impl Server {
 
     /// When somebody may be let in.
     fn next_in(&self) -> Option<u64> {
-        let frames = self.frames.next_due(&self.crowd);
+        let frames = self.frames.next_due(&self.clientele, &self.crowd);
         match &self.http {
-            Some(door) => earlier(frames, door.next_due(&self.crowd)),
+            Some(door) => earlier(frames, door.next_due(&self.clientele, &self.crowd)),
             None => frames,
         }
     }
 
     /// Lets clients in, reads once of each that is listed, and ends those that are idle: not for want of what came
     /// while the server was busy.
-    fn take_in<K: Sockets>(&mut self, sockets: &mut K) -> Result<(), AllocError>
+    fn take_in(&mut self, sockets: &mut K) -> Result<(), AllocError>
         ensures { Carries K.Sockets (wired_of self.old.crowd.talks sockets.old)
             (wired_of self.new.crowd.talks sockets.new) }
     {
         self.let_in(sockets)?;
-        self.crowd.read_all(sockets, &self.ready);
-        self.crowd.end_idle(&mut self.ready);
+        self.clientele
+            .read_all(&mut self.crowd, sockets, &self.ready);
+        self.clientele.end_idle(&mut self.crowd, &mut self.ready);
         Ok(())
     }
 
     /// Lets clients in.
-    fn let_in<K: Sockets>(&mut self, sockets: &mut K) -> Result<(), AllocError>
+    fn let_in(&mut self, sockets: &mut K) -> Result<(), AllocError>
         ensures { Carries K.Sockets (wired_of self.old.crowd.talks sockets.old)
             (wired_of self.new.crowd.talks sockets.new) }
     {
         let registry = self.poll.registry();
-        self.frames
-            .admit(registry, sockets, &mut self.crowd, &mut self.ready)?;
+        self.frames.admit(
+            registry,
+            sockets,
+            &mut self.clientele,
+            &mut self.crowd,
+            &mut self.ready,
+        )?;
         if let Some(door) = &mut self.http {
-            door.admit(registry, sockets, &mut self.crowd, &mut self.ready)?;
+            door.admit(
+                registry,
+                sockets,
+                &mut self.clientele,
+                &mut self.crowd,
+                &mut self.ready,
+            )?;
         }
         Ok(())
     }
 
     /// Writes once to each client that is listed, tells which ended, and lists those for which there may be more to
     /// do at once.
-    fn give_out<K: Sockets, W: Write>(
-        &mut self,
-        sockets: &mut K,
-        writer: &mut W,
-    ) -> Result<(), Fault>
+    fn give_out<W: Write>(&mut self, sockets: &mut K, writer: &mut W) -> Result<(), Fault>
         ensures carries { Carries K.Sockets (wired_of self.old.crowd.talks sockets.old)
             (wired_of self.new.crowd.talks sockets.new) }
         ensures cause { IfErr result (λ fault. (fault ≡ Stopped Memory) ⊎ (fault ≡ Stopped WriteFailed)) }
     {
         mem::swap(&mut self.ready, &mut self.next);
         self.ready.clear();
-        self.crowd.write_all(sockets, &self.next, &mut self.ready)?;
+        self.clientele
+            .write_all(&mut self.crowd, sockets, &self.next, &mut self.ready)?;
         if self.crowd.told.is_empty() {
             return Ok(());
         }

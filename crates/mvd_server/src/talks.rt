@@ -46,7 +46,7 @@ pub(crate) struct Talks {
     names: Names,
     hand: AtHand,
     webs: BTreeMap<u64, WebConnection>,
-    /// The number of the next client over HTTP.
+    /// The number of the next client over HTTP, or of the next one that is turned away.
     next: u64,
     /// The writes of those of whose request some are not answered.
     batches: BTreeMap<u64, Batch>,

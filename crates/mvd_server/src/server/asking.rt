@@ -22,9 +22,9 @@ fn take_turns(ready: &mut Vec<u64>)
     }
 }
 
-impl Server {
+impl<K: Sockets> Server<K> {
     /// Answers the clients of which a question came, and writes to them, before the changes of others are committed.
-    pub fn answer_asking<N: Clock, K: Sockets, S: Alter + Drop>(
+    pub fn answer_asking<N: Clock, S: Alter + Drop>(
         &mut self,
         rt: &N,
         sockets: &mut K,
@@ -34,13 +34,14 @@ impl Server {
             (wired_of self.new.crowd.talks sockets.new) replica.new }
     {
         self.next.clear();
-        self.crowd.list_asking(&self.ready, &mut self.next);
+        self.clientele.list_asking(&self.ready, &mut self.next);
         // Where all ask, no change is there to wait for.
         if self.next.is_empty() || self.next.len() == self.ready.len() {
             return;
         }
         self.crowd.round(rt, replica, &self.next);
-        self.crowd.send_all(sockets, &self.next);
+        self.clientele
+            .send_all(&mut self.crowd, sockets, &self.next);
     }
 
     /// Answers what came of the clients that are listed, and what the sessions with peers ask.

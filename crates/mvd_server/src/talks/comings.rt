@@ -1,28 +1,32 @@
 //! Who comes in, and who goes.
-ghost use Rattle.std.specs.Prelude.{◌≡◌, ◌-◌, ◌^◌, IfSome, OnErr, OnOk, Some, min};
+ghost use Rattle.std.specs.Prelude.{◌≡◌, ◌-◌, ◌^◌, ◌<◌, IfSome, None, OnErr, OnOk, Some, false, length, min};
 ghost use Rattle.std.specs.BTreeMap.{insert_entry};
 ghost use Rattle.std.specs.Ordering.{nat_cmp};
 ghost use Rattle.mvd_conn.specs.History.{new_history};
-ghost use Rattle.mvd_host.specs.Hosts.{client_of};
+ghost use Rattle.mvd_host.specs.Hosts.{client_of, clients_most};
 ghost use Rattle.mvd_server.specs.Closing.{IsDeserted, client_count};
 ghost use Rattle.mvd_server.specs.Guarded.{IsGuardedBy, first_guard};
-ghost use Rattle.mvd_server.specs.Talking.{Comes, ComesBy, DoesAct, GoesAtOnce, MayPart, TalksDeeds, talking_of};
+ghost use Rattle.mvd_server.specs.Talking.{Comes, ComesBy, DoesAct, GoesAtOnce, IsGoneBy, MayPart};
+ghost use Rattle.mvd_server.specs.Talking.{TalksDeeds, TurnsAway, talking_of};
 ghost use Rattle.mvd_server.specs.declared.talks.Kind.TheVariants.{Http};
+ghost use Rattle.mvd_server.specs.declared.talks.Kind.{Kind};
 ghost use Rattle.mvd_web.specs.Inside.{web_of};
 ghost use Rattle.mvd_web.specs.Web.{IsNew};
 ghost use Rattle.mvd_web.specs.declared.web_connection.WebConnection.{WebConnection};
 
 use crate::talks::{Kind, Talks};
 use mvd_conn::Guard;
+use mvd_host::CLIENTS_MAX;
 use mvd_web::WebConnection;
 use std::alloc::AllocError;
 
 impl Talks {
-    /// Takes a client in, and gives its number. It is `None` where there is no place, or memory was refused. One that
-    /// speaks frames has to show a token in its first frame; over HTTP each request has to.
+    /// Takes a client in, and gives its number. It is `None` where there is no place, or memory was refused: then it has
+    /// none. One that speaks frames has to show a token in its first frame; over HTTP each request has to.
     pub fn admit(&mut self, kind: Kind) -> Option<u64>
         ensures guarded { IfSome result (λ number. IsGuardedBy kind self.old.passes (client_of self.new.host number)) }
         ensures comes { IfSome result (λ number. ComesBy kind number (talking_of self.old) (talking_of self.new)) }
+        ensures none { result ≡ None → talking_of self.new ≡ talking_of self.old }
         ensures own { self.new.own ≡ self.old.own }
         ensures deeds { TalksDeeds self.old self.new }
     {
@@ -36,6 +40,7 @@ impl Talks {
         ensures guarded { IfSome result (λ number.
             client_of self.new.host number ≡ Some (new_history (first_guard self.old.passes))) }
         ensures comes { IfSome result (λ number. DoesAct (Comes number) (talking_of self.old) (talking_of self.new)) }
+        ensures none { result ≡ None → talking_of self.new ≡ talking_of self.old }
         ensures own { self.new.own ≡ self.old.own }
         ensures deeds { TalksDeeds self.old self.new }
     {
@@ -58,9 +63,13 @@ impl Talks {
 
     fn admit_web(&mut self) -> Option<u64>
         ensures comes { IfSome result (λ number. ComesBy Http number (talking_of self.old) (talking_of self.new)) }
+        ensures none { result ≡ None → talking_of self.new ≡ talking_of self.old }
         ensures own { self.new.own ≡ self.old.own }
         ensures deeds { TalksDeeds self.old self.new }
     {
+        if self.is_crowded() {
+            return None;
+        }
         let number = self.next;
         if number == u64::MAX {
             return None;
@@ -74,6 +83,13 @@ impl Talks {
         }
     }
 
+    /// Whether as many are there over HTTP as may be.
+    fn is_crowded(&self) -> bool
+        ensures { result ≡ false → length (talking_of self.now).webs < clients_most }
+    {
+        self.webs.len() >= CLIENTS_MAX
+    }
+
     fn open_web(&mut self, number: u64) -> Result<(), AllocError>
         ensures opens { OnOk result ((web : WebConnection) × IsNew (web_of web) × (talking_of self.new ≡
             record (talking_of self.old) { webs = insert_entry nat_cmp (talking_of self.old).webs number web })) }
@@ -83,6 +99,21 @@ impl Talks {
         let web = WebConnection::new(self.alloc, self.keys);
         drop(self.webs.insert(number, web)?);
         Ok(())
+    }
+
+    /// Gives a number to one for which there is no place: nobody had it, and nobody gets it again. It is `None` where
+    /// all were given.
+    pub fn turn_away(&mut self) -> Option<u64>
+        ensures away { IfSome result (λ number.
+            DoesAct (TurnsAway number) (talking_of self.old) (talking_of self.new)) }
+        ensures deeds { TalksDeeds self.old self.new }
+    {
+        let number = self.next;
+        if number == u64::MAX {
+            return None;
+        }
+        self.next += 1;
+        Some(number)
     }
 
     /// The number of clients that are not the server's own.
@@ -96,6 +127,7 @@ impl Talks {
 
     /// Lets a client go for which nothing is left to do.
     pub fn dismiss(&mut self, number: u64)
+        ensures gone { (kind : Kind) → IsGoneBy kind number (talking_of self.old) (talking_of self.new) }
         ensures own { self.new.own ≡ self.old.own }
         ensures deeds { MayPart number (talking_of self.old) → TalksDeeds self.old self.new }
     {
@@ -107,6 +139,7 @@ impl Talks {
 
     /// Lets a client go that has just come.
     pub fn turn_back(&mut self, kind: Kind, number: u64)
+        ensures gone { IsGoneBy kind number (talking_of self.old) (talking_of self.new) }
         ensures own { self.new.own ≡ self.old.own }
         ensures deeds { GoesAtOnce kind number (talking_of self.old) (talking_of self.new) }
     {

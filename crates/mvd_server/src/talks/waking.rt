@@ -1,7 +1,7 @@
 //! Those that wait for a change.
-ghost use Rattle.std.specs.Prelude.{◌≡◌, IsTrue, option_copied, true};
+ghost use Rattle.std.specs.Prelude.{◌≡◌, ◌≤◌, IsTrue, option_copied, true};
 ghost use Rattle.mvd_replica.specs.Replicas.{site_of};
-ghost use Rattle.mvd_server.specs.News.{HasNews, IsNewsFor, asked_by, followed_by as followed_for};
+ghost use Rattle.mvd_server.specs.News.{HasNews, IsNewsFor, asked_by, followed_by as followed_for, waiting_in};
 ghost use Rattle.mvd_server.specs.Since.{IsLetStill};
 ghost use Rattle.mvd_server.specs.Talking.{IsWaiting, TalksAt, TalksDeeds, talking_of, web_in};
 ghost use Rattle.mvd_site.specs.Sites.{SiteValue};
@@ -19,11 +19,13 @@ impl Talks {
     /// Lets a client wait for a change. Where as many wait as may, or memory is refused for that, it is told that there
     /// is none yet, and that it did not wait.
     pub fn park(&mut self, number: u64, root: [u8; 32], due: u64, counts: &mut Counts)
-        ensures { TalksDeeds self.old self.new }
+        // Where as many wait as may, no further one does.
+        ensures few { self.old.waits_max ≤ waiting_in self.old → waiting_in self.new ≤ waiting_in self.old }
+        ensures deeds { TalksDeeds self.old self.new }
     {
-        let count = self.parked.len().saturating_add(1);
-        if count <= self.waits_max
-            && self.woken.reserve(count).is_ok()
+        let count = self.parked.len();
+        if count < self.waits_max
+            && self.woken.reserve(count.saturating_add(1)).is_ok()
             && self.parked.add(number, root, due)
         {
             return;
@@ -33,7 +35,8 @@ impl Talks {
 
     /// Tells a client that knows this root that it does not wait for another.
     fn tell_not_waited(&mut self, number: u64, root: [u8; 32], counts: &mut Counts)
-        ensures { TalksDeeds self.old self.new }
+        ensures deeds { TalksDeeds self.old self.new }
+        ensures parked { self.new.parked ≡ self.old.parked }
     {
         let mut body = String::new(self.alloc);
         let pushed = push_not_waited(self.alloc, &mut body, root);
@@ -60,6 +63,7 @@ impl Talks {
         ensures deeds { (site : SiteValue) → IsNewsFor site (talking_of self.old) number told body.now →
             TalksAt site self.old self.new }
         ensures feed { (talking_of self.new).feed ≡ (talking_of self.old).feed }
+        ensures parked { self.new.parked ≡ self.old.parked }
     {
         if !self.awaits_change(number) {
             return;

@@ -16,6 +16,6 @@ loop-left-preserved c =
     let own = c.in-Some-Some.ensures.lookup in
     let at = sym (ap (λ l. slice_get l batch.told) c.deref.ensures.value) ∙ slice_get_read items (length items) batch.told c.in-Some-Some.field-0.now refl own.3.0 own.1 ∙ ap Some c.in-Some-Some.field-0-is in (
       only_on c.args.self.now batch _ inv.0 refl,
-      λ n hand. each_more n c.args.self.now batch hand hand hand (Refused c.in-Some-Some.refusal) _ _ inv.0 (omega (arith, c)) (inv.1 n hand) (next_refused _ c.in-Some-Some.refusal n hand at) (omega (arith, c)) c.in_ok-push_line.ensures.text,
+      λ n hand. each_more n c.args.self.now batch hand hand hand (Refused c.in-Some-Some.refusal) _ _ inv.0 (omega (arith, c)) (inv.1 n hand) (next_refused _ c.in-Some-Some.refusal n hand at) (omega (arith, c)) c.in_ok-push_line-in-Some-Some.ensures.text,
       omega (arith, c),
     )

@@ -1,4 +1,5 @@
-use Rattle.std.proofs.Common.{◌<◌, arith, length}
+use Rattle.std.proofs.Common.{◌<◌, arith, get_or, length, refl}
+use Rattle.mvd_server.proofs.PeerTelling.{all_say_on, one_says, same_said, says_same}
 use Rattle.mvd_server.proofs.Placing.{lent_more, places_kept}
 use Rattle.mvd_server.proofs.peer_list.Peers.give_back.Goals as goal
 
@@ -10,4 +11,9 @@ loop-peering-preserved c =
     record {
       few = places_kept items i c.give_back.new.self c.peering-item.result at c.loop-peering.invariant.few c.give_back.ensures.places;
       lent = lent_more _ _ items i c.give_back.new.self at c.give_back.ensures.lends c.loop-peering.invariant.lent;
+      says = λ crowd.
+          let s = c.args.self.now.setting in
+          let old = get_or items i c.peering-item.result in
+          all_say_on _ _ _ (c.loop-peering.invariant.says crowd)
+          (one_says _ _ i c.peering-item.result c.give_back.new.self at refl (says_same _ _ (same_said old c.give_back.new.self s s crowd crowd refl refl refl refl refl c.give_back.ensures.rest c.give_back.ensures.sits)));
     }

@@ -1,6 +1,7 @@
-use Rattle.std.proofs.Common.{◌<◌, arith, length}
+use Rattle.std.proofs.Common.{◌<◌, arith, length, refl}
 use Rattle.mvd_server.specs.Talking.{talking_of}
 use Rattle.mvd_server.proofs.Deeds.{deeds_on}
+use Rattle.mvd_server.proofs.PeerTelling.{all_say_on, one_says}
 use Rattle.mvd_server.proofs.Placing.{places_kept}
 use Rattle.mvd_server.proofs.peer_list.Peers.list.Goals as goal
 
@@ -12,4 +13,5 @@ loop-peering-preserved c =
     record {
       few = places_kept items i c.list.new.self c.peering-item.result at c.loop-peering.invariant.few c.list.ensures.places;
       deeds = deeds_on (talking_of c.args.crowd.now.talks) (talking_of c.loop-peering.crowd.talks) (talking_of c.list.new.crowd.talks) c.loop-peering.invariant.deeds c.list.ensures.deeds;
+      says = all_say_on _ _ _ c.loop-peering.invariant.says (one_says _ _ i c.peering-item.result c.list.new.self at refl (c.list.ensures.says c.args.self.now.setting));
     }

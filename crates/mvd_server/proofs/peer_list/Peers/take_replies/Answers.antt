@@ -1,7 +1,8 @@
-use Rattle.std.proofs.Common.{◌<◌, arith, length}
+use Rattle.std.proofs.Common.{◌<◌, arith, length, refl}
 use Rattle.mvd_server.specs.Talking.{talking_of}
 use Rattle.mvd_server.proofs.Deeds.{deeds_on}
 use Rattle.mvd_server.proofs.Hearing.{heard_more}
+use Rattle.mvd_server.proofs.PeerTelling.{all_say_on, one_says}
 use Rattle.mvd_server.proofs.Placing.{places_kept}
 use Rattle.mvd_server.proofs.peer_list.Peers.take_replies.Goals as goal
 
@@ -14,4 +15,5 @@ loop-peering-preserved c =
       few = places_kept items i c.hear.new.self c.peering-item.result at c.loop-peering.invariant.few c.hear.ensures.places;
       heard = heard_more _ items i _ _ _ c.hear.new.self at c.hear.ensures.news c.loop-peering.invariant.heard;
       deeds = deeds_on (talking_of c.args.crowd.now.talks) (talking_of c.loop-peering.crowd.talks) (talking_of c.hear.new.crowd.talks) c.loop-peering.invariant.deeds c.hear.ensures.deeds;
+      says = all_say_on _ _ _ c.loop-peering.invariant.says (one_says _ _ i c.peering-item.result c.hear.new.self at refl (c.hear.ensures.says c.args.self.now.setting));
     }

@@ -7,5 +7,5 @@ returns g c =
     let listed = c.list.new.crowd.talks in
     let answered = c.answer_all.new.self.crowd.talks in
     let last = c.take_replies.new.crowd.talks in
-    answers_join old listed last c.args.replica.now c.args.replica.now c.answer_all.new.replica (answers_deeds old listed c.args.replica.now c.list.ensures)
+    answers_join old listed last c.args.replica.now c.args.replica.now c.answer_all.new.replica (answers_deeds old listed c.args.replica.now c.list.ensures.deeds)
     (answers_join listed answered last c.args.replica.now c.answer_all.new.replica c.answer_all.new.replica c.answer_all.ensures (answers_deeds answered last c.answer_all.new.replica c.take_replies.ensures.deeds))

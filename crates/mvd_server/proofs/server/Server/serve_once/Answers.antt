@@ -20,9 +20,9 @@ returns-in_err-give_out-clause-goes g c =
     let asked = c.answer_asking.new.self.crowd.talks in
     let s' = c.answer_asking.new.sockets in
     let now = c.answer_asking.new.replica in
-    passes_out k (wired_of t s) asked c.answer.new.self.crowd.talks c.wake.new.self.talks c.give_out.new.self.crowd.talks s' c.give_out.new.sockets old now c.answer.new.replica
+    passes_out k (wired_of t s) asked c.answer.new.self.crowd.talks c.wake.new.crowd.talks c.give_out.new.self.crowd.talks s' c.give_out.new.sockets old now c.answer.new.replica
     (passes_in k t c.wait.new.self.crowd.talks c.take_in.new.self.crowd.talks c.go_on.new.crowd.talks asked s c.take_in.new.sockets s' old now c.wait.ensures.talks c.take_in.ensures
-    (deeds_on (talking_of c.take_in.new.self.crowd.talks) (talking_of c.rotate.new.self.crowd.talks) (talking_of c.go_on.new.crowd.talks) c.rotate.ensures c.go_on.ensures) c.answer_asking.ensures) c.answer.ensures c.wake.ensures c.give_out.ensures.carries
+    (deeds_on (talking_of c.take_in.new.self.crowd.talks) (talking_of c.rotate.new.self.crowd.talks) (talking_of c.go_on.new.crowd.talks) c.rotate.ensures c.go_on.ensures.deeds) c.answer_asking.ensures) c.answer.ensures c.wake.ensures c.give_out.ensures.carries
 
 pub returns-clause-goes : goal.returns-clause-goes
 returns-clause-goes g c =
@@ -33,6 +33,6 @@ returns-clause-goes g c =
     let asked = c.answer_asking.new.self.crowd.talks in
     let s' = c.answer_asking.new.sockets in
     let now = c.answer_asking.new.replica in
-    passes_out k (wired_of t s) asked c.answer.new.self.crowd.talks c.wake.new.self.talks c.give_out.new.self.crowd.talks s' c.give_out.new.sockets old now c.answer.new.replica
+    passes_out k (wired_of t s) asked c.answer.new.self.crowd.talks c.wake.new.crowd.talks c.give_out.new.self.crowd.talks s' c.give_out.new.sockets old now c.answer.new.replica
     (passes_in k t c.wait.new.self.crowd.talks c.take_in.new.self.crowd.talks c.go_on.new.crowd.talks asked s c.take_in.new.sockets s' old now c.wait.ensures.talks c.take_in.ensures
-    (deeds_on (talking_of c.take_in.new.self.crowd.talks) (talking_of c.rotate.new.self.crowd.talks) (talking_of c.go_on.new.crowd.talks) c.rotate.ensures c.go_on.ensures) c.answer_asking.ensures) c.answer.ensures c.wake.ensures c.give_out.ensures.carries
+    (deeds_on (talking_of c.take_in.new.self.crowd.talks) (talking_of c.rotate.new.self.crowd.talks) (talking_of c.go_on.new.crowd.talks) c.rotate.ensures c.go_on.ensures.deeds) c.answer_asking.ensures) c.answer.ensures c.wake.ensures c.give_out.ensures.carries

@@ -7,10 +7,12 @@ pub returns-in-Ok-clause-comes : goal.returns-in-Ok-clause-comes
 returns-in-Ok-clause-comes c =
     let old = talking_of c.args.self.now in
     let opens = c.in-Ok.ensures.opens in
-    does_web old.next opens.0 old _ refl opens.1 (ap (λ (t : Talking). record t { next = old.next + 1 }) opens.2)
+    let few = c.is_crowded.ensures c.if-is_crowded.false in
+    does_web old.next opens.0 old _ refl few opens.1 (ap (λ (t : Talking). record t { next = old.next + 1 }) opens.2)
 
 pub returns-in-Ok-clause-deeds : goal.returns-in-Ok-clause-deeds
 returns-in-Ok-clause-deeds c =
     let old = talking_of c.args.self.now in
     let opens = c.in-Ok.ensures.opens in
-    comes_web old.next opens.0 old _ refl opens.1 (ap (λ (t : Talking). record t { next = old.next + 1 }) opens.2)
+    let few = c.is_crowded.ensures c.if-is_crowded.false in
+    comes_web old.next opens.0 old _ refl few opens.1 (ap (λ (t : Talking). record t { next = old.next + 1 }) opens.2)

@@ -3,11 +3,11 @@ use Rattle.mvd_server.specs.Talking.{DeedsAt, Talking, talking_of}
 use Rattle.mvd_server.proofs.talks.Talks.park.Goals as goal
 use Rattle.mvd_server.proofs.talks.Talks.park.Goals.{else-count-self-via-then-count-self+then-is_ok+else-add, else-count-self-via-then-count-self+else-is_ok, else-count-self-via-else-count-self}
 
-pub returns : goal.returns
-returns c = λ site.
+pub returns-clause-deeds : goal.returns-clause-deeds
+returns-clause-deeds c = λ site.
     let same : talking_of c.else-count-self.self ≡ talking_of c.args.self.now = elim c.else-count-self.branch [
       | else-count-self-via-then-count-self+then-is_ok+else-add w ↦ ap talking_of w.self-is
       | else-count-self-via-then-count-self+else-is_ok w ↦ ap talking_of w.self-is
       | else-count-self-via-else-count-self w ↦ ap talking_of w.self-is
     ] in
-    subst (λ (t : Talking). DeedsAt site t (talking_of c.tell_not_waited.new.self)) same (c.tell_not_waited.ensures site)
+    subst (λ (t : Talking). DeedsAt site t (talking_of c.tell_not_waited.new.self)) same (c.tell_not_waited.ensures.deeds site)

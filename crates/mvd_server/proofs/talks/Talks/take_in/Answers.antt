@@ -43,4 +43,4 @@ returns-in-Waits g c =
     let entries = (c.get_mut.follows.lender web).entries in
     deeds_at site old (record old { hand = c.ask-rest.new.hand; webs = entries }) (talking_of c.park.new.self)
     (asks_at site c.args.number c.ask-rest.result _ c.in-Some.web.now web old c.ask-rest.new.hand entries (sym c.in-Some.ensures.value) c.as_ref.ensures.value c.ask-rest.ensures (c.get_mut.follows.holds web).0)
-    (c.park.ensures site)
+    (c.park.ensures.deeds site)

@@ -39,7 +39,7 @@ unread_status (of_order.Stopped refusal) = 1
 
 -- ---- the words
 
-module _ {D : Type 0} {g : disk.Ghosts D} (f : Ghosts (FileStore D g)) {K L : Type 0} (k : SocketGhosts K)
+module _ {D : Type 0} {g : disk.Ghosts D} (f : Ghosts (FileStore D g)) {K I A T L : Type 0} (k : SocketGhosts K I A T)
     (line : LineGhosts L) (gives : SocketAddr → L → Type 0) (image : Image) where
   -- an order is done, and the status is of how that ended; without an order nothing is done
   abbrev pub DoesRead : Result Order OrderFault → Outside K L → Outside K L → ℕ → Type 0

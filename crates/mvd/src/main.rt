@@ -35,7 +35,7 @@ fn started(rt: &HostRuntime, words: &[String]) -> io::Result<ExitCode> {
     let mut writer = io::writer(rt);
     let mut sockets = Direct {};
     let dial = mvd_app::Sockets(rt);
-    let mut gone = Gone::new();
+    let mut gone = Gone::new(rt);
     // A torn write is taken to leave each byte old or new.
     Ok(obey(
         rt,

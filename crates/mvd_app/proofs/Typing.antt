@@ -285,8 +285,8 @@ module _ {A : Type 0} (Answers : A → A → Request → Reply → Type 0) (lost
       asks_as Answers (MayNoted number line) (UntoldNoted Memory number line old new) old.asked new.asked (λ a b it. (it, same)) (may_ask number line old.asked new.asked may)
   untold_asks ReadFailed number line old new (same, out) = asks_none Answers (UntoldNoted ReadFailed number line old new) old.asked new.asked same (λ log alike. (alike, out))
   untold_asks FrameTooLong number line old new (same, out, long) = asks_none Answers (UntoldNoted FrameTooLong number line old new) old.asked new.asked same (λ log alike. (alike, out, long))
-  untold_asks WriteFailed number line old new (text, tells) =
-      asks_as Answers (TellsNoted number line text) (UntoldNoted WriteFailed number line old new) old.asked new.asked (λ a b it. (text, it)) (line_asks number line old.asked new.asked text tells)
+  untold_asks WriteFailed number line old new (text, tells, front) =
+      asks_as Answers (TellsNoted number line text) (UntoldNoted WriteFailed number line old new) old.asked new.asked (λ a b it. (text, it, front)) (line_asks number line old.asked new.asked text tells)
   untold_asks refusal number line old new it = absurd it
 
   abbrev LinesNoted : List (List ℕ) → At A → At A → Result (Unit {0}) Fault → Noted A → Noted A → Type 0

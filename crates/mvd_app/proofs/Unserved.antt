@@ -11,6 +11,6 @@ use Rattle.mvd_server.specs.TokenFiles.{Named}
 use Rattle.mvd_server.specs.declared.sockets.Sockets.{Ghosts as SocketGhosts}
 use Rattle.sqlite_trees.specs.declared.store.Store.{Ghosts}
 
-module _ {S : Type 0} {g : Ghosts S} {K : Type 0} (k : SocketGhosts K) where
+module _ {S : Type 0} {g : Ghosts S} {K I A T : Type 0} (k : SocketGhosts K I A T) where
   pub serves_nothing : (passes : Option (List Pass)) (names : Named) (sockets : K) (old : Replica S g) (stop : Stop) → EndsAtFault (site_of old) stop.fault → ServesTo k passes names sockets old sockets old (Err stop)
   serves_nothing passes names sockets old stop cause = record { served = served_none k passes names sockets old; left = tt; cause = cause; unheard = λ some. (refl, refl) }

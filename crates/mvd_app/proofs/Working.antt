@@ -87,7 +87,7 @@ module _ {S : Type 0} {g : Ghosts S} where
   }
 
   -- a server
-  pub served_works : {K : Type 0} {k : SocketGhosts K} {passes : Option (List Pass)} {names : Named} {sockets sockets' : K} (old new : Replica S g) → IsServed k passes names sockets old sockets' new → WorksOn (stored_of old) (stored_of new)
+  pub served_works : {K I A T : Type 0} {k : SocketGhosts K I A T} {passes : Option (List Pass)} {names : Named} {sockets sockets' : K} (old new : Replica S g) → IsServed k passes names sockets old sockets' new → WorksOn (stored_of old) (stored_of new)
   served_works old new it =
       let turns : List Turn = turns_of (turns_in it.all) in
       let states = it.list.serves.states in
@@ -114,7 +114,7 @@ module _ {S : Type 0} {g : Ghosts S} where
       (asked_by exchanges between new (writes_then old between exchange.request exchange.reply asked writes one) rest others)
 
   -- those of a server
-  served_by : {K : Type 0} {k : SocketGhosts K} {passes : Option (List Pass)} {names : Named} {sockets sockets' : K} (old new : Replica S g) (it : IsServed k passes names sockets old sockets' new) →
+  served_by : {K I A T : Type 0} {k : SocketGhosts K I A T} {passes : Option (List Pass)} {names : Named} {sockets sockets' : K} (old new : Replica S g) (it : IsServed k passes names sockets old sockets' new) →
       WorksBy (rounds_in it.all) (stored_of old) (stored_of new)
   served_by old new it =
       subst (λ (m : HostMoment (Held S)). Works (rounds_in it.all) (site_of old) m.site (store_of old) (state g m.conn)) it.ends (of_rounds (state g) _ it.all it.runs)
@@ -128,7 +128,7 @@ module _ {S : Type 0} {g : Ghosts S} where
 
   -- ---- a task
 
-  module _ {K L : Type 0} (k : SocketGhosts K) (line : LineGhosts L) (gives : SocketAddr → L → Type 0) (tokens : Option Tokens) (was now : Outside K L) (old new : Replica S g)
+  module _ {K I A T L : Type 0} (k : SocketGhosts K I A T) (line : LineGhosts L) (gives : SocketAddr → L → Type 0) (tokens : Option Tokens) (was now : Outside K L) (old new : Replica S g)
       (calls : List (List Turn)) (result : Result (Unit {0}) Stop) where
     -- keeps the writes known
     pub does_work : (task : Task) → DoesTask k line gives task tokens was old now new calls result → WorksOn (stored_of old) (stored_of new)

@@ -35,7 +35,7 @@ module _ {D : Type 0} {g : disk.Ghosts D} (f : Ghosts (FileStore D g)) {K L : Ty
     pub cause : StopsBefore filed stop
         ⊎ ((config : ConfigValue) × IsConfigFor filed.setup config × CannotOpen f image config filed.db stop)
 
-module _ {D : Type 0} {g : disk.Ghosts D} (f : Ghosts (FileStore D g)) {K L : Type 0} (k : SocketGhosts K)
+module _ {D : Type 0} {g : disk.Ghosts D} (f : Ghosts (FileStore D g)) {K I A T L : Type 0} (k : SocketGhosts K I A T)
     (line : LineGhosts L) (gives : SocketAddr → L → Type 0) where
   -- The site that is set up so was opened, its task was done and nothing else, and it was closed, or comes back: it is
   -- broken, cannot be closed, or came to harm that bars it

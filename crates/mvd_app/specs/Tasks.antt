@@ -9,7 +9,6 @@ use Rattle.mvd_app.specs.Noted.{Noting, at_noted}
 use Rattle.mvd_app.specs.declared.commands.Work.{Work}
 use Rattle.mvd_app.specs.declared.commands.Work.TheVariants as work
 use Rattle.mvd_client.specs.Between.{MeetsServers}
-use Rattle.mvd_client.specs.LetIn.{GivesIn}
 use Rattle.mvd_client.specs.SyncsAt.{TellsSession}
 use Rattle.mvd_client.specs.Talked.{ShellsAt}
 use Rattle.mvd_client.specs.declared.gone.Gone.{Gone}
@@ -105,7 +104,7 @@ module _ {S : Type 0} {g : Ghosts S} where
     pub asked : AnswersExchanges ReplicaAnswers exchanges old.asked new.asked
     pub valid : AllByRecursion IsValidTurn (turns_asked exchanges)
 
-module _ {S : Type 0} {g : Ghosts S} {K : Type 0} (k : SocketGhosts K) where
+module _ {S : Type 0} {g : Ghosts S} {K I A T : Type 0} (k : SocketGhosts K I A T) where
   -- A server ran, and this is how it ended: well, and then nobody but its own is left; or with its fault, and where it
   -- could not listen it did nothing
   pub record ServesTo (passes : Option (List Pass)) (names : Named) (sockets : K) (old : Replica S g) (sockets' : K)
@@ -115,7 +114,7 @@ module _ {S : Type 0} {g : Ghosts S} {K : Type 0} (k : SocketGhosts K) where
     pub cause : IfErr result (λ stop. EndsAtFault (site_of new) stop.fault)
     pub unheard : IfErr result (λ stop. IsSome stop.hint → (sockets' ≡ sockets) × (new ≡ old))
 
-module _ {S : Type 0} {g : Ghosts S} {K L : Type 0} (k : SocketGhosts K) (line : LineGhosts L)
+module _ {S : Type 0} {g : Ghosts S} {K I A T L : Type 0} (k : SocketGhosts K I A T) (line : LineGhosts L)
     (gives : SocketAddr → L → Type 0) where
   -- WHAT A TASK DOES to a stored site, and nothing else: it takes the turns of these calls. They are a server's rounds,
   -- what the lines ask that a shell reads, or what a session pushes with what an address leads to, to which the first
@@ -131,8 +130,8 @@ module _ {S : Type 0} {g : Ghosts S} {K L : Type 0} (k : SocketGhosts K) (line :
       (it : TypesLines (at old was.input was.out) (at new now.input now.out) result)
       × (calls ≡ calls_asked it.exchanges) × (now.gone ≡ was.gone)
   DoesTask (Syncing address) tokens was old now new calls result =
-      (it : TellsSession line (GivesIn line (gives address) (first_token tokens)) address was.gone now.gone old new
-      was.out now.out result)
+      (it : TellsSession line (gives address) (first_token tokens) address was.gone now.gone old new was.out now.out
+      result)
       × (calls ≡ it.takes.calls)
 
 -- ---- without a file
@@ -148,9 +147,9 @@ abbrev pub IsTypedAt : {L : Type 0} → LineGhosts L → (L → Type 0) → Sock
     → Option (List ℕ) → Option (List ℕ) → Option (List ℕ) → Option (List ℕ) → Result (Unit {0}) Stop → Type 0
 IsTypedAt line gives address file was now input input' out out' result =
     ((tokens : Option Tokens) × AreTokensOfOrder file tokens
-    × ShellsAt line (GivesIn line gives (first_token tokens)) (is_some (first_token tokens)) address was now
-    input out input' out' result)
-    ⊎ (((stop : Stop) × (result ≡ Err stop) × StopsAtToken file stop) × (input' ≡ input) × (out' ≡ out))
+    × ShellsAt line gives (first_token tokens) address was now input out input' out' result)
+    ⊎ (((stop : Stop) × (result ≡ Err stop) × StopsAtToken file stop)
+    × (now ≡ was) × (input' ≡ input) × (out' ≡ out))
 
 -- a session of two servers, to each of which the first token was shown; or the tokens could not be read of their file
 abbrev pub IsMet : {L : Type 0} → LineGhosts L → (SocketAddr → L → Type 0) → SocketAddr → SocketAddr

@@ -5,7 +5,6 @@ ghost use Rattle.mvd_app.specs.Named.{StopsAtDefs, StopsAtToken};
 ghost use Rattle.mvd_app.specs.OnFile.{RunsOnFile, setup_in};
 ghost use Rattle.mvd_app.specs.Stored.{IsConfigFor, IsWithoutFile, filed};
 ghost use Rattle.mvd_app.specs.Tasks.{DoesTask, MayWork, outside, task_of};
-ghost use Rattle.mvd_client.specs.LetIn.{GivesIn};
 ghost use Rattle.mvd_client.specs.SyncsAt.{TellsSession};
 ghost use Rattle.mvd_input.specs.Orders.{IsInRange, IsSetUp};
 ghost use Rattle.mvd_replica.specs.Turns.{Turn};
@@ -43,8 +42,8 @@ enum Work<'a> {
 /// Runs an order, from `reader` where it reads lines, and to `writer`. A file that it works on is made where it is
 /// missing. It is closed, with its log, also where the command was stopped, unless its site is broken or it cannot be
 /// closed; and whatever is left of the site comes back, to be dropped. What stands in it at first is what `start` names,
-/// which no code reads. `dial` leads to the server of a session or a shell, `gone` notes the lines to servers as they
-/// are let go, and `sockets` move the bytes of the clients that are served.
+/// which no code reads. `dial` leads to the server of a session or a shell, `gone` notes the lines to servers as
+/// they are had and let go, and `sockets` move the bytes of the clients that are served.
 pub fn run<'a, S: Start, D: Dial, K: Sockets, R: BufRead, W: Write>(
     rt: &'a HostRuntime,
     order: Order<'a>,
@@ -304,8 +303,7 @@ fn synced<'a, S: Alter + Drop, D: Dial, W: Write>(
     dial: &D,
     writer: &mut W,
 ) -> Result<(), Stop<'a>>
-    ensures { TellsSession D.Dialed.Line
-        (GivesIn D.Dialed.Line (D.gives dial.now address) (option_copied token.entry)) address
+    ensures { TellsSession D.Dialed.Line (D.gives dial.now address) (option_copied token.entry) address
         gone.old gone.new replica.old replica.new (W.contents writer.old) (W.contents writer.new) result }
 {
     let mut errors = paths.errors();

@@ -1,7 +1,6 @@
 //! A session of a stored site with a site at hand, by what `mvd sync` calls.
 ghost use Rattle.std.specs.Prelude.{◌≡◌, false, None};
 ghost use Rattle.std.specs.declared.net.socket_addr.SocketAddr.{SocketAddr};
-ghost use Rattle.mvd_client.specs.LetIn.{GivesIn};
 ghost use Rattle.mvd_client.specs.SyncsAt.{MeetsAt};
 ghost use Rattle.mvd_line_tests.specs.Serving.{IsAtHand};
 ghost use Rattle.mvd_replica.specs.Replicas.{site_of};
@@ -33,10 +32,20 @@ impl Dial for AtHand {
 
     ghost gives = { λ _ _ served. IsAtHand served };
 
-    fn dial(&self, alloc: Global, _address: SocketAddr, _idle: u32) -> Result<Served, DialFault> {
+    fn dial(
+        &self,
+        alloc: Global,
+        _address: SocketAddr,
+        _idle: u32,
+        gone: &mut Gone<Served>,
+    ) -> Result<Served, DialFault> {
         let config = Config::new(2, 10, Defs::new(alloc));
         match Site::new(alloc, config) {
-            Ok(site) => Ok(Served::new(alloc, site)),
+            Ok(site) => {
+                let served = Served::new(alloc, site);
+                gone.has(&served);
+                Ok(served)
+            }
             Err(_) => Err(DialFault::Memory),
         }
     }
@@ -47,25 +56,17 @@ fn sync_at_hand<'a, S: Alter + Drop, E: Write>(
     alloc: Global,
     replica: &mut Replica<S>,
     address: SocketAddr,
+    gone: &mut Gone<Served>,
     told: Option<&mut E>,
 ) -> Result<Report, Stop<'a>>
-    ensures { (site_of replica.old).broken ≡ false → MeetsAt ⟦<Served as Line>⟧
-        (GivesIn ⟦<Served as Line>⟧ IsAtHand None) address replica.old replica.new result }
+    ensures { (site_of replica.old).broken ≡ false →
+        MeetsAt ⟦<Served as Line>⟧ IsAtHand None address replica.old replica.new result }
 {
-    sync_run(
-        &AtHand,
-        alloc,
-        replica,
-        address,
-        5,
-        None,
-        &mut Gone::new(),
-        told,
-    )
+    sync_run(&AtHand, alloc, replica, address, 5, None, gone, told)
 }
 
 /// How many keys a session with it exchanges, of a stored site that holds one.
-fn exchanged(alloc: Global) -> Result<u64, Refusal> {
+fn exchanged(alloc: Global, gone: &mut Gone<Served>) -> Result<u64, Refusal> {
     let config = Config::new(1, 10, Defs::new(alloc));
     let mut replica = match Replica::open(alloc, Connection::open_in_memory(alloc)?, config) {
         Ok(replica) => replica,
@@ -78,7 +79,7 @@ fn exchanged(alloc: Global) -> Result<u64, Refusal> {
     let put = Request::Put(Key::read(alloc, "a")?, Context::new(alloc), document);
     let _reply = replica.answer(&put);
     let address = SocketAddr::new(IpAddr::V4(Ipv4Addr::LOCALHOST), 1);
-    let told = sync_at_hand(alloc, &mut replica, address, None::<&mut Vec<u8>>);
+    let told = sync_at_hand(alloc, &mut replica, address, gone, None::<&mut Vec<u8>>);
     drop(replica);
     match told {
         Ok(report) => Ok(report.keys),
@@ -88,6 +89,6 @@ fn exchanged(alloc: Global) -> Result<u64, Refusal> {
 
 #[test]
 fn a_site_at_hand_is_met(rt: HostRuntime) -> Result<(), Fail> {
-    assert!(rt; exchanged(rt.alloc()) == Ok(1));
+    assert!(rt; exchanged(rt.alloc(), &mut Gone::new(&rt)) == Ok(1));
     Ok(())
 }

@@ -5,10 +5,10 @@ usage, at the repository's top: tools/gate_costs.py FILE [COMMAND..]
 
 FILE gets a line `CRATE PROOF EDITS TESTS` for each crate, in processor seconds (a program's proof with its two compilers, the tests with
 their compiler), as tools/lanes.py reads it; above them what was run and what it took, for docs/GATE.md. Behind them it gets a line
-`faults SECONDS` for the refused growths of memory, a line `pages SECONDS` for the check of the pages, and a line `users SECONDS` for what
-users run: the other scripts that .ci/run names, with all that they started. At the end the totals are printed: processor minutes, wall
-minutes, and the most memory that all processes took together. A process is looked at twice a second, so of each its last half second may
-be missing."""
+`tenth SECONDS` for the wrong bodies of a landing, a line `faults SECONDS` for the refused growths of memory, a line `pages SECONDS` for
+the check of the pages, and a line `users SECONDS` for what users run: the other scripts that .ci/run names, with all that they started.
+At the end the totals are printed: processor minutes, wall minutes, and the most memory that all processes took together. A process is
+looked at twice a second, so of each its last half second may be missing."""
 import os
 import re
 import resource
@@ -24,7 +24,7 @@ def parts_of(gate):
     """The parts of the gate behind the proofs, by their scripts."""
     with open(gate) as it:
         scripts = re.findall(r"^part \d+ tools/(\S+)", it.read(), re.M)
-    return {name: {"faults.sh": "faults", "check_docs.py": "pages"}.get(name, "users") for name in scripts}
+    return {name: {"wrong_bodies.py": "tenth", "faults.sh": "faults", "check_docs.py": "pages"}.get(name, "users") for name in scripts}
 
 
 PARTS = parts_of(os.path.join(os.path.dirname(os.path.abspath(__file__)), "..", ".ci", "run"))
@@ -63,6 +63,8 @@ def job(pid):
     if "--crate-name" not in words:
         parts = [PARTS[os.path.basename(word)] for word in words[:2] if os.path.basename(word) in PARTS]
         return (parts[0], None) if parts else None
+    if "/wrong-bodies-" in where:
+        return PARTS["wrong_bodies.py"], None
     crate = words[words.index("--crate-name") + 1]
     return crate, 1 if "rt-edit-" in where else 2 if "--test" in words else 0
 

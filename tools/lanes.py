@@ -8,7 +8,7 @@ usage, at the repository's top: tools/lanes.py COSTS [PROCESSORS..]
 COSTS is what tools/gate_costs.py writes: a line `CRATE PROOF EDITS TESTS` for each crate, in processor seconds. The gate's order is
 followed, with one job for each proof: a crate's proof and its tests wait for the proofs below it, its edits for both, and for a proof
 that is made for them; what has the longest chain of lines behind it goes first, edits last. Building and running what was proved is put
-at four minutes. The last line is the longest chain of proofs, each of which waits for the one before: no processors make the gate
+at four minutes; behind it come the wrong bodies of a landing, for which COSTS has a line `tenth SECONDS`, on two processors. The last line is the longest chain of proofs, each of which waits for the one before: no processors make the gate
 shorter than that. A crate that COSTS does not name counts as 25 seconds."""
 import glob
 import re
@@ -46,6 +46,7 @@ def count(name, pattern):
 
 LINES = {name: count(name, "src/**/*.rt") for name in BELOW_OF}
 EDITS = {name: len(glob.glob(f"crates/{name}/must-fail/*.edit")) for name in BELOW_OF}
+EACH_TIME = {name: sum(open(it).read(5) == "gate:" for it in glob.glob(f"crates/{name}/wrong-bodies/*.edit")) for name in BELOW_OF}
 
 
 def read_costs(file):
@@ -55,6 +56,11 @@ def read_costs(file):
         if words and words[0] in BELOW_OF:
             costs[words[0]] = tuple(map(float, words[1:4]))
     return {name: costs[name] for name in BELOW_OF if name in costs}
+
+
+def tenth(file):
+    """The processor seconds of the wrong bodies of a landing."""
+    return sum(float(line.split()[1]) for line in open(file) if line.startswith("tenth "))
 
 
 def tasks_of(costs):
@@ -111,10 +117,11 @@ def page(file):
     costs = read_costs(file)
     notes = dict(re.findall(r"^# (run|seen): (.*)$", open(file).read(), re.M))
     lines = [f"- Sampled: {notes['run']}.", f"- Seen: {notes['seen']}."]
-    lines += [f"- In the table: {sum(map(sum, costs.values())) / 60:.0f} processor minutes.", ""]
-    lines += ["| Crate | Its proof, seconds | Edits in the gate | Their seconds | Its tests, seconds |", "|---|---|---|---|---|"]
+    lines += [f"- In the table: {sum(map(sum, costs.values())) / 60:.0f} processor minutes, and {tenth(file) / 60:.0f} of the wrong bodies of a landing.", ""]
+    lines += ["| Crate | Its proof, seconds | Its `must-fail/` | Their seconds | With `gate:` | Its tests, seconds |", "|---|---|---|---|---|---|"]
     for name, (proof, edits, tests) in costs.items():
-        row = [f"`{name}`", f"{proof:.0f}", EDITS[name] or "none", f"{edits:.0f}" if edits else "", f"{tests:.0f}" if tests else ""]
+        told = f"{edits:.0f}" if edits else ""
+        row = [f"`{name}`", f"{proof:.0f}", EDITS[name] or "", told, EACH_TIME[name] or "", f"{tests:.0f}" if tests else ""]
         lines.append(f"| {' | '.join(map(str, row))} |")
     seconds, chain = longest_chain(tasks_of(costs))
     lines += ["", f"- The longest chain of proofs, {seconds:.0f} seconds: {', '.join(f'`{name}`' for name, _ in chain)}."]
@@ -132,9 +139,9 @@ def write(lines):
 def main(file, processors):
     costs = read_costs(file)
     tasks = tasks_of(costs)
-    print(f"{sum(map(sum, costs.values())) / 60:.0f} processor minutes")
+    print(f"{(sum(map(sum, costs.values())) + tenth(file)) / 60:.0f} processor minutes")
     for lanes in processors:
-        print(f"{minutes(tasks, lanes):.0f} minutes on {lanes} processors")
+        print(f"{minutes(tasks, lanes) + tenth(file) / 60 / min(lanes, 2):.0f} minutes on {lanes} processors")
     seconds, chain = longest_chain(tasks)
     print(f"{seconds:.0f} seconds: {', '.join(name if what == 'proof' else f'{name} ({what})' for name, what in chain)}")
 

@@ -1,185 +1,136 @@
 #!/usr/bin/env python3
 """Tries many wrong bodies in one check: each must be refused in the function that it changes.
 
-usage, at the repository's top: tools/wrong_bodies.py [--must-fail] [--built] CRATE[/WRONG_BODY]..
-                                tools/wrong_bodies.py --gate N       for each landing
+usage, at the repository's top: tools/wrong_bodies.py [--must-fail] [--built] [--seconds S] CRATE[/WRONG_BODY]..
+                                tools/wrong_bodies.py --gate N [--seconds S]       for each landing
+                                tools/wrong_bodies.py --look                       by the texts alone: tries none
 
-With --gate N it tries each wrong body whose first line begins with `gate:`, and all of the crates of tenth N, 0 to 9 (TENTHS, below).
-With --gate and with --built it stands over the libraries that `rt ci` left in out/, and copies and builds none.
+With --gate N it tries each wrong body whose first line begins with `gate:`, and all of the crates of one tenth (TENTHS, below), which the
+last digit of N names. With --gate and with --built it stands over the libraries that `rt ci` left in out/, and copies and builds none. Then
+checks of two crates run side by side, or one, where RT_JOBS is 1. It begins no check that would take the crates of the tenth, or all that it
+is asked for, past S processor seconds, but for the wrong bodies of each time; and with --gate it ends after 25 minutes. What it did not try
+it names, and the digits of N before the last say where the tenth begins: so what was left comes first in ten landings. It fails where a
+wrong body is proved, or its text cannot be applied; and, but with --gate, which names it, where that cannot be compiled.
 
 It puts the wrong bodies of a crate (of `wrong-bodies/`, or of `must-fail/`) into a copy of the repository, as many at once as change
 different functions, and runs `rt check` there, of the changed functions alone. The check says of each whether it is proved. A wrong body
 counts as refused if a function that it changes is not proved: at a clause, where a goal of the code's own text is left open; at an answer,
-where a hand-written line of proofs/ no longer fits its goal. One whose text cannot be compiled would stop the whole check, so then each of
-its group is tried alone. tools/wrong_bodies.sh tries each alone from the first on, which takes some four times as long. The last line has
-the processor seconds that it took.
+where a hand-written line of proofs/ no longer fits its goal. What only calls a changed function is tried once more, without those that are
+refused. Text that cannot be compiled stops the whole check, so then each half of its group is tried. tools/wrong_bodies.sh tries each alone
+from the first on, which takes some four times as long. For each crate the last line has the processor seconds that it took.
+
+--look says, of all edits, which cannot be applied, which crate has none that the gate tries, and of which line of tools/wrong_bodies.txt
+the gate tries none; and what the gate and each tenth take by tools/edit_costs.txt.
 """
 import concurrent.futures
 import functools
 import os
 import pathlib
 import re
-import resource
 import shutil
 import subprocess
 import sys
 import tempfile
+import threading
 import time
 import zlib
 
-# The crates of each tenth, of some ten processor minutes together; a crate that is not listed is in one by its name. Of one with a part, as
+sys.dont_write_bytecode = True
+from edits import FN, applied, asked_for, groups_of, is_gate, is_hit, pairs_of
+
+# The crates of each tenth, which --look reckons: as much each. One that is not listed is in one by its name. Of one with a part, as
 # "mvd_server 1/2", those wrong bodies whose names fall into it.
 TENTHS = [
-    ["mvd_server"],
-    ["mvd_app", "mvd_remote", "mvd_line_tests"],
-    ["mvd_wire", "mvd_print", "mvd_hint", "mvd_live"],
-    ["mvd_client", "mvd_web", "mvd_docs", "mvd_model"],
-    ["mvd", "mvd_records", "mvd_peer", "mvd_site"],
-    ["mvd_world", "mvd_keys", "mvd_tree", "mvd_runs"],
-    ["mvd_kept", "mvd_rows", "mvd_shell", "mvd_count"],
-    ["mvd_sync", "mvd_frames", "mvd_dots", "mvd_conn"],
-    ["mvd_input", "mvd_host", "mvd_script", "mvd_start"],
-    ["mvd_replica", "mvd_http", "mvd_meet", "mvd_digest"],
+    ["mvd_server 2/2"],
+    ["mvd_world", "mvd_frames", "mvd_remote", "mvd_line_tests", "mvd_example"],
+    ["mvd", "mvd_http", "mvd_wire", "mvd_conn", "mvd_site"],
+    ["mvd_sync", "mvd_records", "mvd_docs", "mvd_hint", "mvd_count"],
+    ["mvd_replica", "mvd_web", "mvd_print", "mvd_script", "mvd_start"],
+    ["mvd_server 1/2", "mvd_model"],
+    ["mvd_input", "mvd_host", "mvd_meet", "mvd_runs", "mvd_digest"],
+    ["mvd_kept", "mvd_rows", "mvd_tree", "mvd_dots"],
+    ["mvd_app", "mvd_peer", "mvd_keys"],
+    ["mvd_client", "mvd_shell", "mvd_live"],
 ]
+# What the gate's part is given in .ci/run, less what it takes to end.
+MINUTES = 25
 LEFT = pathlib.Path("crates").resolve()
-FN = re.compile(r"^( *)(?:pub(?:\([a-z]+\))? )?(?:const )?(?:unsafe )?fn (\w+)")
-HEAD = re.compile(r"(?:unsafe )?(?:impl|(?:pub(?:\(\w+\))? )?trait)\b")
-OWNER = re.compile(HEAD.pattern + r"\s*(?:<(?:[^<>]|<[^<>]*>)*>)?\s*(?:(?:\w+::)*(\w+)(?:<.*?>)? for )?(?:\w+::)*(\w+)(<[^{]*>)?")
+COSTS = pathlib.Path(__file__).resolve().parent / "edit_costs.txt"
+ROWS = pathlib.Path(__file__).resolve().parent / "wrong_bodies.txt"
+# The costs of a crate that is not there.
+ELSE = (15.0, 3.0)
+REFUSED = ("clause", "answer", "name")
+WORDS = {**{it: f"refused at {it}" for it in REFUSED}, "proved": "NOT REFUSED: it is proved", "unread": "NOT REFUSED: its text is not compiled",
+         "unapplied": "CANNOT BE APPLIED: a text of it does not stand there once", "left": "left for want of time or memory"}
 
 
-def pairs_of(edit):
-    """The changes of an edit: of each its file, the old text and the new one."""
-    found, path, old = [], "", ""
-    for line in edit.read_text().split("\n"):
-        if line.startswith("file: "):
-            path = line[6:].strip()
-        elif line.startswith("old: "):
-            old = line[5:]
-        elif line.startswith("new:"):
-            found.append((path, old, line[4:].removeprefix(" ")))
-    return found
+class Purse:
+    """What a run may take, and what each crate took: processor seconds, and how many checks and edits these were for."""
 
+    def __init__(self, seconds, minutes, bound):
+        self.seconds, self.bound, self.until = seconds, bound, time.monotonic() + 60 * minutes
+        self.spent, self.lock = {}, threading.Lock()
 
-def function_at(text, at):
-    """The function that stands around a position of a file: TYPE::NAME of a method, with the trait's name behind the type's where it is a
-    trait's, and ?::NAME where that is none of a plain type; `const NAME` of a constant; and '' elsewhere."""
-    lines = text[: text.find("\n", at) + 1 or None].rstrip("\n").split("\n")
-    constant = re.match(r"(?:pub(?:\([a-z]+\))? )?(const|static|use|type) (\w+)", lines[-1])
-    if constant:
-        return f"const {constant.group(2)}" if constant.group(1) == "const" else ""
-    at, told = next(((at, FN.match(lines[at])) for at in reversed(range(len(lines))) if FN.match(lines[at])), (0, None))
-    if told is None or not told.group(1):
-        return told.group(2) if told else ""
-    line = next(line for line in reversed(lines[:at]) if HEAD.match(line))
-    head = OWNER.match(line)
-    if head is None or " for " in line and not head.group(1) or "<" in (head.group(3) or "")[1:]:
-        return f"?::{told.group(2)}"
-    return f"{head.group(2)}{head.group(1) or ''}::{told.group(2)}"
+    def has(self, crate, edits, is_gate):
+        begin, each = costs().get(crate, ELSE)
+        is_free = is_gate or crate not in self.bound
+        return time.monotonic() < self.until and (is_free or self.total(self.bound) + begin + each * edits <= self.seconds)
 
+    def total(self, crates):
+        return sum(seconds for crate, (seconds, _, _) in list(self.spent.items()) if crate in crates)
 
-def module_of(path):
-    return "::".join(it for it in path.removeprefix("src/").removesuffix(".rt").split("/") if it not in ("lib", "main", "mod"))
+    def run(self, command, folder, edits, is_gate):
+        """Runs a check, and gives what it says; None where there is no time for it, or it says nothing."""
+        for _ in range(2):
+            if not self.has(folder.name, edits, is_gate):
+                return None
+            run = subprocess.Popen(command, cwd=folder, stdout=subprocess.PIPE, stderr=subprocess.STDOUT, text=True, errors="replace")
+            late = threading.Timer(max(self.until - time.monotonic(), 0), run.kill)
+            late.daemon = True
+            late.start()
+            said = run.stdout.read()
+            status, used = os.wait4(run.pid, 0)[1:]
+            run.returncode = os.waitstatus_to_exitcode(status)
+            late.cancel()
+            with self.lock:
+                seconds, checks, tried = self.spent.get(folder.name, (0.0, 0, 0))
+                self.spent[folder.name] = seconds + used.ru_utime + used.ru_stime, checks + 1, tried + edits
+            # (one that was killed, most likely for memory, says nothing)
+            if run.returncode >= 0:
+                return said
+        return None
 
 
 @functools.lru_cache(None)
-def declared_in(folder):
-    """The module in which each type of a crate is declared: there a check has the type's own methods."""
-    found = {}
-    for file in sorted(folder.glob("src/**/*.rt")):
-        for name in re.findall(r"(?m)^(?:pub(?:\(\w+\))? )?(?:struct|enum|trait) (\w+)", file.read_text()):
-            found.setdefault(name, module_of(str(file.relative_to(folder))))
-    return found
+def costs():
+    """Of each crate the processor seconds of a check before it proves anything, and those of each edit."""
+    lines = (line.split("#")[0].split() for line in COSTS.read_text().splitlines())
+    return {words[0]: (float(words[1]), float(words[2])) for words in lines if words}
 
 
-def told_as(folder, path, function):
-    """A function's name as a check prints it behind the crate's."""
-    owner, _, name = function.rpartition("::")
-    module = declared_in(folder).get(owner, module_of(path))
-    return "::".join(it for it in (module, owner, name) if it)
-
-
-def asked_for(folder, path, function):
-    """What is checked where a function was changed: itself, or its module; where it is a constant, the modules that name it."""
-    if function.startswith("?"):
-        return [module_of(path)]
-    if not is_outside(function):
-        return [told_as(folder, path, function)]
-    texts = [(file, file.read_text()) for file in sorted(folder.glob("src/**/*.rt"))]
-    # (a check knows no module without a function)
-    files = [file for file, text in texts if re.search(rf"\b{function.split()[1]}\b", text) and any(map(FN.match, text.split("\n")))]
-    return [module_of(str(file.relative_to(folder))) for file in files if module_of(str(file.relative_to(folder)))]
-
-
-def is_hit(name, folder, path, function, told):
-    """Whether a check that leaves a name open refuses the change of a function."""
-    # (a member of a cycle of calls is told by the cycle's name)
-    whole = told_as(folder, path, function)
-    in_module = name.startswith(module_of(path)) and name.endswith(function[1:]) and function.startswith("?")
-    return is_outside(function) or name == whole or in_module or "+" in name and whole not in told
-
-
-def applied(texts, edit, folder):
-    """The texts with an edit's changes, and the functions that it changes; None where an old text does not stand once."""
-    after, changed = dict(texts), set()
-    for path, old, new in pairs_of(edit):
-        text = after.get(path) or (folder / path).read_text()
-        if text.count(old) != 1:
-            return None
-        changed.add((path, function_at(text, text.find(old))))
-        after[path] = text.replace(old, new)
-    return after, changed
-
-
-def clash(some, others):
-    """Whether two edits change one function, or one of them what stands outside of functions, on which any function may rest."""
-    return any(is_outside(name) or is_outside(its) or (path, name) == (other, its) for path, name in some for other, its in others)
-
-
-def is_outside(name):
-    return not name or name.startswith("const ")
-
-
-def groups_of(edits, folder):
-    """The edits in groups: those of one group change different functions. Each group is (edits with their functions, texts)."""
-    groups, left = [], list(edits)
-    while left:
-        texts, taken, group, later = {}, set(), [], []
-        for edit in left:
-            made = applied(texts, edit, folder)
-            if made is None or clash(made[1], taken):
-                later.append(edit)
-                continue
-            texts, taken = made[0], taken | made[1]
-            group.append((edit, made[1]))
-        if not group:
-            print(f"{left[0].parent.parent.name}: {', '.join(edit.stem for edit in left)}: cannot be applied")
-            break
-        groups.append((group, texts))
-        left = later
-    return groups
-
-
-def check(folder, texts, functions, over):
-    """What a check says of these functions with these texts, or of the crate, where one of them is none."""
+def check(folder, group, kept, purse, is_gate):
+    """What a check says of the functions that a group changes, or of the crate, where an edit changes what stands outside of them."""
+    texts, functions = {}, set().union(*(its for _, its in group))
+    for edit, _ in group:
+        texts = applied(texts, edit, folder)[0]
     was = {path: (folder / path).read_text() for path in texts}
     for path, text in texts.items():
         (folder / path).write_text(text)
     only = [f"--only={it}" for path, own in sorted(functions) for it in asked_for(folder, path, own)] if all(own for _, own in functions) else []
-    command = over_libraries(folder, over) if over else ["rt", "check"]
-    for _ in range(2):
-        run = subprocess.run([*command, *only], cwd=folder, stdout=subprocess.PIPE, stderr=subprocess.STDOUT, text=True, errors="replace")
-        # (one that was killed, most likely for memory, says nothing)
-        if run.returncode >= 0:
-            break
+    said = purse.run([*(over_libraries(folder, kept) if kept else ["rt", "check"]), *only], folder, len(group), is_gate)
     for path, text in was.items():
         (folder / path).write_text(text)
-    return run.stdout
+    return said
+
+
+@functools.lru_cache(None)
+def kit():
+    return pathlib.Path(subprocess.run(["rt", "doc"], stdout=subprocess.PIPE, text=True, check=True).stdout.split()[-1]).parent
 
 
 def over_libraries(folder, kept):
     """The command that checks a crate over the libraries of the crates below it, which `rt ci` left in this repository's out/, and keeps
     what it proves in a folder."""
-    kit = pathlib.Path(subprocess.run(["rt", "doc"], stdout=subprocess.PIPE, text=True, check=True).stdout.split()[-1]).parent
     lines = (line.split("#")[0].partition(":") for line in (folder.parent.parent / "crates.txt").read_text().splitlines())
     uses = {name.split()[0]: used.split() for name, colon, used in lines if colon}
     below, todo = [], list(uses[folder.name])
@@ -188,13 +139,13 @@ def over_libraries(folder, kept):
         if name in uses and name not in below:
             below.append(name)
             todo += uses[name]
-    words = [kit / "bin/rattle", "check", "--crate-name", folder.name, f"src/{'main' if (folder / 'src/main.rt').is_file() else 'lib'}.rt"]
+    words = [kit() / "bin/rattle", "check", "--crate-name", folder.name, f"src/{'main' if (folder / 'src/main.rt').is_file() else 'lib'}.rt"]
     for name in ["std", *uses[folder.name]]:
-        library = LEFT / name / "out/rlib" if name in uses else kit / "rlibs"
+        library = LEFT / name / "out/rlib" if name in uses else kit() / "rlibs"
         words += ["--extern", f"{name}={library / name}.rlib"]
-    for library in [kit / "rlibs", *(LEFT / name / "out/rlib" for name in below)]:
+    for library in [kit() / "rlibs", *(LEFT / name / "out/rlib" for name in below)]:
         words += ["-L", f"dependency={library}"]
-    words += ["--antt-project", kit / "rattle/logic/antt-project.json", "--logic-built", kit / "logic_built"]
+    words += ["--antt-project", kit() / "rattle/logic/antt-project.json", "--logic-built", kit() / "logic_built"]
     return [*words, "--jobs", "1", "--incremental", kept]
 
 
@@ -208,14 +159,25 @@ def is_open(line):
     return not told.startswith("proved") and not others
 
 
+def is_of_name(part, own):
+    """Whether a line on the proof files of a function says that a name is gone."""
+    owner = ""
+    for line in part.split("\n"):
+        named = re.match(r"(?:\./)?(proofs/\S*?/)[A-Z]\w*\.antt:", line)
+        owner = named.group(1) if named else owner
+        if owner == own and re.search(r"(has no field|is not in scope|has no `)", line):
+            return True
+    return False
+
+
 def judged(said, functions, folder):
-    """Where a check refused a change of these functions: 'clause', 'answer', 'name', or '' if each of them is proved."""
+    """Where a check refused a change of these functions: 'clause', 'answer', 'name'; or 'proved', or 'unread' if it tells of no function."""
     lines = re.findall(r"^fn (\w+::(\S+): .*)", said, re.M)
     told = [name for _, name in lines]
     hit = [line.split(": ")[0] for line, name in lines if is_open(f"fn {line}")
            and any(is_hit(name, folder, path, own, told) for path, own in functions)]
     if not hit:
-        return ""
+        return "proved" if told else "unread"
     lines = said.split("\n")
     for name in hit:
         at = next(n for n, line in enumerate(lines) if line.startswith(f"fn {name}: ") and is_open(line))
@@ -225,18 +187,67 @@ def judged(said, functions, folder):
         part = "\n".join(lines[before : at + 1])
         if re.search(r"^note: (\./)?src/|did not prove", part, re.M):
             return "clause"
-        if re.search(r"(has no field|is not in scope|has no `)", part):
+        if is_of_name(part, "proofs/" + name.partition("::")[2].replace("::", "/") + "/"):
             return "name"
     return "answer"
 
 
+def tried(folder, group, kept, purse):
+    """What came of each edit of a group."""
+    said = check(folder, group, kept, purse, has_gate(group))
+    if said is None:
+        return {edit: "left" for edit, _ in group}
+    found = {edit: judged(said, functions, folder) for edit, functions in group}
+    again = [one for one in group if found[one[0]] not in REFUSED]
+    half = len(group) // 2
+    if len(group) > 1 and again:
+        # (what calls a changed function is told as not proved for that: so without those that are refused, and in halves where none is)
+        for part in [again] if len(again) < len(group) else [group[:half], group[half:]]:
+            found |= tried(folder, part, kept, purse)
+    return found
+
+
+def has_gate(group):
+    return any(is_gate(edit) for edit, _ in group)
+
+
+class Work:
+    """The edits of a crate that are to be tried, in groups: first those among which are edits of each time."""
+
+    def __init__(self, folder, kind, names, kept, turn):
+        edits = {edit for name in names for edit in named(folder, kind, name)}
+        groups, bad = groups_of(sorted(edits, key=lambda it: (not is_gate(it), it)), folder)
+        self.first = [group for group in groups if has_gate(group)]
+        others = [group for group in groups if not has_gate(group)]
+        at = turn % len(others) if others else 0
+        self.others = others[at:] + others[:at]
+        self.folder, self.kept, self.found = folder, kept, {edit: "unapplied" for edit in bad}
+
+    def try_groups(self, groups, purse):
+        for group in groups:
+            found = tried(self.folder, group, self.kept, purse)
+            self.found |= found
+            lines = [f"{self.folder.name}/{edit.stem}: {WORDS[result]}" for edit, result in found.items() if result != "left"]
+            seconds, checks, edits = purse.spent.get(self.folder.name, (0.0, 0, 0))
+            told = f"{self.folder.name}: {seconds:.0f} processor seconds until now, in {checks} checks of {edits} edits"
+            # (in one piece, since two crates print side by side)
+            print("".join(f"{line}\n" for line in [*lines, told]), end="", flush=True)
+
+
 def main(words):
+    if "--look" in words:
+        sys.exit(1 if look() else 0)
     kind = "must-fail" if "--must-fail" in words else "wrong-bodies"
-    tenth = int(words[words.index("--gate") + 1]) if "--gate" in words else None
-    is_built = tenth is not None or "--built" in words
-    names = names_of(tenth) if tenth is not None else [word for word in words if not word.startswith("--")]
+    given = {word: int(words.pop(words.index(word) + 1)) for word in ("--gate", "--seconds") if word in words}
+    is_gate_run = "--gate" in given
+    is_built = is_gate_run or "--built" in words
+    turn, tenth = divmod(given.get("--gate", 0), 10)
+    names = names_of(tenth) if is_gate_run else [word for word in words if not word.startswith("--")]
     if not names:
         sys.exit(__doc__)
+    crates = sorted({crate_of(name) for name in names}, key=lambda it: -costs().get(it, ELSE)[0])
+    bound = [crate for crate in crates if not is_gate_run or any(crate_of(name) == crate and not name.endswith(" gate") for name in names)]
+    purse = Purse(given.get("--seconds", 10**9), MINUTES if is_gate_run else 10**6, bound)
     room = pathlib.Path(tempfile.mkdtemp(prefix="wrong-bodies-"))
     try:
         # (where the libraries of this repository serve, what was built is not copied)
@@ -244,15 +255,85 @@ def main(words):
         for part in ("crates.txt", "HANDLES"):
             shutil.copy(part, room)
         subprocess.run(["git", "init", "-q", "."], cwd=room, check=True)
+        kept = {crate: begun(crate, room) if is_built else "" for crate in crates}
+        works = [work_of(room / "crates", kind, names, crate, kept[crate], turn) for crate in crates]
         # (each crate by itself, over libraries that nothing changes; `rt check` builds them, so there one after the other)
-        lanes = int(os.environ.get("RT_JOBS", os.cpu_count())) if is_built else 1
+        lanes = min(2, int(os.environ.get("RT_JOBS", os.cpu_count()))) if is_built else 1
         with concurrent.futures.ThreadPoolExecutor(lanes) as pool:
-            failed = sum(pool.map(lambda name: tried(room / "crates", kind, name, is_built), names))
+            list(pool.map(lambda work: work.try_groups(work.first, purse), works))
+            at = turn % len(works)
+            list(pool.map(lambda work: work.try_groups(work.others, purse), works[at:] + works[:at]))
     finally:
         shutil.rmtree(room, ignore_errors=True)
-    used = resource.getrusage(resource.RUSAGE_CHILDREN)
-    print(f"{used.ru_utime + used.ru_stime:.0f} processor seconds")
-    sys.exit(1 if failed else 0)
+    told = faults() if is_gate_run else []
+    print(*told, sep="\n", end="\n" if told else "")
+    sys.exit(1 if report([work.found for work in works], purse, is_gate_run) + len(told) else 0)
+
+
+def begun(crate, room):
+    """A folder for what checks prove, which begins with what `rt check` or `rt lib` kept of the crate: then nothing is proved but what an
+    edit changes. `rt ci` keeps nothing of it."""
+    folder, kept = tempfile.mkdtemp(prefix="kept-", dir=room), LEFT / crate / "out/incremental"
+    return shutil.copytree(kept, folder, dirs_exist_ok=True) if kept.is_dir() else folder
+
+
+def crate_of(name):
+    return re.split("[ /]", name)[0]
+
+
+def work_of(crates, kind, names, crate, kept="", turn=0):
+    return Work(crates / crate, kind, [it for it in names if crate_of(it) == crate], kept, turn)
+
+
+def report(found, purse, is_gate_run):
+    """Prints what came of all, and gives how many edits are at fault."""
+    results = {f"{edit.parent.parent.name}/{edit.stem}": result for its in found for edit, result in its.items()}
+    of = {word: sorted(name for name, result in results.items() if result == word) for word in WORDS}
+    for word in ("left", "unapplied", "unread", "proved"):
+        if of[word]:
+            print(f"{WORDS[word]}: {', '.join(of[word])}")
+    print(f"{len(results)} wrong bodies: {', '.join(f'{len(of[it])} {WORDS[it]}' for it in REFUSED)}, {len(of['left'])} left")
+    print(f"{purse.total(purse.spent):.0f} processor seconds, {purse.total(purse.bound):.0f} of them of {', '.join(purse.bound)}")
+    # (a text that is not compiled shows nothing, as in `rt ci`, and lets nothing through)
+    return sum(len(of[it]) for it in ("unapplied", "proved") + ("unread",) * (not is_gate_run))
+
+
+def faults():
+    """What is at fault with the edits by their texts alone."""
+    found, crates = [], sorted(file.parent.parent.name for file in pathlib.Path("crates").glob("*/src/*.rt") if file.stem in ("lib", "main"))
+    each_time = set()
+    for crate in crates:
+        folder = pathlib.Path("crates") / crate
+        edits = sorted(folder.glob("must-fail/*.edit")) + sorted(folder.glob("wrong-bodies/*.edit"))
+        found += [f"{crate}/{edit.stem}: {WORDS['unapplied']}" for edit in edits if not pairs_of(edit) or applied({}, edit, folder) is None]
+        tried = {f"{crate}/{edit.stem}" for edit in edits if edit.parent.name == "must-fail" or is_gate(edit)}
+        each_time |= tried
+        texts = [file.read_text() for file in folder.glob("src/**/*.rt")]
+        # (a crate of tests promises nothing)
+        is_of_tests = crate.endswith("_tests")
+        if not tried and not is_of_tests and any(FN.match(line) for text in texts for line in text.split("\n")):
+            found.append(f"{crate}: the gate tries no edit of it each time")
+    for line in ROWS.read_text().splitlines():
+        row, _, edits = line.partition("#")[0].partition(": ")
+        if row and not set(edits.split(", ")) <= each_time:
+            found.append(f"tools/wrong_bodies.txt: {row}: the gate does not try each of {edits} each time")
+    return found
+
+
+def look():
+    """Prints what is at fault by the texts alone, and the processor seconds of each tenth by tools/edit_costs.txt: of its own crates, and
+    of the edits of each time of all others. Gives how many faults there are."""
+    told = faults()
+    print(*told, sep="\n", end="\n" if told else "")
+    for tenth in range(10):
+        seconds, names = {True: 0.0, False: 0.0}, names_of(tenth)
+        for crate in sorted({crate_of(name) for name in names}):
+            begin, each = costs().get(crate, ELSE)
+            work = work_of(pathlib.Path("crates"), "wrong-bodies", names, crate)
+            is_own = any(crate_of(name) == crate for name in TENTHS[tenth])
+            seconds[is_own] += sum(begin + each * len(group) for group in work.first + work.others)
+        print(f"tenth {tenth}: {seconds[True]:.0f} processor seconds, and {seconds[False]:.0f} of other crates: {', '.join(TENTHS[tenth])}")
+    return len(told)
 
 
 def names_of(tenth):
@@ -266,46 +347,14 @@ def names_of(tenth):
 
 def named(folder, kind, name):
     """The wrong bodies that a name stands for: CRATE, CRATE/WRONG_BODY, CRATE PART/PARTS, or CRATE gate."""
-    crate, _, part = name.partition(" ")
-    crate, _, only = crate.partition("/")
-    edits = sorted((folder / crate / kind).glob(f"{only or '*'}.edit"))
+    word, _, part = name.partition(" ")
+    edits = sorted((folder / kind).glob(f"{word.partition('/')[2] or '*'}.edit"))
     if part == "gate":
-        edits = [edit for edit in edits if edit.read_text().startswith("gate:")]
+        edits = [edit for edit in edits if is_gate(edit)]
     elif part:
         one, _, parts = part.partition("/")
         edits = [edit for edit in edits if zlib.crc32(edit.stem.encode()) % int(parts) == int(one) - 1]
-    return folder / crate, edits
-
-
-def tried(folder, kind, name, over_rt_ci):
-    """Tries the wrong bodies of a name, prints what came of each, and gives how many were not refused."""
-    begun = time.monotonic()
-    folder, edits = named(folder, kind, name)
-    if not edits:
-        return 0
-    kept = tempfile.mkdtemp(prefix="kept-", dir=folder.parent.parent) if over_rt_ci else ""
-    counts, lines = {"clause": 0, "answer": 0, "name": 0, "": 0}, []
-    for group, texts in groups_of(edits, folder):
-        said = check(folder, texts, set().union(*(functions for _, functions in group)), kept)
-        results = [(edit, judged(said, functions, folder)) for edit, functions in group]
-        if not all(result for _, result in results) and len(group) > 1:
-            results = [(edit, result or alone(folder, edit, kept)) for edit, result in results]
-        for edit, result in results:
-            lines.append(f"{folder.name}/{edit.stem}: {'refused at ' + result if result else 'NOT REFUSED, or not compiled'}")
-            counts[result] += 1
-    counts[""] = len(edits) - sum(counts[it] for it in ("clause", "answer", "name"))
-    lines.append(
-        f"{name}: {len(edits)} tried: {counts['clause']} refused at a clause, {counts['answer']} at an answer, "
-        f"{counts['name']} at a name, {counts['']} not refused; {time.monotonic() - begun:.0f} seconds"
-    )
-    print("\n".join(lines), flush=True)
-    return counts[""]
-
-
-def alone(folder, edit, kept):
-    """What a check says of one wrong body by itself."""
-    texts, functions = applied({}, edit, folder)
-    return judged(check(folder, texts, functions, kept), functions, folder)
+    return edits
 
 
 if __name__ == "__main__":

@@ -44,12 +44,12 @@ TENTHS = [
     ["mvd_server 2/2"],
     ["mvd_world", "mvd_frames", "mvd_remote", "mvd_line_tests", "mvd_example"],
     ["mvd", "mvd_http", "mvd_wire", "mvd_conn", "mvd_site"],
-    ["mvd_sync", "mvd_records", "mvd_docs", "mvd_hint", "mvd_count"],
+    ["mvd_keys", "mvd_dots", "mvd_records", "mvd_docs", "mvd_hint", "mvd_count"],
     ["mvd_replica", "mvd_web", "mvd_print", "mvd_script", "mvd_start"],
     ["mvd_server 1/2", "mvd_model"],
     ["mvd_input", "mvd_host", "mvd_meet", "mvd_runs", "mvd_digest"],
-    ["mvd_kept", "mvd_rows", "mvd_tree", "mvd_dots"],
-    ["mvd_app", "mvd_peer", "mvd_keys"],
+    ["mvd_kept", "mvd_rows", "mvd_tree", "mvd_peer"],
+    ["mvd_app", "mvd_sync"],
     ["mvd_client", "mvd_shell", "mvd_live"],
 ]
 # What the gate's part is given in .ci/run, less what it takes to end.

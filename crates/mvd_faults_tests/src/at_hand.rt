@@ -28,7 +28,7 @@ fn request_of(alloc: Global, frame: &str) -> Result<Request, Refusal> {
     }
 }
 
-fn requests_of(alloc: Global, frames: &[&str]) -> Result<Vec<Request>, Refusal> {
+pub fn requests_of(alloc: Global, frames: &[&str]) -> Result<Vec<Request>, Refusal> {
     let mut requests = Vec::with_capacity(alloc, frames.len())?;
     for frame in frames {
         requests.push(request_of(alloc, frame)?)?;

@@ -1,9 +1,12 @@
-//! Records that are opened again, by another site and with room for fewer keys.
+//! Records that are opened again, by another site and with room for fewer keys, and after writes of new keys and others.
+use super::at_hand::requests_of;
 use super::replica_calls::{
-    GET, PUT, STATE, Told, WRITTEN, asks, conn_of, new_replica, opened_within,
+    GET, PUT, Root, STATE, Told, WRITTEN, asks, conn_of, end, new_replica, open_again,
+    opened_within, root_of,
 };
 use mvd_dots::Refusal;
 use mvd_replica::Replica;
+use mvd_wire::Reply;
 use sqlite::{Alter, Connection};
 use std::alloc::Global;
 use std::test::Fail;
@@ -94,5 +97,75 @@ fn is_opened_again<S: Alter + Drop>(alloc: Global, mut replica: Replica<S>) -> b
 fn two_keys_are_opened_again(rt: HostRuntime) -> Result<(), Fail> {
     let replica = new_replica(rt.alloc(), 1, &[])?;
     assert!(rt; is_opened_again(rt.alloc(), replica));
+    Ok(())
+}
+
+const PUT_AT_A: &str = "0000001222016100000000000000077b2261223a327d";
+
+const PUT_AT_C: &str = "0000001222016300000000000000077b2261223a337d";
+
+/// Pushes to `b` of the dot 2:1 and of 2:2, which replaces it.
+const PUSH_AT_B: &str =
+    "0000003029016200000001000000020000000000000001000000000001000000020000000000000001000000077b2261223a347d";
+
+const NEXT_AT_B: &str =
+    "0000003029016200000001000000020000000000000002000000000001000000020000000000000002000000077b2261223a357d";
+
+/// Writes of three commits: of keys that are new, one of them twice; of keys that are there, beside a new one, which is
+/// put twice; and of one that is there.
+const COMMITS: [&[&str]; 3] = [
+    &[PUT, PUT_AT_A, PUT, PUSH_AT_B],
+    &[PUT_AT_C, PUT_AT_A, NEXT_AT_B, PUT_AT_C],
+    &[PUT],
+];
+
+/// Whether what these frames ask is accepted, in one commit.
+fn share_a_commit<S: Alter>(
+    alloc: Global,
+    replica: &mut Replica<S>,
+    frames: &[&str],
+) -> Result<bool, Refusal> {
+    let requests = requests_of(alloc, frames)?;
+    let commits = replica.commits();
+    let replies = replica.answer_all(&requests)?;
+    let mut are_accepted = replies.len() == frames.len();
+    for reply in &replies {
+        are_accepted = are_accepted && !matches!(reply, Reply::Refused(_));
+    }
+    Ok(are_accepted && replica.commits() == commits.saturating_add(1))
+}
+
+/// Whether a replica commits the writes so.
+fn are_committed<S: Alter>(alloc: Global, replica: &mut Replica<S>) -> Result<bool, Refusal> {
+    for frames in &COMMITS {
+        if !share_a_commit(alloc, replica, frames)? {
+            return Ok(false);
+        }
+    }
+    Ok(true)
+}
+
+/// What a replica holds: its root, and how many keys.
+fn held<S: Alter + Drop>(replica: &Replica<S>) -> (Root, u32) {
+    (root_of(replica), replica.key_count())
+}
+
+/// Whether a replica commits the writes, and its records have them when they are opened again.
+fn has_all_writes<S: Alter + Drop>(
+    alloc: Global,
+    mut replica: Replica<S>,
+) -> Result<bool, Refusal> {
+    let are_committed = are_committed(alloc, &mut replica);
+    let (root, keys) = held(&replica);
+    let again = open_again(alloc, conn_of(replica), 1)?;
+    let (same_root, same_keys) = held(&again);
+    end(again);
+    Ok(are_committed? && same_root == root && same_keys == 4 && keys == 4)
+}
+
+#[test]
+fn new_keys_and_others_are_opened_again(rt: HostRuntime) -> Result<(), Fail> {
+    let replica = new_replica(rt.alloc(), 1, &[])?;
+    assert!(rt; has_all_writes(rt.alloc(), replica)?);
     Ok(())
 }

@@ -50,6 +50,7 @@ limited site request key after dot (Ok (Change change)) is leaves gives =
       answers = sym (is ∙ gives.0);
       leaves = left;
       differs = gives.2;
+      held = refl;
       after = ap (with_change site.states) left ∙ with_state-seen site.states key after gives.3;
     })
 

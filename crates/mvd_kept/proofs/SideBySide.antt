@@ -112,6 +112,7 @@ now_still config m n request change same room was =
       answers = sym is;
       leaves = leaves;
       differs = λ e. was.differs (e ∙ same_state m n change.key same);
+      held = was.held ∙ ap is_some (sym same);
       after = ap (with_change n) leaves ∙ with_state-seen n change.key change.state seen;
     }
 

@@ -1,6 +1,6 @@
 -- What a request comes to before anything is changed.
-use Rattle.std.specs.Prelude.{◌≡◌, ◌≢◌, ◌⊎◌, ⊤, Bool, List, Option, Some, Result, Ok, Err, false, true, IfSome}
-use Rattle.std.specs.FinMap.{insert}
+use Rattle.std.specs.Prelude.{◌≡◌, ◌≢◌, ◌⊎◌, ⊤, Bool, List, Option, Some, Result, Ok, Err, false, true, IfSome, is_some}
+use Rattle.std.specs.FinMap.{get, insert}
 use Rattle.mvd_dots.specs.Dot.{DotValue}
 use Rattle.mvd_dots.specs.declared.refusals.Refusal.{Refusal}
 use Rattle.mvd_dots.specs.declared.refusals.Refusal.TheVariants.{Memory}
@@ -57,6 +57,7 @@ pub record PreparesChangeFrom (config : ConfigValue) (states : States) (request 
   pub answers : change_reply change.dot ≡ answer_from config states request
   pub leaves : change_from states request (answer_from config states request) ≡ Some (change.key, change.state)
   pub differs : change.state ≢ state_at states change.key
+  pub held : change.was_held ≡ is_some (get states change.key)
   pub after : after_from config states request ≡ insert states change.key change.state
 
 -- what is prepared is the answer from the states, or memory was refused
@@ -113,5 +114,6 @@ LimitsTo site key after dot (Ok (Answer reply)) =
     × (after ≡ state_at site.states key)
 LimitsTo site key after dot (Ok (Change change)) =
     (within site.config site.states key after (change_reply dot) ≡ change_reply dot)
-    × (change ≡ record { key = key; state = after; dot = dot }) × (after ≢ state_at site.states key)
+    × (change ≡ record { key = key; state = after; dot = dot; was_held = is_some (get site.states key) })
+    × (after ≢ state_at site.states key)
     × (is_empty after.context ≡ false)

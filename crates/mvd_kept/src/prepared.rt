@@ -18,6 +18,7 @@ pub struct Change {
     key_length: usize,
     spelled: Vec<u8>,
     dot: Option<Dot>,
+    was_held: bool,
 }
 
 impl Model for Change {
@@ -27,7 +28,7 @@ impl Model for Change {
 
     ghost coded = { change_code };
 
-    ghost view = { λ c. record { key = c.key; state = c.state; dot = c.dot } };
+    ghost view = { λ c. record { key = c.key; state = c.state; dot = c.dot; was_held = c.was_held } };
 
     ghost invariant = { λ c. SpellsChange c.key c.state c.key_length c.spelled.items };
 }
@@ -44,11 +45,12 @@ impl Change {
     pub(crate) fn new(
         alloc: Global,
         key: &Key,
+        was_held: bool,
         state: KeyState,
         dot: Option<Dot>,
     ) -> Result<Change, Refusal>
         requires { length (spell_state state) ≤ state_limit }
-        ensures { IsAnswer result (Ok (record { key = key.now; state = state; dot = dot })) }
+        ensures { IsAnswer result (Ok (record { key = key.now; state = state; dot = dot; was_held = was_held })) }
     {
         let key = key.copy(alloc)?;
         let (key_length, spelled) = spelled_key_state(alloc, &key, &state)?;
@@ -58,6 +60,7 @@ impl Change {
             key_length,
             spelled,
             dot,
+            was_held,
         })
     }
 
@@ -74,6 +77,13 @@ impl Change {
         ensures short { is_too_large self.now.state ≡ false }
     {
         &self.state
+    }
+
+    /// Whether the key is held before the change is put in: by the site that prepared it, or by a change before it.
+    pub fn was_held(&self) -> bool
+        ensures { result ≡ self.now.was_held }
+    {
+        self.was_held
     }
 
     /// The spelling of that state.

@@ -128,7 +128,7 @@ impl Kept {
         if !is_held && self.states.len() == self.config.max_keys() as usize {
             return Err(Refusal::Full);
         }
-        let change = Change::new(self.alloc, key, after, dot)?;
+        let change = Change::new(self.alloc, key, is_held, after, dot)?;
         Ok(Prepared::Change(change))
     }
 }

@@ -1,5 +1,5 @@
 -- What a call leaves that saves the states of many keys.
-use Rattle.std.proofs.Common.{◌≡◌, ℕ, List, [], ◌∷◌, ◌++◌, inl, ◌+◌, ◌<◌, get_or, length, take, arith, refl, sym, ap, ◌∙◌}
+use Rattle.std.proofs.Common.{◌≡◌, ℕ, false, List, [], ◌∷◌, ◌++◌, inl, ◌+◌, ◌<◌, get_or, length, take, arith, refl, sym, ap, ◌∙◌}
 use Rattle.std.proofs.lemmas.List.{map-append, take_more}
 use Rattle.std.specs.FinMap.{insert}
 use Rattle.sqlite.specs.Effect.{Database}
@@ -31,7 +31,7 @@ stays_self a = record {
 
 -- what stands where none does
 abbrev pub no_save : Save
-no_save = record { key = record { ref_ptr = (0, 0); now = [] }; bytes = record { ref_ptr = (0, 0); now = [] } }
+no_save = record { key = record { ref_ptr = (0, 0); now = [] }; bytes = record { ref_ptr = (0, 0); now = [] }; is_held = false }
 
 pub entries_more : (saves : List Save) (i : ℕ) → i < length saves → let s = get_or saves i no_save in saved_entries (take (i + 1) saves) ≡ saved_entries (take i saves) ++ (s.key.now, s.bytes.now) ∷ []
 entries_more saves i low = let s = get_or saves i no_save in ap saved_entries (take_more saves i no_save low) ∙ map-append _ (take i saves) (s ∷ [])

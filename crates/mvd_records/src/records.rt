@@ -75,12 +75,11 @@ impl<S: Alter> Records<S> {
     }
 
     /// Sets the state of one key.
-    pub fn save(&mut self, key: &Key, bytes: &[u8]) -> Result<(), Refusal>
+    pub fn save(&mut self, save: &Save<'_>) -> Result<(), Refusal>
         requires { self.old.version ≡ 2 }
-        ensures { Saves (seen S.Store self.old) key.now bytes.now result (seen S.Store self.new) }
+        ensures { Saves (seen S.Store self.old) save.now.key.now save.now.bytes.now result (seen S.Store self.new) }
     {
-        let key = key.text();
-        in_transaction(&mut self.conn, &Save { key, bytes })
+        in_transaction(&mut self.conn, save)
     }
 
     /// Sets the states of these keys in one transaction, one after the other: all of them, or none.

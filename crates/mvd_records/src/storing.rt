@@ -48,15 +48,18 @@ pub fn put_new<S: Alter>(
     }
 }
 
-/// Sets the state of one key inside a transaction. Most keys that are set are there, so it first looks for the key.
-fn set_state<S: Alter>(tx: &mut Transaction<'_, S>, key: &str, bytes: &[u8]) -> Result<(), Refusal>
+/// Sets the state of one key inside a transaction. A key that is held is looked for first; any other is put in at once.
+fn set_state<S: Alter>(tx: &mut Transaction<'_, S>, save: &Save<'_>) -> Result<(), Refusal>
     ensures same_reference { tx.new.conn.ghost_name ≡ tx.old.conn.ghost_name }
-    ensures done { DoesInside (saving key.now bytes.now) (state S.Store tx.old.conn.now) result
+    ensures done { DoesInside (saving save.now.key.now save.now.bytes.now) (state S.Store tx.old.conn.now) result
         (state S.Store tx.new.conn.now) }
 {
-    match change_state(tx, key, bytes) {
+    if !save.is_held {
+        return put_new(tx, save.key, save.bytes);
+    }
+    match change_state(tx, save.key, save.bytes) {
         Ok(true) => Ok(()),
-        Ok(false) => put_new(tx, key, bytes),
+        Ok(false) => put_new(tx, save.key, save.bytes),
         Err(refusal) => Err(refusal),
     }
 }
@@ -66,6 +69,10 @@ fn set_state<S: Alter>(tx: &mut Transaction<'_, S>, key: &str, bytes: &[u8]) -> 
 pub struct Save<'a> {
     pub key: &'a str,
     pub bytes: &'a [u8],
+    /// The key is in the table, so the save looks for it first; where it is not there after all, it is put in. Without
+    /// this it is put in at once. The table has each key once: so, where it is there after all, the save is refused
+    /// with 21, and with it all that are saved together. Nothing is lost, and nothing is stored.
+    pub is_held: bool,
 }
 
 impl Job for Save<'_> {
@@ -74,7 +81,7 @@ impl Job for Save<'_> {
     ghost means = { λ job. saving job.key.now job.bytes.now };
 
     fn run<S: Alter>(&self, tx: &mut Transaction<'_, S>) -> Result<(), Refusal> {
-        set_state(tx, self.key, self.bytes)
+        set_state(tx, self)
     }
 }
 
@@ -91,7 +98,7 @@ impl Job for SaveAll<'_> {
 
     fn run<S: Alter>(&self, tx: &mut Transaction<'_, S>) -> Result<(), Refusal> {
         for save in self.saves {
-            match set_state(tx, save.key, save.bytes) {
+            match set_state(tx, save) {
                 Ok(()) => {}
                 Err(refusal) => return Err(refusal),
             }

@@ -1,5 +1,5 @@
 -- Requests of one commit, as the code has them.
-use Rattle.std.proofs.Common.{◌≡◌, ◌≢◌, ◌∙◌, ℕ, ◌+◌, ◌<◌, arith, true, false, List, [], ◌∷◌, ◌++◌, None, Result, Ok, Err, refl, sym, ap, ap₂, subst, subst₂, inl, inr, true≢false, length, take, get_or, append-nil}
+use Rattle.std.proofs.Common.{◌≡◌, ◌≢◌, ◌∙◌, ℕ, ◌+◌, ◌<◌, arith, Bool, true, false, List, [], ◌∷◌, ◌++◌, map, None, Result, Ok, Err, refl, sym, ap, ap₂, subst, subst₂, inl, inr, true≢false, length, take, get_or, append-nil}
 use Rattle.std.proofs.lemmas.List.{map-append, take_more}
 use Rattle.std.specs.Prelude.{IfSome, IsTrue, OnOk}
 use Rattle.mvd_dots.specs.declared.refusals.Refusal.{Refusal}
@@ -28,7 +28,7 @@ use Rattle.mvd_kept.specs.declared.prepared.Prepared.TheVariants.{Answer, Change
 use Rattle.mvd_site.specs.Sites.{SiteValue}
 use Rattle.mvd_site.proofs.Outcomes.{change_plain, refused_fits}
 use Rattle.mvd_site.proofs.Pushes.{refusal_is}
-use Rattle.mvd_replica.specs.Groups.{ComesTo, IsGivenReply, IsSendable, pairs_in}
+use Rattle.mvd_replica.specs.Groups.{ComesTo, IsGivenReply, IsSendable, held_in, pairs_in}
 use Rattle.sqlite.specs.Effect.{Database}
 use Rattle.sqlite.specs.State.{State as Shown, Survives}
 use Rattle.sqlite.proofs.StateLemmas.{survives_weaker}
@@ -91,6 +91,11 @@ pairs_more [] prepared = refl
 pairs_more (Answer reply ∷ group) prepared = pairs_more group prepared
 pairs_more (Change change ∷ group) prepared = ap (λ l. (change.key, spell_state change.state) ∷ l) (pairs_more group prepared)
 
+pub held_more : (group : List Prepared) (prepared : Prepared) → held_in (group ++ prepared ∷ []) ≡ held_in group ++ held_in (prepared ∷ [])
+held_more [] prepared = refl
+held_more (Answer reply ∷ group) prepared = held_more group prepared
+held_more (Change change ∷ group) prepared = ap (λ l. change.was_held ∷ l) (held_more group prepared)
+
 -- ---- what is stored, as the code has it
 
 pub store_one : {A : Type 0} (result : Result A Refusal) (a b : Database) (change : ChangeValue) (group : List Prepared) (key bytes : List ℕ) (site : ℕ) → key ≡ change.key → bytes ≡ spell_state change.state → group ≡ Change change ∷ [] →
@@ -134,6 +139,9 @@ one_only (p ∷ q ∷ group) prepared count is = absurd (omega (arith, count))
 
 -- ---- what is to be stored, one more
 
+abbrev pub held_told : List Save → List Bool
+held_told saves = map (λ s. s.is_held) saves
+
 module _ (saves : List Save) (group : List Prepared) (i : ℕ) (item : Prepared) where
   pub saves_next : (change : ChangeValue) (save : Save) → i < length group → item ≡ get_or group i item → item ≡ Change change → save.key.now ≡ change.key → save.bytes.now ≡ spell_state change.state →
       saved_entries saves ≡ pairs_in (take i group) → saved_entries (saves ++ save ∷ []) ≡ pairs_in (take (i + 1) group)
@@ -146,3 +154,16 @@ module _ (saves : List Save) (group : List Prepared) (i : ℕ) (item : Prepared)
   saves_skip reply low is reply-is so_far =
       so_far ∙ sym (append-nil (pairs_in (take i group))) ∙ ap (λ l. pairs_in (take i group) ++ l) (sym (ap (λ p. pairs_in (p ∷ [])) reply-is)) ∙ sym (pairs_more (take i group) item)
       ∙ ap pairs_in (ap (λ p. take i group ++ p ∷ []) is ∙ sym (take_more group i item low))
+
+  -- and whether the key of each is held
+  pub held_next : (change : ChangeValue) (save : Save) → i < length group → item ≡ get_or group i item → item ≡ Change change → save.is_held ≡ change.was_held →
+      held_told saves ≡ held_in (take i group) → held_told (saves ++ save ∷ []) ≡ held_in (take (i + 1) group)
+  held_next change save low is change-is held so_far =
+      let last : save.is_held ∷ [] ≡ held_in (item ∷ []) = ap (λ b. b ∷ []) held ∙ sym (ap (λ p. held_in (p ∷ [])) change-is) in
+      map-append (λ (s : Save). s.is_held) saves (save ∷ []) ∙ ap₂ (λ a b. a ++ b) so_far last ∙ sym (held_more (take i group) item)
+      ∙ ap held_in (ap (λ p. take i group ++ p ∷ []) is ∙ sym (take_more group i item low))
+
+  pub held_skip : (reply : Reply) → i < length group → item ≡ get_or group i item → item ≡ Answer reply → held_told saves ≡ held_in (take i group) → held_told saves ≡ held_in (take (i + 1) group)
+  held_skip reply low is reply-is so_far =
+      so_far ∙ sym (append-nil (held_in (take i group))) ∙ ap (λ l. held_in (take i group) ++ l) (sym (ap (λ p. held_in (p ∷ [])) reply-is)) ∙ sym (held_more (take i group) item)
+      ∙ ap held_in (ap (λ p. take i group ++ p ∷ []) is ∙ sym (take_more group i item low))

@@ -145,6 +145,7 @@ module _ (config : ConfigValue) (m n : States) (request : Request) (alike : Find
         answers = was.answers ∙ sym (answer_alike config m n request alike);
         leaves = leaves;
         differs = λ e. was.differs (e ∙ same_state m n change.key found.0);
+        held = was.held ∙ ap is_some (sym found.0);
         after = ap (with_changed n) leaves ∙ with_state-seen n change.key change.state seen;
       }
 
@@ -228,7 +229,7 @@ alike_after config m group request apart room = still_after request (λ key othe
 pub answer_elsewhere : (config : ConfigValue) (m : States) (key : Key) (s : Keyed) (request : Request) → IsElsewhere key request → KeepsRoom config m (insert m key s) request →
     answer_from config (insert m key s) request ≡ answer_from config m request
 answer_elsewhere config m key s request apart room =
-    let change : ChangeValue = record { key = key; state = s; dot = None } in
+    let change : ChangeValue = record { key = key; state = s; dot = None; was_held = is_some (get m key) } in
     answer_alike config m (insert m key s) request (alike_after config m (Change change ∷ []) request (apart, tt) room)
 
 pub comes_after : (config : ConfigValue) (group : List Prepared) (m : States) (request : Request) (prepared : Prepared) → IsSendable request prepared → AllByRecursion (IsApart request) group →

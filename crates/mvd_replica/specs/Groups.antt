@@ -1,5 +1,5 @@
 -- What the requests of one commit come to, prepared side by side, before anything is changed.
-use Rattle.std.specs.Prelude.{◌≡◌, ◌≢◌, ◌⊎◌, ⊤, ℕ, ◌+◌, ◌-◌, ◌<◌, ◌≤◌, false, true, List, [], ◌∷◌, length, take}
+use Rattle.std.specs.Prelude.{◌≡◌, ◌≢◌, ◌⊎◌, ⊤, Bool, ℕ, ◌+◌, ◌-◌, ◌<◌, ◌≤◌, false, true, List, [], ◌∷◌, length, take}
 use Rattle.std.specs.List.{AllByRecursion}
 use Rattle.std.specs.FinMap.{insert}
 use Rattle.mvd_dots.specs.declared.refusals.Refusal.TheVariants.{Broken, Memory, Store}
@@ -147,6 +147,12 @@ abbrev pub pairs_in : List Prepared → List (List ℕ × List ℕ)
 pairs_in [] = []
 pairs_in (Answer reply ∷ group) = pairs_in group
 pairs_in (Change change ∷ group) = (change.key, spell_state change.state) ∷ pairs_in group
+
+-- whether the key of each change is held before it
+abbrev pub held_in : List Prepared → List Bool
+held_in [] = []
+held_in (Answer reply ∷ group) = held_in group
+held_in (Change change ∷ group) = change.was_held ∷ held_in group
 
 -- the reply where the store refused the changes
 abbrev pub reply_unstored : Prepared → Reply

@@ -4,6 +4,7 @@ use Rattle.mvd_site.specs.Config.{ConfigValue}
 use Rattle.mvd_records.specs.Records.{IsSound}
 use Rattle.sqlite_disk.specs.declared.Disk.{Ghosts}
 use Rattle.sqlite_disk.specs.declared.Files.{Files}
+use Rattle.sqlite.specs.declared.error.Error.{Error}
 use Rattle.sqlite.specs.declared.error.Error.TheVariants.{SqliteFailure}
 use Rattle.sqlite.specs.declared.error.ErrorCode.TheVariants.{CannotOpen, DatabaseBusy, OutOfMemory}
 use Rattle.sqlite.specs.Files.{FailsToOpenFiles, IsCleanLeft, LeavesFiles, file_state, image_of}
@@ -13,6 +14,10 @@ use Rattle.mvd_replica.specs.declared.file.FileFault.{FileFault}
 use Rattle.mvd_replica.specs.declared.file.FileFault.TheVariants as fault
 use Rattle.mvd_replica.specs.File.{RefusesFile}
 use Rattle.mvd_replica.specs.Opened.{IsOpeningRefusal}
+
+-- no files were to be had at a path, memory was refused, or a program has them open
+abbrev pub HasNoFiles : Error → Type 0
+HasNoFiles e = (e ≡ SqliteFailure CannotOpen) ⊎ ((e ≡ SqliteFailure OutOfMemory) ⊎ (e ≡ SqliteFailure DatabaseBusy))
 
 module _ {D : Type 0} {g : Ghosts D} where
   -- The files at the path were not to be had. Or they were opened: where what is left of them is clean, want of memory,

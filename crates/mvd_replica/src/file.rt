@@ -3,6 +3,7 @@ ghost use Rattle.std.specs.Prelude.{◌≡◌, IsErrAnd, codes};
 ghost use Rattle.mvd_replica.specs.FileCalls.{ClosesReplica, IsNoFile, OpensAsSite};
 ghost use Rattle.sqlite.specs.WalFiles.{image_at};
 
+use crate::connecting::connect;
 use crate::replica::Replica;
 use mvd_dots::Refusal;
 use mvd_site::Config;
@@ -33,7 +34,7 @@ pub fn open_file<S: Start>(
     // This names no file.
     ensures memory { path.now ≡ codes ":memory:" → IsErrAnd result IsNoFile }
 {
-    let conn = match Connection::open_from(rt, path, false, start) {
+    let conn = match connect(rt, path, start) {
         Ok(conn) => conn,
         Err((error, left)) => return Err(FileFault::File(error, left)),
     };

@@ -3,6 +3,7 @@ ghost use Rattle.std.specs.Prelude.{◌≡◌, ◌≤◌, ◌<◌, ◌+◌, ◌+
 ghost use Rattle.std.specs.Prelude.{take, true};
 ghost use Rattle.std.specs.Prelude.{vec_capacity};
 ghost use Rattle.mvd_records.specs.Pairs.{saved_entries};
+ghost use Rattle.mvd_wire.specs.Codecs.{spell_state};
 ghost use Rattle.mvd_dots.specs.declared.refusals.Refusal.TheVariants.{Broken};
 ghost use Rattle.mvd_kept.specs.declared.prepared.Prepared.TheVariants.{Answer};
 ghost use Rattle.mvd_wire.specs.declared.reply.Reply.TheVariants.{Refused};
@@ -10,7 +11,7 @@ ghost use Rattle.mvd_site.specs.Installs.{changes_in, is_change};
 ghost use Rattle.mvd_replica.specs.Adding.{CountsKeys};
 ghost use Rattle.mvd_replica.specs.Behind.{AreLast, JoinsGroup};
 ghost use Rattle.mvd_replica.specs.Groups.{ComesTo, FirstWaits, IsBounded, IsSendable, MustWait};
-ghost use Rattle.mvd_replica.specs.Groups.{StandTogether, pairs_in, reply_unstored, state_bytes_in, state_bytes_of};
+ghost use Rattle.mvd_replica.specs.Groups.{StandTogether, held_in, pairs_in, reply_unstored, state_bytes_in, state_bytes_of};
 ghost use Rattle.mvd_replica.specs.Replicas.{next_count};
 ghost use Rattle.mvd_replica.specs.Restored.{WereSound};
 ghost use Rattle.mvd_replica.specs.Shared.{IsUnstored, StoresNone, StoresOpen, StoresPairs, SurvivesPairs};
@@ -21,7 +22,7 @@ use crate::behind::{follow, last_change};
 use crate::waiting::{Waiting, asks_any};
 use mvd_dots::Refusal;
 use mvd_records::{Records, Save};
-use mvd_site::{Prepared, Site};
+use mvd_site::{Change, Prepared, Site};
 use mvd_wire::{Reply, Request};
 use sqlite::Alter;
 use std::alloc::Global;
@@ -159,17 +160,29 @@ pub fn prepare_all(
     Ok(group)
 }
 
-/// What is to be stored of these.
+/// What is to be stored of a change.
+fn save_of(change: &Change) -> Save<'_>
+    ensures key { result.key.now ≡ change.now.key }
+    ensures bytes { result.bytes.now ≡ spell_state change.now.state }
+    ensures held { result.is_held ≡ change.now.was_held }
+{
+    Save {
+        key: change.key().text(),
+        bytes: change.bytes(),
+        is_held: change.was_held(),
+    }
+}
+
+/// What is to be stored of these. A key is held where the site holds it, or a change before it has put it in.
 fn saves_of(alloc: Global, group: &[Prepared]) -> Result<Vec<Save<'_>>, Refusal>
     ensures saves { IfOk result (λ saves. saved_entries saves.items ≡ pairs_in group.now) }
+    ensures held { IfOk result (λ saves. map (λ save. save.is_held) saves.items ≡ held_in group.now) }
     ensures memory { IfErr result (λ refusal. refusal ≡ Refusal.Memory) }
 {
     let mut saves = Vec::with_capacity(alloc, group.len())?;
     for prepared in group {
         if let Prepared::Change(change) = prepared {
-            let key = change.key().text();
-            let bytes = change.bytes();
-            saves.push(Save { key, bytes })?;
+            saves.push(save_of(change))?;
         }
     }
     Ok(saves)
@@ -194,7 +207,7 @@ pub fn store_all<S: Alter>(
 {
     if group.len() == 1 {
         return match &group[0] {
-            Prepared::Change(change) => records.save(change.key(), change.bytes()),
+            Prepared::Change(change) => records.save(&save_of(change)),
             Prepared::Answer(_) => Ok(()),
         };
     }

@@ -5,6 +5,7 @@ mod adding;
 mod batch;
 mod behind;
 pub mod calls;
+mod connecting;
 pub mod file;
 mod groups;
 pub mod laws;

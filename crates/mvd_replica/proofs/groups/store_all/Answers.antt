@@ -17,7 +17,7 @@ returns-clause-stored g c site sound holds =
 
 pub returns-in-Change-clause-stored : goal.returns-in-Change-clause-stored
 returns-in-Change-clause-stored g c site sound holds =
-    store_one c.save.result _ _ c.in-Change.change c.args.group.now c.key.result.now c.bytes.result.now site c.key.ensures c.bytes.ensures
+    store_one c.save.result _ _ c.in-Change.change c.args.group.now c.save_of.result.key.now c.save_of.result.bytes.now site c.save_of.ensures.key c.save_of.ensures.bytes
     (one_only c.args.group.now c.index-group-0.result c.if-group-eq1.true c.index-group-0.is ∙ ap (λ p. p ∷ []) c.in-Change.is) (saves_kept _ _ _ c.save.result c.save.ensures 2 site sound holds) (saves_saved _ _ _ _ c.save.result c.save.ensures 2 site sound holds)
 
 pub returns-clause-survives : goal.returns-clause-survives
@@ -28,7 +28,7 @@ returns-clause-survives g c =
 
 pub returns-in-Change-clause-survives : goal.returns-in-Change-clause-survives
 returns-in-Change-clause-survives g c =
-    survives_one _ _ c.in-Change.change c.args.group.now c.key.result.now c.bytes.result.now c.key.ensures c.bytes.ensures
+    survives_one _ _ c.in-Change.change c.args.group.now c.save_of.result.key.now c.save_of.result.bytes.now c.save_of.ensures.key c.save_of.ensures.bytes
     (one_only c.args.group.now c.index-group-0.result c.if-group-eq1.true c.index-group-0.is ∙ ap (λ p. p ∷ []) c.in-Change.is) (saves_survives _ _ _ _ c.save.result c.save.ensures)
 
 pub returns-in-Change-clause-still : goal.returns-in-Change-clause-still

@@ -6,7 +6,7 @@ use Rattle.mvd_records.proofs.records.Records.save.Goals as goal
 
 pub returns : goal.returns
 returns g c =
-    let key = c.text-key.result.now in
-    let bytes = c.args.bytes.now in
-    rw (← c.self.view_is, ← c.text-key.ensures.same)
+    let key = c.args.save.now.key.now in
+    let bytes = c.args.save.now.bytes.now in
+    rw (← c.self.view_is)
     (saves_all (λ a b. SavesState a b key bytes) ((key, bytes) ∷ []) _ (state g.S.Store c.self.inside.conn) (state g.S.Store c.in_transaction.new.conn) c.in_transaction.result (sets_one key bytes) c.in_transaction.ensures)

@@ -1,7 +1,6 @@
 //! Sessions of two servers, and what is told of them.
 ghost use Rattle.std.specs.Prelude.{◌<◌, ◌≤◌};
 
-use http_server::Log;
 use mvd_client::{Root, Watched, meet_over, root_over, tell_meeting};
 use mvd_docs::Document;
 use mvd_dots::{Context, Refusal};
@@ -52,7 +51,6 @@ fn met(alloc: Global, max_keys: u32) -> Result<Told, Refusal>
     let mut near = server(alloc, 1, 9, "a")?;
     let mut far = Watched {
         side: server(alloc, 2, max_keys, "b")?,
-        asked: Log::new(),
         moved: 0,
         told: None::<&mut Vec<u8>>,
     };

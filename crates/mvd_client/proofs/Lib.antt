@@ -9,3 +9,4 @@ pub mod PushTurns
 pub mod Seen
 pub mod Ran
 pub mod Refusing
+pub mod StoredSays

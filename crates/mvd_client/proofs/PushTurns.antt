@@ -1,8 +1,5 @@
 -- Pushes to a stored site are turns, and it follows as a side of a session does.
-use Rattle.std.proofs.Common.{◌≡◌, ◌≢◌, ◌∙◌, ◌++◌, List, [], ◌∷◌, length, map, Result, Ok, Err, ap, refl, sym, subst, inl, inr, arith, false, true, true≢false}
-use Rattle.std.specs.Prelude.{Vec}
-use Rattle.std.specs.Result.{IfErr, IfOk, OnErr}
-use Rattle.std.specs.declared.alloc.Global.{Global}
+use Rattle.std.proofs.Common.{ℕ, ◌≡◌, ◌≢◌, ◌∙◌, List, [], ◌∷◌, map, Result, ap, refl, sym, subst, inl, inr, arith, false, true, true≢false}
 use Rattle.mvd_dots.specs.declared.refusals.Refusal.{Refusal}
 use Rattle.mvd_dots.specs.declared.refusals.Refusal.TheVariants.{Broken}
 use Rattle.mvd_keys.specs.State.{IsValid, State}
@@ -11,24 +8,19 @@ use Rattle.mvd_wire.specs.declared.reply.Reply.{Reply}
 use Rattle.mvd_wire.specs.declared.request.Request.{Request}
 use Rattle.mvd_site.specs.Held.{AreHeld}
 use Rattle.mvd_peer.specs.PushedStates.{Each}
-use Rattle.mvd_peer.specs.Sides.{is_site_refusal, tells_broken}
-use Rattle.mvd_peer.specs.Windows.{Asked, EachAnswer, EachTold, Ends, IsLeftOpen, Pushes, PushesFirst, for_pushes, manner}
-use Rattle.mvd_peer.specs.Telling.{TellsAll, TellsPush}
-use Rattle.mvd_peer.proofs.OneByOne.{told_still}
+use Rattle.mvd_peer.specs.Sides.{is_of_question, is_site_refusal, tells_broken}
+use Rattle.mvd_peer.specs.Windows.{Asked, EachAnswer, EachTold, Ends, PushesFirst, for_pushes, manner}
 use Rattle.mvd_replica.specs.Batch.{AnswersAll}
 use Rattle.mvd_replica.specs.Pushes.{push_of}
 use Rattle.mvd_replica.specs.Replicas.{site_of, store_of, stored_of}
-use Rattle.mvd_replica.specs.SideCalls.{PushesOnSide}
 use Rattle.mvd_replica.specs.Sides.{IsTrueSite, SideFollows}
 use Rattle.mvd_replica.specs.declared.replica.Replica.{Replica}
 use Rattle.mvd_replica.proofs.Pushed.{answered_follow}
 use Rattle.mvd_runs.proofs.Pushing.{side_append, side_none, side_window}
 use Rattle.mvd_runs.specs.Sessions.{SideTakes}
-use Rattle.mvd_runs.proofs.PushTurns.{side_push}
-use Rattle.mvd_client.specs.Pushing.{EndsPushes, FollowsTurns, TakesThrough, TellsPushes, turns_self}
-use Rattle.mvd_client.proofs.Refusing.{each_refused}
-use Rattle.mvd_client.proofs.Watching.{err_as, ok_as}
-use Rattle.mvd_client.specs.Refusals.{StoredRefuses, refused_of_window}
+use Rattle.mvd_client.specs.Pushing.{EndsPushes, FollowsTurns, TakesThrough}
+use Rattle.mvd_client.proofs.Seen.{each_told}
+use Rattle.mvd_client.specs.Refusals.{StoredRefuses}
 use Rattle.sqlite_trees.specs.declared.store.Store.{Ghosts}
 
 -- one call
@@ -41,12 +33,6 @@ pub window_turns : {S : Type 0} {g : Ghosts S} (old new : Replica S g) (pairs : 
 window_turns old new pairs requests replies asked it held valid = one_step old new
     (answered_follow pairs requests replies (site_of old) (site_of new) (store_of old) (store_of new) asked it held valid)
     (side_window pairs replies (site_of old) (site_of new) (store_of old) (store_of new) valid (subst (λ qs. AnswersAll qs replies (stored_of old) (stored_of new)) asked it))
-
-pub same_turns : {S : Type 0} {g : Ghosts S} (old new : Replica S g) → new ≡ old → FollowsTurns old new
-same_turns {S} {g} old new same = subst (λ (r : Replica S g). FollowsTurns old r) (sym same) (turns_self old)
-
-pub push_turns : {S : Type 0} {g : Ghosts S} (old new : Replica S g) (key : Key) (given : State) (result : Result (Unit {0}) Refusal) → IsValid given → PushesOnSide old key given result new → FollowsTurns old new
-push_turns old new key given result valid it = one_step old new it.follows (side_push old new key given result valid it.push)
 
 -- calls one after the other are turns
 through_takes : {S : Type 0} {g : Ghosts S} (mids : List (Replica S g)) (old new : Replica S g) → TakesThrough old mids new → SideTakes (stored_of old) (stored_of new)
@@ -65,57 +51,31 @@ module _ {S T : Type 0} {g : Ghosts S} (old new : T) (inner : T → Replica S g)
   abbrev Answers : T → Type 0
   Answers side = (site_of (inner side)).broken ≡ false
 
-  window_asked : (told : List (Result (Unit {0}) Refusal)) → Answers new → EachAnswer (λ _ _. Unit {0}) pairs told → EachTold (Unit {0}) (StoredRefuses (site_of (inner new)) (noted new)) told → Asked (manner (λ _. follows) Refuses Answers) for_pushes pairs told old new
+  pub window_asked : (told : List (Result (Unit {0}) Refusal)) → Answers new → EachAnswer (λ _ _. Unit {0}) pairs told → EachTold (Unit {0}) (StoredRefuses (site_of (inner new)) (noted new)) told → Asked (manner (λ _. follows) Refuses Answers) for_pushes pairs told old new
   window_asked told whole each are = record {
     count = all;
     may = each;
     right = λ never. absurd never;
-    told = told_still (Unit {0}) _ (StoredRefuses (site_of (inner new)) (noted new)) _ told (λ _. (new, (0, all), whole, (0, self))) (λ r refuses. (new, (0, all), refuses, (0, self))) are;
+    told = each_told (Unit {0}) _ (StoredRefuses (site_of (inner new)) (noted new)) _ (λ _. (new, (0, all), whole, (0, self))) (λ r refuses. (new, (0, all), refuses, (0, self))) told are;
     not_of_question = λ never. absurd never;
   }
-
-  pub window_told : (result : Result (Vec (Result (Unit {0}) Refusal) Global) Refusal) → IfOk result (TellsPushes (inner old) pairs (inner new)) → noted new ≡ noted old ++ refused_of_window result → IfOk result (λ told. Asked (manner (λ _. follows) Refuses Answers) for_pushes pairs told.items old new)
-  window_told (Ok told) it notes = window_asked told.items it.whole it.each (each_refused (site_of (inner new)) (noted old) (noted new) told.items it.told notes)
-  window_told (Err refusal) it notes = tt
-
-  pub window_pushes : (result : Result (Vec (Result (Unit {0}) Refusal) Global) Refusal) → IfOk result (TellsPushes (inner old) pairs (inner new)) → IsTrueSite (site_of (inner old)) →
-      IfOk result (λ told. IsTrueSite (site_of (inner new)) × Pushes (site_of (inner old)).config.max_keys (site_of (inner old)).states pairs told.items (site_of (inner new)).states)
-  window_pushes result tells was = ok_as result tells (λ told it. it.pushes was)
-
-  pub window_live : (result : Result (Vec (Result (Unit {0}) Refusal) Global) Refusal) → IfOk result (TellsPushes (inner old) pairs (inner new)) →
-      TellsAll (λ (t : T). IsTrueSite (site_of (inner t))) (λ (t : T). (site_of (inner t)).states) (TellsPush (site_of (inner old)).config.max_keys) pairs old new result
-  window_live result tells = ok_as result tells (λ told it. it.live)
 
   broken_refuses : (refusal : Refusal) → refusal ≡ Broken → (site_of (inner new)).broken ≡ true → Refuses new refusal
   broken_refuses refusal is broken = (inl (subst (λ r. is_site_refusal r ≡ true) (sym is) refl, broken ∙ sym (ap tells_broken is)), inr (inr is))
 
-  ended_by : (refusal : Refusal) → EndsPushes (inner old) (inner new) refusal → Ends (λ _. follows) Refuses (length pairs) old new refusal
-  ended_by refusal (inl (is, same)) = record { count = (0, omega arith, all); cause = inr is }
-  ended_by refusal (inr (is, broken)) = record { count = (0, omega arith, all); cause = inl (new, (0, all), broken_refuses refusal is broken, (0, self)) }
+  pub ended_by : (most : ℕ) (refusal : Refusal) → EndsPushes (inner old) (inner new) refusal → Ends (λ _. follows) Refuses most old new refusal
+  ended_by most refusal (inl (is, same)) = record { count = (0, omega arith, all); cause = inr is }
+  ended_by most refusal (inr (is, broken)) = record { count = (0, omega arith, all); cause = inl (new, (0, all), broken_refuses refusal is broken, (0, self)) }
 
-  pub window_ended : {X : Type 0} (result : Result X Refusal) → IfErr result (EndsPushes (inner old) (inner new)) → IfErr result (Ends (λ _. follows) Refuses (length pairs) old new)
-  window_ended result ends = err_as result ends ended_by
+  pub apart_by : (refusal : Refusal) → EndsPushes (inner old) (inner new) refusal → is_of_question refusal ≡ false
+  apart_by refusal (inl (is, same)) = ap is_of_question is
+  apart_by refusal (inr (is, broken)) = ap is_of_question is
 
-  open_by : (refusal : Refusal) → EndsPushes (inner old) (inner new) refusal → IsLeftOpen refusal
-  open_by refusal (inl (is, same)) = subst IsLeftOpen (sym is) refl
-  open_by refusal (inr (is, broken)) = subst IsLeftOpen (sym is) refl
-
-  pub window_open : {X : Type 0} (result : Result X Refusal) → IfErr result (EndsPushes (inner old) (inner new)) → IfErr result IsLeftOpen
-  window_open result ends = err_as result ends open_by
-
-  true_by : IsTrueSite (site_of (inner old)) → (refusal : Refusal) → EndsPushes (inner old) (inner new) refusal → refusal ≢ Broken → IsTrueSite (site_of (inner new))
+  pub true_by : IsTrueSite (site_of (inner old)) → (refusal : Refusal) → EndsPushes (inner old) (inner new) refusal → refusal ≢ Broken → IsTrueSite (site_of (inner new))
   true_by was refusal (inl (is, same)) other = subst (λ (r : Replica S g). IsTrueSite (site_of r)) (sym same) was
   true_by was refusal (inr (is, broken)) other = absurd (other is)
 
-  pub window_true : {X : Type 0} (result : Result X Refusal) → IfErr result (EndsPushes (inner old) (inner new)) → IsTrueSite (site_of (inner old)) → IfErr result (λ refusal. refusal ≢ Broken → IsTrueSite (site_of (inner new)))
-  window_true result ends was = err_as result ends (true_by was)
-
   -- none of them was pushed, unless the site is broken
-  first_by : (refusal : Refusal) → EndsPushes (inner old) (inner new) refusal → PushesFirst (IsTrueSite (site_of (inner new))) (site_of (inner old)).config.max_keys (site_of (inner old)).states pairs (site_of (inner new)).states
+  pub first_by : (refusal : Refusal) → EndsPushes (inner old) (inner new) refusal → PushesFirst (IsTrueSite (site_of (inner new))) (site_of (inner old)).config.max_keys (site_of (inner old)).states pairs (site_of (inner new)).states
   first_by refusal (inl (is, same)) = (0, [], (site_of (inner old)).states, refl, λ _. ap (λ (r : Replica S g). (site_of r).states) same)
   first_by refusal (inr (is, broken)) = (0, [], (site_of (inner old)).states, refl, λ still. absurd (true≢false (sym broken ∙ still.0)))
-
-  pub window_first : {X : Type 0} (result : Result X Refusal) → IfErr result (EndsPushes (inner old) (inner new)) →
-      OnErr result (PushesFirst (IsTrueSite (site_of (inner new))) (site_of (inner old)).config.max_keys (site_of (inner old)).states pairs (site_of (inner new)).states)
-  window_first (Ok x) ends = tt
-  window_first (Err refusal) ends = first_by refusal ends

@@ -1,22 +1,18 @@
 -- A run of the machine by two sides, each of which has another within, is one by those within.
-use Rattle.std.proofs.Common.{ℕ, List, [], ◌∷◌, Option, Some, None, Result, Ok, Err, ap, length}
+use Rattle.std.proofs.Common.{ℕ, List, Option, Some, None, Result, Ok, Err, ap, length}
 use Rattle.std.specs.Result.{IfOk}
-use Rattle.mvd_client.proofs.Seen.{answered, around, refused}
+use Rattle.mvd_client.proofs.Seen.{answered, around, each_told, refused}
 use Rattle.mvd_dots.specs.declared.refusals.Refusal.{Refusal}
 use Rattle.mvd_peer.specs.Sides.{SideOf, Sides, Two, two}
-use Rattle.mvd_peer.specs.Windows.{Asked, EachTold, Kind, for_pushes, gets_of, nodes_of, pages_kind}
+use Rattle.mvd_peer.specs.Windows.{Asked, Kind, for_pushes, gets_of, nodes_of, pages_kind}
 use Rattle.mvd_sync.specs.Machines.{Machining}
-use Rattle.mvd_sync.specs.Ran.{BothTell, IsRun, RunsTo, Running, SideTells, alone, begins, manner_of, told}
-use Rattle.mvd_sync.specs.Steps.{Wanted}
+use Rattle.mvd_sync.specs.Ran.{BothTell, IsRun, RunsTo, Running, alone, begins, told}
+use Rattle.mvd_peer.specs.Saying.{SideTells, manner_of}
+use Rattle.mvd_peer.specs.Asking.{Wanted}
 use Rattle.mvd_sync.specs.declared.report.Report.{Report}
 use Rattle.mvd_sync.specs.declared.report.SyncFault.{SyncFault}
-use Rattle.mvd_sync.specs.declared.telling.Told.{Told}
-use Rattle.mvd_sync.specs.declared.telling.Told.TheVariants.{Nodes, Pages, Pushes, Refused, States}
-
-each_told : {A : Type 0} (P Q : Type 0) (R S : Refusal → Type 0) → (P → Q) → ((refusal : Refusal) → R refusal → S refusal) → (answers : List (Result A Refusal)) → EachTold P R answers → EachTold Q S answers
-each_told P Q R S so not [] it = tt
-each_told P Q R S so not (Ok answer ∷ answers) (one, more) = (so one, each_told P Q R S so not answers more)
-each_told P Q R S so not (Err refusal ∷ answers) (one, more) = (not refusal one, each_told P Q R S so not answers more)
+use Rattle.mvd_peer.specs.declared.window.Told.{Told}
+use Rattle.mvd_peer.specs.declared.window.Told.TheVariants.{Nodes, Pages, Pushes, Refused, States}
 
 -- where the side within follows, too
 module _ {S T : Type 0} (inner : T → S) (follows : ℕ → T → T → Type 0) (side : SideOf S)

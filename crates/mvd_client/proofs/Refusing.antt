@@ -1,7 +1,6 @@
 -- What is noted of the refusals of a stored site, and what it may refuse with by that.
 use Rattle.std.proofs.Common.{◌≡◌, ◌<◌, ◌+◌, ◌++◌, ◌∷◌, ◌∙◌, [], List, Result, Ok, Err, ap, append_assoc, get_or, inl, length, refl, sym, subst, take, ℕ}
 use Rattle.std.specs.Prelude.{Contains}
-use Rattle.std.specs.Result.{IfErr}
 use Rattle.std.proofs.lemmas.List.{take_more}
 use Rattle.std.proofs.lemmas.List.Elements.{Contains-append_left, Contains-append_right, Contains-push}
 use Rattle.mvd_client.specs.Refusals.{StaysNoted, StoredRefuses, refused_in}
@@ -29,18 +28,14 @@ stays_noted old more new is refusal was = subst (λ xs. Contains xs refusal) (sy
 
 -- ---- what it may refuse with
 
-pub noted_refuses : {A : Type 0} (site : SiteValue) (old new : List (Refusal × Unit {0})) (result : Result A Refusal) → IfErr result (ReplicaRefuses site) → new ≡ old ++ refused_in (result ∷ []) → IfErr result (StoredRefuses site new)
-noted_refuses site old new (Ok answer) may is = tt
-noted_refuses site old new (Err refusal) may is = (may, inl (subst (λ xs. Contains xs (refusal, tt)) (sym is) (Contains-push old (refusal, tt))))
-
-each_held : {A : Type 0} (site : SiteValue) (noted : List (Refusal × Unit {0})) (told : List (Result A Refusal)) → EachTold (Unit {0}) (ReplicaRefuses site) told → ((refusal : Refusal × Unit {0}) → Contains (refused_in told) refusal → Contains noted refusal) → EachTold (Unit {0}) (StoredRefuses site noted) told
-each_held site noted [] may held = tt
-each_held site noted (Ok answer ∷ told) may held = (may.0, each_held site noted told may.1 held)
-each_held site noted (Err refusal ∷ told) may held = (
+each_held : {A : Type 0} (P : Type 0) (site : SiteValue) (noted : List (Refusal × Unit {0})) (told : List (Result A Refusal)) → EachTold P (ReplicaRefuses site) told → ((refusal : Refusal × Unit {0}) → Contains (refused_in told) refusal → Contains noted refusal) → EachTold P (StoredRefuses site noted) told
+each_held P site noted [] may held = tt
+each_held P site noted (Ok answer ∷ told) may held = (may.0, each_held P site noted told may.1 held)
+each_held P site noted (Err refusal ∷ told) may held = (
   (may.0, inl (held (refusal, tt) (Contains-append_left ((refusal, tt) ∷ []) (refused_in told) (refusal, tt) (Contains-push [] (refusal, tt))))),
-  each_held site noted told may.1 (λ other is. held other (Contains-append_right ((refusal, tt) ∷ []) (refused_in told) other is)),
+  each_held P site noted told may.1 (λ other is. held other (Contains-append_right ((refusal, tt) ∷ []) (refused_in told) other is)),
 )
 
 -- each refusal of a window is one that the side then may refuse with
-pub each_refused : {A : Type 0} (site : SiteValue) (old new : List (Refusal × Unit {0})) (told : List (Result A Refusal)) → EachTold (Unit {0}) (ReplicaRefuses site) told → new ≡ old ++ refused_in told → EachTold (Unit {0}) (StoredRefuses site new) told
-each_refused site old new told may is = each_held site new told may (λ refusal was. subst (λ xs. Contains xs refusal) (sym is) (Contains-append_right old (refused_in told) refusal was))
+pub each_refused : {A : Type 0} (P : Type 0) (site : SiteValue) (old new : List (Refusal × Unit {0})) (told : List (Result A Refusal)) → EachTold P (ReplicaRefuses site) told → new ≡ old ++ refused_in told → EachTold P (StoredRefuses site new) told
+each_refused P site old new told may is = each_held P site new told may (λ refusal was. subst (λ xs. Contains xs refusal) (sym is) (Contains-append_right old (refused_in told) refusal was))

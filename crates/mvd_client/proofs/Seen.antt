@@ -1,15 +1,22 @@
 -- A session of two sides, each of which has another within, is one of those within.
-use Rattle.std.proofs.Common.{inl, inr, ℕ, Result, Ok, Err}
+use Rattle.std.proofs.Common.{inl, inr, ℕ, List, [], ◌∷◌, Result, Ok, Err}
 use Rattle.std.specs.Result.{IfErr, OnOk}
 use Rattle.mvd_dots.specs.declared.refusals.Refusal.{Refusal}
 use Rattle.mvd_dots.specs.declared.refusals.Refusal.TheVariants.{Memory}
 use Rattle.mvd_peer.specs.Sides.{HasAnswered, HasRefused, IsSilent, Reaches, SideOf, two}
+use Rattle.mvd_peer.specs.Windows.{EachTold}
 use Rattle.mvd_sync.specs.Faults.{Blames, Inquiry, IsFaultOf}
 use Rattle.mvd_sync.specs.Faults.Blames.{of_answer, of_memory, of_questions, of_side}
 use Rattle.mvd_sync.specs.Session.{Session}
 use Rattle.mvd_sync.specs.declared.report.Report.{Report}
 use Rattle.mvd_sync.specs.declared.report.SyncFault.{SyncFault}
 use Rattle.mvd_sync.specs.declared.report.SyncFault.TheVariants.{Local, Peer}
+
+-- each is told so for what it was told for
+pub each_told : {A : Type 0} (P Q : Type 0) (R S : Refusal → Type 0) → (P → Q) → ((refusal : Refusal) → R refusal → S refusal) → (answers : List (Result A Refusal)) → EachTold P R answers → EachTold Q S answers
+each_told P Q R S so not [] it = tt
+each_told P Q R S so not (Ok answer ∷ answers) (one, more) = (so one, each_told P Q R S so not answers more)
+each_told P Q R S so not (Err refusal ∷ answers) (one, more) = (not refusal one, each_told P Q R S so not answers more)
 
 -- a side `T` that has a side `S` within, and follows in its own way
 abbrev pub around : {S T : Type 0} → (T → S) → (ℕ → T → T → Type 0) → SideOf S → SideOf T

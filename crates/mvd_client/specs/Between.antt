@@ -7,7 +7,7 @@ use Rattle.mvd_client.specs.LetIn.{ComesIn, LeadsNowhere}
 use Rattle.mvd_client.specs.Met.{AsksRoot}
 use Rattle.mvd_client.specs.Reported.{ReportsAs, meeting_text, root_in_states}
 use Rattle.mvd_client.specs.Stopped.{IsAtServer, StopsUndialed}
-use Rattle.mvd_client.specs.SyncSides.{line_side, sides_between}
+use Rattle.mvd_client.specs.SyncSides.{sides_between}
 use Rattle.mvd_client.specs.Talked.{EndsWithBye}
 use Rattle.mvd_client.specs.declared.between.Failure.{Failure}
 use Rattle.mvd_client.specs.declared.between.Met.{Met}
@@ -48,9 +48,9 @@ module _ {L : Type 0} (line : LineGhosts L) (gives : SocketAddr → L → Type 0
     pub far_goes_on : refused_of far_before ≡ None
     pub near_untold : told_of near_before ≡ []
     pub far_untold : told_of far_before ≡ []
-    pub session : Session (sides_between (line_side line) (line_side line)) 10000000 (two near_before far_before)
+    pub session : Session (sides_between line line) 10000000 (two near_before far_before)
         (two near' far') told
-    pub runs : IfOk told (IsRun (sides_between (line_side line) (line_side line)) 10000000
+    pub runs : IfOk told (IsRun (sides_between line line) 10000000
         (two near_before far_before) (two near' far'))
 
   -- why there is none that ended well: an address leads to no line, or it had a fault, of the side that is told. Each

@@ -1,12 +1,17 @@
 -- What pushes to a stored site do to it, as turns, and what a window of them is told.
 use Rattle.std.proofs.Common.{refl, subst}
-use Rattle.std.specs.Prelude.{◌≡◌, ◌⊎◌, ◌++◌, false, true, List, [], ◌∷◌, Vec, Result}
+use Rattle.std.specs.Prelude.{◌≡◌, ◌⊎◌, ◌++◌, false, true, List, [], ◌∷◌, Some, Vec, Result}
 use Rattle.std.specs.declared.alloc.Global.{Global}
 use Rattle.mvd_dots.specs.declared.refusals.Refusal.{Refusal}
 use Rattle.mvd_dots.specs.declared.refusals.Refusal.TheVariants.{Broken, Memory}
 use Rattle.mvd_keys.specs.State.{State}
 use Rattle.mvd_keys.specs.Writes.{Key}
+use Rattle.mvd_peer.specs.Asking.{asked, only_pushes}
+use Rattle.mvd_peer.specs.SiteTells.{TellsReads}
 use Rattle.mvd_peer.specs.Windows.{EachAnswer, EachTold, Pushes}
+use Rattle.mvd_peer.specs.declared.window.Told.{Told}
+use Rattle.mvd_peer.specs.declared.window.Told.TheVariants as told
+use Rattle.mvd_peer.specs.declared.window.Window.{Window}
 use Rattle.mvd_replica.specs.Replicas.{site_of, stored_of}
 use Rattle.mvd_replica.specs.SideCalls.{IsToldAlike, TellsMoments}
 use Rattle.mvd_replica.specs.Sides.{IsTrueSite, ReplicaRefuses, SideFollows, side_follows_on, side_follows_self}
@@ -38,10 +43,22 @@ module _ {S : Type 0} {g : Ghosts S} where
         × Pushes (site_of old).config.max_keys (site_of old).states pairs answers.items (site_of new).states
     pub live : TellsMoments old pairs new answers
 
-  -- a window that is not told: memory was refused, and nothing was pushed; or the site is broken then
+  -- pushes that are not told: memory was refused, and nothing was pushed; or the site is broken then
   abbrev pub EndsPushes : Replica S g → Replica S g → Refusal → Type 0
   EndsPushes old new refusal =
       ((refusal ≡ Memory) × (new ≡ old)) ⊎ ((refusal ≡ Broken) × ((site_of new).broken ≡ true))
+
+  -- what is told of pushes
+  abbrev pub TellsPushed : Replica S g → List (Key × State) → Told → Replica S g → Type 0
+  TellsPushed old pairs (told.Pushes answers) new = TellsPushes old pairs new answers
+  TellsPushed old pairs (told.Refused refusal) new = EndsPushes old new refusal
+  TellsPushed old pairs told new = ⊥
+
+  -- WHAT A STORED SITE TELLS OF A WINDOW: of questions that change nothing, what its site tells; or what becomes of the
+  -- states that are pushed
+  abbrev pub StoredTells : Replica S g → Window → Told → Replica S g → Type 0
+  StoredTells old window told new = (TellsReads (site_of old) window told × (new ≡ old))
+      ⊎ ((pairs : List (Key × State)) × (asked (Some window) ≡ only_pushes pairs) × TellsPushed old pairs told new)
 
   pub turns_self : (replica : Replica S g) → FollowsTurns replica replica
   turns_self replica = record { follows = side_follows_self (stored_of replica); moments = []; takes = refl }

@@ -1,9 +1,10 @@
--- What a stored site refuses in a session: each of its calls notes what it was refused with.
-use Rattle.std.specs.Prelude.{◌≡◌, ◌⊎◌, List, [], ◌∷◌, Contains, Result, Ok, Err, Vec}
-use Rattle.std.specs.declared.alloc.Global.{Global}
+-- What a stored site refuses in a session: of each window it notes what was refused.
+use Rattle.std.specs.Prelude.{◌≡◌, ◌⊎◌, List, [], ◌∷◌, Contains, Result, Ok, Err}
 use Rattle.mvd_client.specs.declared.stored_side.Refusals.{Refusals}
 use Rattle.mvd_dots.specs.declared.refusals.Refusal.{Refusal}
 use Rattle.mvd_dots.specs.declared.refusals.Refusal.TheVariants.{Broken, Memory}
+use Rattle.mvd_peer.specs.declared.window.Told.{Told}
+use Rattle.mvd_peer.specs.declared.window.Told.TheVariants.{Nodes, Pages, Pushes, Refused as Whole, States}
 use Rattle.mvd_replica.specs.Sides.{ReplicaRefuses}
 use Rattle.mvd_site.specs.Sites.{SiteValue}
 
@@ -17,11 +18,13 @@ refused_in [] = []
 refused_in (Ok answer ∷ told) = refused_in told
 refused_in (Err refusal ∷ told) = (refusal, tt) ∷ refused_in told
 
--- and of a window those of its questions, or that of the whole
-abbrev pub refused_of_window : {A : Type 0} → Result (Vec (Result A Refusal) Global) Refusal
-    → List (Refusal × Unit {0})
-refused_of_window (Ok told) = refused_in told.items
-refused_of_window (Err refusal) = (refusal, tt) ∷ []
+-- those of its questions, or that of the whole window
+abbrev pub refused_of : Told → List (Refusal × Unit {0})
+refused_of (Nodes told) = refused_in told.items
+refused_of (Pages told) = refused_in told.items
+refused_of (States told) = refused_in told.items
+refused_of (Pushes told) = refused_in told.items
+refused_of (Whole refusal) = (refusal, tt) ∷ []
 
 -- what was noted stays
 abbrev pub StaysNoted : List (Refusal × Unit {0}) → List (Refusal × Unit {0}) → Type 0

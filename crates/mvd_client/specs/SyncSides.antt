@@ -1,11 +1,9 @@
 -- The two sides of a session that a command holds: a stored site, and what is asked over a line.
-use Rattle.std.specs.Prelude.{◌≡◌, false, List, None, Some}
+use Rattle.std.specs.Prelude.{◌≡◌, false, List, Some}
 use Rattle.mvd_client.specs.Refusals.{StaysNoted, StoredRefuses}
 use Rattle.mvd_dots.specs.declared.refusals.Refusal.{Refusal}
 use Rattle.mvd_peer.specs.Sides.{SideOf, Sides}
-use Rattle.mvd_wire.specs.declared.request.Request.{Request}
-use Rattle.mvd_remote.specs.Lines.{Far, IsTrueRemote, RemoteFollows, RemoteRefuses, far_of, refused_of}
-use Rattle.mvd_remote.specs.LiveRemotes.{IsLiveRemote}
+use Rattle.mvd_remote.specs.Remotes.{remote_side}
 use Rattle.mvd_remote.specs.declared.line.Line.{Ghosts as LineGhosts}
 use Rattle.mvd_remote.specs.declared.remote.Remote.{Remote}
 use Rattle.mvd_replica.specs.Replicas.{site_of, stored_of}
@@ -37,36 +35,10 @@ stored_side = record {
   number = λ side. Some (site_of side.replica).config.site;
 }
 
--- when a line is true, or live, and what is at its other end
-pub record LineSide (L : Type 0) : Type 1 where
-  pub is_true : L → Type 0
-  pub far : L → Far
-  pub is_live : L → Type 0
-  pub awaits : L → List Request
-
-abbrev pub line_side : {L : Type 0} → LineGhosts L → LineSide L
-line_side line =
-    record { is_true = line.is_true; far = line.far; is_live = line.is_live; awaits = line.awaits }
-
--- what is asked over a line: it is faithful where the line is true, live where the line is live, and a link that
--- refuses stays as it is. It refuses as its link does, or as a question was told, or for want of memory
-abbrev pub far_side : {L : Type 0} → LineSide L → SideOf (Remote L)
-far_side line = record {
-  states = λ remote. (far_of line.far remote).states;
-  is_faithful = IsTrueRemote line.is_true line.far;
-  is_live = IsLiveRemote line.is_live line.awaits;
-  can_give = λ _ _. Unit {0};
-  follows = λ _. RemoteFollows line.far;
-  can_refuse = RemoteRefuses;
-  can_answer = λ remote. refused_of remote ≡ None;
-  most_keys = λ remote. (far_of line.far remote).config.max_keys;
-  number = λ _. None;
-}
-
 -- a stored site, and the other end of a line
 abbrev pub sides_at : {S : Type 0} {g : Ghosts S} {L : Type 0} → LineGhosts L → Sides (InSession S g) (Remote L)
-sides_at line = record { local = stored_side; peer = far_side (line_side line) }
+sides_at line = record { local = stored_side; peer = remote_side line }
 
 -- the other ends of two lines
-abbrev pub sides_between : {L M : Type 0} → LineSide L → LineSide M → Sides (Remote L) (Remote M)
-sides_between near far = record { local = far_side near; peer = far_side far }
+abbrev pub sides_between : {L M : Type 0} → LineGhosts L → LineGhosts M → Sides (Remote L) (Remote M)
+sides_between near far = record { local = remote_side near; peer = remote_side far }

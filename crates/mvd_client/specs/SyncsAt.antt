@@ -1,8 +1,9 @@
 -- A session with what an address leads to.
-use Rattle.std.specs.Prelude.{◌≡◌, false, ℕ, List, [], None, Option, Result, Ok, Err, IfOk}
+use Rattle.std.specs.Prelude.{◌≡◌, ◌≤◌, ◌+◌, false, ℕ, List, [], None, Option, Result, Ok, Err, IfOk}
 use Rattle.std.specs.declared.net.socket_addr.SocketAddr.{SocketAddr}
 use Rattle.mvd_dots.specs.declared.refusals.Refusal.{Refusal}
 use Rattle.mvd_client.specs.Gone.{LetsGo}
+use Rattle.mvd_client.specs.Questioned.{CountsFew, questions}
 use Rattle.mvd_client.specs.LetIn.{ComesIn, GivesIn, LeadsNowhere}
 use Rattle.mvd_client.specs.Reported.{Reports}
 use Rattle.mvd_client.specs.Stopped.{IsUndialed, StopsUndialed, TellsAs}
@@ -58,6 +59,11 @@ module _ {S : Type 0} {g : Ghosts S} {L : Type 0} (line : LineGhosts L) where
       pub session : Session (sides_at line) 10000000 (two old before) (two new mid) ran
       pub runs : IfOk ran (IsRun (sides_at line) 10000000 (two old before) (two new mid))
       pub ends : EndsBy line ran mid after told
+      -- and few questions are asked before that
+      pub few : IsTrueSite (site_of old.replica) → line.is_true (line_of before)
+          → (line.far (line_of before)).due ≡ [] → refused_of before ≡ None
+          → CountsFew (questions before) (questions mid) (site_of old.replica).states (line.far (line_of before)).states
+      pub most : questions mid ≤ questions before + 10000000
       -- where the line is true, no reply is due, and so is the site, the two meet
       pub meets : IsTrueSite (site_of old.replica) → line.is_true (line_of before)
           → (line.far (line_of before)).due ≡ [] → refused_of before ≡ None

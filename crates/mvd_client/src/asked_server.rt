@@ -9,7 +9,7 @@ ghost use Rattle.mvd_wire.specs.Requests.{request_frame};
 
 use mvd_dots::Refusal;
 use mvd_frames::encode_request;
-use mvd_peer::{Endpoint, Peer};
+use mvd_peer::Endpoint;
 use mvd_remote::{Line, Remote};
 use mvd_shell::{Losses, fits};
 use mvd_wire::{Reply, Request};
@@ -18,6 +18,7 @@ use std::alloc::Global;
 /// A server at the other end of a line, and what is known of the writes to which no reply came.
 #[derive(Drop)]
 pub struct AskedServer<L: Line> {
+    alloc: Global,
     pub remote: Remote<L>,
     /// The link has broken: what is asked from now on is not sent.
     pub is_down: bool,
@@ -51,6 +52,7 @@ impl<L: Line> AskedServer<L> {
         ensures shown { result.shown ≡ shown }
     {
         AskedServer {
+            alloc,
             remote: Remote::over(alloc, line),
             is_down: false,
             lost: 0,
@@ -68,7 +70,7 @@ impl<L: Line> AskedServer<L> {
         if self.is_down {
             return Ok(());
         }
-        match encode_request(self.remote.alloc(), request) {
+        match encode_request(self.alloc, request) {
             Ok(_frame) => Ok(()),
             Err(refusal) => Err(refusal),
         }

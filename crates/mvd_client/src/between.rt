@@ -9,7 +9,6 @@ use crate::dial::{Dial, let_in, undialed};
 use crate::gone::Gone;
 use crate::meeting::{Root, meet_over, root_over, tell_meeting};
 use crate::progress::Watched;
-use http_server::Log;
 use mvd_dots::Refusal;
 use mvd_hint::Stop;
 use mvd_remote::{Line, Remote};
@@ -146,7 +145,6 @@ fn session<'a, D: Dial, E: Write>(
     };
     let mut peer = Watched {
         side: Remote::over(alloc, far_line),
-        asked: Log::new(),
         moved: 0,
         told,
     };

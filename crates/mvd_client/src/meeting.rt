@@ -4,7 +4,7 @@ ghost use Rattle.std.specs.Io.KnownBytes.{Appends};
 ghost use Rattle.mvd_client.specs.Met.{AsksRoot, MeetsFars};
 ghost use Rattle.mvd_client.specs.Questioned.{CountsFew, questions};
 ghost use Rattle.mvd_client.specs.Reported.{CutReport, ReportsAs, meeting_text, root_at_text, root_in_states};
-ghost use Rattle.mvd_client.specs.SyncSides.{line_side, sides_between};
+ghost use Rattle.mvd_client.specs.SyncSides.{sides_between};
 ghost use Rattle.mvd_dots.specs.declared.refusals.Refusal.TheVariants.{Memory};
 ghost use Rattle.mvd_peer.specs.Sides.{two};
 ghost use Rattle.mvd_remote.specs.Lines.{IsTrueRemote, far_of};
@@ -18,7 +18,6 @@ use mvd_dots::Refusal;
 use mvd_hint::Stop;
 use mvd_input::Fault;
 use mvd_keys::Path;
-use mvd_peer::Peer;
 use mvd_print::print_keys;
 use mvd_remote::{Line, Remote};
 use mvd_shell::write_lines;
@@ -46,13 +45,13 @@ pub fn meet_over<L: Line, M: Line, E: Write>(
         MeetsFars L.Line M.Line near.old near.new far.old.side far.new.side result }
     // The second server is asked few questions.
     ensures few { IsTrueRemote L.is_true L.far near.old → IsTrueRemote M.is_true M.far far.old.side →
-        CountsFew (questions far.old.asked.items) (questions far.new.asked.items)
+        CountsFew (questions far.old.side) (questions far.new.side)
         (far_of L.far near.old).states (far_of M.far far.old.side).states }
-    ensures most { questions far.new.asked.items ≤ questions far.old.asked.items + 10000000 }
+    ensures most { questions far.new.side ≤ questions far.old.side + 10000000 }
     // Whatever is at the other ends.
-    ensures session { Session (sides_between (line_side L.Line) (line_side M.Line)) 10000000
+    ensures session { Session (sides_between L.Line M.Line) 10000000
         (two near.old far.old.side) (two near.new far.new.side) result }
-    ensures ran { IfOk result (IsRun (sides_between (line_side L.Line) (line_side M.Line)) 10000000
+    ensures ran { IfOk result (IsRun (sides_between L.Line M.Line) 10000000
         (two near.old far.old.side) (two near.new far.new.side)) }
 {
     sync(alloc, near, far)

@@ -28,12 +28,10 @@ use crate::dial::{Dial, let_in, undialed};
 use crate::gone::Gone;
 use crate::progress::Watched;
 use crate::stored_side::{Refusals, StoredSide};
-use http_server::Log;
 use mvd_dots::Refusal;
 use mvd_hint::{Hint, Older, Stop};
 use mvd_input::Fault;
 use mvd_keys::Path;
-use mvd_peer::Peer;
 use mvd_print::{print_keys, print_root};
 use mvd_remote::{Line, Remote};
 use mvd_replica::Replica;
@@ -132,7 +130,6 @@ fn sync_line<L: Line, S: Alter + Drop, E: Write>(
 {
     let mut watched = Watched {
         side: Remote::over(alloc, line),
-        asked: Log::new(),
         moved: 0,
         told,
     };
@@ -153,16 +150,11 @@ pub fn sync_over<L: Line, S: Alter + Drop, E: Write>(
 ) -> Result<Report, SyncFault>
     ensures meets { IsTrueSite (site_of replica.old) → IsTrueRemote L.is_true L.far watched.old.side →
         MeetsFar L.is_true L.far replica.old replica.new watched.old.side watched.new.side result }
-    // The server is asked few questions, and then comes the Bye.
-    ensures few { IsTrueSite (site_of replica.old) → IsTrueRemote L.is_true L.far watched.old.side →
-        CountsFew (questions watched.old.asked.items) (questions watched.new.asked.items)
-        (site_of replica.old).states (far_of L.far watched.old.side).states }
     // Whatever is at the other end.
     ensures syncs { SyncsOver L.Line (in_session replica.old (noted_in refused.old))
         (in_session replica.new (noted_in refused.new)) watched.old.side watched.new.side result }
     ensures takes { TakesPushes replica.old replica.new }
     ensures pushed { FollowsPushed replica.old replica.new }
-    ensures most { questions watched.new.asked.items ≤ questions watched.old.asked.items + 10000000 }
 {
     let report = match session_of(alloc, replica, refused, watched) {
         Ok(report) => report,
@@ -191,11 +183,15 @@ fn session_of<L: Line, S: Alter + Drop, E: Write>(
     ensures takes { TakesPushes replica.old replica.new }
     ensures pushed { FollowsPushed replica.old replica.new }
     ensures few { IsTrueSite (site_of replica.old) → IsTrueRemote L.is_true L.far watched.old.side →
-        CountsFew (questions watched.old.asked.items) (questions watched.new.asked.items)
+        CountsFew (questions watched.old.side) (questions watched.new.side)
         (site_of replica.old).states (far_of L.far watched.old.side).states }
-    ensures most { questions watched.new.asked.items ≤ questions watched.old.asked.items + 10000000 }
+    ensures most { questions watched.new.side ≤ questions watched.old.side + 10000000 }
 {
-    let mut side = StoredSide { replica, refused };
+    let mut side = StoredSide {
+        alloc,
+        replica,
+        refused,
+    };
     session_with(alloc, &mut side, watched)
 }
 
@@ -216,9 +212,9 @@ fn session_with<L: Line, S: Alter + Drop, E: Write>(
     ensures takes { TakesPushes side.old.replica.now side.new.replica.now }
     ensures pushed { FollowsPushed side.old.replica.now side.new.replica.now }
     ensures few { IsTrueSite (site_of side.old.replica.now) → IsTrueRemote L.is_true L.far watched.old.side →
-        CountsFew (questions watched.old.asked.items) (questions watched.new.asked.items)
+        CountsFew (questions watched.old.side) (questions watched.new.side)
         (site_of side.old.replica.now).states (far_of L.far watched.old.side).states }
-    ensures most { questions watched.new.asked.items ≤ questions watched.old.asked.items + 10000000 }
+    ensures most { questions watched.new.side ≤ questions watched.old.side + 10000000 }
 {
     sync(alloc, side, watched)
 }

@@ -1,6 +1,6 @@
-//! Pushes of many states to a stored site at once.
+//! What a stored site tells of a window. Of its pushes as many as do not see each other share a commit.
 ghost use Rattle.std.specs.Prelude.{◌≡◌, ◌≤◌, ◌+◌, ◌++◌, IfErr, IfOk, Ok, length, map, vec_capacity};
-ghost use Rattle.mvd_client.specs.Pushing.{EndsPushes, FollowsTurns, TellsPushes};
+ghost use Rattle.mvd_client.specs.Pushing.{EndsPushes, FollowsTurns, StoredTells, TellsPushed, TellsPushes};
 ghost use Rattle.mvd_dots.specs.Answer.{IsAnswer};
 ghost use Rattle.mvd_dots.specs.declared.refusals.Refusal.TheVariants.{Memory};
 ghost use Rattle.mvd_keys.specs.State.{IsValid};
@@ -10,25 +10,55 @@ ghost use Rattle.mvd_wire.specs.declared.request.Request.TheVariants.{Push};
 
 use mvd_dots::Refusal;
 use mvd_keys::{Key, KeyState};
-use mvd_peer::Peer;
+use mvd_peer::{Told, Window};
 use mvd_replica::Replica;
 use mvd_wire::{Reply, Request};
 use sqlite::Alter;
 use std::alloc::Global;
 
+/// What it tells of a window.
+pub(crate) fn tell<S: Alter + Drop>(
+    alloc: Global,
+    replica: &mut Replica<S>,
+    window: &Window,
+) -> Told
+    ensures told { StoredTells replica.old window.now result replica.new }
+    // However it ends, all that was done is turns.
+    ensures turns { FollowsTurns replica.old replica.new }
+{
+    match replica.read(window) {
+        Ok(told) => told,
+        Err(pairs) => push_window(alloc, replica, pairs),
+    }
+}
+
+/// What it tells of pushes.
+fn push_window<S: Alter + Drop>(
+    alloc: Global,
+    replica: &mut Replica<S>,
+    pairs: &[(Key, KeyState)],
+) -> Told
+    ensures told { TellsPushed replica.old pairs.now result replica.new }
+    ensures turns { FollowsTurns replica.old replica.new }
+{
+    match push_all(alloc, replica, pairs) {
+        Ok(told) => Told::Pushes(told),
+        Err(refusal) => Told::Refused(refusal),
+    }
+}
+
 /// Joins each state to that of its key, and tells what each push came to. As many as do not see each other share a
 /// commit, up to 1,024.
-pub(crate) fn push_window<S: Alter + Drop>(
+fn push_all<S: Alter + Drop>(
+    alloc: Global,
     replica: &mut Replica<S>,
     pairs: &[(Key, KeyState)],
 ) -> Result<Vec<Result<(), Refusal>>, Refusal>
     ensures told { IfOk result (TellsPushes replica.old pairs.now replica.new) }
     // It is refused for want of memory, or by a site that is broken then.
     ensures ended { IfErr result (EndsPushes replica.old replica.new) }
-    // However it ends, all that was done is turns.
     ensures turns { FollowsTurns replica.old replica.new }
 {
-    let alloc = replica.alloc();
     replica.stands();
     let mut told = Vec::with_capacity(alloc, pairs.len())?;
     let requests = pushes_of(alloc, pairs)?;

@@ -1,9 +1,9 @@
 -- A site at hand to which others write meanwhile, behind a live line.
-use Rattle.std.proofs.Common.{◌≡◌, ◌≢◌, inl, inr, ℕ, ◌≤◌, true, false, List, [], ◌∷◌, ◌++◌, Option, Some, None, refl, sym, ap, subst, ◌∙◌, arith}
+use Rattle.std.proofs.Common.{◌≡◌, ◌≢◌, inl, inr, ℕ, true, false, List, [], ◌∷◌, ◌++◌, Option, Some, None, refl, sym, ap, subst, ◌∙◌}
 use Rattle.std.proofs.lemmas.List.{append-nil, append_assoc}
 use Rattle.std.specs.Prelude.{Result, Ok, Err, IfErr, IfOk, IfSome, OnOk, option_map}
 use Rattle.mvd_dots.specs.declared.refusals.Refusal.{Refusal}
-use Rattle.mvd_dots.specs.declared.refusals.Refusal.TheVariants.{Broken, Store}
+use Rattle.mvd_dots.specs.declared.refusals.Refusal.TheVariants.{Broken}
 use Rattle.mvd_keys.specs.State.{IsValid, State, join}
 use Rattle.mvd_keys.specs.Writes.{Key}
 use Rattle.mvd_wire.specs.declared.frame.Frame.{Frame}
@@ -26,7 +26,7 @@ use Rattle.mvd_peer.proofs.JoinLaws.{valid_at}
 use Rattle.mvd_peer.proofs.SiteSides.{is_broken, put_is_pushed}
 use Rattle.mvd_peer.proofs.Telling.{grows_over, grows_same}
 use Rattle.mvd_remote.specs.Lines.{AreRequestFrames, IsNextReply, TrueReply}
-use Rattle.mvd_remote.specs.LiveLines.{AnswersAt, IsNextAnswer}
+use Rattle.mvd_remote.specs.LiveLines.{IsNextAnswer}
 use Rattle.mvd_line_tests.specs.Among.{HasGrown, is_of_session}
 use Rattle.mvd_line_tests.proofs.Serving.{next_of, next_reply, nothing_left}
 

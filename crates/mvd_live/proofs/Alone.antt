@@ -21,10 +21,10 @@ use Rattle.mvd_peer.proofs.JoinLaws.{valid_at}
 use Rattle.mvd_peer.proofs.Pushes.{state-pushed}
 use Rattle.mvd_sync.specs.Machines.{HasNext, Machining}
 use Rattle.mvd_sync.specs.Session.{HasAllThatDiffer}
-use Rattle.mvd_sync.specs.Steps.{Wanted}
+use Rattle.mvd_peer.specs.Asking.{Wanted}
 use Rattle.mvd_sync.specs.declared.asked.Step.{Step}
-use Rattle.mvd_sync.specs.declared.telling.Told.{Told}
-use Rattle.mvd_sync.specs.declared.telling.Told.TheVariants as told
+use Rattle.mvd_peer.specs.declared.window.Told.{Told}
+use Rattle.mvd_peer.specs.declared.window.Told.TheVariants as told
 use Rattle.mvd_live.specs.Alone.{AllPushAlone, AreAlone, HoldsStill, SideAlone, JoinsAlone, PushesAlone}
 use Rattle.mvd_live.specs.Few.{AsksFew}
 use Rattle.mvd_live.specs.Lives.{WasHeld}

@@ -5,8 +5,8 @@ use Rattle.mvd_keys.specs.Writes.{Key}
 use Rattle.mvd_site.specs.Held.{States}
 use Rattle.mvd_peer.specs.Sides.{Two}
 use Rattle.mvd_sync.specs.Session.{AreFew}
-use Rattle.mvd_sync.specs.Steps.{asked}
-use Rattle.mvd_sync.specs.declared.asked.Window.{Window}
+use Rattle.mvd_peer.specs.Asking.{asked}
+use Rattle.mvd_peer.specs.declared.window.Window.{Window}
 use Rattle.mvd_sync.specs.declared.report.SyncFault.{SyncFault}
 use Rattle.mvd_meet.specs.Callers.{asked_in_window, asked_of_caller, questions_at}
 use Rattle.mvd_meet.specs.Meetings.{AsksIf, AsksPart, MeetingBreaks, MeetingFails, TakesBoth}

@@ -15,7 +15,8 @@ use Rattle.mvd_peer.specs.Sides.{two}
 use Rattle.mvd_peer.specs.Windows.{ForEach}
 use Rattle.mvd_sync.specs.Answers.{ListingValue, PageEntry, StartsAfter, TakesLesser, is_spent, of_both, of_first, of_second}
 use Rattle.mvd_sync.specs.Tellings.{IsListingOf, Page}
-use Rattle.mvd_sync.specs.Walking.{GoesTo, IsTold, IsWalked, PageQuestion, TakesNext, Walking, WantsPage, closes, ends, fills, first_page, filled, filled_both, is_asked, moves, opened_buckets, opens, pages_next, pages_of, tells, waits}
+use Rattle.mvd_sync.specs.Walking.{GoesTo, IsTold, IsWalked, TakesNext, Walking, WantsPage, closes, ends, fills, first_page, filled, filled_both, is_asked, moves, opened_buckets, opens, pages_next, pages_of, tells, waits}
+use Rattle.mvd_peer.specs.Asking.{PageQuestion}
 use Rattle.mvd_sync.specs.declared.cursor.Entry.{Entry}
 use Rattle.mvd_sync.specs.declared.report.Side.TheVariants.{Local as AtLocal, Peer as AtPeer}
 use Rattle.mvd_sync.specs.declared.walking.Bucket.{Bucket}

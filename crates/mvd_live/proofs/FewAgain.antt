@@ -1,5 +1,5 @@
 -- Which questions of a session are asked for the first time, and which again, since a window of gets was cut.
-use Rattle.std.proofs.Common.{◌≡◌, ◌⊎◌, inl, inr, ℕ, zero, suc, ◌+◌, ◌*◌, ◌≤◌, true, false, cond, List, [], ◌∷◌, ◌++◌, length, take, drop, refl, sym, ap, subst, ◌∙◌, arith, Some, None, Option, length-append, length-drop}
+use Rattle.std.proofs.Common.{◌≡◌, ◌⊎◌, inl, inr, ℕ, zero, suc, ◌+◌, ◌*◌, ◌≤◌, true, false, cond, List, [], ◌∷◌, ◌++◌, length, take, drop, sym, ap, subst, ◌∙◌, arith, Option, length-append, length-drop}
 use Rattle.std.specs.Prelude.{IfSome, Ok, max, min}
 use Rattle.std.proofs.lemmas.List.{length-take, length-take-le, take-append-drop}
 use Rattle.mvd_keys.specs.State.{State}
@@ -14,7 +14,8 @@ use Rattle.mvd_sync.specs.Meetings.{held_keys}
 use Rattle.mvd_sync.specs.OneTurn.{untold}
 use Rattle.mvd_sync.specs.Questions.{TakesBudget}
 use Rattle.mvd_sync.specs.Steps.{cut_wanted}
-use Rattle.mvd_sync.specs.Walking.{GoesTo, IsTold, PageQuestion, Walking, closes, ends as no_later, fills as fills_page, moves, opens, pages_of, tells, waits as waits_page}
+use Rattle.mvd_sync.specs.Walking.{GoesTo, IsTold, Walking, closes, ends as no_later, fills as fills_page, moves, opens, pages_of, tells, waits as waits_page}
+use Rattle.mvd_peer.specs.Asking.{PageQuestion}
 use Rattle.mvd_sync.specs.Weights.{next_most, weight}
 use Rattle.mvd_sync.specs.declared.asking.Questions.{Questions}
 use Rattle.mvd_sync.specs.declared.cursor.Entry.{Entry}
@@ -25,10 +26,10 @@ use Rattle.mvd_sync.specs.declared.stage.Stage.TheVariants.{Descends, Walks, Mee
 use Rattle.mvd_sync.specs.declared.telling.Answers.{Answers}
 use Rattle.mvd_sync.specs.declared.telling.Share.{Share}
 use Rattle.mvd_sync.specs.declared.telling.Shares.{Shares}
-use Rattle.mvd_sync.specs.declared.telling.Told.{Told}
+use Rattle.mvd_peer.specs.declared.window.Told.{Told}
 use Rattle.mvd_sync.specs.declared.turn.Turn.{Turn}
 use Rattle.mvd_sync.proofs.CutWindows.{held_split, next_grows, next_limited}
-use Rattle.mvd_sync.proofs.Descents.{Each-left, Each-right, Each-take}
+use Rattle.mvd_sync.proofs.Descents.{Each-right, Each-take}
 use Rattle.mvd_sync.proofs.Lacking.{front_lacks}
 use Rattle.mvd_sync.proofs.Nodes.{Each-append}
 use Rattle.mvd_sync.proofs.Stages.{held_by_one}

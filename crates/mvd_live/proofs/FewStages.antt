@@ -13,7 +13,8 @@ use Rattle.mvd_sync.specs.Machines.{FromTurn, FromWalk, GoesAlone, IsQuiet, Sett
 use Rattle.mvd_sync.specs.Meetings.{held_keys, is_held, noted, pushed_pair, taken_from}
 use Rattle.mvd_sync.specs.OneTurn.{untold}
 use Rattle.mvd_sync.specs.Session.{AreFew}
-use Rattle.mvd_sync.specs.Walking.{GoesTo, IsTold, PageQuestion, TakesNext, Walking, WantsPage, closes, ends as no_later, fills as fills_page, filled_both, first_page, is_asked, moves, opened_buckets, opens, pages_next, pages_of, tells, waits as waits_page}
+use Rattle.mvd_sync.specs.Walking.{GoesTo, IsTold, TakesNext, Walking, WantsPage, closes, ends as no_later, fills as fills_page, filled_both, first_page, is_asked, moves, opened_buckets, opens, pages_next, pages_of, tells, waits as waits_page}
+use Rattle.mvd_peer.specs.Asking.{PageQuestion}
 use Rattle.mvd_sync.specs.declared.cursor.Entry.{Entry}
 use Rattle.mvd_sync.specs.declared.meetings.Meeting.{Meeting}
 use Rattle.mvd_sync.specs.declared.report.Side.{Side}

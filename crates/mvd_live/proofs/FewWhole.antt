@@ -12,7 +12,7 @@ use Rattle.mvd_peer.specs.Sides.{Two, two}
 use Rattle.mvd_sync.specs.Exchanges.{Exchanging, IsHeldByEither}
 use Rattle.mvd_sync.specs.Machines.{AsksForNext, CarriedOn, HasNext, HearsAt, Machining, StageAsks, StageWent, TakesShares, both, cut as cut_at, goes, is_same, met as met_first, no_room as no_place, of_local, of_other, of_peer, of_side, other_of, share_of, told_by_side, wanted_count, whole as uncut}
 use Rattle.mvd_sync.specs.OneTurn.{untold}
-use Rattle.mvd_sync.specs.Steps.{Wanted}
+use Rattle.mvd_peer.specs.Asking.{Wanted}
 use Rattle.mvd_sync.specs.Walking.{Walking}
 use Rattle.mvd_sync.specs.declared.asked.Step.{Step}
 use Rattle.mvd_sync.specs.declared.asking.Questions.{Questions}
@@ -23,17 +23,16 @@ use Rattle.mvd_sync.specs.declared.stage.Stage.TheVariants.{Descends, Walks, Mee
 use Rattle.mvd_sync.specs.declared.telling.Answers.{Answers}
 use Rattle.mvd_sync.specs.declared.telling.Share.{Share}
 use Rattle.mvd_sync.specs.declared.telling.Shares.{Shares}
-use Rattle.mvd_sync.specs.declared.telling.Told.{Told}
+use Rattle.mvd_peer.specs.declared.window.Told.{Told}
 use Rattle.mvd_sync.specs.declared.turn.Turn.{Turn}
 use Rattle.mvd_sync.proofs.Stages.{plan_keys, same_length}
 use Rattle.mvd_live.specs.Few.{AsksFew, HasAllThatDiffered, HasLacked, HaveLacked, asked_local, asked_peer, questions_in}
 use Rattle.mvd_live.specs.Runs.{GoesOnAsking, StartsRun, TakesLeg, Leg, RunsLegs, Standing, all_locals, all_peers, both_asked}
 use Rattle.mvd_live.proofs.FewAgain.{Kept, KeptAt, cut_few, first_asked, kept_hears, kept_went, split_hears}
 use Rattle.mvd_live.proofs.FewNodes.{first_few, level_few}
-use Rattle.mvd_live.proofs.FewStages.{FewAt, WalkStands, held_short, local_begins, settle_few, stands_less, told_few, turn_owes, wants_few, went_few}
+use Rattle.mvd_live.proofs.FewStages.{FewAt, held_short, local_begins, settle_few, stands_less, told_few, turn_owes, wants_few, went_few}
 use Rattle.mvd_live.proofs.Moments.{Frame}
 use Rattle.mvd_live.proofs.Steps.{HeardBoth, nodes_here, nodes_there, pages_here, pages_there}
-use Rattle.mvd_live.proofs.Turns.{last_of}
 use Rattle.mvd_live.proofs.Runner.{asks_named}
 use Rattle.mvd_live.proofs.Whole.{Amid, amid_leg, first_amid, frame, grows_self, grown, heard_both, taken}
 

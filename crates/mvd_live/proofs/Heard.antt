@@ -12,12 +12,12 @@ use Rattle.mvd_peer.specs.Live.{Grows}
 use Rattle.mvd_peer.specs.Windows.{ForEach}
 use Rattle.mvd_sync.specs.Made.{PassesFault}
 use Rattle.mvd_sync.specs.Questions.{TakesBudget}
-use Rattle.mvd_sync.specs.Steps.{Wanted}
+use Rattle.mvd_peer.specs.Asking.{Wanted}
 use Rattle.mvd_sync.specs.Tellings.{AllRead, Page, nodes_told, pages_told, pushes_told, states_told}
-use Rattle.mvd_sync.specs.Walking.{PageQuestion}
+use Rattle.mvd_peer.specs.Asking.{PageQuestion}
 use Rattle.mvd_sync.specs.declared.telling.Share.{Share}
-use Rattle.mvd_sync.specs.declared.telling.Told.{Told}
-use Rattle.mvd_sync.specs.declared.telling.Told.TheVariants as told
+use Rattle.mvd_peer.specs.declared.window.Told.{Told}
+use Rattle.mvd_peer.specs.declared.window.Told.TheVariants as told
 use Rattle.mvd_live.specs.Told.{LiveTells, TellsEach, TellsNode, TellsNothing, PageTold, TellsPush, StateTold}
 use Rattle.mvd_live.proofs.Moments.{AtMoment, grown_on}
 

@@ -13,8 +13,8 @@ use Rattle.mvd_replica.specs.Turns.{Turn}
 use Rattle.mvd_host.specs.Course.{AreQueued, own}
 use Rattle.mvd_host.specs.Round.{ServesAllFrom, turns_of}
 use Rattle.mvd_host.proofs.Positions.{ServesFrom}
-use Rattle.mvd_meet.specs.Callers.{requests_of}
-use Rattle.mvd_sync.specs.declared.asked.Window.{Window}
+use Rattle.mvd_remote.specs.Remotes.{requests_of}
+use Rattle.mvd_peer.specs.declared.window.Window.{Window}
 use Rattle.mvd_live.specs.Hosts.{TellsBetween, TellsWindows}
 use Rattle.mvd_live.proofs.Hosted.{LeavesAll, all_left}
 use Rattle.mvd_live.proofs.HostMail.{all_ok, asked_by_turns, host_tells, told_by_turns}

@@ -24,9 +24,9 @@ use Rattle.mvd_replica.proofs.Batching.{fits_turn, form_turn}
 use Rattle.mvd_host.specs.Course.{AreQueued, own}
 use Rattle.mvd_host.specs.Round.{ServesAllFrom, turns_of}
 use Rattle.mvd_host.proofs.Positions.{ServesFrom}
-use Rattle.mvd_meet.specs.Callers.{requests_of}
-use Rattle.mvd_sync.specs.declared.asked.Window.{Window}
-use Rattle.mvd_sync.specs.declared.asked.Window.TheVariants as wanted
+use Rattle.mvd_remote.specs.Remotes.{requests_of}
+use Rattle.mvd_peer.specs.declared.window.Window.{Window}
+use Rattle.mvd_peer.specs.declared.window.Window.TheVariants as wanted
 use Rattle.mvd_live.specs.Answers.{AnswersAmong, AreReplyFrames, SiteTurn, own_replies, own_requests}
 use Rattle.mvd_live.specs.Hosts.{TellsWindows, and_turn, site_turns}
 use Rattle.mvd_live.proofs.Hosted.{host_answers}

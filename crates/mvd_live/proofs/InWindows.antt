@@ -10,12 +10,12 @@ use Rattle.mvd_peer.specs.Sides.{Two}
 use Rattle.mvd_sync.proofs.Descents.{Each-left, Each-right}
 use Rattle.mvd_peer.proofs.Pushes.{Each-append}
 use Rattle.mvd_sync.specs.Machines.{HasNext, Machining}
-use Rattle.mvd_sync.specs.Steps.{asked as asked_in}
+use Rattle.mvd_peer.specs.Asking.{asked as asked_in}
 use Rattle.mvd_sync.specs.declared.asked.Step.{Step as Asking}
-use Rattle.mvd_sync.specs.declared.asked.Window.{Window}
-use Rattle.mvd_sync.specs.declared.asked.Window.TheVariants as wanted
-use Rattle.mvd_sync.specs.declared.telling.Told.{Told}
-use Rattle.mvd_sync.specs.declared.telling.Told.TheVariants as telling
+use Rattle.mvd_peer.specs.declared.window.Window.{Window}
+use Rattle.mvd_peer.specs.declared.window.Window.TheVariants as wanted
+use Rattle.mvd_peer.specs.declared.window.Told.{Told}
+use Rattle.mvd_peer.specs.declared.window.Told.TheVariants as telling
 use Rattle.mvd_live.specs.Runs.{TakesLeg, Leg, Standing, both_asked}
 use Rattle.mvd_live.proofs.Runner.{asks_named}
 use Rattle.mvd_live.specs.Told.{LiveTells, TellsEach, TellsNode, PageTold, TellsPush, StateTold}

@@ -6,10 +6,10 @@ use Rattle.mvd_keys.specs.Writes.{Key}
 use Rattle.mvd_site.specs.Held.{AreHeld, States}
 use Rattle.mvd_peer.specs.Sides.{Two, two}
 use Rattle.mvd_sync.specs.Machines.{HasNext, Machining, wanted_count}
-use Rattle.mvd_sync.specs.Steps.{asked}
+use Rattle.mvd_peer.specs.Asking.{asked}
 use Rattle.mvd_sync.specs.declared.report.Side.TheVariants.{Local as AtLocal, Peer as AtPeer}
 use Rattle.mvd_sync.specs.declared.report.SyncFault.{SyncFault}
-use Rattle.mvd_sync.specs.declared.telling.Told.{Told}
+use Rattle.mvd_peer.specs.declared.window.Told.{Told}
 use Rattle.mvd_meet.specs.Meetings.{TakesBoth, HearsIf, MeetingBegins}
 use Rattle.mvd_meet.specs.declared.caller.Caller.{Caller}
 use Rattle.mvd_meet.specs.declared.stepping.Meeting.{Meeting}

@@ -1,28 +1,26 @@
 -- A run of two live sides is a run of windows.
 use Rattle.std.proofs.Common.{◌≡◌, ◌∙◌, ℕ, List, [], ◌∷◌, ◌++◌, refl, sym, ap, subst, Option, None, Some}
-use Rattle.std.specs.Prelude.{Contains}
-use Rattle.std.proofs.lemmas.List.Elements.{Contains-append_left, Contains-append_right}
+use Rattle.std.proofs.lemmas.List.Elements.{Contains-append_left}
 use Rattle.mvd_keys.specs.State.{State}
 use Rattle.mvd_keys.specs.Writes.{Key}
 use Rattle.mvd_site.specs.Held.{AreHeld, States}
 use Rattle.mvd_peer.specs.Live.{Grows}
-use Rattle.mvd_peer.specs.PushedStates.{Each}
 use Rattle.mvd_peer.specs.Sides.{SideOf, Sides, Two, two}
 use Rattle.mvd_peer.specs.Telling.{TellsEach, TellsPush}
 use Rattle.mvd_peer.proofs.Telling.{grows_same}
 use Rattle.mvd_sync.specs.Machines.{HasNext, IsQuiet, Machining, StageWent, here, on, wanted_at}
-use Rattle.mvd_sync.specs.Ran.{IsRun, RunsTo, Running, SideTells, alone, begins, told as both_told}
-use Rattle.mvd_sync.specs.Steps.{Wanted, cut_wanted}
+use Rattle.mvd_sync.specs.Ran.{IsRun, RunsTo, Running, alone, begins, told as both_told}
+use Rattle.mvd_peer.specs.Saying.{SideTells}
+use Rattle.mvd_peer.specs.Asking.{Wanted}
+use Rattle.mvd_sync.specs.Steps.{cut_wanted}
 use Rattle.mvd_sync.specs.declared.report.Report.{Report}
 use Rattle.mvd_sync.specs.declared.report.Side.TheVariants.{Local as AtLocal, Peer as AtPeer}
-use Rattle.mvd_sync.specs.declared.stage.Stage.{Stage}
-use Rattle.mvd_sync.specs.declared.stage.Stage.TheVariants.{Done}
-use Rattle.mvd_sync.specs.declared.telling.Told.{Told}
-use Rattle.mvd_sync.specs.declared.telling.Told.TheVariants as told
+use Rattle.mvd_peer.specs.declared.window.Told.{Told}
+use Rattle.mvd_peer.specs.declared.window.Told.TheVariants as told
 use Rattle.mvd_sync.proofs.Keys.{Each-weaker}
 use Rattle.mvd_live.specs.Lives.{WasHeld}
 use Rattle.mvd_live.specs.Over.{AreAllGiven, LivesOver, most_over, standing_over}
-use Rattle.mvd_live.specs.Runs.{GoesOnAsking, Leg, RunsLegs, Standing, StartsRun, all_locals, all_peers}
+use Rattle.mvd_live.specs.Runs.{Leg, RunsLegs, Standing, StartsRun, all_locals, all_peers}
 use Rattle.mvd_live.specs.Told.{LiveTells}
 use Rattle.mvd_live.proofs.FewWhole.{asks_few}
 use Rattle.mvd_live.proofs.Runner.{run_more, run_none}

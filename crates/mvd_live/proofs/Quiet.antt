@@ -1,5 +1,5 @@
 -- A side to which nobody else writes is live, and windows follow each other.
-use Rattle.std.proofs.Common.{◌≡◌, inl, inr, ℕ, List, [], ◌∷◌, ◌++◌, map, sym, subst, arith, Option, Some, None}
+use Rattle.std.proofs.Common.{◌≡◌, inl, inr, ℕ, List, [], ◌∷◌, map, sym, subst, arith, Option, Some, None}
 use Rattle.std.specs.Prelude.{Contains, Ok, Err, Result}
 use Rattle.std.proofs.lemmas.List.Elements.{Contains-append_cases, Contains-push_cases}
 use Rattle.mvd_dots.specs.declared.refusals.Refusal.{Refusal}
@@ -11,11 +11,10 @@ use Rattle.mvd_peer.specs.PushedStates.{pushed}
 use Rattle.mvd_peer.specs.Windows.{CannotTake, EachAnswer, TakesState}
 use Rattle.mvd_peer.proofs.Growths.{has_pushed, pushed_grows}
 use Rattle.mvd_peer.proofs.JoinLaws.{valid_at}
-use Rattle.mvd_sync.specs.Steps.{Wanted}
-use Rattle.mvd_sync.specs.declared.telling.Told.{Told}
-use Rattle.mvd_sync.specs.declared.telling.Told.TheVariants as told
+use Rattle.mvd_peer.specs.Asking.{Wanted}
+use Rattle.mvd_peer.specs.declared.window.Told.{Told}
+use Rattle.mvd_peer.specs.declared.window.Told.TheVariants as told
 use Rattle.mvd_live.specs.Told.{LiveTells, TellsEach, TellsNode, TellsNothing, PageTold, TellsPush, StateTold}
-use Rattle.mvd_live.proofs.Moments.{grown_on}
 use Rattle.mvd_live.proofs.Whole.{grows_self}
 
 -- the same moment for each question

@@ -27,15 +27,16 @@ use Rattle.mvd_peer.proofs.Pushes.{state-pushed}
 use Rattle.mvd_remote.specs.Lines.{TrueReply, as_digests, as_done, as_page, as_state}
 use Rattle.mvd_remote.specs.LinkWindows.{Frames, IsToldBy, TakeTurns, ToldBy, and_frame, frames_after, frames_of}
 use Rattle.mvd_remote.specs.Links.{Link}
-use Rattle.mvd_meet.specs.Callers.{CallerTells, TellsOf, asked_in_window, asked_of_caller, came_at, link_at, requests_of}
+use Rattle.mvd_meet.specs.Callers.{CallerTells, TellsOf, asked_in_window, asked_of_caller, came_at, link_at}
+use Rattle.mvd_remote.specs.Remotes.{requests_of}
 use Rattle.mvd_meet.specs.Posts.{CallerTellsAs}
 use Rattle.mvd_meet.specs.declared.caller.Caller.{Caller}
-use Rattle.mvd_sync.specs.Steps.{asked, no_question}
-use Rattle.mvd_sync.specs.Walking.{PageQuestion}
-use Rattle.mvd_sync.specs.declared.asked.Window.{Window}
-use Rattle.mvd_sync.specs.declared.asked.Window.TheVariants as wanted
-use Rattle.mvd_sync.specs.declared.telling.Told.{Told}
-use Rattle.mvd_sync.specs.declared.telling.Told.TheVariants as told
+use Rattle.mvd_peer.specs.Asking.{asked, no_question}
+use Rattle.mvd_peer.specs.Asking.{PageQuestion}
+use Rattle.mvd_peer.specs.declared.window.Window.{Window}
+use Rattle.mvd_peer.specs.declared.window.Window.TheVariants as wanted
+use Rattle.mvd_peer.specs.declared.window.Told.{Told}
+use Rattle.mvd_peer.specs.declared.window.Told.TheVariants as told
 use Rattle.mvd_live.specs.Answers.{SiteAnswers, AnswersAmong, AreReplyFrames, HaveFrames, SiteTurn, own_replies, own_requests}
 use Rattle.mvd_live.specs.Mail.{IsAnswered, IsLiveMail}
 use Rattle.mvd_live.specs.Told.{LiveTells, TellsEach, TellsNode, PageTold, TellsPush, StateTold}

@@ -27,7 +27,7 @@ use Rattle.mvd_tree.specs.Page.{bucket_page, is_more_after_page}
 use Rattle.mvd_peer.specs.Windows.{CannotTake, IsNode}
 use Rattle.mvd_peer.proofs.SiteSides.{node_bucket, node_inner, node_own, push_cause}
 use Rattle.mvd_sync.specs.Tellings.{Page}
-use Rattle.mvd_sync.specs.Walking.{PageQuestion}
+use Rattle.mvd_peer.specs.Asking.{PageQuestion}
 use Rattle.mvd_live.specs.Told.{TellsNode, PageTold, TellsPush, StateTold}
 use Rattle.mvd_world.specs.declared.steps.Step.{Step}
 use Rattle.mvd_world.specs.declared.steps.Step.TheVariants.{Ask, Receive, Send}

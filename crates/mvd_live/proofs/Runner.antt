@@ -5,9 +5,9 @@ use Rattle.mvd_peer.specs.Live.{Grows}
 use Rattle.mvd_peer.specs.Sides.{Two}
 use Rattle.mvd_sync.specs.Machines.{HasNext, Machining}
 use Rattle.mvd_sync.specs.declared.asked.Step.{Step}
-use Rattle.mvd_sync.specs.Steps.{Wanted}
-use Rattle.mvd_sync.specs.declared.telling.Told.{Told}
-use Rattle.mvd_sync.specs.declared.telling.Told.TheVariants as told
+use Rattle.mvd_peer.specs.Asking.{Wanted}
+use Rattle.mvd_peer.specs.declared.window.Told.{Told}
+use Rattle.mvd_peer.specs.declared.window.Told.TheVariants as told
 use Rattle.mvd_live.specs.Runs.{GoesOnAsking, TakesLeg, IsLater, Leg, RunsLegs, Standing, both_asked}
 use Rattle.mvd_live.specs.Told.{LiveTells, TellsNode, TellsNothing, PageTold, TellsPush, StateTold}
 use Rattle.mvd_live.proofs.Moments.{grown_on}

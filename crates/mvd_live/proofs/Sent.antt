@@ -7,15 +7,16 @@ use Rattle.mvd_wire.specs.declared.request.Request.{Request}
 use Rattle.mvd_wire.specs.declared.request.Request.TheVariants.{Bucket, Get, Node, Push}
 use Rattle.mvd_wire.specs.Requests.{request_frame}
 use Rattle.mvd_remote.specs.LinkWindows.{Frames, and_frame, frames_after}
-use Rattle.mvd_meet.specs.Callers.{CallerTells, asked_in_window, asked_of_caller, questions_at, requests_of}
+use Rattle.mvd_meet.specs.Callers.{CallerTells, asked_in_window, asked_of_caller, questions_at}
+use Rattle.mvd_remote.specs.Remotes.{requests_of}
 use Rattle.mvd_meet.specs.Meetings.{AsksIf}
 use Rattle.mvd_meet.specs.declared.asked.Asked.{Asked}
 use Rattle.mvd_meet.specs.declared.caller.Caller.{Caller}
-use Rattle.mvd_sync.specs.Steps.{asked}
+use Rattle.mvd_peer.specs.Asking.{asked}
 use Rattle.mvd_sync.specs.declared.asked.Step.{Step}
-use Rattle.mvd_sync.specs.declared.asked.Window.{Window}
-use Rattle.mvd_sync.specs.declared.asked.Window.TheVariants as wanted
-use Rattle.mvd_sync.specs.declared.telling.Told.{Told}
+use Rattle.mvd_peer.specs.declared.window.Window.{Window}
+use Rattle.mvd_peer.specs.declared.window.Window.TheVariants as wanted
+use Rattle.mvd_peer.specs.declared.window.Told.{Told}
 use Rattle.mvd_peer.specs.Sides.{Two}
 use Rattle.mvd_live.specs.Few.{CountsSent, questions_in, sent_local, sent_peer}
 use Rattle.mvd_live.specs.Mail.{KeepsCounts, Mail, MailSteps, Sits, Waiting, mail_at}

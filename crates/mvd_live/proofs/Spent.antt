@@ -12,8 +12,9 @@ use Rattle.mvd_sync.specs.Machines.{CarriedOn, GoesAlone, HasNext, HearsAt, Mach
 use Rattle.mvd_sync.specs.Meetings.{held_keys}
 use Rattle.mvd_sync.specs.OneTurn.{untold}
 use Rattle.mvd_sync.specs.Questions.{TakesBudget}
-use Rattle.mvd_sync.specs.Steps.{asked, cut_wanted}
-use Rattle.mvd_sync.specs.Walking.{PageQuestion, Walking, pages_of}
+use Rattle.mvd_sync.specs.Steps.{cut_wanted}
+use Rattle.mvd_peer.specs.Asking.{PageQuestion}
+use Rattle.mvd_sync.specs.Walking.{Walking, pages_of}
 use Rattle.mvd_sync.specs.declared.asked.Step.{Step}
 use Rattle.mvd_sync.specs.declared.cursor.Entry.{Entry}
 use Rattle.mvd_sync.specs.declared.meetings.Meeting.{Meeting}
@@ -24,7 +25,7 @@ use Rattle.mvd_sync.specs.declared.stage.Stage.TheVariants.{Descends, Walks, Mee
 use Rattle.mvd_sync.specs.declared.telling.Answers.{Answers}
 use Rattle.mvd_sync.specs.declared.telling.Share.{Share}
 use Rattle.mvd_sync.specs.declared.telling.Shares.{Shares}
-use Rattle.mvd_sync.specs.declared.telling.Told.{Told}
+use Rattle.mvd_peer.specs.declared.window.Told.{Told}
 use Rattle.mvd_sync.specs.declared.turn.Turn.{Turn}
 use Rattle.mvd_live.specs.Few.{asked_local, asked_peer, questions_in}
 use Rattle.mvd_live.specs.Runs.{StartsRun, Leg, RunsLegs, Standing}

@@ -18,7 +18,8 @@ use Rattle.mvd_sync.specs.Made.{PassesFault}
 use Rattle.mvd_sync.specs.Meetings.{ArePlans, held_keys}
 use Rattle.mvd_sync.specs.OneTurn.{untold}
 use Rattle.mvd_sync.specs.Questions.{TakesBudget}
-use Rattle.mvd_sync.specs.Steps.{Wanted, cut_wanted}
+use Rattle.mvd_peer.specs.Asking.{Wanted}
+use Rattle.mvd_sync.specs.Steps.{cut_wanted}
 use Rattle.mvd_sync.specs.Tellings.{AllRead, IsListingOf, IsNodeOf, IsStateOf, nodes_told, pages_told, pushes_told, states_told}
 use Rattle.mvd_sync.specs.Walking.{IsTold, Walking, pages_of}
 use Rattle.mvd_sync.specs.declared.asking.Node.{Node}
@@ -32,7 +33,7 @@ use Rattle.mvd_sync.specs.declared.stage.Stage.TheVariants.{Descends, Walks, Mee
 use Rattle.mvd_sync.specs.declared.telling.Answers.{Answers}
 use Rattle.mvd_sync.specs.declared.telling.Share.{Share}
 use Rattle.mvd_sync.specs.declared.telling.Shares.{Shares}
-use Rattle.mvd_sync.specs.declared.telling.Told.{Told}
+use Rattle.mvd_peer.specs.declared.window.Told.{Told}
 use Rattle.mvd_sync.specs.declared.turn.Turn.{Turn}
 use Rattle.mvd_sync.proofs.CutWindows.{held_split}
 use Rattle.mvd_sync.proofs.Stages.{each_may}

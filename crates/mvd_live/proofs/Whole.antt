@@ -14,7 +14,7 @@ use Rattle.mvd_sync.proofs.Exchanges.{Counts}
 use Rattle.mvd_sync.specs.Exchanges.{Done as DoneKey, Exchanging, left_keys}
 use Rattle.mvd_sync.specs.Machines.{HasNext, HearsAt, Machining, StageAsks, StageHears, TakesShares, hears, is_same, quiet, stage_after, stage_told, wanted_at}
 use Rattle.mvd_sync.specs.OneTurn.{untold}
-use Rattle.mvd_sync.specs.Steps.{Wanted}
+use Rattle.mvd_peer.specs.Asking.{Wanted}
 use Rattle.mvd_sync.specs.declared.asked.Step.{Step}
 use Rattle.mvd_sync.specs.declared.asking.Questions.{Questions}
 use Rattle.mvd_sync.specs.declared.report.Side.{Side}

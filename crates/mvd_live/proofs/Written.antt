@@ -12,9 +12,9 @@ use Rattle.mvd_peer.specs.Live.{Grows}
 use Rattle.mvd_peer.specs.Sides.{Two}
 use Rattle.mvd_peer.proofs.JoinLaws.{valid_at}
 use Rattle.mvd_sync.specs.Session.{HasAllThatDiffer, is_member}
-use Rattle.mvd_sync.specs.Steps.{Wanted, asked}
-use Rattle.mvd_sync.specs.declared.telling.Told.{Told}
-use Rattle.mvd_sync.specs.declared.telling.Told.TheVariants as told
+use Rattle.mvd_peer.specs.Asking.{Wanted}
+use Rattle.mvd_peer.specs.declared.window.Told.{Told}
+use Rattle.mvd_peer.specs.declared.window.Told.TheVariants as told
 use Rattle.mvd_live.specs.Few.{HasAllThatDiffered}
 use Rattle.mvd_live.specs.Runs.{Leg, RunsLegs, Standing, all_locals, all_peers}
 use Rattle.mvd_live.specs.Told.{LiveTells, TellsEach, TellsNode, TellsNothing, PageTold, TellsPush, StateTold}

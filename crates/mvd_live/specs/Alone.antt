@@ -10,10 +10,10 @@ use Rattle.mvd_peer.specs.Sides.{Two}
 use Rattle.mvd_peer.specs.Windows.{TakesState}
 use Rattle.mvd_sync.specs.Exchanges.{Exchanging}
 use Rattle.mvd_sync.specs.Session.{IsIn}
-use Rattle.mvd_sync.specs.Steps.{Wanted, asked}
+use Rattle.mvd_peer.specs.Asking.{Wanted}
 use Rattle.mvd_sync.specs.declared.report.Left.{Left}
-use Rattle.mvd_sync.specs.declared.telling.Told.{Told}
-use Rattle.mvd_sync.specs.declared.telling.Told.TheVariants as told
+use Rattle.mvd_peer.specs.declared.window.Told.{Told}
+use Rattle.mvd_peer.specs.declared.window.Told.TheVariants as told
 use Rattle.mvd_live.specs.Lives.{IsLeftFor, TellApart}
 use Rattle.mvd_live.specs.Runs.{Leg, Standing}
 

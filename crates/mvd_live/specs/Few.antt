@@ -8,10 +8,10 @@ use Rattle.mvd_peer.specs.Sides.{Two}
 use Rattle.mvd_sync.specs.Fronts.{StateAnswer}
 use Rattle.mvd_sync.specs.Machines.{Machining, wanted_count}
 use Rattle.mvd_sync.specs.Session.{AreFew, HasAllThatDiffer, IsLittle}
-use Rattle.mvd_sync.specs.Steps.{Wanted, asked}
+use Rattle.mvd_peer.specs.Asking.{Wanted, asked}
 use Rattle.mvd_sync.specs.Tellings.{states_told}
 use Rattle.mvd_sync.specs.declared.report.Side.TheVariants.{Local as AtLocal, Peer as AtPeer}
-use Rattle.mvd_sync.specs.declared.telling.Told.{Told}
+use Rattle.mvd_peer.specs.declared.window.Told.{Told}
 use Rattle.mvd_meet.specs.Callers.{questions_at}
 use Rattle.mvd_live.specs.Mail.{Mail, Waiting, mail_at, waits_at}
 use Rattle.mvd_live.specs.Runs.{Leg, Standing}

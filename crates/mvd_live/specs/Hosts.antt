@@ -7,8 +7,8 @@ use Rattle.mvd_wire.specs.declared.request.Request.{Request}
 use Rattle.mvd_site.specs.Config.{ConfigValue}
 use Rattle.mvd_site.specs.Held.{AreHeld, States}
 use Rattle.mvd_peer.specs.Live.{Grows}
-use Rattle.mvd_sync.specs.declared.asked.Window.{Window}
-use Rattle.mvd_meet.specs.Callers.{requests_of}
+use Rattle.mvd_peer.specs.declared.window.Window.{Window}
+use Rattle.mvd_remote.specs.Remotes.{requests_of}
 use Rattle.mvd_replica.specs.Turns.{Turn}
 use Rattle.mvd_live.specs.Answers.{AnswersAmong, AreReplyFrames, SiteTurn}
 

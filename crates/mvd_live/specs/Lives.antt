@@ -12,7 +12,7 @@ use Rattle.mvd_peer.specs.Sides.{Two, is_of_key}
 use Rattle.mvd_peer.specs.Windows.{CannotTake}
 use Rattle.mvd_sync.specs.Exchanges.{Exchanging}
 use Rattle.mvd_sync.specs.Session.{IsIn}
-use Rattle.mvd_sync.specs.Steps.{asked}
+use Rattle.mvd_peer.specs.Asking.{asked}
 use Rattle.mvd_sync.specs.declared.asked.Step.{Step}
 use Rattle.mvd_sync.specs.declared.report.Left.{Left}
 use Rattle.mvd_sync.specs.declared.report.Side.TheVariants.{Local as AtLocal, Peer as AtPeer}

@@ -3,11 +3,11 @@ use Rattle.std.specs.Prelude.{◌≡◌, ℕ, true, false, List, [], ◌∷◌, 
 use Rattle.mvd_site.specs.Held.{AreHeld, States}
 use Rattle.mvd_peer.specs.Sides.{Two}
 use Rattle.mvd_sync.specs.Machines.{HasNext, Starts}
-use Rattle.mvd_sync.specs.Steps.{Wanted, asked}
+use Rattle.mvd_peer.specs.Asking.{Wanted, asked}
 use Rattle.mvd_sync.specs.declared.asked.Step.{Step}
 use Rattle.mvd_sync.specs.declared.report.SyncFault.{SyncFault}
-use Rattle.mvd_sync.specs.declared.telling.Told.{Told}
-use Rattle.mvd_sync.specs.declared.telling.Told.TheVariants as told
+use Rattle.mvd_peer.specs.declared.window.Told.{Told}
+use Rattle.mvd_peer.specs.declared.window.Told.TheVariants as told
 use Rattle.mvd_meet.specs.Callers.{CallerTells, asked_of_caller, questions_at}
 use Rattle.mvd_meet.specs.Meetings.{AsksUntil, MeetingHears, MeetingSteps}
 use Rattle.mvd_meet.specs.declared.caller.Caller.{Caller}

@@ -4,10 +4,11 @@ use Rattle.mvd_site.specs.Held.{AreHeld, States}
 use Rattle.mvd_peer.specs.Live.{Grows}
 use Rattle.mvd_peer.specs.Sides.{Two, two}
 use Rattle.mvd_sync.specs.Machines.{Machining, StageAsks, StageWent, Starts, TakesTold, wanted_at}
-use Rattle.mvd_sync.specs.Steps.{Wanted, asked, cut_wanted}
+use Rattle.mvd_peer.specs.Asking.{Wanted, asked}
+use Rattle.mvd_sync.specs.Steps.{cut_wanted}
 use Rattle.mvd_sync.specs.declared.asked.Step.{Step}
 use Rattle.mvd_sync.specs.declared.report.Side.TheVariants.{Local as AtLocal, Peer as AtPeer}
-use Rattle.mvd_sync.specs.declared.telling.Told.{Told}
+use Rattle.mvd_peer.specs.declared.window.Told.{Told}
 use Rattle.mvd_live.specs.Told.{LiveTells}
 
 -- how far a session is, and what its two sides hold

@@ -3,9 +3,9 @@ use Rattle.std.specs.Prelude.{◌≡◌, ℕ, List, [], Contains, Option, Some, 
 use Rattle.mvd_site.specs.Held.{States}
 use Rattle.mvd_peer.specs.Live.{Grows}
 pub use Rattle.mvd_peer.specs.Telling.{PageTold, StateTold, TellsEach, TellsNode, TellsPush}
-use Rattle.mvd_sync.specs.Steps.{Wanted}
-use Rattle.mvd_sync.specs.declared.telling.Told.{Told}
-use Rattle.mvd_sync.specs.declared.telling.Told.TheVariants as told
+use Rattle.mvd_peer.specs.Asking.{Wanted}
+use Rattle.mvd_peer.specs.declared.window.Told.{Told}
+use Rattle.mvd_peer.specs.declared.window.Told.TheVariants as told
 
 -- ---- a window
 

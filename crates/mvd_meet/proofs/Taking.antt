@@ -23,7 +23,7 @@ use Rattle.mvd_meet.specs.Turns.{EndsWith}
 use Rattle.mvd_meet.specs.declared.asked.Asked.{Asked}
 use Rattle.mvd_meet.specs.declared.asked.Sort.{Sort}
 use Rattle.mvd_meet.specs.declared.asked.Sort.TheVariants as sort
-use Rattle.mvd_sync.specs.declared.telling.Told.TheVariants as told
+use Rattle.mvd_peer.specs.declared.window.Told.TheVariants as told
 
 pub no_some : (r : Option Refusal) → ((x : Refusal) → r ≡ Some x → ⊥) → r ≡ None
 no_some None never = refl

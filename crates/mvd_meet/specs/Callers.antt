@@ -1,21 +1,21 @@
 -- A side that is asked by mail.
 use Rattle.std.specs.Prelude.{◌≡◌, ◌++◌, ◌+◌, ◌-◌, ◌^◌, ◌||◌, ℕ, Bool, List, [], ◌∷◌, Option, Some, None}
-use Rattle.std.specs.Prelude.{IsSomeAnd, Result, Err, length, map, min}
+use Rattle.std.specs.Prelude.{IsSomeAnd, Result, Err, length, min}
 use Rattle.mvd_dots.specs.declared.refusals.Refusal.{Refusal}
 use Rattle.mvd_dots.specs.declared.refusals.Refusal.TheVariants.{BadBody}
 use Rattle.mvd_wire.specs.declared.request.Request.{Request}
-use Rattle.mvd_wire.specs.declared.request.Request.TheVariants.{Get, Node, Bucket, Push}
 use Rattle.mvd_remote.specs.LinkWindows.{frames_of}
 use Rattle.mvd_remote.specs.Links.{Link}
+use Rattle.mvd_remote.specs.Remotes.{requests_of}
 use Rattle.mvd_meet.specs.Posts.{CannotSend, TellsBy, has_come, link_by}
 use Rattle.mvd_meet.specs.declared.asked.Asked.{Asked}
 use Rattle.mvd_meet.specs.declared.asked.Sort.{Sort}
 use Rattle.mvd_meet.specs.declared.asked.Sort.TheVariants as sort
 use Rattle.mvd_meet.specs.declared.caller.Caller.{Caller}
-use Rattle.mvd_sync.specs.declared.asked.Window.{Window}
-use Rattle.mvd_sync.specs.declared.asked.Window.TheVariants as wanted
-use Rattle.mvd_sync.specs.declared.telling.Told.{Told}
-use Rattle.mvd_sync.specs.declared.telling.Told.TheVariants as told
+use Rattle.mvd_peer.specs.declared.window.Window.{Window}
+use Rattle.mvd_peer.specs.declared.window.Window.TheVariants as wanted
+use Rattle.mvd_peer.specs.declared.window.Told.{Told}
+use Rattle.mvd_peer.specs.declared.window.Told.TheVariants as told
 
 -- the bytes that are to leave to it, and those that came of it and were not told
 abbrev pub leaving_at : Caller → List ℕ
@@ -41,12 +41,6 @@ abbrev pub has_all : Caller → Bool
 has_all caller = caller.ended || has_come caller.post
 
 -- ---- what is asked
-
-abbrev pub requests_of : Window → List Request
-requests_of (wanted.Nodes paths) = map (λ path. Node path) paths.items
-requests_of (wanted.Pages asked) = map (λ q. Bucket q.0 q.1) asked.items
-requests_of (wanted.Gets keys) = map (λ key. Get key) keys.items
-requests_of (wanted.Pushes pairs) = map (λ pair. Push pair.0 pair.1) pairs.items
 
 abbrev pub sort_of : Window → Sort
 sort_of (wanted.Nodes paths) = sort.Nodes

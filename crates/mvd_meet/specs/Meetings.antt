@@ -9,12 +9,12 @@ use Rattle.mvd_meet.specs.declared.stepping.Meeting.{Meeting}
 use Rattle.mvd_sync.specs.Exchanges.{Exchanging}
 use Rattle.mvd_sync.specs.Machines.{HasNext, Starts, TakesTold}
 use Rattle.mvd_sync.specs.declared.asked.Step.{Step}
-use Rattle.mvd_sync.specs.declared.asked.Window.{Window}
+use Rattle.mvd_peer.specs.declared.window.Window.{Window}
 use Rattle.mvd_sync.specs.declared.report.Report.{Report}
 use Rattle.mvd_sync.specs.declared.report.SyncFault.{SyncFault}
 use Rattle.mvd_sync.specs.declared.report.SyncFault.TheVariants.{Local, Peer}
 use Rattle.mvd_sync.specs.declared.stage.Stage.TheVariants.{Failed}
-use Rattle.mvd_sync.specs.declared.telling.Told.{Told}
+use Rattle.mvd_peer.specs.declared.window.Told.{Told}
 
 -- a session of a site of this number, in which nothing was asked
 pub record OpensMeeting (number questions : ℕ) (meeting : Meeting) : Type 0 where

@@ -13,8 +13,8 @@ use Rattle.mvd_remote.specs.Lines.{as_digests, as_done, as_page, as_state}
 use Rattle.mvd_meet.specs.declared.asked.Asked.{Asked}
 use Rattle.mvd_meet.specs.declared.asked.Sort.{Sort}
 use Rattle.mvd_meet.specs.declared.asked.Sort.TheVariants as sort
-use Rattle.mvd_sync.specs.declared.telling.Told.{Told}
-use Rattle.mvd_sync.specs.declared.telling.Told.TheVariants as told
+use Rattle.mvd_peer.specs.declared.window.Told.{Told}
+use Rattle.mvd_peer.specs.declared.window.Told.TheVariants as told
 
 pub record PostValue : Type 0 where
   -- the bytes that are to leave

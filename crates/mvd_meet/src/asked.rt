@@ -1,5 +1,5 @@
 //! What is asked by mail.
-use mvd_remote::Window as Frames;
+use mvd_remote::Frames;
 
 /// What a window asks for.
 #[derive(Clone, Copy)]

@@ -4,15 +4,15 @@ ghost use Rattle.std.specs.Prelude.{true};
 ghost use Rattle.mvd_dots.specs.declared.refusals.Refusal.TheVariants.{BadBody, Memory};
 ghost use Rattle.mvd_meet.specs.Callers.{CallerAsks, CallerHears, CallerSays, CallerTells, CannotAsk, SendsTo};
 ghost use Rattle.mvd_meet.specs.Callers.{asked_in_window, asked_of_caller, came_at, has_all, has_ended};
-ghost use Rattle.mvd_meet.specs.Callers.{leaving_at, only_of, questions_at};
+ghost use Rattle.mvd_meet.specs.Callers.{leaving_at, only_of, questions_at, sort_of};
 ghost use Rattle.mvd_meet.specs.Posts.{TookAll, asks_pushes};
 ghost use Rattle.mvd_wire.specs.declared.request.Request.TheVariants.{Bye, Hello};
 
 use crate::asked::{Asked, Sort};
 use crate::post::Post;
 use mvd_dots::Refusal;
-use mvd_remote::Window as Frames;
-use mvd_sync::{Told, Window};
+use mvd_peer::{Told, Window};
+use mvd_remote::Frames;
 use mvd_wire::Token;
 use std::alloc::Global;
 
@@ -207,11 +207,19 @@ fn asked_by(alloc: Global, window: &Window) -> Result<Asked, Refusal>
     ensures frames { IfOk result (λ asked. asked ≡ asked_in_window window.now) }
     ensures memory { IfErr result (λ refusal. refusal ≡ Memory) }
 {
-    let (sort, frames) = match window {
-        Window::Nodes(paths) => (Sort::Nodes, Frames::nodes(alloc, paths)?),
-        Window::Pages(asked) => (Sort::Pages, Frames::pages(alloc, asked)?),
-        Window::Gets(keys) => (Sort::States, Frames::gets(alloc, keys)?),
-        Window::Pushes(pairs) => (Sort::Pushes, Frames::pushes(alloc, pairs)?),
-    };
+    let frames = Frames::of(alloc, window)?;
+    let sort = sort_of(window);
     Ok(Asked { sort, frames })
+}
+
+/// What a window asks for.
+fn sort_of(window: &Window) -> Sort
+    ensures { result ≡ sort_of window.now }
+{
+    match window {
+        Window::Nodes(_) => Sort::Nodes,
+        Window::Pages(_) => Sort::Pages,
+        Window::Gets(_) => Sort::States,
+        Window::Pushes(_) => Sort::Pushes,
+    }
 }

@@ -10,8 +10,8 @@ use crate::asked::Sort;
 use mvd_conn::{Front, front_of};
 use mvd_dots::Refusal;
 use mvd_frames::decode_reply;
+use mvd_peer::Told;
 use mvd_remote::collect;
-use mvd_sync::Told;
 use mvd_wire::Reply;
 use std::alloc::Global;
 

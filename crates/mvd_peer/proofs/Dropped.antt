@@ -1,16 +1,16 @@
 -- The states that a side holds at once.
 use Rattle.std.proofs.Common.{◌≡◌, inl, inr, ℕ, ◌+◌, ◌-◌, ◌^◌, ◌<◌, List, [], ◌∷◌, ◌++◌, length, refl, sym, ap, subst, ◌∙◌, arith}
-use Rattle.std.specs.Prelude.{Result, Ok, Err, IfErr, IfOk, OnOk, min}
+use Rattle.std.specs.Prelude.{Result, Ok, Err, IfOk, false, min}
 use Rattle.std.proofs.Math.Nat.{min-eq_left, min-eq_right}
 use Rattle.std.proofs.lemmas.Bool.{cases_lt}
 use Rattle.mvd_dots.specs.declared.refusals.Refusal.{Refusal}
-use Rattle.mvd_dots.specs.declared.refusals.Refusal.TheVariants.{Memory}
+use Rattle.mvd_dots.specs.declared.refusals.Refusal.TheVariants.{Broken, Memory}
 use Rattle.mvd_keys.specs.State.{State}
 use Rattle.mvd_keys.specs.Writes.{Key}
 use Rattle.mvd_wire.specs.Codecs.{spell_state}
-use Rattle.mvd_site.specs.Held.{States}
-use Rattle.mvd_peer.specs.Sides.{IsOfNoQuestion}
-use Rattle.mvd_peer.specs.Telling.{StateTold, TellsEach, TellsOne}
+use Rattle.mvd_site.specs.FromStates.{unless_broken}
+use Rattle.mvd_site.specs.Sites.{SiteValue}
+use Rattle.mvd_peer.specs.SiteTells.{TellsState}
 use Rattle.mvd_peer.specs.Windows.{AreWithin, GivesWithin, HoldsState, dropped, held, refused}
 
 abbrev most : ℕ
@@ -18,48 +18,18 @@ most = 2 ^ 64 - 1
 
 -- ---- an answer that is held or dropped
 
--- what is so of the answer is so of what is held of it
-pub held_ok : (P : State → Type 0) (old new : ℕ) (answer result : Result State Refusal) → HoldsState old new answer result → IfOk answer P → IfOk result P
-held_ok P old new answer result (held s is told low more) h = subst (λ r. IfOk r P) (sym told) (subst (λ a. IfOk a P) is h)
-held_ok P old new answer result (dropped s is much told same) h = subst (λ r. IfOk r P) (sym told) tt
-held_ok P old new answer result (refused e is told same) h = subst (λ r. IfOk r P) (sym told) tt
-
-pub held_on : (P : Type 0) (old new : ℕ) (answer result : Result State Refusal) → HoldsState old new answer result → OnOk answer P → OnOk result P
-held_on P old new answer result (held s is told low more) h = subst (λ r. OnOk r P) (sym told) (subst (λ a. OnOk a P) is h)
-held_on P old new answer result (dropped s is much told same) h = subst (λ r. OnOk r P) (sym told) tt
-held_on P old new answer result (refused e is told same) h = subst (λ r. OnOk r P) (sym told) tt
-
--- and a refusal is its own, or for want of memory after an answer
-pub held_err : (Q : Refusal → Type 0) (old new : ℕ) (answer result : Result State Refusal) → HoldsState old new answer result → IfErr answer Q → OnOk answer (Q Memory) → IfErr result Q
-held_err Q old new answer result (held s is told low more) h lack = subst (λ r. IfErr r Q) (sym told) tt
-held_err Q old new answer result (dropped s is much told same) h lack = subst (λ r. IfErr r Q) (sym told) (subst (λ a. OnOk a (Q Memory)) is lack)
-held_err Q old new answer result (refused e is told same) h lack = subst (λ r. IfErr r Q) (sym told) (subst (λ a. IfErr a Q) is h)
-
-pub ok_then : {A P Q : Type 0} (answer : Result A Refusal) → OnOk answer P → (P → Q) → OnOk answer Q
-ok_then (Ok x) h f = f h
-ok_then (Err e) h f = tt
-
-pub always_memory : {A : Type 0} (answer : Result A Refusal) → OnOk answer (IsOfNoQuestion Memory)
-always_memory (Ok x) = refl
-always_memory (Err e) = tt
+-- of a site that is asked, its state or a refusal
+pub held_told : (site : SiteValue) (key : Key) (old new : ℕ) (answer result : Result State Refusal) → HoldsState old new answer result → TellsState site key answer → TellsState site key result
+held_told site key old new answer result (held s is told low more) h = subst (TellsState site key) (is ∙ sym told) h
+held_told site key old new answer result (refused e is told same) h = subst (TellsState site key) (is ∙ sym told) h
+held_told site key old new answer result (dropped s is much told same) h =
+    let whole : site.broken ≡ false = subst (λ a. IfOk a (λ _. site.broken ≡ false)) is h.whole in
+    subst (TellsState site key) (sym told) (record { whole = tt; state = tt; refused = sym (ap (λ b. unless_broken b Broken Memory) whole) })
 
 pub held_within : (old new : ℕ) (answer result : Result State Refusal) → HoldsState old new answer result → GivesWithin old new result
 held_within old new answer result (held s is told low more) = subst (GivesWithin old new) (sym told) (low, more)
 held_within old new answer result (dropped s is much told same) = subst (GivesWithin old new) (sym told) same
 held_within old new answer result (refused e is told same) = subst (GivesWithin old new) (sym told) same
-
--- at a live side
-lacks_live : (key : Key) (s : State) (old new : States) (moments : List States) → TellsEach StateTold (key ∷ []) (Ok s ∷ []) old moments new → TellsEach StateTold (key ∷ []) (Err Memory ∷ []) old moments new
-lacks_live key s old new [] h = absurd h
-lacks_live key s old new (now ∷ later) h = (h.0, h.1, tt, h.3)
-
-module _ {S : Type 0} (is_live : S → Type 0) (states : S → States) where
-  pub held_live : (key : Key) (old new : S) (before after : ℕ) (answer result : Result State Refusal) → HoldsState before after answer result → TellsOne is_live states StateTold key answer old new → TellsOne is_live states StateTold key result old new
-  held_live key old new before after answer result (held s is told low more) h = subst (λ r. TellsOne is_live states StateTold key r old new) (is ∙ sym told) h
-  held_live key old new before after answer result (refused e is told same) h = subst (λ r. TellsOne is_live states StateTold key r old new) (is ∙ sym told) h
-  held_live key old new before after answer result (dropped s is much told same) h =
-      subst (λ r. TellsOne is_live states StateTold key r old new) (sym told)
-      (λ _ live. let g = subst (λ a. TellsOne is_live states StateTold key a old new) is h (λ e. absurd (cc)) live in (g.0, g.1, lacks_live key s (states old) (states new) g.1 g.2))
 
 sat : (a n : ℕ) → min (a + min n most) most ≡ min (a + n) most
 sat a n = elim (cases_lt n most) [

@@ -1,8 +1,10 @@
 pub mod JoinLaws
 pub mod Pushes
+pub mod Refusing
 pub mod Dropped
 pub mod OneByOne
 pub mod SiteSides
 pub mod ManyPushes
 pub mod Growths
 pub mod Telling
+pub mod SideReads

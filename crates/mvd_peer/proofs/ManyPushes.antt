@@ -1,5 +1,5 @@
 -- Pushes one after the other.
-use Rattle.std.proofs.Common.{◌≡◌, ◌≢◌, inl, inr, ℕ, ◌+◌, ◌<◌, false, true, refl, List, [], ◌∷◌, ◌++◌, length, take, get_or, sym, ap, subst, ◌∙◌}
+use Rattle.std.proofs.Common.{◌≡◌, ◌≢◌, ℕ, ◌+◌, ◌<◌, false, true, refl, List, [], ◌∷◌, ◌++◌, length, take, get_or, sym, ap, subst, ◌∙◌}
 use Rattle.std.specs.Prelude.{Result, Ok, Err, IfErr, OnOk}
 use Rattle.std.proofs.Math.Seq.{take-append-add}
 use Rattle.std.proofs.lemmas.List.{take_more}
@@ -10,7 +10,7 @@ use Rattle.mvd_keys.specs.Writes.{Key}
 use Rattle.mvd_site.specs.Held.{States, state_at}
 use Rattle.mvd_peer.specs.PushedStates.{pushed}
 use Rattle.mvd_peer.specs.Sides.{is_of_key, is_of_question}
-use Rattle.mvd_peer.specs.Windows.{CannotTake, EachTold, LeavesOfPush, Pushes, PushesFirst, leaves_open}
+use Rattle.mvd_peer.specs.Windows.{CannotTake, EachTold, Pushes, PushesFirst, leaves_open}
 
 abbrev Told : Type 0
 Told = Result (Unit {0}) Refusal
@@ -73,18 +73,3 @@ open_not_of_key refusal e = refl
 -- any other is not that the side is broken, and nothing was changed
 pub not_broken : {A : Type 0} (a : Result A Refusal) → IfErr a (λ refusal. leaves_open refusal ≡ false) → a ≡ Err Broken → ⊥
 not_broken a h e = let never : true ≡ false = subst (λ a. IfErr a (λ refusal. leaves_open refusal ≡ false)) e h in absurd (cc)
-
-pub left_same : (old new : States) (key : Key) (s : State) (a : Told) → IfErr a (LeavesOfPush old key s new) → IfErr a (λ refusal. leaves_open refusal ≡ false) → IfErr a (λ _. new ≡ old)
-left_same old new key s (Ok done) h e = tt
-left_same old new key s (Err refusal) (inl same) e = same
-left_same old new key s (Err refusal) (inr taken) e = let never : true ≡ false = sym taken.0 ∙ e in absurd (cc)
-
-pub leaves_same : (old new : States) (key : Key) (s : State) (a : Told) → IfErr a (λ _. new ≡ old) → IfErr a (LeavesOfPush old key s new)
-leaves_same old new key s (Ok done) same = tt
-leaves_same old new key s (Err refusal) same = inl same
-
--- pushes that came to an end at one that was refused, taken or not
-pub open_first : (still : Type 0) (most most' : ℕ) (old mid new : States) (all : List (Key × State)) (i : ℕ) (p : Key × State) (ts : List Told) (refusal : Refusal) → i < length all → p ≡ get_or all i p → most' ≡ most → Pushes most old (take i all) ts mid → LeavesOfPush mid p.0 p.1 new refusal → PushesFirst still most old all new
-open_first still most most' old mid new all i p ts refusal low at same before (inl kept) = (i, ts, mid, before, λ _. kept)
-open_first still most most' old mid new all i p ts refusal low at same before (inr taken) =
-    (i + 1, ts ++ Ok tt ∷ [], new, pushes_more most most' old mid new all i p ts (ts ++ Ok tt ∷ []) (Ok tt) low at refl same before taken.1.1 taken.1.0 tt tt, λ _. refl)

@@ -3,7 +3,7 @@ use Rattle.std.proofs.Common.{◌≡◌, ◌⊎◌, inl, inr, ℕ, ◌+◌, ◌<
 use Rattle.std.specs.Prelude.{Result, Ok, Err, IfErr, IfOk, OnErr, OnOk, IsErr}
 use Rattle.std.specs.Result.{IsErrAnd}
 use Rattle.std.proofs.lemmas.Result.{err_from_is_err_and}
-use Rattle.std.proofs.lemmas.List.{length-take-le, take_more}
+use Rattle.std.proofs.lemmas.List.{length-take-le, take_all, take_more}
 use Rattle.mvd_dots.specs.declared.refusals.Refusal.{Refusal}
 use Rattle.mvd_dots.specs.declared.refusals.Refusal.TheVariants.{Memory}
 use Rattle.mvd_peer.specs.Sides.{HasAnswered, HasRefused, Reaches}
@@ -19,6 +19,16 @@ for_each_more P [] [] q a h i = (i, tt)
 for_each_more P [] (t ∷ ts) q a h i = absurd h
 for_each_more P (p ∷ qs) [] q a h i = absurd h
 for_each_more P (p ∷ qs) (t ∷ ts) q a h i = (h.0, for_each_more P qs ts q a h.1 i)
+
+-- in turn
+pub for_each_at : {Q A : Type 0} (P : Q → A → Type 0) (all : List Q) (i : ℕ) (q : Q) (ts us : List A) (a : A) → i < length all → q ≡ get_or all i q → us ≡ ts ++ a ∷ [] → ForEach P (take i all) ts → P q a → ForEach P (take (i + 1) all) us
+for_each_at P all i q ts us a low at pushed before is =
+    let more : take (i + 1) all ≡ take i all ++ q ∷ [] = take_more all i q low ∙ ap (λ x. take i all ++ x ∷ []) (sym at) in
+    subst (λ qs. ForEach P qs us) (sym more) (subst (ForEach P (take i all ++ q ∷ [])) (sym pushed) (for_each_more P (take i all) ts q a before is))
+
+-- to the end
+pub for_each_all : {Q A : Type 0} (P : Q → A → Type 0) (all : List Q) (i : ℕ) (ts : List A) → length all ≤ i → ForEach P (take i all) ts → ForEach P all ts
+for_each_all P all i ts end = subst (λ qs. ForEach P qs ts) (take_all i all end)
 
 pub each_more : {Q A : Type 0} (P : Q → A → Type 0) (qs : List Q) (ts : List (Result A Refusal)) (q : Q) (a : Result A Refusal) → EachAnswer P qs ts → EachAnswer P (q ∷ []) (a ∷ []) → EachAnswer P (qs ++ q ∷ []) (ts ++ a ∷ [])
 each_more P [] [] q a h i = i
@@ -83,9 +93,6 @@ at_err Q r P h f = let p = err_from_is_err_and r h.1 in subst (λ r. IfErr r Q) 
 pub on_err : {X Q : Type 0} (r : Result X Refusal) (P : Refusal → Type 0) → IsErr r × IsErrAnd r P → Q → OnErr r Q
 on_err {X} {Q} r P h q = let p = err_from_is_err_and r h.1 in subst (λ r. OnErr r Q) (sym p.1) q
 
-pub at_err_same : {X : Type 0} (Q : Refusal → Type 0) (r : Result X Refusal) (P : Refusal → Type 0) (x : Refusal) → IsErr r × IsErrAnd r P → ((e : Refusal) → P e → e ≡ x) → Q x → IfErr r Q
-at_err_same Q r P x h f q = at_err Q r P h (λ e p. subst Q (sym (f e p)) q)
-
 pub few_more : {X : Type 0} (xs : List X) (i : ℕ) → i < length xs → length (take i xs) + 1 ≤ length xs
 few_more xs i h = let n = length-take-le i xs (omega arith) in omega arith
 
@@ -111,15 +118,6 @@ module _ {S : Type 0} (follows : ℕ → S → S → Type 0) (can_refuse : S →
       count = (n + 1, few, on n 1 old mid new before step);
       cause = elim why [ inl told ↦ inl (refused_now old mid new refusal (n, before) (1, step) told) | inr memory ↦ inr memory ];
     }
-
-  pub none_asked : {Q A : Type 0} (May Right : Q → A → Type 0) (Refuses : Q → Refusal → Type 0) (T : Type 0) (old : S) → AskedBy follows can_refuse can_answer May Right Refuses T [] [] old old
-  none_asked May Right Refuses T old = record {
-    count = self old;
-    may = tt;
-    right = λ _. tt;
-    told = tt;
-    not_of_question = λ _. tt;
-  }
 
   -- one question more
   module _ {Q A : Type 0} (May Right : Q → A → Type 0) {Refuses : Q → Refusal → Type 0} (T : Type 0) (old mid new : S) (qs : List Q) (ts : List (Result A Refusal)) (q : Q) (a : Result A Refusal) where

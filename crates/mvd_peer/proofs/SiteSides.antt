@@ -1,5 +1,5 @@
 -- A site as a side of a session.
-use Rattle.std.proofs.Common.{◌≡◌, ◌≢◌, ◌⊎◌, inl, inr, Option, ℕ, ◌<◌, ◌≤◌, Bool, true, false, cond, ◌&&◌, ◌==◌, List, length, refl, sym, ap, subst, ◌∙◌, arith, Some, None, true≢false}
+use Rattle.std.proofs.Common.{◌≡◌, ◌≢◌, ◌⊎◌, inl, inr, Option, ℕ, ◌<◌, ◌≤◌, Bool, true, false, cond, ◌&&◌, ◌==◌, List, [], ◌∷◌, length, refl, sym, ap, subst, ◌∙◌, arith, Some, None, true≢false}
 use Rattle.std.specs.Prelude.{IfOk, IfErr, OnOk, Result, Ok, Err, nat_lt, if◌then◌else◌, unwrap_or, is_some, not}
 use Rattle.std.proofs.lemmas.Bool.Decides.{nat_tests}
 use Rattle.std.specs.Ordering.{nat_cmp, eq_by_cmp}
@@ -19,18 +19,18 @@ use Rattle.mvd_wire.specs.declared.request.Request.TheVariants.{Push}
 use Rattle.mvd_wire.specs.declared.reply.Reply.TheVariants.{Done, Refused}
 use Rattle.mvd_site.specs.Answer.{digests, is_full, is_too_large, node_digests}
 use Rattle.mvd_site.specs.Config.{ConfigValue}
-use Rattle.mvd_site.specs.FromStates.{AnswersFrom, bucket_refusal, push_reply, unless_broken, with_state}
+use Rattle.mvd_site.specs.FromStates.{AnswersFrom, bucket_refusal, joined_site, push_reply, unless_broken, with_state}
+use Rattle.mvd_site.specs.Installs.{broken_site}
 use Rattle.mvd_site.specs.Held.{AreHeld, States, state_at}
 use Rattle.mvd_site.specs.Sites.{SiteValue}
 use Rattle.mvd_peer.specs.PushedStates.{is_nothing, put_state, pushed}
 use Rattle.std.specs.Cmp.{unsigned_Decides}
 use Rattle.mvd_peer.specs.Windows.{CannotTake, IsNode, RefusesPage}
-use Rattle.mvd_peer.specs.Sides.{SiteFollows, SiteRefuses, is_site_refusal, tells_broken, is_of_question}
+use Rattle.mvd_peer.specs.Telling.{TellsEach, TellsLive, TellsPush}
+use Rattle.mvd_peer.specs.Sides.{IsWholeSite, SiteFollows, SiteRefuses, is_site_refusal, tells_broken, is_of_question}
 use Rattle.mvd_peer.proofs.JoinLaws.{nothing_empty, valid_at}
-
--- a site that is not broken
-abbrev pub IsWholeSite : SiteValue → Type 0
-IsWholeSite site = (site.broken ≡ false) × AreHeld site.states
+use Rattle.mvd_peer.proofs.ManyPushes.{second_ok, still_true}
+use Rattle.mvd_peer.proofs.Telling.{push_told as one_moment}
 
 -- ---- the digests of a node
 
@@ -51,15 +51,12 @@ module _ (broken : Bool) (m : States) (path : List ℕ) (r : Result Digests Refu
       let is : nat_lt (length path) 3 ≡ false = grind (arith, nat_tests) in
       subst (λ r. IfOk r (λ d. d.children ≡ None)) (sym (told broken m path r e whole)) (ap (λ b. if b then Some (children_digests (digests m) path) else None) is)
 
-  pub node_is : IfOk r (IsNode (digests m) path)
-  node_is = subst (λ r. IfOk r (IsNode (digests m) path)) (sym (told broken m path r e whole)) (
-    refl,
-    λ short. let is : nat_lt (length path) 3 ≡ true = grind (arith, nat_tests) in ap (λ b. if b then Some (children_digests (digests m) path) else None) is,
-    λ long. let is : nat_lt (length path) 3 ≡ false = grind (arith, nat_tests) in ap (λ b. if b then Some (children_digests (digests m) path) else None) is,
-  )
-
-  pub node_not_of_key : IfErr r (λ refusal. is_of_question refusal ≡ false)
-  node_not_of_key = subst (λ r. IfErr r (λ refusal. is_of_question refusal ≡ false)) (sym (told broken m path r e whole)) tt
+pub node_is : (m : States) (path : List ℕ) → IsNode (digests m) path (node_digests (digests m) path)
+node_is m path = (
+  refl,
+  λ short. let is : nat_lt (length path) 3 ≡ true = grind (arith, nat_tests) in ap (λ b. if b then Some (children_digests (digests m) path) else None) is,
+  λ long. let is : nat_lt (length path) 3 ≡ false = grind (arith, nat_tests) in ap (λ b. if b then Some (children_digests (digests m) path) else None) is,
+)
 
 -- ---- a push
 
@@ -133,22 +130,6 @@ same_refusal refusal told e = cc
 
 is_told : (site : SiteValue) (refusal told : Refusal) → refusal ≡ told → is_site_refusal told ≡ true → site.broken ≡ tells_broken told → SiteRefuses site refusal
 is_told site refusal told e one broken = (ap is_site_refusal e ∙ one, broken ∙ sym (ap tells_broken e))
-
-module _ (site : SiteValue) (path : List ℕ) (r : Result Digests Refusal) (e : r ≡ unless_broken site.broken (Err Broken) (Ok (node_digests (digests site.states) path))) where
-  comes : (broken : Bool) → site.broken ≡ broken → r ≡ unless_broken broken (Err Broken) (Ok (node_digests (digests site.states) path))
-  comes broken is = e ∙ ap (λ b. unless_broken b (Err Broken) (Ok (node_digests (digests site.states) path))) is
-
-  pub node_refuses : IfErr r (SiteRefuses site)
-  node_refuses = elim site.broken as (λ b. site.broken ≡ b → IfErr r (SiteRefuses site)) [
-    | true ↦ λ is. subst (λ r. IfErr r (SiteRefuses site)) (sym (comes true is)) (refl, is)
-    | false ↦ λ is. subst (λ r. IfErr r (SiteRefuses site)) (sym (comes false is)) tt
-  ] refl
-
-  pub node_answers : OnOk r (site.broken ≡ false)
-  node_answers = elim site.broken as (λ b. site.broken ≡ b → OnOk r (site.broken ≡ false)) [
-    | true ↦ λ is. subst (λ r. OnOk r (site.broken ≡ false)) (sym (comes true is)) tt
-    | false ↦ λ is. subst (λ r. OnOk r (site.broken ≡ false)) (sym (comes false is)) is
-  ] refl
 
 bucket_told : (broken three : Bool) (refusal : Refusal) → refusal ≡ (if broken then Broken else if three then Memory else BadPath) → (is_site_refusal refusal ≡ true) × (broken ≡ tells_broken refusal)
 bucket_told true three refusal e = (ap is_site_refusal e, sym (ap tells_broken e))
@@ -247,3 +228,38 @@ push_cause old new key s whole (Err refusal) from =
       | inr (inl memory) ↦ subst P (sym (same_refusal refusal Memory (sym memory.0))) tt
       | inr (inr broke) ↦ subst P (sym (same_refusal refusal Broken (sym broke.0))) tt
     ]
+
+-- ---- one push, as a side tells it
+
+pub record SitePushed (old new : SiteValue) (key : List ℕ) (s : State) (r : Result (Unit {0}) Refusal) : Type 0 where
+  pub valid : IsValid s
+  pub ok : IsWholeSite old → OnOk r (IsWholeSite new × (new.states ≡ pushed old.states key s))
+  pub apart : OnOk r (clashes (state_at old.states key) s ≡ false)
+  pub refused : IsWholeSite old → IfErr r (λ _. new.states ≡ old.states)
+  pub unbroken : IsWholeSite old → IfErr r (λ refusal. refusal ≢ Broken → IsWholeSite new)
+  pub cause : IsWholeSite old → IfErr r (CannotTake old.config.max_keys old.states key s)
+  pub follows : SiteFollows old new
+  pub refuses : IfErr r (SiteRefuses new)
+  pub answers : OnOk r (new.broken ≡ false)
+
+module _ (old new : SiteValue) (key : List ℕ) (s : State) (r : Result (Unit {0}) Refusal) where
+  pub site_pushed : IsValid s → AreHeld new.states → AnswersFrom old new (Push key s) (push_reply r) → OnOk r (new ≡ joined_site old key s) → OnOk r (clashes (state_at old.states key) s ≡ false) → IfErr r (λ refusal. refusal ≢ Broken → new ≡ old) → IfErr r (λ refusal. refusal ≡ Broken → new ≡ broken_site old)
+      → (old.broken ≡ true → r ≡ Err Broken) → SitePushed old new key s r
+  site_pushed valid held answer joined agreed unchanged told stays = record {
+    valid = valid;
+    ok = λ whole. push_ok old new key s whole held r valid joined;
+    apart = agreed;
+    refused = λ whole. push_refused old new key s whole held r unchanged told;
+    unbroken = λ whole. push_unbroken old new key s whole held r unchanged;
+    cause = λ whole. push_cause old new key s whole.0 r answer;
+    follows = push_follows old new _ r joined unchanged told stays;
+    refuses = push_refuses old new key s r answer told stays;
+    answers = push_answers new old.config _ r joined;
+  }
+
+  -- of a live one too
+  pub push_live : (most : ℕ) → old.config.max_keys ≡ most → SitePushed old new key s r → (r ≡ Err Broken → ⊥) → TellsLive IsWholeSite (λ site. site.states) (TellsPush most) ((key, s) ∷ []) (r ∷ []) old new
+  push_live most same it unbroken = λ whole.
+      let still = still_true _ _ r (it.ok whole) (it.unbroken whole) unbroken in
+      let told = one_moment old.config.max_keys old.states new.states key s r whole.1 still.1 it.valid (second_ok _ _ r (it.ok whole)) it.apart (it.refused whole) (it.cause whole) in
+      (still, told.0, subst (λ n. TellsEach (TellsPush n) ((key, s) ∷ []) (r ∷ []) old.states told.0 new.states) same told.1)

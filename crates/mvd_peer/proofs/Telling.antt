@@ -1,20 +1,16 @@
 -- What a live side tells, question by question.
-use Rattle.std.proofs.Common.{◌≡◌, ◌≢◌, inl, inr, ℕ, ◌+◌, ◌<◌, List, [], ◌∷◌, ◌++◌, length, take, get_or, sym, ap, subst, ◌∙◌, Option, false}
-use Rattle.std.specs.Prelude.{Result, Ok, Err, IfOk, IfErr, OnOk}
+use Rattle.std.proofs.Common.{◌≡◌, ℕ, ◌+◌, ◌<◌, List, [], ◌∷◌, ◌++◌, length, take, get_or, sym, ap, subst, ◌∙◌, false}
+use Rattle.std.specs.Prelude.{Result, Ok, Err, IfErr, OnOk}
 use Rattle.std.proofs.lemmas.List.{take_more}
 use Rattle.mvd_dots.specs.declared.refusals.Refusal.{Refusal}
-use Rattle.mvd_dots.specs.declared.refusals.Refusal.TheVariants.{Broken}
 use Rattle.mvd_keys.specs.State.{IsValid, State, clashes}
 use Rattle.mvd_keys.specs.Writes.{Key}
 use Rattle.mvd_keys.proofs.Joins.{join_repeats}
-use Rattle.mvd_wire.specs.declared.reply.Digests.{Digests}
-use Rattle.mvd_site.specs.Answer.{digests}
 use Rattle.mvd_site.specs.Held.{AreHeld, States, state_at}
 use Rattle.mvd_peer.specs.Live.{Grows}
 use Rattle.mvd_peer.specs.PushedStates.{Each, pushed}
-use Rattle.mvd_peer.specs.Sides.{StaysFaithful}
-use Rattle.mvd_peer.specs.Telling.{PageTold, StateTold, TellsEach, TellsLive, TellsNode, TellsOne, TellsPush}
-use Rattle.mvd_peer.specs.Windows.{CannotTake, HasKeys, IsNode, LeavesOfPush, PageValue, Pushes, TellsMore}
+use Rattle.mvd_peer.specs.Telling.{TellsEach, TellsLive, TellsPush}
+use Rattle.mvd_peer.specs.Windows.{CannotTake, Pushes}
 use Rattle.mvd_peer.proofs.Growths.{grows_on, has_pushed, pushed_grows}
 use Rattle.mvd_peer.proofs.JoinLaws.{valid_at}
 
@@ -66,38 +62,24 @@ module _ {S : Type 0} (is_live : S → Type 0) (states : S → States) (form : (
 
   -- one question more, in turn
   pub one_live : {Q A : Type 0} (Right : States → Q → Result A Refusal → Type 0) (old mid new : S) (all : List Q) (i : ℕ) (q : Q) (ts us : List (Result A Refusal)) (a : Result A Refusal) → i < length all → q ≡ get_or all i q → us ≡ ts ++ a ∷ []
-      → TellsLive is_live states Right (take i all) ts old mid → a ≢ Err Broken → TellsOne is_live states Right q a mid new → TellsLive is_live states Right (take (i + 1) all) us old new
-  one_live Right old mid new all i q ts us a low at told before whole one =
+      → TellsLive is_live states Right (take i all) ts old mid → TellsLive is_live states Right (q ∷ []) (a ∷ []) mid new → TellsLive is_live states Right (take (i + 1) all) us old new
+  one_live Right old mid new all i q ts us a low at told before one =
       let more : take (i + 1) all ≡ take i all ++ q ∷ [] = take_more all i q low ∙ ap (λ x. take i all ++ x ∷ []) (sym at) in
       subst (λ qs. TellsLive is_live states Right qs us old new) (sym more)
       (subst (λ us. TellsLive is_live states Right (take i all ++ q ∷ []) us old new) (sym told)
-      (more_live Right (take i all) (q ∷ []) ts (a ∷ []) old mid new before (one whole)))
+      (more_live Right (take i all) (q ∷ []) ts (a ∷ []) old mid new before one))
 
 -- ---- a faithful side is live
 
-node_told : (held : States) (path : List ℕ) (r : Result Digests Refusal) → IfOk r (IsNode (digests held) path) → TellsNode held path r
-node_told held path (Ok node) is = is
-node_told held path (Err refusal) is = tt
-
-page_told : (held : States) (path : List ℕ) (after : Option (List ℕ)) (r : Result PageValue Refusal) → IfOk r (HasKeys held path after) → IfOk r (TellsMore held path after) → PageTold held (path, after) r
-page_told held path after (Ok page) keys more = (keys, more)
-page_told held path after (Err refusal) keys more = tt
-
-state_told : (held : States) (key : Key) (r : Result State Refusal) → IfOk r (λ state. state ≡ state_at held key) → StateTold held key r
-state_told held key (Ok state) is = is
-state_told held key (Err refusal) is = tt
-
 -- a state that is pushed, or refused, and what is held then
 pub push_told : (most : ℕ) (old new : States) (key : Key) (state : State) (r : Result (Unit {0}) Refusal) → AreHeld old → AreHeld new → IsValid state
-    → OnOk r (new ≡ pushed old key state) → OnOk r (clashes (state_at old key) state ≡ false) → IfErr r (LeavesOfPush old key state new) → IfErr r (CannotTake most old key state)
+    → OnOk r (new ≡ pushed old key state) → OnOk r (clashes (state_at old key) state ≡ false) → IfErr r (λ _. new ≡ old) → IfErr r (CannotTake most old key state)
     → (moments : List States) × TellsEach (TellsPush most) ((key, state) ∷ []) (r ∷ []) old moments new
 push_told most old new key state (Ok done) p q valid is apart leaves why =
     let up : Grows old new = subst (Grows old) (sym is) (pushed_grows old key state (valid_at old p) valid).1 in
     let back : Grows (pushed old key state) new = subst (λ m. Grows m new) is (grows_same new q) in
     (new ∷ [], (q, up, has_pushed old new key state (valid_at old p) (valid_at new q) valid apart back, grows_same new q))
-push_told most old new key state (Err refusal) p q valid is apart (inl same) why = (old ∷ [], (p, grows_same old p, why, subst (Grows old) (sym same) (grows_same old p)))
-push_told most old new key state (Err refusal) p q valid is apart (inr taken) why =
-    (old ∷ [], (p, grows_same old p, why, subst (Grows old) (sym taken.1.1) (pushed_grows old key state (valid_at old p) valid).1))
+push_told most old new key state (Err refusal) p q valid is apart same why = (old ∷ [], (p, grows_same old p, why, subst (Grows old) (sym same) (grows_same old p)))
 
 -- pushes one after the other
 pub pushes_told : (most : ℕ) (ps : List (Key × State)) (ts : List (Result (Unit {0}) Refusal)) (old new : States) → AreHeld old → AreHeld new → Each (λ p. IsValid p.1) ps → ((m : States) (p : Key × State) → AreHeld m → IsValid p.1 → AreHeld (pushed m p.0 p.1)) → Pushes most old ps ts new
@@ -113,36 +95,3 @@ pushes_told most (x ∷ ps) (Ok done ∷ ts) old new p q valid form told =
 pushes_told most (x ∷ ps) (Err refusal ∷ ts) old new p q valid form told =
     let rest = pushes_told most ps ts old new p q valid.1 form told.1 in
     (old ∷ rest.0, (p, grows_same old p, told.0, rest.1))
-
-module _ {S : Type 0} (is_faithful : S → Type 0) (states : S → States) (form : (side : S) → is_faithful side → AreHeld (states side)) where
-  quiet_one : {Q A : Type 0} (Right : States → Q → Result A Refusal → Type 0) (q : Q) (r : Result A Refusal) (old new : S) → StaysFaithful is_faithful states old new → (is_faithful old → Right (states old) q r) → TellsOne is_faithful states Right q r old new
-  quiet_one Right q r old new kept right = λ whole faithful.
-      let still = kept faithful in
-      let held = form old faithful in
-      (still.0, states old ∷ [], (held, grows_same (states old) held, right faithful, subst (Grows (states old)) (sym still.1) (grows_same (states old) held)))
-
-  pub quiet_node : (path : List ℕ) (r : Result Digests Refusal) (old new : S) → StaysFaithful is_faithful states old new → (is_faithful old → IfOk r (IsNode (digests (states old)) path)) → TellsOne is_faithful states TellsNode path r old new
-  quiet_node path r old new kept is = quiet_one TellsNode path r old new kept (λ faithful. node_told (states old) path r (is faithful))
-
-  pub quiet_page : (path : List ℕ) (after : Option (List ℕ)) (r : Result PageValue Refusal) (old new : S) → StaysFaithful is_faithful states old new → (is_faithful old → IfOk r (HasKeys (states old) path after)) → (is_faithful old → IfOk r (TellsMore (states old) path after))
-      → TellsOne is_faithful states PageTold (path, after) r old new
-  quiet_page path after r old new kept keys more = quiet_one PageTold (path, after) r old new kept (λ faithful. page_told (states old) path after r (keys faithful) (more faithful))
-
-  pub quiet_state : (key : Key) (r : Result State Refusal) (old new : S) → StaysFaithful is_faithful states old new → (is_faithful old → IfOk r (λ state. state ≡ state_at (states old) key)) → TellsOne is_faithful states StateTold key r old new
-  quiet_state key r old new kept is = quiet_one StateTold key r old new kept (λ faithful. state_told (states old) key r (is faithful))
-
-  pub quiet_push : (most : ℕ) (key : Key) (state : State) (r : Result (Unit {0}) Refusal) (old new : S) → IsValid state
-      → (is_faithful old → OnOk r (is_faithful new × (states new ≡ pushed (states old) key state))) → (is_faithful old → OnOk r (clashes (state_at (states old) key) state ≡ false)) → (is_faithful old → IfErr r (LeavesOfPush (states old) key state (states new)))
-      → (is_faithful old → IfErr r (λ refusal. refusal ≢ Broken → is_faithful new)) → (is_faithful old → IfErr r (CannotTake most (states old) key state)) → TellsOne is_faithful states (TellsPush most) (key, state) r old new
-  quiet_push most key state r old new valid ok apart refused unbroken why = λ whole faithful.
-      let still = still_faithful r whole (ok faithful) (unbroken faithful) in
-      let told = push_told most (states old) (states new) key state r (form old faithful) (form new still) valid (second r (ok faithful)) (apart faithful) (refused faithful) (why faithful) in
-      (still, told.0, told.1)
-    where
-      still_faithful : (r : Result (Unit {0}) Refusal) → r ≢ Err Broken → OnOk r (is_faithful new × (states new ≡ pushed (states old) key state)) → IfErr r (λ refusal. refusal ≢ Broken → is_faithful new) → is_faithful new
-      still_faithful (Ok done) whole is other = is.0
-      still_faithful (Err refusal) whole is other = other (λ e. whole (ap Err e))
-
-      second : (r : Result (Unit {0}) Refusal) → OnOk r (is_faithful new × (states new ≡ pushed (states old) key state)) → OnOk r (states new ≡ pushed (states old) key state)
-      second (Ok done) is = is.1
-      second (Err refusal) is = tt

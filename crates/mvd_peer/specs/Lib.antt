@@ -4,3 +4,6 @@ pub mod PeerSides
 pub mod Windows
 pub mod Live
 pub mod Telling
+pub mod Asking
+pub mod Saying
+pub mod SiteTells

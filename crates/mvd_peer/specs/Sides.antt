@@ -1,12 +1,12 @@
 -- What a session knows of a side.
 use Rattle.std.proofs.Common.{refl, sym, subst, ◌∙◌}
-use Rattle.std.specs.Prelude.{◌≡◌, ◌≤◌, ℕ, Bool, true, false, Option}
+use Rattle.std.specs.Prelude.{◌≡◌, ◌≤◌, ℕ, Bool, true, false, Option, Some}
 use Rattle.mvd_dots.specs.declared.refusals.Refusal.{Refusal}
 use Rattle.mvd_dots.specs.declared.refusals.Refusal.TheVariants.{BadPath, Broken, DotClash, Full, Memory}
 use Rattle.mvd_dots.specs.declared.refusals.Refusal.TheVariants.{StateTooLarge}
 use Rattle.mvd_keys.specs.State.{State}
 use Rattle.mvd_keys.specs.Writes.{Key}
-use Rattle.mvd_site.specs.Held.{States}
+use Rattle.mvd_site.specs.Held.{AreHeld, States}
 use Rattle.mvd_site.specs.Sites.{SiteValue}
 
 -- the meaning of a type of sides, as the trait `Peer` has it
@@ -21,6 +21,21 @@ pub record SideOf (S : Type 0) : Type 1 where
   pub can_answer : S → Type 0
   pub most_keys : S → ℕ
   pub number : S → Option ℕ
+
+-- these as one value
+abbrev pub side_with : {S : Type 0} → (S → States) → (S → Type 0) → (S → Type 0) → (Key → State → Type 0)
+    → (ℕ → S → S → Type 0) → (S → Refusal → Type 0) → (S → Type 0) → (S → ℕ) → (S → Option ℕ) → SideOf S
+side_with states is_faithful is_live can_give follows can_refuse can_answer most_keys number = record {
+  states = states;
+  is_faithful = is_faithful;
+  is_live = is_live;
+  can_give = can_give;
+  follows = follows;
+  can_refuse = can_refuse;
+  can_answer = can_answer;
+  most_keys = most_keys;
+  number = number;
+}
 
 -- the two sides of a session, as what is known of each
 pub record Sides (L P : Type 0) : Type 1 where
@@ -71,10 +86,6 @@ abbrev pub is_of_question : Refusal → Bool
 is_of_question BadPath = true
 is_of_question refusal = is_of_key refusal
 
--- a refusal that is not of one question alone: neither 9, 10 or 11 nor 14
-abbrev pub IsOfNoQuestion : Refusal → Type 0
-IsOfNoQuestion refusal = is_of_question refusal ≡ false
-
 -- a faithful side stays faithful, with the states that it held
 abbrev pub StaysFaithful : {S : Type 0} → (S → Type 0) → (S → States) → S → S → Type 0
 StaysFaithful is_faithful states old new = is_faithful old → is_faithful new × (states new ≡ states old)
@@ -120,3 +131,21 @@ tells_broken refusal = false
 -- a site, as it is after that, may have refused so
 abbrev pub SiteRefuses : SiteValue → Refusal → Type 0
 SiteRefuses site refusal = (is_site_refusal refusal ≡ true) × (site.broken ≡ tells_broken refusal)
+
+-- a site that is not broken; the states of any site are in form
+abbrev pub IsWholeSite : SiteValue → Type 0
+IsWholeSite site = (site.broken ≡ false) × AreHeld site.states
+
+-- a site as a side: faithful as long as it is not broken, and live, for nobody else writes to it meanwhile
+abbrev pub site_side : SideOf SiteValue
+site_side = record {
+  states = λ site. site.states;
+  is_faithful = IsWholeSite;
+  is_live = IsWholeSite;
+  can_give = λ _ _. Unit {0};
+  follows = λ _. SiteFollows;
+  can_refuse = SiteRefuses;
+  can_answer = λ site. site.broken ≡ false;
+  most_keys = λ site. site.config.max_keys;
+  number = λ site. Some site.config.site;
+}

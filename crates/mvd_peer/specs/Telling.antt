@@ -1,8 +1,7 @@
 -- What a live side tells: while others write to it, it answers each question rightly of what it holds at some moment.
-use Rattle.std.specs.Prelude.{◌≡◌, ◌≢◌, ℕ, List, [], ◌∷◌, Option, Result, Ok, Err, Vec, IfOk}
+use Rattle.std.specs.Prelude.{◌≡◌, ℕ, List, [], ◌∷◌, Option, Result, Ok, Err, Vec, IfOk}
 use Rattle.std.specs.declared.alloc.Global.{Global}
 use Rattle.mvd_dots.specs.declared.refusals.Refusal.{Refusal}
-use Rattle.mvd_dots.specs.declared.refusals.Refusal.TheVariants.{Broken}
 use Rattle.mvd_keys.specs.Order.{Includes}
 use Rattle.mvd_keys.specs.State.{State}
 use Rattle.mvd_keys.specs.Writes.{Key}
@@ -48,12 +47,6 @@ abbrev pub TellsLive : {S Q A : Type 0} → (S → Type 0) → (S → States) �
     → List Q → List (Result A Refusal) → (old new : S) → Type 0
 TellsLive is_live states Right questions answers old new = is_live old
     → is_live new × (moments : List States) × TellsEach Right questions answers (states old) moments (states new)
-
--- one question, unless it says that it is broken
-abbrev pub TellsOne : {S Q A : Type 0} → (S → Type 0) → (S → States) → (States → Q → Result A Refusal → Type 0)
-    → Q → Result A Refusal → (old new : S) → Type 0
-TellsOne is_live states Right question answer old new =
-    answer ≢ Err Broken → TellsLive is_live states Right (question ∷ []) (answer ∷ []) old new
 
 -- all questions of a call, where it tells of them
 abbrev pub TellsAll : {S Q A : Type 0} → (S → Type 0) → (S → States) → (States → Q → Result A Refusal → Type 0)

@@ -1,6 +1,6 @@
 -- Many questions at once: one answer for each, in order, as if they were asked one after the other.
 use Rattle.std.specs.Prelude.{◌≡◌, ◌⊎◌, ◌<◌, ◌≤◌, ◌==◌, ℕ, Bool, true, false, List, [], ◌∷◌, length, Option, Some, None}
-use Rattle.std.specs.Prelude.{◌+◌, ◌-◌, ◌^◌, Result, Ok, Err, min, take, IfOk, OnErr}
+use Rattle.std.specs.Prelude.{◌+◌, ◌-◌, ◌^◌, Result, Ok, Err, min, take, IfOk}
 use Rattle.std.specs.FinMap.{get, len}
 use Rattle.std.specs.declared.alloc.Global.{Global}
 use Rattle.std.specs.declared.vec.Vec.{Vec}
@@ -161,11 +161,6 @@ pages_kind is_faithful states side = for_pages (is_faithful side) (states side)
 abbrev pub gets_of : {S : Type 0} → (Key → State → Type 0) → (S → Type 0) → (S → States) → S → Kind Key State
 gets_of can_give is_faithful states side = for_states can_give (is_faithful side) (states side)
 
--- after Ok, the questions were asked one after the other and answered so
-abbrev pub AskedAll : {S Q A : Type 0} → Manner S → (S → Kind Q A) → List Q → S → S
-    → Result (Vec (Result A Refusal) Global) Refusal → Type 0
-AskedAll m kind questions old new result = IfOk result (λ told. Asked m (kind old) questions told.items old new)
-
 -- Questions that came to an end: at most so many were made, and the side refused so, or memory was refused
 pub record Ends {S : Type 0} (follows : ℕ → S → S → Type 0) (can_refuse : S → Refusal → Type 0) (most : ℕ) (old new : S)
     (refusal : Refusal) : Type 0 where
@@ -205,21 +200,11 @@ pub record Holding (S : Type 0) : Type 1 where
 abbrev pub holding : {S : Type 0} → (S → Type 0) → (S → States) → (S → ℕ) → Holding S
 holding is_faithful states most_keys = record { is_faithful = is_faithful; states = states; most_keys = most_keys }
 
--- a faithful side's pushes: after Ok each was taken or refused for its cause, and it is faithful; after a refusal some
--- first ones were
+-- a faithful side's pushes: after Ok each was taken or refused for its cause, and it is faithful
 abbrev pub PushedAll : {S : Type 0} → Holding S → List (Key × State) → (old new : S)
     → Result (Vec (Result (Unit {0}) Refusal) Global) Refusal → Type 0
 PushedAll s pairs old new result = s.is_faithful old →
     IfOk result (λ told. s.is_faithful new × Pushes (s.most_keys old) (s.states old) pairs told.items (s.states new))
-
-abbrev pub PushedSome : {S : Type 0} → Holding S → List (Key × State) → (old new : S)
-    → Result (Vec (Result (Unit {0}) Refusal) Global) Refusal → Type 0
-PushedSome s pairs old new result = s.is_faithful old →
-    OnErr result (PushesFirst (s.is_faithful new) (s.most_keys old) (s.states old) pairs (s.states new))
-
--- a side is faithful after a push, and holds the states with it
-abbrev pub IsPushed : {S : Type 0} → Holding S → Key → State → (old new : S) → Type 0
-IsPushed s key state old new = s.is_faithful new × (s.states new ≡ pushed (s.states old) key state)
 
 -- a state was taken
 abbrev pub TakesState : States → Key → State → States → Type 0

@@ -1,37 +1,39 @@
 //! A site as a side of a session.
-ghost use Rattle.std.specs.Prelude.{◌≡◌, false, Some};
+ghost use Rattle.std.specs.Prelude.{◌≡◌, IfErr, IfOk, Some};
 ghost use Rattle.std.proofs.Common.{ap, refl};
-ghost use Rattle.mvd_site.specs.Held.{AreHeld};
-ghost use Rattle.mvd_peer.specs.Sides.{SiteFollows, SiteRefuses, site_follows_on, site_follows_self};
+ghost use Rattle.mvd_peer.specs.Asking.{only_pushes};
+ghost use Rattle.mvd_peer.specs.Saying.{RefusesAll, SideTells};
+ghost use Rattle.mvd_peer.specs.Sides.{site_follows_on, site_follows_self, site_side};
+ghost use Rattle.mvd_peer.specs.declared.window.Told.TheVariants.{Pushes};
 
-use crate::peer::{Page, Peer};
+use crate::peer::Peer;
+use crate::reads::read;
+use crate::window::{Told, Window};
+use crate::windows::{left_open, room_for};
 use mvd_dots::Refusal;
-use mvd_keys::{Key, KeyState, Path};
+use mvd_keys::{Key, KeyState};
 use mvd_site::Site;
-use mvd_wire::Digests;
-use std::alloc::Global;
 
 /// A site is faithful to the states of its keys as long as it is not broken; that they are in form holds of any site
 /// (`Site::key_count`). A question to its hash tree looks at no state.
 impl Peer for Site {
-    ghost states = { λ site. site.states };
+    ghost states = { site_side.states };
 
-    ghost is_faithful = { λ site. (site.broken ≡ false) × AreHeld site.states };
+    ghost is_faithful = { site_side.is_faithful };
 
-    // Nobody else writes to it meanwhile.
-    ghost is_live = { λ site. (site.broken ≡ false) × AreHeld site.states };
+    ghost is_live = { site_side.is_live };
 
-    ghost can_give = { λ _ _. Unit {0} };
+    ghost can_give = { site_side.can_give };
 
-    ghost follows = { λ _. SiteFollows };
+    ghost follows = { site_side.follows };
 
-    ghost can_refuse = { SiteRefuses };
+    ghost can_refuse = { site_side.can_refuse };
 
-    ghost can_answer = { λ site. site.broken ≡ false };
+    ghost can_answer = { site_side.can_answer };
 
-    ghost most_keys = { λ site. site.config.max_keys };
+    ghost most_keys = { site_side.most_keys };
 
-    ghost number = { λ site. Some site.config.site };
+    ghost number = { site_side.number };
 
     ghost in_form = { λ _ whole. whole.1 };
 
@@ -45,35 +47,41 @@ impl Peer for Site {
 
     ghost most_stays = { λ _ old new follows. ap (λ c. c.max_keys) follows.0 };
 
-    fn alloc(&self) -> Global {
-        Site::alloc(self)
-    }
-
     fn number(&self) -> Option<u32> {
         Some(self.config().site())
     }
 
-    #[tactic(auto, using(crate::proofs::SiteSides::node_own, crate::proofs::SiteSides::node_inner, crate::proofs::SiteSides::node_bucket, crate::proofs::SiteSides::node_not_of_key, crate::proofs::SiteSides::node_refuses, crate::proofs::SiteSides::node_answers))]
-    fn node(&mut self, path: &Path) -> Result<Digests, Refusal> {
-        Site::node(self, path)
+    fn ask(&mut self, window: &Window) -> Told {
+        match read(self, window) {
+            Ok(told) => told,
+            Err(pairs) => match push_each(self, pairs) {
+                Ok(told) => Told::Pushes(told),
+                Err(refusal) => Told::Refused(refusal),
+            },
+        }
     }
+}
 
-    #[tactic(auto, using(crate::proofs::SiteSides::bucket_not_of_key, crate::proofs::SiteSides::bucket_refuses))]
-    fn bucket(&mut self, path: &Path, after: Option<&Key>) -> Result<Page, Refusal> {
-        Site::bucket(self, path, after)
-    }
-
-    #[tactic(auto, using(crate::proofs::SiteSides::get_not_of_key, crate::proofs::SiteSides::get_refuses))]
-    fn get(&mut self, key: &Key) -> Result<KeyState, Refusal> {
-        Site::get(self, key)
-    }
-
-    #[tactic(auto, using(crate::proofs::SiteSides::push_ok, crate::proofs::SiteSides::push_refused, crate::proofs::SiteSides::push_unbroken))]
-    fn push(&mut self, key: &Key, state: &KeyState) -> Result<(), Refusal> {
+/// Joins each state to that of its key, one after the other, up to one of which it is open whether it was taken.
+fn push_each(
+    site: &mut Site,
+    pairs: &[(Key, KeyState)],
+) -> Result<Vec<Result<(), Refusal>>, Refusal>
+    ensures told { IfOk result (λ told.
+        SideTells site_side (only_pushes pairs.now) (Some (Pushes told)) site.old site.new) }
+    ensures refused { IfErr result (λ refusal.
+        RefusesAll site_side (only_pushes pairs.now) refusal site.old site.new) }
+{
+    let mut told = room_for(site.alloc(), pairs.len())?;
+    for (key, state) in pairs {
         // Here it is known that the pushed state's siblings have been seen.
         let _seen = state.context();
-        let pushed = Site::push(self, key, state);
-        self.stands();
-        pushed
+        let answer = site.push(key, state);
+        site.stands();
+        if let Some(refusal) = left_open(&answer) {
+            return Err(refusal);
+        }
+        told.push_reserved(answer);
     }
+    Ok(told)
 }

@@ -1,9 +1,9 @@
 -- A site at the other end of a true line, as a faithful side.
-use Rattle.std.proofs.Common.{◌≡◌, ◌≢◌, inl, inr, ℕ, zero, suc, ◌+◌, true, false, List, [], ◌∷◌, length, map, take, Option, refl, sym, ap, subst, ◌∙◌, arith}
+use Rattle.std.proofs.Common.{◌≡◌, inl, inr, ℕ, zero, suc, ◌+◌, true, false, List, [], ◌∷◌, length, map, take, Option, refl, sym, ap, subst, ◌∙◌, arith}
 use Rattle.std.proofs.lemmas.Bool.Decides.{nat_tests}
-use Rattle.std.specs.Prelude.{Result, Ok, Err, IfOk, IfErr, OnOk, OnErr, MatchResult, nat_le, if◌then◌else◌}
+use Rattle.std.specs.Prelude.{Result, Ok, Err, nat_le, if◌then◌else◌}
 use Rattle.mvd_dots.specs.declared.refusals.Refusal.{Refusal}
-use Rattle.mvd_dots.specs.declared.refusals.Refusal.TheVariants.{BadPath, Broken, DotClash, FrameTooLong, Full, StateTooLarge}
+use Rattle.mvd_dots.specs.declared.refusals.Refusal.TheVariants.{FrameTooLong, StateTooLarge}
 use Rattle.mvd_keys.specs.State.{State}
 use Rattle.mvd_keys.specs.Writes.{Key}
 use Rattle.mvd_wire.specs.declared.request.Request.{Request}
@@ -16,11 +16,10 @@ use Rattle.mvd_wire.specs.Requests.{framed as frame_within, push, request_frame}
 use Rattle.mvd_site.specs.Answer.{is_too_large}
 use Rattle.mvd_site.specs.Config.{ConfigValue}
 use Rattle.mvd_site.specs.Held.{States}
-use Rattle.mvd_remote.specs.Lines.{AnswersTruly, EndsOpen, SettleTruly, SettlesTruly, TrueReplies, TrueReply, and_framed, framed_requests}
+use Rattle.mvd_remote.specs.Lines.{SettleTruly, SettlesTruly, TrueReplies, TrueReply, and_framed, framed_requests}
 use Rattle.mvd_peer.specs.PushedStates.{pushed}
 use Rattle.mvd_peer.specs.Sides.{is_of_question}
-use Rattle.mvd_peer.specs.Windows.{CannotTake, EachAnswer, EachRefusal, IsLeftOpen, LeavesOfPush, Pushes, PushesFirst, RefusesPage, TakesState, leaves_open}
-use Rattle.mvd_peer.proofs.ManyPushes.{open_not_of_key}
+use Rattle.mvd_peer.specs.Windows.{CannotTake, EachAnswer, EachRefusal, Pushes, RefusesPage, TakesState}
 
 -- ---- questions
 
@@ -29,7 +28,6 @@ pub record IsQuestion (q : Request) (May : Refusal → Type 0) : Type 0 where
   pub keeps : (config : ConfigValue) (old : States) (r : Reply) (new : States) → TrueReply config old q r new → new ≡ old
   pub refuses : (config : ConfigValue) (old : States) (refusal : Refusal) (new : States) → TrueReply config old q (reply.Refused refusal) new → May refusal
   pub unframed : (refusal : Refusal) → request_frame q ≡ Err refusal → May refusal
-  pub unsure : (refusal : Refusal) → leaves_open refusal ≡ true → May refusal
 
 too_long : (kind : ℕ) (payload : List ℕ) (refusal : Refusal) → frame_within kind payload ≡ Err refusal → refusal ≡ FrameTooLong
 too_long kind payload refusal e = elim (nat_le (length payload + 1) frame_limit) as (λ b. (if b then Ok (spell_frame (record { kind = kind; payload = payload })) else Err FrameTooLong) ≡ Err refusal → refusal ≡ FrameTooLong) [
@@ -73,44 +71,19 @@ bucket_keeps path after config old (reply.Rows rs more) new h = absurd h
 bucket_keeps path after config old (reply.Digests d) new h = absurd h
 bucket_keeps path after config old (reply.Counts cs more) new h = absurd h
 
--- a refusal that leaves open whether something was done is of no path
-open_page : (path : List ℕ) (refusal : Refusal) → leaves_open refusal ≡ true → RefusesPage path refusal
-open_page path BadPath e = absurd (cc)
-open_page path StateTooLarge e = absurd (cc)
-open_page path Full e = absurd (cc)
-open_page path DotClash e = absurd (cc)
-open_page path refusal e = refl
-
 pub get_asks : (key : Key) → IsQuestion (Get key) (λ refusal. is_of_question refusal ≡ false)
-get_asks key = record { keeps = get_keeps key; refuses = λ config old refusal new h. h.0; unframed = λ refusal e. ap is_of_question (too_long _ _ refusal e); unsure = open_not_of_key }
+get_asks key = record { keeps = get_keeps key; refuses = λ config old refusal new h. h.0; unframed = λ refusal e. ap is_of_question (too_long _ _ refusal e) }
 
 pub node_asks : (path : List ℕ) → IsQuestion (Node path) (λ refusal. is_of_question refusal ≡ false)
-node_asks path = record { keeps = node_keeps path; refuses = λ config old refusal new h. h.0; unframed = λ refusal e. ap is_of_question (too_long _ _ refusal e); unsure = open_not_of_key }
+node_asks path = record { keeps = node_keeps path; refuses = λ config old refusal new h. h.0; unframed = λ refusal e. ap is_of_question (too_long _ _ refusal e) }
 
 pub bucket_asks : (path : List ℕ) (after : Option Key) → IsQuestion (Bucket path after) (RefusesPage path)
-bucket_asks path after = record { keeps = bucket_keeps path after; refuses = λ config old refusal new h. h.0; unframed = λ refusal e. subst (RefusesPage path) (sym (too_long _ _ refusal e)) refl; unsure = open_page path }
+bucket_asks path after = record { keeps = bucket_keeps path after; refuses = λ config old refusal new h. h.0; unframed = λ refusal e. subst (RefusesPage path) (sym (too_long _ _ refusal e)) refl }
 
-module _ {A : Type 0} (as_reply : A → Reply) (config : ConfigValue) where
-  -- one question
-  pub one_kept : (q : Request) {May : Refusal → Type 0} → IsQuestion q May → (old new : States) (result : Result A Refusal) → AnswersTruly as_reply config old q result new → new ≡ old
-  one_kept q is old new (Ok a) h = is.keeps config old (as_reply a) new h
-  one_kept q is old new (Err refusal) (inl h) = is.keeps config old (reply.Refused refusal) new h
-  one_kept q is old new (Err refusal) (inr (inl h)) = h.1
-  one_kept q is old new (Err refusal) (inr (inr (e, inl same))) = same
-  one_kept q is old new (Err refusal) (inr (inr (e, inr h))) = is.keeps config old h.0 new h.1
-
-  pub one_not_of_key : (q : Request) {May : Refusal → Type 0} → IsQuestion q May → (old new : States) (result : Result A Refusal) → AnswersTruly as_reply config old q result new → IfErr result May
-  one_not_of_key q is old new (Ok a) h = tt
-  one_not_of_key q is old new (Err refusal) (inl h) = is.refuses config old refusal new h
-  one_not_of_key q is old new (Err refusal) (inr (inl h)) = is.unframed refusal h.0
-  one_not_of_key q is old new (Err refusal) (inr (inr h)) = is.unsure refusal h.0
-
-  pub one_right : (P : A → Type 0) (q : Request) (old new : States) (result : Result A Refusal) → ((a : A) → TrueReply config old q (as_reply a) new → P a) → AnswersTruly as_reply config old q result new → IfOk result P
-  one_right P q old new (Ok a) f h = f a h
-  one_right P q old new (Err refusal) f h = tt
-
-  -- many questions
-  module _ {Q : Type 0} (request : Q → Request) {May : Q → Refusal → Type 0} (is : (q : Q) → IsQuestion (request q) (May q)) where
+-- what is so of questions that change nothing
+module _ (config : ConfigValue) {Q : Type 0} (request : Q → Request) {May : Q → Refusal → Type 0} (is : (q : Q) → IsQuestion (request q) (May q)) where
+  -- a window that was answered
+  module _ {A : Type 0} (as_reply : A → Reply) where
     one_settles : (q : Q) (old new : States) (t : Result A Refusal) → SettlesTruly as_reply config old (request q) t new → new ≡ old
     one_settles q old new (Ok a) h = (is q).keeps config old (as_reply a) new h
     one_settles q old new (Err refusal) (inl h) = (is q).keeps config old (reply.Refused refusal) new h.1
@@ -136,33 +109,23 @@ module _ {A : Type 0} (as_reply : A → Reply) (config : ConfigValue) where
     all_not_of_key (q ∷ qs) (Ok a ∷ ts) old new h = all_not_of_key qs ts h.0 new h.2
     all_not_of_key (q ∷ qs) (Err refusal ∷ ts) old new h = (elim h.1 [ inl told ↦ (is q).refuses config old refusal h.0 told.1 | inr none ↦ (is q).unframed refusal none.0 ], all_not_of_key qs ts h.0 new h.2)
 
-    -- a window that was refused
-    first_kept : (q : Q) (qs : List Q) (f : Result (List ℕ) Refusal) (old new : States) (n : ℕ) (rs : List Reply) → ((old : States) (n : ℕ) (rs : List Reply) → TrueReplies config old (take n (framed_requests (map request qs))) rs new → new ≡ old) → TrueReplies config old (take n (and_framed (request q) f (framed_requests (map request qs)))) rs new → new ≡ old
-    first_kept q qs (Ok frame) old new zero [] later h = h
-    first_kept q qs (Ok frame) old new zero (r ∷ rs) later h = absurd h
-    first_kept q qs (Ok frame) old new (suc n) [] later h = absurd h
-    first_kept q qs (Ok frame) old new (suc n) (r ∷ rs) later h = later h.0 n rs h.2 ∙ (is q).keeps config old r h.0 h.1
-    first_kept q qs (Err refusal) old new n rs later h = later old n rs h
+  -- a window that was refused
+  first_kept : (q : Q) (qs : List Q) (f : Result (List ℕ) Refusal) (old new : States) (n : ℕ) (rs : List Reply) → ((old : States) (n : ℕ) (rs : List Reply) → TrueReplies config old (take n (framed_requests (map request qs))) rs new → new ≡ old) → TrueReplies config old (take n (and_framed (request q) f (framed_requests (map request qs)))) rs new → new ≡ old
+  first_kept q qs (Ok frame) old new zero [] later h = h
+  first_kept q qs (Ok frame) old new zero (r ∷ rs) later h = absurd h
+  first_kept q qs (Ok frame) old new (suc n) [] later h = absurd h
+  first_kept q qs (Ok frame) old new (suc n) (r ∷ rs) later h = later h.0 n rs h.2 ∙ (is q).keeps config old r h.0 h.1
+  first_kept q qs (Err refusal) old new n rs later h = later old n rs h
 
-    none_first : (n : ℕ) (rs : List Reply) (old new : States) → TrueReplies config old (take n []) rs new → new ≡ old
-    none_first zero [] old new h = h
-    none_first zero (r ∷ rs) old new h = absurd h
-    none_first (suc n) [] old new h = h
-    none_first (suc n) (r ∷ rs) old new h = absurd h
+  none_first : (n : ℕ) (rs : List Reply) (old new : States) → TrueReplies config old (take n []) rs new → new ≡ old
+  none_first zero [] old new h = h
+  none_first zero (r ∷ rs) old new h = absurd h
+  none_first (suc n) [] old new h = h
+  none_first (suc n) (r ∷ rs) old new h = absurd h
 
-    pub first_all_kept : (qs : List Q) (new old : States) (n : ℕ) (rs : List Reply) → TrueReplies config old (take n (framed_requests (map request qs))) rs new → new ≡ old
-    first_all_kept [] new old n rs h = none_first n rs old new h
-    first_all_kept (q ∷ qs) new old n rs h = first_kept q qs (request_frame (request q)) old new n rs (first_all_kept qs new) h
-
-    -- a window, at any end
-    module _ {V : Type 0} (items : V → List (Result A Refusal)) (qs : List Q) (old new : States) where
-      pub window_kept : (result : Result V Refusal) → MatchResult result (λ v. SettleTruly as_reply config old (map request qs) (items v) new) (λ refusal. EndsOpen config old (map request qs) refusal new) → new ≡ old
-      window_kept (Ok v) h = all_kept qs (items v) old new h
-      window_kept (Err refusal) h = first_all_kept qs new old h.1.0 h.1.1 h.1.2
-
-      pub window_not_of_key : (result : Result V Refusal) → MatchResult result (λ v. SettleTruly as_reply config old (map request qs) (items v) new) (λ refusal. EndsOpen config old (map request qs) refusal new) → IfErr result (λ refusal. is_of_question refusal ≡ false)
-      window_not_of_key (Ok v) h = tt
-      window_not_of_key (Err refusal) h = open_not_of_key refusal h.0
+  pub first_all_kept : (qs : List Q) (new old : States) (n : ℕ) (rs : List Reply) → TrueReplies config old (take n (framed_requests (map request qs))) rs new → new ≡ old
+  first_all_kept [] new old n rs h = none_first n rs old new h
+  first_all_kept (q ∷ qs) new old n rs h = first_kept q qs (request_frame (request q)) old new n rs (first_all_kept qs new) h
 
 -- ---- pushes
 
@@ -176,49 +139,7 @@ unframed_push config old key s refusal e = elim (nat_le (length (spell_state s))
       subst (CannotTake config.max_keys old key s) (sym large) (inl long)
 ] refl e
 
--- a refusal that leaves a push open has no cause in the key
-pub open_cause : (config : ConfigValue) (old : States) (key : Key) (s : State) (refusal : Refusal) → leaves_open refusal ≡ true → CannotTake config.max_keys old key s refusal
-open_cause config old key s BadPath e = absurd (cc)
-open_cause config old key s StateTooLarge e = absurd (cc)
-open_cause config old key s Full e = absurd (cc)
-open_cause config old key s DotClash e = absurd (cc)
-open_cause config old key s refusal e = tt
-
 module _ (config : ConfigValue) where
-  open_leaves : (old new : States) (key : Key) (s : State) (refusal : Refusal) (r : Reply) → leaves_open refusal ≡ true → TrueReply config old (Push key s) r new → LeavesOfPush old key s new refusal
-  open_leaves old new key s refusal reply.Done e h = inr (e, h)
-  open_leaves old new key s refusal (reply.Refused told) e (inl h) = inl h.1
-  open_leaves old new key s refusal (reply.Refused told) e (inr h) = inr (e, h.1)
-  open_leaves old new key s refusal (reply.State t) e h = absurd h
-  open_leaves old new key s refusal (reply.Written d) e h = absurd h
-  open_leaves old new key s refusal (reply.Places ps more) e h = absurd h
-  open_leaves old new key s refusal (reply.Row r) e h = absurd h
-  open_leaves old new key s refusal (reply.Rows rs more) e h = absurd h
-  open_leaves old new key s refusal (reply.Digests d) e h = absurd h
-  open_leaves old new key s refusal (reply.Keys ks more) e h = absurd h
-  open_leaves old new key s refusal (reply.Counts cs more) e h = absurd h
-
-  -- one push
-  pub push_taken : (old new : States) (key : Key) (s : State) (result : Result (Unit {0}) Refusal) → AnswersTruly (λ _. reply.Done) config old (Push key s) result new → OnOk result (TakesState old key s new)
-  push_taken old new key s (Ok done) h = h
-  push_taken old new key s (Err refusal) h = tt
-
-  pub push_leaves : (old new : States) (key : Key) (s : State) (result : Result (Unit {0}) Refusal) → AnswersTruly (λ _. reply.Done) config old (Push key s) result new → IfErr result (LeavesOfPush old key s new)
-  push_leaves old new key s (Ok done) h = tt
-  push_leaves old new key s (Err refusal) (inl (inl h)) = inl h.1
-  push_leaves old new key s (Err refusal) (inl (inr h)) = inr (ap leaves_open h.0, h.1)
-  push_leaves old new key s (Err refusal) (inr (inl h)) = inl h.1
-  push_leaves old new key s (Err refusal) (inr (inr (e, inl same))) = inl same
-  push_leaves old new key s (Err refusal) (inr (inr (e, inr h))) = open_leaves old new key s refusal h.0 e h.1
-
-  pub push_cause : (old new : States) (key : Key) (s : State) (result : Result (Unit {0}) Refusal) → AnswersTruly (λ _. reply.Done) config old (Push key s) result new → IfErr result (CannotTake config.max_keys old key s)
-  push_cause old new key s (Ok done) h = tt
-  push_cause old new key s (Err refusal) (inl (inl h)) = h.0
-  push_cause old new key s (Err refusal) (inl (inr h)) = subst (CannotTake config.max_keys old key s) (sym h.0) tt
-  push_cause old new key s (Err refusal) (inr (inl h)) = unframed_push config old key s refusal h.0
-  push_cause old new key s (Err refusal) (inr (inr h)) = open_cause config old key s refusal h.0
-
-  -- many pushes
   abbrev asked : Key × State → Request
   asked p = Push p.0 p.1
 
@@ -270,28 +191,6 @@ module _ (config : ConfigValue) where
   first_none (suc n) [] old new h = (0, [], h)
   first_none (suc n) (r ∷ rs) old new h = absurd h
 
-  first_pushed : (ps : List (Key × State)) (new old : States) (n : ℕ) (rs : List Reply) → TrueReplies config old (take n (framed_requests (map asked ps))) rs new → First old ps new
+  pub first_pushed : (ps : List (Key × State)) (new old : States) (n : ℕ) (rs : List Reply) → TrueReplies config old (take n (framed_requests (map asked ps))) rs new → First old ps new
   first_pushed [] new old n rs h = first_none n rs old new h
   first_pushed (p ∷ ps) new old n rs h = first_step p ps (request_frame (asked p)) refl old new n rs (first_pushed ps new) h
-
-  module _ {V : Type 0} (items : V → List (Result (Unit {0}) Refusal)) (ps : List (Key × State)) (old new : States) where
-    pub window_pushed : (still : Type 0) → still → (result : Result V Refusal) → MatchResult result (λ v. SettleTruly (λ _. reply.Done) config old (map asked ps) (items v) new) (λ refusal. EndsOpen config old (map asked ps) refusal new) → IfOk result (λ v. still × Pushes config.max_keys old ps (items v) new)
-    window_pushed still t (Ok v) h = (t, all_pushed ps (items v) old new h)
-    window_pushed still t (Err refusal) h = tt
-
-    pub window_first : (still : Type 0) (result : Result V Refusal) → MatchResult result (λ v. SettleTruly (λ _. reply.Done) config old (map asked ps) (items v) new) (λ refusal. EndsOpen config old (map asked ps) refusal new) → OnErr result (PushesFirst still config.max_keys old ps new)
-    window_first still (Ok v) h = tt
-    window_first still (Err refusal) h = let f = first_pushed ps new old h.1.0 h.1.1 h.1.2 in (f.0, f.1, new, f.2, λ _. refl)
-
-    pub pushes_open : (result : Result V Refusal) → MatchResult result (λ v. SettleTruly (λ _. reply.Done) config old (map asked ps) (items v) new) (λ refusal. EndsOpen config old (map asked ps) refusal new) → IfErr result IsLeftOpen
-    pushes_open (Ok v) h = tt
-    pushes_open (Err refusal) h = h.0
-
--- a side that is still faithful is so, however it refused
-pub still_so : {V : Type 0} (still : Type 0) (result : Result V Refusal) → still → IfErr result (λ refusal. refusal ≢ Broken → still)
-still_so still (Ok v) t = tt
-still_so still (Err refusal) t = λ _. t
-
-pub on_ok : {V P Q : Type 0} (result : Result V Refusal) → OnOk result P → (P → Q) → OnOk result Q
-on_ok (Ok v) p f = f p
-on_ok (Err refusal) p f = tt

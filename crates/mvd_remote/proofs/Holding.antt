@@ -83,7 +83,7 @@ with_replies P items replies (Ok v) all h = (replies, all, h)
 with_replies P items replies (Err refusal) all h = tt
 
 -- the states that were told are those of the replies
-told_within : (replies : List (Result Reply Refusal)) (told : List (Result State Refusal)) (bytes : ℕ) → AreWithin bytes (states_in replies) → ForEach (IsToldBy as_state) replies told → AreWithin bytes told
+pub told_within : (replies : List (Result Reply Refusal)) (told : List (Result State Refusal)) (bytes : ℕ) → AreWithin bytes (states_in replies) → ForEach (IsToldBy as_state) replies told → AreWithin bytes told
 told_within [] [] bytes all h = tt
 told_within [] (t ∷ ts) bytes all h = absurd h
 told_within (r ∷ rs) [] bytes all h = absurd h
@@ -91,10 +91,6 @@ told_within (r ∷ rs) (Ok state ∷ ts) bytes all h =
     let both = subst (λ r. AreWithin bytes (state_in r ∷ states_in rs)) h.0 all in
     (both.0, told_within rs ts _ both.1 h.1)
 told_within (r ∷ rs) (Err refusal ∷ ts) bytes all h = told_within rs ts bytes (elim h.0 [ inl told ↦ subst (λ r. AreWithin bytes (state_in r ∷ states_in rs)) told all | inr told ↦ subst (λ r. AreWithin bytes (state_in r ∷ states_in rs)) told all ]) h.1
-
-pub told_held : {V : Type 0} (items : V → List (Result State Refusal)) (result : Result V Refusal) → IfOk result (λ v. (rs : List (Result Reply Refusal)) × AreWithin 0 (states_in rs) × ForEach (IsToldBy as_state) rs (items v)) → IfOk result (λ v. AreWithin 0 (items v))
-told_held items (Ok v) h = told_within h.0 (items v) 0 h.1 h.2
-told_held items (Err refusal) h = tt
 
 -- gets are questions whose replies may be given up
 pub are_gets : (keys : List Key) → AreGets (map (λ key. Get key) keys)

@@ -1,7 +1,6 @@
 -- A site at the other end of a live line, as a live side.
-use Rattle.std.proofs.Common.{◌≡◌, inl, inr, ℕ, true, List, [], ◌∷◌, map, Option, sym, ap, subst, ◌∙◌}
-use Rattle.std.specs.Prelude.{Result, Ok, Err, IfOk, Vec}
-use Rattle.std.specs.declared.alloc.Global.{Global}
+use Rattle.std.proofs.Common.{◌≡◌, inl, inr, ℕ, List, [], ◌∷◌, map, Option, sym, ap, subst, ◌∙◌}
+use Rattle.std.specs.Prelude.{Result, Ok, Err}
 use Rattle.mvd_dots.specs.declared.refusals.Refusal.{Refusal}
 use Rattle.mvd_keys.specs.Order.{Includes}
 use Rattle.mvd_keys.specs.State.{IsValid, State}
@@ -15,15 +14,15 @@ use Rattle.mvd_wire.specs.declared.request.Request.TheVariants.{Bucket, Get, Nod
 use Rattle.mvd_wire.specs.Requests.{request_frame}
 use Rattle.mvd_site.specs.Config.{ConfigValue}
 use Rattle.mvd_site.specs.Held.{AreHeld, States, state_at}
-use Rattle.mvd_peer.specs.Live.{Grows}
+use Rattle.mvd_peer.specs.Asking.{PageQuestion}
 use Rattle.mvd_peer.specs.PushedStates.{Each}
-use Rattle.mvd_peer.specs.Telling.{PageTold, StateTold, TellsAll, TellsEach, TellsNode, TellsOne, TellsPush}
-use Rattle.mvd_peer.specs.Windows.{CannotTake, PageValue, leaves_open}
+use Rattle.mvd_peer.specs.Telling.{PageTold, StateTold, TellsEach, TellsNode, TellsPush}
+use Rattle.mvd_peer.specs.Windows.{CannotTake, PageValue}
 use Rattle.mvd_peer.proofs.JoinLaws.{valid_at}
 use Rattle.mvd_peer.proofs.Pushes.{state-pushed}
 use Rattle.mvd_remote.specs.Lines.{TrueReply, as_digests, as_done, as_page, as_state}
-use Rattle.mvd_remote.specs.LiveRemotes.{AnswersLive, SettlesLive}
-use Rattle.mvd_remote.proofs.FarSides.{open_cause, unframed_push}
+use Rattle.mvd_remote.specs.LiveRemotes.{SettlesLive}
+use Rattle.mvd_remote.proofs.FarSides.{unframed_push}
 
 -- ---- one answer at a moment
 
@@ -37,7 +36,7 @@ module _ {Q A : Type 0} (as_reply : A → Reply) (config : ConfigValue) (ask : Q
   one_settled q held (Err refusal) fits (inl (before, form, so)) = refuses q before held refusal so
   one_settled q held (Err refusal) fits (inr none) = unframed q held refusal none
 
-  each_settled : (qs : List Q) (ts : List (Result A Refusal)) (old new : States) (moments : List States) → Each Fits qs → TellsEach (SettlesLive as_reply config) (map ask qs) ts old moments new → TellsEach Right qs ts old moments new
+  pub each_settled : (qs : List Q) (ts : List (Result A Refusal)) (old new : States) (moments : List States) → Each Fits qs → TellsEach (SettlesLive as_reply config) (map ask qs) ts old moments new → TellsEach Right qs ts old moments new
   each_settled [] [] old new [] fits h = h
   each_settled [] [] old new (m ∷ moments) fits h = absurd h
   each_settled [] (t ∷ ts) old new moments fits h = absurd h
@@ -45,33 +44,11 @@ module _ {Q A : Type 0} (as_reply : A → Reply) (config : ConfigValue) (ask : Q
   each_settled (q ∷ qs) (t ∷ ts) old new [] fits h = absurd h
   each_settled (q ∷ qs) (t ∷ ts) old new (m ∷ moments) fits h = (h.0, h.1, one_settled q m t fits.0 h.2, each_settled qs ts m new moments fits.1 h.3)
 
-  -- a window
-  window_tells : {S : Type 0} (is_live : S → Type 0) (states : S → States) (qs : List Q) (old new : S) (result : Result (Vec (Result A Refusal) Global) Refusal) → IfOk result (λ _. Each Fits qs)
-      → (is_live old → is_live new × IfOk result (λ told. (moments : List States) × TellsEach (SettlesLive as_reply config) (map ask qs) told.items (states old) moments (states new))) → TellsAll is_live states Right qs old new result
-  window_tells is_live states qs old new (Ok told) fits so = λ live. let it = so live in (it.0, it.1.0, each_settled qs told.items (states old) (states new) it.1.0 fits it.1.1)
-  window_tells is_live states qs old new (Err refusal) fits so = tt
-
-  -- one question
-  module _ (opened : (q : Q) (held : States) (refusal : Refusal) → leaves_open refusal ≡ true → Right held q (Err refusal)) where
-    one_right : (q : Q) (held : States) (a : Result A Refusal) → Fits q → AnswersLive as_reply config held (ask q) a → Right held q a
-    one_right q held (Ok v) fits (before, form, so) = right q before held v form fits so
-    one_right q held (Err refusal) fits (inl (before, form, so)) = refuses q before held refusal so
-    one_right q held (Err refusal) fits (inr (inl none)) = unframed q held refusal none
-    one_right q held (Err refusal) fits (inr (inr left)) = opened q held refusal left
-
-    one_tells : {S : Type 0} (is_live : S → Type 0) (states : S → States) (q : Q) (old new : S) (result : Result A Refusal) → Fits q
-        → (is_live old → is_live new × (held : States) × AreHeld held × Grows (states old) held × AnswersLive as_reply config held (ask q) result × Grows held (states new)) → TellsOne is_live states Right q result old new
-    one_tells is_live states q old new result fits so = λ whole live. let it = so live in (it.0, it.1 ∷ [], (it.2, it.3, one_right q it.1 result fits it.4, it.5))
-
 -- ---- what a session asks
 
 each_fits : {Q : Type 0} (qs : List Q) → Each (λ _. Unit {0}) qs
 each_fits [] = tt
 each_fits (q ∷ qs) = (tt, each_fits qs)
-
-always_fits : {A Q : Type 0} (result : Result A Refusal) (qs : List Q) → IfOk result (λ _. Each (λ _. Unit {0}) qs)
-always_fits (Ok a) qs = each_fits qs
-always_fits (Err refusal) qs = tt
 
 module _ (config : ConfigValue) where
   node_right : (q : List ℕ) (before held : States) (a : Digests) → AreHeld before → Unit {0} → TrueReply config before (Node q) (as_digests a) held → TellsNode held q (Ok a)
@@ -91,30 +68,15 @@ module _ (config : ConfigValue) where
   push_refuses q before held refusal (inl (why, same)) = subst (λ m. CannotTake config.max_keys m q.0 q.1 refusal) (sym same) why
   push_refuses q before held refusal (inr (broke, taken)) = subst (CannotTake config.max_keys held q.0 q.1) (sym broke) tt
 
-  module _ {S : Type 0} (is_live : S → Type 0) (states : S → States) (old new : S) where
-    pub node_live : (path : List ℕ) (result : Result Digests Refusal) → (is_live old → is_live new × (held : States) × AreHeld held × Grows (states old) held × AnswersLive as_digests config held (Node path) result × Grows held (states new)) → TellsOne is_live states TellsNode path result old new
-    node_live path result so = one_tells as_digests config (λ q. Node q) (λ _. Unit {0}) TellsNode node_right (λ _ _ _ _ _. tt) (λ _ _ _ _. tt) (λ _ _ _ _. tt) is_live states path old new result tt so
+  module _ (old new : States) (moments : List States) where
+    pub nodes_settled : (paths : List (List ℕ)) (ts : List (Result Digests Refusal)) → TellsEach (SettlesLive as_digests config) (map (λ path. Node path) paths) ts old moments new → TellsEach TellsNode paths ts old moments new
+    nodes_settled paths ts h = each_settled as_digests config (λ q. Node q) (λ _. Unit {0}) TellsNode node_right (λ _ _ _ _ _. tt) (λ _ _ _ _. tt) paths ts old new moments (each_fits paths) h
 
-    pub page_live : (q : List ℕ × Option (List ℕ)) (result : Result PageValue Refusal) → (is_live old → is_live new × (held : States) × AreHeld held × Grows (states old) held × AnswersLive as_page config held (Bucket q.0 q.1) result × Grows held (states new)) → TellsOne is_live states PageTold q result old new
-    page_live q result so = one_tells as_page config (λ (q : List ℕ × Option (List ℕ)). Bucket q.0 q.1) (λ _. Unit {0}) PageTold page_right (λ _ _ _ _ _. tt) (λ _ _ _ _. tt) (λ _ _ _ _. tt) is_live states q old new result tt so
+    pub pages_settled : (asked : List PageQuestion) (ts : List (Result PageValue Refusal)) → TellsEach (SettlesLive as_page config) (map (λ (q : PageQuestion). Bucket q.0 q.1) asked) ts old moments new → TellsEach PageTold asked ts old moments new
+    pages_settled asked ts h = each_settled as_page config (λ (q : PageQuestion). Bucket q.0 q.1) (λ _. Unit {0}) PageTold page_right (λ _ _ _ _ _. tt) (λ _ _ _ _. tt) asked ts old new moments (each_fits asked) h
 
-    pub state_live : (key : Key) (result : Result State Refusal) → (is_live old → is_live new × (held : States) × AreHeld held × Grows (states old) held × AnswersLive as_state config held (Get key) result × Grows held (states new)) → TellsOne is_live states StateTold key result old new
-    state_live key result so = one_tells as_state config (λ q. Get q) (λ _. Unit {0}) StateTold state_right (λ _ _ _ _ _. tt) (λ _ _ _ _. tt) (λ _ _ _ _. tt) is_live states key old new result tt so
+    pub states_settled : (keys : List Key) (ts : List (Result State Refusal)) → TellsEach (SettlesLive as_state config) (map (λ key. Get key) keys) ts old moments new → TellsEach StateTold keys ts old moments new
+    states_settled keys ts h = each_settled as_state config (λ q. Get q) (λ _. Unit {0}) StateTold state_right (λ _ _ _ _ _. tt) (λ _ _ _ _. tt) keys ts old new moments (each_fits keys) h
 
-    pub push_live : (q : Key × State) (result : Result (Unit {0}) Refusal) → IsValid q.1 → (is_live old → is_live new × (held : States) × AreHeld held × Grows (states old) held × AnswersLive as_done config held (Push q.0 q.1) result × Grows held (states new)) → TellsOne is_live states (TellsPush config.max_keys) q result old new
-    push_live q result valid so =
-        one_tells as_done config (λ (q : Key × State). Push q.0 q.1) (λ (q : Key × State). IsValid q.1) (TellsPush config.max_keys) push_right push_refuses (λ q held refusal none. unframed_push config held q.0 q.1 refusal none) (λ q held refusal left. open_cause config held q.0 q.1 refusal left) is_live states q old new result valid so
-
-    pub nodes_live : (paths : List (List ℕ)) (result : Result (Vec (Result Digests Refusal) Global) Refusal) → (is_live old → is_live new × IfOk result (λ told. (moments : List States) × TellsEach (SettlesLive as_digests config) (map (λ path. Node path) paths) told.items (states old) moments (states new))) → TellsAll is_live states TellsNode paths old new result
-    nodes_live paths result so = window_tells as_digests config (λ q. Node q) (λ _. Unit {0}) TellsNode node_right (λ _ _ _ _ _. tt) (λ _ _ _ _. tt) is_live states paths old new result (always_fits result paths) so
-
-    pub pages_live : (asked : List (List ℕ × Option (List ℕ))) (result : Result (Vec (Result PageValue Refusal) Global) Refusal) → (is_live old → is_live new × IfOk result (λ told. (moments : List States) × TellsEach (SettlesLive as_page config) (map (λ (q : List ℕ × Option (List ℕ)). Bucket q.0 q.1) asked) told.items (states old) moments (states new))) → TellsAll is_live states PageTold asked old new result
-    pages_live asked result so = window_tells as_page config (λ (q : List ℕ × Option (List ℕ)). Bucket q.0 q.1) (λ _. Unit {0}) PageTold page_right (λ _ _ _ _ _. tt) (λ _ _ _ _. tt) is_live states asked old new result (always_fits result asked) so
-
-    pub states_live : (keys : List Key) (result : Result (Vec (Result State Refusal) Global) Refusal) → (is_live old → is_live new × IfOk result (λ told. (moments : List States) × TellsEach (SettlesLive as_state config) (map (λ key. Get key) keys) told.items (states old) moments (states new))) → TellsAll is_live states StateTold keys old new result
-    states_live keys result so = window_tells as_state config (λ q. Get q) (λ _. Unit {0}) StateTold state_right (λ _ _ _ _ _. tt) (λ _ _ _ _. tt) is_live states keys old new result (always_fits result keys) so
-
-    pub pushes_live : (pairs : List (Key × State)) (result : Result (Vec (Result (Unit {0}) Refusal) Global) Refusal) → IfOk result (λ _. Each (λ p. IsValid p.1) pairs) → (is_live old → is_live new × IfOk result (λ told. (moments : List States) × TellsEach (SettlesLive as_done config) (map (λ (p : Key × State). Push p.0 p.1) pairs) told.items (states old) moments (states new)))
-        → TellsAll is_live states (TellsPush config.max_keys) pairs old new result
-    pushes_live pairs result valid so =
-        window_tells as_done config (λ (q : Key × State). Push q.0 q.1) (λ (q : Key × State). IsValid q.1) (TellsPush config.max_keys) push_right push_refuses (λ q held refusal none. unframed_push config held q.0 q.1 refusal none) is_live states pairs old new result valid so
+    pub pushes_settled : (pairs : List (Key × State)) (ts : List (Result (Unit {0}) Refusal)) → Each (λ p. IsValid p.1) pairs → TellsEach (SettlesLive as_done config) (map (λ (p : Key × State). Push p.0 p.1) pairs) ts old moments new → TellsEach (TellsPush config.max_keys) pairs ts old moments new
+    pushes_settled pairs ts valid h = each_settled as_done config (λ (q : Key × State). Push q.0 q.1) (λ (q : Key × State). IsValid q.1) (TellsPush config.max_keys) push_right push_refuses (λ q held refusal none. unframed_push config held q.0 q.1 refusal none) pairs ts old new moments valid h

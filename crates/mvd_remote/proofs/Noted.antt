@@ -1,17 +1,17 @@
 -- What is noted of what questions were told, and what a remote side may refuse with by that.
-use Rattle.std.proofs.Common.{◌≡◌, ◌⊎◌, inl, inr, List, [], ◌∷◌, ◌++◌, Option, Some, None, refl, sym, ap, subst, ◌∙◌, append_assoc, arith}
-use Rattle.std.specs.Prelude.{Contains, Result, Ok, Err, IfErr, IfOk, OnOk, MatchResult}
-use Rattle.std.proofs.lemmas.List.{map-append}
+use Rattle.std.proofs.Common.{◌≡◌, ◌⊎◌, inl, inr, List, [], ◌∷◌, ◌++◌, None, length, refl, sym, ap, subst, ◌∙◌, ℕ, ◌≤◌, append-nil, append_assoc, arith}
+use Rattle.std.specs.Prelude.{Contains, Result, Ok, Err, IfErr, IfOk, Vec}
+use Rattle.std.specs.declared.alloc.Global.{Global}
+use Rattle.std.proofs.lemmas.List.{length-map, map-append}
 use Rattle.std.proofs.lemmas.List.Elements.{Contains-append_cases, Contains-append_left, Contains-append_right, Contains-push, Contains-push_cases}
-use Rattle.std.proofs.lemmas.Option.{none-some}
 use Rattle.mvd_dots.specs.declared.refusals.Refusal.{Refusal}
 use Rattle.mvd_dots.specs.declared.refusals.Refusal.TheVariants.{Broken, Memory}
 use Rattle.mvd_wire.specs.declared.reply.Reply.{Reply}
 use Rattle.mvd_wire.specs.declared.reply.Reply.TheVariants.{Refused}
 use Rattle.mvd_peer.specs.Windows.{EachTold, ForEach}
 use Rattle.mvd_remote.specs.LinkWindows.{IsToldBy}
-use Rattle.mvd_remote.specs.Lines.{RemoteRefuses, ToldMore, WasTold, noted, told_of}
-use Rattle.mvd_remote.specs.Remotes.{NotesOne}
+use Rattle.mvd_remote.specs.Lines.{NotesUpTo, RemoteRefuses, WasTold, noted, told_of}
+use Rattle.mvd_remote.specs.Remotes.{NotesAll, NotesOne}
 use Rattle.mvd_remote.specs.declared.remote.Remote.{Remote}
 
 -- ---- lists
@@ -42,21 +42,15 @@ contains_noted (r ∷ rs) told h = elim (Contains-append_cases (r ∷ []) rs tol
   | inr later ↦ Contains-append_right ((r, tt) ∷ []) (noted rs) (told, tt) (contains_noted rs told later)
 ]
 
--- ---- what was told stays
+-- ---- how much was noted
 
-pub more_of : {L : Type 0} (old new : Remote L) (more : List (Result Reply Refusal × Unit {0})) → told_of new ≡ told_of old ++ more → ToldMore old new
-more_of old new more is told was = subst (λ (xs : List (Result Reply Refusal × Unit {0})). Contains xs told) (sym is) (Contains-append_left (told_of old) more told was)
+-- no more than this
+pub up_to : {L : Type 0} (old new : Remote L) (told : List (Result Reply Refusal)) (most : ℕ) → length told ≤ most → told_of new ≡ told_of old ++ noted told → NotesUpTo most old new
+up_to old new told most few now = (length told, few, (noted told, length-map told (λ t. (t, tt)), now))
 
-pub same_told : {L : Type 0} (old new : Remote L) → told_of new ≡ told_of old → ToldMore old new
-same_told old new is told was = subst (λ (xs : List (Result Reply Refusal × Unit {0})). Contains xs told) (sym is) was
-
-pub one_more : {L A : Type 0} (as_reply : A → Reply) (old new : Remote L) (result : Result A Refusal) → NotesOne as_reply old new result → ToldMore old new
-one_more as_reply old new result (inl (refusal, is, some, same)) = same_told old new same
-one_more as_reply old new result (inr (told, by, now)) = more_of old new ((told, tt) ∷ []) now
-
-pub all_more : {L V A : Type 0} (as_reply : A → Reply) (items : V → List (Result A Refusal)) (old new : Remote L) (result : Result V Refusal) → MatchResult result (λ v. (replies : List (Result Reply Refusal)) × ForEach (IsToldBy as_reply) replies (items v) × (told_of new ≡ told_of old ++ noted replies)) (λ refusal. RemoteRefuses new refusal × ToldMore old new) → ToldMore old new
-all_more as_reply items old new (Ok v) (replies, by, now) = more_of old new (noted replies) now
-all_more as_reply items old new (Err refusal) h = h.1
+-- nothing
+pub up_to_none : {L : Type 0} (old new : Remote L) (most : ℕ) → told_of new ≡ told_of old → NotesUpTo most old new
+up_to_none old new most same = up_to old new [] most (omega arith) (same ∙ sym (append-nil (told_of old)))
 
 -- ---- one question
 
@@ -87,42 +81,27 @@ was_by : {L : Type 0} (new : Remote L) (told : Result Reply Refusal) (refusal : 
 was_by new told refusal (inl is) h = inl (subst (λ (t : Result Reply Refusal). Contains (told_of new) (t, tt)) is h)
 was_by new told refusal (inr is) h = inr (subst (λ (t : Result Reply Refusal). Contains (told_of new) (t, tt)) is h)
 
-last_noted : {L : Type 0} (old new : Remote L) (told : Result Reply Refusal) → told_of new ≡ told_of old ++ (told, tt) ∷ [] → Contains (told_of new) (told, tt)
-last_noted old new told now = subst (λ (xs : List (Result Reply Refusal × Unit {0})). Contains xs (told, tt)) (sym now) (Contains-push (told_of old) (told, tt))
-
--- where a link refuses, a question is refused so
-refuses_at : {L A : Type 0} (as_reply : A → Reply) (old new : Remote L) (at : Option Refusal) → at ≡ new.refused → (result : Result A Refusal) → IfErr result (λ refusal. (own : Refusal) → new.refused ≡ Some own → refusal ≡ own) → NotesOne as_reply old new result → IfErr result (RemoteRefuses new)
-refuses_at as_reply old new at is (Ok a) only notes = tt
-refuses_at as_reply old new (Some own) is (Err refusal) only notes = inl (sym is ∙ ap Some (sym (only own (sym is))))
-refuses_at as_reply old new None is (Err refusal) only (inl (other, e, some, same)) = absurd (none-some other (is ∙ some))
-refuses_at as_reply old new None is (Err refusal) only (inr (told, by, now)) = inr (sym is, inl (was_by new told refusal by (last_noted old new told now)))
-
-pub refuses_noted : {L A : Type 0} (as_reply : A → Reply) (old new : Remote L) (result : Result A Refusal) → IfErr result (λ refusal. (own : Refusal) → new.refused ≡ Some own → refusal ≡ own) → NotesOne as_reply old new result → IfErr result (RemoteRefuses new)
-refuses_noted as_reply old new result only notes = refuses_at as_reply old new new.refused refl result only notes
-
 -- ---- a window
-
-each_noted : {L A : Type 0} (as_reply : A → Reply) (new : Remote L) → new.refused ≡ None → (replies : List (Result Reply Refusal)) (ts : List (Result A Refusal)) → ForEach (IsToldBy as_reply) replies ts → ((told : Result Reply Refusal) → Contains replies told → Contains (told_of new) (told, tt)) → EachTold (Unit {0}) (RemoteRefuses new) ts
-each_noted as_reply new none [] [] h held = tt
-each_noted as_reply new none [] (t ∷ ts) h held = absurd h
-each_noted as_reply new none (r ∷ rs) [] h held = absurd h
-each_noted as_reply new none (r ∷ rs) (Ok a ∷ ts) h held = (tt, each_noted as_reply new none rs ts h.1 (λ told c. held told (Contains-append_right (r ∷ []) rs told c)))
-each_noted as_reply new none (r ∷ rs) (Err refusal ∷ ts) h held = (inr (none, inl (was_by new r refusal h.0 (held r (contains_first r rs)))), each_noted as_reply new none rs ts h.1 (λ told c. held told (Contains-append_right (r ∷ []) rs told c)))
 
 held_of : {L : Type 0} (old new : Remote L) (replies : List (Result Reply Refusal)) → told_of new ≡ told_of old ++ noted replies → (told : Result Reply Refusal) → Contains replies told → Contains (told_of new) (told, tt)
 held_of old new replies now told c = subst (λ (xs : List (Result Reply Refusal × Unit {0})). Contains xs (told, tt)) (sym now) (Contains-append_right (told_of old) (noted replies) (told, tt) (contains_noted replies told c))
 
 -- each refusal of a window is one that the side then may refuse with
-pub noted_why : {L V A : Type 0} (as_reply : A → Reply) (items : V → List (Result A Refusal)) (old new : Remote L) (result : Result V Refusal) → OnOk result (new.refused ≡ None) → MatchResult result (λ v. (replies : List (Result Reply Refusal)) × ForEach (IsToldBy as_reply) replies (items v) × (told_of new ≡ told_of old ++ noted replies)) (λ refusal. RemoteRefuses new refusal × ToldMore old new)
-    → MatchResult result (λ v. EachTold (Unit {0}) (RemoteRefuses new) (items v)) (RemoteRefuses new)
-noted_why as_reply items old new (Ok v) none (replies, by, now) = each_noted as_reply new none replies (items v) by (held_of old new replies now)
-noted_why as_reply items old new (Err refusal) none h = h.0
+module _ {L A : Type 0} (as_reply : A → Reply) (new : Remote L) (none : new.refused ≡ None) {Answers : Type 0} {Refuses : Refusal → Type 0} (answers : Answers) (refuses : (refusal : Refusal) → RemoteRefuses new refusal → Refuses refusal) where
+  each_noted : (replies : List (Result Reply Refusal)) (ts : List (Result A Refusal)) → ForEach (IsToldBy as_reply) replies ts → ((told : Result Reply Refusal) → Contains replies told → Contains (told_of new) (told, tt)) → EachTold Answers Refuses ts
+  each_noted [] [] h held = tt
+  each_noted [] (t ∷ ts) h held = absurd h
+  each_noted (r ∷ rs) [] h held = absurd h
+  each_noted (r ∷ rs) (Ok a ∷ ts) h held = (answers, each_noted rs ts h.1 (λ told c. held told (Contains-append_right (r ∷ []) rs told c)))
+  each_noted (r ∷ rs) (Err refusal ∷ ts) h held = (refuses refusal (inr (none, inl (was_by new r refusal h.0 (held r (contains_first r rs))))), each_noted rs ts h.1 (λ told c. held told (Contains-append_right (r ∷ []) rs told c)))
+
+  pub noted_why : (old : Remote L) (replies : List (Result Reply Refusal)) (ts : List (Result A Refusal)) → ForEach (IsToldBy as_reply) replies ts → told_of new ≡ told_of old ++ noted replies → EachTold Answers Refuses ts
+  noted_why old replies ts by now = each_noted replies ts by (held_of old new replies now)
 
 -- what was made of the replies of a window
-pub notes_made : {L V A : Type 0} (as_reply : A → Reply) (items : V → List (Result A Refusal)) (old new : Remote L) (replies : List (Result Reply Refusal)) (made : Result V Refusal) → new.refused ≡ None → told_of new ≡ told_of old ++ noted replies → IfOk made (λ v. ForEach (IsToldBy as_reply) replies (items v))
-    → IfErr made (λ refusal. (refusal ≡ Memory) ⊎ ((refusal ≡ Broken) × (Contains replies (Ok (Refused Broken)) ⊎ Contains replies (Err Broken))))
-    → MatchResult made (λ v. (replies : List (Result Reply Refusal)) × ForEach (IsToldBy as_reply) replies (items v) × (told_of new ≡ told_of old ++ noted replies)) (λ refusal. RemoteRefuses new refusal × ToldMore old new)
-notes_made as_reply items old new replies (Ok v) none now by why = (replies, by, now)
-notes_made as_reply items old new replies (Err refusal) none now by (inl memory) = (inr (none, inr memory), more_of old new (noted replies) now)
-notes_made as_reply items old new replies (Err refusal) none now by (inr (broken, inl said)) = (subst (RemoteRefuses new) (sym broken) (inr (none, inl (inl (held_of old new replies now (Ok (Refused Broken)) said)))), more_of old new (noted replies) now)
-notes_made as_reply items old new replies (Err refusal) none now by (inr (broken, inr said)) = (subst (RemoteRefuses new) (sym broken) (inr (none, inl (inr (held_of old new replies now (Err Broken) said)))), more_of old new (noted replies) now)
+pub notes_made : {L A : Type 0} (as_reply : A → Reply) (old new : Remote L) (replies : List (Result Reply Refusal)) (most : ℕ) (made : Result (Vec (Result A Refusal) Global) Refusal) → length replies ≤ most → new.refused ≡ None → told_of new ≡ told_of old ++ noted replies → IfOk made (λ v. ForEach (IsToldBy as_reply) replies v.items)
+    → IfErr made (λ refusal. (refusal ≡ Memory) ⊎ ((refusal ≡ Broken) × (Contains replies (Ok (Refused Broken)) ⊎ Contains replies (Err Broken)))) → NotesAll as_reply most old new made
+notes_made as_reply old new replies most (Ok v) few none now by why = (replies, by, now)
+notes_made as_reply old new replies most (Err refusal) few none now by (inl memory) = (inr (none, inr memory), up_to old new replies most few now)
+notes_made as_reply old new replies most (Err refusal) few none now by (inr (broken, inl said)) = (subst (RemoteRefuses new) (sym broken) (inr (none, inl (inl (held_of old new replies now (Ok (Refused Broken)) said)))), up_to old new replies most few now)
+notes_made as_reply old new replies most (Err refusal) few none now by (inr (broken, inr said)) = (subst (RemoteRefuses new) (sym broken) (inr (none, inl (inr (held_of old new replies now (Err Broken) said)))), up_to old new replies most few now)

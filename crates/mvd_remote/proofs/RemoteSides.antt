@@ -1,37 +1,41 @@
--- A site at the other end of a connection, as a side.
-use Rattle.std.proofs.Common.{◌≡◌, inl, inr, ℕ, suc, ◌+◌, List, [], ◌∷◌, length, map, refl, sym, ap, ◌∙◌, arith, length-append}
+-- A site at the other end of a connection, as a side of a session.
+use Rattle.std.proofs.Common.{◌≡◌, inl, inr, ℕ, suc, ◌≤◌, List, [], ◌∷◌, length, map, take, refl, sym, subst, ap, ◌∙◌, arith}
 use Rattle.std.proofs.lemmas.List.{length-map}
-use Rattle.std.specs.Prelude.{Option, Some, None, Result, Ok, Err, IfOk, IfErr, OnOk, MatchResult}
+use Rattle.std.specs.Prelude.{◌⊎◌, ◌++◌, Some, None, Result, Ok, Err, Vec}
+use Rattle.std.specs.declared.alloc.Global.{Global}
 use Rattle.mvd_dots.specs.declared.refusals.Refusal.{Refusal}
+use Rattle.mvd_dots.specs.declared.refusals.Refusal.TheVariants.{Memory}
+use Rattle.mvd_keys.specs.State.{State}
+use Rattle.mvd_keys.specs.Writes.{Key}
 use Rattle.mvd_wire.specs.declared.request.Request.{Request}
+use Rattle.mvd_wire.specs.declared.request.Request.TheVariants.{Bucket, Get, Node, Push}
+use Rattle.mvd_wire.specs.declared.reply.Digests.{Digests}
 use Rattle.mvd_wire.specs.declared.reply.Reply.{Reply}
-use Rattle.mvd_wire.specs.Requests.{request_frame}
-use Rattle.mvd_remote.specs.Lines.{RemoteRefuses, refuses_none}
-use Rattle.mvd_remote.specs.Remotes.{NotesOne}
+use Rattle.mvd_site.specs.Config.{ConfigValue}
+use Rattle.mvd_site.specs.Held.{States}
+use Rattle.mvd_peer.specs.Asking.{PageQuestion, Wanted, asked, count_in, count_wanted}
+use Rattle.mvd_peer.specs.Saying.{SideSays, manner_of}
+use Rattle.mvd_peer.specs.Sides.{HasRefused, StaysFaithful, is_of_question}
+use Rattle.mvd_peer.specs.Telling.{TellsEach}
+use Rattle.mvd_peer.specs.Windows.{Asked, EachAnswer, EachRefusal, ForEach, Kind, PageValue, Pushes as PushesSo, for_pushes, gets_of, nodes_of, pages_kind}
+use Rattle.mvd_peer.specs.declared.window.Told.TheVariants as told
+use Rattle.mvd_peer.specs.declared.window.Window.{Window}
+use Rattle.mvd_peer.specs.declared.window.Window.TheVariants.{Nodes, Pages, Gets, Pushes}
+use Rattle.mvd_peer.proofs.ManyPushes.{open_not_of_key}
+use Rattle.mvd_remote.specs.LinkWindows.{AsksAll, Frames, IsToldBy, frames_of}
+use Rattle.mvd_remote.specs.Lines.{EndsOpen, IsTrueRemote, KeepsConfig, NotesUpTo, RemoteFollows, RemoteRefuses}
+use Rattle.mvd_remote.specs.Lines.{SettleTruly, TakesFirst, TrueReply, as_digests, as_done, as_page, as_state, far_of}
+use Rattle.mvd_remote.specs.Lines.{framed_requests, noted, refuses_none, remote_follows_self, told_of}
+use Rattle.mvd_remote.specs.LiveRemotes.{IsLiveRemote, SettlesLive}
+use Rattle.mvd_remote.specs.Remotes.{PushesValid, link_of, remote_side, requests_of}
+use Rattle.mvd_remote.specs.declared.line.Line.{Ghosts}
 use Rattle.mvd_remote.specs.declared.remote.Remote.{Remote}
-use Rattle.mvd_remote.proofs.Noted.{refuses_noted}
-use Rattle.mvd_remote.specs.LinkWindows.{IsToldBy, AsksAll, Frames, RefusesAll, TakeTurns, and_frame, frames_after, frames_of}
-use Rattle.mvd_remote.specs.Links.{AsksLinkFor, Link}
-use Rattle.mvd_peer.specs.Windows.{ForEach}
-use Rattle.mvd_peer.specs.Sides.{HasAnswered, HasRefused}
-use Rattle.mvd_peer.specs.Windows.{EachAnswer, EachRefusal, EachTold, Ends}
-use Rattle.mvd_peer.proofs.OneByOne.{AskedBy, told_still}
+use Rattle.mvd_remote.proofs.FarSides.{IsQuestion, all_kept, all_not_of_key, all_pushed, all_right, bucket_asks, first_all_kept, first_pushed, get_asks, node_asks}
+use Rattle.mvd_remote.proofs.LiveSides.{nodes_settled, pages_settled, pushes_settled, states_settled}
+use Rattle.mvd_remote.proofs.Noted.{noted_why}
+use Rattle.mvd_remote.proofs.Turns.{many_after, many_turns}
 
 -- ---- as many answers as requests
-
-one_longer : (before : Frames) (frame : Result (List ℕ) Refusal) → length (and_frame before frame).1 ≡ length before.1 + 1
-one_longer (frames, nones) (Ok frame) = length-append nones (None ∷ [])
-one_longer (frames, nones) (Err refusal) = length-append nones (Some refusal ∷ [])
-
-many_after : (before : Frames) (rs : List Request) → length (frames_after before rs).1 ≡ length before.1 + length rs
-many_after before [] = omega arith
-many_after before (r ∷ rs) = let e = many_after (and_frame before (request_frame r)) rs in let o = one_longer before (request_frame r) in omega arith
-
-many_turns : (kind : ℕ) (nones : List (Option Refusal)) (replies : List (Result Reply Refusal)) (old new : Option (List ℕ)) → TakeTurns kind nones replies old new → length replies ≡ length nones
-many_turns kind [] [] old new h = refl
-many_turns kind [] (r ∷ rs) old new h = absurd h
-many_turns kind (n ∷ ns) [] old new h = absurd h
-many_turns kind (n ∷ ns) (r ∷ rs) old new h = ap suc (many_turns kind ns rs h.0 new h.2)
 
 many_each : {Q A : Type 0} (P : Q → A → Type 0) (qs : List Q) (ts : List A) → ForEach P qs ts → length ts ≡ length qs
 many_each P [] [] h = refl
@@ -46,79 +50,141 @@ each_free P (q ∷ qs) [] f e = absurd (omega arith)
 each_free P (q ∷ qs) (Ok a ∷ ts) f e = (f q a, each_free P qs ts f (omega arith))
 each_free P (q ∷ qs) (Err refusal ∷ ts) f e = each_free P qs ts f (omega arith)
 
-err_of : {V : Type 0} (P : V → Type 0) {E F : Refusal → Type 0} (r : Result V Refusal) → MatchResult r P E → ((e : Refusal) → E e → F e) → IfErr r F
-err_of P (Ok v) h f = tt
-err_of P (Err e) h f = f e h
+-- ---- the questions of a window
 
--- ---- a side whose link may refuse
+some_wanted : (window : Window) → 1 ≤ count_in window → 1 ≤ count_wanted (asked (Some window))
+some_wanted (Nodes paths) some = omega (arith, some)
+some_wanted (Pages pages) some = omega (arith, some)
+some_wanted (Gets keys) some = omega (arith, some)
+some_wanted (Pushes pairs) some = omega (arith, some)
 
-module _ {S : Type 0} (refused : S → Option Refusal) (Refuses : S → Refusal → Type 0) (Follows : S → S → Type 0) (self : (s : S) → Follows s s) where
-  abbrev Goes : S → Type 0
-  Goes s = refused s ≡ None
+many_wanted : (window : Window) → length (requests_of window) ≡ count_wanted (asked (Some window))
+many_wanted (Nodes paths) = let e = length-map paths.items (λ path. Node path) in omega (arith, e)
+many_wanted (Pages pages) = let e = length-map pages.items (λ q. Bucket q.0 q.1) in omega (arith, e)
+many_wanted (Gets keys) = let e = length-map keys.items (λ key. Get key) in omega (arith, e)
+many_wanted (Pushes pairs) = let e = length-map pairs.items (λ pair. Push pair.0 pair.1) in omega (arith, e)
 
-  module _ {V A Q : Type 0} (as_reply : A → Reply) (items : V → List (Result A Refusal)) (kind : ℕ) (request : Q → Request) (qs : List Q) (old new : S) (result : Result V Refusal) (l l' : Link) (was : l.refused ≡ refused old) (is : l'.refused ≡ refused new) (still : Follows old new)
-      (asked : MatchResult result (λ v. AsksAll as_reply kind (frames_of (map request qs)) (items v) l l') (RefusesAll kind (frames_of (map request qs)) l l')) (why : MatchResult result (λ v. EachTold (Unit {0}) (Refuses new) (items v)) (Refuses new)) where
-    refused_now : (refusal : Refusal) → Refuses new refusal → HasRefused (λ _. Follows) Refuses old new refusal
-    refused_now refusal now = (new, (0, still), now, (0, self new))
+-- the first of them were taken: questions keep what is held, and pushes are taken one after the other
+abbrev FirstTaken : ConfigValue → Wanted → States → States → Type 0
+FirstTaken config w old new = (w.pushes ≡ [] → new ≡ old) × ((n : ℕ) × (ts : List (Result (Unit {0}) Refusal)) × PushesSo config.max_keys old (take n w.pushes) ts new)
 
-    answered_so : (May Right : Q → A → Type 0) (Apart : Q → Refusal → Type 0) (Was : Type 0) → ((q : Q) (a : A) → May q a) → (ts : List (Result A Refusal)) → (Was → EachAnswer Right qs ts) → (Was → EachRefusal Apart qs ts) → EachTold (Unit {0}) (Refuses new) ts → AsksAll as_reply kind (frames_of (map request qs)) ts l l' → AskedBy (λ _. Follows) Refuses Goes May Right Apart Was qs ts old new
-    answered_so May Right Apart Was free ts right of_key each a =
-        let goes : refused new ≡ None = sym is ∙ a.answered.goes_on in
-        let m = many_after ([], []) (map request qs) in
-        let n = many_turns kind (frames_of (map request qs)).1 a.replies l.input l'.input a.answered.read in
-        let o = many_each (IsToldBy as_reply) a.replies ts a.tells in
-        let p = length-map qs request in
+first_taken : (config : ConfigValue) (window : Window) (old new : States) → 1 ≤ count_in window → TakesFirst config old (framed_requests (requests_of window)) new → FirstTaken config (asked (Some window)) old new
+first_taken config (Nodes paths) old new some (n, replies, h) = let same = first_all_kept config (λ path. Node path) node_asks paths.items new old n replies h in (λ _. same, (0, [], same))
+first_taken config (Pages pages) old new some (n, replies, h) = let same = first_all_kept config (λ q. Bucket q.0 q.1) (λ q. bucket_asks q.0 q.1) pages.items new old n replies h in (λ _. same, (0, [], same))
+first_taken config (Gets keys) old new some (n, replies, h) = let same = first_all_kept config (λ key. Get key) get_asks keys.items new old n replies h in (λ _. same, (0, [], same))
+first_taken config (Pushes pairs) old new some (n, replies, h) = (λ none. let e = ap length none in absurd (omega (arith, e, some)), first_pushed config pairs.items new old n replies h)
+
+module _ {L : Type 0} (line : Ghosts L) where
+  refused_now : (n : ℕ) (old new : Remote L) (refusal : Refusal) → RemoteFollows line.far n old new → RemoteRefuses new refusal → HasRefused (RemoteFollows line.far) RemoteRefuses old new refusal
+  refused_now n old new refusal still now = (new, (n, still), now, (0, remote_follows_self line.far new))
+
+  -- ---- a window that is refused
+
+  -- nothing was asked
+  pub refuses_at_once : (window : Window) (remote : Remote L) (refusal : Refusal) → 1 ≤ count_in window → (remote.refused ≡ Some refusal) ⊎ (refusal ≡ Memory) → SideSays (remote_side line) (asked (Some window)) (Some (told.Refused refusal)) remote remote
+  refuses_at_once window remote refusal some why = (
+    some_wanted window some,
+    record {
+      ends = record {
+        count = (0, omega arith, remote_follows_self line.far remote);
+        cause = elim why [ inl own ↦ inl (refused_now 0 remote remote refusal (remote_follows_self line.far remote) (inl own)) | inr memory ↦ inr memory ];
+      };
+      not_of_question = λ was. elim why [ inl own ↦ open_not_of_key refusal (was.own refusal own) | inr memory ↦ ap is_of_question memory ];
+      kept = λ _ was. (was, refl);
+      unbroken = λ was _. was;
+      first = λ _. (0, [], (far_of line.far remote).states, refl, λ _. refl);
+    },
+  )
+
+  -- frames of it may have gone out
+  pub refuses_window : (window : Window) (frames : Frames) (old new : Remote L) (refusal : Refusal) → 1 ≤ count_in window → frames ≡ frames_of (requests_of window) → old.refused ≡ None → KeepsConfig line.far old new → RemoteRefuses new refusal × NotesUpTo (length frames.1) old new
+      → (IsTrueRemote line.is_true line.far old → IsTrueRemote line.is_true line.far new × EndsOpen (far_of line.far old).config (far_of line.far old).states (requests_of window) refusal (far_of line.far new).states)
+      → SideSays (remote_side line) (asked (Some window)) (Some (told.Refused refusal)) old new
+  refuses_window window frames old new refusal some is none config (refuses, (n, few, notes)) truth =
+      let before = far_of line.far old in
+      let after = far_of line.far new in
+      let still : RemoteFollows line.far n old new = (λ over. refuses_none old.refused over.0 none over.1, config, notes) in
+      let long = ap (λ (f : Frames). length f.1) is in
+      let many = many_after ([], []) (requests_of window) in
+      let wanted = many_wanted window in (
+        some_wanted window some,
+        record {
+          ends = record { count = (n, omega (arith, few, long, many, wanted), still); cause = inl (refused_now n old new refusal still refuses) };
+          not_of_question = λ was. open_not_of_key refusal (truth was).1.0;
+          kept = λ reads was. let t = truth was in (t.0, (first_taken before.config window before.states after.states some t.1.1).0 reads);
+          unbroken = λ was _. (truth was).0;
+          first = λ was. let f = (first_taken before.config window before.states after.states some (truth was).1.1).1 in (f.0, f.1, after.states, f.2, λ _. refl);
+        },
+      )
+
+  -- ---- a window that is answered
+
+  -- what is known of its answers
+  pub record Answered {A : Type 0} (as_reply : A → Reply) (frames : Frames) (requests : List Request) (ts : List (Result A Refusal)) (old new : Remote L) : Type 0 where
+    pub kind : ℕ
+    pub over : AsksAll as_reply kind frames ts (link_of line old) (link_of line new)
+    pub is : frames ≡ frames_of requests
+    pub none : old.refused ≡ None
+    pub config : KeepsConfig line.far old new
+    pub notes : (replies : List (Result Reply Refusal)) × ForEach (IsToldBy as_reply) replies ts × (told_of new ≡ told_of old ++ noted replies)
+    pub truth : IsTrueRemote line.is_true line.far old → IsTrueRemote line.is_true line.far new × SettleTruly as_reply (far_of line.far old).config (far_of line.far old).states requests ts (far_of line.far new).states
+    pub live : IsLiveRemote line.is_live line.awaits old → IsLiveRemote line.is_live line.awaits new × ((moments : List States) × TellsEach (SettlesLive as_reply (far_of line.far old).config) requests ts (far_of line.far old).states moments (far_of line.far new).states)
+
+  module _ {Q A : Type 0} (as_reply : A → Reply) (frames : Frames) (request : Q → Request) (qs : List Q) (ts : List (Result A Refusal)) (old new : Remote L) (h : Answered as_reply frames (map request qs) ts old new) where
+    asked_so : (kind : Kind Q A) → ((q : Q) (a : A) → kind.may q a) → (kind.was_faithful → EachAnswer kind.right qs ts) → (kind.was_faithful → EachRefusal kind.refuses qs ts) → Asked (manner_of (remote_side line)) kind qs ts old new
+    asked_so kind free right refuses =
+        let replies = h.notes.0 in
+        let long = ap (λ (f : Frames). length f.1) h.is in
+        let sent = many_after ([], []) (map request qs) in
+        let read = many_turns h.kind frames.1 h.over.replies (link_of line old).input (link_of line new).input h.over.answered.read in
+        let tells = many_each (IsToldBy as_reply) h.over.replies ts h.over.tells in
+        let by = many_each (IsToldBy as_reply) replies ts h.notes.1 in
+        let each = length-map qs request in
+        let many : length ts ≡ length qs = omega (arith, long, sent, read, tells, each) in
+        let still : RemoteFollows line.far (length qs) old new = (λ over. refuses_none old.refused over.0 h.none over.1, h.config, (noted replies, length-map replies (λ t. (t, tt)) ∙ omega (arith, by, many), h.notes.2)) in
         record {
           count = still;
-          may = each_free May qs ts free (omega arith);
+          may = each_free kind.may qs ts free many;
           right = right;
-          told = told_still (Unit {0}) (HasAnswered (λ _. Follows) Goes old new) (Refuses new) (HasRefused (λ _. Follows) Refuses old new) ts (λ _. (new, (0, still), goes, (0, self new))) refused_now each;
-          not_of_question = of_key;
+          told = noted_why as_reply new h.over.answered.goes_on (new, (length qs, still), h.over.answered.goes_on, (0, remote_follows_self line.far new)) (λ refusal now. refused_now (length qs) old new refusal still now) old replies ts h.notes.1 h.notes.2;
+          not_of_question = refuses;
         }
 
-    module _ (May Right : Q → A → Type 0) (Apart : Q → Refusal → Type 0) (Was : Type 0) (Settles : List (Result A Refusal) → Type 0) (E : Refusal → Type 0) (free : (q : Q) (a : A) → May q a) (right : (ts : List (Result A Refusal)) → Settles ts → EachAnswer Right qs ts) (of_key : (ts : List (Result A Refusal)) → Settles ts → EachRefusal Apart qs ts) where
-      asked_at : (r : Result V Refusal) → MatchResult r (λ v. AsksAll as_reply kind (frames_of (map request qs)) (items v) l l') (RefusesAll kind (frames_of (map request qs)) l l') → MatchResult r (λ v. EachTold (Unit {0}) (Refuses new) (items v)) (Refuses new) → (Was → MatchResult r (λ v. Settles (items v)) E) → IfOk r (λ v. AskedBy (λ _. Follows) Refuses Goes May Right Apart Was qs (items v) old new)
-      asked_at (Ok v) h each truth = answered_so May Right Apart Was free (items v) (λ t. right (items v) (truth t)) (λ t. of_key (items v) (truth t)) each h
-      asked_at (Err refusal) h refuses truth = tt
+    -- questions that change nothing
+    reads_so : (kind : Kind Q A) → ((q : Q) (a : A) → kind.may q a) → (kind.was_faithful → IsTrueRemote line.is_true line.far old) → ((q : Q) → IsQuestion (request q) (kind.refuses q)) → ((q : Q) (a : A) (after : States) → TrueReply (far_of line.far old).config (far_of line.far old).states (request q) (as_reply a) after → kind.right q a)
+        → Asked (manner_of (remote_side line)) kind qs ts old new × StaysFaithful (IsTrueRemote line.is_true line.far) (λ remote. (far_of line.far remote).states) old new
+    reads_so kind free was is right =
+        let before = far_of line.far old in
+        let after = far_of line.far new in (
+          asked_so kind free (λ f. all_right before.config request is as_reply kind.right before.states right qs ts before.states after.states refl (h.truth (was f)).1)
+              (λ f. all_not_of_key before.config request is as_reply qs ts before.states after.states (h.truth (was f)).1),
+          λ true. let t = h.truth true in (t.0, all_kept before.config request is as_reply qs ts before.states after.states t.1),
+        )
 
-      pub link_asked : (Was → MatchResult result (λ v. Settles (items v)) E) → IfOk result (λ v. AskedBy (λ _. Follows) Refuses Goes May Right Apart Was qs (items v) old new)
-      link_asked truth = asked_at result asked why truth
+  module _ (frames : Frames) (window : Window) (some : 1 ≤ count_in window) (old new : Remote L) where
+    pub says_nodes : (paths : Vec (List ℕ) Global) (answers : Vec (Result Digests Refusal) Global) → window ≡ Nodes paths → Answered as_digests frames (requests_of window) answers.items old new → SideSays (remote_side line) (asked (Some window)) (Some (told.Nodes answers)) old new
+    says_nodes paths answers is h = subst (λ w. 1 ≤ count_in w → Answered as_digests frames (requests_of w) answers.items old new → SideSays (remote_side line) (asked (Some w)) (Some (told.Nodes answers)) old new) (sym is)
+        (λ some h. let it = reads_so as_digests frames (λ path. Node path) paths.items answers.items old new h (nodes_of (IsTrueRemote line.is_true line.far) (λ remote. (far_of line.far remote).states) old) (λ _ _. tt) (λ was. was) node_asks (λ q a after is. is.0) in
+        (some, (it.0, it.1, λ live. let l = h.live live in (l.0, l.1.0, nodes_settled (far_of line.far old).config _ _ l.1.0 paths.items answers.items l.1.1)))) some h
 
-    -- nothing is said of one that was faithful
-    told_at : (May Right : Q → A → Type 0) (Apart : Q → Refusal → Type 0) → ((q : Q) (a : A) → May q a) → (r : Result V Refusal) → MatchResult r (λ v. AsksAll as_reply kind (frames_of (map request qs)) (items v) l l') (RefusesAll kind (frames_of (map request qs)) l l') → MatchResult r (λ v. EachTold (Unit {0}) (Refuses new) (items v)) (Refuses new) → IfOk r (λ v. AskedBy (λ _. Follows) Refuses Goes May Right Apart ⊥ qs (items v) old new)
-    told_at May Right Apart free (Ok v) h each = answered_so May Right Apart ⊥ free (items v) (λ never. absurd never) (λ never. absurd never) each h
-    told_at May Right Apart free (Err refusal) h refuses = tt
+    pub says_pages : (pages : Vec PageQuestion Global) (answers : Vec (Result PageValue Refusal) Global) → window ≡ Pages pages → Answered as_page frames (requests_of window) answers.items old new → SideSays (remote_side line) (asked (Some window)) (Some (told.Pages answers)) old new
+    says_pages pages answers is h = subst (λ w. 1 ≤ count_in w → Answered as_page frames (requests_of w) answers.items old new → SideSays (remote_side line) (asked (Some w)) (Some (told.Pages answers)) old new) (sym is)
+        (λ some h. let it = reads_so as_page frames (λ q. Bucket q.0 q.1) pages.items answers.items old new h (pages_kind (IsTrueRemote line.is_true line.far) (λ remote. (far_of line.far remote).states) old) (λ _ _. tt) (λ was. was) (λ q. bucket_asks q.0 q.1) (λ q a after is. (is.0, is.1)) in
+        (some, (it.0, it.1, λ live. let l = h.live live in (l.0, l.1.0, pages_settled (far_of line.far old).config _ _ l.1.0 pages.items answers.items l.1.1)))) some h
 
-    pub link_told : (May Right : Q → A → Type 0) (Apart : Q → Refusal → Type 0) → ((q : Q) (a : A) → May q a) → IfOk result (λ v. AskedBy (λ _. Follows) Refuses Goes May Right Apart ⊥ qs (items v) old new)
-    link_told May Right Apart free = told_at May Right Apart free result asked why
+    pub says_states : (keys : Vec Key Global) (answers : Vec (Result State Refusal) Global) → window ≡ Gets keys → Answered as_state frames (requests_of window) answers.items old new → SideSays (remote_side line) (asked (Some window)) (Some (told.States answers)) old new
+    says_states keys answers is h = subst (λ w. 1 ≤ count_in w → Answered as_state frames (requests_of w) answers.items old new → SideSays (remote_side line) (asked (Some w)) (Some (told.States answers)) old new) (sym is)
+        (λ some h. let it = reads_so as_state frames (λ key. Get key) keys.items answers.items old new h (gets_of (λ _ _. Unit {0}) (IsTrueRemote line.is_true line.far) (λ remote. (far_of line.far remote).states) old) (λ _ _. tt) (λ was. was) get_asks (λ q a after is. is.0) in
+        (some, (it.0, it.1, λ live. let l = h.live live in (l.0, l.1.0, states_settled (far_of line.far old).config _ _ l.1.0 keys.items answers.items l.1.1)))) some h
 
-    pub link_ends : IfErr result (Ends (λ _. Follows) Refuses (length qs) old new)
-    link_ends = err_of _ result why (λ refusal r. record { count = (0, omega arith, still); cause = inl (refused_now refusal r) })
-
--- a link goes on behind a window that was answered
-pub all_goes : {V A : Type 0} (as_reply : A → Reply) (items : V → List (Result A Refusal)) (kind : ℕ) (frames : Frames) (l l' : Link) (result : Result V Refusal) → MatchResult result (λ v. AsksAll as_reply kind frames (items v) l l') (RefusesAll kind frames l l') → OnOk result (l'.refused ≡ None)
-all_goes as_reply items kind frames l l' (Ok v) h = h.answered.goes_on
-all_goes as_reply items kind frames l l' (Err refusal) h = tt
-
--- ---- one question
-
-only_own : {A : Type 0} {at is : Option Refusal} → at ≡ is → (result : Result A Refusal) → IfErr result (λ refusal. (own : Refusal) → at ≡ Some own → refusal ≡ own) → IfErr result (λ refusal. (own : Refusal) → is ≡ Some own → refusal ≡ own)
-only_own same (Ok a) h = tt
-only_own same (Err refusal) h = λ own e. h own (same ∙ e)
-
-one_link : {A : Type 0} (as_reply : A → Reply) (q : Request) (l l' : Link) (result : Result A Refusal) → AsksLinkFor as_reply q l l' result → ((own : Refusal) → l.refused ≡ Some own → result ≡ Err own) → IfErr result (λ refusal. (own : Refusal) → l'.refused ≡ Some own → refusal ≡ own)
-one_link as_reply q l l' (Ok a) h stays = tt
-one_link as_reply q l l' (Err refusal) (inl (inl nothing)) stays = λ own e.
-    let was : l.refused ≡ Some own = ap (λ (x : Link). x.refused) (sym nothing.0) ∙ e in
-    let same = stays own was in
-    cc
-one_link as_reply q l l' (Err refusal) (inl (inr (frame, is, inl breaks))) stays = λ own e. let kept = breaks.kept in cc
-one_link as_reply q l l' (Err refusal) (inl (inr (frame, is, inr told))) stays = λ own e. refuses_none l'.refused own told.1 e
-one_link as_reply q l l' (Err refusal) (inr (frame, is, told)) stays = λ own e. refuses_none l'.refused own told.1 e
-
-pub one_refuses : {L A : Type 0} (as_reply : A → Reply) (q : Request) (l l' : Link) (old new : Remote L) (result : Result A Refusal) → l'.refused ≡ new.refused → AsksLinkFor as_reply q l l' result → ((own : Refusal) → l.refused ≡ Some own → result ≡ Err own) → NotesOne as_reply old new result → IfErr result (RemoteRefuses new)
-one_refuses as_reply q l l' old new result same asked stays notes = refuses_noted as_reply old new result (only_own same result (one_link as_reply q l l' result asked stays)) notes
-
-pub one_answers : {A : Type 0} (as_reply : A → Reply) (q : Request) (l l' : Link) (result : Result A Refusal) → AsksLinkFor as_reply q l l' result → OnOk result (l'.refused ≡ None)
-one_answers as_reply q l l' (Ok a) (frame, is, told) = told.1
-one_answers as_reply q l l' (Err refusal) h = tt
+    pub says_pushes : (pairs : Vec (Key × State) Global) (answers : Vec (Result (Unit {0}) Refusal) Global) → window ≡ Pushes pairs → PushesValid window → Answered as_done frames (requests_of window) answers.items old new → SideSays (remote_side line) (asked (Some window)) (Some (told.Pushes answers)) old new
+    says_pushes pairs answers is valid h = subst (λ w. 1 ≤ count_in w → PushesValid w → Answered as_done frames (requests_of w) answers.items old new → SideSays (remote_side line) (asked (Some w)) (Some (told.Pushes answers)) old new) (sym is)
+        (λ some valid h.
+        let before = far_of line.far old in (
+          some,
+          (
+            asked_so as_done frames (λ pair. Push pair.0 pair.1) pairs.items answers.items old new h for_pushes (λ _ _. tt) (λ never. absurd never) (λ never. absurd never),
+            λ was. let t = h.truth was in (t.0, all_pushed before.config pairs.items answers.items before.states (far_of line.far new).states t.1),
+            λ live. let l = h.live live in (l.0, l.1.0, pushes_settled before.config _ _ l.1.0 pairs.items answers.items valid l.1.1),
+          ),
+        )) some valid h

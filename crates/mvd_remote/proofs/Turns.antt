@@ -1,6 +1,6 @@
 -- Windows over a link.
-use Rattle.std.proofs.Common.{◌≡◌, ◌⊎◌, ℕ, ◌+◌, ◌<◌, List, [], ◌∷◌, ◌++◌, length, map, take, get_or, refl, sym, ap, subst, ◌∙◌}
-use Rattle.std.specs.Prelude.{Option, Result, Ok, Err, IfOk, IfErr, MatchResult, Contains}
+use Rattle.std.proofs.Common.{◌≡◌, ◌⊎◌, ℕ, suc, ◌+◌, ◌<◌, List, [], ◌∷◌, ◌++◌, length, length-append, map, take, get_or, refl, sym, ap, subst, ◌∙◌, arith}
+use Rattle.std.specs.Prelude.{Option, Some, None, Result, Ok, Err, IfOk, IfErr, MatchResult, Contains}
 use Rattle.std.proofs.lemmas.List.{map-append, take_more}
 use Rattle.mvd_dots.specs.declared.refusals.Refusal.{Refusal}
 use Rattle.mvd_dots.specs.declared.refusals.Refusal.TheVariants.{Broken, Memory}
@@ -45,3 +45,19 @@ pub all_answered : {V A : Type 0} (as_reply : A → Reply) (items : V → List (
     → IfErr made (λ refusal. (refusal ≡ Memory) ⊎ ((refusal ≡ Broken) × (Contains replies (Ok (Refused Broken)) ⊎ Contains replies (Err Broken)))) → MatchResult made (λ v. AsksAll as_reply kind frames (items v) old new) (RefusesAll kind frames old new)
 all_answered as_reply items kind frames replies old new (Ok v) answered told ended = record { replies = replies; answered = answered; tells = told }
 all_answered as_reply items kind frames replies old new (Err refusal) answered told ended = of_answer replies answered ended
+
+-- ---- as many answers as requests
+
+one_longer : (before : Frames) (frame : Result (List ℕ) Refusal) → length (and_frame before frame).1 ≡ length before.1 + 1
+one_longer (frames, nones) (Ok frame) = length-append nones (None ∷ [])
+one_longer (frames, nones) (Err refusal) = length-append nones (Some refusal ∷ [])
+
+pub many_after : (before : Frames) (rs : List Request) → length (frames_after before rs).1 ≡ length before.1 + length rs
+many_after before [] = omega arith
+many_after before (r ∷ rs) = let e = many_after (and_frame before (request_frame r)) rs in let o = one_longer before (request_frame r) in omega arith
+
+pub many_turns : (kind : ℕ) (nones : List (Option Refusal)) (replies : List (Result Reply Refusal)) (old new : Option (List ℕ)) → TakeTurns kind nones replies old new → length replies ≡ length nones
+many_turns kind [] [] old new h = refl
+many_turns kind [] (r ∷ rs) old new h = absurd h
+many_turns kind (n ∷ ns) [] old new h = absurd h
+many_turns kind (n ∷ ns) (r ∷ rs) old new h = ap suc (many_turns kind ns rs h.0 new h.2)

@@ -1,8 +1,8 @@
 -- A line to a far side: the frames of requests go out, and those of its replies come in. A true one is what a transport
 -- is that hands on what is written and what is read, where the far side is faithful.
-use Rattle.std.proofs.Common.{refl, sym, ◌∙◌}
-use Rattle.std.specs.Prelude.{◌≡◌, ◌≢◌, ◌≤◌, ◌⊎◌, ℕ, Bool, true, false, List, [], ◌∷◌, ◌++◌, take, Option, Some, None}
-use Rattle.std.specs.Prelude.{Contains, IfSome, Result, Ok, Err, IfOk, IfErr, map}
+use Rattle.std.proofs.Common.{ap, append-nil, append_assoc, length-append, refl, sym, ◌∙◌}
+use Rattle.std.specs.Prelude.{◌≡◌, ◌≢◌, ◌≤◌, ◌⊎◌, ◌+◌, ℕ, Bool, true, false, List, [], ◌∷◌, ◌++◌, Option, Some, None}
+use Rattle.std.specs.Prelude.{Contains, IfSome, Result, Ok, Err, IfOk, IfErr, length, map, take}
 use Rattle.std.specs.FinMap.{empty}
 use Rattle.mvd_dots.specs.Refusal.{number_of}
 use Rattle.mvd_dots.specs.declared.refusals.Refusal.{Refusal}
@@ -146,9 +146,14 @@ told_of remote = remote.told.items
 abbrev pub noted : List (Result Reply Refusal) → List (Result Reply Refusal × Unit {0})
 noted replies = map (λ told. (told, tt)) replies
 
--- what was told stays
-abbrev pub ToldMore : {L : Type 0} → Remote L → Remote L → Type 0
-ToldMore old new = (told : Result Reply Refusal × Unit {0}) → Contains (told_of old) told → Contains (told_of new) told
+-- so many questions were told something, one after the other
+abbrev pub NotesMore : {L : Type 0} → ℕ → Remote L → Remote L → Type 0
+NotesMore n old new =
+    (more : List (Result Reply Refusal × Unit {0})) × (length more ≡ n) × (told_of new ≡ told_of old ++ more)
+
+-- at most so many
+abbrev pub NotesUpTo : {L : Type 0} → ℕ → Remote L → Remote L → Type 0
+NotesUpTo most old new = (n : ℕ) × (n ≤ most) × NotesMore n old new
 
 -- a question was told this refusal: by a reply, or since there was none
 abbrev pub WasTold : {L : Type 0} → Remote L → Refusal → Type 0
@@ -176,21 +181,30 @@ pub record IsTrueRemote {L : Type 0} (is_true : L → Type 0) (far : L → Far) 
   pub step : remote.refused ≡ None → (far remote.line).due ≡ []
   pub own : (refusal : Refusal) → remote.refused ≡ Some refusal → leaves_open refusal ≡ true
 
--- a link that refuses stays as it is; so do what the far side was set up with, and what was told
-abbrev pub RemoteFollows : {L : Type 0} → (L → Far) → Remote L → Remote L → Type 0
-RemoteFollows {L} far old new =
+-- AFTER SO MANY QUESTIONS just as many are noted; a link that refuses stays as it is, and so does what the far side was
+-- set up with
+abbrev pub RemoteFollows : {L : Type 0} → (L → Far) → ℕ → Remote L → Remote L → Type 0
+RemoteFollows {L} far n old new =
     Stays (λ (remote : Remote L). (refusal : Refusal) × (remote.refused ≡ Some refusal)) old new
-    × ((far new.line).config ≡ (far old.line).config) × ToldMore old new
+    × ((far new.line).config ≡ (far old.line).config) × NotesMore n old new
 
-pub remote_follows_self : {L : Type 0} (far : L → Far) (remote : Remote L) → RemoteFollows far remote remote
-remote_follows_self far remote = (λ _. refl, refl, λ _ told. told)
+pub remote_follows_self : {L : Type 0} (far : L → Far) (remote : Remote L) → RemoteFollows far 0 remote remote
+remote_follows_self far remote = (λ _. refl, refl, ([], refl, sym (append-nil (told_of remote))))
 
-pub remote_follows_on : {L : Type 0} (far : L → Far) (old mid new : Remote L) → RemoteFollows far old mid
-    → RemoteFollows far mid new → RemoteFollows far old new
-remote_follows_on {L} far old mid new p q = (
+pub notes_on : {L : Type 0} (m n : ℕ) (old mid new : Remote L) → NotesMore m old mid → NotesMore n mid new
+    → NotesMore (m + n) old new
+notes_on m n old mid new (first, many, was) (later, more, is) = (
+  first ++ later,
+  length-append first later ∙ ap (λ k. k + length later) many ∙ ap (λ k. m + k) more,
+  is ∙ ap (λ all. all ++ later) was ∙ append_assoc (told_of old) first later,
+)
+
+pub remote_follows_on : {L : Type 0} (far : L → Far) (m n : ℕ) (old mid new : Remote L) → RemoteFollows far m old mid
+    → RemoteFollows far n mid new → RemoteFollows far (m + n) old new
+remote_follows_on {L} far m n old mid new p q = (
   stays_on (λ (remote : Remote L). (refusal : Refusal) × (remote.refused ≡ Some refusal)) old mid new p.0 q.0,
   q.1 ∙ p.1,
-  λ told was. q.2 told (p.2 told was),
+  notes_on m n old mid new p.2 q.2,
 )
 
 -- where the link does not refuse, it refuses with none of its own

@@ -110,13 +110,6 @@ pub data RefusesAll (kind : ℕ) (frames : Frames) (old new : Link) (refusal : R
       ⊎ ((refusal ≡ Broken) × (Contains replies (Ok (Refused Broken)) ⊎ Contains replies (Err Broken)))
       → RefusesAll kind frames old new refusal
 
--- what many questions for answers give, whose replies are of this kind
-abbrev pub AsksForAll : {A : Type 0} → (A → Reply) → ℕ → List Request → Link → Link
-    → Result (Vec (Result A Refusal) Global) Refusal → Type 0
-AsksForAll as_reply kind requests old new result =
-    MatchResult result (λ told. AsksAll as_reply kind (frames_of requests) told.items old new)
-    (RefusesAll kind (frames_of requests) old new)
-
 -- a reply of a kind that was asked for, or a refusal
 abbrev pub IsOfKind : ℕ → Result Reply Refusal → Type 0
 IsOfKind kind (Ok reply) = (reply_kind reply ≡ kind) ⊎ (reply_kind reply ≡ 0xEE)

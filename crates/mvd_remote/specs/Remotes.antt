@@ -1,21 +1,28 @@
 -- What a remote side asks over its line, and what it is answered.
-use Rattle.std.specs.Prelude.{◌≡◌, ◌⊎◌, ◌++◌, ◌∷◌, ℕ, List, [], map, Option, Some, Result, Err, MatchResult}
+use Rattle.std.specs.Prelude.{◌≡◌, ◌⊎◌, ◌++◌, ◌∷◌, ℕ, List, [], map, Some, None, Result, Err, MatchResult}
 use Rattle.std.specs.declared.alloc.Global.{Global}
 use Rattle.std.specs.declared.vec.Vec.{Vec}
 use Rattle.mvd_dots.specs.declared.refusals.Refusal.{Refusal}
-use Rattle.mvd_keys.specs.State.{State}
-use Rattle.mvd_keys.specs.Writes.{Key}
+use Rattle.mvd_keys.specs.State.{IsValid}
 use Rattle.mvd_wire.specs.declared.request.Request.{Request}
 use Rattle.mvd_wire.specs.declared.request.Request.TheVariants.{Get, Node, Bucket, Push, Hello, Bye}
 use Rattle.mvd_wire.specs.declared.reply.Digests.{Digests}
 use Rattle.mvd_wire.specs.declared.reply.Reply.{Reply}
 use Rattle.mvd_site.specs.Config.{ConfigValue}
 use Rattle.mvd_site.specs.Held.{States}
-use Rattle.mvd_remote.specs.LinkWindows.{AsksForAll, IsToldBy}
-use Rattle.mvd_remote.specs.Lines.{AnswersTruly, EndsOpen, IsTrueRemote, RemoteRefuses, SettleTruly, ToldMore, Took}
-use Rattle.mvd_remote.specs.Lines.{as_digests, as_done, as_page, as_state, far_of, noted, shown_reply, told_of}
+use Rattle.mvd_peer.specs.PushedStates.{Each}
+use Rattle.mvd_peer.specs.Sides.{SideOf}
+use Rattle.mvd_peer.specs.Windows.{ForEach}
+use Rattle.mvd_peer.specs.declared.window.Told.{Told}
+use Rattle.mvd_peer.specs.declared.window.Told.TheVariants as told
+use Rattle.mvd_peer.specs.declared.window.Window.{Window}
+use Rattle.mvd_peer.specs.declared.window.Window.TheVariants.{Nodes, Pages, Gets, Pushes}
+use Rattle.mvd_remote.specs.LinkWindows.{AsksAll, Frames, IsToldBy, RefusesAll, frames_of}
+use Rattle.mvd_remote.specs.Lines.{AnswersTruly, EndsOpen, IsTrueRemote, NotesUpTo, RemoteFollows, RemoteRefuses}
+use Rattle.mvd_remote.specs.Lines.{SettleTruly, Took, as_digests, as_done, as_page, as_state, far_of, noted}
+use Rattle.mvd_remote.specs.Lines.{refused_of, shown_reply, told_of}
 use Rattle.mvd_remote.specs.Links.{Asks, AsksLinkFor, Link, link}
-use Rattle.mvd_peer.specs.Windows.{ForEach, PageValue}
+use Rattle.mvd_remote.specs.LiveRemotes.{IsLiveRemote}
 use Rattle.mvd_remote.specs.declared.line.Line.{Ghosts}
 use Rattle.mvd_remote.specs.declared.remote.Remote.{Remote}
 
@@ -32,15 +39,6 @@ query request as_reply = record { request = request; as_reply = as_reply }
 abbrev pub node_query : List ℕ → Query Digests
 node_query path = query (Node path) as_digests
 
-abbrev pub page_query : List ℕ → Option Key → Query PageValue
-page_query path after = query (Bucket path after) as_page
-
-abbrev pub state_query : Key → Query State
-state_query key = query (Get key) as_state
-
-abbrev pub push_query : Key → State → Query (Unit {0})
-push_query key state = query (Push key state) as_done
-
 abbrev pub hello_query : List ℕ → Query (Unit {0})
 hello_query token = query (Hello token) as_done
 
@@ -51,26 +49,24 @@ bye_query = query Bye as_done
 abbrev pub any_query : Request → Query Reply
 any_query request = query request (λ reply. reply)
 
--- questions of one kind: their requests, the reply that tells an answer, and the kind byte of such replies
-pub record Queries (A : Type 0) : Type 0 where
-  pub requests : List Request
-  pub as_reply : A → Reply
-  pub kind : ℕ
+-- the requests of a window
+abbrev pub requests_of : Window → List Request
+requests_of (Nodes paths) = map (λ path. Node path) paths.items
+requests_of (Pages asked) = map (λ q. Bucket q.0 q.1) asked.items
+requests_of (Gets keys) = map (λ key. Get key) keys.items
+requests_of (Pushes pairs) = map (λ pair. Push pair.0 pair.1) pairs.items
 
-abbrev pub queries : {A : Type 0} → List Request → (A → Reply) → ℕ → Queries A
-queries requests as_reply kind = record { requests = requests; as_reply = as_reply; kind = kind }
+-- the kind byte of the replies that accept these
+abbrev pub kind_of : Window → ℕ
+kind_of (Nodes paths) = 0xA7
+kind_of (Pages asked) = 0xA8
+kind_of (Gets keys) = 0xA1
+kind_of (Pushes pairs) = 0xA3
 
-abbrev pub node_queries : List (List ℕ) → Queries Digests
-node_queries paths = queries (map (λ path. Node path) paths) as_digests 0xA7
-
-abbrev pub page_queries : List (List ℕ × Option Key) → Queries PageValue
-page_queries asked = queries (map (λ q. Bucket q.0 q.1) asked) as_page 0xA8
-
-abbrev pub state_queries : List Key → Queries State
-state_queries keys = queries (map (λ key. Get key) keys) as_state 0xA1
-
-abbrev pub push_queries : List (Key × State) → Queries (Unit {0})
-push_queries pairs = queries (map (λ pair. Push pair.0 pair.1) pairs) as_done 0xA3
+-- the states that it pushes are valid
+abbrev pub PushesValid : Window → Type 0
+PushesValid (Pushes pairs) = Each (λ pair. IsValid pair.1) pairs.items
+PushesValid window = Unit {0}
 
 -- ---- over the link, by its bytes
 
@@ -81,11 +77,17 @@ link_of line remote = link line.remaining line.contents remote
 abbrev pub AsksOver : {L A : Type 0} → Ghosts L → Query A → (old new : Remote L) → Result A Refusal → Type 0
 AsksOver line query old new = AsksLinkFor query.as_reply query.request (link_of line old) (link_of line new)
 
--- what questions give that are asked at once
-abbrev pub AsksAllOver : {L A : Type 0} → Ghosts L → Queries A → (old new : Remote L)
-    → Result (Vec (Result A Refusal) Global) Refusal → Type 0
-AsksAllOver line queries old new =
-    AsksForAll queries.as_reply queries.kind queries.requests (link_of line old) (link_of line new)
+-- what is told of a window whose frames went out: each request is answered in its turn; or the window is refused
+abbrev pub TellsFrames : ℕ → Frames → Link → Link → Told → Type 0
+TellsFrames kind frames old new (told.Nodes answers) = AsksAll as_digests kind frames answers.items old new
+TellsFrames kind frames old new (told.Pages answers) = AsksAll as_page kind frames answers.items old new
+TellsFrames kind frames old new (told.States answers) = AsksAll as_state kind frames answers.items old new
+TellsFrames kind frames old new (told.Pushes answers) = AsksAll as_done kind frames answers.items old new
+TellsFrames kind frames old new (told.Refused refusal) = RefusesAll kind frames old new refusal
+
+abbrev pub AsksWindow : {L : Type 0} → Ghosts L → Window → (old new : Remote L) → Told → Type 0
+AsksWindow line window old new answer =
+    TellsFrames (kind_of window) (frames_of (requests_of window)) (link_of line old) (link_of line new) answer
 
 -- ---- what is noted
 
@@ -95,13 +97,13 @@ NotesOne as_reply old new result =
     ((refusal : Refusal) × (result ≡ Err refusal) × (new.refused ≡ Some refusal) × (told_of new ≡ told_of old))
     ⊎ ((told : Result Reply Refusal) × IsToldBy as_reply told result × (told_of new ≡ told_of old ++ (told, tt) ∷ []))
 
--- so are the questions of a window; and one that is refused is so as the side then may
-abbrev pub NotesAll : {L A : Type 0} → (A → Reply) → (old new : Remote L)
+-- so are the questions of a window, of so many requests; and one that is refused is so as the side then may
+abbrev pub NotesAll : {L A : Type 0} → (A → Reply) → ℕ → (old new : Remote L)
     → Result (Vec (Result A Refusal) Global) Refusal → Type 0
-NotesAll as_reply old new result = MatchResult result
+NotesAll as_reply count old new result = MatchResult result
     (λ answers. (replies : List (Result Reply Refusal)) × ForEach (IsToldBy as_reply) replies answers.items
     × (told_of new ≡ told_of old ++ noted replies))
-    (λ refusal. RemoteRefuses new refusal × ToldMore old new)
+    (λ refusal. RemoteRefuses new refusal × NotesUpTo count old new)
 
 -- ---- over a true line
 
@@ -125,12 +127,12 @@ EndsTruly line Answered requests old new result =
     (λ refusal. EndsOpen before.config before.states requests refusal after.states)
 
 -- A WINDOW OVER A TRUE LINE is answered so
-abbrev pub AsksAllTruly : {L A : Type 0} → Ghosts L → Queries A → (old new : Remote L)
+abbrev pub AsksAllTruly : {L A : Type 0} → Ghosts L → (A → Reply) → List Request → (old new : Remote L)
     → Result (Vec (Result A Refusal) Global) Refusal → Type 0
-AsksAllTruly line queries old new result =
+AsksAllTruly line as_reply requests old new result =
     EndsTruly line
-    (λ config before told after. SettleTruly queries.as_reply config before queries.requests told.items after)
-    queries.requests old new result
+    (λ config before told after. SettleTruly as_reply config before requests told.items after)
+    requests old new result
 
 -- what came for a request over a true line is taken
 abbrev pub TakesReply : {L : Type 0} → Ghosts L → (old new : Remote L) → Result Reply Refusal → Type 0
@@ -144,3 +146,20 @@ pub record RepliesFar {L : Type 0} (line : Ghosts L) (old new : Remote L) (reque
   pub shown : reply ≡ shown_reply told
   pub asked : Asks (link_of line old) (link_of line new) request told
   pub truth : AsksTruly line (any_query request) old new told
+
+-- ---- as a side
+
+-- WHAT A REMOTE SIDE IS AS A SIDE OF A SESSION: faithful where its line is true, and live where that is live. A link
+-- that refuses stays as it is; it refuses so, or as a question was told, or for want of memory
+abbrev pub remote_side : {L : Type 0} → Ghosts L → SideOf (Remote L)
+remote_side line = record {
+  states = λ remote. (far_of line.far remote).states;
+  is_faithful = IsTrueRemote line.is_true line.far;
+  is_live = IsLiveRemote line.is_live line.awaits;
+  can_give = λ _ _. Unit {0};
+  follows = RemoteFollows line.far;
+  can_refuse = RemoteRefuses;
+  can_answer = λ remote. refused_of remote ≡ None;
+  most_keys = λ remote. (far_of line.far remote).config.max_keys;
+  number = λ _. None;
+}

@@ -6,4 +6,4 @@ pub mod line;
 pub mod remote;
 
 pub use line::{Duplex, Line};
-pub use remote::{Answer, Remote, Window, collect, kept};
+pub use remote::{Answer, Frames, Remote, collect, kept};

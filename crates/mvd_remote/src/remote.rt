@@ -7,13 +7,13 @@ mod window;
 ghost use Rattle.std.specs.Prelude.{◌≡◌, ◌⊎◌, [], IfOk, None, Some, Ok};
 ghost use Rattle.mvd_dots.specs.declared.refusals.Refusal.{Refusal};
 ghost use Rattle.mvd_wire.specs.declared.request.Request.{Request};
-ghost use Rattle.mvd_wire.specs.declared.request.Request.TheVariants.{Bye, Hello};
+ghost use Rattle.mvd_wire.specs.declared.request.Request.TheVariants.{Bye, Hello, Node};
 ghost use Rattle.mvd_wire.specs.declared.reply.Reply.TheVariants.{Refused};
-ghost use Rattle.mvd_remote.specs.Lines.{IsTrueRemote, KeepsConfig, as_done, line_of, refused_of, told_of};
+ghost use Rattle.mvd_remote.specs.Lines.{IsTrueRemote, KeepsConfig, as_digests, as_done, line_of, refused_of, told_of};
 ghost use Rattle.mvd_remote.specs.LiveRemotes.{AsksLive, IsLiveRemote, TakesLive};
 ghost use Rattle.mvd_remote.specs.Links.{Asks, ReadsReply, SendsAsked, StaysRefused, answered_by};
 ghost use Rattle.mvd_remote.specs.Remotes.{AsksOver, AsksTruly, NotesOne, TakesReply, any_query, bye_query};
-ghost use Rattle.mvd_remote.specs.Remotes.{hello_query, link_of, query};
+ghost use Rattle.mvd_remote.specs.Remotes.{hello_query, link_of, node_query, query};
 ghost use Rattle.mvd_wire.specs.Codec.{Gives};
 ghost use Rattle.mvd_wire.specs.Replies.{reply_kind};
 ghost use Rattle.mvd_wire.specs.Requests.{IsRequest, request_frame};
@@ -22,10 +22,11 @@ use crate::line::Line;
 pub use answer::{Answer, collect};
 use http_server::Log;
 use mvd_dots::Refusal;
-use mvd_frames::{decode_reply, encode_bye, encode_hello, encode_request};
-use mvd_wire::{Reply, Request, Token};
+use mvd_frames::{decode_reply, encode_bye, encode_hello, encode_node, encode_request};
+use mvd_keys::Path;
+use mvd_wire::{Digests, Reply, Request, Token};
 use std::alloc::Global;
-pub use window::{Window, kept};
+pub use window::{Frames, kept};
 
 /// A site that is asked over a line. What it holds is known as far as the line is true; of a reader
 /// and a writer alone nothing is. For proofs alone it notes what its questions were told; that takes no memory.
@@ -221,6 +222,18 @@ impl<L: Line> Remote<L> {
         ensures live { AsksLive L.Line (Hello token.now) as_done self.old self.new result }
     {
         self.ask_for(encode_hello(self.alloc, token))
+    }
+
+    /// The digest of a node and, above the buckets, those of its sixteen children.
+    pub fn node(&mut self, path: &Path) -> Result<Digests, Refusal>
+        ensures asked { AsksOver L.Line (node_query path.now) self.old self.new result }
+        ensures stays { StaysRefused self.old self.new result }
+        ensures notes { NotesOne as_digests self.old self.new result }
+        ensures config { KeepsConfig L.far self.old self.new }
+        ensures truth { AsksTruly L.Line (node_query path.now) self.old self.new result }
+        ensures live { AsksLive L.Line (Node path.now) as_digests self.old self.new result }
+    {
+        self.ask_for(encode_node(self.alloc, path))
     }
 
     /// Ends the connection.

@@ -32,10 +32,10 @@ use Rattle.mvd_peer.proofs.Pushes.{more_pushes, no_pushes}
 use Rattle.mvd_peer.proofs.SiteSides.{is_broken, push_cause}
 use Rattle.mvd_replica.specs.Batch.{AnswersOneFrom, AreAmongTurns, HoldsLost, TakesAllFrom, TakesFrom}
 use Rattle.mvd_replica.specs.Pushes.{push_of, told_of}
-use Rattle.mvd_replica.specs.Sides.{AnswersFromStored, ArePushes, HoldsBroken, HoldsPushed, IsPush, ReplicaRefuses}
+use Rattle.mvd_replica.specs.Sides.{AnswersFromStored, ArePushes, HoldsPushed, IsPush, ReplicaRefuses}
 use Rattle.mvd_replica.specs.Whole.{leaves_wider}
-use Rattle.mvd_replica.specs.Turns.{AreUndoneIn, LeavesTurns, Turn}
-use Rattle.mvd_replica.proofs.Positions.{AnswersAll, ReplicaFollows, SideFollows, TurnsFollow, stored_site}
+use Rattle.mvd_replica.specs.Turns.{AreUndoneIn, Turn}
+use Rattle.mvd_replica.proofs.Positions.{AnswersAll, SideFollows, TurnsFollow}
 use Rattle.mvd_replica.proofs.Batching.{stays_from, stored_from, whole_all}
 use Rattle.mvd_replica.proofs.Sides.{push_refuses, pushed_reply, stored_facts}
 use Rattle.sqlite.specs.Effect.{Database}
@@ -294,33 +294,6 @@ follows_pushes turns old new before after all follows comes = record {
   };
   comes = comes;
   leaves = leaves_wider (AreUndoneIn turns) ArePushes _ _ (λ requests. undone_pushes turns requests all) follows.leaves;
-}
-
-one_lost : (key : Key) (s : State) (site : SiteValue) (db : Database) → HoldsBroken (λ asked. asked ≡ Push key s) site db → HoldsPushed site db
-one_lost key s site db lost = record {
-  request = lost.request;
-  changes = lost.changes;
-  rest = [];
-  are_pushes = ((key, s, lost.asked), tt);
-  holds = lost.holds;
-}
-
--- the same of one push
-pub follows_push : (key : Key) (s : State) (old new : SiteValue) (before after : Shown) → ReplicaFollows (λ asked. asked ≡ Push key s) old new before after →
-    (reply : Reply) → LeavesTurns (record { asked = Ok (Push key s); reply = reply } ∷ []) (stored_site old before) (stored_site new after) → ComesByPushes (λ _ _. Unit {0}) old.states new.states → SideFollows old new before after
-follows_push key s old new before after follows reply leaves comes = record {
-  site = follows.site;
-  store = record {
-    sound = follows.store.sound;
-    holds = follows.store.holds;
-    stays = follows.store.stays;
-    stored = λ sound holds whole broken. one_lost key s new after.committed (follows.store.stored sound holds whole broken);
-    clean = follows.store.clean;
-    shut = follows.store.shut;
-  };
-  comes = comes;
-  leaves = leaves_wider (AreUndoneIn (record { asked = Ok (Push key s); reply = reply } ∷ [])) ArePushes _ _
-      (λ requests. undone_pushes (record { asked = Ok (Push key s); reply = reply } ∷ []) requests ((λ request is. (key, s, the_push (key, s) (Ok (Push key s)) request refl is), tt))) leaves;
 }
 
 -- ---- what is answered at once

@@ -1,6 +1,5 @@
 -- Pushes that were answered one after the other, as a live side tells them.
 use Rattle.std.proofs.Common.{◌≡◌, List, [], ◌∷◌, ◌++◌, map, ap, sym, subst, false}
-use Rattle.mvd_dots.specs.declared.refusals.Refusal.{Refusal}
 use Rattle.mvd_keys.specs.State.{IsValid, State}
 use Rattle.mvd_keys.specs.Writes.{Key}
 use Rattle.mvd_wire.specs.declared.reply.Reply.{Reply}
@@ -9,7 +8,6 @@ use Rattle.mvd_site.specs.Held.{AreHeld, States}
 use Rattle.mvd_site.specs.Sites.{SiteValue}
 use Rattle.mvd_peer.specs.PushedStates.{Each}
 use Rattle.mvd_peer.specs.Telling.{TellsEach, TellsPush}
-use Rattle.mvd_peer.proofs.ManyPushes.{leaves_same}
 use Rattle.mvd_peer.proofs.Telling.{each_joined, grows_same, push_told}
 use Rattle.mvd_replica.specs.Batch.{TakesAllFrom}
 use Rattle.mvd_replica.specs.Pushes.{push_of, told_of}
@@ -32,7 +30,7 @@ all_live (p ∷ pairs) (turn ∷ turns) old new asked all held held' valid whole
     let it = one_turn old mid p (held_seen old.states held) valid.0 was turn.reply takes in
     let form : AreHeld mid.states = takes.form held in
     let most = old.config.max_keys in
-    let one = push_told most old.states mid.states p.0 p.1 (told_of turn.reply) held form valid.0 it.ok it.apart (leaves_same old.states mid.states p.0 p.1 (told_of turn.reply) it.same) it.cause in
+    let one = push_told most old.states mid.states p.0 p.1 (told_of turn.reply) held form valid.0 it.ok it.apart it.same it.cause in
     let later = all_live pairs turns mid new asks.1 all.2 form held' valid.1 whole in
     let rest = subst (λ n. TellsEach (TellsPush n) pairs (told_by turns) mid.states later.0 new.states) (ap (λ c. c.max_keys) it.config) later.1 in
     (one.0 ++ later.0, each_joined (TellsPush most) (p ∷ []) pairs (told_of turn.reply ∷ []) (told_by turns) old.states mid.states new.states one.0 later.0 held form held' one.1 rest)

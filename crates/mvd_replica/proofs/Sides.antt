@@ -1,26 +1,24 @@
 -- A replica as a side of a session.
-use Rattle.std.proofs.Common.{◌≡◌, ◌≢◌, ◌∙◌, [], ◌∷◌, Bool, true, false, Result, Ok, Err, refl, sym, ap, inl, inr, true≢false, if◌then◌else◌}
-use Rattle.std.specs.Result.{IfErr, MatchResult, OnOk}
+use Rattle.std.proofs.Common.{◌≡◌, ◌∙◌, Bool, true, false, Result, Ok, Err, refl, sym, ap, inl, inr, true≢false, if◌then◌else◌}
+use Rattle.std.specs.Result.{IfErr, MatchResult}
 use Rattle.mvd_dots.specs.declared.refusals.Refusal.{Refusal}
 use Rattle.mvd_dots.specs.declared.refusals.Refusal.TheVariants.{Broken, DotClash, StateTooLarge, Store}
-use Rattle.mvd_keys.specs.State.{IsValid, State, clashes, join}
+use Rattle.mvd_keys.specs.State.{State, clashes, join}
 use Rattle.mvd_keys.specs.Writes.{Key}
 use Rattle.mvd_wire.specs.declared.request.Request.{Request}
 use Rattle.mvd_wire.specs.declared.request.Request.TheVariants.{Push}
 use Rattle.mvd_wire.specs.declared.reply.Reply.{Reply}
 use Rattle.mvd_wire.specs.declared.reply.Reply.TheVariants.{Done, Refused}
 use Rattle.mvd_site.specs.Config.{ConfigValue}
-use Rattle.mvd_site.specs.FromStates.{Broke, answer_from, push_reply, with_state, within}
-use Rattle.mvd_site.specs.Held.{AreHeld, States, state_at}
+use Rattle.mvd_site.specs.FromStates.{Broke, answer_from, push_reply, within}
+use Rattle.mvd_site.specs.Held.{States, state_at}
 use Rattle.mvd_site.specs.Prepared.{is_refusal}
 use Rattle.mvd_site.specs.Sites.{SiteValue}
 use Rattle.mvd_site.specs.Answer.{is_too_large}
 use Rattle.mvd_site.proofs.Answered.{limited_cases}
 use Rattle.mvd_site.proofs.Pushes.{PushFacts, push_facts, refusal_is}
 use Rattle.mvd_peer.specs.Sides.{SiteRefuses}
-use Rattle.mvd_peer.specs.PushedStates.{ComesByPushes}
-use Rattle.mvd_peer.proofs.Pushes.{no_pushes}
-use Rattle.mvd_peer.proofs.SiteSides.{is_broken, push_refuses as site_push_refuses, put_is_pushed}
+use Rattle.mvd_peer.proofs.SiteSides.{push_refuses as site_push_refuses}
 use Rattle.sqlite.specs.State.{State as Shown}
 use Rattle.mvd_site.specs.Installs.{broken_site}
 use Rattle.mvd_replica.specs.Sides.{AnswersFromStored, ReplicaRefuses, StoreRefusedFrom}
@@ -113,18 +111,3 @@ follows_where asks wider old new before after widens it = record {
 
 pub follows_wider : (asks wider : Request → Type 0) (old new : SiteValue) (before after : Shown) → ((request : Request) → asks request → wider request) → ReplicaFollows asks old new before after → ReplicaFollows wider old new before after
 follows_wider asks wider old new before after widens it = follows_where asks wider old new before after (λ _ _. widens) it
-
--- a push, also one that breaks the replica, leaves the states as they were or joined
-module _ (old new : SiteValue) (key : Key) (s : State) where
-  pub push_comes : (r : Result (Unit {0}) Refusal) → AreHeld old.states → IsValid s → OnOk r (new ≡ record { config = old.config; states = with_state old.states key (join (state_at old.states key) s); broken = false }) →
-      IfErr r (λ refusal. refusal ≢ Broken → new ≡ old) → IfErr r (λ refusal. refusal ≡ Broken → new ≡ broken_site old) → ComesByPushes (λ _ _. Unit {0}) old.states new.states
-  push_comes (Ok done) held valid joined same told = record {
-    pushes = (key, s) ∷ [];
-    given = (tt, tt);
-    valid = (valid, tt);
-    is = ap (λ (v : SiteValue). v.states) joined ∙ put_is_pushed old.states key s held valid;
-  }
-  push_comes (Err refusal) held valid joined same told = no_pushes _ _ _ (elim (is_broken refusal) [
-    | inl is ↦ ap (λ (v : SiteValue). v.states) (told is)
-    | inr other ↦ ap (λ (v : SiteValue). v.states) (same other)
-  ])

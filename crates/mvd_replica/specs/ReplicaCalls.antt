@@ -1,7 +1,7 @@
 -- What each call of a replica does: one relation for a call, over the replica before it, what it was called with, what
 -- it returned, and the replica after it.
-use Rattle.std.specs.Prelude.{◌≡◌, ◌≢◌, ◌⊎◌, ◌<◌, ◌≤◌, ◌+◌, ◌-◌, ◌^◌, Bool, false, true, ℕ, List, [], ◌∷◌, ◌++◌, length, map}
-use Rattle.std.specs.Prelude.{min, Option, Vec, Result, Ok, Err, IfErr, IfOk, OnOk, MatchResult}
+use Rattle.std.specs.Prelude.{◌≡◌, ◌≢◌, ◌⊎◌, ◌<◌, ◌≤◌, ◌+◌, ◌-◌, ◌^◌, false, true, ℕ, List, [], ◌∷◌, ◌++◌, map}
+use Rattle.std.specs.Prelude.{min, Vec, Result, Ok, Err, IfErr, IfOk, OnOk, MatchResult}
 use Rattle.std.specs.List.{AllByRecursion}
 use Rattle.std.specs.declared.alloc.Global.{Global}
 use Rattle.mvd_dots.specs.Answer.{IsAnswer}
@@ -10,16 +10,14 @@ use Rattle.mvd_dots.specs.declared.refusals.Refusal.TheVariants.{Broken, Damaged
 use Rattle.mvd_keys.specs.State.{IsValid, State, clashes, join}
 use Rattle.mvd_keys.specs.Writes.{Key, Stands, Write}
 use Rattle.mvd_tree.specs.HashTree.{node_digest}
-use Rattle.mvd_tree.specs.Page.{is_more_after_page, bucket_page}
-use Rattle.mvd_wire.specs.declared.reply.Digests.{Digests}
 use Rattle.mvd_wire.specs.declared.reply.Reply.{Reply}
 use Rattle.mvd_wire.specs.declared.request.Request.{Request}
 use Rattle.mvd_wire.specs.declared.request.Request.TheVariants.{Push}
 use Rattle.mvd_records.specs.Foreign.{HoldsForeign}
 use Rattle.mvd_records.specs.Records.{IsSound}
-use Rattle.mvd_site.specs.Answer.{digests, node_digests}
+use Rattle.mvd_site.specs.Answer.{digests}
 use Rattle.mvd_site.specs.Config.{ConfigValue}
-use Rattle.mvd_site.specs.FromStates.{after_from, bucket_refusal, push_reply, unless_broken, with_state}
+use Rattle.mvd_site.specs.FromStates.{after_from, push_reply, unless_broken, with_state}
 use Rattle.mvd_site.specs.Held.{AreHeld, state_at}
 use Rattle.mvd_site.specs.Installs.{broken_site}
 use Rattle.mvd_site.specs.Known.{Adds}
@@ -39,10 +37,6 @@ use Rattle.mvd_replica.specs.Turns.{AnswersStored, LeavesTurns, Turn}
 
 -- ---- questions by reference
 
--- the digests of a node and of its children, or 22 of a broken site
-abbrev pub node_told : SiteValue → List ℕ → Result Digests Refusal
-node_told site path = unless_broken site.broken (Err Broken) (Ok (node_digests (digests site.states) path))
-
 -- the digest of the root, or 22 of a broken site
 abbrev pub root_answer : SiteValue → Result (List ℕ) Refusal
 root_answer site = unless_broken site.broken (Err Broken) (Ok (node_digest (digests site.states) []))
@@ -50,29 +44,6 @@ root_answer site = unless_broken site.broken (Err Broken) (Ok (node_digest (dige
 -- this, or of a site that is not broken that memory was refused
 abbrev pub TellsRoot : SiteValue → Result (List ℕ) Refusal → Type 0
 TellsRoot site result = IsAnswer result (root_answer site) × (site.broken ≡ true → result ≡ Err Broken)
-
--- a page of a bucket's keys with their digests, after a key if one is given
-pub record TellsBucketPage (site : SiteValue) (node : List ℕ) (after : Option Key)
-    (result : Result (Vec (Key × List ℕ) Global × Bool) Refusal) : Type 0 where
-  -- a broken site gives none
-  pub whole : IfOk result (λ _. site.broken ≡ false)
-  -- it is of a bucket
-  pub path : IfOk result (λ _. length node ≡ 3)
-  -- the keys with their digests
-  pub keys : IfOk result (λ page. page.0.items ≡ bucket_page (digests site.states) node after)
-  -- whether more follow
-  pub more : IfOk result (λ page. page.1 ≡ is_more_after_page (digests site.states) node after)
-  -- 22 of a broken site, 14 where the path is of no bucket, 20 otherwise
-  pub refused : IfErr result (λ refusal. refusal ≡ bucket_refusal site.broken node)
-
--- the state of a key, empty where the key is not held
-pub record TellsState (site : SiteValue) (key : Key) (result : Result State Refusal) : Type 0 where
-  -- a broken site gives none
-  pub whole : IfOk result (λ _. site.broken ≡ false)
-  -- the state that is held
-  pub state : IfOk result (λ s. s ≡ state_at site.states key)
-  -- 22 of a broken site, 20 otherwise
-  pub refused : IfErr result (λ refusal. refusal ≡ unless_broken site.broken Broken Memory)
 
 module _ {S : Type 0} {g : Ghosts S} where
   -- ---- open, and the connection given back

@@ -36,7 +36,7 @@ pub struct Replica<S: Alter> {
 impl<S: Alter> Replica<S> {
     ghost use Rattle.mvd_replica.specs.Commits.{AnswersOneRequest};
     ghost use Rattle.mvd_replica.specs.ReplicaCalls.{GivesConnection, OpensReplica, PushesState};
-    ghost use Rattle.mvd_replica.specs.ReplicaCalls.{TellsBucketPage, TellsState, node_told};
+    ghost use Rattle.mvd_peer.specs.SiteTells.{TellsBucketPage, TellsState, node_told};
     ghost use Rattle.mvd_replica.specs.Replicas.{commits_of, site_of, store_of};
 
     /// The replica of a site, with the states that its records hold. Records of version 1 are moved to

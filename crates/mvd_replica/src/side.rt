@@ -1,21 +1,16 @@
 //! A replica as a side of a session.
-ghost use Rattle.std.specs.Prelude.{◌≡◌, false, Some, IfErr, IfOk, OnErr};
-ghost use Rattle.std.specs.Option.{option_copied};
+ghost use Rattle.std.specs.Prelude.{◌≡◌, false, Some, IfErr, IfOk};
 ghost use Rattle.std.proofs.Common.{ap, inl, refl};
-ghost use Rattle.mvd_replica.specs.ReplicaCalls.{TellsBucketPage, TellsState, node_told};
-ghost use Rattle.mvd_replica.specs.SideCalls.{EndsWindow, IsToldAlike, IsTrueUnlessBroken, IsWindowRefusal, PushesOnSide};
-ghost use Rattle.mvd_replica.specs.SideCalls.{PushesSome, PushesWindow, TellsMoments, TellsWindow};
-ghost use Rattle.mvd_keys.specs.State.{IsValid};
-ghost use Rattle.mvd_peer.specs.Windows.{IsLeftOpen};
+ghost use Rattle.mvd_peer.specs.Asking.{asked, only_pushes};
+ghost use Rattle.mvd_peer.specs.SiteTells.{TellsReads};
+ghost use Rattle.mvd_replica.specs.SideCalls.{IsToldAlike, IsWindowRefusal, RefusesWindow, TellsWindow};
 
 use crate::pushes::{add_told, pushes_of};
 use crate::replica::Replica;
 use mvd_dots::Refusal;
-use mvd_keys::{Key, KeyState, Path};
-use mvd_peer::{Page, Peer};
-use mvd_wire::Digests;
+use mvd_keys::{Key, KeyState};
+use mvd_peer::{Peer, Told, Window, read};
 use sqlite::Alter;
-use std::alloc::Global;
 
 /// A replica is true to the states of its keys as long as it is not broken. What `follows` says of its
 /// records holds after any calls of a session. Many pushes share a commit.
@@ -55,59 +50,41 @@ impl<S: Alter> Peer for Replica<S> {
 
     ghost most_stays = { λ _ old new follows. ap (λ c. c.max_keys) follows.site.0 };
 
-    fn alloc(&self) -> Global {
-        self.alloc
-    }
-
     fn number(&self) -> Option<u32> {
         Some(self.config().site())
     }
 
-    fn node(&mut self, path: &Path) -> Result<Digests, Refusal>
-        ensures told { result ≡ node_told (site_of self.old) path.now }
-        ensures same { self.new ≡ self.old }
+    fn ask(&mut self, window: &Window) -> Told {
+        match self.read(window) {
+            Ok(told) => told,
+            Err(pairs) => match self.push_all(pairs) {
+                Ok(told) => Told::Pushes(told),
+                Err(refusal) => Told::Refused(refusal),
+            },
+        }
+    }
+}
+
+impl<S: Alter> Replica<S> {
+    ghost use Rattle.mvd_replica.specs.Replicas.{site_of};
+
+    /// What it tells of a window that changes nothing: what its site does. The states that a window pushes are given
+    /// back.
+    pub fn read<'a>(&self, window: &'a Window) -> Result<Told, &'a [(Key, KeyState)]>
+        ensures told { IfOk result (TellsReads (site_of self.now) window.now) }
+        ensures pushes { IfErr result (λ pairs. asked (Some window.now) ≡ only_pushes pairs.now) }
     {
-        Replica::node(self, path)
+        read(&self.site, window)
     }
 
-    fn bucket(&mut self, path: &Path, after: Option<&Key>) -> Result<Page, Refusal>
-        ensures told { TellsBucketPage (site_of self.old) path.now (option_copied after.entry) result }
-        ensures same { self.new ≡ self.old }
-    {
-        Replica::bucket(self, path, after)
-    }
-
-    fn get(&mut self, key: &Key) -> Result<KeyState, Refusal>
-        ensures told { TellsState (site_of self.old) key.now result }
-        ensures same { self.new ≡ self.old }
-    {
-        Replica::get(self, key)
-    }
-
-    fn push(&mut self, key: &Key, state: &KeyState) -> Result<(), Refusal>
-        ensures pushes { PushesOnSide self.old key.now state.now result self.new }
-        ensures valid { IsValid state.now }
-    {
-        // Here it is known that the pushed state's siblings have been seen.
-        let _seen = state.context();
-        self.stands();
-        let pushed = Replica::push(self, key, state);
-        self.stands();
-        pushed
-    }
-
-    /// It makes one commit of as many pushes as do not see each other, up to 1,024.
+    /// Joins each state to that of its key, and tells what each push came to. It makes one commit of as many pushes as
+    /// do not see each other, up to 1,024.
     fn push_all(&mut self, pairs: &[(Key, KeyState)]) -> Result<Vec<Result<(), Refusal>>, Refusal>
         ensures told { IfOk result (TellsWindow self.old pairs.now self.new) }
-        ensures pushes { IsTrueSite (site_of self.old) → IfOk result (PushesWindow self.old pairs.now self.new) }
         ensures alike { IfOk result (IsToldAlike self.old pairs.now self.new) }
-        ensures ended { IfErr result (EndsWindow self.old pairs.now self.new) }
+        ensures refused { IfErr result (RefusesWindow self.old pairs.now self.new) }
         // It is refused for want of memory, or by a replica that is broken then.
         ensures refusal { IfErr result (IsWindowRefusal self.new) }
-        ensures left_open { IsTrueSite (site_of self.old) → IfErr result IsLeftOpen }
-        ensures unbroken { IsTrueSite (site_of self.old) → IfErr result (IsTrueUnlessBroken self.new) }
-        ensures first { IsTrueSite (site_of self.old) → OnErr result (PushesSome self.old pairs.now self.new) }
-        ensures live { IfOk result (TellsMoments self.old pairs.now self.new) }
     {
         self.stands();
         let mut told = Vec::with_capacity(self.alloc, pairs.len())?;

@@ -1,1 +1,2 @@
 pub mod Now
+pub mod Anyone

@@ -3,8 +3,8 @@ use crate::peers::{Counting, written};
 use crate::two_sites::meet;
 use mvd_dots::Refusal;
 use mvd_keys::{Key, KeyState};
-use mvd_peer::Peer;
-use mvd_sync::{Machine, SyncFault, Told, Window};
+use mvd_peer::{Peer, Told, Window};
+use mvd_sync::{Machine, SyncFault};
 use std::alloc::Global;
 use std::test::Fail;
 
@@ -26,21 +26,11 @@ fn refusal_of(fault: SyncFault) -> Refusal {
     }
 }
 
-/// What a side tells of a window.
-fn told_of(side: &mut Counting, window: &Window) -> Result<Told, Refusal> {
+/// What a side tells of a window; nothing, where it is asked nothing.
+fn told_if(side: &mut Counting, window: Option<&Window>) -> Option<Told> {
     match window {
-        Window::Nodes(paths) => Ok(Told::Nodes(side.nodes(paths)?)),
-        Window::Pages(pages) => Ok(Told::Pages(side.pages(pages)?)),
-        Window::Gets(keys) => Ok(Told::States(side.get_all(keys)?)),
-        Window::Pushes(pairs) => Ok(Told::Pushes(side.push_all(pairs)?)),
-    }
-}
-
-/// The same of a side that may be asked nothing.
-fn told_if(side: &mut Counting, window: Option<&Window>) -> Result<Option<Told>, Refusal> {
-    match window {
-        Some(window) => Ok(Some(told_of(side, window)?)),
-        None => Ok(None),
+        Some(window) if window.count() > 0 => Some(side.ask(window)),
+        _ => None,
     }
 }
 
@@ -51,8 +41,8 @@ fn goes_on(machine: &mut Machine, one: &mut Counting, two: &mut Counting) -> Res
         Ok(None) => return Ok(false),
         Err(fault) => return Err(refusal_of(fault)),
     };
-    let mine = told_if(one, step.local.as_ref())?;
-    let theirs = told_if(two, step.peer.as_ref())?;
+    let mine = told_if(one, step.local.as_ref());
+    let theirs = told_if(two, step.peer.as_ref());
     match machine.take(mine, theirs) {
         Ok(()) => Ok(true),
         Err(fault) => Err(refusal_of(fault)),

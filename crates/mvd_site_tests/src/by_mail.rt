@@ -2,7 +2,7 @@
 use mvd_dots::Refusal;
 use mvd_keys::Key;
 use mvd_meet::Caller;
-use mvd_sync::{Told, Window};
+use mvd_peer::{Told, Window};
 use std::alloc::Global;
 use std::test::Fail;
 

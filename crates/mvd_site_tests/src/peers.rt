@@ -1,12 +1,17 @@
 //! A site that counts the questions that it is asked, and may lie.
 ghost use Rattle.std.proofs.Common.{refl, Some};
 ghost use Rattle.std.specs.FinMap.{empty};
+ghost use Rattle.std.specs.Prelude.{◌≡◌, IfOk, length};
+ghost use Rattle.mvd_peer.specs.Saying.{IsWithin};
+ghost use Rattle.mvd_peer.specs.Windows.{AreWithin};
+ghost use Rattle.mvd_site_tests.specs.Answered.{HasAnswers};
 
 use crate::liars::{Lie, node_of, page_of};
 use mvd_docs::Document;
 use mvd_dots::{Context, Refusal};
 use mvd_keys::{Key, KeyState, Path};
-use mvd_peer::{Page, Peer};
+use mvd_peer::holding::hold;
+use mvd_peer::{Page, Peer, Told, Window};
 use mvd_rows::Defs;
 use mvd_site::{Config, Site};
 use mvd_wire::{Digests, Reply, Request, decode_state};
@@ -100,45 +105,8 @@ fn is_so(state: &KeyState, context: &str, siblings: usize) -> Result<bool, Refus
     Ok(state.siblings().len() == siblings && state.context().print()?.as_str() == context)
 }
 
-impl Peer for Counting {
-    ghost states = { λ _. empty };
-
-    ghost is_faithful = { λ _. ⊥ };
-
-    ghost is_live = { λ _. ⊥ };
-
-    ghost can_give = { λ _ _. Unit {0} };
-
-    ghost follows = { λ _ _ _. Unit {0} };
-
-    ghost can_refuse = { λ _ _. Unit {0} };
-
-    ghost can_answer = { λ _. Unit {0} };
-
-    ghost most_keys = { λ _. 0 };
-
-    ghost number = { λ side. Some side.site.config.site };
-
-    ghost in_form = { λ _ never. absurd never };
-
-    ghost live_form = { λ _ never. absurd never };
-
-    ghost follows_self = { λ _. tt };
-
-    ghost follows_on = { λ _ _ _ _ _ _ _. tt };
-
-    ghost lacks = { λ _ _. tt };
-
-    ghost most_stays = { λ _ _ _ _. refl };
-
-    fn alloc(&self) -> Global {
-        self.alloc
-    }
-
-    fn number(&self) -> Option<u32> {
-        Some(self.site.config().site())
-    }
-
+/// What it tells of a question.
+impl Counting {
     fn node(&mut self, path: &Path) -> Result<Digests, Refusal> {
         self.asked[0] = self.asked[0].saturating_add(1);
         self.question()?;
@@ -176,5 +144,105 @@ impl Peer for Counting {
             Some(_) => Ok(()),
             None => self.site.push(key, state),
         }
+    }
+}
+
+/// What it tells of the questions of a window, one after the other.
+impl Counting {
+    fn nodes(&mut self, paths: &[Path]) -> Result<Vec<Result<Digests, Refusal>>, Refusal>
+        ensures { IfOk result (λ told. length told.items ≡ length paths.now) }
+    {
+        let mut told = Vec::with_capacity(self.alloc, paths.len())?;
+        for path in paths {
+            told.push(self.node(path))?;
+        }
+        Ok(told)
+    }
+
+    fn pages(
+        &mut self,
+        asked: &[(Path, Option<Key>)],
+    ) -> Result<Vec<Result<Page, Refusal>>, Refusal>
+        ensures { IfOk result (λ told. length told.items ≡ length asked.now) }
+    {
+        let mut told = Vec::with_capacity(self.alloc, asked.len())?;
+        for (path, after) in asked {
+            told.push(self.bucket(path, after.as_ref()))?;
+        }
+        Ok(told)
+    }
+
+    fn states(&mut self, keys: &[Key]) -> Result<Vec<Result<KeyState, Refusal>>, Refusal>
+        ensures told { IfOk result (λ told. length told.items ≡ length keys.now) }
+        ensures within { IfOk result (λ told. AreWithin 0 told.items) }
+    {
+        let mut told = Vec::with_capacity(self.alloc, keys.len())?;
+        let mut bytes = 0;
+        for key in keys {
+            told.push(hold(&mut bytes, self.get(key)))?;
+        }
+        Ok(told)
+    }
+
+    fn pushes(&mut self, pairs: &[(Key, KeyState)]) -> Result<Vec<Result<(), Refusal>>, Refusal>
+        ensures { IfOk result (λ told. length told.items ≡ length pairs.now) }
+    {
+        let mut told = Vec::with_capacity(self.alloc, pairs.len())?;
+        for (key, state) in pairs {
+            told.push(self.push(key, state))?;
+        }
+        Ok(told)
+    }
+
+    fn tell(&mut self, window: &Window) -> Told
+        ensures answers { HasAnswers window.now result }
+        ensures within { IsWithin result }
+    {
+        match window {
+            Window::Nodes(paths) => self.nodes(paths).map_or_else(Told::Refused, Told::Nodes),
+            Window::Pages(asked) => self.pages(asked).map_or_else(Told::Refused, Told::Pages),
+            Window::Gets(keys) => self.states(keys).map_or_else(Told::Refused, Told::States),
+            Window::Pushes(pairs) => self.pushes(pairs).map_or_else(Told::Refused, Told::Pushes),
+        }
+    }
+}
+
+impl Peer for Counting {
+    ghost states = { λ _. empty };
+
+    ghost is_faithful = { λ _. ⊥ };
+
+    ghost is_live = { λ _. ⊥ };
+
+    ghost can_give = { λ _ _. Unit {0} };
+
+    ghost follows = { λ _ _ _. Unit {0} };
+
+    ghost can_refuse = { λ _ _. Unit {0} };
+
+    ghost can_answer = { λ _. Unit {0} };
+
+    ghost most_keys = { λ _. 0 };
+
+    ghost number = { λ side. Some side.site.config.site };
+
+    ghost in_form = { λ _ never. absurd never };
+
+    ghost live_form = { λ _ never. absurd never };
+
+    ghost follows_self = { λ _. tt };
+
+    ghost follows_on = { λ _ _ _ _ _ _ _. tt };
+
+    ghost lacks = { λ _ _. tt };
+
+    ghost most_stays = { λ _ _ _ _. refl };
+
+    fn number(&self) -> Option<u32> {
+        Some(self.site.config().site())
+    }
+
+    fn ask(&mut self, window: &Window) -> Told {
+        self.tell(window)
     }
 }

@@ -5,7 +5,7 @@ use mvd_dots::Refusal;
 use mvd_frames::decode_request;
 use mvd_keys::{Key, KeyState};
 use mvd_line_tests::{Served, ServedAmongOthers};
-use mvd_peer::Peer;
+use mvd_peer::{Peer, Told, Window};
 use mvd_remote::{Duplex, Remote};
 use mvd_rows::Defs;
 use mvd_site::{Config, Site};
@@ -208,16 +208,27 @@ fn add_pushes(pushes: &mut Pushes, alloc: Global) -> Result<(), Refusal> {
     Ok(())
 }
 
+/// What is told of a window that asks something.
+fn told_of(remote: &mut Link, window: &Window) -> Option<Told> {
+    if window.count() > 0 {
+        Some(Peer::ask(remote, window))
+    } else {
+        None
+    }
+}
+
 /// Whether each push of a window but the second is taken, and a Bye is answered.
-fn takes_all_but_one(remote: &mut Link, pushes: &[(Key, KeyState)]) -> Result<bool, Refusal> {
-    let told = remote.push_all(pushes)?;
+fn takes_all_but_one(remote: &mut Link, pushes: &Window) -> bool {
     let answers = [Ok(()), Err(Refusal::DotClash), Ok(())];
-    Ok(told.as_slice() == answers.as_slice() && remote.bye() == Ok(()))
+    match told_of(remote, pushes) {
+        Some(Told::Pushes(told)) => told.as_slice() == answers.as_slice() && remote.bye() == Ok(()),
+        _ => false,
+    }
 }
 
 /// Whether a window of three pushes is written whole, its three replies are read though one of them refuses, and a Bye
 /// is answered.
-fn stays_in_step(alloc: Global, pushes: &[(Key, KeyState)]) -> Result<bool, Refusal> {
+fn stays_in_step(alloc: Global, pushes: &Window) -> bool {
     let replies = [
         0, 0, 0, 1, 0xA3, 0, 0, 0, 2, 0xEE, 0x0B, 0, 0, 0, 1, 0xA3, 0, 0, 0, 1, 0xA3,
     ];
@@ -226,13 +237,17 @@ fn stays_in_step(alloc: Global, pushes: &[(Key, KeyState)]) -> Result<bool, Refu
 }
 
 /// Whether a window is told that the input ended, for good.
-fn is_cut(remote: &mut Link, pushes: &[(Key, KeyState)]) -> bool {
-    let ended = remote.push_all(pushes).err();
-    ended == Some(Refusal::Truncated) && remote.bye() == Err(Refusal::Truncated)
+fn is_cut(remote: &mut Link, pushes: &Window) -> bool {
+    match told_of(remote, pushes) {
+        Some(Told::Refused(refusal)) => {
+            refusal == Refusal::Truncated && remote.bye() == Err(Refusal::Truncated)
+        }
+        _ => false,
+    }
 }
 
 /// Whether a window is written whole where the input ends after its first reply, and tells that.
-fn is_written(alloc: Global, pushes: &[(Key, KeyState)]) -> bool {
+fn is_written(alloc: Global, pushes: &Window) -> bool {
     let mut remote = Remote::new(alloc, [0, 0, 0, 1, 0xA3].as_slice(), Vec::new(alloc));
     let is_cut = is_cut(&mut remote, pushes);
     let (_, written) = remote.into_parts();
@@ -243,7 +258,8 @@ fn is_written(alloc: Global, pushes: &[(Key, KeyState)]) -> bool {
 pub fn windows_are_whole(alloc: Global) -> Result<bool, Refusal> {
     let mut pushes = Vec::new(alloc);
     add_pushes(&mut pushes, alloc)?;
-    Ok(is_written(alloc, &pushes) && stays_in_step(alloc, &pushes)?)
+    let pushes = Window::Pushes(pushes);
+    Ok(is_written(alloc, &pushes) && stays_in_step(alloc, &pushes))
 }
 
 /// Whether a session gives that a key, after which the roots are equal, and a Bye is answered.

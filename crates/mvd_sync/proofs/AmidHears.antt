@@ -10,6 +10,8 @@ use Rattle.mvd_dots.specs.declared.refusals.Refusal.TheVariants.{Memory}
 use Rattle.mvd_keys.specs.State.{State}
 use Rattle.mvd_peer.specs.PushedStates.{Each}
 use Rattle.mvd_peer.specs.Sides.{SideOf, Two}
+use Rattle.mvd_peer.specs.Asking.{PageQuestion}
+use Rattle.mvd_peer.specs.declared.window.Told.{Told}
 use Rattle.mvd_sync.specs.Answers.{ListingValue}
 use Rattle.mvd_sync.proofs.Carries.{Carried, GivesStates}
 use Rattle.mvd_sync.specs.Exchanges.{Exchanging, IsHeldByEither}
@@ -25,7 +27,7 @@ use Rattle.mvd_sync.specs.Questions.{IsWindow, TakesBudget}
 use Rattle.mvd_sync.proofs.Readings.{with_left}
 use Rattle.mvd_sync.specs.Session.{Asking}
 use Rattle.mvd_sync.specs.Tellings.{IsListingOf, IsNoNode, IsNoPage, IsNodeOf, IsRead, IsStateOf, never, nodes_told, pages_told, pushes_told, states_told, unasked_told}
-use Rattle.mvd_sync.specs.Walking.{IsWalked, PageQuestion, Walking, pages_next, pages_of}
+use Rattle.mvd_sync.specs.Walking.{IsWalked, Walking, pages_next, pages_of}
 use Rattle.mvd_sync.proofs.Walk.{PagesEnd, PagesTold}
 use Rattle.mvd_sync.specs.declared.asking.Node.{Node}
 use Rattle.mvd_sync.specs.declared.asking.Questions.{Questions}
@@ -37,7 +39,6 @@ use Rattle.mvd_sync.specs.declared.stage.Stage.{Stage}
 use Rattle.mvd_sync.specs.declared.stage.Stage.TheVariants.{Carries, Descends, Done, Failed, Meets, Walks}
 use Rattle.mvd_sync.specs.declared.telling.Answers.{Answers}
 use Rattle.mvd_sync.specs.declared.telling.Shares.{Shares}
-use Rattle.mvd_sync.specs.declared.telling.Told.{Told}
 use Rattle.mvd_sync.specs.declared.turn.Turn.{Turn}
 use Rattle.mvd_sync.proofs.Amid.{AtBuckets, AtMeets, AtTurn, AtWalk, Carrying, Comes, Ended, EndsAt, Laws, Owes, Stands, begin, by_local, by_peer, over_ends, owes_ends, total}
 use Rattle.mvd_sync.proofs.AmidAlone.{settled}

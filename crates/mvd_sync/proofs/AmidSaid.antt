@@ -7,6 +7,10 @@ use Rattle.mvd_keys.specs.State.{State}
 use Rattle.mvd_keys.specs.Writes.{Key}
 use Rattle.mvd_peer.specs.Sides.{SideOf, Two}
 use Rattle.mvd_peer.specs.Windows.{gets_of, nodes_of, pages_kind}
+use Rattle.mvd_peer.specs.Asking.{PageQuestion, Wanted, count_wanted, only_gets, only_nodes, only_pages, only_pushes}
+use Rattle.mvd_peer.specs.Saying.{SideSays, SideTells}
+use Rattle.mvd_peer.specs.declared.window.Told.{Told}
+use Rattle.mvd_peer.specs.declared.window.Told.TheVariants.{Nodes, Pages, Pushes, Refused, States}
 use Rattle.mvd_sync.specs.Exchanges.{Exchanging}
 use Rattle.mvd_sync.specs.Fronts.{IsWhole, StateAnswer}
 use Rattle.mvd_sync.specs.Level.{next_nodes}
@@ -14,11 +18,10 @@ use Rattle.mvd_sync.specs.Machines.{HearsAt, Pushed, StageAsks, TakesShares, bot
 use Rattle.mvd_sync.specs.Meetings.{held_keys}
 use Rattle.mvd_sync.specs.OneTurn.{untold}
 use Rattle.mvd_sync.specs.Questions.{IsWindow, TakesBudget}
-use Rattle.mvd_sync.specs.Ran.{SideSays, SideTells}
 use Rattle.mvd_sync.specs.Session.{Asking}
-use Rattle.mvd_sync.specs.Steps.{Wanted, count_wanted, cut_wanted, only_gets, only_nodes, only_pages, only_pushes}
+use Rattle.mvd_sync.specs.Steps.{cut_wanted}
 use Rattle.mvd_sync.specs.Tellings.{IsListingOf, IsNodeOf, IsStateOf, nodes_told, pages_told, pushes_told, states_told, unasked_told}
-use Rattle.mvd_sync.specs.Walking.{PageQuestion, Walking, pages_of}
+use Rattle.mvd_sync.specs.Walking.{Walking, pages_of}
 use Rattle.mvd_sync.specs.declared.asking.Questions.{Questions}
 use Rattle.mvd_sync.specs.declared.report.Side.{Side}
 use Rattle.mvd_sync.specs.declared.report.Side.TheVariants.{Local as AtLocal, Peer as AtPeer}
@@ -27,8 +30,6 @@ use Rattle.mvd_sync.specs.declared.stage.Stage.TheVariants.{Carries, Descends, D
 use Rattle.mvd_sync.specs.declared.telling.Answers.{Answers}
 use Rattle.mvd_sync.specs.declared.telling.Share.{Share}
 use Rattle.mvd_sync.specs.declared.telling.Shares.{Shares}
-use Rattle.mvd_sync.specs.declared.telling.Told.{Told}
-use Rattle.mvd_sync.specs.declared.telling.Told.TheVariants.{Nodes, Pages, Pushes, Refused, States}
 use Rattle.mvd_sync.specs.declared.turn.Turn.{Turn}
 use Rattle.mvd_sync.proofs.Amid.{Laws}
 use Rattle.mvd_sync.proofs.Answering.{Said}

@@ -1,11 +1,8 @@
 -- What is made of the answers to many questions.
 use Rattle.std.proofs.Common.{◌≡◌, inl, inr, ℕ, zero, suc, ◌<◌, ◌≤◌, ◌==◌, ◌∙◌, List, [], ◌∷◌, length, take, get_or, refl, sym, subst, arith, ap, false, true≢false}
-use Rattle.std.specs.Prelude.{Bool, ◌^◌, None, Some, Contains, Result, Ok, Err, IfOk, IfErr}
+use Rattle.std.specs.Prelude.{Contains, Result, Ok, Err, IfOk, IfErr}
 use Rattle.std.specs.declared.vec.Vec.{Vec}
 use Rattle.std.specs.declared.alloc.Global.{Global}
-use Rattle.mvd_wire.specs.declared.reply.Digests.{Digests}
-use Rattle.mvd_sync.specs.Answers.{IsPage, ListingValue}
-use Rattle.mvd_sync.specs.declared.asking.Node.{Node}
 use Rattle.mvd_dots.specs.declared.refusals.Refusal.{Refusal}
 use Rattle.mvd_dots.specs.declared.refusals.Refusal.TheVariants.{BadPath, Memory, TooManyRequests}
 use Rattle.std.proofs.lemmas.List.{length-take, length-take-le, take_all}
@@ -91,13 +88,6 @@ refused_so In R N f (q ∷ qs) (Err e ∷ ts) i h = (f q e i.0 h.0, refused_so I
 pub page_apart : (path : List ℕ) (refusal : Refusal) → length path ≡ 3 → RefusesPage path refusal → is_of_question refusal ≡ false
 page_apart path BadPath three h = absurd (true≢false (sym (ap (λ n. n == 3) three) ∙ h))
 page_apart path refusal three h = h
-
--- a node that was made of digests, and a listing of a page
-abbrev pub IsNodeOf : Digests → Node → Type 0
-IsNodeOf digests node = (node.own ≡ digests.own) × (digests.children ≡ Some node.children)
-
-abbrev pub IsListingOf : Vec (List ℕ × List ℕ) Global × Bool → ListingValue → Type 0
-IsListingOf page listing = (listing ≡ (page.0.items, page.1)) × IsPage None listing.0 listing.1 × (length listing.0 < 2 ^ 64)
 
 -- there are as many answers as questions
 pub as_many : {Q A : Type 0} (M : Q → A → Type 0) (qs : List Q) (ts : List (Result A Refusal)) → EachAnswer M qs ts → length ts ≡ length qs

@@ -5,11 +5,13 @@ use Rattle.std.proofs.lemmas.Bool.{cases_lt}
 use Rattle.std.proofs.lemmas.List.{length-drop, length-take}
 use Rattle.mvd_dots.specs.declared.refusals.Refusal.TheVariants.{Memory}
 use Rattle.mvd_peer.specs.Sides.{SideOf, Two, two}
+use Rattle.mvd_peer.specs.Saying.{SideSays}
+use Rattle.mvd_peer.specs.declared.window.Told.{Told}
 use Rattle.mvd_sync.specs.Exchanges.{Exchanging, IsHeldByEither}
 use Rattle.mvd_sync.proofs.Exchanges.{Moment}
 use Rattle.mvd_sync.specs.Machines.{HasNext, HearsAt, Machining, StageAsks, StageHears, StageWent, Starts, hears, here, is_same, on, quiet, stage_after, stage_told, wanted_at, wanted_count}
 use Rattle.mvd_sync.specs.OneTurn.{untold}
-use Rattle.mvd_sync.specs.Ran.{BothTell, EndsBy, EndsRun, IsRun, RunsTo, Running, SideSays, TakesWindow, alone, answered, begins, before, after, now_at, told, unasked}
+use Rattle.mvd_sync.specs.Ran.{BothTell, EndsBy, EndsRun, IsRun, RunsTo, Running, TakesWindow, alone, answered, begins, before, after, now_at, told, unasked}
 use Rattle.mvd_sync.specs.Session.{Asking}
 use Rattle.mvd_sync.specs.Steps.{cut_wanted}
 use Rattle.mvd_sync.specs.Walking.{Walking}
@@ -23,7 +25,6 @@ use Rattle.mvd_sync.specs.declared.report.SyncFault.TheVariants.{Local}
 use Rattle.mvd_sync.specs.declared.stage.Stage.{Stage}
 use Rattle.mvd_sync.specs.declared.stage.Stage.TheVariants.{Carries, Descends, Done, Failed, Meets, Walks}
 use Rattle.mvd_sync.specs.declared.telling.Answers.{Answers}
-use Rattle.mvd_sync.specs.declared.telling.Told.{Told}
 use Rattle.mvd_sync.proofs.Amid.{Ended, EndsAt, Laws, Stands, begin, start, total}
 use Rattle.mvd_sync.proofs.AmidAlone.{stands_alone}
 use Rattle.mvd_sync.proofs.AmidHears.{stands_hears, stands_memory}

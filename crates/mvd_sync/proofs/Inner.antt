@@ -6,7 +6,7 @@ use Rattle.mvd_wire.specs.declared.reply.Digests.{Digests}
 use Rattle.mvd_peer.specs.Windows.{IsNode}
 use Rattle.mvd_sync.specs.declared.asking.Node.{Node}
 use Rattle.mvd_sync.proofs.Readings.{IsInner}
-use Rattle.mvd_sync.proofs.Answering.{IsNodeOf}
+use Rattle.mvd_sync.specs.Tellings.{IsNodeOf}
 
 -- a faithful side does not leave the children out
 pub never_without : (held : KeyDigests) (path : List ℕ) (d : Digests) → length path < 3 → IsNode held path d → d.children ≡ None → ⊥

@@ -56,4 +56,3 @@ pub mod Lacking
 pub mod CutWindows
 pub mod AmidHears
 pub mod Courses
-pub mod Refusing

@@ -7,6 +7,7 @@ use Rattle.std.proofs.lemmas.List.{append-nil, length-map, length-take-le, take-
 use Rattle.mvd_dots.specs.declared.refusals.Refusal.{Refusal}
 use Rattle.mvd_dots.specs.declared.refusals.Refusal.TheVariants.{Memory}
 use Rattle.mvd_peer.specs.PushedStates.{Each}
+use Rattle.mvd_peer.specs.Asking.{PageQuestion}
 use Rattle.mvd_keys.specs.State.{State}
 use Rattle.mvd_sync.specs.Answers.{ListingValue}
 use Rattle.mvd_sync.specs.Exchanges.{CountsDone, Done as DoneKey, Exchanging, IsHeldByEither}
@@ -14,7 +15,7 @@ use Rattle.mvd_sync.specs.Level.{GoesDown, IsDown, Level, along, down, next_node
 use Rattle.mvd_sync.specs.Machines.{StageAsks, AsksForNext, TurnBegins, FromWalk, GoesAlone, HasNext, HasRoomLeft, StageHears, HearsAt, IsFit, IsFitting, IsQuiet, Machining, SettlesFound, StageStands, TakesShares, StageWent, StatesHeard, Met, both, counts, cut as cut_at, wanted_count, ends, equal, fills, goes as took, goes_on, hears, here, in_flight, in_window, is_same, last, met, no_room as no_place, none_found, of_local, of_other, of_peer, of_side, on, quiet, share_of, stage_after, stays, turns, waits, whole as uncut}
 use Rattle.mvd_sync.specs.Meetings.{done_of, noted, rest_if, taken_from}
 use Rattle.mvd_sync.specs.Walk.{told_all}
-use Rattle.mvd_sync.specs.Walking.{GoesTo, IsTold, IsWalked, PageQuestion, Walking, closes, ends as no_later, fills as fills_page, moves, opens, pages_next, tells, waits as waits_page}
+use Rattle.mvd_sync.specs.Walking.{GoesTo, IsTold, IsWalked, Walking, closes, ends as no_later, fills as fills_page, moves, opens, pages_next, tells, waits as waits_page}
 use Rattle.mvd_sync.specs.declared.asking.Node.{Node}
 use Rattle.mvd_sync.specs.declared.asking.Questions.{Questions}
 use Rattle.mvd_sync.specs.declared.cursor.Entry.{Entry}

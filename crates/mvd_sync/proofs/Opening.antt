@@ -4,8 +4,9 @@ use Rattle.std.specs.Prelude.{IfSome, option_to_list}
 use Rattle.std.proofs.lemmas.List.{drop-drop, length-map, length-take}
 use Rattle.mvd_dots.specs.declared.refusals.Refusal.TheVariants.{BadBody}
 use Rattle.mvd_peer.specs.Sides.{two}
+use Rattle.mvd_peer.specs.Asking.{PageQuestion}
 use Rattle.mvd_sync.specs.Answers.{ListingValue, TakesLesser}
-use Rattle.mvd_sync.specs.Walking.{ClosesBucket, ComeAfter, EndsTelling, GoesTo, IsTold, PageQuestion, TakesNext, Walking, WantsPage, closes, ends, filled_both, first_page, fills, moves, of_mine, of_theirs, opened_buckets, opens, pages_next, tells, waits}
+use Rattle.mvd_sync.specs.Walking.{ClosesBucket, ComeAfter, EndsTelling, GoesTo, IsTold, TakesNext, Walking, WantsPage, closes, ends, filled_both, first_page, fills, moves, of_mine, of_theirs, opened_buckets, opens, pages_next, tells, waits}
 use Rattle.mvd_sync.specs.declared.cursor.Entry.{Entry}
 use Rattle.mvd_sync.specs.declared.report.SyncFault.TheVariants.{Local, Peer}
 use Rattle.mvd_sync.specs.declared.walking.Bucket.{Bucket}

@@ -12,13 +12,14 @@ use Rattle.mvd_site.specs.Answer.{digests}
 use Rattle.mvd_tree.specs.HashTree.{KeyDigests}
 use Rattle.mvd_peer.specs.Sides.{SideOf, two}
 use Rattle.mvd_peer.specs.Windows.{ForEach}
+use Rattle.mvd_peer.specs.Asking.{PageQuestion}
 use Rattle.mvd_sync.proofs.Readings.{IsBucketPage}
 use Rattle.mvd_sync.specs.Answers.{ListingValue, PageEntry, PageRises, StartsAfter, is_spent}
 use Rattle.mvd_sync.proofs.Buckets.{IsSpent}
 use Rattle.mvd_sync.specs.Faults.{IsFaultOf, of_answer, of_memory}
 use Rattle.mvd_sync.proofs.Readings.{ComesToEnd, Fills, Keeps, TellsPages, with_left}
 use Rattle.mvd_sync.proofs.Walk.{asking}
-use Rattle.mvd_sync.specs.Walking.{ComeAfter, EndsTelling, PageQuestion, Walking, filled, is_asked, pages_next, pages_of, of_mine, of_theirs, of_memory as of_no_memory}
+use Rattle.mvd_sync.specs.Walking.{ComeAfter, EndsTelling, Walking, filled, is_asked, pages_next, pages_of, of_mine, of_theirs, of_memory as of_no_memory}
 use Rattle.mvd_sync.proofs.Walk.{PagesEnd}
 use Rattle.mvd_sync.specs.declared.asking.Questions.{Questions}
 use Rattle.mvd_sync.specs.declared.report.Side.TheVariants.{Local as AtLocal, Peer as AtPeer}

@@ -10,6 +10,10 @@ use Rattle.mvd_keys.specs.Writes.{Key}
 use Rattle.mvd_peer.specs.PushedStates.{Each}
 use Rattle.mvd_peer.specs.Sides.{HasAnswered, SideOf, is_of_question}
 use Rattle.mvd_peer.specs.Windows.{Asked, Ends, Kind, Pushes, PushesFirst, for_pushes, for_nodes, for_pages, for_states, gets_of, manner, nodes_of, pages_kind}
+use Rattle.mvd_peer.specs.Asking.{PageQuestion, Wanted, count_wanted}
+use Rattle.mvd_peer.specs.Saying.{RefusesAll, SideSays, SideTells}
+use Rattle.mvd_peer.specs.declared.window.Told.{Told}
+use Rattle.mvd_peer.specs.declared.window.Told.TheVariants.{Nodes, Pages, Pushes as Pushed, Refused, States}
 use Rattle.mvd_site.specs.Answer.{digests}
 use Rattle.mvd_site.specs.Held.{state_at}
 use Rattle.mvd_wire.specs.declared.reply.Digests.{Digests}
@@ -17,14 +21,9 @@ use Rattle.mvd_sync.specs.Answers.{IsPage, ListingValue}
 use Rattle.mvd_sync.proofs.Readings.{IsBucketPage}
 use Rattle.mvd_sync.proofs.Readings.{IsInner}
 use Rattle.mvd_sync.specs.Questions.{TakesBudget}
-use Rattle.mvd_sync.specs.Ran.{RefusesAll, SideSays, SideTells}
-use Rattle.mvd_sync.specs.Steps.{Wanted, count_wanted}
 use Rattle.mvd_sync.specs.Tellings.{AllRead, IsListingOf, IsNoNode, IsNoPage, IsNodeOf, IsRead, IsStateOf, Page, never, nodes_told, pages_told, pushes_told, states_told}
-use Rattle.mvd_sync.specs.Walking.{PageQuestion}
 use Rattle.mvd_sync.specs.declared.asking.Node.{Node}
 use Rattle.mvd_sync.specs.declared.telling.Share.{Share}
-use Rattle.mvd_sync.specs.declared.telling.Told.{Told}
-use Rattle.mvd_sync.specs.declared.telling.Told.TheVariants.{Nodes, Pages, Pushes as Pushed, Refused, States}
 use Rattle.mvd_sync.proofs.Answering.{ReadOrEnded, Said, each_all, page_apart, read_told}
 use Rattle.mvd_sync.proofs.Inner.{inner_right, never_without}
 use Rattle.mvd_sync.proofs.ToldPages.{listing_right, not_bad}

@@ -1,6 +1,6 @@
 -- What a session asks of a side at once, and what is read of the answers.
 use Rattle.std.proofs.Common.{◌≡◌, ◌≢◌, ℕ, suc, ◌≤◌, Bool, true, false, cond, List, [], ◌∷◌, length, take, drop, min, refl, sym, ap, ◌∙◌, arith, Option, Some, None, inl, inr}
-use Rattle.std.specs.Prelude.{Result, Ok, Err, Vec, sum_by}
+use Rattle.std.specs.Prelude.{Result, Ok, Vec, sum_by}
 use Rattle.std.specs.declared.alloc.Global.{Global}
 use Rattle.std.proofs.Math.Seq.{take-nil}
 use Rattle.std.proofs.lemmas.Bool.{cases_lt}
@@ -10,12 +10,13 @@ use Rattle.mvd_dots.specs.declared.refusals.Refusal.{Refusal}
 use Rattle.mvd_keys.specs.State.{State}
 use Rattle.mvd_keys.specs.Writes.{Key}
 use Rattle.mvd_peer.specs.Windows.{ForEach}
+use Rattle.mvd_peer.specs.Asking.{PageQuestion, only_gets, only_nodes, only_pages, only_pushes}
 use Rattle.mvd_sync.specs.Meetings.{held_keys, is_held}
-use Rattle.mvd_sync.specs.Made.{PassesFault, ReadsAll}
+use Rattle.mvd_sync.specs.Made.{PassesFault}
 use Rattle.mvd_sync.specs.Questions.{IsWindow, push_bytes}
-use Rattle.mvd_sync.specs.Steps.{AreSmall, cut_wanted, only_gets, only_nodes, only_pages, only_pushes}
-use Rattle.mvd_sync.specs.Tellings.{IsRead, of_answer, of_questions}
-use Rattle.mvd_sync.specs.Walking.{PageQuestion, Walking, first_page, is_asked, pages_next, pages_of}
+use Rattle.mvd_sync.specs.Steps.{AreSmall, cut_wanted}
+use Rattle.mvd_sync.specs.Tellings.{IsRead}
+use Rattle.mvd_sync.specs.Walking.{Walking, first_page, is_asked, pages_next, pages_of}
 use Rattle.mvd_sync.specs.declared.cursor.Entry.{Entry}
 use Rattle.mvd_sync.specs.declared.report.Side.{Side}
 use Rattle.mvd_sync.specs.declared.telling.Share.{Share}
@@ -83,12 +84,6 @@ pub pages_few : (side : Side) (walk : Walking) → length (pages_of side walk) �
 pages_few side walk = cond_few (is_asked side walk.bucket) (pages_next walk.bucket walk.entry walk.rest) (pages_next_few walk.bucket walk.entry walk.rest)
 
 -- ---- what is read
-
-pub read_is : {A B : Type 0} (IsOf : A → B → Type 0) (IsNone : A → Type 0) (told : Vec (Result A Refusal) Global) (share : Share) (result : Result (Vec B Global) Refusal) → length told.items ≡ share.asked
-    → ReadsAll IsOf IsNone (Ok told) share.asked share.wanted result → IsRead IsOf IsNone (Ok told.items) share result
-read_is IsOf IsNone told share (Ok read) counted h = record { answers = told.items; is = refl; counted = counted; whole = h.1; each = h.0 }
-read_is IsOf IsNone told share (Err refusal) counted (inl why) = of_answer told.items refl why
-read_is IsOf IsNone told share (Err refusal) counted (inr few) = of_questions told.items refl few.1 few.0
 
 each_long : {A B : Type 0} (P : A → B → Type 0) (qs : List A) (bs : List B) → ForEach P qs bs → length bs ≡ length qs
 each_long P [] [] h = refl

@@ -11,7 +11,7 @@ use Rattle.std.specs.declared.vec.Vec.{Vec}
 use Rattle.std.specs.declared.alloc.Global.{Global}
 use Rattle.mvd_sync.specs.Answers.{IsPage, ListingValue, PageEntry, PageRises}
 use Rattle.mvd_sync.proofs.Readings.{IsBucketPage}
-use Rattle.mvd_sync.proofs.Answering.{IsListingOf}
+use Rattle.mvd_sync.specs.Tellings.{IsListingOf}
 use Rattle.mvd_sync.proofs.Rest.{get-rest}
 
 front : (a b : Bool) → T (a && b) → T a

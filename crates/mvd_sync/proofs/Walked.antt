@@ -9,13 +9,14 @@ use Rattle.mvd_site.specs.Held.{States}
 use Rattle.mvd_tree.specs.HashTree.{KeyDigests}
 use Rattle.mvd_peer.specs.PushedStates.{Each}
 use Rattle.mvd_peer.specs.Sides.{SideOf}
+use Rattle.mvd_peer.specs.Asking.{PageQuestion}
 use Rattle.mvd_sync.specs.Answers.{ListingValue, is_spent}
 use Rattle.mvd_sync.proofs.Buckets.{ArePages, GoesThrough}
 use Rattle.mvd_sync.proofs.Exchanges.{Moment, moment}
 use Rattle.mvd_sync.proofs.Readings.{Fills, with_left}
 use Rattle.mvd_sync.specs.Session.{Asking}
 use Rattle.mvd_sync.proofs.Walk.{ReadsSide, local_of, peer_of}
-use Rattle.mvd_sync.specs.Walking.{ClosesBucket, GoesTo, IsWalked, PageQuestion, TakesNext, Walking, WantsPage, closes, ends, first_page, moves, opened_buckets, tells, waits}
+use Rattle.mvd_sync.specs.Walking.{ClosesBucket, GoesTo, IsWalked, TakesNext, Walking, WantsPage, closes, ends, first_page, moves, opened_buckets, tells, waits}
 use Rattle.mvd_sync.specs.declared.asking.Questions.{Questions}
 use Rattle.mvd_sync.specs.declared.cursor.Entry.{Entry}
 use Rattle.mvd_sync.specs.declared.report.SyncFault.{SyncFault}

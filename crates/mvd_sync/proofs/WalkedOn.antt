@@ -5,13 +5,14 @@ use Rattle.std.proofs.lemmas.List.{length-map, take-append-drop}
 use Rattle.mvd_dots.specs.declared.refusals.Refusal.TheVariants.{Memory}
 use Rattle.mvd_peer.specs.PushedStates.{Each}
 use Rattle.mvd_peer.specs.Sides.{HasAnswered, SideOf, Two, two}
+use Rattle.mvd_peer.specs.Asking.{PageQuestion}
 use Rattle.mvd_sync.specs.Answers.{ListingValue, PageEntry, TakesLesser, is_spent, of_both, of_first, of_second}
 use Rattle.mvd_sync.specs.Exchanges.{IsHeldByEither}
 use Rattle.mvd_sync.proofs.Exchanges.{Moment, moment}
 use Rattle.mvd_sync.proofs.Readings.{Fills, TellsPages}
 use Rattle.mvd_sync.specs.Session.{Asking}
 use Rattle.mvd_sync.proofs.Walk.{ReadsEnd, local_of, peer_of}
-use Rattle.mvd_sync.specs.Walking.{GoesTo, IsTold, PageQuestion, TakesNext, Walking, closes, ends, filled, filled_both, fills, first_page, is_asked, moves, opened_buckets, opens, pages_next, pages_of, tells, waits}
+use Rattle.mvd_sync.specs.Walking.{GoesTo, IsTold, TakesNext, Walking, closes, ends, filled, filled_both, fills, first_page, is_asked, moves, opened_buckets, opens, pages_next, pages_of, tells, waits}
 use Rattle.mvd_sync.proofs.Walk.{PagesEnd, PagesTold}
 use Rattle.mvd_sync.specs.declared.asking.Questions.{Questions}
 use Rattle.mvd_sync.specs.declared.cursor.Entry.{Entry}

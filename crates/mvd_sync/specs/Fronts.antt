@@ -5,6 +5,7 @@ use Rattle.std.specs.Prelude.{Option, Some, None, Result, Ok, Err}
 use Rattle.mvd_dots.specs.declared.refusals.Refusal.{Refusal}
 use Rattle.mvd_dots.specs.declared.refusals.Refusal.TheVariants.{Memory}
 use Rattle.mvd_keys.specs.State.{State}
+use Rattle.mvd_peer.specs.declared.window.Told.{Told}
 use Rattle.mvd_sync.specs.Meetings.{first_if, held_keys, rest_if}
 use Rattle.mvd_sync.specs.Tellings.{states_told}
 use Rattle.mvd_sync.specs.declared.cursor.Entry.{Entry}
@@ -12,7 +13,6 @@ use Rattle.mvd_sync.specs.declared.report.Side.{Side}
 use Rattle.mvd_sync.specs.declared.telling.Answers.{Answers}
 use Rattle.mvd_sync.specs.declared.telling.Share.{Share}
 use Rattle.mvd_sync.specs.declared.telling.Shares.{Shares}
-use Rattle.mvd_sync.specs.declared.telling.Told.{Told}
 
 -- an answer to a get
 abbrev pub StateAnswer : Type 0

@@ -7,6 +7,8 @@ use Rattle.mvd_dots.specs.declared.refusals.Refusal.TheVariants.{BadBody, Memory
 use Rattle.mvd_keys.specs.State.{State}
 use Rattle.mvd_peer.specs.PushedStates.{Each}
 use Rattle.mvd_peer.specs.Sides.{is_of_key}
+use Rattle.mvd_peer.specs.Asking.{Wanted, asked, no_question, only_gets, only_nodes, only_pages, only_pushes}
+use Rattle.mvd_peer.specs.declared.window.Told.{Told}
 use Rattle.mvd_sync.specs.Answers.{ListingValue}
 use Rattle.mvd_sync.specs.Exchanges.{CountsDone, Exchanging, IsHeldByEither}
 use Rattle.mvd_sync.specs.Fronts.{IsCut, share_in, front_told}
@@ -14,7 +16,7 @@ use Rattle.mvd_sync.specs.Level.{GoesDown, IsDown, Level, next_nodes}
 use Rattle.mvd_sync.specs.Meetings.{ArePlans, done_of, held_keys, noted}
 use Rattle.mvd_sync.specs.OneTurn.{BeginsTurn, IsSameTurn, untold}
 use Rattle.mvd_sync.specs.Questions.{IsOfKey, IsWindow, TakesBudget}
-use Rattle.mvd_sync.specs.Steps.{IsBoundedWindow, Wanted, asked, cut_wanted, no_question, only_gets, only_nodes, only_pages, only_pushes}
+use Rattle.mvd_sync.specs.Steps.{IsBoundedWindow, cut_wanted}
 use Rattle.mvd_sync.specs.Tellings.{IsNoNode, IsNoPage, IsNodeOf, IsListingOf, IsRead, IsStateOf, never}
 use Rattle.mvd_sync.specs.Tellings.{nodes_told, pages_told, pushes_told, states_told, unasked_told}
 use Rattle.mvd_sync.specs.Weights.{next_most, weight}
@@ -33,7 +35,6 @@ use Rattle.mvd_sync.specs.declared.stage.Stage.TheVariants.{Descends, Walks, Mee
 use Rattle.mvd_sync.specs.declared.telling.Answers.{Answers}
 use Rattle.mvd_sync.specs.declared.telling.Share.{Share}
 use Rattle.mvd_sync.specs.declared.telling.Shares.{Shares}
-use Rattle.mvd_sync.specs.declared.telling.Told.{Told}
 use Rattle.mvd_sync.specs.declared.turn.Turn.{Turn}
 
 -- the questions that are left for each side, the keys that wait and what was done, and what is asked next

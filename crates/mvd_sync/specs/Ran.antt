@@ -1,63 +1,18 @@
 -- What a session asked its two sides and took of them, as a run of the machine.
-use Rattle.std.specs.Prelude.{◌≡◌, ◌≢◌, ◌⊎◌, ◌≤◌, ℕ, false, [], length, Option, Some, None, Result, Ok, Err}
-use Rattle.mvd_dots.specs.declared.refusals.Refusal.{Refusal}
-use Rattle.mvd_dots.specs.declared.refusals.Refusal.TheVariants.{Broken, Memory}
-use Rattle.mvd_peer.specs.Sides.{SideOf, Sides, StaysFaithful, Two, is_of_question, two}
-use Rattle.mvd_peer.specs.Telling.{PageTold, StateTold, TellsLive, TellsNode, TellsPush}
-use Rattle.mvd_peer.specs.Windows.{Asked, Ends, Manner, PushedAll, PushesFirst, for_pushes, gets_of, holding, manner}
-use Rattle.mvd_peer.specs.Windows.{nodes_of, pages_kind}
+use Rattle.std.specs.Prelude.{◌≡◌, ◌⊎◌, ℕ, Option, Some, Result, Ok, Err}
+use Rattle.mvd_dots.specs.declared.refusals.Refusal.TheVariants.{Memory}
+use Rattle.mvd_peer.specs.Sides.{Sides, Two, two}
+use Rattle.mvd_peer.specs.Asking.{asked}
+use Rattle.mvd_peer.specs.Saying.{SideSays, SideTells}
+use Rattle.mvd_peer.specs.declared.window.Told.{Told}
 use Rattle.mvd_sync.specs.Machines.{GoesAlone, HasNext, IsQuiet, Machining, StageAsks, Starts, TakesTold, wanted_at}
-use Rattle.mvd_sync.specs.Steps.{Wanted, asked, count_wanted, cut_wanted}
+use Rattle.mvd_sync.specs.Steps.{cut_wanted}
 use Rattle.mvd_sync.specs.declared.asked.Step.{Step}
 use Rattle.mvd_sync.specs.declared.report.Report.{Report}
 use Rattle.mvd_sync.specs.declared.report.Side.TheVariants.{Local as AtLocal, Peer as AtPeer}
 use Rattle.mvd_sync.specs.declared.report.SyncFault.{SyncFault}
 use Rattle.mvd_sync.specs.declared.report.SyncFault.TheVariants.{Local}
 use Rattle.mvd_sync.specs.declared.stage.Stage.TheVariants.{Done, Failed}
-use Rattle.mvd_sync.specs.declared.telling.Told.{Told}
-use Rattle.mvd_sync.specs.declared.telling.Told.TheVariants.{Nodes, Pages, Pushes, Refused, States}
-
--- ---- one window
-
-abbrev pub manner_of : {S : Type 0} → SideOf S → Manner S
-manner_of s = manner s.follows s.can_refuse s.can_answer
-
--- WHAT A SIDE TELLS of questions that it answers, all of one kind, as `Peer` says of such a call, also of a live side; a
--- side that is asked nothing stays as it is
-abbrev pub SideTells : {S : Type 0} → SideOf S → Wanted → Option Told → S → S → Type 0
-SideTells s w None old new = new ≡ old
-SideTells s w (Some (Nodes told)) old new =
-    Asked (manner_of s) (nodes_of s.is_faithful s.states old) w.nodes told.items old new
-    × StaysFaithful s.is_faithful s.states old new × TellsLive s.is_live s.states TellsNode w.nodes told.items old new
-SideTells s w (Some (Pages told)) old new =
-    Asked (manner_of s) (pages_kind s.is_faithful s.states old) w.pages told.items old new
-    × StaysFaithful s.is_faithful s.states old new × TellsLive s.is_live s.states PageTold w.pages told.items old new
-SideTells s w (Some (States told)) old new =
-    Asked (manner_of s) (gets_of s.can_give s.is_faithful s.states old) w.gets told.items old new
-    × StaysFaithful s.is_faithful s.states old new × TellsLive s.is_live s.states StateTold w.gets told.items old new
-SideTells s w (Some (Pushes told)) old new = Asked (manner_of s) for_pushes w.pushes told.items old new
-    × PushedAll (holding s.is_faithful s.states s.most_keys) w.pushes old new (Ok told)
-    × TellsLive s.is_live s.states (TellsPush (s.most_keys old)) w.pushes told.items old new
-SideTells s w (Some (Refused refusal)) old new = ⊥
-
--- a side refused a window in place of its answers, as `Peer` says of such a call: some first ones of its questions were
--- made
-pub record RefusesAll {S : Type 0} (s : SideOf S) (w : Wanted) (refusal : Refusal) (old new : S) : Type 0 where
-  pub ends : Ends s.follows s.can_refuse (count_wanted w) old new refusal
-  pub not_of_question : s.is_faithful old → is_of_question refusal ≡ false
-  pub kept : w.pushes ≡ [] → StaysFaithful s.is_faithful s.states old new
-  pub unbroken : s.is_faithful old → refusal ≢ Broken → s.is_faithful new
-  pub first : s.is_faithful old →
-      PushesFirst (s.is_faithful new) (s.most_keys old) (s.states old) w.pushes (s.states new)
-
--- WHAT A SIDE SAYS of a window: answers of its kind, or a refusal in their place; and nothing where it is asked nothing
-abbrev pub SideSays : {S : Type 0} → SideOf S → Wanted → Option Told → S → S → Type 0
-SideSays s w None old new = (count_wanted w ≡ 0) × (new ≡ old)
-SideSays s w (Some (Nodes told)) old new = (1 ≤ length w.nodes) × SideTells s w (Some (Nodes told)) old new
-SideSays s w (Some (Pages told)) old new = (1 ≤ length w.pages) × SideTells s w (Some (Pages told)) old new
-SideSays s w (Some (States told)) old new = (1 ≤ length w.gets) × SideTells s w (Some (States told)) old new
-SideSays s w (Some (Pushes told)) old new = (1 ≤ length w.pushes) × SideTells s w (Some (Pushes told)) old new
-SideSays s w (Some (Refused refusal)) old new = (1 ≤ count_wanted w) × RefusesAll s w refusal old new
 
 -- ---- a run
 

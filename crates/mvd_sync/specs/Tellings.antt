@@ -5,13 +5,13 @@ use Rattle.mvd_dots.specs.declared.refusals.Refusal.{Refusal}
 use Rattle.mvd_dots.specs.declared.refusals.Refusal.TheVariants.{BadBody, TooManyRequests}
 use Rattle.mvd_keys.specs.State.{State}
 use Rattle.mvd_peer.specs.Windows.{ForEach}
+use Rattle.mvd_peer.specs.declared.window.Told.{Told}
+use Rattle.mvd_peer.specs.declared.window.Told.TheVariants.{Nodes, Pages, States, Pushes, Refused}
 use Rattle.mvd_wire.specs.declared.reply.Digests.{Digests}
 use Rattle.mvd_sync.specs.Answers.{IsPage, ListingValue, PageEntry}
 use Rattle.mvd_sync.specs.Made.{EndsMaking, PassesFault}
 use Rattle.mvd_sync.specs.declared.asking.Node.{Node}
 use Rattle.mvd_sync.specs.declared.telling.Share.{Share}
-use Rattle.mvd_sync.specs.declared.telling.Told.{Told}
-use Rattle.mvd_sync.specs.declared.telling.Told.TheVariants.{Nodes, Pages, States, Pushes, Refused}
 
 -- ---- the answers of a kind
 

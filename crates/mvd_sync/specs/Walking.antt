@@ -4,6 +4,7 @@ use Rattle.std.specs.Prelude.{Option, Some, None}
 use Rattle.mvd_dots.specs.declared.refusals.Refusal.TheVariants.{BadBody, Memory}
 use Rattle.mvd_keys.specs.Writes.{Key}
 use Rattle.mvd_peer.specs.Sides.{two}
+use Rattle.mvd_peer.specs.Asking.{PageQuestion}
 use Rattle.mvd_sync.specs.Answers.{ListingValue, StartsAfter, TakesLesser, is_spent}
 use Rattle.mvd_sync.specs.declared.cursor.Entry.{Entry}
 use Rattle.mvd_sync.specs.declared.report.Side.{Side}
@@ -11,10 +12,6 @@ use Rattle.mvd_sync.specs.declared.report.Side.TheVariants.{Local as AtLocal, Pe
 use Rattle.mvd_sync.specs.declared.report.SyncFault.{SyncFault}
 use Rattle.mvd_sync.specs.declared.report.SyncFault.TheVariants.{Local, Peer}
 use Rattle.mvd_sync.specs.declared.walking.Bucket.{Bucket}
-
--- a question about a page of a bucket, after a key
-abbrev pub PageQuestion : Type 0
-PageQuestion = List ℕ × Option Key
 
 -- a walk: the buckets of which nothing was told, the one that is gone over, those after it of which the first pages
 -- were told, and the key that was taken last of the one, where a page after it is wanted

@@ -1,9 +1,9 @@
 //! What a session asks of a side at once.
 ghost use Rattle.std.specs.Prelude.{◌≡◌, ◌≤◌, ◌<◌, length, min, take, IfOk, IfErr};
 ghost use Rattle.std.specs.Option.{option_copied};
+ghost use Rattle.mvd_peer.specs.Asking.{asked, only_gets, only_nodes, only_pages, only_pushes};
 ghost use Rattle.mvd_sync.specs.Meetings.{held_keys};
-ghost use Rattle.mvd_sync.specs.Steps.{AreSmall, IsBoundedWindow, asked, count_in, cut_wanted};
-ghost use Rattle.mvd_sync.specs.Steps.{only_gets, only_nodes, only_pages, only_pushes};
+ghost use Rattle.mvd_sync.specs.Steps.{AreSmall, IsBoundedWindow, cut_wanted};
 
 use crate::asking::take;
 use crate::cursor::Entry;
@@ -11,34 +11,8 @@ use crate::meetings::keys_held;
 use crate::report::Side;
 use mvd_dots::Refusal;
 use mvd_keys::{Key, KeyState, Path};
+use mvd_peer::Window;
 use std::alloc::Global;
-
-/// Questions to a side that leave at once. No window is empty.
-#[derive(Drop)]
-pub enum Window {
-    /// Nodes of the hash tree: at most 64.
-    Nodes(Vec<Path>),
-    /// Pages of buckets, each after a key or from the first: at most 64.
-    Pages(Vec<(Path, Option<Key>)>),
-    /// The states of keys: at most 1,000.
-    Gets(Vec<Key>),
-    /// States to be joined to those of their keys: one, or frames of at most 1,048,576 bytes together.
-    Pushes(Vec<(Key, KeyState)>),
-}
-
-impl Window {
-    /// How many questions it has.
-    pub fn count(&self) -> usize
-        ensures { result ≡ count_in self.now }
-    {
-        match self {
-            Window::Nodes(paths) => paths.len(),
-            Window::Pages(pages) => pages.len(),
-            Window::Gets(keys) => keys.len(),
-            Window::Pushes(pairs) => pairs.len(),
-        }
-    }
-}
 
 /// What is asked next: of one side, or of both, which may be asked at once.
 #[derive(Drop)]

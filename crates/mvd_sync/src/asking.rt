@@ -1,21 +1,18 @@
 //! Questions to a side, of which no more are made than were given.
-ghost use Rattle.std.specs.Prelude.{◌≡◌, ◌+◌, ◌-◌, ◌<◌, ◌≤◌, ◌^◌, length, false, OnOk, IfOk, IfErr};
+ghost use Rattle.std.specs.Prelude.{◌≡◌, ◌+◌, ◌-◌, ◌<◌, ◌≤◌, ◌^◌, false, OnOk, IfOk, IfErr};
 ghost use Rattle.std.specs.Prelude.{◌⊎◌, ◌++◌, All, Contains, Err, None, Some, min};
-ghost use Rattle.mvd_sync.specs.Made.{ReadsAll};
 ghost use Rattle.mvd_sync.specs.Questions.{IsOfKey, IsWindow, TakesBudget, push_bytes};
-ghost use Rattle.mvd_sync.specs.Ran.{SideSays};
-ghost use Rattle.mvd_sync.specs.Steps.{IsBoundedWindow, asked, only_gets, only_nodes, only_pages, only_pushes};
+ghost use Rattle.mvd_sync.specs.Steps.{IsBoundedWindow};
 ghost use Rattle.mvd_peer.specs.PeerSides.{side_of};
 ghost use Rattle.mvd_peer.specs.Sides.{is_of_key};
+ghost use Rattle.mvd_peer.specs.Asking.{asked};
+ghost use Rattle.mvd_peer.specs.Saying.{SideSays};
 
-use crate::asked::Window;
-use crate::made::{Made, made_all};
-use crate::telling::Told;
+use crate::made::Made;
 use mvd_dots::Refusal;
-use mvd_keys::{Key, KeyState, Path};
-use mvd_peer::Peer;
+use mvd_keys::{Key, KeyState};
+use mvd_peer::{Peer, Told, Window};
 use mvd_wire::{Digests, state_length};
-use std::alloc::Global;
 
 /// How many questions each side may still be asked.
 #[derive(Clone, Copy, Debug)]
@@ -70,85 +67,12 @@ impl Made<Digests> for Node {
     }
 }
 
-/// What is made of all answers to the questions of a window, of which so many were taken and so many wanted.
-pub fn read_all<A: Drop, B: Made<A>>(
-    alloc: Global,
-    told: Result<Vec<Result<A, Refusal>>, Refusal>,
-    taken: usize,
-    wanted: usize,
-) -> Result<Vec<B>, Refusal>
-    ensures { ReadsAll B.is_of B.is_none told taken wanted result }
-{
-    let answers = match told {
-        Ok(answers) => answers,
-        Err(refusal) => return Err(refusal),
-    };
-    let read = match made_all(alloc, answers) {
-        Ok(read) => read,
-        Err(refusal) => return Err(refusal),
-    };
-    match are_all(taken, wanted) {
-        Ok(()) => Ok(read),
-        Err(refusal) => Err(refusal),
-    }
-}
-
-/// What a side says of nodes.
-fn ask_nodes<S: Peer>(side: &mut S, paths: &[Path]) -> Told
-    requires some { 1 ≤ length paths.now }
-    ensures { SideSays (side_of S.Peer) (only_nodes paths.now) (Some result) side.old side.new }
-{
-    match side.nodes(paths) {
-        Ok(answers) => Told::Nodes(answers),
-        Err(refusal) => Told::Refused(refusal),
-    }
-}
-
-/// What it says of pages of buckets.
-fn ask_pages<S: Peer>(side: &mut S, asked: &[(Path, Option<Key>)]) -> Told
-    requires some { 1 ≤ length asked.now }
-    ensures { SideSays (side_of S.Peer) (only_pages asked.now) (Some result) side.old side.new }
-{
-    match side.pages(asked) {
-        Ok(answers) => Told::Pages(answers),
-        Err(refusal) => Told::Refused(refusal),
-    }
-}
-
-/// What it says of the states of keys.
-fn ask_gets<S: Peer>(side: &mut S, keys: &[Key]) -> Told
-    requires some { 1 ≤ length keys.now }
-    ensures { SideSays (side_of S.Peer) (only_gets keys.now) (Some result) side.old side.new }
-{
-    match side.get_all(keys) {
-        Ok(answers) => Told::States(answers),
-        Err(refusal) => Told::Refused(refusal),
-    }
-}
-
-/// What it says of pushes.
-fn ask_pushes<S: Peer>(side: &mut S, pairs: &[(Key, KeyState)]) -> Told
-    requires some { 1 ≤ length pairs.now }
-    ensures { SideSays (side_of S.Peer) (only_pushes pairs.now) (Some result) side.old side.new }
-{
-    match side.push_all(pairs) {
-        Ok(answers) => Told::Pushes(answers),
-        Err(refusal) => Told::Refused(refusal),
-    }
-}
-
 /// What a side says of a window; nothing, where it is asked none.
 pub fn ask<S: Peer>(side: &mut S, window: Option<Window>) -> Option<Told>
     requires bounded { IsBoundedWindow window }
     ensures { SideSays (side_of S.Peer) (asked window) result side.old side.new }
 {
-    match window {
-        None => None,
-        Some(Window::Nodes(paths)) => Some(ask_nodes(side, &paths)),
-        Some(Window::Pages(pages)) => Some(ask_pages(side, &pages)),
-        Some(Window::Gets(keys)) => Some(ask_gets(side, &keys)),
-        Some(Window::Pushes(pairs)) => Some(ask_pushes(side, &pairs)),
-    }
+    Some(side.ask(&window?))
 }
 
 /// The most bytes of pushes that are sent at once, unless it is one push.

@@ -7,9 +7,10 @@ ghost use Rattle.mvd_sync.specs.Tellings.{states_told};
 use crate::cursor::Entry;
 use crate::meetings::count_held;
 use crate::report::Side;
-use crate::telling::{Answers, Share, Shares, Told};
+use crate::telling::{Answers, Share, Shares};
 use mvd_dots::Refusal;
 use mvd_keys::KeyState;
+use mvd_peer::Told;
 
 /// Whether the first of the answers is that its state is not held, if one is wanted.
 fn lacks(is_wanted: bool, answers: &[Result<KeyState, Refusal>]) -> bool

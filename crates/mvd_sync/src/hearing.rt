@@ -23,14 +23,14 @@ use crate::meetings::{Meeting, count_held, plan_all};
 use crate::report::{Side, SyncFault, fault_at, other_of};
 use crate::stage::{Stage, begin, settle};
 use crate::telling::{
-    Answers, Share, Shares, Told, pushes_in, read_nodes, read_pages, read_states, spend,
-    told_nothing,
+    Answers, Share, Shares, pushes_in, read_nodes, read_pages, read_states, spend, told_nothing,
 };
 use crate::turn::Turn;
 use crate::walking::BucketWalk;
 use crate::weights::WINDOW;
 use mvd_dots::Refusal;
 use mvd_keys::KeyState;
+use mvd_peer::Told;
 use std::alloc::Global;
 
 /// How many of the pushes that are next are for a side.

@@ -20,8 +20,7 @@ mod turn;
 mod walking;
 mod weights;
 
-pub use asked::{Step, Window};
+pub use asked::Step;
 pub use machine::Machine;
 pub use report::{Left, Report, Side, SyncFault};
 pub use session::{MOST_QUESTIONS, sync, sync_within};
-pub use telling::Told;

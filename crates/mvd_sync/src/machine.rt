@@ -1,11 +1,12 @@
 //! A session as a machine: what it asks next of each side, and what it takes of their answers. It waits for nobody.
 ghost use Rattle.std.specs.Prelude.{◌≡◌, ◌⊎◌, ◌≤◌, [], cond, length, take, IfOk, IfErr, OnOk};
+ghost use Rattle.mvd_peer.specs.Asking.{asked};
 ghost use Rattle.mvd_sync.specs.Machines.{AsksForNext, HasNext, IsQuiet, IsStep, StageStands, Starts, TakesTold, StageWent, is_same};
 ghost use Rattle.mvd_sync.specs.Machines.{wanted_at};
 ghost use Rattle.mvd_sync.specs.OneTurn.{untold};
-ghost use Rattle.mvd_sync.specs.Steps.{IsBoundedWindow, asked, cut_wanted};
+ghost use Rattle.mvd_sync.specs.Steps.{IsBoundedWindow, cut_wanted};
 
-use crate::asked::{Step, Window, gets_window, nodes_window, pages_window, pushes_window};
+use crate::asked::{Step, gets_window, nodes_window, pages_window, pushes_window};
 use crate::asking::Questions;
 use crate::exchange::Exchange;
 use crate::hearing::hear;
@@ -13,10 +14,11 @@ use crate::levels::Descent;
 use crate::report::{Report, Side, SyncFault};
 use crate::session::MOST_QUESTIONS;
 use crate::stage::{Stage, go_far};
-use crate::telling::{Answers, Told};
+use crate::telling::Answers;
 use crate::turn::Turn;
 use mvd_dots::Refusal;
 use mvd_keys::{Key, KeyState};
+use mvd_peer::{Told, Window};
 use std::alloc::Global;
 use std::marker::Model;
 use std::mem;

@@ -1,28 +1,17 @@
 //! What a side told of a window, as a session reads it.
-ghost use Rattle.std.specs.Prelude.{◌≡◌, IfOk, IfErr, MatchResult, Ok, Err};
-ghost use Rattle.mvd_sync.specs.Made.{PassesFault};
+ghost use Rattle.std.specs.Prelude.{◌≡◌};
 ghost use Rattle.mvd_sync.specs.Questions.{TakesBudget};
 ghost use Rattle.mvd_sync.specs.Tellings.{IsNoNode, IsNoPage, IsNodeOf, IsListingOf, IsRead, IsStateOf, as_list, never};
 ghost use Rattle.mvd_sync.specs.Tellings.{nodes_told, pages_told, pushes_told, states_told, unasked_told};
 
-use crate::asking::{Node, read_all, take};
+use crate::asking::{Node, are_all, take};
 use crate::cursor::Listing;
-use crate::made::Made;
+use crate::made::{Made, made_all};
 use mvd_dots::Refusal;
 use mvd_keys::KeyState;
-use mvd_peer::Page;
+use mvd_peer::{Page, Told};
 use mvd_wire::Digests;
 use std::alloc::Global;
-
-/// What a side told of a window: an answer for each question, in order; or the refusal that it told in place of that.
-#[derive(Drop)]
-pub enum Told {
-    Nodes(Vec<Result<Digests, Refusal>>),
-    Pages(Vec<Result<Page, Refusal>>),
-    States(Vec<Result<KeyState, Refusal>>),
-    Pushes(Vec<Result<(), Refusal>>),
-    Refused(Refusal),
-}
 
 /// How many questions of a window were asked of a side, and how many were wanted.
 #[derive(Clone, Copy)]
@@ -82,7 +71,14 @@ fn read<A: Drop, B: Made<A>>(
     if answers.len() != share.asked {
         return Err(Refusal::BadBody);
     }
-    read_all(alloc, Ok(answers), share.asked, share.wanted)
+    let read = match made_all(alloc, answers) {
+        Ok(read) => read,
+        Err(refusal) => return Err(refusal),
+    };
+    match are_all(share.asked, share.wanted) {
+        Ok(()) => Ok(read),
+        Err(refusal) => Err(refusal),
+    }
 }
 
 /// The answers about nodes. Those of another kind are 33.

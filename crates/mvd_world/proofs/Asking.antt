@@ -8,14 +8,14 @@ use Rattle.mvd_dots.specs.declared.refusals.Refusal.TheVariants.{Broken, Memory}
 use Rattle.mvd_keys.specs.State.{State}
 use Rattle.mvd_keys.specs.Writes.{Key, state, writes_of}
 use Rattle.mvd_peer.specs.PushedStates.{Each}
+use Rattle.mvd_peer.specs.Asking.{asked as asked_in}
+use Rattle.mvd_peer.specs.declared.window.Window.{Window}
+use Rattle.mvd_peer.specs.declared.window.Told.{Told}
 use Rattle.mvd_site.specs.FromStates.{AnswersFrom}
 use Rattle.mvd_site.specs.Sites.{SiteValue}
 use Rattle.mvd_wire.specs.declared.request.Request.TheVariants.{Push}
 use Rattle.mvd_wire.specs.declared.reply.Reply.{Reply}
 use Rattle.mvd_wire.specs.declared.reply.Reply.TheVariants.{Refused}
-use Rattle.mvd_sync.specs.Steps.{asked as asked_in}
-use Rattle.mvd_sync.specs.declared.asked.Window.{Window}
-use Rattle.mvd_sync.specs.declared.telling.Told.{Told}
 use Rattle.mvd_sync.proofs.Descents.{Each-left, Each-right}
 use Rattle.mvd_sync.proofs.Keys.{Each-weaker}
 use Rattle.mvd_world.specs.declared.worlds.Message.{Message}

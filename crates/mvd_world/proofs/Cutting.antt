@@ -8,12 +8,12 @@ use Rattle.mvd_dots.specs.declared.refusals.Refusal.{Refusal}
 use Rattle.mvd_keys.specs.State.{State}
 use Rattle.mvd_keys.specs.Writes.{Key, writes_of}
 use Rattle.mvd_peer.specs.PushedStates.{Each}
+use Rattle.mvd_peer.specs.declared.window.Window.{Window}
+use Rattle.mvd_peer.specs.declared.window.Window.TheVariants as wanted
+use Rattle.mvd_peer.specs.declared.window.Told.{Told}
+use Rattle.mvd_peer.specs.declared.window.Told.TheVariants as telling
 use Rattle.mvd_wire.specs.declared.request.Request.TheVariants.{Bucket, Node}
 use Rattle.mvd_sync.specs.Machines.{Machining}
-use Rattle.mvd_sync.specs.declared.asked.Window.{Window}
-use Rattle.mvd_sync.specs.declared.asked.Window.TheVariants as wanted
-use Rattle.mvd_sync.specs.declared.telling.Told.{Told}
-use Rattle.mvd_sync.specs.declared.telling.Told.TheVariants as telling
 use Rattle.mvd_sync.proofs.Keys.{Each-weaker}
 use Rattle.mvd_world.specs.declared.acts.Act.{Act}
 use Rattle.mvd_world.specs.declared.acts.Act.TheVariants.{Take, Begin, Go}

@@ -23,7 +23,7 @@ use Rattle.mvd_site.specs.Sites.{SiteStands, SiteValue}
 use Rattle.mvd_site.proofs.KnownKeys.{states_of-stands}
 use Rattle.mvd_site.proofs.Steps.{state_at-stands}
 use Rattle.mvd_sync.specs.Session.{AreFew, CanMeet, HasAllThatDiffer, HasJoined, IsIn, IsLittle, is_member}
-use Rattle.mvd_peer.specs.Sides.{IsBroken, SideOf, SiteFollows, SiteRefuses, Stays, is_of_question, is_site_refusal, tells_broken}
+use Rattle.mvd_peer.specs.Sides.{IsBroken, IsWholeSite, Stays, is_of_question, is_site_refusal, site_side, tells_broken}
 use Rattle.mvd_sync.specs.Faults.{IsFaultOf, of_answer, of_memory, of_questions, of_side}
 use Rattle.mvd_sync.specs.declared.report.Report.{Report}
 use Rattle.mvd_sync.specs.declared.report.SyncFault.{SyncFault}
@@ -97,20 +97,6 @@ stands_from m W form same = record {
 
 -- ---- the two sides
 
--- a site as a side of a session
-abbrev pub site_side : SideOf SiteValue
-site_side = record {
-  states = λ s. s.states;
-  is_faithful = λ s. (s.broken ≡ false) × AreHeld s.states;
-  is_live = λ s. (s.broken ≡ false) × AreHeld s.states;
-  can_give = λ _ _. Unit {0};
-  follows = λ _. SiteFollows;
-  can_refuse = SiteRefuses;
-  can_answer = λ s. s.broken ≡ false;
-  most_keys = λ s. s.config.max_keys;
-  number = λ s. Some s.config.site;
-}
-
 -- the state of a key that was joined, or is as it was
 chosen : (t : Bool) (old new : States) (key : Key) (s : State) → MatchBool t (state_at new key ≡ s) (get new key ≡ get old key) → state_at new key ≡ cond t s (state_at old key)
 chosen true old new key s h = h
@@ -154,11 +140,8 @@ breaks_by told decide was is (Ok report) whole still = (λ broken. absurd (true�
 breaks_by told decide was is (Err fault) whole still =
     (λ broken. absurd (true≢false (sym broken ∙ whole)), λ _ broken. ⊎_elim (λ same. ap Err same) (λ other. absurd (true≢false (sym broken ∙ still other))) (decide fault))
 
--- a side that is true is whole
-abbrev pub IsTrue_side : SiteValue → Type 0
-IsTrue_side site = (site.broken ≡ false) × AreHeld site.states
-
-whole_side : (told : SyncFault) (site : SiteValue) (result : Result Report SyncFault) → OnOk result (IsTrue_side site) → IfErr result (λ fault. fault ≢ told → IsTrue_side site) →
+-- a side that is whole is not broken
+whole_side : (told : SyncFault) (site : SiteValue) (result : Result Report SyncFault) → OnOk result (IsWholeSite site) → IfErr result (λ fault. fault ≢ told → IsWholeSite site) →
     MatchResult result (λ _. site.broken ≡ false) (λ fault. fault ≢ told → site.broken ≡ false)
 whole_side told site (Ok report) ok err = ok.0
 whole_side told site (Err fault) ok err = λ other. (err other).0
@@ -183,7 +166,7 @@ AreFewAt a b i j v w differing = AreFew (i + v) a differing × AreFew (j + w) b 
 few_of_both : (a b : States) (i j v w : ℕ) (differing : List Key) → AreFewAt a b i j v w differing → AreFew i a differing × AreFew j b differing
 few_of_both a b i j v w differing few = let m = few.0 in let n = few.1 in (omega (arith, m), omega (arith, n))
 
-module _ (a b held : States) (site site' : SiteValue) (asked wanted first again mine theirs : ℕ) (faithful : IsTrue_side site) (parts : asked ≡ first + again) (little : IsLittle again (mine + theirs)) where
+module _ (a b held : States) (site site' : SiteValue) (asked wanted first again mine theirs : ℕ) (faithful : IsWholeSite site) (parts : asked ≡ first + again) (little : IsLittle again (mine + theirs)) where
   abbrev FewOfAll : List Key → Type 0
   FewOfAll differing = AreFew (first + wanted) held differing × AreFew mine a differing × AreFew theirs b differing
 
@@ -193,7 +176,7 @@ module _ (a b held : States) (site site' : SiteValue) (asked wanted first again 
   may_fail refusal whole few (of_questions e all one) = all_asked (first + wanted) again mine theirs e (omega (arith, parts, all, one)) little few
   may_fail refusal whole few (of_memory e) = it_refused (ap is_site_refusal e) (ap is_of_question e) (whole (λ is. cc) ∙ sym (ap tells_broken e))
 
-fails_for : (a b : States) (local peer local' peer' : SiteValue) (i j v w first first' again again' : ℕ) (result : Result Report SyncFault) → IsTrue_side local → IsTrue_side peer →
+fails_for : (a b : States) (local peer local' peer' : SiteValue) (i j v w first first' again again' : ℕ) (result : Result Report SyncFault) → IsWholeSite local → IsWholeSite peer →
     MatchResult result (λ _. local'.broken ≡ false) (λ fault. fault ≢ Local Broken → local'.broken ≡ false) →
     MatchResult result (λ _. peer'.broken ≡ false) (λ fault. fault ≢ Peer Broken → peer'.broken ≡ false) →
     (i ≡ first + again) × (j ≡ first' + again') → IsLittle again (first + first') × IsLittle again' (first + first') →
@@ -209,7 +192,7 @@ fails_for a b local peer local' peer' i j v w first first' again again' (Err (Pe
 
 -- ---- and what it does
 
-pub sites_meet : (local peer local' peer' : SiteValue) (result : Result Report SyncFault) → IsTrue_side local → IsTrue_side peer → AreHeld local'.states → AreHeld peer'.states → SessionBy site_side site_side 10000000 local local' peer peer' result → ExchangeSites local peer local' peer' result
+pub sites_meet : (local peer local' peer' : SiteValue) (result : Result Report SyncFault) → IsWholeSite local → IsWholeSite peer → AreHeld local'.states → AreHeld peer'.states → SessionBy site_side site_side 10000000 local local' peer peer' result → ExchangeSites local peer local' peer' result
 sites_meet local peer local' peer' result first second held held' session V W stands stands' =
     let m = session.meets first second in
     let mine = session.course.local_side first in

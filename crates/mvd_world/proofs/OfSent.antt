@@ -7,6 +7,11 @@ use Rattle.mvd_keys.specs.State.{IsValid, State}
 use Rattle.mvd_keys.specs.Writes.{Key}
 use Rattle.mvd_peer.specs.PushedStates.{Each}
 use Rattle.mvd_peer.specs.Windows.{ForEach}
+use Rattle.mvd_peer.specs.Asking.{Wanted, asked as asked_in}
+use Rattle.mvd_peer.specs.declared.window.Window.{Window}
+use Rattle.mvd_peer.specs.declared.window.Window.TheVariants as wanted
+use Rattle.mvd_peer.specs.declared.window.Told.{Told}
+use Rattle.mvd_peer.specs.declared.window.Told.TheVariants as telling
 use Rattle.mvd_sync.specs.Exchanges.{Exchanging}
 use Rattle.mvd_sync.specs.Fronts.{IsWhole, StateAnswer, front_told, share_in, told_first}
 use Rattle.mvd_sync.specs.Made.{PassesFault}
@@ -14,12 +19,9 @@ use Rattle.mvd_sync.specs.Machines.{CarriedOn, GoesAlone, HasNext, HearsAt, IsSt
 use Rattle.mvd_sync.specs.Meetings.{ArePlans, held_keys, noted, taken_from}
 use Rattle.mvd_sync.specs.OneTurn.{BeginsTurn, IsSameTurn, untold}
 use Rattle.mvd_sync.specs.Questions.{TakesBudget}
-use Rattle.mvd_sync.specs.Steps.{Wanted, asked as asked_in}
 use Rattle.mvd_sync.specs.Tellings.{AllRead, IsStateOf, states_told, unasked_told}
 use Rattle.mvd_sync.specs.Walking.{Walking}
 use Rattle.mvd_sync.specs.declared.asked.Step.{Step as Asking}
-use Rattle.mvd_sync.specs.declared.asked.Window.{Window}
-use Rattle.mvd_sync.specs.declared.asked.Window.TheVariants as wanted
 use Rattle.mvd_sync.specs.declared.asking.Questions.{Questions}
 use Rattle.mvd_sync.specs.declared.cursor.Entry.{Entry}
 use Rattle.mvd_sync.specs.declared.meetings.Meeting.{Meeting}
@@ -30,8 +32,6 @@ use Rattle.mvd_sync.specs.declared.stage.Stage.{Stage}
 use Rattle.mvd_sync.specs.declared.stage.Stage.TheVariants.{Descends, Walks, Meets, Carries, Done, Failed}
 use Rattle.mvd_sync.specs.declared.telling.Share.{Share}
 use Rattle.mvd_sync.specs.declared.telling.Shares.{Shares}
-use Rattle.mvd_sync.specs.declared.telling.Told.{Told}
-use Rattle.mvd_sync.specs.declared.telling.Told.TheVariants as telling
 use Rattle.mvd_sync.specs.declared.turn.Turn.{Turn}
 use Rattle.mvd_sync.proofs.CutWindows.{held_split}
 use Rattle.mvd_sync.proofs.Descents.{Each-right, Each-take}

@@ -1,12 +1,12 @@
 -- How the code tells of an open world.
-use Rattle.std.proofs.Common.{◌≡◌, ℕ, ◌+◌, ◌-◌, ◌≤◌, zero, suc, Bool, true, false, MatchBool, List, [], ◌∷◌, ◌++◌, length, Option, Some, None, refl, sym, ap, ap₂, ◌∙◌, subst, arith, length-append}
-use Rattle.std.specs.Prelude.{IfOk, IfSome, Ok, Err, Result, slice_set}
+use Rattle.std.proofs.Common.{◌≡◌, ℕ, ◌+◌, ◌≤◌, zero, suc, true, MatchBool, List, [], ◌∷◌, ◌++◌, length, Option, Some, None, refl, sym, ap, ◌∙◌, subst, arith}
+use Rattle.std.specs.Prelude.{IfSome, Ok, Err, Result, slice_set}
 use Rattle.std.specs.List.{slice_get}
 use Rattle.mvd_peer.specs.PushedStates.{Each}
+use Rattle.mvd_peer.specs.Asking.{asked as asked_in}
+use Rattle.mvd_peer.specs.declared.window.Told.{Told}
 use Rattle.mvd_sync.specs.Machines.{HasNext, Machining, Starts, TakesTold}
-use Rattle.mvd_sync.specs.Steps.{asked as asked_in}
 use Rattle.mvd_sync.specs.declared.asked.Step.{Step as Asking}
-use Rattle.mvd_sync.specs.declared.telling.Told.{Told}
 use Rattle.mvd_sync.specs.declared.report.Report.{Report}
 use Rattle.mvd_sync.specs.declared.report.SyncFault.{SyncFault}
 use Rattle.mvd_sync.proofs.Keys.{Each-weaker}

@@ -12,13 +12,15 @@ use Rattle.mvd_wire.specs.declared.reply.Digests.{Digests}
 use Rattle.mvd_wire.specs.declared.reply.Reply.TheVariants.{Digests as Node_told, Done, Keys, Refused}
 use Rattle.mvd_wire.specs.declared.request.Request.TheVariants.{Bucket, Node}
 use Rattle.mvd_peer.specs.PushedStates.{Each}
+use Rattle.mvd_peer.specs.Asking.{PageQuestion}
+use Rattle.mvd_peer.specs.declared.window.Window.{Window}
+use Rattle.mvd_peer.specs.declared.window.Window.TheVariants as wanted
+use Rattle.mvd_peer.specs.declared.window.Told.{Told}
+use Rattle.mvd_peer.specs.declared.window.Told.TheVariants as telling
 use Rattle.mvd_sync.specs.Exchanges.{Exchanging}
 use Rattle.mvd_sync.specs.Machines.{HasNext, Machining, Starts, TakesTold}
 use Rattle.mvd_sync.specs.Tellings.{Page}
-use Rattle.mvd_sync.specs.Walking.{PageQuestion}
 use Rattle.mvd_sync.specs.declared.asked.Step.{Step as Asking}
-use Rattle.mvd_sync.specs.declared.asked.Window.{Window}
-use Rattle.mvd_sync.specs.declared.asked.Window.TheVariants as wanted
 use Rattle.mvd_sync.specs.declared.meetings.Meeting.{Meeting}
 use Rattle.mvd_sync.specs.declared.report.Report.{Report}
 use Rattle.mvd_sync.specs.declared.report.SyncFault.{SyncFault}
@@ -27,8 +29,6 @@ use Rattle.mvd_sync.specs.declared.report.Side.{Side}
 use Rattle.mvd_sync.specs.declared.report.Side.TheVariants.{Local as AtLocal, Peer as AtPeer}
 use Rattle.mvd_sync.specs.declared.stage.Stage.{Stage}
 use Rattle.mvd_sync.specs.declared.stage.Stage.TheVariants.{Carries, Failed}
-use Rattle.mvd_sync.specs.declared.telling.Told.{Told}
-use Rattle.mvd_sync.specs.declared.telling.Told.TheVariants as telling
 use Rattle.mvd_world.specs.declared.acts.Act.{Act}
 use Rattle.mvd_world.specs.declared.acts.Act.TheVariants.{Take, Begin, Go}
 use Rattle.mvd_world.specs.declared.acts.Came.{Came}

@@ -1,6 +1,6 @@
 //! Many questions over a link: all frames out, then all replies in.
 ghost use Rattle.std.specs.Prelude.{◌≡◌, ◌≢◌, ◌++◌, Err, List, ℕ, Result as Spelled, [], None, Some, OnOk, IfOk};
-ghost use Rattle.std.specs.Prelude.{IfErr, MatchResult, All, true};
+ghost use Rattle.std.specs.Prelude.{IfErr, MatchResult, All, length, true};
 ghost use Rattle.mvd_dots.specs.declared.refusals.Refusal.TheVariants.{Memory};
 ghost use Rattle.mvd_wire.specs.Codec.{Gives};
 ghost use Rattle.mvd_remote.specs.LinkWindows.{AnswersInTurn, AsksAll, IsOfKind, RefusesAll, AnswersTurn, TakeTurns};
@@ -9,11 +9,11 @@ ghost use Rattle.mvd_remote.specs.LinkWindows.{IsKeptOf, IsToldBy, and_frame, fr
 ghost use Rattle.mvd_peer.specs.Windows.{AreWithin, ForEach, GivesWithin};
 ghost use Rattle.mvd_wire.specs.declared.reply.Reply.{Reply as Told};
 ghost use Rattle.mvd_remote.specs.Lines.{AreGets, HaveFrames, DueTurn, DueTurns, KeepsConfig};
-ghost use Rattle.mvd_remote.specs.Lines.{RemoteRefuses, TellsAllTruly, ToldMore, TookTurns, line_of, noted};
+ghost use Rattle.mvd_remote.specs.Lines.{NotesUpTo, RemoteRefuses, TellsAllTruly, TookTurns, line_of, noted};
 ghost use Rattle.mvd_remote.specs.Lines.{refused_of, told_of};
 ghost use Rattle.mvd_remote.specs.LiveRemotes.{EndsLive, SettlesLive, ToldLive, TookLiveTurns, TookTurn};
 ghost use Rattle.mvd_remote.specs.Links.{ReadCause};
-ghost use Rattle.mvd_remote.specs.Remotes.{AsksAllTruly, EndsTruly, NotesAll, link_of, queries};
+ghost use Rattle.mvd_remote.specs.Remotes.{AsksAllTruly, EndsTruly, NotesAll, link_of};
 ghost use Rattle.mvd_wire.specs.declared.request.Request.{Request};
 ghost use Rattle.mvd_dots.specs.declared.refusals.Refusal.{Refusal as Cause};
 
@@ -43,13 +43,13 @@ pub fn kept(bytes: &mut u64, reply: Result<Reply, Refusal>) -> Result<Reply, Ref
 
 /// The frames of a window.
 #[derive(Drop)]
-pub struct Window {
+pub struct Frames {
     pub(super) frames: Vec<u8>,
     // For each request why it has no frame, if it has none.
     pub(super) nones: Vec<Option<Refusal>>,
 }
 
-impl Model for Window {
+impl Model for Frames {
     ghost use Rattle.std.specs.Prelude.{List, ℕ, Option};
     ghost use Rattle.mvd_dots.specs.declared.refusals.Refusal.{Refusal as Cause};
 
@@ -58,7 +58,7 @@ impl Model for Window {
     ghost view = { λ a. (a.frames.items, a.nones.items) };
 }
 
-impl Window {
+impl Frames {
     /// A window of no request yet, and of so many soon.
     pub fn new(alloc: Global, count: usize) -> Result<Self, Refusal>
         ensures none { IfOk result (λ window. window ≡ ([], [])) }
@@ -66,7 +66,7 @@ impl Window {
     {
         let frames = Vec::new(alloc);
         let nones = Vec::with_capacity(alloc, count)?;
-        Ok(Window { frames, nones })
+        Ok(Frames { frames, nones })
     }
 
     /// The frames that are to leave.
@@ -152,7 +152,7 @@ impl<L: Line> Remote<L> {
             × (refused_of self.new ≡ Some refusal)) }
         ensures unsent { L.contents (line_of self.new) ≡ L.contents (line_of self.old) }
         ensures notes { OnOk result (told_of self.new ≡ told_of self.old ++ noted replies.new.items) }
-        ensures more { ToldMore self.old self.new }
+        ensures more { NotesUpTo (length nones.now) self.old self.new }
         ensures config { KeepsConfig L.far self.old self.new }
         ensures truth { L.is_true (line_of self.old) → TookTurns L.is_true L.far
             (λ due left _. DueTurns nones.now replies.new.items due left) self.old self.new result }
@@ -174,7 +174,7 @@ impl<L: Line> Remote<L> {
     /// Writes all frames of a window, and then answers each request in its turn.
     fn send_all(
         &mut self,
-        window: &Window,
+        window: &Frames,
         kind: u8,
     ) -> Result<Vec<Result<Reply, Refusal>>, Refusal>
         requires { refused_of self.old ≡ None }
@@ -185,7 +185,7 @@ impl<L: Line> Remote<L> {
         ensures within { IfOk result (λ replies. AreWithin 0 (states_in replies.items)) }
         ensures notes { MatchResult result
             (λ replies. told_of self.new ≡ told_of self.old ++ noted replies.items)
-            (λ refusal. RemoteRefuses self.new refusal × ToldMore self.old self.new) }
+            (λ refusal. RemoteRefuses self.new refusal × NotesUpTo (length window.now.1) self.old self.new) }
         ensures config { KeepsConfig L.far self.old self.new }
         ensures truth { (requests : List Request) → window.now ≡ frames_of requests → HaveFrames requests →
             EndsTruly L.Line (λ config before told. TellsAllTruly config before requests told.items)
@@ -206,20 +206,20 @@ impl<L: Line> Remote<L> {
     /// Asks all questions of a window.
     pub(super) fn ask_all<A: Answer>(
         &mut self,
-        window: &Window,
+        window: &Frames,
     ) -> Result<Vec<Result<A, Refusal>>, Refusal>
         requires { refused_of self.old ≡ None }
         ensures asked { MatchResult result
             (λ told. AsksAll A.as_reply A.of_kind window.now told.items
             (link_of L.Line self.old) (link_of L.Line self.new))
             (RefusesAll A.of_kind window.now (link_of L.Line self.old) (link_of L.Line self.new)) }
-        ensures notes { NotesAll A.as_reply self.old self.new result }
+        ensures notes { NotesAll A.as_reply (length window.now.1) self.old self.new result }
         ensures config { KeepsConfig L.far self.old self.new }
         ensures within { IfOk result (λ told. (replies : List (Spelled Told Cause)) × AreWithin 0 (states_in replies)
             × ForEach (IsToldBy A.as_reply) replies told.items) }
         ensures truth { (requests : List Request) → window.now ≡ frames_of requests → HaveFrames requests →
             (A.gives_up ≡ true → AreGets requests) →
-            AsksAllTruly L.Line (queries requests A.as_reply A.of_kind) self.old self.new result }
+            AsksAllTruly L.Line A.as_reply requests self.old self.new result }
         ensures live { (requests : List Request) → window.now ≡ frames_of requests → HaveFrames requests →
             (A.gives_up ≡ true → AreGets requests) →
             EndsLive L.Line (SettlesLive A.as_reply) (λ told. told.items) requests self.old self.new result }

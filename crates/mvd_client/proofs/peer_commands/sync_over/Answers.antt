@@ -15,6 +15,8 @@ returns-in-Err-clause-syncs g c = record {
   session = c.session_of.ensures.session;
   runs = c.session_of.ensures.ran;
   ends = rw c.in-Err.is (refl, refl);
+  few = λ s t d n. c.session_of.ensures.few s (fresh_is_true g.L.Line.is_true g.L.Line.far c.args.watched.now.side t d n);
+  most = c.session_of.ensures.most;
   meets = λ s t d n. returns-in-Err-clause-meets g c s (fresh_is_true g.L.Line.is_true g.L.Line.far c.args.watched.now.side t d n);
 }
 
@@ -33,6 +35,8 @@ returns-in-Ok-bye-clause-syncs g c = record {
   session = c.session_of.ensures.session;
   runs = c.session_of.ensures.ran;
   ends = rw c.in-Ok.is (c.bye.result, c.bye.ensures.asked, c.bye.ensures.live, rw c.in-Ok-bye.is refl);
+  few = λ s t d n. c.session_of.ensures.few s (fresh_is_true g.L.Line.is_true g.L.Line.far c.args.watched.now.side t d n);
+  most = c.session_of.ensures.most;
   meets = λ s t d n. returns-in-Ok-bye-clause-meets g c s (fresh_is_true g.L.Line.is_true g.L.Line.far c.args.watched.now.side t d n);
 }
 
@@ -51,5 +55,7 @@ returns-in-Err-bye-clause-syncs g c = record {
   session = c.session_of.ensures.session;
   runs = c.session_of.ensures.ran;
   ends = rw c.in-Ok.is (c.bye.result, c.bye.ensures.asked, c.bye.ensures.live, rw c.in-Err-bye.is refl);
+  few = λ s t d n. c.session_of.ensures.few s (fresh_is_true g.L.Line.is_true g.L.Line.far c.args.watched.now.side t d n);
+  most = c.session_of.ensures.most;
   meets = λ s t d n. returns-in-Err-bye-clause-meets g c s (fresh_is_true g.L.Line.is_true g.L.Line.far c.args.watched.now.side t d n);
 }

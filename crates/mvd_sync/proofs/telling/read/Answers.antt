@@ -1,6 +1,5 @@
-use Rattle.std.proofs.Common.{◌≡◌, ap, arith, length, refl, subst, sym}
-use Rattle.mvd_sync.specs.Tellings.{IsRead, as_list, of_number}
-use Rattle.mvd_sync.proofs.Stepping.{read_is}
+use Rattle.std.proofs.Common.{ap, arith, refl}
+use Rattle.mvd_sync.specs.Tellings.{as_list, of_answer, of_number, of_questions}
 use Rattle.mvd_sync.proofs.telling.read.Goals as goal
 
 pub returns-then-len-share : goal.returns-then-len-share
@@ -8,11 +7,21 @@ returns-then-len-share g c =
     of_number c.in-Ok.answers.items (ap as_list c.in-Ok.is)
     (λ e. let m = c.len.ensures in let k = c.in-Ok.answers.ok.0 in let n = c.if-len-share.true in absurd (omega (arith, m, k, n, e))) refl
 
-pub returns : goal.returns
-returns g c =
+pub returns-in-Err-made_all : goal.returns-in-Err-made_all
+returns-in-Err-made_all g c = of_answer c.in-Ok.answers.items (ap as_list c.in-Ok.is) c.in-Err-made_all.ensures.ended
+
+pub returns-in-Err-are_all : goal.returns-in-Err-are_all
+returns-in-Err-are_all g c = of_questions c.in-Ok.answers.items (ap as_list c.in-Ok.is) c.in-Err-are_all.ensures.few.1 c.in-Err-are_all.ensures.few.0
+
+pub returns-in-Ok-are_all : goal.returns-in-Ok-are_all
+returns-in-Ok-are_all g c =
     let m = c.len.ensures in
     let k = c.in-Ok.answers.ok.0 in
     let n = c.if-len-share.false in
-    let counted : length c.in-Ok.answers.items ≡ c.args.share.asked = omega (arith, m, k, n) in
-    subst (λ t. IsRead g.B.Made.is_of g.B.Made.is_none t c.args.share c.read_all.result) (sym (ap as_list c.in-Ok.is))
-    (read_is g.B.Made.is_of g.B.Made.is_none c.in-Ok.answers c.args.share c.read_all.result counted c.read_all.ensures)
+    record {
+      answers = c.in-Ok.answers.items;
+      is = ap as_list c.in-Ok.is;
+      counted = omega (arith, m, k, n);
+      whole = c.in-Ok-are_all.ensures.all;
+      each = c.in-Ok-made_all.ensures.made;
+    }

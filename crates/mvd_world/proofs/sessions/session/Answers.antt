@@ -1,6 +1,6 @@
 use Rattle.std.proofs.Common.{◌≡◌, false, sym, ◌∙◌}
 use Rattle.mvd_dots.specs.declared.refusals.Refusal.TheVariants.{Broken}
-use Rattle.mvd_site.specs.Held.{AreHeld}
+use Rattle.mvd_peer.specs.Sides.{IsWholeSite}
 use Rattle.mvd_sync.specs.declared.report.SyncFault.TheVariants.{Local, Peer}
 use Rattle.mvd_world.proofs.Gained.{local_at_once, nothing_met, peer_at_once, says_broken, sites_meet}
 use Rattle.mvd_world.proofs.sessions.session.Goals as goal
@@ -19,8 +19,8 @@ pub returns-clause-exchange : goal.returns-clause-exchange
 returns-clause-exchange c =
     let whole : c.args.local.now.broken ≡ false = sym c.is_broken.ensures ∙ c.if-is_broken.false in
     let whole' : c.args.peer.now.broken ≡ false = sym c.is_broken-2.ensures ∙ c.if-is_broken-2.false in
-    let mine : (c.args.local.now.broken ≡ false) × AreHeld c.args.local.now.states = (whole, c.stands.ensures.held) in
-    let theirs : (c.args.peer.now.broken ≡ false) × AreHeld c.args.peer.now.states = (whole', c.stands-2.ensures.held) in
+    let mine : IsWholeSite c.args.local.now = (whole, c.stands.ensures.held) in
+    let theirs : IsWholeSite c.args.peer.now = (whole', c.stands-2.ensures.held) in
     sites_meet c.args.local.now c.args.peer.now c.sync-ended.new.local c.sync-ended.new.peer c.sync-ended.result mine theirs c.stands-3.ensures.held c.stands-4.ensures.held c.sync-ended.ensures.session
 
 pub returns-clause-local_config : goal.returns-clause-local_config

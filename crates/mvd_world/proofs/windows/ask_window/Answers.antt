@@ -1,5 +1,4 @@
-use Rattle.std.proofs.Common.{[], ◌∷◌}
-use Rattle.mvd_sync.specs.declared.asked.Window.TheVariants.{Nodes, Pages, Gets, Pushes}
+use Rattle.mvd_peer.specs.declared.window.Window.TheVariants.{Nodes, Pages, Gets, Pushes}
 use Rattle.mvd_world.proofs.Asking.{each_pushed, none_pushed, window_asked}
 use Rattle.mvd_world.proofs.windows.ask_window.Goals as goal
 

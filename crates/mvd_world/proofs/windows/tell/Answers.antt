@@ -2,7 +2,7 @@ use Rattle.std.proofs.Common.{◌≡◌, ◌∙◌, [], ◌∷◌, ◌++◌, ref
 use Rattle.std.proofs.lemmas.List.{map-id}
 use Rattle.std.proofs.lemmas.Iterator.Adapters.{YieldsList-from_vec}
 use Rattle.std.proofs.lemmas.Iterator.Consumers.{YieldsList-end, YieldsList-turn}
-use Rattle.mvd_sync.specs.declared.telling.Told.TheVariants as telling
+use Rattle.mvd_peer.specs.declared.window.Told.TheVariants as telling
 use Rattle.mvd_world.specs.Machine.{Setting}
 use Rattle.mvd_world.specs.OpenWorlds.{all_asked_of, no_room}
 use Rattle.mvd_world.proofs.Asking.{AsksAll, asks_more, asks_none}

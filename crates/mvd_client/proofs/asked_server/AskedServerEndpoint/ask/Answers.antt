@@ -11,7 +11,7 @@ returns-in-Err g c = unframed g.L.Line c.args.self.now c.note.new.self c.args.re
     c.in-Err.ensures.none c.note.ensures.down c.note.ensures.lost c.in-None.is c.note.ensures.ended c.note.ensures.shown
 
 pub returns-in-Ok-told : goal.returns-in-Ok-told
-returns-in-Ok-told g c = replied g.L.Line c.args.self.now (record { remote = c.ask-told.new.self; is_down = c.args.self.now.is_down; lost = c.args.self.now.lost; ended = c.ended_by-self.result; shown = c.args.self.now.shown }) c.args.request c.ask-told.result c.in-Ok-told.reply c.passed_on-passed.result
+returns-in-Ok-told g c = replied g.L.Line c.args.self.now (record { alloc = c.args.self.now.alloc; remote = c.ask-told.new.self; is_down = c.args.self.now.is_down; lost = c.args.self.now.lost; ended = c.ended_by-self.result; shown = c.args.self.now.shown }) c.args.request c.ask-told.result c.in-Ok-told.reply c.passed_on-passed.result
     c.in-Ok-told.is c.passed_on-passed.ensures c.ask-told.ensures.asked c.ask-told.ensures.truth refl refl c.in-None.is c.ended_by-self.ensures refl
 
 pub returns-in-Err-told : goal.returns-in-Err-told

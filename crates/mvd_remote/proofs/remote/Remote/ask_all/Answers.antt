@@ -1,14 +1,14 @@
-use Rattle.std.proofs.Common.{ℕ, subst, sym}
+use Rattle.std.proofs.Common.{ℕ, arith, length, subst, sym}
 use Rattle.std.proofs.lemmas.Result.{err_from_is_err_and}
 use Rattle.mvd_remote.specs.LinkWindows.{AnswersInTurn}
-use Rattle.mvd_remote.specs.Lines.{RemoteRefuses, ToldMore}
+use Rattle.mvd_remote.specs.Lines.{NotesUpTo, RemoteRefuses}
 use Rattle.mvd_remote.specs.Remotes.{NotesAll, link_of}
 use Rattle.mvd_remote.proofs.Lined.{window_answered}
 use Rattle.mvd_remote.specs.LinkWindows.{IsToldBy}
 use Rattle.mvd_peer.specs.Windows.{ForEach}
 use Rattle.mvd_remote.proofs.Holding.{with_replies}
 use Rattle.mvd_remote.proofs.Noted.{notes_made}
-use Rattle.mvd_remote.proofs.Turns.{all_answered}
+use Rattle.mvd_remote.proofs.Turns.{all_answered, many_turns}
 use Rattle.mvd_remote.proofs.LiveLined.{live_answered}
 use Rattle.mvd_remote.proofs.remote.Remote.ask_all.Goals as goal
 
@@ -34,10 +34,11 @@ returns-clause-within g c = with_replies (ForEach (IsToldBy g.A.Answer.as_reply)
 
 pub returns-clause-notes : goal.returns-clause-notes
 returns-clause-notes g c =
-    notes_made g.A.Answer.as_reply (λ v. v.items) c.args.self.now c.send_all.new.self c.in_ok-replies.replies.items c.answers.result c.in_ok-replies.ensures.sent.goes_on c.in_ok-replies.ensures.notes c.answers.ensures.told c.answers.ensures.ended
+    let read = many_turns c.kind.result c.args.window.now.1 c.in_ok-replies.replies.items _ _ c.in_ok-replies.ensures.sent.read in
+    notes_made g.A.Answer.as_reply c.args.self.now c.send_all.new.self c.in_ok-replies.replies.items (length c.args.window.now.1) c.answers.result (omega (arith, read)) c.in_ok-replies.ensures.sent.goes_on c.in_ok-replies.ensures.notes c.answers.ensures.told c.answers.ensures.ended
 
 pub returns-in_err-replies-clause-notes : goal.returns-in_err-replies-clause-notes
 returns-in_err-replies-clause-notes g c =
     let p = err_from_is_err_and c.from_residual.result c.from_residual.ensures.1 in
-    subst (λ result. NotesAll g.A.Answer.as_reply c.args.self.now c.send_all.new.self result) (sym p.1)
-    (subst (λ refusal. RemoteRefuses c.send_all.new.self refusal × ToldMore c.args.self.now c.send_all.new.self) (sym p.2) c.in_err-replies.ensures.notes)
+    subst (λ result. NotesAll g.A.Answer.as_reply (length c.args.window.now.1) c.args.self.now c.send_all.new.self result) (sym p.1)
+    (subst (λ refusal. RemoteRefuses c.send_all.new.self refusal × NotesUpTo (length c.args.window.now.1) c.args.self.now c.send_all.new.self) (sym p.2) c.in_err-replies.ensures.notes)

@@ -1,13 +1,16 @@
-use Rattle.std.proofs.Common.{List, Option, sym, subst, ◌∙◌, ap}
+use Rattle.std.proofs.Common.{◌≡◌, ◌++◌, List, Option, Some, inl, inr, length, refl, sym, subst, ◌∙◌, ap}
+use Rattle.std.specs.Prelude.{MatchResult}
+use Rattle.std.proofs.lemmas.Result.{err_from_is_err_and}
 use Rattle.mvd_dots.specs.declared.refusals.Refusal.{Refusal}
 use Rattle.std.specs.Io.KnownBytes.{Appends}
 use Rattle.mvd_remote.specs.LinkWindows.{Frames, TurnBreaks, of_read}
-use Rattle.mvd_remote.specs.Lines.{AreRequestFrames, DueTurns, framed_requests}
+use Rattle.mvd_remote.specs.Lines.{AreRequestFrames, DueTurns, NotesUpTo, RemoteRefuses, framed_requests, noted, told_of}
 use Rattle.mvd_remote.proofs.Lined.{send_broke, still_goes, turns_broke, window_frames, window_told}
 use Rattle.mvd_peer.specs.Windows.{leaves_open}
 use Rattle.mvd_remote.specs.LiveRemotes.{LiveTurns}
 use Rattle.mvd_remote.proofs.LiveAsked.{live_goes, live_refuses}
 use Rattle.mvd_remote.proofs.LiveLined.{window_live}
+use Rattle.mvd_remote.proofs.Noted.{up_to_none}
 use Rattle.mvd_remote.proofs.remote.Remote.send_all.Goals as goal
 
 pub returns-in-Err-clause-truth : goal.returns-in-Err-clause-truth
@@ -81,3 +84,22 @@ returns-in-Err-take_turns-clause-sent g c =
     (subst (λ i. TurnBreaks c.args.kind c.args.window.now.1 i new refusal) c.send.ensures.unread
     (subst (λ (ns : List (Option Refusal)). TurnBreaks c.args.kind ns mid new refusal) nones broke.0))
     broke.1
+
+pub returns-in_err-replies-clause-notes : goal.returns-in_err-replies-clause-notes
+returns-in_err-replies-clause-notes g c =
+    let old = c.args.self.now in
+    let most = length c.args.window.now.1 in
+    let p = err_from_is_err_and c.from_residual.result c.from_residual.ensures.1 in
+    subst (λ result. MatchResult result (λ replies. told_of old ≡ told_of old ++ noted replies.items) (λ refusal. RemoteRefuses old refusal × NotesUpTo most old old)) (sym p.1)
+    (inr (c.requires, inr (p.2 ∙ c.in_err-replies.ensures.memory)), up_to_none old old most refl)
+
+pub returns-in-Err-clause-notes : goal.returns-in-Err-clause-notes
+returns-in-Err-clause-notes g c =
+    let broke = c.breaks.ensures.refused in
+    (inl (broke.0 ∙ ap Some (sym broke.1)), up_to_none c.args.self.now c.breaks.new.self (length c.args.window.now.1) c.breaks.ensures.untold)
+
+pub returns-in-Err-take_turns-clause-notes : goal.returns-in-Err-take_turns-clause-notes
+returns-in-Err-take_turns-clause-notes g c =
+    let nones = c.deref-2.ensures.value ∙ ap (λ (w : Frames). w.1) c.window.view_is in
+    let told = c.in-Err-take_turns.ensures in
+    (inl told.broke.1, subst (λ (ns : List (Option Refusal)). NotesUpTo (length ns) c.args.self.now c.take_turns.new.self) nones told.more)

@@ -1,11 +1,11 @@
-use Rattle.std.proofs.Common.{◌≡◌, rules, ◌∷◌, ◌++◌, ◌+◌, ◌-◌, ◌^◌, [], List, append-nil, append_assoc, ap, arith, min, refl, sym, subst, ◌∙◌}
+use Rattle.std.proofs.Common.{◌≡◌, rules, ◌∷◌, ◌++◌, ◌+◌, ◌-◌, ◌^◌, [], List, append-nil, length, length-append, ap, arith, min, refl, sym, subst, ◌∙◌}
 use Rattle.std.specs.Prelude.{All, Err, Result}
 use Rattle.std.proofs.lemmas.Result.{err_from_is_err_and}
 use Rattle.std.proofs.lemmas.List.Elements.{All-push}
 use Rattle.mvd_dots.specs.declared.refusals.Refusal.{Refusal}
 use Rattle.mvd_wire.specs.declared.reply.Reply.{Reply}
 use Rattle.mvd_remote.specs.Lines.{noted, refuses_none}
-use Rattle.mvd_remote.proofs.Noted.{more_of, noted_more}
+use Rattle.mvd_remote.proofs.Noted.{noted_more, up_to}
 use Rattle.mvd_remote.specs.LinkWindows.{IsOfKind, states_in}
 use Rattle.mvd_peer.specs.Windows.{AreWithin}
 use Rattle.mvd_peer.proofs.Dropped.{bytes_of}
@@ -14,7 +14,7 @@ use Rattle.std.proofs.lemmas.List.{take_all}
 use Rattle.std.proofs.Common.{take}
 use Rattle.mvd_remote.specs.LiveRemotes.{LiveTurns}
 use Rattle.mvd_remote.proofs.Lined.{due_more_at}
-use Rattle.mvd_remote.proofs.Turns.{turns_more_at}
+use Rattle.mvd_remote.proofs.Turns.{many_turns, turns_more_at}
 use Rattle.mvd_remote.proofs.LiveAsked.{turns_broke}
 use Rattle.mvd_remote.proofs.LiveLined.{took_more, took_none}
 use Rattle.mvd_remote.proofs.remote.Remote.take_turns.Goals as goal
@@ -30,6 +30,7 @@ loop-none-preserved g c =
       read = turns_more_at c.args.kind c.args.nones.now c.loop-none.none-index _ _ c.loop-none.replies.items c.push.new.self.items told (g.L.Line.remaining c.args.self.now.line) (g.L.Line.remaining c.loop-none.self.line) (g.L.Line.remaining c.turn.new.self.line) c.loop-none-test.true refl items before.read turn;
       of_kind = subst (λ (us : List (Result Reply Refusal)). All (IsOfKind c.args.kind) us) (sym items) (All-push (IsOfKind c.args.kind) c.loop-none.replies.items told before.of_kind (kept_kind c.args.kind reply told c.kept-told.ensures.kept c.in_ok-reply.ensures.of_kind));
       within = within_replies c.loop-none.bytes c.kept-told.new.bytes c.loop-none.replies.items c.push.new.self.items told items before.within.0 before.within.1 c.kept-told.ensures.within;
+      count = let was = before.count in grind (arith, was, items);
       goes_on = c.in_ok-reply.ensures.goes_on;
       notes = noted_more c.args.self.now.told.items c.loop-none.self.told.items _ c.loop-none.replies.items c.push.new.self.items told items before.notes (c.and-self.ensures ∙ ap (λ m. m ++ (told, tt) ∷ []) c.turn.ensures.untold);
       unsent = c.turn.ensures.unsent ∙ before.unsent;
@@ -50,6 +51,7 @@ loop-none-init g c = record {
   read = search rules;
   of_kind = search rules;
   within = subst (λ us. AreWithin 0 (states_in us) × (0 ≡ min (0 + bytes_of (states_in us)) (2 ^ 64 - 1))) (sym c.requires.empty) (tt, refl);
+  count = ap length c.requires.empty;
   goes_on = search rules;
   notes = sym (append-nil c.args.self.now.told.items) ∙ ap (λ us. c.args.self.now.told.items ++ noted us) (sym c.requires.empty);
   unsent = search rules;
@@ -85,13 +87,18 @@ returns-then-is_err-clause-live g c t =
     turns_broke g.L.Line g.met.L.Line.live_form c.args.nones.now _ c.args.self.now c.loop-none.self c.breaks.new.self c.turn.new.self.line _ (Err c.breaks.result) (c.breaks.result, refl) c.breaks.ensures.kept c.breaks.ensures.refused.0 refl t was.0 turn.live was.1 turn.grows
 
 pub returns-clause-more : goal.returns-clause-more
-returns-clause-more g c = more_of c.args.self.now c.loop-none.self (noted c.loop-none.replies.items) c.loop-none.invariant.notes
+returns-clause-more g c =
+    let all = ap length (take_all c.loop-none.none-index c.args.nones.now c.loop-none-test.false) in
+    let many = many_turns c.args.kind (take c.loop-none.none-index c.args.nones.now) c.loop-none.replies.items _ _ c.loop-none.invariant.read in
+    up_to c.args.self.now c.loop-none.self c.loop-none.replies.items (length c.args.nones.now) (omega (arith, all, many)) c.loop-none.invariant.notes
 
 pub returns-in_err-reply-clause-more : goal.returns-in_err-reply-clause-more
-returns-in_err-reply-clause-more g c = more_of c.args.self.now c.turn.new.self (noted c.loop-none.replies.items) (c.turn.ensures.untold ∙ c.loop-none.invariant.notes)
+returns-in_err-reply-clause-more g c = up_to c.args.self.now c.turn.new.self c.loop-none.replies.items (length c.args.nones.now) (let count = c.loop-none.invariant.count in let low = c.loop-none-test.true in omega (arith, count, low)) (c.turn.ensures.untold ∙ c.loop-none.invariant.notes)
 
 pub returns-then-is_err-clause-more : goal.returns-then-is_err-clause-more
 returns-then-is_err-clause-more g c =
-    let one = (c.kept-told.result, tt) ∷ [] in
-    more_of c.args.self.now c.breaks.new.self (noted c.loop-none.replies.items ++ one)
-    (c.breaks.ensures.untold ∙ c.and-self.ensures ∙ ap (λ m. m ++ one) (c.turn.ensures.untold ∙ c.loop-none.invariant.notes) ∙ append_assoc c.args.self.now.told.items (noted c.loop-none.replies.items) one)
+    let told = c.kept-told.result in
+    let us = c.loop-none.replies.items ++ told ∷ [] in
+    let one = length-append c.loop-none.replies.items (told ∷ []) in
+    up_to c.args.self.now c.breaks.new.self us (length c.args.nones.now) (let count = c.loop-none.invariant.count in let low = c.loop-none-test.true in omega (arith, one, count, low))
+    (c.breaks.ensures.untold ∙ noted_more c.args.self.now.told.items c.loop-none.self.told.items _ c.loop-none.replies.items us told refl c.loop-none.invariant.notes (c.and-self.ensures ∙ ap (λ m. m ++ (told, tt) ∷ []) c.turn.ensures.untold))

@@ -1,4 +1,4 @@
-use Rattle.std.proofs.Common.{◌≡◌, ◌++◌, ◌+◌, ◌-◌, ◌^◌, List, min, take}
+use Rattle.std.proofs.Common.{◌≡◌, ◌++◌, ◌+◌, ◌-◌, ◌^◌, List, length, min, take}
 use Rattle.mvd_peer.specs.Windows.{AreWithin}
 use Rattle.mvd_peer.proofs.Dropped.{bytes_of}
 use Rattle.std.specs.Prelude.{All, None}
@@ -15,6 +15,7 @@ invariant-loop-none g l = record {
   read : TakeTurns l.kind (take l.none-index l.nones) l.replies.items (g.L.Line.remaining l.fn.self.line) (g.L.Line.remaining l.self.line);
   of_kind : All (IsOfKind l.kind) l.replies.items;
   within : AreWithin 0 (states_in l.replies.items) × (l.bytes ≡ min (0 + bytes_of (states_in l.replies.items)) (2 ^ 64 - 1));
+  count : length l.replies.items ≡ l.none-index;
   goes_on : l.self.refused ≡ None;
   notes : l.self.told.items ≡ l.fn.self.told.items ++ noted l.replies.items;
   unsent : g.L.Line.contents l.self.line ≡ g.L.Line.contents l.fn.self.line;

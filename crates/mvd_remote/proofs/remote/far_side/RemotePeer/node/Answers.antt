@@ -1,8 +1,0 @@
-use Rattle.mvd_wire.specs.declared.request.Request.TheVariants.{Node}
-use Rattle.mvd_remote.proofs.remote.far_side.RemotePeer.node.Goals as goal
-
-pub returns-clause-truth : goal.returns-clause-truth
-returns-clause-truth g c = c.ask_for.ensures.truth (Node c.args.path.now) c.encode_node.ensures.fits c.encode_node.ensures.exact
-
-pub returns-clause-moment : goal.returns-clause-moment
-returns-clause-moment g c = c.ask_for.ensures.live (Node c.args.path.now) c.encode_node.ensures.fits c.encode_node.ensures.exact

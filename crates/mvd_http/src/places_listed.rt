@@ -1,5 +1,6 @@
 //! Pages of an index, of which a document may be told with each place.
-ghost use Rattle.std.specs.Prelude.{◌≡◌, ◌≤◌, ◌++◌, IfErr, IfOk, IfSome, IsOkUnless, IsTrue, OnOk, Some, length, option_map, string_bytes, take, true};
+ghost use Rattle.std.specs.Prelude.{◌≡◌, ◌≤◌, ◌++◌, IfErr, IfOk, IfSome, IsOkUnless, IsTrue, OnOk, Some, length};
+ghost use Rattle.std.specs.Prelude.{option_map, string_bytes, take, true};
 ghost use Rattle.std.specs.FinMap.Entries.{find};
 ghost use Rattle.std.specs.Option.{option_copied};
 ghost use Rattle.mvd_dots.specs.Dot.{dot_cmp};

@@ -123,7 +123,7 @@ fed_asks : (front rest : List ℕ) (old new : WebValue) → FeedsFront old front
 fed_asks front rest old new (inl (is, all)) = inl (ap (λ (w : WebValue). w.asked) is)
 fed_asks front rest old new (inr is) = inl (ap (λ (w : WebValue). w.asked) is)
 
-looks_asks : (free : Bool) (old new : WebValue) → LooksIf free old new → StillAsks old new
+pub looks_asks : (free : Bool) (old new : WebValue) → LooksIf free old new → StillAsks old new
 looks_asks false old new same = same_asks old new same
 looks_asks true old new none = inl none.asked
 
@@ -167,7 +167,7 @@ stop_asks : (guarded : Bool) (old new : WebValue) (left : Rest) → StopsIf guar
 stop_asks true old new left (stops, responds) = responded old.asked old _ _ new responds
 stop_asks false old new left (none, responds) = responded old.asked old _ _ new responds
 
-plan_asks : (site : SiteValue) (feed : FeedValue) (guarded : Bool) (n : ℕ) (p : Plan) (old : WebValue) (hand : AtHandValue) (new : WebValue) (hand' : AtHandValue) (left : Rest) → DoesPlan site feed guarded n p old hand new hand' left → StillAsks old new
+pub plan_asks : (site : SiteValue) (feed : FeedValue) (guarded : Bool) (n : ℕ) (p : Plan) (old : WebValue) (hand : AtHandValue) (new : WebValue) (hand' : AtHandValue) (left : Rest) → DoesPlan site feed guarded n p old hand new hand' left → StillAsks old new
 plan_asks site feed guarded n (plan.Ask request) old hand new hand' left (asks, none) = hand_asks n request old hand new hand' asks
 plan_asks site feed guarded n (plan.Writes batch) old hand new hand' left (is, same, writes) = same_asks old new same
 plan_asks site feed guarded n (plan.Changes since wait) old hand new hand' left (is, tells) = waits_asks feed site.states since wait old new left tells
@@ -471,7 +471,7 @@ module _ (Known : Pass → Type 0) (passes : Option (List Pass)) where
     batches = subst (AllEntries MayBatch) (sym batches) all.batches;
     web = open_still Known passes old.web.asked new.web.asked (answers_asks old.web.asked reply old.web new.web answers refl) all.web;
   }
-  desk_errand (TellsMany batch batch') site feed now names n old new same known (has, (only, (reply, takes), (told, each, gone, lines)), keeps) all = record {
+  desk_errand (TellsMany batch batch') site feed now names n old new same known (has, (only, (reply, takes, (told, each, gone, lines))), keeps) all = record {
     hand = hand_if n reply old.hand new.hand takes all.hand;
     batches = kept_batches n batch' old new keeps (subst (λ (b : Batch). AllByRecursion May b.requests.items) (sym only) (entries_at MayBatch n batch old.batches all.batches has)) all.batches;
     web = open_still Known passes old.web.asked new.web.asked (told_ends told old.web batch' new.web lines) all.web;

@@ -161,7 +161,7 @@ lacking n batch web web' old new has writes none refuses is =
     subst (λ t. Deeds old t) (sym is) (deed_attends n (Forgoes batch) web web' old old.hand old.batches (set_value (is_at (nat_cmp n)) old.webs web') has (λ site. ((writes, none), refuses, refl)) refl)
 
 pub deed_lacks : (n : ℕ) (batch : Batch) (old new : Talking) → MayBeginWrites n batch old → LacksMemory n old new → Deeds old new
-deed_lacks n batch old new may (inl same) = deeds_same old new same
+deed_lacks n batch old new may (inl (none, same)) = deeds_same old new same
 deed_lacks n batch old new may (inr (web, web', has, refuses, is)) = lacking n batch web web' old new has (subst (λ o. IsWriting o batch) has may.0) may.1 refuses is
 
 -- a client has no writes

@@ -13,8 +13,8 @@ use Rattle.mvd_http.specs.declared.question.Question.{Question}
 use Rattle.mvd_http.specs.declared.question.Question.TheVariants.{Page, Root, Metrics, Health, Stop, Ask, Asks, BadLine, Listed, Live, Changes, Many, Misread, Nowhere, NotAllowed, Texts, TooLong}
 use Rattle.mvd_server.specs.Admitted.{Decides}
 use Rattle.mvd_server.specs.Batches.{BeginsBatch, HandsBatch}
-use Rattle.mvd_server.specs.Errands.{Asks, AsksAtHand, AsksNextOf, Desk, DoesPlan, Errand, Forgoes, IsBatchFor, IsUntold, RunsErrand, Stops, StopsIf, TakesIf, Tells, TellsBatch, TellsChange, TellsMany}
-use Rattle.mvd_server.specs.Lines.{IsOnlyTold, TellsEachLine}
+use Rattle.mvd_server.specs.Errands.{Asks, AsksAtHand, AsksNextOf, Desk, DoesPlan, Errand, Forgoes, IsBatchFor, RunsErrand, Stops, StopsIf, TakesIf, Tells, TellsBatch, TellsChange, TellsMany}
+use Rattle.mvd_server.specs.Lines.{FailsLine, IsOnlyTold, TellsEachLine}
 use Rattle.mvd_server.specs.Listings.{TellsListed}
 use Rattle.mvd_server.specs.Plans.{IsFreePlan, IsPlanFor, IsPlanIf, IsPlanOf, TellsMethods, plain_answer}
 use Rattle.mvd_server.specs.Questions.{TellsAsks}
@@ -69,7 +69,7 @@ steps_errand (Asks left) site feed passes names n old new (inl (told, none), sam
 steps_errand (Asks left) site feed passes names n old new (inr one, same) = steps_plan site feed (is_some passes) n one.plan one.mid old.hand new.web new.hand left one.does
 steps_errand (Forgoes batch) site feed passes names n old new (writes, refuses, is) = inl (ap (λ (d : Desk). d.hand) is)
 steps_errand Tells site feed passes names n old new ((reply, takes, answers), same) = inr (inr ((n, reply), takes))
-steps_errand (TellsMany batch batch') site feed passes names n old new (has, (only, (reply, takes), told), same) = steps_taken n reply old.hand new.hand takes
+steps_errand (TellsMany batch batch') site feed passes names n old new (has, (only, (reply, takes, told)), same) = steps_taken n reply old.hand new.hand takes
 steps_errand TellsChange site feed passes names n old new (news, is) = inl (ap (λ (d : Desk). d.hand) is)
 steps_errand Stops site feed passes names n old new (ends, is) = inl (ap (λ (d : Desk). d.hand) is)
 
@@ -209,11 +209,12 @@ copied_some (Some x) = refl
 module _ (old : WebValue) (batch : Batch) (new : WebValue) (batch' : Batch) (reply : Option Reply) where
   pub tells_all : IsOnlyTold batch batch' → ((n : ℕ) (hand hand' : AtHandValue) → TakesIf n reply hand hand' → TellsEachLine n batch hand batch' hand') → length batch'.refused.items ≤ batch'.told
       → RespondsTo old.asked old (plain_answer 200 content.Lines) (string_bytes batch'.lines) new → (n : ℕ) (hand hand' : AtHandValue) → TakesIf n reply hand hand' → TellsBatch n old batch hand new batch' hand'
-  tells_all only each all responds n hand hand' takes = (only, (reply, takes), (Ok true, each n hand hand' takes, tt, (all, responds)))
+  tells_all only each all responds n hand hand' takes = (only, (reply, takes, (Ok true, each n hand hand' takes, tt, (all, responds))))
 
   pub tells_none : IsOnlyTold batch batch' → ((n : ℕ) (hand hand' : AtHandValue) → TakesIf n reply hand hand' → TellsEachLine n batch hand batch' hand') → slice_get batch'.refused.items batch'.told ≡ Some None → new ≡ old → (n : ℕ) (hand hand' : AtHandValue) → TakesIf n reply hand hand'
       → TellsBatch n old batch hand new batch' hand'
-  tells_none only each less same n hand hand' takes = (only, (reply, takes), (Ok false, each n hand hand' takes, tt, (less, same)))
+  tells_none only each less same n hand hand' takes = (only, (reply, takes, (Ok false, each n hand hand' takes, tt, (less, same))))
 
-  pub tells_stop : (refusal : Refusal) → IsOnlyTold batch batch' → IsUntold batch' → new ≡ stopped_by old refusal → (n : ℕ) (hand hand' : AtHandValue) → TakesIf n reply hand hand' → TellsBatch n old batch hand new batch' hand'
-  tells_stop refusal only gone is n hand hand' takes = (only, (reply, takes), (Err refusal, tt, gone, is))
+  pub tells_stop : (refusal : Refusal) → IsOnlyTold batch batch' → (batch'.told ≡ 0) × (string_bytes batch'.lines ≡ []) → FailsLine reply batch refusal → new ≡ stopped_by old refusal → (n : ℕ) (hand hand' : AtHandValue) → TakesIf n reply hand hand'
+      → TellsBatch n old batch hand new batch' hand'
+  tells_stop refusal only gone fails is n hand hand' takes = (only, (reply, takes, (Err refusal, tt, (gone.0, gone.1, fails), is)))

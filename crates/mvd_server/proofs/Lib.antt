@@ -2,6 +2,8 @@ pub mod Allowing
 pub mod Answering
 pub mod Asking
 pub mod AtHand
+pub mod AtOnce
+pub mod Beginning
 pub mod Bounding
 pub mod Calming
 pub mod Clients

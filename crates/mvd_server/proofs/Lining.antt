@@ -1,13 +1,14 @@
 -- The lines of many writes.
-use Rattle.std.proofs.Common.{◌≡◌, ◌∙◌, ◌+◌, ◌<◌, ◌≤◌, ◌++◌, arith, inl, inr, ℕ, List, length, Option, Some, None, ap, refl, subst, sym}
+use Rattle.std.proofs.Common.{◌≡◌, ◌≢◌, ◌∙◌, ◌+◌, ◌<◌, ◌≤◌, ◌++◌, arith, inl, inr, ℕ, List, length, Option, Some, None, ap, refl, subst, sym}
 use Rattle.std.specs.List.{slice_get}
 use Rattle.std.specs.Prelude.{string_bytes}
 use Rattle.mvd_dots.specs.declared.refusals.Refusal.{Refusal}
+use Rattle.mvd_host.proofs.Numbers.{low_or_high}
 use Rattle.mvd_host.specs.AtHand.{AtHandValue}
 use Rattle.mvd_http.specs.Json.{line_text}
 use Rattle.mvd_server.proofs.Paths.{path_none, path_on, path_one}
 use Rattle.mvd_server.specs.Errands.{TakesIf}
-use Rattle.mvd_server.specs.Lines.{IsAtReply, IsOnlyTold, Lining, TellsEachLine, TellsNext, TellsWriteLine, TellsSome, lining}
+use Rattle.mvd_server.specs.Lines.{IsAtReply, IsOnlyTold, Lining, PassesRefused, TellsEachLine, TellsNext, TellsWriteLine, TellsSome, lining}
 use Rattle.mvd_server.specs.declared.batch.Batch.{Batch}
 use Rattle.mvd_wire.specs.declared.reply.Reply.{Reply}
 use Rattle.mvd_wire.specs.declared.reply.Reply.TheVariants.{Refused}
@@ -61,3 +62,16 @@ pub each_one : (n : ℕ) (batch : Batch) (hand hand' : AtHandValue) (reply : Rep
     → TellsNext (slice_get batch.refused.items batch.told) n hand reply hand' → told ≡ batch.told + 1 → lines ≡ string_bytes batch.lines ++ line_text reply
     → TellsSome batch.refused.items n (lining hand batch) (record { hand = hand'; told = told; lines = lines })
 each_one n batch hand hand' reply told lines within next more line = each_more n batch batch hand hand hand' reply told lines refl within (each_none n batch hand) next more line
+
+-- ---- those that were refused at once
+
+-- no line is new; one is, of a write that was refused at once
+pub passes_none : (batch : Batch) → PassesRefused batch batch
+passes_none batch = λ i from before at. absurd (omega (arith, from, before))
+
+pub passes_more : (old : Batch) (told more : ℕ) (refusal : Refusal) → ((i : ℕ) → old.told ≤ i → i < told → slice_get old.refused.items i ≢ Some None) → slice_get old.refused.items told ≡ Some (Some refusal) → more ≡ told + 1
+    → (i : ℕ) → old.told ≤ i → i < more → slice_get old.refused.items i ≢ Some None
+passes_more old told more refusal passes refused next i from before at = elim (low_or_high i told) [
+  | inl less ↦ passes i from less at
+  | inr behind ↦ let here : i ≡ told = omega (arith, behind, before, next) in let no : ◌≡◌ {A = Option (Option Refusal)} (Some (Some refusal)) (Some None) = sym refused ∙ ap (λ k. slice_get old.refused.items k) (sym here) ∙ at in absurd cc
+]

@@ -1,5 +1,5 @@
 -- What a server does for a client over HTTP, between two rounds.
-use Rattle.std.specs.Prelude.{◌≡◌, ◌<◌, ◌≤◌, ◌⊎◌, ℕ, Bool, true, false, codes, is_some, List, [], ◌∷◌, length, Option, Some, None, Result, Ok, OnOk, OnErr, Err, string_bytes}
+use Rattle.std.specs.Prelude.{◌≡◌, ◌<◌, ◌≤◌, ◌⊎◌, ℕ, Bool, true, false, codes, is_some, List, [], ◌∷◌, length, Option, Some, None, Result, Ok, OnOk, IfErr, Err, string_bytes}
 use Rattle.std.specs.BTreeMap.{is_at}
 use Rattle.std.specs.FinMap.{len}
 use Rattle.std.specs.List.{slice_get}
@@ -22,7 +22,7 @@ use Rattle.mvd_http.specs.declared.question.Question.TheVariants.{Changes, Many}
 use Rattle.mvd_rows.specs.Siblings.{conflicts_in}
 use Rattle.mvd_server.specs.Admitted.{Decides}
 use Rattle.mvd_server.specs.Batches.{BeginsBatch}
-use Rattle.mvd_server.specs.Lines.{IsOnlyTold, TellsEachLine}
+use Rattle.mvd_server.specs.Lines.{FailsLine, IsOnlyTold, TellsEachLine}
 use Rattle.mvd_server.specs.Plans.{plain_answer}
 use Rattle.mvd_server.specs.Listings.{TellsListed}
 use Rattle.mvd_server.specs.Questions.{TellsAsks, TellsBadLine, TellsText}
@@ -151,18 +151,14 @@ abbrev pub TakesIf : ℕ → Option Reply → AtHandValue → AtHandValue → Ty
 TakesIf n None old new = new ≡ old
 TakesIf n (Some reply) old new = TakesFirst old (Some (n, reply)) new
 
--- no line is there; since a reply was taken, there will not be one of each write
-abbrev pub IsUntold : Batch → Type 0
-IsUntold batch = (batch.told ≡ 0) × (string_bytes batch.lines ≡ [])
-
 -- At most one reply is taken; the line of each is of the reply to it, and nothing else of the writes changes. Where a
--- line cannot be put down, all are gone
+-- line cannot be put down, all are gone: since a reply was taken, there will not be one of each write
 abbrev pub TellsBatch : ℕ → WebValue → Batch → AtHandValue → WebValue → Batch → AtHandValue → Type 0
 TellsBatch n old batch hand new batch' hand' =
-    IsOnlyTold batch batch' × ((reply : Option Reply) × TakesIf n reply hand hand')
-    × ((told : Result Bool Refusal)
-    × OnOk told (TellsEachLine n batch hand batch' hand') × OnErr told (IsUntold batch')
-    × TellsAllLines told old batch' new)
+    IsOnlyTold batch batch' × ((reply : Option Reply) × TakesIf n reply hand hand'
+    × ((told : Result Bool Refusal) × OnOk told (TellsEachLine n batch hand batch' hand')
+    × IfErr told (λ refusal. (batch'.told ≡ 0) × (string_bytes batch'.lines ≡ []) × FailsLine reply batch refusal)
+    × TellsAllLines told old batch' new))
 
 -- ---- responses
 

@@ -1,7 +1,8 @@
 -- The lines of many writes: each is of the reply to its own write.
-use Rattle.std.specs.Prelude.{◌≡◌, ◌≤◌, ◌⊎◌, ◌+◌, ◌<◌, ◌++◌, ℕ, List, length, Option, Some, None, string_bytes}
+use Rattle.std.specs.Prelude.{◌≡◌, ◌≢◌, ◌≤◌, ◌⊎◌, ◌+◌, ◌<◌, ◌++◌, ℕ, List, length, Option, Some, None, string_bytes}
 use Rattle.std.specs.List.{slice_get}
 use Rattle.mvd_dots.specs.declared.refusals.Refusal.{Refusal}
+use Rattle.mvd_dots.specs.declared.refusals.Refusal.TheVariants.{BadKind, Memory}
 use Rattle.mvd_host.specs.AtHand.{AtHandValue, TakesFirst}
 use Rattle.mvd_http.specs.Json.{line_text}
 use Rattle.mvd_server.specs.Paths.{Path}
@@ -47,3 +48,16 @@ IsOnlyTold old new = new ≡ record old { told = new.told; lines = new.lines }
 abbrev pub IsAtReply : Batch → Type 0
 IsAtReply batch =
     (length batch.refused.items ≤ batch.told) ⊎ (slice_get batch.refused.items batch.told ≡ Some None)
+
+-- each write whose line is new was refused at once
+abbrev pub PassesRefused : Batch → Batch → Type 0
+PassesRefused old new =
+    (i : ℕ) → old.told ≤ i → i < new.told → slice_get old.refused.items i ≢ Some None
+
+-- WHY A LINE CANNOT BE PUT DOWN: memory is refused; or there is a reply, and no write waits for one, since each whose
+-- line is not there was refused at once
+abbrev pub FailsLine : Option Reply → Batch → Refusal → Type 0
+FailsLine None batch refusal = refusal ≡ Memory
+FailsLine (Some reply) batch refusal =
+    (refusal ≡ Memory)
+    ⊎ ((refusal ≡ BadKind) × ((i : ℕ) → batch.told ≤ i → slice_get batch.refused.items i ≢ Some None))

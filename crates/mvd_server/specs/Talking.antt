@@ -1,5 +1,5 @@
 -- The clients of a server, and what it does with them between two rounds.
-use Rattle.std.specs.Prelude.{◌≡◌, ◌⊎◌, ◌+◌, ◌<◌, ◌==◌, ℕ, Bool, true, false, not, List, [], ◌∷◌, ◌++◌, length, is_some, Option, None, Some, ⊤}
+use Rattle.std.specs.Prelude.{◌≡◌, ◌≢◌, ◌⊎◌, ◌+◌, ◌<◌, ◌==◌, ℕ, Bool, true, false, not, List, [], ◌∷◌, ◌++◌, length, is_some, Option, None, Some, Result, Ok, ⊤}
 use Rattle.std.specs.BTreeMap.{insert_entry, is_at}
 use Rattle.std.specs.List.{filter, list_any}
 use Rattle.std.specs.Map.{lookup, remove_entry, set_value}
@@ -7,6 +7,7 @@ use Rattle.std.specs.Ordering.{nat_cmp}
 use Rattle.mvd_conn.specs.History.{History, is_done}
 use Rattle.mvd_conn.specs.declared.guard.Guard.{Guard}
 use Rattle.mvd_conn.specs.declared.passes.Pass.{Pass}
+use Rattle.mvd_dots.specs.declared.refusals.Refusal.{Refusal}
 use Rattle.mvd_dots.specs.declared.refusals.Refusal.TheVariants.{Memory}
 use Rattle.mvd_host.specs.AtHand.{AtHandValue, TakesFirst, first_at_hand, none_at_hand}
 use Rattle.mvd_host.specs.Feeds.{FeedValue, knows_nothing}
@@ -14,9 +15,12 @@ use Rattle.mvd_host.specs.Hosts.{AdmitsOne, ClientLeaves, HostValue, IsClient, a
 use Rattle.mvd_host.specs.Lists.{ListsOn}
 use Rattle.mvd_host.specs.Runs.{Call, Closes, Cuts, Feeds, Meets, Releases, Sends, after_call}
 use Rattle.mvd_http.specs.Guard.{Named, named_by}
+use Rattle.mvd_http.specs.declared.question.Question.TheVariants.{Many}
 use Rattle.mvd_server.specs.Batches.{HandsBatch}
 use Rattle.mvd_server.specs.Guarded.{first_guard}
-use Rattle.mvd_server.specs.Errands.{AwaitsChange, Errand, IsBatchFor, RunsErrand, batch_in, desk}
+use Rattle.mvd_server.specs.Errands.{AwaitsChange, Errand, IsBatchFor, KeepsWrites, RunsErrand, TellsAllLines, TellsBatch}
+use Rattle.mvd_server.specs.Errands.{batch_in, desk}
+use Rattle.mvd_server.specs.Lines.{IsOnlyTold, TellsEachLine}
 use Rattle.mvd_server.specs.Paths.{Path}
 use Rattle.mvd_server.specs.Responding.{RefusesWeb}
 use Rattle.mvd_server.specs.declared.batch.Batch.{Batch}
@@ -25,9 +29,11 @@ use Rattle.mvd_server.specs.declared.talks.Kind.TheVariants.{Frames, Http}
 use Rattle.mvd_server.specs.declared.talks.Talks.{Talks}
 use Rattle.mvd_site.specs.Sites.{SiteValue}
 use Rattle.mvd_web.specs.Inside.{web_of}
-use Rattle.mvd_web.specs.Web.{IsNew, IsOver}
+use Rattle.mvd_web.specs.Web.{IsNew, IsOver, WebValue}
+use Rattle.mvd_web.specs.declared.taken.Asked.{Asked}
 use Rattle.mvd_web.specs.declared.web_connection.WebConnection.{WebConnection}
 use Rattle.mvd_wire.specs.declared.reply.Reply.{Reply}
+use Rattle.mvd_wire.specs.declared.request.Request.{Request}
 
 -- the passes of those who may come in, if not everybody; by which names it is asked, and of which pages; the host, with
 -- the connections of frames; what those over HTTP ask and are told; their connections, and the number of the next one;
@@ -98,7 +104,7 @@ KeepsBatch n batch old new = new ≡ record old { batches = insert_entry nat_cmp
 -- the request of a client over HTTP that waits is refused for want of memory
 abbrev pub LacksMemory : ℕ → Talking → Talking → Type 0
 LacksMemory n old new =
-    (new ≡ old)
+    ((web_in old n ≡ None) × (new ≡ old))
     ⊎ ((web : WebConnection) × (web' : WebConnection) × (web_in old n ≡ Some web)
     × RefusesWeb Memory (web_of web) (web_of web') × (new ≡ with_web old n web'))
 
@@ -143,9 +149,9 @@ MayCall t n (Closes source) = ⊤
 MayCall t n Cuts = ⊤
 
 -- A client of frames comes, one over HTTP, or one of the server's own; one comes and goes at once, or is turned away and
--- no client; one goes, or one of the server's own; there is a call on the connection of one, or an errand for one over HTTP; its many writes begin, or
--- are asked; or a reply is dropped whose client has gone. Or other passes are known from now on; or the feed begins. An
--- errand and a beginning are of a site
+-- no client; one goes, or one of the server's own; there is a call on the connection of one, or an errand for one over
+-- HTTP; its many writes begin, or are asked; or a reply is dropped whose client has gone. Or other passes are known from
+-- now on; or the feed begins. An errand and a beginning are of a site
 pub data Act : Type 0 where
   Comes : ℕ → Act
   ComesByWeb : ℕ → WebConnection → Act
@@ -240,6 +246,40 @@ GoesAtOnce Http n old new = (before : Talking) → ComesBy Http n before old →
 abbrev pub IsGoneBy : Kind → ℕ → Talking → Talking → Type 0
 IsGoneBy Frames n old new = ClientLeaves old.host n new.host
 IsGoneBy Http n old new = new.webs ≡ remove_entry (is_at (nat_cmp n)) old.webs
+
+-- what the writes of a client ask is asked at hand, all of it, or there is no memory for that
+abbrev pub HandsWrites : ℕ → Batch → Talking → Talking → Type 0
+HandsWrites n batch old new = (batch' : Batch) × DoesAct (Hands n batch batch') old new
+
+-- the first lines of many writes are put down, and told where these are all. No reply is taken
+abbrev pub TellsFirst : ℕ → WebConnection → Batch → Talking → Talking → Type 0
+TellsFirst n web batch old new =
+    (web' : WebConnection) × (batch' : Batch) × TellsBatch n (web_of web) batch old.hand (web_of web') batch' old.hand
+    × KeepsWrites n batch' (desk old.hand (web_of web) old.batches) (desk old.hand (web_of web') new.batches)
+    × (new ≡ record (with_web old n web') { batches = new.batches })
+
+-- WRITES OF WHICH NONE IS ASKED, since each was refused at once, are told at once: the client's request is answered by
+-- the lines of all, and nothing else changes: no writes are kept. Or memory is refused for that
+abbrev pub TellsAtOnce : ℕ → Batch → Talking → Talking → Type 0
+TellsAtOnce n batch old new =
+    batch.requests.items ≡ []
+    → (web : WebConnection) × (web' : WebConnection) × (web_in old n ≡ Some web)
+    × (new.webs ≡ (with_web old n web').webs)
+    × (((batch' : Batch) × IsOnlyTold (record batch { requests = batch'.requests }) batch'
+    × TellsEachLine n batch old.hand batch' old.hand × TellsAllLines (Ok true) (web_of web) batch' (web_of web')
+    × (new ≡ with_web old n web'))
+    ⊎ RefusesWeb Memory (web_of web) (web_of web'))
+
+-- a request waits that asks many writes, on a connection that was not stopped
+abbrev pub AsksMany : WebValue → Type 0
+AsksMany w =
+    (w.stopped ≡ None) × ((asked : Asked) × (writes : List (Result Request Refusal)) × (w.asked ≡ Some asked)
+    × (asked.question ≡ Ok (Many writes)))
+
+-- MANY WRITES BEGIN with their request: a client has writes while one waits that asks for them
+abbrev pub HasItsWrites : ℕ → Talking → Type 0
+HasItsWrites n t =
+    (web : WebConnection) → web_in t n ≡ Some web → AsksMany (web_of web) → batch_in t.batches n ≢ None
 
 abbrev pub TalksDeeds : Talks → Talks → Type 0
 TalksDeeds old new = Deeds (talking_of old) (talking_of new)

@@ -1,11 +1,11 @@
 //! Many writes of one request: what they ask, which is asked at hand all at once, and a line for each, as the replies come.
-ghost use Rattle.std.specs.Prelude.{◌≡◌, ◌<◌, ◌≤◌, ◌++◌, IfErr, IfOk, None, OnErr, OnOk, Some, ℕ, false, length, option_copied, string_bytes};
+ghost use Rattle.std.specs.Prelude.{◌≡◌, ◌<◌, ◌≤◌, ◌++◌, IfErr, IfOk, None, OnErr, OnOk, Some, ℕ, false, length, true};
+ghost use Rattle.std.specs.Prelude.{[], option_copied, string_bytes};
 ghost use Rattle.std.specs.List.{slice_get};
-ghost use Rattle.std.specs.Prelude.{true};
 ghost use Rattle.mvd_host.specs.AtHand.{AtHandValue};
 ghost use Rattle.mvd_server.specs.Batches.{BeginsBatch, HandsBatch, asked_if, refused_if};
-ghost use Rattle.mvd_server.specs.Errands.{IsUntold, TakesIf};
-ghost use Rattle.mvd_server.specs.Lines.{IsAtReply, IsOnlyTold, TellsEachLine};
+ghost use Rattle.mvd_server.specs.Errands.{TakesIf};
+ghost use Rattle.mvd_server.specs.Lines.{FailsLine, IsAtReply, IsOnlyTold, PassesRefused, TellsEachLine};
 
 use crate::copying::copy_request;
 use mvd_conn::Right;
@@ -73,7 +73,8 @@ impl Batch {
         ensures some { IfOk result (λ all. all ≡ false →
             slice_get self.new.refused.items self.new.told ≡ Some None) }
         // Where a line cannot be put down, all are gone: with a reply less there is no response any more.
-        ensures gone { OnErr result (IsUntold self.new) }
+        ensures gone { OnErr result ((self.new.told ≡ 0) × (string_bytes self.new.lines ≡ [])) }
+        ensures fails { IfErr result (FailsLine (option_copied reply.entry) self.old) }
     {
         match self.tell_lines(reply) {
             Ok(()) => Ok(self.told >= self.refused.len()),
@@ -91,6 +92,7 @@ impl Batch {
             OnOk result (TellsEachLine n self.old hand self.new hand') }
         ensures next { OnOk result (IsAtReply self.new) }
         ensures same { IsOnlyTold self.old self.new }
+        ensures fails { IfErr result (FailsLine (option_copied reply.entry) self.old) }
     {
         self.tell_refused()?;
         self.tell_next(reply)?;
@@ -103,6 +105,7 @@ impl Batch {
             OnOk result (TellsEachLine n self.old hand self.new hand') }
         ensures next { IsAtReply self.old → OnOk result (IsAtReply self.new) }
         ensures same { IsOnlyTold self.old self.new }
+        ensures fails { IsAtReply self.old → IfErr result (FailsLine (option_copied reply.entry) self.old) }
     {
         match reply {
             Some(reply) => {
@@ -118,12 +121,13 @@ impl Batch {
         ensures lines { (n : ℕ) (hand : AtHandValue) → OnOk result (TellsEachLine n self.old hand self.new hand) }
         ensures next { OnOk result (IsAtReply self.new) }
         ensures same { IsOnlyTold self.old self.new }
+        ensures passes { PassesRefused self.old self.new }
+        ensures memory { IfErr result (λ refusal. refusal ≡ Refusal.Memory) }
     {
         for _left in self.told..self.refused.len() {
             match self.refused.get(self.told) {
                 Some(Some(refusal)) => push_line(&mut self.lines, &Reply::Refused(*refusal))?,
-                Some(None) => return Ok(()),
-                None => return Ok(()),
+                Some(None) | None => return Ok(()),
             }
             self.told = self.told.saturating_add(1);
         }
@@ -135,6 +139,7 @@ impl Batch {
         ensures lines { (n : ℕ) (hand hand' : AtHandValue) → TakesIf n (Some reply.now) hand hand' →
             OnOk result (TellsEachLine n self.old hand self.new hand') }
         ensures same { IsOnlyTold self.old self.new }
+        ensures fails { IsAtReply self.old → IfErr result (FailsLine (Some reply.now) self.old) }
     {
         match self.refused.get(self.told) {
             Some(None) => {}

@@ -1,5 +1,5 @@
 //! The clients' connections, and what is counted and told of them.
-ghost use Rattle.std.specs.Prelude.{◌≡◌, IfOk};
+ghost use Rattle.std.specs.Prelude.{◌≡◌, ◌/◌, IfOk};
 ghost use Rattle.mvd_server.specs.Rounds.{BeginsServing, HasRound};
 ghost use Rattle.mvd_server.specs.Talking.{talking_of};
 ghost use Rattle.mvd_server.specs.TokenFiles.{names_asked, passes_asked};
@@ -49,8 +49,9 @@ impl Crowd {
         terms: Terms<'_>,
         start: Instant,
     ) -> Result<Crowd, AllocError>
-        ensures { IfOk result (λ crowd.
+        ensures begins { IfOk result (λ crowd.
             BeginsServing (passes_asked terms.entry) (names_asked terms.entry) crowd.talks) }
+        ensures most { IfOk result (λ crowd. crowd.talks.waits_max ≡ terms.entry.clients / 2) }
     {
         let told = String::with_capacity(alloc, PIECE)?;
         let peers = Peers::counts(alloc, terms)?;

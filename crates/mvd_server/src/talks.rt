@@ -4,12 +4,16 @@ mod meeting;
 mod talk_bytes;
 mod waking;
 
-ghost use Rattle.std.specs.Prelude.{◌≡◌, ◌<◌, [], IfOk, OnErr, OnOk, false, length, true};
+ghost use Rattle.std.specs.Prelude.{◌≡◌, ◌<◌, [], IfOk, OnErr, OnOk, Some, false, length, true};
 ghost use Rattle.mvd_http.specs.Guard.{named_by};
 ghost use Rattle.mvd_replica.specs.Replicas.{site_of};
 ghost use Rattle.mvd_server.specs.Rounds.{HasRound};
-ghost use Rattle.mvd_server.specs.Talking.{Deeds, KeepsBatch, LacksMemory, MayBeginWrites, TakesReply, Talking};
-ghost use Rattle.mvd_server.specs.Talking.{TalksAt, TalksDeeds, new_talking, talking_of};
+ghost use Rattle.mvd_server.specs.Errands.{batch_in};
+ghost use Rattle.mvd_server.specs.Talking.{Deeds, HandsWrites, HasItsWrites, KeepsBatch, LacksMemory, MayBeginWrites};
+ghost use Rattle.mvd_server.specs.Talking.{TakesReply, Talking, TalksAt, TalksDeeds, TellsAtOnce, TellsFirst};
+ghost use Rattle.mvd_server.specs.Talking.{new_talking, talking_of, web_in};
+ghost use Rattle.mvd_server.specs.declared.batch.Batch.{Batch};
+ghost use Rattle.mvd_web.specs.declared.web_connection.WebConnection.{WebConnection};
 
 use crate::batch::Batch;
 use crate::gate::{Rest, answer_writes, ask};
@@ -74,7 +78,8 @@ impl Talks {
         own: usize,
         waits_max: usize,
     ) -> Result<Talks, AllocError>
-        ensures { IfOk result (λ talks. talking_of talks ≡ new_talking passes (named_by names)) }
+        ensures begins { IfOk result (λ talks. talking_of talks ≡ new_talking passes (named_by names)) }
+        ensures most { IfOk result (λ talks. talks.waits_max ≡ waits_max) }
     {
         Ok(Talks {
             host: Host::new(alloc),
@@ -142,7 +147,8 @@ impl Talks {
         counts: &mut Counts,
         now: u64,
     )
-        ensures { TalksAt (site_of replica.now) self.old self.new }
+        ensures deeds { TalksAt (site_of replica.now) self.old self.new }
+        ensures begins { HasItsWrites number (talking_of self.old) → HasItsWrites number (talking_of self.new) }
     {
         if self.batches.contains_key(&number) {
             return self.hand_on_writes(number);
@@ -174,7 +180,9 @@ impl Talks {
 
     /// Asks what the writes of a client ask, where that was not done.
     fn hand_on_writes(&mut self, number: u64)
-        ensures { TalksDeeds self.old self.new }
+        ensures deeds { TalksDeeds self.old self.new }
+        ensures hands { (batch : Batch) → batch_in (talking_of self.old).batches number ≡ Some batch →
+            HandsWrites number batch (talking_of self.old) (talking_of self.new) }
     {
         if let Some(batch) = self.batches.get_mut(&number) {
             batch.hand_on(&mut self.hand, number);
@@ -183,7 +191,11 @@ impl Talks {
 
     /// Begins with the writes that a client's request asks for. Where memory is refused to keep them, none is asked.
     fn begin_writes(&mut self, batch: Batch, number: u64, counts: &mut Counts)
-        ensures { MayBeginWrites number batch (talking_of self.old) → TalksDeeds self.old self.new }
+        ensures deeds { MayBeginWrites number batch (talking_of self.old) → TalksDeeds self.old self.new }
+        // Where each write was refused at once, or there is none, the client is told all lines.
+        ensures told { MayBeginWrites number batch (talking_of self.old) →
+            TellsAtOnce number batch (talking_of self.old) (talking_of self.new) }
+        ensures begins { MayBeginWrites number batch (talking_of self.old) → HasItsWrites number (talking_of self.new) }
     {
         match self.keep_writes(batch, number) {
             Ok(()) => {
@@ -251,7 +263,10 @@ impl Talks {
 
     /// Tells a client the lines of its first writes, where these were refused at once.
     fn tell_writes(&mut self, number: u64, counts: &mut Counts)
-        ensures { TalksDeeds self.old self.new }
+        ensures deeds { TalksDeeds self.old self.new }
+        ensures told { (web : WebConnection) (batch : Batch) → web_in (talking_of self.old) number ≡ Some web →
+            batch_in (talking_of self.old).batches number ≡ Some batch →
+            TellsFirst number web batch (talking_of self.old) (talking_of self.new) }
     {
         let Some(web) = self.webs.get_mut(&number) else {
             return;

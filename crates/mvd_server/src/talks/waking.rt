@@ -3,7 +3,7 @@ ghost use Rattle.std.specs.Prelude.{◌≡◌, ◌≤◌, IsTrue, option_copied,
 ghost use Rattle.mvd_replica.specs.Replicas.{site_of};
 ghost use Rattle.mvd_server.specs.News.{HasNews, IsNewsFor, asked_by, followed_by as followed_for, waiting_in};
 ghost use Rattle.mvd_server.specs.Since.{IsLetStill};
-ghost use Rattle.mvd_server.specs.Talking.{IsWaiting, TalksAt, TalksDeeds, talking_of, web_in};
+ghost use Rattle.mvd_server.specs.Talking.{HasItsWrites, IsWaiting, TalksAt, TalksDeeds, talking_of, web_in};
 ghost use Rattle.mvd_site.specs.Sites.{SiteValue};
 
 use crate::changes::{News, followed_by};
@@ -22,6 +22,7 @@ impl Talks {
         // Where as many wait as may, no further one does.
         ensures few { self.old.waits_max ≤ waiting_in self.old → waiting_in self.new ≤ waiting_in self.old }
         ensures deeds { TalksDeeds self.old self.new }
+        ensures writes { HasItsWrites number (talking_of self.old) → HasItsWrites number (talking_of self.new) }
     {
         let count = self.parked.len();
         if count < self.waits_max
@@ -37,6 +38,7 @@ impl Talks {
     fn tell_not_waited(&mut self, number: u64, root: [u8; 32], counts: &mut Counts)
         ensures deeds { TalksDeeds self.old self.new }
         ensures parked { self.new.parked ≡ self.old.parked }
+        ensures writes { HasItsWrites number (talking_of self.old) → HasItsWrites number (talking_of self.new) }
     {
         let mut body = String::new(self.alloc);
         let pushed = push_not_waited(self.alloc, &mut body, root);
@@ -64,6 +66,7 @@ impl Talks {
             TalksAt site self.old self.new }
         ensures feed { (talking_of self.new).feed ≡ (talking_of self.old).feed }
         ensures parked { self.new.parked ≡ self.old.parked }
+        ensures writes { HasItsWrites number (talking_of self.old) → HasItsWrites number (talking_of self.new) }
     {
         if !self.awaits_change(number) {
             return;

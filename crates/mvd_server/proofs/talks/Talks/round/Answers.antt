@@ -9,7 +9,7 @@ use Rattle.mvd_server.proofs.talks.Talks.round.Goals as goal
 pub loop-number-preserved : goal.loop-number-preserved
 loop-number-preserved g c =
     let begun = record (talking_of c.args.self.now) { feed = c.start.new.self } in
-    deeds_at (site_of c.args.replica.now) begun (talking_of c.loop-number.self) (talking_of c.take_in.new.self) c.loop-number.invariant c.take_in.ensures
+    deeds_at (site_of c.args.replica.now) begun (talking_of c.loop-number.self) (talking_of c.take_in.new.self) c.loop-number.invariant c.take_in.ensures.deeds
 
 pub returns : goal.returns
 returns g c =

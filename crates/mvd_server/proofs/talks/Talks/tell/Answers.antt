@@ -37,4 +37,4 @@ returns-else-is_none-clause-deeds c = λ before takes.
     let batch = c.answer_writes.new.batch in
     let tells = c.answer_writes.ensures n before.hand old.hand takes.0 in
     deed_lined n c.args.reply.now c.in-Some.web.now web c.in-Some-get_mut.batch.now batch before old (c.get_mut-2.follows.lender batch).entries (c.get_mut.follows.lender web).entries takes (sym c.in-Some.ensures.value) (sym c.in-Some-get_mut.ensures.value) tells
-    (inl (asked_kept c.asked.result c.is_none.result tells.2.0 _ batch _ c.asked.ensures c.is_none.ensures c.if-is_none.false tells.2.3, (c.get_mut-2.follows.holds batch).0)) (c.get_mut.follows.holds web).0
+    (inl (asked_kept c.asked.result c.is_none.result tells.1.2.0 _ batch _ c.asked.ensures c.is_none.ensures c.if-is_none.false tells.1.2.3, (c.get_mut-2.follows.holds batch).0)) (c.get_mut.follows.holds web).0

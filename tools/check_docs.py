@@ -309,7 +309,7 @@ BROKEN = [
     ("docs/USING.md", "", "\nThe file docs/NOWHERE.md says it.\n", "no file docs/NOWHERE.md"),
     ("docs/USING.md", "", "\nSee docs/OPEN.md, \"No such section\".\n", 'no section "No such section" of docs/OPEN.md'),
     ("docs/USING.md", "", "\nSee [a page](nowhere.md).\n", "no link nowhere.md"),
-    ("docs/ARCHITECTURE.md", "push_all of the local states", "push_" "nobody of the local states", "no name push_" "nobody (in a picture)"),
+    ("docs/ARCHITECTURE.md", "install_all: hash tree", "install_" "nobody: hash tree", "no name install_" "nobody (in a picture)"),
     ("docs/ARCHITECTURE.md", "keys · docs · dots", "docs · keys · dots", "draws mvd_keys below mvd_docs, which it uses"),
     ("docs/ARCHITECTURE.md", "· tree ·", "· trees ·", "draws mvd_trees, which is no crate"),
     ("CONTRIBUTING.md", "`mvd_wire/src/request.rt`", "`mvd_docs/src/request.rt`", "no file mvd_docs/request.rt in that crate"),

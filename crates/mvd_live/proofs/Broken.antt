@@ -5,18 +5,22 @@ use Rattle.mvd_keys.specs.Writes.{Key}
 use Rattle.mvd_site.specs.Held.{States}
 use Rattle.mvd_peer.specs.Sides.{Two}
 use Rattle.mvd_sync.specs.Session.{AreFew}
-use Rattle.mvd_peer.specs.Asking.{asked}
+use Rattle.mvd_peer.specs.Asking.{asked, count_in}
 use Rattle.mvd_peer.specs.declared.window.Window.{Window}
 use Rattle.mvd_sync.specs.declared.report.SyncFault.{SyncFault}
 use Rattle.mvd_meet.specs.Callers.{asked_in_window, asked_of_caller, questions_at}
-use Rattle.mvd_meet.specs.Meetings.{AsksIf, AsksPart, MeetingBreaks, MeetingFails, TakesBoth}
+use Rattle.mvd_meet.specs.Nears.{asked_near, asked_of_near, due_in_window}
+use Rattle.mvd_meet.specs.Meetings.{AsksIf, AsksNearIf, AsksPart, MeetingBreaks, MeetingFails, TakesBoth}
 use Rattle.mvd_meet.specs.declared.caller.Caller.{Caller}
+use Rattle.mvd_meet.specs.declared.near.Near.{Near}
+use Rattle.mvd_remote.specs.Remotes.{requests_of}
+use Rattle.std.specs.declared.vec.Vec.{Vec}
 use Rattle.mvd_meet.specs.declared.stepping.Meeting.{Meeting}
 use Rattle.mvd_live.specs.Few.{HasAllThatDiffered, MailsFew, questions_in, sent_local, sent_peer}
 use Rattle.mvd_live.specs.Lives.{IsGiven}
 use Rattle.mvd_live.specs.Mail.{AreLive, AsksNoQuestion, Mail, MailBreaks, MailStep, MailSteps, Sits, Waiting, mail_locals, mail_peers, waits_at}
 use Rattle.mvd_live.proofs.Mailed.{hears_both, mail_few, mail_given}
-use Rattle.mvd_live.proofs.Sent.{tells_counted}
+use Rattle.mvd_live.proofs.Sent.{near_tells_counted, tells_counted}
 
 -- ---- one step more
 
@@ -60,6 +64,18 @@ asks_so : (window : Option Window) (caller : Caller) → AsksIf window caller (a
 asks_so None caller = refl
 asks_so (Some window) caller = record { leaving = refl; came = refl; asked = refl; ended = refl; questions = refl }
 
+abbrev asked_at_hand : Option Window → Near → Near
+asked_at_hand None near = near
+asked_at_hand (Some window) near = record near {
+  leaving = record near.leaving { items = requests_of window };
+  inbox = record { asked = Some (due_in_window window); came = [] };
+  questions = min (asked_near near + count_in window) (2 ^ 64 - 1);
+}
+
+asks_at_hand : (window : Option Window) (near : Near) → AsksNearIf window near (asked_at_hand window near)
+asks_at_hand None near = refl
+asks_at_hand (Some window) near = record { leaving = refl; came = refl; asked = refl; questions = refl }
+
 -- ---- as if it had gone on
 
 -- the steps so far, and this one
@@ -68,11 +84,11 @@ steps_on most now [] mail new steps step = (step, tt)
 steps_on most now (leg ∷ legs) mail new steps step = (steps.0, steps_on most leg.1 legs mail new steps.1 step)
 
 -- both sides as if they had been asked all of what is next
-abbrev made : Waiting → Caller → Caller → Mail → Mail
+abbrev made : Waiting → Near → Caller → Mail → Mail
 made new near far mail = record {
   near = mail.near;
   far = mail.far;
-  near' = asked_caller new.step.local near;
+  near' = asked_at_hand new.step.local near;
   far' = asked_caller new.step.peer far;
   locals = mail.locals;
   peers = mail.peers;
@@ -94,7 +110,7 @@ module _ (number : Option ℕ) (questions : ℕ) (most : Two ℕ ℕ) (begun : M
       asks = record {
         step = new.step;
         next = breaks.next;
-        asks = record { local = asks_so new.step.local breaks.near; peer = asks_so new.step.peer breaks.far };
+        asks = record { local = asks_at_hand new.step.local breaks.near; peer = asks_so new.step.peer breaks.far };
       };
     };
     asks = refl;
@@ -135,15 +151,15 @@ module _ (number : Option ℕ) (questions : ℕ) (most : Two ℕ ℕ) (begun : M
 
 module _ (most : Two ℕ ℕ) (old : Waiting) (mail : Mail) (meeting : Meeting) (local peer : States) (fault : SyncFault) (live : AreLive most old mail local peer) where
   -- what both sides told of what they were asked is no question
-  told_alone : (mid : Meeting) (near far : Caller) (result : Result (Unit {0}) SyncFault) → TakesBoth old.meeting mail.near mail.far mid near far result → (questions_at near ≡ questions_at mail.near) × (questions_at far ≡ questions_at mail.far)
-  told_alone mid near far result h = (tells_counted (asked_of_caller mail.near) mail.near near h.mine h.local, tells_counted (asked_of_caller mail.far) mail.far far h.theirs h.peer)
+  told_alone : (mid : Meeting) (near : Near) (far : Caller) (result : Result (Unit {0}) SyncFault) → TakesBoth old.meeting mail.near mail.far mid near far result → (asked_near near ≡ asked_near mail.near) × (questions_at far ≡ questions_at mail.far)
+  told_alone mid near far result h = (near_tells_counted (asked_of_near mail.near) mail.near near h.mine h.local, tells_counted (asked_of_caller mail.far) mail.far far h.theirs h.peer)
 
   breaks_so : (breaks : MeetingBreaks old.meeting mail.near mail.far meeting mail.near' mail.far' fault) → old.meeting.began ≡ true → AsksPart breaks.mid breaks.near_mid breaks.far_mid meeting mail.near' mail.far' fault
       → AsksNoQuestion mail ⊎ ((new : Waiting) × MailBreaks most old mail new fault)
   breaks_so breaks began (inl neither) =
       let h = hears_both most old.meeting.began old.meeting breaks.mid mail.near mail.far breaks.near_mid breaks.far_mid (Ok tt) began breaks.hears.0 in
       let told = told_alone breaks.mid breaks.near_mid breaks.far_mid (Ok tt) h in
-      inl (ap (λ (c : Caller). questions_at c) neither.0 ∙ told.0, ap (λ (c : Caller). questions_at c) neither.1 ∙ told.1)
+      inl (ap (λ (n : Near). asked_near n) neither.0 ∙ told.0, ap (λ (c : Caller). questions_at c) neither.1 ∙ told.1)
   breaks_so breaks began (inr (step, next, until)) = inr (
     record { meeting = meeting; step = step; local = local; peer = peer },
     record { began = began; mid = breaks.mid; near = breaks.near_mid; far = breaks.far_mid; hears = breaks.hears; next = next; asks = until; live = live },

@@ -1,3 +1,4 @@
+pub mod AtHand
 pub mod Some
 pub mod Moments
 pub mod Heard

@@ -13,6 +13,7 @@ use Rattle.mvd_sync.specs.Tellings.{states_told}
 use Rattle.mvd_sync.specs.declared.report.Side.TheVariants.{Local as AtLocal, Peer as AtPeer}
 use Rattle.mvd_peer.specs.declared.window.Told.{Told}
 use Rattle.mvd_meet.specs.Callers.{questions_at}
+use Rattle.mvd_meet.specs.Nears.{asked_near}
 use Rattle.mvd_live.specs.Mail.{Mail, Waiting, mail_at, waits_at}
 use Rattle.mvd_live.specs.Runs.{Leg, Standing}
 
@@ -78,7 +79,7 @@ pub record MailsFew (now : Waiting) (legs : List (Mail × Waiting)) (keys : List
   pub peer : AreFew first.peer (waits_at now legs).peer keys
   pub little : IsLittle again.local (first.local + first.peer) × IsLittle again.peer (first.local + first.peer)
 
--- what either caller has counted is no more than that, with what it had counted before
+-- what either side has counted is no more than that, with what it had counted before
 pub record CountsSent (first : Mail) (now : Waiting) (legs : List (Mail × Waiting)) : Type 0 where
-  pub near : questions_at (mail_at first legs).near' ≤ questions_at first.near + sent_local now legs
+  pub near : asked_near (mail_at first legs).near' ≤ asked_near first.near + sent_local now legs
   pub far : questions_at (mail_at first legs).far' ≤ questions_at first.far + sent_peer now legs

@@ -1,4 +1,4 @@
--- A session of two sides that are asked by mail, to which others write.
+-- A session of a side that is asked at hand and one by mail, to which others write.
 use Rattle.std.specs.Prelude.{◌≡◌, ℕ, true, false, List, [], ◌∷◌, ◌++◌, Ok, Option, Some, None}
 use Rattle.mvd_site.specs.Held.{AreHeld, States}
 use Rattle.mvd_peer.specs.Sides.{Two}
@@ -10,7 +10,9 @@ use Rattle.mvd_peer.specs.declared.window.Told.{Told}
 use Rattle.mvd_peer.specs.declared.window.Told.TheVariants as told
 use Rattle.mvd_meet.specs.Callers.{CallerTells, asked_of_caller, questions_at}
 use Rattle.mvd_meet.specs.Meetings.{AsksUntil, MeetingHears, MeetingSteps}
+use Rattle.mvd_meet.specs.Nears.{NearTells, asked_near, asked_of_near}
 use Rattle.mvd_meet.specs.declared.caller.Caller.{Caller}
+use Rattle.mvd_meet.specs.declared.near.Near.{Near}
 use Rattle.mvd_meet.specs.declared.stepping.Course.TheVariants as course
 use Rattle.mvd_meet.specs.declared.stepping.Meeting.{Meeting}
 use Rattle.mvd_live.specs.Runs.{Standing}
@@ -29,6 +31,12 @@ IsLiveMail most w caller old moments new =
     (after : Caller) (told : Option Told) → CallerTells (asked_of_caller caller) caller after told → IsAnswered told
     → LiveTells most w told old moments new
 
+-- and so what came at hand
+abbrev pub IsLiveAtHand : ℕ → Wanted → Near → States → List States → States → Type 0
+IsLiveAtHand most w near old moments new =
+    (after : Near) (told : Option Told) → NearTells (asked_of_near near) near after told → IsAnswered told
+    → LiveTells most w told old moments new
+
 -- a session that waits for the answers to what a step asked, and what its two sides hold
 pub record Waiting : Type 0 where
   pub meeting : Meeting
@@ -36,18 +44,18 @@ pub record Waiting : Type 0 where
   pub local : States
   pub peer : States
 
--- the two sides by mail, as a step found them and as it left them, and what either held at the moments of its answers
+-- the two sides, as a step found them and as it left them, and what either held at the moments of its answers
 pub record Mail : Type 0 where
-  pub near : Caller
+  pub near : Near
   pub far : Caller
-  pub near' : Caller
+  pub near' : Near
   pub far' : Caller
   pub locals : List States
   pub peers : List States
 
 -- what came of both is live, and they came to hold this
 pub record AreLive (most : Two ℕ ℕ) (old : Waiting) (mail : Mail) (local peer : States) : Type 0 where
-  pub near : IsLiveMail most.local (asked old.step.local) mail.near old.local mail.locals local
+  pub near : IsLiveAtHand most.local (asked old.step.local) mail.near old.local mail.locals local
   pub far : IsLiveMail most.peer (asked old.step.peer) mail.far old.peer mail.peers peer
   pub held : AreHeld local × AreHeld peer
 
@@ -78,7 +86,7 @@ pub record MailEnds (most : Two ℕ ℕ) (old : Waiting) (mail : Mail) (new : St
 pub record MailBreaks (most : Two ℕ ℕ) (old : Waiting) (mail : Mail) (new : Waiting) (fault : SyncFault) : Type 0 where
   pub began : old.meeting.began ≡ true
   pub mid : Meeting
-  pub near : Caller
+  pub near : Near
   pub far : Caller
   pub hears : MeetingHears old.meeting mail.near mail.far mid near far (Ok tt)
   pub next : HasNext mid.machine new.meeting.machine (Some new.step)
@@ -88,7 +96,7 @@ pub record MailBreaks (most : Two ℕ ℕ) (old : Waiting) (mail : Mail) (new : 
 -- a step asked neither side a question
 abbrev pub AsksNoQuestion : Mail → Type 0
 AsksNoQuestion mail =
-    (questions_at mail.near' ≡ questions_at mail.near) × (questions_at mail.far' ≡ questions_at mail.far)
+    (asked_near mail.near' ≡ asked_near mail.near) × (questions_at mail.far' ≡ questions_at mail.far)
 
 -- A SESSION BY MAIL, step after step
 abbrev pub MailSteps : Two ℕ ℕ → Waiting → List (Mail × Waiting) → Type 0
@@ -120,5 +128,5 @@ mail_at first (leg ∷ legs) = mail_at leg.0 legs
 -- what leaves and comes between two steps is no question: each side was asked as many as behind the step before
 abbrev pub KeepsCounts : Mail → List (Mail × Waiting) → Type 0
 KeepsCounts before [] = Unit {0}
-KeepsCounts before (leg ∷ legs) = (questions_at leg.0.near ≡ questions_at before.near')
+KeepsCounts before (leg ∷ legs) = (asked_near leg.0.near ≡ asked_near before.near')
     × (questions_at leg.0.far ≡ questions_at before.far') × KeepsCounts leg.0 legs

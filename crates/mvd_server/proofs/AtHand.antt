@@ -7,6 +7,7 @@ use Rattle.std.specs.declared.vec.Vec.{Vec}
 use Rattle.mvd_dots.specs.declared.refusals.Refusal.{Refusal}
 use Rattle.mvd_host.specs.AtHand.{AllMayWait, AtHandValue, asked_by_one, asks_of}
 use Rattle.mvd_server.specs.Batches.{HandsBatch}
+use Rattle.mvd_server.specs.OwnSides.{HandsRequests}
 use Rattle.mvd_server.specs.declared.batch.Batch.{Batch}
 use Rattle.mvd_wire.specs.declared.request.Request.{Request}
 
@@ -16,3 +17,10 @@ pub asks_or_not : (n : ℕ) (old : Batch) (hand hand' : AtHandValue) (left : Vec
     → OnErr result ((hand' ≡ hand) × (left ≡ old.requests)) → HandsBatch n old hand (record old { requests = left }) hand'
 asks_or_not n old hand hand' left (Ok done) (may, gone, is) none = inl (record { may = may; asks = is; gone = gone; same = refl })
 asks_or_not n old hand hand' left (Err e) none (same, kept) = inr (ap (λ (r : Vec Request Global). record old { requests = r }) kept, same)
+
+-- so it is of what a session asks
+pub hands_or_not : (n : ℕ) (old left : Vec Request Global) (hand hand' : AtHandValue) (result : Result ⊤ Refusal)
+    → OnOk result (AllMayWait (asks_of n old.items) × (left.items ≡ []) × (hand' ≡ asked_by_one hand n old.items))
+    → OnErr result ((hand' ≡ hand) × (left ≡ old)) → HandsRequests n old.items hand left.items hand'
+hands_or_not n old left hand hand' (Ok done) (may, gone, is) none = inl (record { may = may; asks = is; gone = gone })
+hands_or_not n old left hand hand' (Err e) none (same, kept) = inr (ap (λ (r : Vec Request Global). r.items) kept, same)

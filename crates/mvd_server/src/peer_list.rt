@@ -10,11 +10,13 @@ use crate::crowd::{Crowd, LAST};
 use crate::peer_counts::PeerCounts;
 use crate::peer_news::Setting;
 use crate::peering::Peering;
+use crate::talks::own::Heard;
 use crate::terms::Terms;
 use crate::timers::earlier;
 use mio::event::Event;
 use mio::{Registry, Token};
 use mvd_input::tell;
+use mvd_wire::Reply;
 use std::alloc::{AllocError, Global};
 use std::io::Write;
 use std::net::Net;
@@ -211,30 +213,80 @@ impl Peers {
         }
     }
 
-    /// Hands on what the sessions ask of this server's site, and lists their clients.
-    pub fn list(&mut self, crowd: &mut Crowd, ready: &mut Vec<u64>)
+    /// Hands on what the sessions ask of this server's site.
+    pub fn hand_on(&mut self, crowd: &mut Crowd)
         ensures deeds { TalksDeeds crowd.old.talks crowd.new.talks }
         ensures says { PeersSay (said_by_all self.old.list.items self.old.setting crowd.old)
             (said_by_all self.new.list.items self.new.setting crowd.new) }
     {
         for peering in self.list.iter_mut() {
-            peering.list(crowd, ready);
+            peering.hand_on(crowd);
         }
     }
 
     /// Takes what the site told the sessions. Where something was committed, all peers are met soon.
-    pub fn take_replies(&mut self, crowd: &mut Crowd, commits: u64)
+    pub fn take_replies(&mut self, crowd: &mut Crowd, heard: Heard, commits: u64)
         ensures news { self.old.commits ≢ commits → HaveNews self.new.list.items }
         ensures noted { self.new.commits ≡ commits }
         ensures deeds { TalksDeeds crowd.old.talks crowd.new.talks }
         ensures says { PeersSay (said_by_all self.old.list.items self.old.setting crowd.old)
             (said_by_all self.new.list.items self.new.setting crowd.new) }
     {
+        let Heard { told, has_lost } = heard;
+        self.hear_all(crowd, told);
         let changed = commits != self.commits;
         self.commits = commits;
+        self.look_all(crowd, has_lost, changed);
+    }
+
+    /// Notes whether something changed. Sessions fail that wait for replies which may be lost.
+    fn look_all(&mut self, crowd: &mut Crowd, has_lost: bool, changed: bool)
+        ensures news { changed ≡ true → HaveNews self.new.list.items }
+        ensures rest { self.new ≡ record self.old { list = self.new.list } }
+        ensures deeds { TalksDeeds crowd.old.talks crowd.new.talks }
+        ensures says { PeersSay (said_by_all self.old.list.items self.old.setting crowd.old)
+            (said_by_all self.new.list.items self.new.setting crowd.new) }
+    {
         for peering in self.list.iter_mut() {
-            peering.hear(crowd, changed);
+            peering.look(crowd, has_lost, changed);
         }
+    }
+
+    /// Takes what the site told the sessions, each of them what it was told. Where one has ended, nobody is told.
+    fn hear_all(&mut self, crowd: &mut Crowd, told: Vec<(u64, Reply)>)
+        ensures rest { self.new ≡ record self.old { list = self.new.list } }
+        ensures deeds { TalksDeeds crowd.old.talks crowd.new.talks }
+        ensures says { PeersSay (said_by_all self.old.list.items self.old.setting crowd.old)
+            (said_by_all self.new.list.items self.new.setting crowd.new) }
+    {
+        for (client, reply) in told {
+            self.hear(crowd, client, reply);
+        }
+    }
+
+    /// Takes what the site told one of the sessions.
+    fn hear(&mut self, crowd: &mut Crowd, client: u64, reply: Reply)
+        ensures rest { self.new ≡ record self.old { list = self.new.list } }
+        ensures deeds { TalksDeeds crowd.old.talks crowd.new.talks }
+        ensures says { PeersSay (said_by_all self.old.list.items self.old.setting crowd.old)
+            (said_by_all self.new.list.items self.new.setting crowd.new) }
+    {
+        let place = self.place_of(client);
+        if place < self.list.len() {
+            self.list[place].hear(crowd, reply);
+        }
+    }
+
+    /// The place of the one whose session has this number; where none has, their number.
+    fn place_of(&self, client: u64) -> usize {
+        let mut place = 0;
+        for peering in &self.list {
+            if peering.asks_as(client) {
+                return place;
+            }
+            place += 1;
+        }
+        place
     }
 
     /// Tells which keys were left, if some are to be told. What cannot be written is left out.

@@ -1,6 +1,7 @@
 //! What the clients say, in frames or over HTTP.
 mod comings;
 mod meeting;
+pub(crate) mod own;
 mod talk_bytes;
 mod waking;
 
@@ -20,6 +21,7 @@ use crate::gate::{Rest, answer_writes, ask};
 use crate::metrics::Counts;
 use crate::parked::Parked;
 use crate::responding::{refuse, tell_reply};
+use crate::talks::own::{FIRST_OWN, Heard, is_own};
 use mvd_conn::Passes;
 use mvd_dots::Refusal;
 use mvd_host::{AtHand, FIRST_AT_HAND, Feed, Host};
@@ -40,7 +42,7 @@ pub(crate) enum Kind {
 }
 
 /// The clients' connections: those of frames in the host, and those over HTTP in `webs`. What these ask of the site, and
-/// are told, is at hand.
+/// are told, is at hand, and so it is of this server's own sessions.
 #[derive(Drop)]
 pub(crate) struct Talks {
     pub host: Host,
@@ -62,26 +64,26 @@ pub(crate) struct Talks {
     pub woken: Vec<u64>,
     /// A client asked that the server ends.
     pub is_ending: bool,
-    /// The numbers of those of the host's clients that are this server's own, for sessions with its peers.
-    pub own: Vec<u64>,
+    /// The number of the next session of this server's own with a peer.
+    pub sessions: u64,
+    heard: Heard,
     alloc: Global,
     keys: RandomState,
 }
 
 impl Talks {
-    /// Nobody's. There is room for as many clients of its own, and as many others may wait for a change.
+    /// Nobody's. As many clients may wait for a change.
     pub fn new(
         alloc: Global,
         keys: RandomState,
         passes: Option<Passes>,
         names: Names,
-        own: usize,
         waits_max: usize,
-    ) -> Result<Talks, AllocError>
-        ensures begins { IfOk result (λ talks. talking_of talks ≡ new_talking passes (named_by names)) }
-        ensures most { IfOk result (λ talks. talks.waits_max ≡ waits_max) }
+    ) -> Talks
+        ensures begins { talking_of result ≡ new_talking passes (named_by names) }
+        ensures most { result.waits_max ≡ waits_max }
     {
-        Ok(Talks {
+        Talks {
             host: Host::new(alloc),
             passes,
             names,
@@ -94,10 +96,11 @@ impl Talks {
             waits_max,
             woken: Vec::new(alloc),
             is_ending: false,
-            own: Vec::with_capacity(alloc, own)?,
+            sessions: FIRST_OWN,
+            heard: Heard::new(alloc),
             alloc,
             keys,
-        })
+        }
     }
 
     /// Takes requests of some clients, answers them together, and queues what each is told, and what those are told
@@ -222,7 +225,7 @@ impl Talks {
         }
     }
 
-    /// Queues what clients over HTTP are told of the replies that are left.
+    /// Queues what clients over HTTP are told of the replies that are left, and keeps what the sessions are told.
     fn tell_all(&mut self, counts: &mut Counts)
         ensures deeds { TalksDeeds self.old self.new }
         ensures none { self.new.hand.left ≡ [] }
@@ -239,6 +242,10 @@ impl Talks {
         let Some((number, reply)) = self.hand.next() else {
             return false;
         };
+        if is_own(number) {
+            self.heard.push(number, reply);
+            return true;
+        }
         self.tell(number, &reply, counts);
         true
     }

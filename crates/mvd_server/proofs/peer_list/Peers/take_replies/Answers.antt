@@ -1,19 +1,11 @@
-use Rattle.std.proofs.Common.{◌<◌, arith, length, refl}
+use Rattle.std.proofs.Common.{◌∙◌, ap}
 use Rattle.mvd_server.specs.Talking.{talking_of}
 use Rattle.mvd_server.proofs.Deeds.{deeds_on}
-use Rattle.mvd_server.proofs.Hearing.{heard_more}
-use Rattle.mvd_server.proofs.PeerTelling.{all_say_on, one_says}
-use Rattle.mvd_server.proofs.Placing.{places_kept}
+use Rattle.mvd_server.proofs.PeerTelling.{all_say_on}
 use Rattle.mvd_server.proofs.peer_list.Peers.take_replies.Goals as goal
 
-pub loop-peering-preserved : goal.loop-peering-preserved
-loop-peering-preserved c =
-    let i = c.loop-peering.peering-index in
-    let items = c.loop-peering.peering-items in
-    let at : i < length items = omega arith in
-    record {
-      few = places_kept items i c.hear.new.self c.peering-item.result at c.loop-peering.invariant.few c.hear.ensures.places;
-      heard = heard_more _ items i _ _ _ c.hear.new.self at c.hear.ensures.news c.loop-peering.invariant.heard;
-      deeds = deeds_on (talking_of c.args.crowd.now.talks) (talking_of c.loop-peering.crowd.talks) (talking_of c.hear.new.crowd.talks) c.loop-peering.invariant.deeds c.hear.ensures.deeds;
-      says = all_say_on _ _ _ c.loop-peering.invariant.says (one_says _ _ i c.peering-item.result c.hear.new.self at refl (c.hear.ensures.says c.args.self.now.setting));
-    }
+pub returns-clause-deeds : goal.returns-clause-deeds
+returns-clause-deeds c = deeds_on (talking_of c.args.crowd.now.talks) (talking_of c.hear_all.new.crowd.talks) (talking_of c.look_all.new.crowd.talks) c.hear_all.ensures.deeds c.look_all.ensures.deeds
+
+pub returns-clause-says : goal.returns-clause-says
+returns-clause-says c = all_say_on _ _ _ c.hear_all.ensures.says c.look_all.ensures.says

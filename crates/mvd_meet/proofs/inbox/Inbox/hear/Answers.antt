@@ -1,0 +1,16 @@
+use Rattle.std.proofs.Common.{◌≡◌, ◌∷◌, ◌++◌, [], arith}
+use Rattle.std.specs.Prelude.{Ok}
+use Rattle.mvd_remote.proofs.Holding.{within_replies}
+use Rattle.mvd_meet.proofs.Hearing.{sort_more}
+use Rattle.mvd_meet.proofs.inbox.Inbox.hear.Goals as goal
+
+pub invariant_of-self-2 : goal.invariant_of-self-2
+invariant_of-self-2 c =
+    let i = c.self.inside in
+    let all : c.push_reserved.new.self.items ≡ i.replies.items ++ c.kept-reply.result ∷ [] = grind arith in
+    let within = within_replies i.bytes c.kept-reply.new.bytes i.replies.items c.push_reserved.new.self.items c.kept-reply.result all c.self.invariant.within c.self.invariant.bytes c.kept-reply.ensures.within in
+    record {
+      of_sort = sort_more i.due c.in-Some.due i.replies.items c.push_reserved.new.self.items (Ok c.args.reply) c.kept-reply.result c.in-Some.is c.self.invariant.of_sort all c.kept-reply.ensures.kept (c.is_told_by.ensures.is c.if-not-is_told_by.false);
+      within = within.0;
+      bytes = within.1;
+    }

@@ -1,0 +1,25 @@
+-- What an inbox keeps, and what of it is true.
+use Rattle.std.specs.Prelude.{◌≡◌, ◌+◌, ◌-◌, ◌^◌, ℕ, List, [], All, Option, Some, None, Result, min}
+use Rattle.mvd_dots.specs.declared.refusals.Refusal.{Refusal}
+use Rattle.mvd_wire.specs.declared.reply.Reply.{Reply}
+use Rattle.mvd_peer.specs.Windows.{AreWithin}
+use Rattle.mvd_peer.proofs.Dropped.{bytes_of}
+use Rattle.mvd_remote.specs.LinkWindows.{IsOfKind, states_in}
+use Rattle.mvd_meet.specs.Inboxes.{InboxValue}
+use Rattle.mvd_meet.specs.Posts.{kind_of}
+use Rattle.mvd_meet.specs.declared.asked.Due.{Due}
+use Rattle.mvd_meet.specs.declared.inbox.Inbox.TheInside.{Inside}
+
+abbrev pub inbox_of : Inside → InboxValue
+inbox_of i = record { asked = i.due; came = i.replies.items }
+
+-- the replies are of the kind that was asked for, or refusals; none is kept where nothing was asked
+abbrev pub AreOfSort : Option Due → List (Result Reply Refusal) → Type 0
+AreOfSort None replies = replies ≡ []
+AreOfSort (Some due) replies = All (IsOfKind (kind_of due.sort)) replies
+
+-- THE STATES IN THEM are as many bytes, and not more than are held at once
+pub record IsKeptInbox (i : Inside) : Type 0 where
+  pub of_sort : AreOfSort i.due i.replies.items
+  pub within : AreWithin 0 (states_in i.replies.items)
+  pub bytes : i.bytes ≡ min (0 + bytes_of (states_in i.replies.items)) (2 ^ 64 - 1)

@@ -1,5 +1,6 @@
 //! Pages of which more is told than a reply has, or less.
-ghost use Rattle.std.specs.Prelude.{◌≡◌, ◌≤◌, ◌-◌, ◌++◌, ◌||◌, List, ℕ, Ok, IfErr, IfOk, IsOkUnless, OnOk, length, nat_lt, string_bytes, take, true};
+ghost use Rattle.std.specs.Prelude.{◌≡◌, ◌≤◌, ◌-◌, ◌++◌, ◌||◌, List, ℕ, Ok, IfErr, IfOk, IsOkUnless, OnOk, length};
+ghost use Rattle.std.specs.Prelude.{nat_lt, string_bytes, take, true};
 ghost use Rattle.sha2.specs.Sha256.{sha256};
 ghost use Rattle.mvd_keys.specs.State.{State};
 ghost use Rattle.mvd_keys.specs.Writes.{Key};

@@ -1,4 +1,4 @@
-//! What a session asks of a side: the states that it holds, one question or many at once.
+//! What a session asks of a side: the states that it holds, a window of questions at a time.
 #![tactic(auto)]
 
 mod endpoint;

@@ -1,5 +1,5 @@
 -- What each call keeps of a connection.
-use Rattle.std.proofs.Common.{◌≡◌, ℕ, zero, suc, Bool, true, false, ◌⊎◌, ◌+◌, ◌-◌, ◌*◌, ◌<◌, ◌≤◌, eqb, cond, List, [], ◌∷◌, ◌++◌, length, take, drop, Option, Some, None, refl, sym, ap, subst, ◌∙◌, arith, length-append, inl, inr, Global}
+use Rattle.std.proofs.Common.{◌≡◌, ℕ, zero, suc, Bool, false, ◌+◌, ◌-◌, ◌*◌, ◌<◌, ◌≤◌, eqb, cond, List, [], ◌∷◌, ◌++◌, length, take, drop, Option, Some, None, refl, sym, ap, subst, ◌∙◌, arith, length-append, inl, inr, Global}
 use Rattle.bytes.specs.declared.unique.BytesMut.{BytesMut}
 use Rattle.http_server.specs.declared.log.Log.{Log}
 use Rattle.mvd_conn.specs.declared.connection.Connection.TheInside.{Inside}
@@ -16,14 +16,14 @@ use Rattle.mvd_conn.specs.declared.passes.Pass.{Pass}
 use Rattle.mvd_conn.specs.declared.source.Source.{Source}
 use Rattle.mvd_conn.specs.declared.source.Source.TheVariants as source
 use Rattle.mvd_conn.specs.Guard.{guard_met}
-use Rattle.mvd_conn.specs.History.{History, Stops, Waits, coming, due, ends_long, fed, frame_most, is_bye, is_held_up, may_be_long, next_of, piece_most, replied, short_most, stopped, taking}
+use Rattle.mvd_conn.specs.History.{History, Stops, Waits, coming, due, fed, frame_most, is_bye, is_held_up, most_of, next_of, owes, piece_most, replied, short_most, stopped, taking}
 use Rattle.mvd_conn.specs.Inside.{IsKeptConnection, history_of}
-use Rattle.mvd_conn.specs.Stands.{IsBounded, HistoryStands, frame_of}
+use Rattle.mvd_conn.specs.Stands.{IsBounded, HistoryStands, IsLast, frame_of, queue_most}
 use Rattle.mvd_conn.specs.declared.scan.Found.TheVariants as found
 use Rattle.mvd_conn.specs.Front.{IsFound}
 use Rattle.mvd_conn.proofs.Guarded.{stands_met}
 use Rattle.mvd_conn.proofs.LengthLemmas.{refused_length}
-use Rattle.mvd_conn.proofs.Owing.{ends_long-more, only_short, owed_less, owed_most, owed_none}
+use Rattle.mvd_conn.proofs.Owing.{owes_least}
 use Rattle.mvd_conn.proofs.StandLemmas.{free_of, stands_closed, stands_fed, stands_replied, stands_stopped, stands_taking, waits_few}
 
 pub kept_closed : (c : Inside) (new : Source) → c.source ≡ source.Open → IsKeptConnection c → IsKeptConnection (record c { source = new })
@@ -32,7 +32,10 @@ kept_closed c new opened k = record {
   bounded = record { few_held = k.bounded.few_held; few_due = k.bounded.few_due; few_waiting = k.bounded.few_waiting };
   count = k.count;
   due = k.due;
-  long = k.long;
+  each = k.each;
+  others = k.others;
+  few_behind = k.few_behind;
+  few_brought = k.few_brought;
   hand = k.hand;
   whole_hand = k.whole_hand;
   room = k.room;
@@ -46,7 +49,10 @@ kept_met c passes new is k = record {
   bounded = record { few_held = k.bounded.few_held; few_due = k.bounded.few_due; few_waiting = k.bounded.few_waiting };
   count = k.count;
   due = k.due;
-  long = k.long;
+  each = k.each;
+  others = k.others;
+  few_behind = k.few_behind;
+  few_brought = k.few_brought;
   hand = k.hand;
   whole_hand = k.whole_hand;
   room = k.room;
@@ -82,12 +88,46 @@ kept_fed c input reads bytes going next hand few grown logged k =
       });
       count = k.count;
       due = k.due;
-      long = k.long;
+      each = k.each;
+      others = k.others;
+      few_behind = k.few_behind;
+      few_brought = k.few_brought;
       hand = omega (arith, none);
       whole_hand = inl none;
       room = k.room;
       last_room = k.last_room;
     }
+
+-- what the last frame brings is told
+pub kept_expected : (c : Inside) (brings : ℕ) → short_most ≤ brings → brings ≤ frame_most → IsKeptConnection c → IsKeptConnection (record c { brings = brings })
+kept_expected c brings least most k = record {
+  stands = record {
+    input = k.stands.input;
+    fit = k.stands.fit;
+    first = k.stands.first;
+    output = k.stands.output;
+    in_turn = k.stands.in_turn;
+    last = last_expected (history_of c) brings c.last k.stands.last;
+    few = k.stands.few;
+    shown = k.stands.shown;
+  };
+  bounded = record { few_held = k.bounded.few_held; few_due = k.bounded.few_due; few_waiting = k.bounded.few_waiting };
+  count = k.count;
+  due = k.due;
+  each = omega (arith, k.others, least);
+  others = k.others;
+  few_behind = k.few_behind;
+  few_brought = most;
+  hand = k.hand;
+  whole_hand = k.whole_hand;
+  room = k.room;
+  last_room = k.last_room;
+} where
+  last_expected : (h : History) (brings : ℕ) (l : Option Ending) → IsLast h l → IsLast (record h { brings = brings }) l
+  last_expected h brings None s = s
+  last_expected h brings (Some ending.Bye) s = s
+  last_expected h brings (Some ending.End) s = s
+  last_expected h brings (Some (ending.Stopped refusal)) s = s
 
 -- a reply was queued
 replied_history : (c : Inside) (output : BytesMut Global) (replies : Log (BytesMut Global) ℕ) (large : Bool) (due : ℕ) (frame : List ℕ) → output.items ≡ c.output.items ++ frame → replies.items ≡ c.replies.items ++ (output, length c.output.items) ∷ []
@@ -98,7 +138,7 @@ replied_history c output replies large due frame grown logged =
     rw (logged, log, new, grown) refl
 
 pub kept_replied : (c : Inside) (output : BytesMut Global) (replies : Log (BytesMut Global) ℕ) (large : Bool) (frame : List ℕ) → length (history_of c).answers < length (history_of c).taken
-    → (length frame ≤ short_most) ⊎ ((due (history_of c) ≡ 1) × (ends_long (history_of c).taken ≡ true) × (length frame ≤ frame_most))
+    → length c.output.items + length frame + 17 * (c.due - 1) ≤ queue_most
     → output.items ≡ c.output.items ++ frame → replies.items ≡ c.replies.items ++ (output, length c.output.items) ∷ []
     → 17 * (c.due - 1) ≤ output.spare → (c.last ≡ None → 17 * (c.due - 1) + 6 ≤ output.spare) → IsKeptConnection c → IsKeptConnection (record c { output = output; grown = large; replies = replies; due = c.due - 1 })
 kept_replied c output replies large frame some few grown logged room last_room k =
@@ -106,17 +146,19 @@ kept_replied c output replies large frame some few grown logged room last_room k
     let h = history_of c in
     let more : length (h.answers ++ frame ∷ []) ≡ length h.answers + 1 = length-append h.answers (frame ∷ []) in
     let longer : length (h.waits ++ frame) ≡ length h.waits + length frame = length-append h.waits frame in
-    let paid = owed_less (ends_long h.taken) (due (replied h frame)) (due h) (length frame) (omega (arith, some, more)) few in
     record {
       stands = subst HistoryStands (sym same) (stands_replied h frame some k.stands);
       bounded = subst IsBounded (sym same) (record {
         few_held = k.bounded.few_held;
         few_due = omega (arith, k.bounded.few_due, more);
-        few_waiting = omega (arith, k.bounded.few_waiting, longer, paid);
+        few_waiting = omega (arith, few, k.due, some, longer, more);
       });
       count = k.count;
       due = subst (λ (t : History). (c.due - 1) + length t.answers ≡ length t.taken) (sym same) (omega (arith, k.due, some, more));
-      long = k.long;
+      each = omega (arith, k.each);
+      others = omega (arith, k.others);
+      few_behind = k.few_behind;
+      few_brought = k.few_brought;
       hand = k.hand;
       whole_hand = k.whole_hand;
       room = room;
@@ -137,11 +179,14 @@ kept_stopped c output refusal free next all grown k =
       bounded = subst IsBounded (sym same) (record {
         few_held = k.bounded.few_held;
         few_due = k.bounded.few_due;
-        few_waiting = omega (arith, open_.room, owed_none (ends_long h.taken) (due h) all, longer);
+        few_waiting = omega (arith, open_.room, all, longer);
       });
       count = k.count;
       due = k.due;
-      long = k.long;
+      each = k.each;
+      others = k.others;
+      few_behind = k.few_behind;
+      few_brought = k.few_brought;
       hand = k.hand;
       whole_hand = k.whole_hand;
       room = omega (arith, none);
@@ -157,39 +202,43 @@ positive zero some = absurd (omega (arith, some))
 positive (suc n) some = eqb-suc-zero n
 
 -- a frame was taken in hand
-taken_history : (c : Inside) (output : BytesMut Global) (frames : Log (BytesMut Global) ℕ) (size count due : ℕ) (last : Option Ending) (long : Bool) → c.hand ≡ 0 → 5 ≤ size → output.items ≡ c.output.items → frames.items ≡ c.frames.items ++ (c.input, size) ∷ []
-    → last ≡ cond (is_bye (frame_of (take size c.input.items))) (Some ending.Bye) c.last
-    → history_of (record c { output = output; frames = frames; hand = size; count = count; due = due; last = last; long = long }) ≡ taking (history_of c) (frame_of (take size (history_of c).held)) (drop size (history_of c).held)
-taken_history c output frames size count due last long none some same logged is =
+taken_history : (c : Inside) (output : BytesMut Global) (frames : Log (BytesMut Global) ℕ) (size count due behind brings : ℕ) (last : Option Ending) → c.hand ≡ 0 → 5 ≤ size → output.items ≡ c.output.items → frames.items ≡ c.frames.items ++ (c.input, size) ∷ []
+    → last ≡ cond (is_bye (frame_of (take size c.input.items))) (Some ending.Bye) c.last → behind ≡ owes (history_of c) → brings ≡ most_of (frame_of (take size c.input.items)).kind
+    → history_of (record c { output = output; frames = frames; hand = size; count = count; due = due; last = last; behind = behind; brings = brings }) ≡ taking (history_of c) (frame_of (take size (history_of c).held)) (drop size (history_of c).held)
+taken_history c output frames size count due behind brings last none some same logged is fore counts =
     let log = map-append (λ (r : BytesMut Global × ℕ). frame_of (take r.1 r.0.items)) c.frames.items ((c.input, size) ∷ []) in
-    rw (logged, log, same, is, positive size some, none) refl
+    rw (logged, log, same, is, fore, counts, positive size some, none) refl
 
-pub kept_taken : (c : Inside) (output : BytesMut Global) (frames : Log (BytesMut Global) ℕ) (size : ℕ) (last : Option Ending) (long : Bool) → is_held_up (history_of c) ≡ false → IsFound (history_of c) (found.Frame size) → (history_of c).hand ≡ None
+pub kept_taken : (c : Inside) (output : BytesMut Global) (frames : Log (BytesMut Global) ℕ) (size behind brings : ℕ) (last : Option Ending) → is_held_up (history_of c) ≡ false → IsFound (history_of c) (found.Frame size) → (history_of c).hand ≡ None
     → output.items ≡ c.output.items → 17 * (c.due + 1) + 6 ≤ output.spare → frames.items ≡ c.frames.items ++ (c.input, size) ∷ [] → last ≡ cond (is_bye (frame_of (take size c.input.items))) (Some ending.Bye) c.last
-    → long ≡ may_be_long (frame_of (take size c.input.items)).kind → IsKeptConnection c → IsKeptConnection (record c { output = output; frames = frames; hand = size; count = c.count + 1; due = c.due + 1; last = last; long = long })
-kept_taken c output frames size last long free whole_frame hand same room logged is is_long k =
+    → behind ≡ owes (history_of c) → brings ≡ most_of (frame_of (take size c.input.items)).kind → short_most ≤ brings → brings ≤ frame_most
+    → IsKeptConnection c → IsKeptConnection (record c { output = output; frames = frames; hand = size; count = c.count + 1; due = c.due + 1; last = last; behind = behind; brings = brings })
+kept_taken c output frames size behind brings last free whole_frame hand same room logged is fore counts least most k =
     let h = history_of c in
     let f : FrameValue = frame_of (take size h.held) in
     let rest : List ℕ = drop size h.held in
     let none : c.hand ≡ 0 = no_hand c.hand (frame_of (take c.hand c.input.items)) hand in
     let whole = whole_frame.0 in
     let free_ = free_of h free in
-    let now = taken_history c output frames size (c.count + 1) (c.due + 1) last long none whole.some same logged is in
+    let now = taken_history c output frames size (c.count + 1) (c.due + 1) behind brings last none whole.some same logged is fore counts in
     let held : h.held ≡ spell_frame f ++ rest = sym (take-append-drop size h.held) ∙ ap (λ (t : List ℕ). t ++ rest) whole.spelled in
     let wide : length f.payload + 5 ≡ size = omega (arith, length-drop 5 (take size h.held), length-take size h.held, whole.within, whole.some) in
     let more : length (h.taken ++ f ∷ []) ≡ length h.taken + 1 = length-append h.taken (f ∷ []) in
-    let short = only_short (ends_long h.taken) (due h) (length h.waits) free_.room in
-    let most = owed_most (ends_long (h.taken ++ f ∷ [])) (due (taking h f rest)) (due h) (omega (arith, more, k.stands.in_turn)) in
+    let at : due h ≡ c.due = omega (arith, k.due, k.stands.in_turn) in
+    let short : short_most * due h ≤ owes h = owes_least (due h) (c.behind + c.brings) (omega (arith, at, k.each)) in
     record {
       stands = subst HistoryStands (sym now) (stands_taking h f rest free_.last held (omega (arith, wide, whole.few)) whole_frame.1 whole_frame.2 k.stands);
       bounded = subst IsBounded (sym now) (record {
         few_held = omega (arith, wide, k.bounded.few_held, length-drop size h.held, whole.within);
-        few_due = omega (arith, short, more);
-        few_waiting = omega (arith, short, most);
+        few_due = omega (arith, short, free_.room, more);
+        few_waiting = omega (arith, short, free_.room, more);
       });
       count = subst (λ (t : History). c.count + 1 ≡ length t.taken) (sym now) (omega (arith, k.count, more));
       due = subst (λ (t : History). (c.due + 1) + length t.answers ≡ length t.taken) (sym now) (omega (arith, k.due, more));
-      long = subst (λ (t : History). long ≡ ends_long t.taken) (sym now) (is_long ∙ ap (λ (t : List ℕ). may_be_long (frame_of (take size t)).kind) (held_all c none) ∙ sym (ends_long-more h.taken f));
+      each = omega (arith, short, at, fore, least);
+      others = omega (arith, short, at, fore);
+      few_behind = omega (arith, free_.room, fore);
+      few_brought = most;
       hand = omega (arith, whole.within, none, length-drop c.hand c.input.items);
       whole_hand = inr whole.some;
       room = omega (arith, room);

@@ -17,7 +17,7 @@ use Rattle.mvd_wire.specs.declared.ending.Ending.TheVariants as ending
 use Rattle.mvd_conn.specs.Guard.{is_barred, may_come}
 use Rattle.mvd_conn.specs.declared.guard.Guard.{Guard}
 use Rattle.mvd_conn.proofs.Guarded.{gives_shown, let_in_waits}
-use Rattle.mvd_conn.specs.History.{Gives, History, NextTaken, Over, Stops, Waits, due, fed, frame_most, frames_most, is_bye, is_held_up, last_bytes, let_in, next_held, next_of, next_of_source, over, owed, replied, stopped, taking, waits_most}
+use Rattle.mvd_conn.specs.History.{Gives, History, NextTaken, Over, Stops, Waits, due, fed, frame_most, frames_most, is_bye, is_held_up, last_bytes, let_in, next_held, next_of, next_of_source, over, owes, replied, stopped, taking, waits_most}
 use Rattle.mvd_conn.specs.Stands.{AreFirst, GoOn, IsLast, HistoryStands, frames_spelled}
 
 abbrev pub Fit : List FrameValue → Type 0
@@ -47,11 +47,11 @@ none_of (Some x) e = absurd cc
 -- what it means that nothing holds the connection up
 pub record Free (h : History) : Type 0 where
   pub last : h.last ≡ None
-  pub room : length h.waits + owed h < waits_most
+  pub room : length h.waits + owes h < waits_most
 
 pub free_of : (h : History) → is_held_up h ≡ false → Free h
 free_of h e =
-    let b = or_false (is_some h.last || h.failed) (leb waits_most (length h.waits + owed h)) e in
+    let b = or_false (is_some h.last || h.failed) (leb waits_most (length h.waits + owes h)) e in
     let c = or_false (is_some h.last) h.failed b.0 in
     record { last = none_of h.last c.0; room = leb-false _ _ b.1 }
 

@@ -1,6 +1,5 @@
 -- What went through a connection, and what each call makes of it.
-use Rattle.std.specs.Prelude.{◌≡◌, ℕ, ◌+◌, ◌*◌, ◌-◌, Bool, true, false, ◌==◌, ◌&&◌, ◌||◌, nat_le, if◌then◌else◌, List, [], ◌∷◌, ◌++◌, length, take, drop, Option, Some, None, is_some, Result, Ok, Err}
-use Rattle.std.specs.List.{last_or}
+use Rattle.std.specs.Prelude.{◌≡◌, ℕ, ◌+◌, ◌-◌, min, max, Bool, true, false, ◌==◌, ◌&&◌, ◌||◌, nat_le, if◌then◌else◌, List, [], ◌∷◌, ◌++◌, length, take, drop, Option, Some, None, is_some, Result, Ok, Err}
 use Rattle.mvd_dots.specs.declared.refusals.Refusal.{Refusal}
 use Rattle.mvd_dots.specs.declared.refusals.Refusal.TheVariants.{FrameTooLong, Memory, NotAdmitted, Truncated, TooManyRequests, WriteFailed}
 use Rattle.mvd_dots.specs.Refusal.{number_of}
@@ -27,6 +26,10 @@ pub record History : Type 0 where
   -- all frames that were taken, and the last of them while it can be looked at
   pub taken : List FrameValue
   pub hand : Option FrameValue
+  -- the most bytes of the replies that are due: of those to all frames but the last that was taken, and of that to the
+  -- last
+  pub behind : ℕ
+  pub brings : ℕ
   -- the frames of all replies, and why no further frame is taken
   pub answers : List (List ℕ)
   pub last : Option Ending
@@ -57,34 +60,29 @@ frame_most = 1200004
 abbrev pub short_most : ℕ
 short_most = 17
 
+-- a row, and a node with sixteen children
+abbrev pub row_most : ℕ
+row_most = 46
+
+abbrev pub node_most : ℕ
+node_most = 550
+
 -- ---- what comes next
 
 -- the number of frames that were taken and are not answered
 abbrev pub due : History → ℕ
 due h = length h.taken - length h.answers
 
--- the reply to a frame of this kind may be as long as a frame: but for a Put, a Delete and a Push, whose replies are
--- short
-abbrev pub may_be_long : ℕ → Bool
-may_be_long kind =
-    if kind == 0x22 then false else (if kind == 0x23 then false else (if kind == 0x29 then false else true))
+-- The most bytes that the reply to a frame of this kind has: that to a Put, a Delete, a Push, a Hello and a Bye is short,
+-- and a row and a node have few. Any other may be as long as a frame
+abbrev pub most_of : ℕ → ℕ
+most_of kind =
+    if (kind == 0x22) || (kind == 0x23) || (kind == 0x29) || (kind == 0x2D) || (kind == 0x2F) then short_most
+    else (if kind == 0x25 then row_most else (if kind == 0x27 then node_most else frame_most))
 
-abbrev pub is_long_last : Option FrameValue → Bool
-is_long_last None = false
-is_long_last (Some f) = may_be_long f.kind
-
--- the reply to the last frame that was taken may be as long as a frame
-abbrev pub ends_long : List FrameValue → Bool
-ends_long taken = is_long_last (last_or None taken)
-
--- so many replies have at most as many bytes, of which all are short, or all but the last
-abbrev pub owed_by : Bool → ℕ → ℕ
-owed_by long count =
-    if count == 0 then 0 else (if long then short_most * (count - 1) + frame_most else short_most * count)
-
--- the replies that are due have at most as many bytes
-abbrev pub owed : History → ℕ
-owed h = owed_by (ends_long h.taken) (due h)
+-- the replies that are due have at most as many bytes, as things stand
+abbrev pub owes : History → ℕ
+owes h = if due h == 0 then 0 else h.behind + h.brings
 
 -- the frame of a Bye
 abbrev pub is_bye : FrameValue → Bool
@@ -128,7 +126,7 @@ next_of h =
 
 -- nothing more is taken, or not before replies are queued or leave
 abbrev pub is_held_up : History → Bool
-is_held_up h = is_some h.last || h.failed || nat_le waits_most (length h.waits + owed h)
+is_held_up h = is_some h.last || h.failed || nat_le waits_most (length h.waits + owes h)
 
 -- more bytes are wanted: no whole frame is held, and there is room for replies
 pub record WantsInput (h : History) : Type 0 where
@@ -148,6 +146,8 @@ new_history guard =
       source = source.Open;
       taken = [];
       hand = None;
+      behind = 0;
+      brings = 0;
       answers = [];
       last = None;
       left = [];
@@ -180,16 +180,22 @@ coming h = if is_some h.last then Ok (None, h.held) else frame_at h.held
 abbrev pub met : List Pass → History → History
 met passes h = record h { guard = guard_met passes h.taken (coming h) h.guard }
 
--- a frame is handed out; a Bye is the last
+-- a frame is handed out, and its reply counts as much as one of its kind may have; a Bye is the last
 abbrev pub taking : History → FrameValue → List ℕ → History
 taking h f rest =
     record h {
       held = rest;
       taken = h.taken ++ f ∷ [];
       hand = Some f;
+      behind = owes h;
+      brings = most_of f.kind;
       last = if is_bye f then Some ending.Bye
           else h.last;
     }
+
+-- the reply to the last frame that was taken has at most as many bytes, as things stand; it counts as a short one at least
+abbrev pub expected : History → ℕ → History
+expected h most = record h { brings = max short_most (min most h.brings) }
 
 -- the frame that tells of an end
 abbrev pub last_bytes : Option Ending → List ℕ

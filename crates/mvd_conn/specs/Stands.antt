@@ -1,5 +1,5 @@
 -- What is true of every connection.
-use Rattle.std.specs.Prelude.{◌≡◌, ℕ, ◌+◌, ◌≤◌, ◌⊎◌, true, false, List, [], ◌∷◌, ◌++◌, length, drop, slice_index, flat_map, Option, Some, None, Ok}
+use Rattle.std.specs.Prelude.{◌≡◌, ℕ, ◌+◌, ◌*◌, ◌≤◌, ◌⊎◌, true, false, List, [], ◌∷◌, ◌++◌, length, drop, slice_index, flat_map, Option, Some, None, Ok}
 use Rattle.std.specs.List.{AllByRecursion, concat}
 use Rattle.mvd_dots.specs.declared.refusals.Refusal.TheVariants.{Memory}
 use Rattle.mvd_wire.specs.declared.reply.Reply.{Reply}
@@ -9,7 +9,7 @@ use Rattle.mvd_wire.specs.Replies.{IsReply, is_short}
 use Rattle.mvd_conn.specs.Guard.{IsShown}
 use Rattle.mvd_wire.specs.declared.ending.Ending.{Ending}
 use Rattle.mvd_wire.specs.declared.ending.Ending.TheVariants as ending
-use Rattle.mvd_conn.specs.History.{History, Over, Stops, due, frames_most, is_bye, last_bytes, next_of, owed}
+use Rattle.mvd_conn.specs.History.{History, Over, Stops, due, frames_most, is_bye, last_bytes, next_of, short_most}
 
 -- the frame that these bytes spell
 abbrev pub frame_of : List ℕ → FrameValue
@@ -74,7 +74,8 @@ hand_length (Some f) = 5 + length f.payload
 pub record IsBounded (h : History) : Type 0 where
   pub few_held : hand_length h.hand + length h.held ≤ held_most
   pub few_due : due h ≤ due_most
-  pub few_waiting : length h.waits + owed h ≤ queue_most
+  -- with a short reply to each frame that is due
+  pub few_waiting : length h.waits + short_most * due h ≤ queue_most
 
 -- the reply that is queued: want of memory may stand in place of one that has no short frame, and else that is one that
 -- is decoded again

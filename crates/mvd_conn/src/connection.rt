@@ -10,7 +10,7 @@ ghost use Rattle.mvd_wire.specs.Replies.{CanBeSent, reply_bytes};
 use crate::guard::{Guard, may_ask};
 use crate::passes::Passes;
 use crate::room::make_room;
-use crate::scan::{Found, Front, front_of, is_over_hello, last_after, may_be_long};
+use crate::scan::{Found, Front, SHORT_MAX, front_of, is_over_hello, last_after, most_of};
 use crate::source::Source;
 use bytes::BytesMut;
 use http_server::Log;
@@ -30,11 +30,8 @@ pub const WAITS_MAX: usize = 262_144;
 /// The most bytes that may come at once.
 pub const PIECE_MAX: usize = 65_536;
 
-/// The longest reply, in bytes.
-const FRAME_MAX: usize = 1_200_004;
-
-/// The longest short reply, in bytes.
-const SHORT_MAX: usize = 17;
+/// The most bytes that wait to leave, with a short reply to each frame that is due.
+const QUEUE_MAX: usize = 1_462_147;
 
 /// The frame that tells of an end, in bytes.
 const LAST_MAX: usize = 6;
@@ -50,13 +47,15 @@ pub struct Connection {
     /// The length of the frame in hand, or 0.
     hand: usize,
     output: BytesMut,
-    /// Whether a long reply was put into the output since that was last empty.
+    /// Whether a reply that is not short made the output long since that was last empty.
     grown: bool,
     /// The number of frames taken, and of those that are not answered.
     count: u32,
     due: u32,
-    /// Whether the reply to the last frame that was taken may be long.
-    long: bool,
+    /// The most bytes of the replies that are due: of those to all frames but the last that was taken, and of that to
+    /// the last.
+    behind: usize,
+    brings: usize,
     source: Source,
     last: Option<Ending>,
     failed: bool,
@@ -83,9 +82,9 @@ impl Model for Connection {
 }
 
 impl Connection {
-    ghost use Rattle.mvd_conn.specs.History.{NextRefused, Over, Stops, WantsInput, after_next, closed, coming, cut, due, ending_of};
-    ghost use Rattle.mvd_conn.specs.History.{ends_long, fed, frame_most, is_done, is_held_up, met, new_history, next_of, over};
-    ghost use Rattle.mvd_conn.specs.History.{owed, piece_most, released, replied, sent, stopped};
+    ghost use Rattle.mvd_conn.specs.History.{NextRefused, Over, Stops, WantsInput, after_next, closed, coming, cut, due, ending_of, expected};
+    ghost use Rattle.mvd_conn.specs.History.{fed, frame_most, is_done, is_held_up, met, new_history, next_of, over};
+    ghost use Rattle.mvd_conn.specs.History.{owes, piece_most, released, replied, sent, stopped};
     ghost use Rattle.mvd_conn.specs.Guard.{guard_met, is_barred, may_come, may_under};
     ghost use Rattle.mvd_conn.specs.Stands.{IsBounded, IsQueued, HistoryStands, frame_of};
     ghost use Rattle.mvd_conn.specs.Front.{IsFound, TakesFrame};
@@ -108,7 +107,8 @@ impl Connection {
             grown: false,
             count: 0,
             due: 0,
-            long: false,
+            behind: 0,
+            brings: 0,
             source: Source::Open,
             last: None,
             failed: false,
@@ -235,8 +235,17 @@ impl Connection {
         }
     }
 
-    /// Queues the reply to the first frame that has none. A Written, a Done and a Refused need no memory. Where it is
-    /// refused for any other reply, or there is no room for a long one, a Refused with that is queued in its place.
+    /// Tells that the reply to the last frame that was taken has at most so many bytes, as things stand. It counts as a
+    /// short one at least.
+    pub fn expects(&mut self, most: usize)
+        ensures { self.new ≡ expected self.old most }
+    {
+        self.brings = self.brings.min(most).max(SHORT_MAX);
+    }
+
+    /// Queues the reply to the first frame that has none. A Written, a Done and a Refused need no memory. Any other is
+    /// queued where at most 1,462,147 bytes wait then, with a short reply to each frame that stays due. Where they would
+    /// be more, or memory is refused, a Refused with want of memory is queued in its place.
     pub fn reply(&mut self, reply: &Reply)
         requires due { length self.old.answers < length self.old.taken }
         requires fits { CanBeSent reply.now }
@@ -246,9 +255,7 @@ impl Connection {
             self.queue_short(short.bytes());
             return;
         }
-        if self.long
-            && self.due == 1
-            && let Ok(bytes) = encode_reply(self.alloc, reply)
+        if let Ok(bytes) = encode_reply(self.alloc, reply)
             && self.queue(&bytes)
         {
             return;
@@ -322,7 +329,7 @@ impl Connection {
         }
     }
 
-    /// Gives the memory of a long reply back, where there is memory for an output without it.
+    /// Gives the memory of a long output back, where there is memory for an output without it.
     fn shrink(&mut self)
         requires empty { self.old.waits ≡ [] }
         requires answered { due self.old ≡ 0 }
@@ -334,24 +341,20 @@ impl Connection {
         }
     }
 
-    /// The most bytes that the replies that are due may have.
-    fn owed(&self) -> usize
-        ensures { result ≡ owed self.now }
+    /// The most bytes that the replies that are due have, as things stand.
+    fn owes(&self) -> usize
+        ensures { result ≡ owes self.now }
     {
-        let due = self.due as usize;
-        if due == 0 {
-            0
-        } else if self.long {
-            SHORT_MAX * (due - 1) + FRAME_MAX
-        } else {
-            SHORT_MAX * due
+        if self.due == 0 {
+            return 0;
         }
+        self.behind + self.brings
     }
 
     fn is_held_up(&self) -> bool
         ensures { result ≡ is_held_up self.now }
     {
-        self.last.is_some() || self.failed || self.output.len() + self.owed() >= WAITS_MAX
+        self.last.is_some() || self.failed || self.output.len() + self.owes() >= WAITS_MAX
     }
 
     /// What comes next.
@@ -407,11 +410,13 @@ impl Connection {
         ensures due { IfOk result (λ _. length self.new.answers < length self.new.taken) }
         ensures err { IfErr result (λ e. (e ≡ Refusal.Memory) × (self.new ≡ self.old)) }
     {
+        let behind = self.owes();
         let room = SHORT_MAX * (self.due as usize + 1) + LAST_MAX;
         make_room(&mut self.output, room)?;
         let frame = &self.input.as_slice()[..size];
         self.last = last_after(frame[4], &frame[5..], self.last);
-        self.long = may_be_long(frame[4]);
+        self.behind = behind;
+        self.brings = most_of(frame[4]);
         self.frames = self.frames.and(&self.input, &size);
         self.hand = size;
         self.count += 1;
@@ -452,22 +457,26 @@ impl Connection {
         self.due -= 1;
     }
 
-    /// Queues the frame of the one reply that is due and may be long, where there is memory for it.
+    /// Queues the frame of a reply, where not too much waits then, and there is memory for it beside the short replies
+    /// that stay due.
     fn queue(&mut self, frame: &[u8]) -> bool
-        requires due { due self.old ≡ 1 }
-        requires long { ends_long self.old.taken ≡ true }
+        requires due { length self.old.answers < length self.old.taken }
         requires few { length frame.now ≤ frame_most }
         ensures yes { result ≡ true → self.new ≡ replied self.old frame.now }
         ensures no { result ≡ false → self.new ≡ self.old }
     {
-        match make_room(&mut self.output, frame.len() + LAST_MAX) {
+        let room = frame.len() + SHORT_MAX * (self.due as usize - 1);
+        if self.output.len() + room > QUEUE_MAX {
+            return false;
+        }
+        match make_room(&mut self.output, room + LAST_MAX) {
             Ok(()) => {}
             Err(_) => return false,
         }
         let at = self.output.len();
         self.output.extend_reserved(frame);
         self.replies = self.replies.and(&self.output, &at);
-        self.grown = self.grown || frame.len() > PIECE_MAX;
+        self.grown = self.grown || self.output.len() > PIECE_MAX;
         self.due -= 1;
         true
     }

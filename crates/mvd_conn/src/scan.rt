@@ -1,8 +1,8 @@
 //! What stands at the front of the input.
-ghost use Rattle.std.specs.Prelude.{◌≡◌, ◌&&◌, if◌then◌else◌, Some, length, nat_le, nat_lt, take};
+ghost use Rattle.std.specs.Prelude.{◌≡◌, ◌≤◌, ◌&&◌, if◌then◌else◌, Some, length, nat_le, nat_lt, take};
 ghost use Rattle.std.specs.Int.{from_be_bytes, w32};
 ghost use Rattle.mvd_wire.specs.declared.ending.Ending.TheVariants as Ending;
-ghost use Rattle.mvd_conn.specs.History.{is_bye, may_be_long};
+ghost use Rattle.mvd_conn.specs.History.{is_bye, most_of};
 ghost use Rattle.mvd_conn.specs.Front.{IsFront};
 
 use mvd_dots::Refusal;
@@ -10,6 +10,18 @@ use mvd_wire::{Ending, FRAME_LIMIT};
 
 /// The most bytes that the length of a Hello counts: its kind, the length of the token, and the token.
 const HELLO_LIMIT: u32 = 259;
+
+/// The longest reply, in bytes.
+const FRAME_MAX: usize = 1_200_004;
+
+/// The longest short reply, in bytes.
+pub(crate) const SHORT_MAX: usize = 17;
+
+/// A row, in bytes.
+const ROW_MAX: usize = 46;
+
+/// The digests of a node with sixteen children, in bytes.
+const NODE_MAX: usize = 550;
 
 /// What bytes begin with.
 #[derive(Clone, Copy)]
@@ -77,9 +89,16 @@ pub(crate) fn last_after(kind: u8, payload: &[u8], last: Option<Ending>) -> Opti
     }
 }
 
-/// Whether the reply to a frame of this kind may be as long as a frame. That to a Put, a Delete or a Push is short.
-pub(crate) fn may_be_long(kind: u8) -> bool
-    ensures { result ≡ may_be_long kind }
+/// The most bytes that the reply to a frame of this kind has. That to a Put, a Delete, a Push, a Hello and a Bye is short.
+pub(crate) fn most_of(kind: u8) -> usize
+    ensures is { result ≡ most_of kind }
+    ensures least { 17 ≤ result }
+    ensures most { result ≤ 1200004 }
 {
-    !matches!(kind, 0x22 | 0x23 | 0x29)
+    match kind {
+        0x22 | 0x23 | 0x29 | 0x2D | 0x2F => SHORT_MAX,
+        0x25 => ROW_MAX,
+        0x27 => NODE_MAX,
+        _ => FRAME_MAX,
+    }
 }

@@ -34,7 +34,7 @@ const ASKED: [&str; 10] = [
 ];
 
 /// A client: what it asks, how much of that came, how many requests were taken, and where the last of them ends;
-/// whether the last round began with its question; what it was told, and what it should be.
+/// whether a round began with its questions, and ended its turn; what it was told, and what it should be.
 #[derive(Drop)]
 struct Client {
     asked: [&'static str; REQUESTS],
@@ -43,6 +43,7 @@ struct Client {
     taken: usize,
     end: usize,
     led: bool,
+    is_over: bool,
     told: Vec<u8>,
     wanted: Vec<u8>,
 }
@@ -60,33 +61,51 @@ fn new_client(alloc: Global, random: &mut Random) -> Client {
         taken: 0,
         end: 0,
         led: false,
+        is_over: false,
         told: Vec::new(alloc),
         wanted: Vec::new(alloc),
     }
 }
 
-/// Whether nothing is taken behind a request before its reply leaves: it is none, or no write.
-fn is_last(request: &str) -> bool {
-    request == WIDE
-        || !matches!(
-            request.as_bytes().get(8..10),
-            Some([b'2', b'2' | b'3' | b'9'])
-        )
+/// What is answered next of a client in a round.
+#[derive(Clone, Copy)]
+enum Part {
+    Questions,
+    Changes,
+    Rest,
 }
 
-/// One replica is asked what a round takes of a client next: the changes that are whole, or the one request that is the
-/// last. Whether there was one.
+fn is_of(part: Part, request: &str) -> bool {
+    let changes = matches!(
+        request.as_bytes().get(8..10),
+        Some([b'2', b'2' | b'3' | b'9'])
+    );
+    match part {
+        Part::Questions => !changes,
+        Part::Changes => changes && request != WIDE,
+        Part::Rest => true,
+    }
+}
+
+/// Whether a round takes nothing behind a request: it is none, or a get with no change in front.
+fn is_last(part: Part, request: &str) -> bool {
+    let is_get = matches!(request.as_bytes().get(8..10), Some([b'2', b'1']));
+    request == WIDE || (is_get && matches!(part, Part::Questions))
+}
+
+/// One replica is asked what a round answers of a client next: the requests of a part that are whole, up to one that is
+/// the last. Whether there was one.
 fn ask<S: Alter + Drop>(
     alloc: Global,
     single: &mut Replica<S>,
     client: &mut Client,
-    last: bool,
+    part: Part,
 ) -> bool {
     let mut any = false;
     for at in client.taken..REQUESTS {
         let request = client.asked[at];
         let end = client.end.saturating_add(request.len() / 2);
-        if end > client.came || is_last(request) != last {
+        if end > client.came || !is_of(part, request) {
             return any;
         }
         let (reply, _) = replies(alloc, single, Bytes::of(&[request]).bytes());
@@ -94,7 +113,8 @@ fn ask<S: Alter + Drop>(
         client.taken = at + 1;
         client.end = end;
         any = true;
-        if last {
+        if is_last(part, request) {
+            client.is_over = true;
             return any;
         }
     }
@@ -114,8 +134,8 @@ fn move_bytes(host: &mut Host, number: u64, clients: &mut [Client], most: usize,
     }
 }
 
-/// A round of two clients, for which the one replica is asked too: first questions, then changes, and then the
-/// questions behind them.
+/// A round of two clients, for which the one replica is asked too: first questions, then changes, and then what stands
+/// behind them.
 fn round_of<S: Alter + Drop, T: Alter + Drop>(
     alloc: Global,
     host: &mut Host,
@@ -125,30 +145,30 @@ fn round_of<S: Alter + Drop, T: Alter + Drop>(
     ready: [u64; 2],
 ) {
     round(alloc, host, replica, &ready);
-    for number in ready {
-        if let Some(client) = clients.get_mut(number as usize) {
-            client.led = ask(alloc, single, client, true);
+    for client in clients.iter_mut() {
+        client.is_over = false;
+    }
+    for part in [Part::Questions, Part::Changes, Part::Rest] {
+        for number in ready {
+            if let Some(client) = clients.get_mut(number as usize) {
+                ask_part(alloc, single, client, part);
+            }
         }
     }
-    ask_behind(alloc, single, clients, ready, false);
-    ask_behind(alloc, single, clients, ready, true);
 }
 
-/// Of those whose first request was a change, the changes, or the requests behind them.
-fn ask_behind<S: Alter + Drop>(
+/// The changes of a client are answered with those of others where it does not begin with questions.
+fn ask_part<S: Alter + Drop>(
     alloc: Global,
     single: &mut Replica<S>,
-    clients: &mut [Client],
-    ready: [u64; 2],
-    last: bool,
+    client: &mut Client,
+    part: Part,
 ) {
-    for number in ready {
-        if let Some(client) = clients.get_mut(number as usize)
-            && !client.led
-        {
-            ask(alloc, single, client, last);
-        }
+    if client.is_over || (client.led && matches!(part, Part::Changes)) {
+        return;
     }
+    let any = ask(alloc, single, client, part);
+    client.led = any && matches!(part, Part::Questions);
 }
 
 /// One step: bytes of a client come, or bytes leave to it, or there is a round of two.

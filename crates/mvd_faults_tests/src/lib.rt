@@ -38,3 +38,5 @@ mod stream_ways;
 mod streams;
 #[cfg(test)]
 mod tokens;
+#[cfg(test)]
+mod turns;

@@ -1,5 +1,5 @@
 -- The frames of one connection, taken one by one.
-use Rattle.std.proofs.Common.{◌≡◌, ◌⊎◌, inl, inr, ◌==◌, Bool, true, false, List, [], ◌∷◌, ◌++◌, map, Some, None, Result, Ok, cond, Option, refl, sym, ap, ◌∙◌, subst, subst₂, append_assoc, append-nil, ap₂}
+use Rattle.std.proofs.Common.{◌≡◌, ℕ, ◌⊎◌, inl, inr, ◌==◌, Bool, true, false, List, [], ◌∷◌, ◌++◌, map, Some, None, Result, Ok, cond, Option, refl, sym, ap, ◌∙◌, subst, subst₂, append_assoc, append-nil, ap₂}
 use Rattle.std.proofs.lemmas.List.{map-append}
 use Rattle.mvd_dots.specs.declared.refusals.Refusal.{Refusal}
 use Rattle.mvd_wire.specs.declared.request.Request.{Request}
@@ -8,7 +8,7 @@ use Rattle.mvd_conn.specs.Guard.{IsShown, may_come}
 use Rattle.mvd_conn.specs.declared.guard.Guard.{Guard}
 use Rattle.mvd_conn.specs.declared.guard.Guard.TheVariants.{Asks, Knows, Left}
 use Rattle.mvd_conn.proofs.Guarded.{gives_may, gives_shown}
-use Rattle.mvd_conn.specs.History.{Gives, History, NextTaken, Over, Stops, Waits, after_next, due, is_held_up, next_of, over, released, stepped, stopped, taking}
+use Rattle.mvd_conn.specs.History.{Gives, History, NextTaken, Over, Stops, Waits, after_next, due, expected, is_held_up, next_of, over, released, stepped, stopped, taking}
 use Rattle.mvd_host.specs.Course.{MayGoOn, NoneMoved, asked_by}
 use Rattle.mvd_host.specs.Taking.{HasNoNext, TakesOn}
 
@@ -112,6 +112,18 @@ took_request old new one r is = record { frames = one.frame ∷ []; taken = one.
 
 pub took_fault : (old new : History) (one : TookOne old new) → TakesOn [] (asked_by new.guard one.frame ∷ []) old new
 took_fault old new one = record { frames = one.frame ∷ []; taken = one.taken; asked = refl; answers = one.answers; moved = one.moved; shown = one.shown; goes_on = inr one.goes_on }
+
+-- what the last reply may bring was told
+pub on_expected : (old mid new : History) (most : ℕ) (rs : List Request) (faulty : List (Result Request Refusal)) → new ≡ expected mid most → TakesOn rs faulty old mid → TakesOn rs faulty old new
+on_expected old mid new most rs faulty is on = subst (TakesOn rs faulty old) (sym is) (record {
+  frames = on.frames;
+  taken = on.taken;
+  asked = on.asked;
+  answers = on.answers;
+  moved = record { came = on.moved.came; source = on.moved.source; left = on.moved.left; failed = on.moved.failed; guard = on.moved.guard };
+  shown = on.shown;
+  goes_on = on.goes_on;
+})
 
 -- the guard is the same
 same_guard : (old mid new : History) (rs : List Request) (faulty : List (Result Request Refusal)) (one : TakesOn rs faulty old mid) → new.guard ≡ mid.guard → map (asked_by new.guard) one.frames ≡ map (λ r. Ok r) rs ++ faulty

@@ -3,7 +3,7 @@ use Rattle.std.proofs.Common.{◌≡◌, ◌≢◌, ◌⊎◌, ◌∙◌, ◌-�
 use Rattle.std.proofs.lemmas.Bool.Decides.{nat_tests}
 use Rattle.mvd_wire.specs.declared.ending.Ending.{Ending}
 use Rattle.mvd_wire.specs.declared.ending.Ending.TheVariants as ending
-use Rattle.mvd_conn.specs.History.{Gives, History, NextTaken, Over, Stops, Waits, after_next, due, ends_long, is_held_up, next_of, over, owed, owed_by, released, stepped, stopped, waits_most}
+use Rattle.mvd_conn.specs.History.{Gives, History, NextTaken, Over, Stops, Waits, after_next, due, is_held_up, next_of, over, owes, released, stepped, stopped, waits_most}
 use Rattle.mvd_host.specs.Hosts.{IfClient}
 use Rattle.mvd_host.specs.Round.{IsIdle}
 use Rattle.mvd_host.specs.Taking.{HasNoNext}
@@ -55,18 +55,18 @@ module _ (h : History) (answered : length h.answers ≡ length h.taken) where
   none_due : due h ≡ 0
   none_due = let zero : length h.taken - length h.answers ≡ 0 = omega (arith, answered) in zero
 
-  none_owed : length h.waits + owed h ≡ length h.waits
-  none_owed = let none : owed h ≡ 0 = ap (owed_by (ends_long h.taken)) none_due in omega (arith, none)
+  none_owed : length h.waits + owes h ≡ length h.waits
+  none_owed = let none : owes h ≡ 0 = ap (λ n. if n == 0 then 0 else h.behind + h.brings) none_due in omega (arith, none)
 
   held_why : is_held_up h ≡ true → (h.last ≢ None) ⊎ (h.failed ≡ true) ⊎ (262144 ≤ length h.waits)
-  held_why up = elim (either (is_some h.last) h.failed (nat_le waits_most (length h.waits + owed h)) up) [
+  held_why up = elim (either (is_some h.last) h.failed (nat_le waits_most (length h.waits + owes h)) up) [
     | inl ended ↦ inl (some_end h.last ended)
     | inr (inl failed) ↦ inr (inl failed)
     | inr (inr much) ↦ inr (inr (waits_much (length h.waits) (sym (ap (nat_le waits_most) none_owed) ∙ much)))
   ]
 
   why_held : (h.last ≢ None) ⊎ (h.failed ≡ true) ⊎ (262144 ≤ length h.waits) → is_held_up h ≡ true
-  why_held why = any_of (is_some h.last) h.failed (nat_le waits_most (length h.waits + owed h)) (elim why [
+  why_held why = any_of (is_some h.last) h.failed (nat_le waits_most (length h.waits + owes h)) (elim why [
     | inl ended ↦ inl (is_ended h.last ended)
     | inr (inl failed) ↦ inr (inl failed)
     | inr (inr much) ↦ inr (inr (ap (nat_le waits_most) none_owed ∙ much_waits (length h.waits) much))

@@ -16,4 +16,5 @@ pub mod Remembered
 pub mod Gathered
 pub mod Noting
 pub mod Weights
+pub mod Foreseen
 pub mod Within

@@ -5,6 +5,7 @@
 mod arranging;
 mod at_hand;
 mod feed;
+mod foreseeing;
 mod front;
 mod host;
 pub mod laws;

@@ -51,6 +51,7 @@ impl Host {
             clients,
             requests,
             faults,
+            ..
         } = taken;
         replica.stands();
         match feed.answer(replica, requests, tally) {

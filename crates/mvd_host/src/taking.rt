@@ -10,6 +10,7 @@ ghost use Rattle.mvd_conn.specs.History.{History, after_next, released};
 ghost use Rattle.mvd_host.specs.Course.{asked_by};
 
 use crate::arranging::arranged;
+use crate::foreseeing::{given_by, may_follow, reply_most};
 use crate::weighing::{WEIGHT_MAX, waits, weight};
 use mvd_conn::Connection;
 use mvd_dots::Refusal;
@@ -30,6 +31,8 @@ pub(crate) struct Taken {
     pub(crate) clients: Vec<u64>,
     pub(crate) requests: Vec<Request>,
     pub(crate) faults: Vec<(u64, Refusal)>,
+    /// How many of them are gets that follow changes of their own clients.
+    following: u32,
 }
 
 impl Taken {
@@ -52,6 +55,7 @@ impl Taken {
             clients,
             requests,
             faults: Vec::new(alloc),
+            following: 0,
         }
     }
 
@@ -79,13 +83,15 @@ impl Taken {
         self.faults.reserve(1)
     }
 
-    /// Takes the next frame of a client, where there is one, and counts what it weighs. Whether another may follow: not
-    /// after one that is no request.
+    /// Takes the next frame of a client, where there is one, and counts what it weighs, and what its change may add to a
+    /// state. Its connection is told what the reply may bring. Whether another may follow: not after one that is no
+    /// request, nor after a get that follows changes of this client where many of this round do so.
     fn take_one(
         &mut self,
         alloc: Global,
         site: &Site,
         weighed: &mut u64,
+        given: &mut u64,
         client: u64,
         connection: &mut Connection,
     ) -> Result<bool, Refusal>
@@ -106,9 +112,13 @@ impl Taken {
         match request_in(alloc, connection) {
             Ok(request) => {
                 *weighed = weighed.saturating_add(weight(site, &request));
+                let most = reply_most(site, *given, &request, connection);
+                connection.expects(most);
+                let more = may_follow(&mut self.following, *given, &request);
+                *given = given.saturating_add(given_by(&request, connection));
                 self.clients.push_reserved(client);
                 self.requests.push_reserved(request);
-                Ok(true)
+                Ok(more)
             }
             Err(refusal) => {
                 self.faults.push_reserved((client, refusal));
@@ -134,12 +144,13 @@ impl Taken {
         ensures end { OnOk result (EndsTaking connection.new self.old self.new ⊎ (4194304 ≤ weighed.new)) }
         ensures weighed { IsWeighed site.now.states self.new.requests.items weighed.new }
     {
+        let mut given: u64 = 0;
         for _frame in 0..FRAMES_MAX {
             if waits(alloc, site, *weighed, connection) {
                 return Ok(());
             }
             self.make_room()?;
-            if !self.take_one(alloc, site, weighed, client, connection)? {
+            if !self.take_one(alloc, site, weighed, &mut given, client, connection)? {
                 return Ok(());
             }
         }

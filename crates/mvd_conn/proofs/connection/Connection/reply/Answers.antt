@@ -5,9 +5,7 @@ use Rattle.mvd_wire.specs.Replies.{reply_bytes}
 use Rattle.mvd_wire.proofs.Laws.{ok_is}
 use Rattle.mvd_conn.specs.History.{History, frame_most, replied}
 use Rattle.mvd_conn.proofs.LengthLemmas.{sent_fits}
-use Rattle.mvd_conn.proofs.connection.Connection.reply.Goals.{else-self-via-else-self, else-self-via-then-self+else-self-eq1}
-use Rattle.mvd_conn.proofs.connection.Connection.reply.Goals.{else-self-via-then-self+then-self-eq1+in-Err-1}
-use Rattle.mvd_conn.proofs.connection.Connection.reply.Goals.{else-self-via-then-self+then-self-eq1+in-Ok+else-queue}
+use Rattle.mvd_conn.proofs.connection.Connection.reply.Goals.{in_default-2-via-in-Err-1, in_default-2-via-in-Ok+else-queue}
 use Rattle.mvd_conn.proofs.connection.Connection.reply.Goals as goal
 
 pub queue-requires-clause-few : goal.queue-requires-clause-few
@@ -23,11 +21,9 @@ returns-in-Some c =
 
 pub returns-2 : goal.returns-2
 returns-2 c =
-    let same : c.else-self.self ≡ c.args.self.now = elim c.else-self.branch [
-      | else-self-via-else-self w ↦ w.self-is
-      | else-self-via-then-self+else-self-eq1 w ↦ w.self-is
-      | else-self-via-then-self+then-self-eq1+in-Err-1 w ↦ w.self-is
-      | else-self-via-then-self+then-self-eq1+in-Ok+else-queue w ↦ w.self-is ∙ w.queue.ensures.no w.if-queue.false
+    let same : c.in_default-2.self ≡ c.args.self.now = elim c.in_default-2.branch [
+      | in_default-2-via-in-Err-1 w ↦ w.self-is
+      | in_default-2-via-in-Ok+else-queue w ↦ w.self-is ∙ w.queue.ensures.no w.if-queue.false
     ] in
     let after = c.queue_short-2.ensures ∙ ap (λ (h : History). replied h c.bytes-2.result.now) same ∙ ap (λ (t : List ℕ). replied c.args.self.now t) (c.bytes-2.ensures ∙ c.refused.ensures) in
     (Refused Memory, inr (c.in_default.ensures, refl), after)

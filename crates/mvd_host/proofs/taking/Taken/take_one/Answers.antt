@@ -2,7 +2,7 @@ use Rattle.std.proofs.Common.{◌≡◌, ◌∷◌, [], Bool, true, false, refl,
 use Rattle.mvd_conn.specs.History.{History, after_next}
 use Rattle.mvd_host.specs.Course.{asked_by}
 use Rattle.mvd_host.specs.Taking.{TakesOn}
-use Rattle.mvd_host.proofs.Frames.{TookOne, idle_after, took_fault, took_none, took_nothing, took_one, took_request}
+use Rattle.mvd_host.proofs.Frames.{TookOne, idle_after, on_expected, took_fault, took_none, took_nothing, took_one, took_request}
 use Rattle.mvd_host.proofs.Holding.{holds_fault, holds_request, holds_same, kept_nothing}
 use Rattle.mvd_host.proofs.Weights.{weighed_more}
 use Rattle.mvd_host.proofs.taking.Taken.take_one.Goals as goal
@@ -29,8 +29,9 @@ returns-in-Ok-clause-took c =
     record {
       requests = c.in-Ok.request ∷ [];
       faulty = [];
-      conn = took_request c.args.connection.now c.next.new.self one c.in-Ok.request (c.in-Ok.ensures one.frame one.hand);
-      holds = λ asked faults holds. holds_request asked faults c.args.self.now (record { clients = c.push_reserved.new.self; requests = c.push_reserved-in-Ok.new.self; faults = c.args.self.now.faults }) c.args.client c.in-Ok.request
+      conn = on_expected c.args.connection.now c.next.new.self c.expects.new.self c.reply_most-most.result (c.in-Ok.request ∷ []) [] c.expects.ensures
+          (took_request c.args.connection.now c.next.new.self one c.in-Ok.request (c.in-Ok.ensures one.frame one.hand));
+      holds = λ asked faults holds. holds_request asked faults c.args.self.now (record { clients = c.push_reserved.new.self; requests = c.push_reserved-in-Ok.new.self; faults = c.args.self.now.faults; following = c.may_follow-more.new.following }) c.args.client c.in-Ok.request
           c.push_reserved.ensures.items c.push_reserved-in-Ok.ensures.items refl holds;
     }
 
@@ -42,8 +43,9 @@ returns-in-Ok-clause-more c =
       took = record {
         requests = c.in-Ok.request ∷ [];
         faulty = [];
-        conn = took_request c.args.connection.now c.next.new.self one c.in-Ok.request (c.in-Ok.ensures one.frame one.hand);
-        holds = λ asked faults holds. holds_request asked faults c.args.self.now (record { clients = c.push_reserved.new.self; requests = c.push_reserved-in-Ok.new.self; faults = c.args.self.now.faults }) c.args.client c.in-Ok.request
+        conn = on_expected c.args.connection.now c.next.new.self c.expects.new.self c.reply_most-most.result (c.in-Ok.request ∷ []) [] c.expects.ensures
+            (took_request c.args.connection.now c.next.new.self one c.in-Ok.request (c.in-Ok.ensures one.frame one.hand));
+        holds = λ asked faults holds. holds_request asked faults c.args.self.now (record { clients = c.push_reserved.new.self; requests = c.push_reserved-in-Ok.new.self; faults = c.args.self.now.faults; following = c.may_follow-more.new.following }) c.args.client c.in-Ok.request
             c.push_reserved.ensures.items c.push_reserved-in-Ok.ensures.items refl holds;
       };
       none = refl;
@@ -58,7 +60,7 @@ returns-in-Err-clause-took c =
       requests = [];
       faulty = asked_by c.next.new.self.guard one.frame ∷ [];
       conn = took_fault c.args.connection.now c.next.new.self one;
-      holds = λ asked faults holds. holds_fault asked faults c.args.self.now (record { clients = c.args.self.now.clients; requests = c.args.self.now.requests; faults = c.push_reserved-in-Err.new.self }) c.args.client (asked_by c.next.new.self.guard one.frame) c.in-Err.refusal
+      holds = λ asked faults holds. holds_fault asked faults c.args.self.now (record { clients = c.args.self.now.clients; requests = c.args.self.now.requests; faults = c.push_reserved-in-Err.new.self; following = c.args.self.now.following }) c.args.client (asked_by c.next.new.self.guard one.frame) c.in-Err.refusal
           refl refl c.push_reserved-in-Err.ensures.items (c.in-Err.ensures one.frame one.hand) holds;
     }
 

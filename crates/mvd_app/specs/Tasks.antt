@@ -105,7 +105,7 @@ module _ {S : Type 0} {g : Ghosts S} where
     pub valid : AllByRecursion IsValidTurn (turns_asked exchanges)
 
 module _ {S : Type 0} {g : Ghosts S} {K I A T : Type 0} (k : SocketGhosts K I A T) where
-  -- A server ran, and this is how it ended: well, and then nobody but its own is left; or with its fault, and where it
+  -- A server ran, and this is how it ended: well, and then nobody is left; or with its fault, and where it
   -- could not listen it did nothing
   pub record ServesTo (passes : Option (List Pass)) (names : Named) (sockets : K) (old : Replica S g) (sockets' : K)
       (new : Replica S g) (result : Result (Unit {0}) Stop) : Type 0 where

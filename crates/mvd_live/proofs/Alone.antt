@@ -1,5 +1,5 @@
 -- A session of two sides to which nobody else writes leaves the join on both.
-use Rattle.std.proofs.Common.{◌≡◌, ◌⊎◌, inl, inr, ℕ, true, false, cond, List, [], ◌∷◌, ◌++◌, refl, sym, ap, subst, ◌∙◌, arith, Some, None, Option, append-nil, append_assoc}
+use Rattle.std.proofs.Common.{◌≡◌, ◌⊎◌, inl, inr, ℕ, true, false, cond, List, [], ◌∷◌, ◌++◌, refl, sym, ap, subst, ◌∙◌, arith, Some, None, Option}
 use Rattle.std.specs.Prelude.{Contains, Err, Ok, Result, unwrap_or}
 use Rattle.std.specs.Cmp.{Equal-is}
 use Rattle.std.specs.Cmp.Lexicographic.{nat_list_cmp_total, slice_cmp}
@@ -29,6 +29,7 @@ use Rattle.mvd_live.specs.Alone.{AllPushAlone, AreAlone, HoldsStill, SideAlone, 
 use Rattle.mvd_live.specs.Few.{AsksFew}
 use Rattle.mvd_live.specs.Lives.{WasHeld}
 use Rattle.mvd_live.specs.Runs.{StartsRun, TakesLeg, Leg, RunsLegs, Standing, all_locals, all_peers}
+use Rattle.mvd_live.proofs.Gathered.{one_last}
 use Rattle.mvd_live.proofs.FewWhole.{asks_few}
 use Rattle.mvd_live.proofs.Runner.{run_more, run_none}
 use Rattle.mvd_live.proofs.Whole.{given_so, grown, lives}
@@ -143,14 +144,6 @@ module _ (key : Key) (P Q : State → Type 0) (joins : (x s : State) → P x →
 
 -- ---- all windows
 
-locals_more : (done : List Leg) (leg : Leg) → all_locals (done ++ leg ∷ []) ≡ all_locals done ++ leg.locals
-locals_more [] leg = append-nil leg.locals
-locals_more (d ∷ done) leg = ap (λ ms. d.locals ++ ms) (locals_more done leg) ∙ sym (append_assoc d.locals (all_locals done) leg.locals)
-
-peers_more : (done : List Leg) (leg : Leg) → all_peers (done ++ leg ∷ []) ≡ all_peers done ++ leg.peers
-peers_more [] leg = append-nil leg.peers
-peers_more (d ∷ done) leg = ap (λ ms. d.peers ++ ms) (peers_more done leg) ∙ sym (append_assoc d.peers (all_peers done) leg.peers)
-
 both_so : (P : State → Type 0) (key : Key) (before these all : List States) → all ≡ before ++ these → AllSo P key before → AllSo P key these → AllSo P key all
 both_so P key before these all is p q held c = elim (Contains-append_cases before these held (subst (λ ms. Contains ms held) is c)) [ inl old ↦ p held old | inr new ↦ q held new ]
 
@@ -179,8 +172,8 @@ module _ (number : Option ℕ) (questions : ℕ) (most : Two ℕ ℕ) (old : Sta
       let p = alone_keeps key Mine Theirs (mine_joins a b va vb) (all_peers done) is.theirs leg.asks.local leg.mine mid.local leg.after.local leg.locals told.0 here is.local in
       let q = alone_keeps key Theirs Mine (theirs_joins a b va vb) (all_locals done) is.mine leg.asks.peer leg.theirs mid.peer leg.after.peer leg.peers told.1 there is.peer in
       record {
-        mine = both_so Mine key (all_locals done) leg.locals (all_locals (done ++ leg ∷ [])) (locals_more done leg) is.mine p.0;
-        theirs = both_so Theirs key (all_peers done) leg.peers (all_peers (done ++ leg ∷ [])) (peers_more done leg) is.theirs q.0;
+        mine = both_so Mine key (all_locals done) leg.locals (all_locals (done ++ leg ∷ [])) (one_last (λ (leg : Leg). leg.locals) done leg) is.mine p.0;
+        theirs = both_so Theirs key (all_peers done) leg.peers (all_peers (done ++ leg ∷ [])) (one_last (λ (leg : Leg). leg.peers) done leg) is.theirs q.0;
         local = p.1;
         peer = q.1;
       }

@@ -257,14 +257,19 @@ own_all n [] [] e = (refl, refl)
 own_all n [] (q ∷ requests) e = absurd (cc)
 own_all n (t ∷ ts) requests e = own_more n t.0 t.1.asked t.1.reply (own n ts) (site_turns n ts) requests (λ later is. own_all n ts later is) e
 
+-- WHAT A HOST TELLS A CLIENT of requests
+pub host_at_hand : (n : ℕ) (turns : List (ℕ × Turn)) (old new : SiteValue) (requests : List Request) → AreHeld old.states → ServesAllFrom old new (turns_of turns) → asked_by_turns (own n turns) ≡ all_ok requests →
+    (moments : List States) × AnswersAmong old.config requests (told_by_turns (own n turns)) old.states moments new.states
+host_at_hand n turns old new requests form all asked =
+    let here : AsksAndTells (site_turns n turns) (own n turns) requests = own_all n turns requests asked in
+    let among = turns_among old.config (site_turns n turns) old.states new.states form (host_answers n turns old new form all) in
+    (among.0, subst (λ qs. AnswersAmong old.config qs (told_by_turns (own n turns)) old.states among.0 new.states) here.0 (subst (λ rs. AnswersAmong old.config (own_requests (site_turns n turns)) rs old.states among.0 new.states) here.1 among.1))
+
 -- WHAT A HOST QUEUED FOR A CLIENT whose frames asked windows
 pub host_tells : (n : ℕ) (turns : List (ℕ × Turn)) (old new : SiteValue) (answers : List (List ℕ)) (windows : List Window) → AreHeld old.states → ServesAllFrom old new (turns_of turns) → AreQueued (told_by_turns (own n turns)) answers →
     asked_by_turns (own n turns) ≡ all_ok (flat_map requests_of windows) → TellsWindows old.config windows (concat answers) old.states new.states
 host_tells n turns old new answers windows form all told_all asked =
     let requests = flat_map requests_of windows in
-    let here : AsksAndTells (site_turns n turns) (own n turns) requests = own_all n turns requests asked in
-    let among = turns_among old.config (site_turns n turns) old.states new.states form (host_answers n turns old new form all) in
-    let told : AnswersAmong old.config requests (told_by_turns (own n turns)) old.states among.0 new.states =
-    subst (λ qs. AnswersAmong old.config qs (told_by_turns (own n turns)) old.states among.0 new.states) here.0 (subst (λ rs. AnswersAmong old.config (own_requests (site_turns n turns)) rs old.states among.0 new.states) here.1 among.1) in
-    let queued = requeued old.config requests (told_by_turns (own n turns)) answers old.states new.states among.0 (windows_ask windows) told told_all (own_fits n turns old new form all) in
+    let among = host_at_hand n turns old new requests form all asked in
+    let queued = requeued old.config requests (told_by_turns (own n turns)) answers old.states new.states among.0 (windows_ask windows) among.1 told_all (own_fits n turns old new form all) in
     windows_told old.config windows queued.0 (concat answers) old.states new.states among.0 form queued.2 queued.1

@@ -1,3 +1,4 @@
+pub mod AtHand
 pub mod Some
 pub mod Moments
 pub mod Heard
@@ -21,6 +22,7 @@ pub mod FewAgain
 pub mod FewWhole
 pub mod Written
 pub mod Spent
+pub mod Gathered
 pub mod Runner
 pub mod Answered
 pub mod Mailed

@@ -12,6 +12,7 @@ use Rattle.mvd_sync.specs.declared.report.SyncFault.{SyncFault}
 use Rattle.mvd_peer.specs.declared.window.Told.{Told}
 use Rattle.mvd_meet.specs.Meetings.{TakesBoth, HearsIf, MeetingBegins}
 use Rattle.mvd_meet.specs.declared.caller.Caller.{Caller}
+use Rattle.mvd_meet.specs.declared.near.Near.{Near}
 use Rattle.mvd_meet.specs.declared.stepping.Meeting.{Meeting}
 use Rattle.mvd_live.specs.Few.{HasAllThatDiffered, MailsFew, asked_local, asked_peer, questions_in, sent_local, sent_peer}
 use Rattle.mvd_live.specs.Lives.{IsGiven, Lives}
@@ -43,7 +44,7 @@ module _ (most : Two ℕ ℕ) where
     after = record { machine = mid.machine; local = local; peer = peer };
   }
 
-  leg_goes : (machine : Machining) (old : Waiting) (mid : Meeting) (mail : Mail) (near far : Caller) (local peer : States) (h : TakesBoth old.meeting mail.near mail.far mid near far (Ok tt)) → HasNext machine old.meeting.machine (Some old.step) → AreLive most old mail local peer
+  leg_goes : (machine : Machining) (old : Waiting) (mid : Meeting) (mail : Mail) (near : Near) (far : Caller) (local peer : States) (h : TakesBoth old.meeting mail.near mail.far mid near far (Ok tt)) → HasNext machine old.meeting.machine (Some old.step) → AreLive most old mail local peer
       → TakesLeg most (at_machine machine old) (leg_of old mid mail h.mine h.theirs local peer)
   leg_goes machine old mid mail near far local peer h next live = let came = both_answered old.meeting.machine mid.machine h.mine h.theirs next.asks.1 h.takes in record {
     next = asks_named machine old.meeting.machine old.step next;
@@ -53,10 +54,10 @@ module _ (most : Two ℕ ℕ) where
     takes = h.takes;
   }
 
-  pub hears_both : (began : Bool) (old mid : Meeting) (near far near' far' : Caller) (result : Result (Unit {0}) SyncFault) → began ≡ true → HearsIf began old near far mid near' far' result → TakesBoth old near far mid near' far' result
+  pub hears_both : (began : Bool) (old mid : Meeting) (near : Near) (far : Caller) (near' : Near) (far' : Caller) (result : Result (Unit {0}) SyncFault) → began ≡ true → HearsIf began old near far mid near' far' result → TakesBoth old near far mid near' far' result
   hears_both began old mid near far near' far' result is h = subst (λ b. HearsIf b old near far mid near' far' result) is h
 
-  pub begins_of : (began : Bool) (old mid : Meeting) (near far near' far' : Caller) (result : Result (Unit {0}) SyncFault) → began ≡ false → HearsIf began old near far mid near' far' result → MeetingBegins old near far mid near' far' result
+  pub begins_of : (began : Bool) (old mid : Meeting) (near : Near) (far : Caller) (near' : Near) (far' : Caller) (result : Result (Unit {0}) SyncFault) → began ≡ false → HearsIf began old near far mid near' far' result → MeetingBegins old near far mid near' far' result
   begins_of began old mid near far near' far' result is h = subst (λ b. HearsIf b old near far mid near' far' result) is h
 
   -- the windows of the steps of a session by mail, with which any further ones are a run

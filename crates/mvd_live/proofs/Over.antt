@@ -23,6 +23,7 @@ use Rattle.mvd_live.specs.Over.{AreAllGiven, LivesOver, most_over, standing_over
 use Rattle.mvd_live.specs.Runs.{Leg, RunsLegs, Standing, StartsRun, all_locals, all_peers}
 use Rattle.mvd_live.specs.Told.{LiveTells}
 use Rattle.mvd_live.proofs.FewWhole.{asks_few}
+use Rattle.mvd_live.proofs.Gathered.{one_between}
 use Rattle.mvd_live.proofs.Runner.{run_more, run_none}
 use Rattle.mvd_live.proofs.Whole.{given_so, lives}
 
@@ -138,23 +139,13 @@ module _ (number : Option ℕ) (questions : ℕ) (most : Two ℕ ℕ) (old : Sta
   all_given before (leg ∷ legs) mid new first run =
       let told = given_so number questions most old before mid begins first leg.asking leg.asks run.0.next in
       let later = all_given (before ++ leg ∷ []) legs leg.after new (run_more most before old mid leg begins.local begins.peer first run.0) run.1 in (
-        Each-weaker (WasHeld (all_peers before)) (WasHeld (all_peers before ++ all_peers (leg ∷ legs))) (held_more (all_peers before) (all_peers (leg ∷ legs))) leg.asks.local.pushes told.0,
-        Each-weaker (WasHeld (all_locals before)) (WasHeld (all_locals before ++ all_locals (leg ∷ legs))) (held_more (all_locals before) (all_locals (leg ∷ legs))) leg.asks.peer.pushes told.1,
-        subst (λ ms. AreAllGiven ms (all_peers before ++ all_peers (leg ∷ legs)) legs) (locals_shift before leg legs)
-            (subst (λ ms. AreAllGiven (all_locals (before ++ leg ∷ []) ++ all_locals legs) ms legs) (peers_shift before leg legs) later),
+        (
+          Each-weaker (WasHeld (all_peers before)) (WasHeld (all_peers before ++ all_peers (leg ∷ legs))) (held_more (all_peers before) (all_peers (leg ∷ legs))) leg.asks.local.pushes told.0,
+          Each-weaker (WasHeld (all_locals before)) (WasHeld (all_locals before ++ all_locals (leg ∷ legs))) (held_more (all_locals before) (all_locals (leg ∷ legs))) leg.asks.peer.pushes told.1,
+        ),
+        subst (λ ms. AreAllGiven ms (all_peers before ++ all_peers (leg ∷ legs)) legs) (one_between (λ (leg : Leg). leg.locals) before leg legs)
+            (subst (λ ms. AreAllGiven (all_locals (before ++ leg ∷ []) ++ all_locals legs) ms legs) (one_between (λ (leg : Leg). leg.peers) before leg legs) later),
       )
-    where
-      append_assoc : (xs ys zs : List States) → (xs ++ ys) ++ zs ≡ xs ++ (ys ++ zs)
-      append_assoc [] ys zs = refl
-      append_assoc (x ∷ xs) ys zs = ap (λ l. x ∷ l) (append_assoc xs ys zs)
-
-      locals_shift : (before : List Leg) (leg : Leg) (legs : List Leg) → all_locals (before ++ leg ∷ []) ++ all_locals legs ≡ all_locals before ++ all_locals (leg ∷ legs)
-      locals_shift [] leg legs = append_assoc leg.locals [] (all_locals legs)
-      locals_shift (x ∷ before) leg legs = append_assoc x.locals (all_locals (before ++ leg ∷ [])) (all_locals legs) ∙ ap (λ l. x.locals ++ l) (locals_shift before leg legs) ∙ sym (append_assoc x.locals (all_locals before) (all_locals (leg ∷ legs)))
-
-      peers_shift : (before : List Leg) (leg : Leg) (legs : List Leg) → all_peers (before ++ leg ∷ []) ++ all_peers legs ≡ all_peers before ++ all_peers (leg ∷ legs)
-      peers_shift [] leg legs = append_assoc leg.peers [] (all_peers legs)
-      peers_shift (x ∷ before) leg legs = append_assoc x.peers (all_peers (before ++ leg ∷ [])) (all_peers legs) ∙ ap (λ l. x.peers ++ l) (peers_shift before leg legs) ∙ sym (append_assoc x.peers (all_peers before) (all_peers (leg ∷ legs)))
 
 -- ---- the whole session
 

@@ -114,24 +114,24 @@ module _ {Q A : Type 0} (config : ConfigValue) (kind : ℕ) (as_reply : A → Re
 -- ---- what a session asks
 
 module _ (config : ConfigValue) where
-  node_right : (q : List ℕ) (before held : States) (a : Digests) → AreHeld before → Unit {0} → TrueReply config before (Node q) (as_digests a) held → TellsNode held q (Ok a)
+  pub node_right : (q : List ℕ) (before held : States) (a : Digests) → AreHeld before → Unit {0} → TrueReply config before (Node q) (as_digests a) held → TellsNode held q (Ok a)
   node_right q before held a form fits (is, same) = subst (λ m. TellsNode m q (Ok a)) (sym same) is
 
-  page_right : (q : PageQuestion) (before held : States) (a : PageValue) → AreHeld before → Unit {0} → TrueReply config before (Bucket q.0 q.1) (as_page a) held → PageTold held q (Ok a)
+  pub page_right : (q : PageQuestion) (before held : States) (a : PageValue) → AreHeld before → Unit {0} → TrueReply config before (Bucket q.0 q.1) (as_page a) held → PageTold held q (Ok a)
   page_right q before held a form fits (keys, more, same) = subst (λ m. PageTold m q (Ok a)) (sym same) (keys, more)
 
-  state_right : (q : Key) (before held : States) (a : State) → AreHeld before → Unit {0} → TrueReply config before (Get q) (as_state a) held → StateTold held q (Ok a)
+  pub state_right : (q : Key) (before held : States) (a : State) → AreHeld before → Unit {0} → TrueReply config before (Get q) (as_state a) held → StateTold held q (Ok a)
   state_right q before held a form fits (is, same) = subst (λ m. StateTold m q (Ok a)) (sym same) is
 
-  push_right : (q : Key × State) (before held : States) (a : Unit {0}) → AreHeld before → IsValid q.1 → TrueReply config before (Push q.0 q.1) (as_done a) held → TellsPush config.max_keys held q (Ok a)
+  pub push_right : (q : Key × State) (before held : States) (a : Unit {0}) → AreHeld before → IsValid q.1 → TrueReply config before (Push q.0 q.1) (as_done a) held → TellsPush config.max_keys held q (Ok a)
   push_right q before held a form valid (apart, is) =
       subst (λ x. Includes x q.1) (sym (ap (λ (m : States). state_at m q.0) is ∙ state-pushed before q.0 q.1)) (join_back (state_at before q.0) q.1 (valid_at before form q.0) valid apart)
 
-  push_refuses : (q : Key × State) (before held : States) (refusal : Refusal) → TrueReply config before (Push q.0 q.1) (Refused refusal) held → TellsPush config.max_keys held q (Err refusal)
+  pub push_refuses : (q : Key × State) (before held : States) (refusal : Refusal) → TrueReply config before (Push q.0 q.1) (Refused refusal) held → TellsPush config.max_keys held q (Err refusal)
   push_refuses q before held refusal (inl (why, same)) = subst (λ m. CannotTake config.max_keys m q.0 q.1 refusal) (sym same) why
   push_refuses q before held refusal (inr (broke, taken)) = subst (CannotTake config.max_keys held q.0 q.1) (sym broke) tt
 
-  each_fits : {Q : Type 0} (qs : List Q) → Each (λ _. Unit {0}) qs
+  pub each_fits : {Q : Type 0} (qs : List Q) → Each (λ _. Unit {0}) qs
   each_fits [] = tt
   each_fits (q ∷ qs) = (tt, each_fits qs)
 

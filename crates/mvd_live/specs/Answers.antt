@@ -1,5 +1,6 @@
--- What comes by mail of a site that answers many clients.
-use Rattle.std.specs.Prelude.{◌≡◌, ℕ, Bool, cond, List, [], ◌∷◌, Some, Ok}
+-- What comes of a site that answers many clients, by mail or at hand.
+use Rattle.std.specs.Prelude.{◌≡◌, ℕ, Bool, cond, List, [], ◌∷◌, Some, Ok, Result}
+use Rattle.mvd_dots.specs.declared.refusals.Refusal.{Refusal}
 use Rattle.mvd_wire.specs.Frames.{FrameValue, frame_at}
 use Rattle.mvd_wire.specs.Replies.{reply_of}
 use Rattle.mvd_wire.specs.Requests.{request_frame}
@@ -9,6 +10,7 @@ use Rattle.mvd_site.specs.Config.{ConfigValue}
 use Rattle.mvd_site.specs.Held.{AreHeld, States}
 use Rattle.mvd_peer.specs.Live.{Grows}
 use Rattle.mvd_remote.specs.Lines.{TrueReply}
+use Rattle.mvd_remote.specs.LinkWindows.{IsKeptOf}
 
 -- ONE SITE ANSWERS these requests in order, beside those of others: each has the reply of a faithful side, of what is
 -- held then. From one to the next others write, and what is held only grows. The moments are those behind the replies
@@ -24,6 +26,12 @@ abbrev pub AreReplyFrames : List Reply → List ℕ → List ℕ → Type 0
 AreReplyFrames [] bytes rest = bytes ≡ rest
 AreReplyFrames (r ∷ rs) bytes rest = (frame : FrameValue) × (next : List ℕ) × (frame_at bytes ≡ Ok (Some frame, next))
     × (reply_of frame.kind frame.payload ≡ Ok r) × AreReplyFrames rs next rest
+
+-- these replies are kept, but for states that are dropped behind those that are held at once
+abbrev pub AreKept : List Reply → List (Result Reply Refusal) → Type 0
+AreKept [] [] = Unit {0}
+AreKept (r ∷ rs) (kept ∷ more) = IsKeptOf (Ok r) kept × AreKept rs more
+AreKept rs kept = ⊥
 
 -- each request has a frame
 abbrev pub HaveFrames : List Request → Type 0

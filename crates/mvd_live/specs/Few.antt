@@ -13,8 +13,9 @@ use Rattle.mvd_sync.specs.Tellings.{states_told}
 use Rattle.mvd_sync.specs.declared.report.Side.TheVariants.{Local as AtLocal, Peer as AtPeer}
 use Rattle.mvd_peer.specs.declared.window.Told.{Told}
 use Rattle.mvd_meet.specs.Callers.{questions_at}
+use Rattle.mvd_meet.specs.Nears.{asked_near}
 use Rattle.mvd_live.specs.Mail.{Mail, Waiting, mail_at, waits_at}
-use Rattle.mvd_live.specs.Runs.{Leg, Standing}
+use Rattle.mvd_live.specs.Runs.{Leg, Standing, in_all}
 
 -- ---- the keys that count
 
@@ -30,12 +31,10 @@ questions_in w = length w.nodes + length w.pages + length w.gets + length w.push
 
 -- those to the local side, and those to the peer
 abbrev pub asked_local : List Leg → ℕ
-asked_local [] = 0
-asked_local (leg ∷ legs) = questions_in leg.asks.local + asked_local legs
+asked_local legs = in_all (λ (leg : Leg). questions_in leg.asks.local) legs
 
 abbrev pub asked_peer : List Leg → ℕ
-asked_peer [] = 0
-asked_peer (leg ∷ legs) = questions_in leg.asks.peer + asked_peer legs
+asked_peer legs = in_all (λ (leg : Leg). questions_in leg.asks.peer) legs
 
 -- a get was refused with 20
 abbrev pub HasLacked : Option Told → Type 0
@@ -62,12 +61,13 @@ pub record AsksFew (legs : List Leg) (next : Machining) (now : Standing) (keys :
 
 -- those that the steps of a session asked, the step among them that waits for its answers
 abbrev pub sent_local : Waiting → List (Mail × Waiting) → ℕ
-sent_local now [] = questions_in (asked now.step.local)
-sent_local now (leg ∷ legs) = questions_in (asked now.step.local) + sent_local leg.1 legs
+sent_local now legs =
+    questions_in (asked now.step.local)
+    + in_all (λ (leg : Mail × Waiting). questions_in (asked leg.1.step.local)) legs
 
 abbrev pub sent_peer : Waiting → List (Mail × Waiting) → ℕ
-sent_peer now [] = questions_in (asked now.step.peer)
-sent_peer now (leg ∷ legs) = questions_in (asked now.step.peer) + sent_peer leg.1 legs
+sent_peer now legs =
+    questions_in (asked now.step.peer) + in_all (λ (leg : Mail × Waiting). questions_in (asked leg.1.step.peer)) legs
 
 -- FEW WERE ASKED BY MAIL for the first time, and few again
 pub record MailsFew (now : Waiting) (legs : List (Mail × Waiting)) (keys : List Key) : Type 0 where
@@ -78,7 +78,7 @@ pub record MailsFew (now : Waiting) (legs : List (Mail × Waiting)) (keys : List
   pub peer : AreFew first.peer (waits_at now legs).peer keys
   pub little : IsLittle again.local (first.local + first.peer) × IsLittle again.peer (first.local + first.peer)
 
--- what either caller has counted is no more than that, with what it had counted before
+-- what either side has counted is no more than that, with what it had counted before
 pub record CountsSent (first : Mail) (now : Waiting) (legs : List (Mail × Waiting)) : Type 0 where
-  pub near : questions_at (mail_at first legs).near' ≤ questions_at first.near + sent_local now legs
+  pub near : asked_near (mail_at first legs).near' ≤ asked_near first.near + sent_local now legs
   pub far : questions_at (mail_at first legs).far' ≤ questions_at first.far + sent_peer now legs

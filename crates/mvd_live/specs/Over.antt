@@ -1,5 +1,5 @@
 -- What a session that asked two live sides itself, with no fault, has come to.
-use Rattle.std.specs.Prelude.{◌≡◌, ℕ, List, [], ◌∷◌, None}
+use Rattle.std.specs.Prelude.{◌≡◌, ℕ, List, None}
 use Rattle.mvd_keys.specs.Writes.{Key}
 use Rattle.mvd_site.specs.Held.{States}
 use Rattle.mvd_peer.specs.PushedStates.{Each}
@@ -21,9 +21,8 @@ most_over s at = two (s.local.most_keys at.local) (s.peer.most_keys at.peer)
 
 -- each state that was pushed is what the other side told of that key, at a moment of this session
 abbrev pub AreAllGiven : (locals peers : List States) → List Leg → Type 0
-AreAllGiven locals peers [] = Unit {0}
-AreAllGiven locals peers (leg ∷ legs) = Each (WasHeld peers) leg.asks.local.pushes
-    × Each (WasHeld locals) leg.asks.peer.pushes × AreAllGiven locals peers legs
+AreAllGiven locals peers legs = Each (λ (leg : Leg). Each (WasHeld peers) leg.asks.local.pushes
+    × Each (WasHeld locals) leg.asks.peer.pushes) legs
 
 -- A SESSION OF TWO LIVE SIDES, from its first question to its report, whoever writes to them meanwhile: it is a run of
 -- the machine, both sides are live still, of each key that the report does not leave both have what either had as it

@@ -1,5 +1,5 @@
 -- A session of two sides to which others write, one window after the other.
-use Rattle.std.specs.Prelude.{◌≡◌, ℕ, List, [], ◌∷◌, ◌++◌, Option, Ok}
+use Rattle.std.specs.Prelude.{◌≡◌, ◌+◌, ℕ, List, [], ◌∷◌, Option, Ok, flat_map}
 use Rattle.mvd_site.specs.Held.{AreHeld, States}
 use Rattle.mvd_peer.specs.Live.{Grows}
 use Rattle.mvd_peer.specs.Sides.{Two, two}
@@ -60,16 +60,29 @@ pub record IsLater (old new : Standing) : Type 0 where
   pub local : AreHeld new.local × Grows old.local new.local
   pub peer : AreHeld new.peer × Grows old.peer new.peer
 
+-- a session goes on by steps, each from where the one before it led, to where it may end
+abbrev pub LeadsTo : {S L : Type 0} → (S → L → Type 0) → (L → S) → (S → Type 0) → S → List L → Type 0
+LeadsTo Takes after Ends old [] = Ends old
+LeadsTo Takes after Ends old (step ∷ steps) = Takes old step × LeadsTo Takes after Ends (after step) steps
+
+-- where the last of them led
+abbrev pub led_to : {S L : Type 0} → (L → S) → S → List L → S
+led_to after old [] = old
+led_to after old (step ∷ steps) = led_to after (after step) steps
+
+-- so many in all of them
+abbrev pub in_all : {L : Type 0} → (L → ℕ) → List L → ℕ
+in_all count [] = 0
+in_all count (step ∷ steps) = count step + in_all count steps
+
 -- A RUN OF A SESSION beside other writers
 abbrev pub RunsLegs : Two ℕ ℕ → Standing → List Leg → Standing → Type 0
-RunsLegs most old [] new = IsLater old new
-RunsLegs most old (leg ∷ legs) new = TakesLeg most old leg × RunsLegs most leg.after legs new
+RunsLegs most old legs new =
+    LeadsTo (TakesLeg most) (λ (leg : Leg). leg.after) (λ (now : Standing). IsLater now new) old legs
 
 -- what the local side held at the moments of its answers, and what the peer did
 abbrev pub all_locals : List Leg → List States
-all_locals [] = []
-all_locals (leg ∷ legs) = leg.locals ++ all_locals legs
+all_locals legs = flat_map (λ (leg : Leg). leg.locals) legs
 
 abbrev pub all_peers : List Leg → List States
-all_peers [] = []
-all_peers (leg ∷ legs) = leg.peers ++ all_peers legs
+all_peers legs = flat_map (λ (leg : Leg). leg.peers) legs

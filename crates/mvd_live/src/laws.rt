@@ -33,20 +33,22 @@ ghost use Rattle.mvd_peer.specs.declared.window.Window.{Window};
 ghost use Rattle.mvd_peer.specs.declared.window.Told.{Told};
 ghost use Rattle.mvd_peer.specs.declared.window.Told.TheVariants.{Nodes, Pages, States as Gets};
 ghost use Rattle.mvd_live.specs.Alone.{AreAlone, JoinsAlone};
-ghost use Rattle.mvd_live.specs.Answers.{SiteAnswers, AnswersAmong, AreReplyFrames, HaveFrames, SiteTurn};
+ghost use Rattle.mvd_live.specs.Answers.{SiteAnswers, AnswersAmong, AreKept, AreReplyFrames, HaveFrames, SiteTurn};
 ghost use Rattle.mvd_live.specs.Answers.{own_replies, own_requests};
 ghost use Rattle.mvd_live.specs.Few.{AsksFew, CountsSent, HasAllThatDiffered, MailsFew, asked_local, asked_peer};
 ghost use Rattle.mvd_live.specs.Hosts.{TellsBetween, TellsWindows, site_turns};
 ghost use Rattle.mvd_live.specs.InWindows.{EndsOver, RanInWindows};
 ghost use Rattle.mvd_live.specs.Lives.{IsGiven, Lives};
 ghost use Rattle.mvd_meet.specs.declared.stepping.Meeting.{Meeting};
-ghost use Rattle.mvd_live.specs.Mail.{AreLive, AsksNoQuestion, IsLiveMail, KeepsCounts, Mail, MailBreaks, MailEnds};
-ghost use Rattle.mvd_live.specs.Mail.{MailSteps, Sits, Waiting};
+ghost use Rattle.mvd_live.specs.Mail.{AreLive, AsksNoQuestion, IsLiveAtHand, IsLiveMail, KeepsCounts, Mail, MailBreaks};
+ghost use Rattle.mvd_live.specs.Mail.{MailEnds, MailSteps, Sits, Waiting};
 ghost use Rattle.mvd_live.specs.Mail.{mail_locals, mail_peers, standing, waits_at};
 ghost use Rattle.mvd_meet.specs.Callers.{asked_in_window, asked_of_caller, came_at};
 ghost use Rattle.mvd_remote.specs.Remotes.{requests_of};
 ghost use Rattle.mvd_meet.specs.Meetings.{MeetingFails};
+ghost use Rattle.mvd_meet.specs.Nears.{asked_of_near, due_in_window, replies_at};
 ghost use Rattle.mvd_meet.specs.declared.caller.Caller.{Caller};
+ghost use Rattle.mvd_meet.specs.declared.near.Near.{Near};
 ghost use Rattle.mvd_live.specs.Over.{LivesOver};
 ghost use Rattle.mvd_live.specs.Runs.{GoesOnAsking, StartsRun, TakesLeg, Leg, RunsLegs, Standing};
 ghost use Rattle.mvd_live.specs.Runs.{all_locals, all_peers};
@@ -69,8 +71,8 @@ pub fn a_session_lives()
         → Lives most (all_locals legs) (all_peers legs) old new done.work }
 {}
 
-/// So it is of the session that a server runs, whose two sides are asked by mail, where what comes is live. And few
-/// questions are asked by its steps, which is as many as the two callers counted at the most.
+/// So it is of the session that a server runs, whose near side is asked at hand, and the far one by mail, where what
+/// comes is live. And few questions are asked by its steps, which is as many as the two sides counted at the most.
 pub fn a_session_by_mail_lives()
     ensures lives { (number : Option ℕ) (questions : ℕ) (most : Two ℕ ℕ) (begun : Meeting) (first last : Mail)
         (now : Waiting) (new : Standing) (legs : List (Mail × Waiting)) → Sits number questions begun first now
@@ -127,6 +129,17 @@ pub fn mail_of_a_site_is_live()
         × AnswersAmong config (own_requests turns) (own_replies turns) old moments new }
 {}
 
+/// So is what comes at hand: the replies of such a site as they are kept.
+pub fn replies_at_hand_are_live()
+    ensures answered { (window : Window) (near : Near) (config : ConfigValue) (replies : List Reply) (old new : States)
+        (moments : List States) → asked_of_near near ≡ Some (due_in_window window) → AreHeld old
+        → AreKept replies (replies_at near) → Each (λ pair. IsValid pair.1) (asked (Some window)).pushes
+        → AnswersAmong config (requests_of window) replies old moments new
+        → IsLiveAtHand config.max_keys (asked (Some window)) near old moments new }
+    ensures unasked { (most : ℕ) (near : Near) (old new : States) → asked_of_near near ≡ None → Grows old new
+        → IsLiveAtHand most no_question near old [] new }
+{}
+
 /// A host is a site that answers many: the turns of all its clients are answers of its site, one after the other, and
 /// from turn to turn what the site holds only grows. So those of one client are answers among those of others
 /// (`mail_of_a_site_is_live`).
@@ -134,6 +147,12 @@ pub fn a_host_answers_many<S: Alter>()
     ensures turns { (n : ℕ) (turns : List (ℕ × Turn)) (old new : HostMoment (Held S)) → AreHeld old.site.states
         → OneList turns (side_at (state S.Store) old) (side_at (state S.Store) new)
         → SiteAnswers old.site.config old.site.states (site_turns n turns) new.site.states }
+    // The replies of these turns to a client, as one at hand is told them, are such answers to its requests.
+    ensures at_hand { (n : ℕ) (turns : List (ℕ × Turn)) (old new : HostMoment (Held S)) (requests : List Request)
+        → AreHeld old.site.states → OneList turns (side_at (state S.Store) old) (side_at (state S.Store) new)
+        → map (λ turn. turn.asked) (own n turns) ≡ map (λ request. Ok request) requests → (moments : List States)
+        × AnswersAmong old.site.config requests (map (λ turn. turn.reply) (own n turns)) old.site.states moments
+        new.site.states }
     // The bytes that were queued for a client whose frames asked windows are the frames of such answers. Want of memory
     // stands in place of a reply for which there was none.
     ensures windows { (n : ℕ) (turns : List (ℕ × Turn)) (old new : HostMoment (Held S)) (h : History)

@@ -1,2 +1,4 @@
+pub mod Hearing
+pub mod Stepped
 pub mod Taking
 pub mod Turning

@@ -1,7 +1,10 @@
 pub mod Callers
+pub mod Inboxes
 pub mod Kept
+pub mod KeptInbox
 pub mod Loans
 pub mod Meetings
+pub mod Nears
 pub mod Posts
 pub mod Times
 pub mod Turns

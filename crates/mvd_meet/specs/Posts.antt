@@ -35,7 +35,7 @@ kind_of sort.Pages = 0xA8
 kind_of sort.States = 0xA1
 kind_of sort.Pushes = 0xA3
 
-abbrev is_sort_of_pushes : Sort → Bool
+abbrev pub is_sort_of_pushes : Sort → Bool
 is_sort_of_pushes sort.Pushes = true
 is_sort_of_pushes other = false
 

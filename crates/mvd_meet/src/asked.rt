@@ -1,4 +1,4 @@
-//! What is asked by mail.
+//! What is asked of a side.
 use mvd_remote::Frames;
 
 /// What a window asks for.
@@ -10,9 +10,16 @@ pub enum Sort {
     Pushes,
 }
 
-/// A window that left.
+/// A window that left by mail.
 #[derive(Drop)]
 pub struct Asked {
     pub(crate) sort: Sort,
     pub(crate) frames: Frames,
+}
+
+/// A window of so many requests that is asked at hand.
+#[derive(Clone, Copy)]
+pub struct Due {
+    pub(crate) sort: Sort,
+    pub(crate) count: usize,
 }

@@ -213,7 +213,7 @@ fn asked_by(alloc: Global, window: &Window) -> Result<Asked, Refusal>
 }
 
 /// What a window asks for.
-fn sort_of(window: &Window) -> Sort
+pub(crate) fn sort_of(window: &Window) -> Sort
     ensures { result ≡ sort_of window.now }
 {
     match window {

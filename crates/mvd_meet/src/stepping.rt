@@ -1,10 +1,12 @@
-//! A session of two sides that are asked by mail, step by step.
+//! A session of a side that is asked at hand and one that is asked by mail, step by step.
 ghost use Rattle.std.specs.Prelude.{◌≡◌, ◌≢◌, false, true, IfErr, IfOk, Ok, OnOk};
 ghost use Rattle.mvd_meet.specs.Callers.{has_all};
+ghost use Rattle.mvd_meet.specs.Nears.{near_has_all};
 ghost use Rattle.mvd_meet.specs.Meetings.{AskFails, AsksBoth, AsksNext, AsksPart, AsksUntil, EitherCannot};
 ghost use Rattle.mvd_meet.specs.Meetings.{MeetingFails, MeetingHears, MeetingSteps, OpensMeeting, ReportsOn};
 
 use crate::caller::Caller;
+use crate::near::Near;
 use mvd_sync::{MOST_QUESTIONS, Machine, Report, Step, SyncFault};
 use std::alloc::Global;
 
@@ -40,11 +42,11 @@ impl Meeting {
 
     /// Takes what came of both sides, once all came, and asks what is next. As long as something is due, it does
     /// nothing. Where it ends by a fault, it has asked no more than is next.
-    pub fn step(&mut self, near: &mut Caller, far: &mut Caller) -> Result<Course, SyncFault>
-        ensures waits { has_all near.old ≡ false → result ≡ Ok Course.Waits }
+    pub fn step(&mut self, near: &mut Near, far: &mut Caller) -> Result<Course, SyncFault>
+        ensures waits { near_has_all near.old ≡ false → result ≡ Ok Course.Waits }
         ensures waits_too { has_all far.old ≡ false → result ≡ Ok Course.Waits }
         // Where nothing is due, it does not wait.
-        ensures goes { has_all near.old ≡ true → has_all far.old ≡ true → result ≢ Ok Course.Waits }
+        ensures goes { near_has_all near.old ≡ true → has_all far.old ≡ true → result ≢ Ok Course.Waits }
         ensures steps { IfOk result (MeetingSteps self.old near.old far.old self.new near.new far.new) }
         ensures fails { IfErr result (MeetingFails self.old near.old far.old self.new near.new far.new) }
     {
@@ -56,7 +58,7 @@ impl Meeting {
     }
 
     /// Takes what both sides tell of what they were asked. At first nothing was.
-    fn hear(&mut self, near: &mut Caller, far: &mut Caller) -> Result<(), SyncFault>
+    fn hear(&mut self, near: &mut Near, far: &mut Caller) -> Result<(), SyncFault>
         ensures { MeetingHears self.old near.old far.old self.new near.new far.new result }
     {
         if !self.began {
@@ -69,7 +71,7 @@ impl Meeting {
     }
 
     /// Asks what is next.
-    fn ask(&mut self, near: &mut Caller, far: &mut Caller) -> Result<Course, SyncFault>
+    fn ask(&mut self, near: &mut Near, far: &mut Caller) -> Result<Course, SyncFault>
         ensures asks { IfOk result (AsksNext self.old near.old far.old self.new near.new far.new) }
         ensures part { IfErr result (AsksPart self.old near.old far.old self.new near.new far.new) }
         ensures ended { IfErr result (AskFails self.old near.old far.old) }
@@ -77,7 +79,7 @@ impl Meeting {
     {
         match self.machine.next()? {
             Some(step) => {
-                ask_both(&step, near, far)?;
+                ask_both(step, near, far)?;
                 Ok(Course::Asks)
             }
             None => Ok(Course::Done),
@@ -94,17 +96,18 @@ impl Meeting {
 }
 
 /// Asks each side what a step wants of it, the local one first.
-fn ask_both(step: &Step, near: &mut Caller, far: &mut Caller) -> Result<(), SyncFault>
-    ensures asks { OnOk result (AsksBoth step.now near.old far.old near.new far.new) }
-    ensures until { IfErr result (λ fault. AsksUntil step.now fault near.old far.old near.new far.new) }
+fn ask_both(step: Step, near: &mut Near, far: &mut Caller) -> Result<(), SyncFault>
+    ensures asks { OnOk result (AsksBoth step near.old far.old near.new far.new) }
+    ensures until { IfErr result (λ fault. AsksUntil step fault near.old far.old near.new far.new) }
     ensures ended { IfErr result (EitherCannot near.old far.old) }
 {
-    if let Some(window) = &step.local
+    let Step { local, peer } = step;
+    if let Some(window) = local
         && let Err(refusal) = near.ask(window)
     {
         return Err(SyncFault::Local(refusal));
     }
-    if let Some(window) = &step.peer
+    if let Some(window) = &peer
         && let Err(refusal) = far.ask(window)
     {
         return Err(SyncFault::Peer(refusal));

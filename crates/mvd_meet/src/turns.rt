@@ -3,6 +3,7 @@ ghost use Rattle.std.specs.Prelude.{◌≡◌, All, IfErr, IfOk, List, Option};
 ghost use Rattle.mvd_dots.specs.declared.refusals.Refusal.{Refusal as Cause};
 ghost use Rattle.mvd_remote.specs.LinkWindows.{IsOfKind, TakesEach};
 ghost use Rattle.mvd_remote.specs.Links.{Link};
+ghost use Rattle.mvd_meet.specs.Inboxes.{TellsReplies};
 ghost use Rattle.mvd_meet.specs.Posts.{EndsTurns, LeavesTurn, TellsBy, has_turns, kind_of};
 ghost use Rattle.mvd_meet.specs.Turns.{EndsWith, TurnsAt};
 
@@ -110,8 +111,9 @@ fn turn_in(none: Option<Refusal>, bytes: &[u8]) -> Result<&[u8], bool>
 /// What the replies to a window tell.
 pub fn told_in(alloc: Global, sort: Sort, replies: Vec<Result<Reply, Refusal>>) -> Told
     requires { All (IsOfKind (kind_of sort)) replies.items }
-    ensures { (nones : List (Option Cause)) (old new : Link) → TakesEach (kind_of sort) nones replies.items old new →
-        TellsBy sort nones old new result }
+    ensures turns { (nones : List (Option Cause)) (old new : Link) →
+        TakesEach (kind_of sort) nones replies.items old new → TellsBy sort nones old new result }
+    ensures told { TellsReplies sort replies.items result }
 {
     match sort {
         Sort::Nodes => match collect(alloc, replies) {

@@ -1,5 +1,5 @@
 -- All that is asked over HTTP is what the right of a known pass allows, all the while.
-use Rattle.std.proofs.Common.{◌≡◌, ◌∙◌, ◌⊎◌, ◌==◌, ◌<◌, ◌++◌, ℕ, suc, Bool, true, false, true≢false, cond, List, [], ◌∷◌, length, Option, Some, None, is_some, option_map, Result, Ok, Err, inl, inr, refl, sym, ap, subst, arith}
+use Rattle.std.proofs.Common.{◌≡◌, ◌∙◌, ◌⊎◌, ◌==◌, ◌<◌, ◌≤◌, ◌++◌, ℕ, suc, Bool, true, false, true≢false, cond, List, [], ◌∷◌, length, Option, Some, None, is_some, option_map, Result, Ok, Err, inl, inr, refl, sym, ap, subst, arith}
 use Rattle.std.proofs.lemmas.Bool.Decides.{nat_tests}
 use Rattle.std.specs.Str.{bytes_eq}
 use Rattle.std.specs.BTreeMap.{insert_entry, is_at}
@@ -19,13 +19,12 @@ use Rattle.mvd_dots.specs.declared.refusals.Refusal.{Refusal}
 use Rattle.mvd_dots.specs.declared.refusals.Refusal.TheVariants.{Broken, Memory}
 use Rattle.mvd_host.proofs.Own.{own-append, own-other, own-same}
 use Rattle.mvd_host.proofs.Within.{within}
-use Rattle.mvd_host.specs.AtHand.{AtHandValue, TakesFirst, asked_by_one, asks_of, first_at_hand}
+use Rattle.mvd_host.specs.AtHand.{AtHandValue, TakesFirst, asked_by_one, asks_of}
 use Rattle.mvd_host.specs.Course.{own}
 use Rattle.mvd_host.specs.Feeds.{FeedValue}
 use Rattle.mvd_host.specs.Hosts.{HostValue}
 use Rattle.mvd_host.specs.Round.{AnswersAtHand}
 use Rattle.mvd_http.specs.Guard.{Named}
-use Rattle.mvd_http.specs.declared.fields.Answer.{Answer}
 use Rattle.mvd_http.specs.declared.fields.Content.{Content}
 use Rattle.mvd_http.specs.declared.fields.Content.TheVariants as content
 use Rattle.mvd_http.specs.declared.question.Question.{Question}
@@ -34,15 +33,15 @@ use Rattle.mvd_replica.specs.Turns.{Turn}
 use Rattle.mvd_server.proofs.Keyed.{found_at}
 use Rattle.mvd_server.proofs.Writing.{responded, told_ends}
 use Rattle.mvd_server.specs.Admitted.{Decides}
-use Rattle.mvd_server.specs.Batches.{BeginsBatch, HandsBatch, asked_if, asked_in, is_web_request}
-use Rattle.mvd_server.specs.Errands.{Asks as Taking, AsksAtHand, AsksNextOf, AsksOne, Desk, DoesPlan, Errand, Forgoes, IsBatchFor, KeepsWrites, RunsErrand, Stops, StopsIf, TakesIf, Tells, TellsAllLines, TellsBatch, TellsChange, TellsHealth, TellsMany, TellsNews, TellsOrWaits, batch_in, root_text}
+use Rattle.mvd_server.specs.Batches.{asked_if, asked_in, is_web_request}
+use Rattle.mvd_server.specs.Errands.{Asks as Taking, AsksAtHand, AsksOne, Desk, DoesPlan, Errand, Forgoes, IsBatchFor, KeepsWrites, RunsErrand, Stops, StopsIf, TakesIf, Tells, TellsChange, TellsHealth, TellsMany, TellsNews, TellsOrWaits, root_text}
 use Rattle.mvd_server.specs.Listings.{TellsListed}
 use Rattle.mvd_server.specs.Plans.{IsFreePlan, IsPlanFor, IsPlanIf, IsPlanOf, TellsMethods}
 use Rattle.mvd_server.specs.Questions.{TellsAsks, TellsBadLine, TellsText}
 use Rattle.mvd_server.specs.Responding.{AnswersWeb, RefusesWeb, TellsBody, json_answer}
 use Rattle.mvd_server.specs.Rounds.{IsAllowed, KnowsPass, with_round}
 use Rattle.mvd_server.specs.Since.{followed_in, since_told}
-use Rattle.mvd_server.specs.Talking.{Act, Attends, Begins, Calls, Comes, ComesByWeb, ComesOwn, DoesAct, Drops, Follows, Goes, GoesOwn, Hands, IsWriting, MayBeginWrites, Rotates, Talking, TurnsAway, TurnsBack, new_talking, web_in, with_host, with_web}
+use Rattle.mvd_server.specs.Talking.{Act, AsksOwn, Attends, Begins, Calls, Comes, ComesByWeb, ComesOwn, DoesAct, Drops, Follows, Goes, Hands, HearsOwn, IsWriting, Rotates, Talking, TurnsAway, TurnsBack, first_own, new_talking, web_in, with_host, with_web}
 use Rattle.mvd_server.specs.Wires.{GivesOut, SendsBy, TakesBy, TakesInput}
 use Rattle.mvd_server.specs.declared.batch.Batch.{Batch}
 use Rattle.mvd_server.specs.declared.gate.Plan.{Plan}
@@ -54,7 +53,7 @@ use Rattle.mvd_site.specs.Sites.{SiteValue}
 use Rattle.mvd_web.specs.Asked.{IsEntry, right_in, shown_by}
 use Rattle.mvd_web.specs.Inside.{web_of}
 use Rattle.mvd_web.specs.Rights.{may_ask}
-use Rattle.mvd_web.specs.Web.{EndsInput, Feeds, FeedsFront, LooksIf, RespondsTo, TakesRequest, WebValue, is_free, stopped_by}
+use Rattle.mvd_web.specs.Web.{EndsInput, FeedsFront, LooksIf, TakesRequest, WebValue, is_free, stopped_by}
 use Rattle.mvd_web.specs.declared.taken.Asked.{Asked}
 use Rattle.mvd_web.specs.declared.taken.Entry.{Entry}
 use Rattle.mvd_web.specs.declared.taken.Entry.TheVariants.{Open, Free, Preflight, Conditional, HostMissing, Stranger, NoToken}
@@ -349,8 +348,8 @@ module _ (Known : Pass → Type 0) (passes : Option (List Pass)) where
 
   -- what was asked in rounds, and what waits for one
   pub record HandMay (hand : AtHandValue) : Type 0 where
-    pub waits : (n : ℕ) → AllByRecursion May (own n hand.waits)
-    pub done : (n : ℕ) → AllByRecursion May (own n hand.done)
+    pub waits : (n : ℕ) → n < first_own → AllByRecursion May (own n hand.waits)
+    pub done : (n : ℕ) → n < first_own → AllByRecursion May (own n hand.done)
 
   pub record AreAllowed (t : Talking) : Type 0 where
     pub hand : HandMay t.hand
@@ -378,7 +377,16 @@ module _ (Known : Pass → Type 0) (passes : Option (List Pass)) where
 
   hand_more : (n : ℕ) (hand : AtHandValue) (requests : List Request) → AllByRecursion May requests → HandMay hand → HandMay (asked_by_one hand n requests)
   hand_more n hand requests may all = record {
-    waits = λ q. subst (AllByRecursion May) (sym (own-append q hand.waits (asks_of n requests))) (all_append May (own q hand.waits) (own q (asks_of n requests)) (all.waits q) (own_asks q n requests may));
+    waits = λ q low. subst (AllByRecursion May) (sym (own-append q hand.waits (asks_of n requests))) (all_append May (own q hand.waits) (own q (asks_of n requests)) (all.waits q low) (own_asks q n requests may));
+    done = all.done;
+  }
+
+  -- a session asks nothing as one of these
+  hand_own : (n : ℕ) (hand : AtHandValue) (requests : List Request) → first_own ≤ n → HandMay hand → HandMay (asked_by_one hand n requests)
+  hand_own n hand requests above all = record {
+    waits = λ q low.
+        let apart : (q == n) ≡ false = grind (arith, nat_tests, above, low) in
+        subst (AllByRecursion May) (sym (own-append q hand.waits (asks_of n requests))) (all_append May (own q hand.waits) (own q (asks_of n requests)) (all.waits q low) (subst (AllByRecursion May) (sym (own-other n q requests apart)) tt));
     done = all.done;
   }
 
@@ -391,12 +399,12 @@ module _ (Known : Pass → Type 0) (passes : Option (List Pass)) where
 
   hand_round : (turns : List (ℕ × Turn)) (old new : AtHandValue) → AnswersAtHand turns old new → HandMay old → HandMay new
   hand_round turns old new answers all = record {
-    waits = λ q. (parts q).1;
-    done = λ q. subst (AllByRecursion May) (sym (ap (own q) answers.done ∙ own-append q old.done answers.asks)) (all_append May (own q old.done) (own q answers.asks) (all.done q) (parts q).0);
+    waits = λ q low. (parts q low).1;
+    done = λ q low. subst (AllByRecursion May) (sym (ap (own q) answers.done ∙ own-append q old.done answers.asks)) (all_append May (own q old.done) (own q answers.asks) (all.done q low) (parts q low).0);
   }
     where
-      parts : (q : ℕ) → AllByRecursion May (own q answers.asks) × AllByRecursion May (own q new.waits)
-      parts q = all_front May (own q answers.asks) (own q new.waits) (subst (AllByRecursion May) (answers.front q) (all.waits q))
+      parts : (q : ℕ) → q < first_own → AllByRecursion May (own q answers.asks) × AllByRecursion May (own q new.waits)
+      parts q low = all_front May (own q answers.asks) (own q new.waits) (subst (AllByRecursion May) (answers.front q) (all.waits q low))
 
   -- ---- many writes
 
@@ -484,7 +492,7 @@ module _ (Known : Pass → Type 0) (passes : Option (List Pass)) where
   -- ---- deeds
 
   pub allowed_new : (names : Named) → AreAllowed (new_talking passes names)
-  allowed_new names = record { hand = record { waits = λ n. tt; done = λ n. tt }; batches = tt; webs = tt }
+  allowed_new names = record { hand = record { waits = λ n low. tt; done = λ n low. tt }; batches = tt; webs = tt }
 
   still : (old new : Talking) → new.hand ≡ old.hand → new.batches ≡ old.batches → new.webs ≡ old.webs → AreAllowed old → AreAllowed new
   still old new hand batches webs all = record {
@@ -510,7 +518,6 @@ module _ (Known : Pass → Type 0) (passes : Option (List Pass)) where
   allowed_deed old new same known (TurnsAway n) does all = subst AreAllowed (sym does.1) (still old _ refl refl refl all)
   allowed_deed old new same known (Goes n) does all =
       subst AreAllowed (sym does.2) (record { hand = all.hand; batches = entries_less MayBatch n old.batches all.batches; webs = entries_less MayWeb n old.webs all.webs })
-  allowed_deed old new same known (GoesOwn n) does all = subst AreAllowed (sym does.2) (still old _ refl refl refl all)
   allowed_deed old new same known (Calls n call) does all = subst AreAllowed (sym does.1) (still old _ refl refl refl all)
   allowed_deed old new same known (Attends n web web' errand site) (has, runs, is) all =
       let before : DeskMay (record { hand = old.hand; web = web_of web; batches = old.batches }) = record { hand = all.hand; batches = all.batches; web = entries_at MayWeb n web old.webs all.webs has } in
@@ -535,6 +542,10 @@ module _ (Known : Pass → Type 0) (passes : Option (List Pass)) where
       })
   allowed_deed old new same known (Drops n reply) (none, (takes, is)) all =
       subst AreAllowed (sym is) (record { hand = hand_taken old.hand new.hand (n, reply) takes all.hand; batches = all.batches; webs = all.webs })
+  allowed_deed old new same known (AsksOwn n requests) ((are, above), may, is) all =
+      subst AreAllowed (sym is) (record { hand = hand_own n old.hand requests above all.hand; batches = all.batches; webs = all.webs })
+  allowed_deed old new same known (HearsOwn n reply) (above, (takes, is)) all =
+      subst AreAllowed (sym is) (record { hand = hand_taken old.hand new.hand (n, reply) takes all.hand; batches = all.batches; webs = all.webs })
   allowed_deed old new same known (Rotates passes') does all = subst AreAllowed (sym does.1) (still old _ refl refl refl all)
   allowed_deed old new same known (Follows feed site) does all = subst AreAllowed (sym does.1) (still old _ refl refl refl all)
 
@@ -548,7 +559,7 @@ module _ (Known : Pass → Type 0) (passes : Option (List Pass)) where
   }
 
   takes_by : (web : Option WebConnection) (n : ℕ) (bytes : List ℕ) (old new : Talking) → web_in old n ≡ web → TakesBy web n bytes old new → AreAllowed old → AreAllowed new
-  takes_by None n bytes old new at (apart, takes, same) all = subst AreAllowed (sym same) (still old (with_host old new.host) refl refl refl all)
+  takes_by None n bytes old new at (takes, same) all = subst AreAllowed (sym same) (still old (with_host old new.host) refl refl refl all)
   takes_by (Some web) n bytes old new at (web', (wants, (front, rest, both, feeds)), same) all = subst AreAllowed (sym same) (web_still old n web web' at (fed_asks front rest (web_of web) (web_of web') feeds) all)
 
   pub allowed_in : (n : ℕ) (bytes : List ℕ) (old new : Talking) → TakesInput n bytes old new → AreAllowed old → AreAllowed new
@@ -556,7 +567,7 @@ module _ (Known : Pass → Type 0) (passes : Option (List Pass)) where
   allowed_in n bytes old new (inr (same, none)) all = subst AreAllowed (sym same) all
 
   sends_by : (web : Option WebConnection) (n count : ℕ) (old new : Talking) → web_in old n ≡ web → SendsBy web n count old new → AreAllowed old → AreAllowed new
-  sends_by None n count old new at (apart, same) all = subst AreAllowed (sym same) (still old _ refl refl refl all)
+  sends_by None n count old new at same all = subst AreAllowed (sym same) (still old _ refl refl refl all)
   sends_by (Some web) n count old new at (web', is, same) all = subst AreAllowed (sym same) (web_still old n web web' at (inl (ap (λ (w : WebValue). w.asked) is)) all)
 
   pub allowed_out : (n : ℕ) (bytes : List ℕ) (old new : Talking) → GivesOut n bytes old new → AreAllowed old → AreAllowed new

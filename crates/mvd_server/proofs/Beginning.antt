@@ -1,6 +1,6 @@
 -- The many writes of a request begin, and are kept while it waits.
-use Rattle.std.proofs.Common.{◌≡◌, ◌≢◌, ◌∙◌, ◌⊎◌, ℕ, Bool, true, false, true≢false, List, Option, Some, None, Result, Ok, Err, is_some, inl, inr, refl, sym, ap, subst}
-use Rattle.std.specs.BTreeMap.{insert_entry, is_at}
+use Rattle.std.proofs.Common.{◌≡◌, ◌≢◌, ◌∙◌, ℕ, Bool, true, false, true≢false, List, Option, Some, None, Result, Ok, Err, is_some, inl, inr, refl, sym, ap, subst}
+use Rattle.std.specs.BTreeMap.{is_at}
 use Rattle.std.specs.Map.{set_value}
 use Rattle.std.specs.Ordering.{nat_cmp}
 use Rattle.std.specs.Prelude.{⊤}
@@ -16,14 +16,14 @@ use Rattle.mvd_http.specs.declared.http_fault.Fault.{Fault}
 use Rattle.mvd_http.specs.declared.http_fault.Fault.TheVariants as fault
 use Rattle.mvd_http.specs.declared.question.Methods.{Methods}
 use Rattle.mvd_http.specs.declared.question.Question.TheVariants.{Many}
-use Rattle.mvd_server.proofs.Allowing.{StillAsks, looks_asks, plan_asks}
+use Rattle.mvd_server.proofs.Allowing.{StillAsks, plan_asks}
 use Rattle.mvd_server.proofs.AtOnce.{asks_for, ends_asked, some_web}
 use Rattle.mvd_server.proofs.Keyed.{found_at, found_new, set_here}
 use Rattle.mvd_server.specs.Admitted.{Decides}
 use Rattle.mvd_server.specs.Errands.{AsksNextOf, DoesPlan, IsBatchFor, batch_in}
 use Rattle.mvd_server.specs.Plans.{HandsOnAll, IsPlanIf, TellsBeyond, TellsFault}
 use Rattle.mvd_server.specs.Responding.{RefusesWeb, TellsPushed}
-use Rattle.mvd_server.specs.Talking.{AsksMany, HandsWrites, HasItsWrites, IsWriting, KeepsBatch, LacksMemory, MayBeginWrites, Talking, TellsFirst, web_in, with_web}
+use Rattle.mvd_server.specs.Talking.{AsksMany, HandsWrites, HasItsWrites, IsWriting, KeepsBatch, LacksMemory, MayBeginWrites, Talking, TellsFirst, web_in}
 use Rattle.mvd_server.specs.declared.batch.Batch.{Batch}
 use Rattle.mvd_server.specs.declared.gate.Plan.{Plan}
 use Rattle.mvd_server.specs.declared.gate.Plan.TheVariants as plan

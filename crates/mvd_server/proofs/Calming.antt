@@ -8,7 +8,7 @@ use Rattle.mvd_host.specs.Runs.{Calls as Called, Closes, Comes as Came, Feeds, G
 use Rattle.mvd_server.proofs.Errands.{MayStep, steps_batch, steps_errand}
 use Rattle.mvd_server.specs.HostBytes.{TakesBytes, sent_of, waits_of}
 use Rattle.mvd_server.specs.Guarded.{first_guard}
-use Rattle.mvd_server.specs.Talking.{Act, Attends, Begins, Calls, Comes, ComesByWeb, ComesOwn, DoesAct, Drops, Follows, Goes, GoesOwn, Hands, Rotates, Talking, TurnsAway, TurnsBack, web_in}
+use Rattle.mvd_server.specs.Talking.{Act, AsksOwn, Attends, Begins, Calls, Comes, ComesByWeb, ComesOwn, DoesAct, Drops, Follows, Goes, Hands, HearsOwn, Rotates, Talking, TurnsAway, TurnsBack, web_in}
 use Rattle.mvd_server.specs.Wires.{GivesOut, SendsBy, TakesBy, TakesInput}
 use Rattle.mvd_site.specs.Sites.{SiteValue}
 use Rattle.sqlite.specs.State.{State}
@@ -44,17 +44,18 @@ module _ {C : Type 0} (f : C → State) (site : SiteValue) (conn : C) where
   pub of_deed : (old new : Talking) → (act : Act) → DoesAct act old new → Calm f (moment old) (moment new)
   of_deed old new (Comes n) does = of_host old new (ap (λ (t : Talking). t.hand) does.1) (record { all = Came n new.host ∷ []; runs = ((first_guard old.passes, does.0), tt); ends = refl; none = refl })
   of_deed old new (ComesByWeb n web) does = of_none old new (ap (λ (t : Talking). t.host) does.2) (ap (λ (t : Talking). t.hand) does.2)
-  of_deed old new (ComesOwn n) does = of_host old new (ap (λ (t : Talking). t.hand) does.1) (record { all = Came n new.host ∷ []; runs = ((None, does.0), tt); ends = refl; none = refl })
+  of_deed old new (ComesOwn n) does = of_none old new (ap (λ (t : Talking). t.host) does.1) (ap (λ (t : Talking). t.hand) does.1)
   of_deed old new (TurnsBack n mid) does =
       of_host old new (ap (λ (t : Talking). t.hand) does.3) (record { all = Came n mid ∷ Gone n new.host ∷ []; runs = ((does.0, does.1), (does.2, tt)); ends = refl; none = refl })
   of_deed old new (TurnsAway n) does = of_none old new (ap (λ (t : Talking). t.host) does.1) (ap (λ (t : Talking). t.hand) does.1)
   of_deed old new (Goes n) does = of_host old new (ap (λ (t : Talking). t.hand) does.2) (record { all = Gone n new.host ∷ []; runs = (does.1, tt); ends = refl; none = refl })
-  of_deed old new (GoesOwn n) does = of_host old new (ap (λ (t : Talking). t.hand) does.2) (record { all = Gone n new.host ∷ []; runs = (does.1, tt); ends = refl; none = refl })
   of_deed old new (Calls n call) does = record { all = Called n call ∷ []; runs = (tt, tt); ends = ap moment (sym does.1); none = refl }
   of_deed old new (Attends n web web' errand site) does = of_hand old new (ap (λ (t : Talking). t.host) does.2) (steps_errand errand site old.feed old.passes old.names n _ _ does.1)
   of_deed old new (Begins n batch) does = of_none old new (ap (λ (t : Talking). t.host) does.1) (ap (λ (t : Talking). t.hand) does.1)
   of_deed old new (Hands n batch batch') does = of_hand old new (ap (λ (t : Talking). t.host) does.2) (steps_batch n batch old.hand batch' new.hand does.1)
   of_deed old new (Drops n reply) does = of_hand old new (ap (λ (t : Talking). t.host) does.1.1) (inr (inr ((n, reply), does.1.0)))
+  of_deed old new (AsksOwn n requests) does = of_hand old new (ap (λ (t : Talking). t.host) does.2) (inr (inl (n, requests, does.1, ap (λ (t : Talking). t.hand) does.2)))
+  of_deed old new (HearsOwn n reply) does = of_hand old new (ap (λ (t : Talking). t.host) does.1.1) (inr (inr ((n, reply), does.1.0)))
   of_deed old new (Rotates passes) does = of_none old new (ap (λ (t : Talking). t.host) does.1) (ap (λ (t : Talking). t.hand) does.1)
   of_deed old new (Follows feed site) does = of_none old new (ap (λ (t : Talking). t.host) does.1) (ap (λ (t : Talking). t.hand) does.1)
 
@@ -63,7 +64,7 @@ module _ {C : Type 0} (f : C → State) (site : SiteValue) (conn : C) where
   of_bytes n bytes t new (inr is) = record { all = Called n Releases ∷ Called n (Closes (source.Failed Memory)) ∷ []; runs = (tt, (tt, tt)); ends = ap (λ h. at h t.hand) (sym is); none = refl }
 
   of_by : (web : Option WebConnection) (n : ℕ) (bytes : List ℕ) (old new : Talking) → TakesBy web n bytes old new → Calm f (moment old) (moment new)
-  of_by None n bytes old new (apart, takes, same) = of_host old new (ap (λ (t : Talking). t.hand) same) (of_bytes n bytes old new.host takes)
+  of_by None n bytes old new (takes, same) = of_host old new (ap (λ (t : Talking). t.hand) same) (of_bytes n bytes old new.host takes)
   of_by (Some web) n bytes old new (web', feeds, same) = of_none old new (ap (λ (t : Talking). t.host) same) (ap (λ (t : Talking). t.hand) same)
 
   pub of_in : (n : ℕ) (bytes : List ℕ) (old new : Talking) → TakesInput n bytes old new → Calm f (moment old) (moment new)
@@ -74,7 +75,7 @@ module _ {C : Type 0} (f : C → State) (site : SiteValue) (conn : C) where
   of_sent n count t new is = record { all = Called n (Sends count) ∷ []; runs = (tt, tt); ends = ap (λ h. at h t.hand) (sym is); none = refl }
 
   of_sends : (web : Option WebConnection) (n count : ℕ) (old new : Talking) → SendsBy web n count old new → Calm f (moment old) (moment new)
-  of_sends None n count old new (apart, same) = of_host old new (ap (λ (t : Talking). t.hand) same) (of_sent n (min count (length (waits_of old.host n))) old new.host (ap (λ (t : Talking). t.host) same))
+  of_sends None n count old new same = of_host old new (ap (λ (t : Talking). t.hand) same) (of_sent n (min count (length (waits_of old.host n))) old new.host (ap (λ (t : Talking). t.host) same))
   of_sends (Some web) n count old new (web', is, same) = of_none old new (ap (λ (t : Talking). t.host) same) (ap (λ (t : Talking). t.hand) same)
 
   pub of_out : (n : ℕ) (bytes : List ℕ) (old new : Talking) → GivesOut n bytes old new → Calm f (moment old) (moment new)

@@ -1,37 +1,35 @@
 -- Deeds, one after the other, and bytes carried between them.
-use Rattle.std.proofs.Common.{◌≡◌, ◌∙◌, ◌⊎◌, ◌+◌, ◌<◌, ℕ, Bool, true, false, true≢false, List, length, Option, None, Some, is_some, inl, inr, refl, sym, subst, ap}
+use Rattle.std.proofs.Common.{◌≡◌, ◌∙◌, ◌⊎◌, ◌+◌, ◌<◌, ◌≤◌, ℕ, Bool, false, true≢false, List, length, Option, None, Some, is_some, inl, inr, refl, sym, subst, ap}
 use Rattle.std.specs.Option.{IfSome}
 use Rattle.std.specs.BTreeMap.{insert_entry, is_at}
 use Rattle.std.specs.Map.{set_value}
 use Rattle.std.specs.Ordering.{nat_cmp}
 use Rattle.mvd_conn.specs.declared.passes.Pass.{Pass}
 use Rattle.mvd_conn.specs.declared.source.Source.{Source}
-use Rattle.mvd_conn.specs.declared.source.Source.TheVariants as source
-use Rattle.mvd_conn.specs.History.{closed, cut, released}
+use Rattle.mvd_conn.specs.History.{closed, cut}
 use Rattle.mvd_dots.specs.declared.refusals.Refusal.TheVariants.{Memory}
 use Rattle.mvd_host.specs.AtHand.{AtHandValue}
 use Rattle.mvd_host.specs.Hosts.{Admits, HostValue, altered, clients_most}
-use Rattle.mvd_host.specs.Runs.{Call, Closes, Cuts, Feeds, Releases, Sends, after_call}
+use Rattle.mvd_host.specs.Runs.{Call, Closes, Cuts, after_call}
 use Rattle.mvd_dots.specs.declared.refusals.Refusal.{Refusal}
 use Rattle.mvd_server.specs.Batches.{HandsBatch}
 use Rattle.mvd_server.specs.Errands.{Asks, AsksNextOf, Errand, Forgoes, IsBatchFor, KeepsWrites, RunsErrand, Stops, Tells, TellsBatch, TellsMany, batch_in, desk}
-use Rattle.mvd_server.specs.HostBytes.{TakesBytes, sent_of}
 use Rattle.mvd_server.specs.Moves.{TakesOne}
-use Rattle.mvd_server.specs.OwnSides.{DismissesIf, DismissesOwn}
+use Rattle.mvd_server.specs.OwnSides.{HandsRequests}
 use Rattle.mvd_server.specs.Responding.{AnswersWeb, RefusesWeb}
 use Rattle.mvd_server.specs.Guarded.{first_guard}
-use Rattle.mvd_server.specs.Talking.{Act, Attends, Begins, Calls, Comes, ComesBy, ComesByWeb, Deed, Deeds, DeedsAt, DoesAct, Drops, GoesAtOnce, GoesOwn, Hands, IsOf, IsWriting, KeepsBatch, LacksMemory, MayBeginWrites, MayCall, TakesReply, TalksDeeds, Talking, TurnsBack, is_own_client, newcomer, talking_of, web_in, with_host, with_web}
+use Rattle.mvd_server.specs.Talking.{Act, AsksOwn, Attends, Begins, Calls, Comes, ComesBy, ComesByWeb, Deed, Deeds, DeedsAt, DoesAct, Drops, GoesAtOnce, Hands, IsOf, IsWriting, KeepsBatch, LacksMemory, MayBeginWrites, MayCall, TakesReply, Talking, TurnsBack, first_own, newcomer, web_in, with_host, with_web}
 use Rattle.mvd_server.specs.Wires.{Carries, ComesBySocket, GivesOut, TakesInput, Wired, WiredStep}
 use Rattle.mvd_server.specs.declared.batch.Batch.{Batch}
 use Rattle.mvd_server.specs.declared.gate.Rest.{Rest}
 use Rattle.mvd_server.specs.declared.talks.Kind.{Kind}
 use Rattle.mvd_server.specs.declared.talks.Kind.TheVariants.{Frames, Http}
-use Rattle.mvd_server.specs.declared.talks.Talks.{Talks}
 use Rattle.mvd_server.specs.declared.sockets.Sockets.{Ghosts}
 use Rattle.mvd_server.proofs.Keyed.{found_at, set_here}
 use Rattle.mvd_server.proofs.Paths.{path_map, path_none, path_on, path_one, path_same}
 use Rattle.mvd_site.specs.Sites.{SiteValue}
 use Rattle.mvd_wire.specs.declared.reply.Reply.{Reply}
+use Rattle.mvd_wire.specs.declared.request.Request.{Request}
 use Rattle.mvd_web.specs.Inside.{web_of}
 use Rattle.mvd_web.specs.Web.{EndsInput, IsNew, stopped_by}
 use Rattle.mvd_web.specs.declared.web_connection.WebConnection.{WebConnection}
@@ -65,16 +63,6 @@ deed_closes n why old host is = deed_call n (Closes why) old host tt is
 
 pub deed_cuts : (n : ℕ) (old : Talking) (host : HostValue) → host ≡ altered old.host n cut → Deeds old (with_host old host)
 deed_cuts n old host is = deed_call n Cuts old host tt is
-
--- bytes are fed to a connection of the server's own
-pub deed_feeds : (n : ℕ) (bytes : List ℕ) (old : Talking) (host : HostValue) → is_own_client old n ≡ true → TakesBytes old.host n bytes host → Deeds old (with_host old host)
-deed_feeds n bytes old host made (inl is) = deed_call n (Feeds bytes) old host made is
-deed_feeds n bytes old host made (inr is) =
-    let mid = altered old.host n released in
-    deeds_on old (with_host old mid) (with_host old host) (deed_call n Releases old mid tt refl) (deed_call n (Closes (source.Failed Memory)) (with_host old mid) host tt is)
-
-pub deed_sends : (n count : ℕ) (old : Talking) (host : HostValue) → is_own_client old n ≡ true → host ≡ sent_of old.host n count → Deeds old (with_host old host)
-deed_sends n count old host made is = deed_call n (Sends count) old host made is
 
 -- an errand for a client over HTTP, at a site
 pub attends_at : (site : SiteValue) (n : ℕ) (errand : Errand) (web web' : WebConnection) (old : Talking) (hand : AtHandValue) (batches : List (ℕ × Batch)) (entries : List (ℕ × WebConnection)) → web_in old n ≡ Some web
@@ -169,10 +157,10 @@ pub no_batch : (o : Option Batch) (has : Bool) → has ≡ is_some o → has ≡
 no_batch None has is none = refl
 no_batch (Some batch) has is none = absurd (true≢false (sym is ∙ none))
 
--- bytes are fed to one of the server's own, or not
-pub deeds_own : (n : ℕ) (bytes : List ℕ) (old : Talking) (host : HostValue) → is_own_client old n ≡ true → (host ≡ old.host) ⊎ TakesBytes old.host n bytes host → Deeds old (with_host old host)
-deeds_own n bytes old host own (inl same) = deeds_same old (with_host old host) (ap (with_host old) same)
-deeds_own n bytes old host own (inr takes) = deed_feeds n bytes old host own takes
+-- a session asks at hand, or not
+pub deeds_own : (n : ℕ) (old : Talking) (asked left : List Request) (hand : AtHandValue) → first_own ≤ n → HandsRequests n asked old.hand left hand → Deeds old (record old { hand = hand })
+deeds_own n old asked left hand above (inl asks) = deeds_one (AsksOwn n asked) old (record old { hand = hand }) (λ site. tt) ((asks.are, above), asks.may, ap (λ (h : AtHandValue). record old { hand = h }) asks.asks)
+deeds_own n old asked left hand above (inr (left', same)) = deeds_same old (record old { hand = hand }) (ap (λ (h : AtHandValue). record old { hand = h }) same)
 
 -- a client of frames comes, or nobody
 pub comes_frames : (old : Talking) (o : Option ℕ) (host : HostValue) → Admits (first_guard old.passes) old.host o host → Deeds old (with_host old host)
@@ -180,10 +168,10 @@ comes_frames old None host (same, full) = deeds_same old (with_host old host) (a
 comes_frames old (Some n) host one = deeds_one (Comes n) old (with_host old host) (λ site. tt) (one, refl)
 
 -- one over HTTP
-pub does_web : (n : ℕ) (web : WebConnection) (old new : Talking) → n ≡ old.next → length old.webs < clients_most → IsNew (web_of web) → new ≡ record old { webs = insert_entry nat_cmp old.webs n web; next = old.next + 1 } → ComesBy Http n old new
+pub does_web : (n : ℕ) (web : WebConnection) (old new : Talking) → n ≡ old.next → (length old.webs < clients_most) × (n < first_own) → IsNew (web_of web) → new ≡ record old { webs = insert_entry nat_cmp old.webs n web; next = old.next + 1 } → ComesBy Http n old new
 does_web n web old new next few fresh same = (web, ((next, few), fresh, same))
 
-pub comes_web : (n : ℕ) (web : WebConnection) (old new : Talking) → n ≡ old.next → length old.webs < clients_most → IsNew (web_of web) → new ≡ record old { webs = insert_entry nat_cmp old.webs n web; next = old.next + 1 } → Deeds old new
+pub comes_web : (n : ℕ) (web : WebConnection) (old new : Talking) → n ≡ old.next → (length old.webs < clients_most) × (n < first_own) → IsNew (web_of web) → new ≡ record old { webs = insert_entry nat_cmp old.webs n web; next = old.next + 1 } → Deeds old new
 comes_web n web old new next few fresh same = deeds_one (ComesByWeb n web) old new (λ site. tt) ((next, few), fresh, same)
 
 -- no connection over HTTP is there
@@ -198,14 +186,6 @@ comes_told old (Some n) host one = (one, refl)
 pub stays_told : (old : Talking) (o : Option ℕ) (host : HostValue) → Admits (first_guard old.passes) old.host o host → o ≡ None → with_host old host ≡ old
 stays_told old None host none is = ap (with_host old) none.0
 stays_told old (Some n) host one is = cc
-
--- one of the server's own goes, or none does
-goes_if : (b : Bool) (n : ℕ) (old mid : Talks) → DismissesIf b old n mid → TalksDeeds old mid
-goes_if true n old mid goes = deeds_one (GoesOwn n) (talking_of old) (talking_of mid) (λ site. tt) goes
-goes_if false n old mid same = deeds_same (talking_of old) (talking_of mid) (ap talking_of same)
-
-pub own_goes : (n : ℕ) (old mid new : Talks) → DismissesOwn old n mid → new ≡ mid → TalksDeeds old new
-own_goes n old mid new goes same = subst (λ (t : Talks). TalksDeeds old t) (sym same) (goes_if (is_own_client (talking_of old) n) n old mid goes)
 
 module _ {K I A T : Type 0} (k : Ghosts K I A T) where
   -- deeds while no socket moves

@@ -1,5 +1,5 @@
 -- What an errand for a client over HTTP does at hand, and which writes are those of its request.
-use Rattle.std.proofs.Common.{◌≡◌, ◌<◌, ◌≤◌, ◌⊎◌, length, Bool, Bor, is_some, option_copied, true, false, ℕ, List, [], ◌∷◌, Option, None, Some, Result, Ok, Err, inl, inr, refl, sym, subst, ap, ◌∙◌}
+use Rattle.std.proofs.Common.{◌≡◌, ◌≤◌, ◌⊎◌, length, Bool, Bor, is_some, option_copied, true, false, ℕ, List, [], ◌∷◌, Option, None, Some, Result, Ok, Err, inl, inr, refl, sym, subst, ap, ◌∙◌}
 use Rattle.std.specs.List.{slice_get}
 use Rattle.std.specs.Prelude.{string_bytes}
 use Rattle.mvd_conn.specs.declared.passes.Pass.{Pass}

@@ -13,7 +13,7 @@ use Rattle.mvd_server.specs.HostBytes.{TakesBytes, waits_of}
 use Rattle.mvd_server.specs.Numbers.{IsOneSocket, IsReached}
 use Rattle.mvd_server.specs.Paths.{Path}
 use Rattle.mvd_server.specs.Rounds.{ServeStep, World, hand_in, host_in}
-use Rattle.mvd_server.specs.Talking.{Act, Attends, Begins, Calls, Comes, ComesByWeb, ComesOwn, DoesAct, Drops, Follows, Goes, GoesOwn, Hands, Rotates, Talking, TurnsAway, TurnsBack, newcomer, web_in}
+use Rattle.mvd_server.specs.Talking.{Act, AsksOwn, Attends, Begins, Calls, Comes, ComesByWeb, ComesOwn, DoesAct, Drops, Follows, Goes, Hands, HearsOwn, Rotates, Talking, TurnsAway, TurnsBack, newcomer, web_in}
 use Rattle.mvd_server.specs.Wires.{GivesOut, SendsBy, TakesBy, TakesInput, Wired, WiredStep}
 use Rattle.mvd_server.specs.declared.sockets.Sockets.{Ghosts as SocketGhosts}
 use Rattle.mvd_site.specs.Sites.{SiteValue}
@@ -52,16 +52,17 @@ next_as same = ap (λ (t : Talking). t.next) same
 grows_deed : (old new : Talking) (act : Act) → DoesAct act old new → Grows old new
 grows_deed old new (Comes n) does = grows_one old new does.0.next (next_as does.1)
 grows_deed old new (ComesByWeb n web) does = grows_next old new (admitted_as does.2) (next_as does.2)
-grows_deed old new (ComesOwn n) does = grows_one old new does.0.next (next_as does.1)
+grows_deed old new (ComesOwn n) does = grows_none old new (admitted_as does.1) (next_as does.1)
 grows_deed old new (TurnsBack n mid) does = grows_one old new (does.2.admitted ∙ does.1.next) (next_as does.3)
 grows_deed old new (TurnsAway n) does = grows_next old new (admitted_as does.1) (next_as does.1)
 grows_deed old new (Goes n) does = grows_none old new does.1.admitted (next_as does.2)
-grows_deed old new (GoesOwn n) does = grows_none old new does.1.admitted (next_as does.2)
 grows_deed old new (Calls n call) does = grows_none old new (admitted_as does.1 ∙ admitted_called old.host n (after_call call) (client_of old.host n)) (next_as does.1)
 grows_deed old new (Attends n web web' errand site) does = grows_none old new (admitted_as does.2) (next_as does.2)
 grows_deed old new (Begins n batch) does = grows_none old new (admitted_as does.1) (next_as does.1)
 grows_deed old new (Hands n batch batch') does = grows_none old new (admitted_as does.2) (next_as does.2)
 grows_deed old new (Drops n reply) does = grows_none old new (admitted_as does.1.1) (next_as does.1.1)
+grows_deed old new (AsksOwn n requests) does = grows_none old new (admitted_as does.2) (next_as does.2)
+grows_deed old new (HearsOwn n reply) does = grows_none old new (admitted_as does.1.1) (next_as does.1.1)
 grows_deed old new (Rotates passes) does = grows_none old new (admitted_as does.1) (next_as does.1)
 grows_deed old new (Follows feed site) does = grows_none old new (admitted_as does.1) (next_as does.1)
 
@@ -74,7 +75,7 @@ bytes_keep old n bytes new (inr is) =
     ap (λ (h : HostValue). h.admitted) is ∙ altered_keeps (altered old n released) n (λ h. closed h (Failed Memory)) ∙ altered_keeps old n released
 
 grows_by : (web : Option WebConnection) (n : ℕ) (bytes : List ℕ) (old new : Talking) → TakesBy web n bytes old new → Grows old new
-grows_by None n bytes old new (apart, takes, same) = grows_none old new (bytes_keep old.host n bytes new.host takes) (next_as same)
+grows_by None n bytes old new (takes, same) = grows_none old new (bytes_keep old.host n bytes new.host takes) (next_as same)
 grows_by (Some web) n bytes old new (web', feeds, same) = grows_none old new (admitted_as same) (next_as same)
 
 grows_in : (n : ℕ) (bytes : List ℕ) (old new : Talking) → TakesInput n bytes old new → Grows old new
@@ -82,7 +83,7 @@ grows_in n bytes old new (inl takes) = grows_by (web_in old n) n bytes old new t
 grows_in n bytes old new (inr (same, none)) = grows_none old new (admitted_as same) (next_as same)
 
 grows_sends : (web : Option WebConnection) (n count : ℕ) (old new : Talking) → SendsBy web n count old new → Grows old new
-grows_sends None n count old new (apart, same) = grows_none old new (admitted_as same ∙ altered_keeps old.host n (λ h. sent h (min count (length (waits_of old.host n))))) (next_as same)
+grows_sends None n count old new same = grows_none old new (admitted_as same ∙ altered_keeps old.host n (λ h. sent h (min count (length (waits_of old.host n))))) (next_as same)
 grows_sends (Some web) n count old new (web', is, same) = grows_none old new (admitted_as same) (next_as same)
 
 grows_out : (n : ℕ) (bytes : List ℕ) (old new : Talking) → GivesOut n bytes old new → Grows old new
@@ -131,12 +132,13 @@ fresh_deed n old new (ComesOwn m) is does numbered = nobody n is
 fresh_deed n old new (TurnsBack m mid) is does numbered = subst (λ i. IsFresh i old new) (same_number m n is) (fresh_frames m old new does.1.number does.1.below (does.2.admitted ∙ does.1.next))
 fresh_deed n old new (TurnsAway m) is does numbered = subst (λ i. IsFresh i old new) (same_number m n is) (fresh_next m old new does.0 (next_as does.1) numbered)
 fresh_deed n old new (Goes m) is does numbered = nobody n is
-fresh_deed n old new (GoesOwn m) is does numbered = nobody n is
 fresh_deed n old new (Calls m call) is does numbered = nobody n is
 fresh_deed n old new (Attends m web web' errand site) is does numbered = nobody n is
 fresh_deed n old new (Begins m batch) is does numbered = nobody n is
 fresh_deed n old new (Hands m batch batch') is does numbered = nobody n is
 fresh_deed n old new (Drops m reply) is does numbered = nobody n is
+fresh_deed n old new (AsksOwn m requests) is does numbered = nobody n is
+fresh_deed n old new (HearsOwn m reply) is does numbered = nobody n is
 fresh_deed n old new (Rotates passes) is does numbered = nobody n is
 fresh_deed n old new (Follows feed site) is does numbered = nobody n is
 

@@ -1,16 +1,12 @@
 -- Entries by their numbers: which are there after a change.
-use Rattle.std.proofs.Common.{◌≡◌, ◌∙◌, ◌==◌, ◌||◌, ℕ, Bool, true, false, not, cond, List, [], ◌∷◌, ◌++◌, Option, Some, None, refl, sym, ap, subst, arith}
+use Rattle.std.proofs.Common.{◌≡◌, ◌∙◌, ◌==◌, ℕ, Bool, true, false, cond, List, [], ◌∷◌, Option, Some, None, refl, sym, ap, subst, arith}
 use Rattle.std.proofs.lemmas.Bool.Decides.{nat_tests}
-use Rattle.std.proofs.lemmas.List.Folds.{list_any-append}
-use Rattle.std.proofs.lemmas.Map.Views.{any-filter_same}
 use Rattle.std.specs.BTreeMap.{insert_entry, is_at}
-use Rattle.std.specs.List.{list_any}
 use Rattle.std.specs.Map.{lookup, set_value}
 use Rattle.std.specs.Ordering.{is_eq, match_ordering, nat_cmp}
 use Rattle.std.specs.declared.cmp.Ordering.{Ordering}
 use Rattle.std.specs.declared.cmp.Ordering.TheVariants.{Less, Equal, Greater}
 use Rattle.mvd_host.proofs.Hosts.{at_is}
-use Rattle.mvd_server.specs.Talking.{left_without}
 
 module _ {X : Type 0} where
   abbrev pub found_at : ℕ → List (ℕ × X) → Option X
@@ -77,21 +73,3 @@ module _ {X : Type 0} where
       on rest Less is = let here : is_at (nat_cmp n) n ≡ true = at_is n n ∙ grind (arith, nat_tests) in ap (λ c. cond c (Some w) (found_at n (e ∷ es))) here
       on rest Equal is = ap (λ (o : Ordering). cond (is_eq o) (Some w) (found_at n es)) is
       on rest Greater is = ap (λ (o : Ordering). cond (is_eq o) (Some e.1) (found_at n (insert_entry nat_cmp es n w))) is ∙ rest
-
--- ---- numbers alone
-
-or_true : (b : Bool) → (b || true) ≡ true
-or_true true = refl
-or_true false = refl
-
-pub any_last : (n : ℕ) (own : List ℕ) → list_any (λ x. x == n) (own ++ n ∷ []) ≡ true
-any_last n own =
-    let last : (n == n) ≡ true = grind (arith, nat_tests) in
-    list_any-append (λ x. x == n) own (n ∷ []) ∙ ap (λ b. list_any (λ x. x == n) own || (b || false)) last ∙ or_true (list_any (λ x. x == n) own)
-
-pub any_more : (q : ℕ) (own more : List ℕ) → list_any (λ x. x == q) own ≡ true → list_any (λ x. x == q) (own ++ more) ≡ true
-any_more q own more is = list_any-append (λ x. x == q) own more ∙ ap (λ b. b || list_any (λ x. x == q) more) is
-
-pub any_without : (n q : ℕ) (own : List ℕ) → (q == n) ≡ false → list_any (λ x. x == q) own ≡ true → list_any (λ x. x == q) (left_without n own) ≡ true
-any_without n q own apart is =
-    any-filter_same (λ x. x == q) (λ x. not (x == n)) true (λ k at. grind (arith, nat_tests, at, apart)) own ∙ is

@@ -26,6 +26,7 @@ pub mod Paths
 pub mod PeerTelling
 pub mod Placing
 pub mod Questions
+pub mod Replying
 pub mod Rounds
 pub mod Showing
 pub mod Sinces

@@ -4,7 +4,7 @@ use Rattle.mvd_host.specs.Feeds.{FeedValue}
 use Rattle.mvd_host.specs.Lists.{Lists, ListsOn}
 use Rattle.mvd_server.specs.Paths.{IsWay, Path}
 use Rattle.mvd_server.specs.Rounds.{ServeStep, World}
-use Rattle.mvd_server.specs.Talking.{Act, Attends, Begins, Calls, Comes, ComesByWeb, ComesOwn, DoesAct, Drops, Follows, Goes, GoesOwn, Hands, IsOf, Rotates, Talking, TurnsAway, TurnsBack, web_in}
+use Rattle.mvd_server.specs.Talking.{Act, AsksOwn, Attends, Begins, Calls, Comes, ComesByWeb, ComesOwn, DoesAct, Drops, Follows, Goes, Hands, HearsOwn, IsOf, Rotates, Talking, TurnsAway, TurnsBack, web_in}
 use Rattle.mvd_server.specs.Wires.{GivesOut, SendsBy, TakesBy, TakesInput, Wired, WiredStep}
 use Rattle.mvd_server.specs.declared.sockets.Sockets.{Ghosts as SocketGhosts}
 use Rattle.mvd_site.specs.Held.{States}
@@ -33,19 +33,20 @@ lists_deed site old new (ComesOwn n) of does = by_feed site.states old new _ doe
 lists_deed site old new (TurnsBack n mid) of does = by_feed site.states old new _ does.3 refl
 lists_deed site old new (TurnsAway n) of does = by_feed site.states old new _ does.1 refl
 lists_deed site old new (Goes n) of does = by_feed site.states old new _ does.2 refl
-lists_deed site old new (GoesOwn n) of does = by_feed site.states old new _ does.2 refl
 lists_deed site old new (Calls n call) of does = by_feed site.states old new _ does.1 refl
 lists_deed site old new (Attends n web web' errand at) of does = by_feed site.states old new _ does.2 refl
 lists_deed site old new (Begins n batch) of does = by_feed site.states old new _ does.1 refl
 lists_deed site old new (Hands n batch batch') of does = by_feed site.states old new _ does.2 refl
 lists_deed site old new (Drops n reply) of does = by_feed site.states old new _ does.1.1 refl
+lists_deed site old new (AsksOwn n requests) of does = by_feed site.states old new _ does.2 refl
+lists_deed site old new (HearsOwn n reply) of does = by_feed site.states old new _ does.1.1 refl
 lists_deed site old new (Rotates passes) of does = by_feed site.states old new _ does.1 refl
 lists_deed site old new (Follows feed at) of does = λ is.
     let lists : ListsOn old.feed site.states feed site.states = subst (λ (s : SiteValue). ListsOn old.feed s.states feed s.states) of does.0 in
     still site.states feed new.feed (ap (λ (t : Talking). t.feed) does.1) (goes_on old.feed feed site.states site.states lists is)
 
 lists_by : (states : States) (web : Option WebConnection) (n : ℕ) (bytes : List ℕ) (old new : Talking) → TakesBy web n bytes old new → IsListing old.feed states → IsListing new.feed states
-lists_by states None n bytes old new (apart, takes, same) = by_feed states old new _ same refl
+lists_by states None n bytes old new (takes, same) = by_feed states old new _ same refl
 lists_by states (Some web) n bytes old new (web', feeds, same) = by_feed states old new _ same refl
 
 lists_in : (states : States) (n : ℕ) (bytes : List ℕ) (old new : Talking) → TakesInput n bytes old new → IsListing old.feed states → IsListing new.feed states
@@ -53,7 +54,7 @@ lists_in states n bytes old new (inl takes) = lists_by states (web_in old n) n b
 lists_in states n bytes old new (inr (same, none)) = by_feed states old new old same refl
 
 lists_sends : (states : States) (web : Option WebConnection) (n count : ℕ) (old new : Talking) → SendsBy web n count old new → IsListing old.feed states → IsListing new.feed states
-lists_sends states None n count old new (apart, same) = by_feed states old new _ same refl
+lists_sends states None n count old new same = by_feed states old new _ same refl
 lists_sends states (Some web) n count old new (web', is, same) = by_feed states old new _ same refl
 
 lists_out : (states : States) (n : ℕ) (bytes : List ℕ) (old new : Talking) → GivesOut n bytes old new → IsListing old.feed states → IsListing new.feed states

@@ -3,9 +3,8 @@ use Rattle.std.proofs.Common.{◌≡◌, ◌∙◌, ◌⊎◌, ◌<◌, ◌==◌
 use Rattle.std.proofs.lemmas.Bool.{eqb-true}
 use Rattle.std.proofs.lemmas.Bool.Decides.{nat_tests}
 use Rattle.std.proofs.lemmas.Slice.Eq.{bytes_eq-Decides}
-use Rattle.std.specs.Str.{bytes_eq}
 use Rattle.mvd_conn.proofs.Hellos.{shown_known, shows_some}
-use Rattle.mvd_conn.specs.Guard.{guard_at, guard_by, guard_kept, guard_met}
+use Rattle.mvd_conn.specs.Guard.{guard_at, guard_by, guard_met}
 use Rattle.mvd_conn.specs.History.{History, coming, met}
 use Rattle.mvd_conn.specs.Passes.{allows_same, are_equal, has_pass, is_same_right, pass_if, pass_of_digest, pass_shown, token_shown}
 use Rattle.mvd_conn.specs.Rights.{prefix_of}
@@ -14,7 +13,6 @@ use Rattle.mvd_conn.specs.declared.guard.Guard.TheVariants.{Asks, Knows, Left}
 use Rattle.mvd_conn.specs.declared.passes.Pass.{Pass}
 use Rattle.mvd_conn.specs.declared.right.Right.{Right}
 use Rattle.mvd_dots.specs.declared.refusals.Refusal.{Refusal}
-use Rattle.mvd_host.specs.AtHand.{first_at_hand}
 use Rattle.mvd_host.specs.Course.{BothClients, IsOut, MayGoOn, asked_by, own}
 use Rattle.mvd_host.specs.Hosts.{HostValue, IfClient, IsClient, altered, altered_if, client_of}
 use Rattle.mvd_host.specs.Round.{ClientCourse, Spares}

@@ -15,7 +15,7 @@ use Rattle.mvd_host.specs.Feeds.{FeedValue}
 use Rattle.mvd_host.specs.Hosts.{HostValue}
 use Rattle.mvd_server.proofs.Keyed.{found_at}
 use Rattle.mvd_server.specs.Rounds.{with_round}
-use Rattle.mvd_server.specs.Talking.{Act, Attends, Begins, Calls, Comes, ComesByWeb, ComesOwn, DoesAct, Drops, Follows, Goes, GoesOwn, Hands, Rotates, Talking, TurnsAway, TurnsBack, new_talking, web_in, with_web}
+use Rattle.mvd_server.specs.Talking.{Act, AsksOwn, Attends, Begins, Calls, Comes, ComesByWeb, ComesOwn, DoesAct, Drops, Follows, Goes, Hands, HearsOwn, Rotates, Talking, TurnsAway, TurnsBack, new_talking, web_in, with_web}
 use Rattle.mvd_server.specs.Wires.{GivesOut, SendsBy, TakesBy, TakesInput}
 use Rattle.mvd_web.specs.declared.web_connection.WebConnection.{WebConnection}
 
@@ -96,17 +96,18 @@ numbered_deed old new (Goes n) does a =
       next = subst (λ m. first_at_hand ≤ m) (sym (ap (λ (t : Talking). t.next) does.2)) a.next;
       webs = subst All (sym (ap (λ (t : Talking). t.webs) does.2)) (all_removed n old.webs a.webs);
     }
-numbered_deed old new (GoesOwn n) does a = still old new (ap (λ (t : Talking). t.next) does.2) (ap (λ (t : Talking). t.webs) does.2) a
 numbered_deed old new (Calls n call) does a = still old new (ap (λ (t : Talking). t.next) does.1) (ap (λ (t : Talking). t.webs) does.1) a
 numbered_deed old new (Attends n web web' errand site) does a = still (with_web old n web') new (ap (λ (t : Talking). t.next) does.2) (ap (λ (t : Talking). t.webs) does.2) (web_set old n web' a)
 numbered_deed old new (Begins n batch) does a = still old new (ap (λ (t : Talking). t.next) does.1) (ap (λ (t : Talking). t.webs) does.1) a
 numbered_deed old new (Hands n batch batch') does a = still old new (ap (λ (t : Talking). t.next) does.2) (ap (λ (t : Talking). t.webs) does.2) a
 numbered_deed old new (Drops n reply) does a = still old new (ap (λ (t : Talking). t.next) does.1.1) (ap (λ (t : Talking). t.webs) does.1.1) a
+numbered_deed old new (AsksOwn n requests) does a = still old new (ap (λ (t : Talking). t.next) does.2) (ap (λ (t : Talking). t.webs) does.2) a
+numbered_deed old new (HearsOwn n reply) does a = still old new (ap (λ (t : Talking). t.next) does.1.1) (ap (λ (t : Talking). t.webs) does.1.1) a
 numbered_deed old new (Rotates passes) does a = still old new (ap (λ (t : Talking). t.next) does.1) (ap (λ (t : Talking). t.webs) does.1) a
 numbered_deed old new (Follows feed site) does a = still old new (ap (λ (t : Talking). t.next) does.1) (ap (λ (t : Talking). t.webs) does.1) a
 
 numbered_by : (web : Option WebConnection) (n : ℕ) (bytes : List ℕ) (old new : Talking) → TakesBy web n bytes old new → AreNumbered old → AreNumbered new
-numbered_by None n bytes old new (apart, takes, same) a = still old new (ap (λ (t : Talking). t.next) same) (ap (λ (t : Talking). t.webs) same) a
+numbered_by None n bytes old new (takes, same) a = still old new (ap (λ (t : Talking). t.next) same) (ap (λ (t : Talking). t.webs) same) a
 numbered_by (Some web) n bytes old new (web', feeds, same) a = to (with_web old n web') new same (web_set old n web' a)
 
 pub numbered_in : (n : ℕ) (bytes : List ℕ) (old new : Talking) → TakesInput n bytes old new → AreNumbered old → AreNumbered new
@@ -114,7 +115,7 @@ numbered_in n bytes old new (inl takes) a = numbered_by (web_in old n) n bytes o
 numbered_in n bytes old new (inr (same, none)) a = to old new same a
 
 numbered_sends : (web : Option WebConnection) (n count : ℕ) (old new : Talking) → SendsBy web n count old new → AreNumbered old → AreNumbered new
-numbered_sends None n count old new (apart, same) a = still old new (ap (λ (t : Talking). t.next) same) (ap (λ (t : Talking). t.webs) same) a
+numbered_sends None n count old new same a = still old new (ap (λ (t : Talking). t.next) same) (ap (λ (t : Talking). t.webs) same) a
 numbered_sends (Some web) n count old new (web', is, same) a = to (with_web old n web') new same (web_set old n web' a)
 
 pub numbered_out : (n : ℕ) (bytes : List ℕ) (old new : Talking) → GivesOut n bytes old new → AreNumbered old → AreNumbered new

@@ -1,16 +1,13 @@
 -- What is told of a peer, one after the other.
-use Rattle.std.proofs.Common.{◌≡◌, ◌∙◌, ◌⊎◌, ◌<◌, ◌++◌, ℕ, Bool, true, false, true≢false, List, [], Option, None, Some, IsSomeAnd, Result, Ok, Err, ap, append-nil, get_or, if◌then◌else◌, inl, inr, is_some, length, refl, set, string_bytes, subst, sym}
+use Rattle.std.proofs.Common.{◌≡◌, ◌∙◌, ◌⊎◌, ◌<◌, ◌++◌, ℕ, Bool, true, false, true≢false, List, [], Option, None, Some, IsSomeAnd, Result, Ok, Err, ap, get_or, if◌then◌else◌, inl, inr, is_some, length, refl, set, string_bytes, subst, sym}
 use Rattle.std.proofs.lemmas.Result.{MatchResult-weaker}
 use Rattle.mvd_dots.specs.declared.refusals.Refusal.{Refusal}
 use Rattle.mvd_meet.specs.Meetings.{MeetingSteps, ReportsOn}
 use Rattle.mvd_meet.specs.declared.caller.Caller.{Caller}
+use Rattle.mvd_meet.specs.declared.near.Near.{Near}
 use Rattle.mvd_meet.specs.declared.stepping.Course.TheVariants as course
 use Rattle.mvd_meet.specs.declared.stepping.Meeting.{Meeting}
-use Rattle.mvd_host.specs.Hosts.{HostValue}
-use Rattle.mvd_meet.specs.Callers.{came_at}
-use Rattle.mvd_server.specs.HostBytes.{waits_of}
-use Rattle.mvd_server.specs.OwnSides.{HandsToOwn, IsFreshSession, TakesReplies}
-use Rattle.mvd_server.specs.PeerLinks.{MovesBytes}
+use Rattle.mvd_server.specs.OwnSides.{IsFreshSession, MovesAtHand}
 use Rattle.mvd_server.specs.PeerNews.{MayTell, TellsIf, again_text, is_due, noted_unless, peer_text, told_at}
 use Rattle.mvd_server.specs.PeerSays.{IsDone, PeerBreaks, PeerDoes, PeerFails, PeerGoes, PeerSaid, PeerSays, PeerWent, PeersDo, PeersSaid, PeersSay, SessionWent, Sitting, again, begins, closes, done, fails, leaves, moves, one, said_by, sitting, sitting_of, steps, tells, tells_why}
 use Rattle.mvd_server.specs.declared.crowd.Crowd.{Crowd}
@@ -50,7 +47,7 @@ module _ (o : Option OwnSession) (a b : OwnSession) (far far' : Caller) (was : o
   sits : sitting_of o ≡ Some (sitting a)
   sits = ap sitting_of was
 
-  abbrev made : ℕ → Caller → Meeting → Option Sitting
+  abbrev made : ℕ → Near → Meeting → Option Sitting
   made n near meeting = Some (record { client = n; near = near; meeting = meeting })
 
   pub session_waits : MeetingSteps a.meeting a.near far b.meeting b.near far' course.Waits → SessionWent (sitting_of o) far (sitting_of (Some b)) far' went.Waits
@@ -173,19 +170,11 @@ module _ (old new : Peering) (s : Setting) (c : Crowd) (rest : new ≡ record ol
       (says (none_sits new.session none))
 
 -- bytes move between it and this server's own site
-pub moves_so : (old new : Peering) (s : Setting) (c c' : Crowd) (a b : OwnSession) → old.session ≡ Some a → new ≡ record old { session = new.session } → new.session ≡ Some b → b ≡ record a { near = b.near } → MovesBytes a.near b.near → c' ≡ record c { talks = c'.talks }
+pub moves_so : (old new : Peering) (s : Setting) (c c' : Crowd) (a b : OwnSession) → old.session ≡ Some a → new ≡ record old { session = new.session } → new.session ≡ Some b → b ≡ record a { near = b.near } → MovesAtHand a.near b.near → c' ≡ record c { talks = c'.talks }
     → PeerSays (said_by old s c) (said_by new s c')
 moves_so old new s c c' a b was is has same bytes clients = says_one (said_by old s c) (said_by new s c') (moves (sitting a) (sitting b) (ap sitting_of was)
     (ap (λ (t : OwnSession). t.client) same) (ap (λ (t : OwnSession). t.meeting) same) bytes
     (ap (λ (p : Peering). said_by p s c') is ∙ ap (λ o. record (said_by old s c') { session = sitting_of o }) has ∙ ap (λ (d : Crowd). record (said_by old s d) { session = Some (sitting b) }) clients))
-
--- the host takes what leaves
-pub hands_moves : (a b : Caller) (h h' : HostValue) (n : ℕ) → HandsToOwn a b h n h' → MovesBytes a b
-hands_moves a b h h' n hands = record { left = hands.front; more = []; leaving = hands.leaving; came = hands.came ∙ sym (append-nil (came_at a)); asked = hands.asked }
-
--- what waits in it comes
-pub takes_moves : (a b : Caller) (h h' : HostValue) (n : ℕ) → TakesReplies a b h n h' → MovesBytes a b
-takes_moves a b h h' n takes = record { left = []; more = waits_of h n; leaving = sym takes.leaving; came = takes.came; asked = takes.asked }
 
 -- a change is no news of its session
 pub rescheduled : (old new : Peering) (s : Setting) (c : Crowd) → new ≡ record old { schedule = new.schedule } → said_by new s c ≡ said_by old s c

@@ -1,5 +1,5 @@
 -- One host, from its first client on.
-use Rattle.std.proofs.Common.{◌≡◌, ◌∙◌, ◌⊎◌, ◌<◌, true, false, ℕ, List, [], ◌∷◌, ◌++◌, Option, None, Some, is_some, inl, inr, ap, ap₂, refl, sym, subst, append-nil, append_assoc, true≢false}
+use Rattle.std.proofs.Common.{◌≡◌, ◌∙◌, ◌⊎◌, ◌<◌, true, ℕ, List, [], ◌∷◌, ◌++◌, Option, None, Some, is_some, inl, inr, ap, ap₂, refl, sym, subst, append-nil, append_assoc, true≢false}
 use Rattle.mvd_conn.specs.declared.guard.Guard.{Guard}
 use Rattle.mvd_conn.specs.declared.guard.Guard.TheVariants.{Asks, Knows, Left}
 use Rattle.mvd_conn.specs.declared.passes.Pass.{Pass}
@@ -26,8 +26,8 @@ use Rattle.mvd_server.proofs.Deeds.{carries_deeds}
 use Rattle.mvd_server.proofs.Showing.{AreGuarded, AreKnown, Fits, IfAsked, guarded_deed, guarded_in, guarded_new, guarded_out, guarded_round, kept_deed, kept_in, kept_out}
 use Rattle.mvd_server.specs.Closing.{EndsServed, IsDeserted}
 use Rattle.mvd_server.specs.Paths.{IsWay, Path}
-use Rattle.mvd_server.specs.Rounds.{AnswersClients, BeginsServing, KnowsPass, IsLetIn, MayAllTurn, WasKnown, WasKnownIn, GoesOnServing, HasRound, IsServed, ServeStep, Serving, ServingStep, WasMadeFor, WasThere, World, begun, hand_in, host_in, moment_of, with_round, world_of}
-use Rattle.mvd_server.specs.Talking.{Act, Deed, Deeds, DeedsAt, DoesAct, IsMadeFor, TalksDeeds, Talking, new_talking, talking_of, web_in}
+use Rattle.mvd_server.specs.Rounds.{AnswersClients, BeginsServing, IsLetIn, WasKnown, WasKnownIn, GoesOnServing, HasRound, IsServed, ServeStep, Serving, ServingStep, WasThere, World, begun, hand_in, host_in, moment_of, with_round, world_of}
+use Rattle.mvd_server.specs.Talking.{Act, Deed, Deeds, DeedsAt, DoesAct, TalksDeeds, Talking, new_talking, talking_of, web_in}
 use Rattle.mvd_server.specs.Wires.{Carries, Wired, WiredStep, wired_of}
 use Rattle.mvd_server.specs.declared.sockets.Sockets.{Ghosts as SocketGhosts}
 use Rattle.mvd_server.specs.declared.talks.Talks.{Talks}
@@ -77,8 +77,8 @@ let_in Known (Some passes) (Some now) same [] h tells fits = tt
 let_in Known (Some passes) (Some now) same (turn ∷ turns) h tells fits = by_guard Known turn turns h.guard fits (has_shown (turn ∷ turns) h tells) (has_right (turn ∷ turns) h tells)
 
 -- each turn of a client is one that its right allows, and these are what it asked and was told
-record Each (passes : Option (List Pass)) (Known : Pass → Type 0) (Made : ℕ → Type 0) (Told : ℕ → List Turn → Type 0) (n : ℕ) (turns : List Turn) : Type 0 where
-  shown : IsLetIn Known passes turns ⊎ Made n
+record Each (passes : Option (List Pass)) (Known : Pass → Type 0) (Told : ℕ → List Turn → Type 0) (n : ℕ) (turns : List Turn) : Type 0 where
+  shown : IsLetIn Known passes turns
   told : (turns ≡ []) ⊎ Told n turns
 
 module _ {K I A T C : Type 0} (f : C → State) (k : SocketGhosts K I A T) where
@@ -157,67 +157,58 @@ module _ {K I A T C : Type 0} (f : C → State) (k : SocketGhosts K I A T) where
   none_gone old new (inr r) n below gone =
       ap (own n) (append-nil r.turns) ∙ r.round.spares.none n below (none_before (client_of (host_in old) n) (client_of (host_in new) n) (ClientCourse (own n r.turns)) (r.round.clients n) gone)
 
-  -- and for whoever goes in one, nothing was left to do, or the server made its frames
+  -- and for whoever goes in one, nothing was left to do
   parts_wired : (site : SiteValue) (old new : Wired K) (n : ℕ) (h : History) → client_of old.talking.host n ≡ Some h → client_of new.talking.host n ≡ None → n < old.talking.host.admitted → web_in old.talking n ≡ None → WiredStep k site old new
-      → (is_done h ≡ true) ⊎ IsMadeFor old.talking n
+      → is_done h ≡ true
   parts_wired site old new n h found gone given apart (inl (deed, same)) = parts_deed old.talking new.talking n h found gone given apart deed.0 deed.2
   parts_wired site old new n h found gone given apart (inr (inl (m, bytes, gives, takes))) = parts_in old.talking new.talking n h found gone m bytes takes
   parts_wired site old new n h found gone given apart (inr (inr (inl (m, bytes, takes, gives)))) = parts_out old.talking new.talking n h found gone m bytes gives
   parts_wired site old new n h found gone given apart (inr (inr (inr (m, (began, deed, comes))))) = parts_deed old.talking new.talking n h found gone given apart deed.0 deed.2
 
-  parts_step : (old new : World K C) (n : ℕ) (h : History) → client_of (host_in old) n ≡ Some h → client_of (host_in new) n ≡ None → n < (host_in old).admitted → web_in old.wired.talking n ≡ None → ServeStep f k old new → (is_done h ≡ true) ⊎ IsMadeFor old.wired.talking n
+  parts_step : (old new : World K C) (n : ℕ) (h : History) → client_of (host_in old) n ≡ Some h → client_of (host_in new) n ≡ None → n < (host_in old).admitted → web_in old.wired.talking n ≡ None → ServeStep f k old new → is_done h ≡ true
   parts_step old new n h found gone given apart (inl b) = parts_wired old.site old.wired new.wired n h found gone given apart b.wired
   parts_step old new n h found gone given apart (inr r) =
       let none = none_before (client_of (host_in old) n) (client_of (host_in new) n) (ClientCourse (own n r.turns)) (r.round.clients n) gone in
       absurd (let no : ◌≡◌ {A = Option History} (Some h) None = sym found ∙ none in cc)
 
   -- so each connection, also one that has gone
-  record Shows (passes : Option (List Pass)) (Known : Pass → Type 0) (start : HostMoment C) (Made : ℕ → Type 0) (Told : ℕ → List Turn → Type 0) (Done : ℕ → Type 0) (turns : List (ℕ × Turn)) (w : World K C) : Type 0 where
+  record Shows (passes : Option (List Pass)) (Known : Pass → Type 0) (start : HostMoment C) (Told : ℕ → List Turn → Type 0) (Done : ℕ → Type 0) (turns : List (ℕ × Turn)) (w : World K C) : Type 0 where
     guards : Guards passes Known w.wired.talking
     known : AreKnown Known w.wired.talking
     done : (n : ℕ) → IsClient (client_of (host_in w) n) (λ h. is_done h ≡ true) → Done n
-    parted : (n : ℕ) → n < first_at_hand → client_of (host_in w) n ≡ None → (own n turns ≡ []) ⊎ (Done n ⊎ Made n)
+    parted : (n : ℕ) → n < first_at_hand → client_of (host_in w) n ≡ None → (own n turns ≡ []) ⊎ Done n
     far : SoFar f start turns (moment_of w)
-    made : (n : ℕ) → IsMadeFor w.wired.talking n → Made n
     there : (n : ℕ) (own : List Turn) → IsClient (client_of (host_in w) n) (TellsOwn own) → Told n own
-    gone : (n : ℕ) → n < first_at_hand → client_of (host_in w) n ≡ None → Each passes Known Made Told n (own n turns)
+    gone : (n : ℕ) → n < first_at_hand → client_of (host_in w) n ≡ None → Each passes Known Told n (own n turns)
 
-  module _ (passes : Option (List Pass)) (Known : Pass → Type 0) (start : HostMoment C) (Made : ℕ → Type 0) (Told : ℕ → List Turn → Type 0) (Done : ℕ → Type 0) where
-    shows_here : (turns : List (ℕ × Turn)) (w : World K C) → Shows passes Known start Made Told Done turns w → (n : ℕ) (h : History) → client_of (host_in w) n ≡ Some h → Each passes Known Made Told n (own n turns)
+  module _ (passes : Option (List Pass)) (Known : Pass → Type 0) (start : HostMoment C) (Told : ℕ → List Turn → Type 0) (Done : ℕ → Type 0) where
+    shows_here : (turns : List (ℕ × Turn)) (w : World K C) → Shows passes Known start Told Done turns w → (n : ℕ) (h : History) → client_of (host_in w) n ≡ Some h → Each passes Known Told n (own n turns)
     shows_here turns w s n h found =
         let tells = s.far.tells n h found in
-        record { shown = on tells (s.guards.each n h found); told = inr (s.there n (own n turns) (subst (λ o. IsClient o (TellsOwn (own n turns))) (sym found) tells)) }
-      where
-        on : TellsOwn (own n turns) h → IfAsked w.wired.talking.passes (Fits Known h.guard) ⊎ IsMadeFor w.wired.talking n → IsLetIn Known passes (own n turns) ⊎ Made n
-        on tells (inl fits) = inl (let_in Known passes w.wired.talking.passes s.guards.kept (own n turns) h tells fits)
-        on tells (inr made) = inr (s.made n made)
+        record { shown = let_in Known passes w.wired.talking.passes s.guards.kept (own n turns) h tells (s.guards.each n h found); told = inr (s.there n (own n turns) (subst (λ o. IsClient o (TellsOwn (own n turns))) (sym found) tells)) }
 
-    shows_each : (turns : List (ℕ × Turn)) (w : World K C) → Shows passes Known start Made Told Done turns w → (n : ℕ) → n < first_at_hand → Each passes Known Made Told n (own n turns)
+    shows_each : (turns : List (ℕ × Turn)) (w : World K C) → Shows passes Known start Told Done turns w → (n : ℕ) → n < first_at_hand → Each passes Known Told n (own n turns)
     shows_each turns w s n below = on (client_of (host_in w) n) refl
       where
-        on : (o : Option History) → client_of (host_in w) n ≡ o → Each passes Known Made Told n (own n turns)
+        on : (o : Option History) → client_of (host_in w) n ≡ o → Each passes Known Told n (own n turns)
         on None gone = s.gone n below gone
         on (Some h) found = shows_here turns w s n h found
 
-    parts_on : (turns : List (ℕ × Turn)) (old new : World K C) (step : ServeStep f k old new) → Shows passes Known start Made Told Done turns old → (n : ℕ) → n < first_at_hand → client_of (host_in new) n ≡ None
-        → (own n (turns ++ turns_in (of_step old new step).all) ≡ []) ⊎ (Done n ⊎ Made n)
+    parts_on : (turns : List (ℕ × Turn)) (old new : World K C) (step : ServeStep f k old new) → Shows passes Known start Told Done turns old → (n : ℕ) → n < first_at_hand → client_of (host_in new) n ≡ None
+        → (own n (turns ++ turns_in (of_step old new step).all) ≡ []) ⊎ Done n
     parts_on turns old new step s n below gone = on (client_of (host_in old) n) refl
       where
         same : own n (turns ++ turns_in (of_step old new step).all) ≡ own n turns
         same = own-append n turns (turns_in (of_step old new step).all) ∙ ap (λ l. own n turns ++ l) (none_gone old new step n below gone) ∙ append-nil (own n turns)
 
-        whose : (h : History) → client_of (host_in old) n ≡ Some h → (is_done h ≡ true) ⊎ IsMadeFor old.wired.talking n → Done n ⊎ Made n
-        whose h found (inl is) = inl (s.done n (subst (λ o. IsClient o (λ c. is_done c ≡ true)) (sym found) is))
-        whose h found (inr made) = inr (s.made n made)
+        on : (o : Option History) → client_of (host_in old) n ≡ o → (own n (turns ++ turns_in (of_step old new step).all) ≡ []) ⊎ Done n
+        on None was = subst (λ l. (l ≡ []) ⊎ Done n) (sym same) (s.parted n below was)
+        on (Some h) found = inr (s.done n (subst (λ o. IsClient o (λ c. is_done c ≡ true)) (sym found) (parts_step old new n h found gone (s.far.given n h found) (numbered_apart old.wired.talking n below s.guards.apart) step)))
 
-        on : (o : Option History) → client_of (host_in old) n ≡ o → (own n (turns ++ turns_in (of_step old new step).all) ≡ []) ⊎ (Done n ⊎ Made n)
-        on None was = subst (λ l. (l ≡ []) ⊎ (Done n ⊎ Made n)) (sym same) (s.parted n below was)
-        on (Some h) found = inr (whose h found (parts_step old new n h found gone (s.far.given n h found) (numbered_apart old.wired.talking n below s.guards.apart) step))
-
-    shows_step : (turns : List (ℕ × Turn)) (old new : World K C) (step : ServeStep f k old new) → ((n : ℕ) → IsMadeFor new.wired.talking n → Made n) → AreKnown Known new.wired.talking
-        → ((n : ℕ) (own : List Turn) → IsClient (client_of (host_in new) n) (TellsOwn own) → Told n own) → ((n : ℕ) → IsClient (client_of (host_in new) n) (λ h. is_done h ≡ true) → Done n) → Shows passes Known start Made Told Done turns old
-        → Shows passes Known start Made Told Done (turns ++ turns_in (of_step old new step).all) new
-    shows_step turns old new step made known there done s =
+    shows_step : (turns : List (ℕ × Turn)) (old new : World K C) (step : ServeStep f k old new) → AreKnown Known new.wired.talking
+        → ((n : ℕ) (own : List Turn) → IsClient (client_of (host_in new) n) (TellsOwn own) → Told n own) → ((n : ℕ) → IsClient (client_of (host_in new) n) (λ h. is_done h ≡ true) → Done n) → Shows passes Known start Told Done turns old
+        → Shows passes Known start Told Done (turns ++ turns_in (of_step old new step).all) new
+    shows_step turns old new step known there done s =
         let h = of_step old new step in
         record {
           guards = guards_step passes Known old new s.known step s.guards;
@@ -225,34 +216,30 @@ module _ {K I A T C : Type 0} (f : C → State) (k : SocketGhosts K I A T) where
           done = done;
           parted = parts_on turns old new step s;
           far = subst (λ m. SoFar f start (turns ++ turns_in h.all) m) h.ends (runs_on f start turns (moment_of old) h.all h.runs s.far);
-          made = made;
           there = there;
           gone = λ n below gone.
-              subst (λ l. Each passes Known Made Told n l) (sym (own-append n turns (turns_in h.all) ∙ ap (λ l. own n turns ++ l) (none_gone old new step n below gone) ∙ append-nil (own n turns)))
+              subst (λ l. Each passes Known Told n l) (sym (own-append n turns (turns_in h.all) ∙ ap (λ l. own n turns ++ l) (none_gone old new step n below gone) ∙ append-nil (own n turns)))
               (shows_each turns old s n below);
         }
 
-    shows_steps : (turns : List (ℕ × Turn)) (old new : World K C) (mids : List (World K C)) (steps : IsWay (ServeStep f k) old mids new) → ((n : ℕ) → WasMadeFor n mids → Made n) → ((pass : Pass) → WasKnownIn pass mids → Known pass)
-        → ((n : ℕ) (own : List Turn) → WasThere n (TellsOwn own) mids → Told n own) → ((n : ℕ) → WasThere n (λ h. is_done h ≡ true) mids → Done n) → Shows passes Known start Made Told Done turns old
-        → Shows passes Known start Made Told Done (turns ++ turns_in (of_steps old new mids steps).all) new
+    shows_steps : (turns : List (ℕ × Turn)) (old new : World K C) (mids : List (World K C)) (steps : IsWay (ServeStep f k) old mids new) → ((pass : Pass) → WasKnownIn pass mids → Known pass)
+        → ((n : ℕ) (own : List Turn) → WasThere n (TellsOwn own) mids → Told n own) → ((n : ℕ) → WasThere n (λ h. is_done h ≡ true) mids → Done n) → Shows passes Known start Told Done turns old
+        → Shows passes Known start Told Done (turns ++ turns_in (of_steps old new mids steps).all) new
     unfolding of_steps happened_on of_step
-    shows_steps turns old new [] same made known told done s =
-        subst (λ w. Shows passes Known start Made Told Done (turns ++ []) w) (sym same) (subst (λ l. Shows passes Known start Made Told Done l old) (sym (append-nil turns)) s)
-    shows_steps turns old new (mid ∷ mids) (one, more) made known told done s =
+    shows_steps turns old new [] same known told done s =
+        subst (λ w. Shows passes Known start Told Done (turns ++ []) w) (sym same) (subst (λ l. Shows passes Known start Told Done l old) (sym (append-nil turns)) s)
+    shows_steps turns old new (mid ∷ mids) (one, more) known told done s =
         let first = (of_step old mid one).all in
         let rest = (of_steps mid new mids more).all in
-        subst (λ l. Shows passes Known start Made Told Done l new) (append_assoc turns (turns_in first) (turns_in rest) ∙ sym (ap (λ l. turns ++ l) (turns_append first rest)))
-        (shows_steps (turns ++ turns_in first) mid new mids more (λ n was. made n (inr was)) (λ pass was. known pass (inr was)) (λ n own was. told n own (inr was)) (λ n was. done n (inr was))
-        (shows_step turns old mid one (λ n is. made n (inl is)) (λ pass is. known pass (inl is)) (λ n own is. told n own (inl is)) (λ n is. done n (inl is)) s))
+        subst (λ l. Shows passes Known start Told Done l new) (append_assoc turns (turns_in first) (turns_in rest) ∙ sym (ap (λ l. turns ++ l) (turns_append first rest)))
+        (shows_steps (turns ++ turns_in first) mid new mids more (λ pass was. known pass (inr was)) (λ n own was. told n own (inr was)) (λ n was. done n (inr was))
+        (shows_step turns old mid one (λ pass is. known pass (inl is)) (λ n own is. told n own (inl is)) (λ n is. done n (inl is)) s))
 
 -- ---- what a server does
 
 -- it begins with who may come in, and with its names
 pub begins_serving : (now passes : Option (List Pass)) (names asked : Named) (talks : Talks) → talking_of talks ≡ new_talking now names → now ≡ passes → names ≡ asked → BeginsServing passes asked talks
 begins_serving now passes names asked talks is same named = is ∙ ap₂ new_talking same named
-
-none_made : (passes : Option (List Pass)) (names : Named) (n : ℕ) → IsMadeFor (new_talking passes names) n → ⊥
-none_made passes names n is = absurd (true≢false (sym is))
 
 none_shown : (Known : Pass → Type 0) (passes : Option (List Pass)) → IsLetIn Known passes []
 none_shown Known None = tt
@@ -264,23 +251,21 @@ module _ {S : Type 0} {g : Ghosts S} {K I A T : Type 0} (k : SocketGhosts K I A 
   served passes names last sockets old sockets' new p =
       let start = moment_of (world_of (begun passes names sockets) old) in
       let h = of_steps (state g) k (world_of (begun passes names sockets) old) (world_of (record { talking = last; sockets = sockets' }) new) p.mids p.steps in
-      let Made : ℕ → Type 0 = λ n. WasMadeFor n p.mids in
       let Known : Pass → Type 0 = WasKnown passes p.mids in
       let Told : ℕ → List Turn → Type 0 = λ n own. WasThere n (TellsOwn own) p.mids in
       let Done : ℕ → Type 0 = λ n. WasThere n (λ h. is_done h ≡ true) p.mids in
-      let first : Shows (state g) k passes Known start Made Told Done [] (world_of (begun passes names sockets) old) = record {
+      let first : Shows (state g) k passes Known start Told Done [] (world_of (begun passes names sockets) old) = record {
         guards = record { kept = refl; each = guarded_new Known passes names; apart = numbered_new passes names; allowed = allowed_new Known passes names };
         known = λ pass is. inl is;
         done = λ n is. absurd is;
         parted = λ n below gone. inl refl;
         far = begins (state g) start refl;
-        made = λ n made. absurd (none_made passes names n made);
         there = λ n own is. absurd is;
-        gone = λ n below gone. record { shown = inl (none_shown Known passes); told = inl refl };
+        gone = λ n below gone. record { shown = none_shown Known passes; told = inl refl };
       } in
       let end = world_of (record { talking = last; sockets = sockets' }) new in
-      let shows = shows_steps (state g) k passes Known start Made Told Done [] (world_of (begun passes names sockets) old) end p.mids p.steps (λ n was. was) (λ pass was. inr was) (λ n own was. was) (λ n was. was) first in
-      let each = shows_each (state g) k passes Known start Made Told Done (turns_in h.all) end shows in
+      let shows = shows_steps (state g) k passes Known start Told Done [] (world_of (begun passes names sockets) old) end p.mids p.steps (λ pass was. inr was) (λ n own was. was) (λ n was. was) first in
+      let each = shows_each (state g) k passes Known start Told Done (turns_in h.all) end shows in
       let one = subst (λ m. OneList (turns_in h.all) (side_at (state g) start) (side_at (state g) m)) h.ends (one_list (state g) start h.all refl refl h.runs) in
       record {
         last = last;
@@ -291,7 +276,7 @@ module _ {S : Type 0} {g : Ghosts S} {K I A T : Type 0} (k : SocketGhosts K I A 
         list = one;
         told = λ n below. (each n below).told;
         rights = λ n below. (each n below).shown;
-        web_rights = λ n above. shows.guards.allowed.hand.done n;
+        web_rights = λ n low. shows.guards.allowed.hand.done n low;
         parted = shows.parted;
       }
 
@@ -349,7 +334,7 @@ module _ {S : Type 0} {g : Ghosts S} {K I A T : Type 0} (k : SocketGhosts K I A 
   served_from passes names first last sockets old sockets' new is p =
       served passes names (talking_of last) sockets old sockets' new (subst (λ (t : Talking). GoesOnServing k (record { talking = t; sockets = sockets }) old (wired_of last sockets') new) is p)
 
-  -- and at the end nobody is left but its own
+  -- and at the end nobody is left
   pub left_from : (passes : Option (List Pass)) (names : Named) (first last : Talks) (sockets : K) (old : Replica S g) (sockets' : K) (new : Replica S g) → BeginsServing passes names first
       → GoesOnServing k (wired_of first sockets) old (wired_of last sockets') new → IsDeserted (talking_of last) → EndsServed k passes names sockets old sockets' new
   unfolding served_from served

@@ -1,34 +1,34 @@
 -- What a client of frames has shown is the token of a pass that was known, all the while.
-use Rattle.std.proofs.Common.{◌≡◌, ◌∙◌, ◌⊎◌, ◌==◌, ◌+◌, ◌++◌, ℕ, Bool, true, false, cond, List, [], ◌∷◌, Option, Some, None, Result, Ok, Err, is_some, true≢false, inl, inr, refl, sym, ap, subst, arith, length, min}
+use Rattle.std.proofs.Common.{◌≡◌, ◌∙◌, ◌⊎◌, ◌==◌, ◌+◌, ℕ, Bool, true, false, cond, List, [], ◌∷◌, Option, Some, None, Result, Ok, Err, is_some, true≢false, inl, inr, refl, sym, ap, subst, arith, length, min}
 use Rattle.std.proofs.lemmas.Bool.Decides.{nat_tests}
 use Rattle.std.specs.Prelude.{⊤}
 use Rattle.std.specs.BTreeMap.{insert_entry, is_at}
-use Rattle.std.specs.List.{Contains, list_any}
+use Rattle.std.specs.List.{Contains}
 use Rattle.std.specs.Map.{remove_entry, set_value}
 use Rattle.std.specs.Ordering.{nat_cmp}
 use Rattle.mvd_conn.proofs.Hellos.{shown_known}
-use Rattle.mvd_conn.specs.Guard.{guard_at, guard_by, guard_kept, guard_met}
+use Rattle.mvd_conn.specs.Guard.{guard_at, guard_by, guard_met}
 use Rattle.mvd_conn.specs.Passes.{has_pass, pass_shown}
 use Rattle.mvd_conn.specs.declared.guard.Guard.{Guard}
 use Rattle.mvd_conn.specs.declared.guard.Guard.TheVariants.{Asks, Knows, Left}
 use Rattle.mvd_conn.specs.declared.passes.Pass.{Pass}
 use Rattle.mvd_http.specs.Guard.{Named}
-use Rattle.mvd_conn.specs.History.{History, closed, coming, cut, fed, met, new_history, released, sent}
+use Rattle.mvd_conn.specs.History.{History, closed, coming, fed, met, new_history, released, sent}
 use Rattle.mvd_conn.specs.declared.source.Source.TheVariants as source
 use Rattle.mvd_dots.specs.declared.refusals.Refusal.{Refusal}
 use Rattle.mvd_dots.specs.declared.refusals.Refusal.TheVariants.{Memory}
 use Rattle.mvd_wire.specs.Frames.{FrameValue}
 use Rattle.mvd_host.proofs.RoundLemmas.{was}
-use Rattle.mvd_host.specs.AtHand.{AtHandValue}
+use Rattle.mvd_host.specs.AtHand.{AtHandValue, asked_by_one}
 use Rattle.mvd_host.specs.Course.{BothClients, own}
 use Rattle.mvd_host.specs.Feeds.{FeedValue}
 use Rattle.mvd_host.specs.Hosts.{AdmitsOne, ClientLeaves, HostValue, altered, altered_if, client_of}
 use Rattle.mvd_host.specs.Round.{ClientCourse}
 use Rattle.mvd_host.specs.Runs.{Call, Closes, Cuts, Feeds, Meets, Releases, Sends, after_call}
 use Rattle.mvd_replica.specs.Turns.{Turn}
-use Rattle.mvd_server.proofs.Keyed.{any_last, any_more, any_without, each_set}
+use Rattle.mvd_server.proofs.Keyed.{each_set}
 use Rattle.mvd_server.specs.HostBytes.{TakesBytes, waits_of}
-use Rattle.mvd_server.specs.Talking.{Act, Attends, Begins, Calls, Comes, ComesByWeb, ComesOwn, DoesAct, Drops, Follows, Goes, GoesOwn, Hands, IsMadeFor, MayCall, Rotates, Talking, TurnsAway, TurnsBack, new_talking, web_in, with_host, with_web, left_without}
+use Rattle.mvd_server.specs.Talking.{Act, AsksOwn, Attends, Begins, Calls, Comes, ComesByWeb, ComesOwn, DoesAct, Drops, Follows, Goes, Hands, HearsOwn, MayCall, Rotates, Talking, TurnsAway, TurnsBack, new_talking, web_in, with_host, with_web}
 use Rattle.mvd_server.specs.Guarded.{first_guard}
 use Rattle.mvd_server.specs.Rounds.{KnowsPass, with_round}
 use Rattle.mvd_server.specs.Wires.{GivesOut, SendsBy, TakesBy, TakesInput}
@@ -45,9 +45,9 @@ abbrev pub IfAsked : Option (List Pass) → Type 0 → Type 0
 IfAsked None P = ⊤
 IfAsked (Some passes) P = P
 
--- each client has shown one, where tokens are asked for, or its frames are made by the server
+-- each client has shown one, where tokens are asked for
 abbrev pub AreGuarded : (Pass → Type 0) → Talking → Type 0
-AreGuarded Known t = (q : ℕ) (h : History) → client_of t.host q ≡ Some h → IfAsked t.passes (Fits Known h.guard) ⊎ IsMadeFor t q
+AreGuarded Known t = (q : ℕ) (h : History) → client_of t.host q ≡ Some h → IfAsked t.passes (Fits Known h.guard)
 
 -- all that are known now
 abbrev pub AreKnown : (Pass → Type 0) → Talking → Type 0
@@ -125,11 +125,7 @@ call_fits Known t n Cuts all may h fits = fits
 
 altered_by : (Known : Pass → Type 0) (t : Talking) (n : ℕ) (f : History → History) → ((h : History) → IfAsked t.passes (Fits Known h.guard) → IfAsked t.passes (Fits Known (f h).guard)) → (o : Option History) → client_of t.host n ≡ o → AreGuarded Known t → AreGuarded Known (with_host t (altered_if t.host n o f))
 altered_by Known t n f still None at each = each
-altered_by Known t n f still (Some x) at each = each_set n t.host.clients (f x) x (λ q h. IfAsked t.passes (Fits Known h.guard) ⊎ IsMadeFor t q) at (kept (each n x at)) each
-  where
-    kept : IfAsked t.passes (Fits Known x.guard) ⊎ IsMadeFor t n → IfAsked t.passes (Fits Known (f x).guard) ⊎ IsMadeFor t n
-    kept (inl is) = inl (still x is)
-    kept (inr made) = inr made
+altered_by Known t n f still (Some x) at each = each_set n t.host.clients (f x) x (λ q h. IfAsked t.passes (Fits Known h.guard)) at (still x (each n x at)) each
 
 pub guarded_altered : (Known : Pass → Type 0) (t : Talking) (n : ℕ) (f : History → History) → ((h : History) → IfAsked t.passes (Fits Known h.guard) → IfAsked t.passes (Fits Known (f h).guard)) → AreGuarded Known t → AreGuarded Known (with_host t (altered t.host n f))
 guarded_altered Known t n f still each = altered_by Known t n f still (client_of t.host n) refl each
@@ -142,47 +138,32 @@ to Known old new same each = subst (AreGuarded Known) (sym same) each
 pub guarded_deed : (Known : Pass → Type 0) (old new : Talking) → AreKnown Known old → (act : Act) → DoesAct act old new → AreGuarded Known old → AreGuarded Known new
 guarded_deed Known old new all (Comes n) does each = to Known (with_host old new.host) new does.1 (λ q h found. on q h (came (first_guard old.passes) old.host new.host n q h does.0 found))
   where
-    on : (q : ℕ) (h : History) → ((q ≡ n) × (h.guard ≡ first_guard old.passes)) ⊎ (client_of old.host q ≡ Some h) → IfAsked old.passes (Fits Known h.guard) ⊎ IsMadeFor old q
-    on q h (inl (at, is)) = inl (subst (λ (x : Option Guard). IfAsked old.passes (Fits Known x)) (sym is) (first_fits Known old.passes))
+    on : (q : ℕ) (h : History) → ((q ≡ n) × (h.guard ≡ first_guard old.passes)) ⊎ (client_of old.host q ≡ Some h) → IfAsked old.passes (Fits Known h.guard)
+    on q h (inl (at, is)) = subst (λ (x : Option Guard). IfAsked old.passes (Fits Known x)) (sym is) (first_fits Known old.passes)
     on q h (inr at) = each q h at
 guarded_deed Known old new all (ComesByWeb n web) does each = to Known (record old { webs = insert_entry nat_cmp old.webs n web; next = old.next + 1 }) new does.2 each
-guarded_deed Known old new all (ComesOwn n) does each = to Known (record old { host = new.host; own = old.own ++ n ∷ [] }) new does.1 (λ q h found. on q h (came None old.host new.host n q h does.0 found))
-  where
-    more : (q : ℕ) (h : History) → IfAsked old.passes (Fits Known h.guard) ⊎ IsMadeFor old q → IfAsked old.passes (Fits Known h.guard) ⊎ IsMadeFor (record old { host = new.host; own = old.own ++ n ∷ [] }) q
-    more q h (inl is) = inl is
-    more q h (inr is) = inr (any_more q old.own (n ∷ []) is)
-
-    on : (q : ℕ) (h : History) → ((q ≡ n) × (h.guard ≡ None)) ⊎ (client_of old.host q ≡ Some h) → IfAsked old.passes (Fits Known h.guard) ⊎ IsMadeFor (record old { host = new.host; own = old.own ++ n ∷ [] }) q
-    on q h (inl (at, is)) = inr (subst (λ i. list_any (λ x. x == i) (old.own ++ n ∷ []) ≡ true) (sym at) (any_last n old.own))
-    on q h (inr at) = more q h (each q h at)
+guarded_deed Known old new all (ComesOwn n) does each = to Known (record old { sessions = old.sessions + 1 }) new does.1 each
 guarded_deed Known old new all (TurnsBack n mid) does each = to Known (with_host old new.host) new does.3 (λ q h found. let at = stayed mid new.host n q h does.2 found in on q h at.0 (came does.0 old.host mid n q h does.1 at.1))
   where
-    on : (q : ℕ) (h : History) → (q == n) ≡ false → ((q ≡ n) × (h.guard ≡ does.0)) ⊎ (client_of old.host q ≡ Some h) → IfAsked old.passes (Fits Known h.guard) ⊎ IsMadeFor old q
+    on : (q : ℕ) (h : History) → (q == n) ≡ false → ((q ≡ n) × (h.guard ≡ does.0)) ⊎ (client_of old.host q ≡ Some h) → IfAsked old.passes (Fits Known h.guard)
     on q h apart (inl (at, is)) = absurd (let no : ⊥ = grind (arith, nat_tests, apart, at) in no)
     on q h apart (inr at) = each q h at
 guarded_deed Known old new all (TurnsAway n) does each = to Known (record old { next = old.next + 1 }) new does.1 each
 guarded_deed Known old new all (Goes n) does each =
     to Known (record old { host = new.host; webs = remove_entry (is_at (nat_cmp n)) old.webs; batches = remove_entry (is_at (nat_cmp n)) old.batches }) new does.2
     (λ q h found. each q h (stayed old.host new.host n q h does.1 found).1)
-guarded_deed Known old new all (GoesOwn n) does each = to Known (record old { host = new.host; own = left_without n old.own }) new does.2 (λ q h found. let at = stayed old.host new.host n q h does.1 found in on q h at.0 (each q h at.1))
-  where
-    on : (q : ℕ) (h : History) → (q == n) ≡ false → IfAsked old.passes (Fits Known h.guard) ⊎ IsMadeFor old q → IfAsked old.passes (Fits Known h.guard) ⊎ IsMadeFor (record old { host = new.host; own = left_without n old.own }) q
-    on q h apart (inl is) = inl is
-    on q h apart (inr is) = inr (any_without n q old.own apart is)
 guarded_deed Known old new all (Calls n call) does each = to Known (with_host old (altered old.host n (after_call call))) new does.1 (guarded_altered Known old n (after_call call) (call_fits Known old n call all does.0) each)
 guarded_deed Known old new all (Attends n web web' errand site) does each = to Known (record (with_web old n web') { hand = new.hand; batches = new.batches }) new does.2 each
 guarded_deed Known old new all (Begins n batch) does each = to Known (record old { batches = insert_entry nat_cmp old.batches n batch }) new does.1 each
 guarded_deed Known old new all (Hands n batch batch') does each = to Known (record old { hand = new.hand; batches = set_value (is_at (nat_cmp n)) old.batches batch' }) new does.2 each
 guarded_deed Known old new all (Drops n reply) does each = to Known (record old { hand = new.hand }) new does.1.1 each
-guarded_deed Known old new all (Rotates passes) does each = to Known (record old { passes = Some passes }) new does.1 (λ q h found. on q h (each q h found))
+guarded_deed Known old new all (AsksOwn n requests) does each = to Known (record old { hand = asked_by_one old.hand n requests }) new does.2 each
+guarded_deed Known old new all (HearsOwn n reply) does each = to Known (record old { hand = new.hand }) new does.1.1 each
+guarded_deed Known old new all (Rotates passes) does each = to Known (record old { passes = Some passes }) new does.1 (λ q h found. asked_so old.passes (Fits Known h.guard) does.0 (each q h found))
   where
     asked_so : (asked : Option (List Pass)) (P : Type 0) → is_some asked ≡ true → IfAsked asked P → P
     asked_so None P some is = absurd (true≢false (sym some))
     asked_so (Some ps) P some is = is
-
-    on : (q : ℕ) (h : History) → IfAsked old.passes (Fits Known h.guard) ⊎ IsMadeFor old q → Fits Known h.guard ⊎ IsMadeFor old q
-    on q h (inl is) = inl (asked_so old.passes (Fits Known h.guard) does.0 is)
-    on q h (inr made) = inr made
 guarded_deed Known old new all (Follows feed site) does each = to Known (record old { feed = feed }) new does.1 each
 
 -- ---- bytes
@@ -194,7 +175,7 @@ guarded_bytes Known n bytes t host (inr is) each =
     (guarded_altered Known (with_host t (altered t.host n released)) n (λ h. closed h (source.Failed Memory)) (λ h is. is) (guarded_altered Known t n released (λ h is. is) each))
 
 guarded_by : (Known : Pass → Type 0) → (web : Option WebConnection) (n : ℕ) (bytes : List ℕ) (old new : Talking) → TakesBy web n bytes old new → AreGuarded Known old → AreGuarded Known new
-guarded_by Known None n bytes old new (apart, takes, same) each = to Known (with_host old new.host) new same (guarded_bytes Known n bytes old new.host takes each)
+guarded_by Known None n bytes old new (takes, same) each = to Known (with_host old new.host) new same (guarded_bytes Known n bytes old new.host takes each)
 guarded_by Known (Some web) n bytes old new (web', feeds, same) each = to Known (with_web old n web') new same each
 
 pub guarded_in : (Known : Pass → Type 0) → (n : ℕ) (bytes : List ℕ) (old new : Talking) → TakesInput n bytes old new → AreGuarded Known old → AreGuarded Known new
@@ -202,7 +183,7 @@ guarded_in Known n bytes old new (inl takes) each = guarded_by Known (web_in old
 guarded_in Known n bytes old new (inr (same, none)) each = to Known old new same each
 
 guarded_sends : (Known : Pass → Type 0) → (web : Option WebConnection) (n count : ℕ) (old new : Talking) → SendsBy web n count old new → AreGuarded Known old → AreGuarded Known new
-guarded_sends Known None n count old new (apart, same) each = to Known _ new same (guarded_altered Known old n (λ h. sent h (min count (length (waits_of old.host n)))) (λ h is. is) each)
+guarded_sends Known None n count old new same each = to Known _ new same (guarded_altered Known old n (λ h. sent h (min count (length (waits_of old.host n)))) (λ h is. is) each)
 guarded_sends Known (Some web) n count old new (web', is, same) each = to Known (with_web old n web') new same each
 
 pub guarded_out : (Known : Pass → Type 0) → (n : ℕ) (bytes : List ℕ) (old new : Talking) → GivesOut n bytes old new → AreGuarded Known old → AreGuarded Known new
@@ -214,11 +195,7 @@ guarded_out Known n bytes old new (inr (same, none)) each = to Known old new sam
 pub guarded_round : (Known : Pass → Type 0) (t : Talking) (host : HostValue) (hand : AtHandValue) (feed : FeedValue) (turns : List (ℕ × Turn)) → ((q : ℕ) → BothClients (client_of t.host q) (client_of host q) (ClientCourse (own q turns))) → AreGuarded Known t → AreGuarded Known (with_round t host hand feed)
 guarded_round Known t host hand feed turns both each q h found =
     let k = was (client_of t.host q) h (ClientCourse (own q turns)) (subst (λ o. BothClients (client_of t.host q) o (ClientCourse (own q turns))) found (both q)) in
-    on k.0 k.2 (each q k.0 k.1)
-  where
-    on : (k : History) → ClientCourse (own q turns) k h → IfAsked t.passes (Fits Known k.guard) ⊎ IsMadeFor t q → IfAsked t.passes (Fits Known h.guard) ⊎ IsMadeFor t q
-    on k course (inl is) = inl (subst (λ (x : Option Guard). IfAsked t.passes (Fits Known x)) (sym course.moved.guard) is)
-    on k course (inr made) = inr made
+    subst (λ (x : Option Guard). IfAsked t.passes (Fits Known x)) (sym k.2.moved.guard) (each q k.0 k.1)
 
 -- ---- and tokens are asked for as before
 
@@ -232,17 +209,18 @@ kept_deed old new (ComesOwn n) does = kept old new _ refl does.1
 kept_deed old new (TurnsBack n mid) does = kept old new _ refl does.3
 kept_deed old new (TurnsAway n) does = kept old new _ refl does.1
 kept_deed old new (Goes n) does = kept old new _ refl does.2
-kept_deed old new (GoesOwn n) does = kept old new _ refl does.2
 kept_deed old new (Calls n call) does = kept old new _ refl does.1
 kept_deed old new (Attends n web web' errand site) does = kept old new _ refl does.2
 kept_deed old new (Begins n batch) does = kept old new _ refl does.1
 kept_deed old new (Hands n batch batch') does = kept old new _ refl does.2
 kept_deed old new (Drops n reply) does = kept old new _ refl does.1.1
+kept_deed old new (AsksOwn n requests) does = kept old new _ refl does.2
+kept_deed old new (HearsOwn n reply) does = kept old new _ refl does.1.1
 kept_deed old new (Rotates passes) does = kept old new (record old { passes = Some passes }) (sym does.0) does.1
 kept_deed old new (Follows feed site) does = kept old new _ refl does.1
 
 kept_by : (web : Option WebConnection) (n : ℕ) (bytes : List ℕ) (old new : Talking) → TakesBy web n bytes old new → is_some new.passes ≡ is_some old.passes
-kept_by None n bytes old new (apart, takes, same) = kept old new _ refl same
+kept_by None n bytes old new (takes, same) = kept old new _ refl same
 kept_by (Some web) n bytes old new (web', feeds, same) = kept old new _ refl same
 
 pub kept_in : (n : ℕ) (bytes : List ℕ) (old new : Talking) → TakesInput n bytes old new → is_some new.passes ≡ is_some old.passes
@@ -250,7 +228,7 @@ kept_in n bytes old new (inl takes) = kept_by (web_in old n) n bytes old new tak
 kept_in n bytes old new (inr (same, none)) = kept old new old refl same
 
 kept_sends : (web : Option WebConnection) (n count : ℕ) (old new : Talking) → SendsBy web n count old new → is_some new.passes ≡ is_some old.passes
-kept_sends None n count old new (apart, same) = kept old new _ refl same
+kept_sends None n count old new same = kept old new _ refl same
 kept_sends (Some web) n count old new (web', is, same) = kept old new _ refl same
 
 pub kept_out : (n : ℕ) (bytes : List ℕ) (old new : Talking) → GivesOut n bytes old new → is_some new.passes ≡ is_some old.passes

@@ -14,7 +14,7 @@ use Rattle.mvd_server.proofs.Deeds.{carries_deeds, carries_in, carries_out, deed
 use Rattle.mvd_web.specs.declared.web_connection.WebConnection.{WebConnection}
 
 takes_by : (web : Option WebConnection) (n : ℕ) (bytes : List ℕ) (old new : Talking) → MayFeedBy web n old → FeedsBy web n bytes old new → TakesBy web n bytes old new
-takes_by None n bytes old new (apart, wants) (feeds, same) = (apart, feeds wants, same)
+takes_by None n bytes old new wants (feeds, same) = (feeds wants, same)
 takes_by (Some web) n bytes old new wants (web', feeds, same) = (web', (wants, feeds), same)
 
 -- what came of a client of which more is wanted is fed to it

@@ -1,6 +1,6 @@
 -- How a server ends.
 use Rattle.std.specs.Io.KnownBytes.{Appends}
-use Rattle.std.specs.Prelude.{◌≡◌, ◌≢◌, ◌⊎◌, ℕ, ◌+◌, ◌-◌, true, List, length, Option, Ok}
+use Rattle.std.specs.Prelude.{◌≡◌, ◌≢◌, ◌⊎◌, ℕ, ◌+◌, true, List, length, Option, Ok}
 use Rattle.mvd_conn.specs.declared.passes.Pass.{Pass}
 use Rattle.mvd_dots.specs.declared.refusals.Refusal.TheVariants.{Broken, Memory, ReadFailed, Store, WriteFailed}
 use Rattle.mvd_input.specs.declared.fault.Fault.{Fault}
@@ -15,11 +15,11 @@ use Rattle.mvd_server.specs.declared.sockets.Sockets.{Ghosts as SocketGhosts}
 use Rattle.mvd_site.specs.Sites.{SiteValue}
 use Rattle.sqlite_trees.specs.declared.store.Store.{Ghosts}
 
--- how many clients are not the server's own
+-- how many clients there are
 abbrev pub client_count : Talking → ℕ
-client_count t = (length t.host.clients - length t.own) + length t.webs
+client_count t = length t.host.clients + length t.webs
 
--- no client is left but the server's own
+-- no client is left
 abbrev pub IsDeserted : Talking → Type 0
 IsDeserted t = client_count t ≡ 0
 
@@ -40,7 +40,7 @@ abbrev pub EndsWithRoot : SiteValue → Option (List ℕ) → Type 0
 EndsWithRoot site new = (old : Option (List ℕ)) × PrintsRoot site old new
 
 module _ {S : Type 0} {g : Ghosts S} where
-  -- it has served, and at the end nobody is left but its own
+  -- it has served, and at the end nobody is left
   abbrev pub EndsServed : {K I A T : Type 0} → SocketGhosts K I A T → Option (List Pass) → Named → K → Replica S g
       → K → Replica S g → Type 0
   EndsServed k passes names sockets old sockets' new =

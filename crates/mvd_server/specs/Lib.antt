@@ -21,6 +21,7 @@ pub mod PeerSays
 pub mod Peerings
 pub mod Plans
 pub mod Questions
+pub mod Replied
 pub mod Responding
 pub mod Rounds
 pub mod Since

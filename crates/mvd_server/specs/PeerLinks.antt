@@ -1,6 +1,6 @@
 -- What moves between a socket and the side that is asked over it.
-use Rattle.std.specs.Prelude.{◌≡◌, ◌++◌, ℕ, Bool, true, false, List, Option, Some, None, Ok}
-use Rattle.mvd_meet.specs.Callers.{CallerHears, CallerSays, asked_of_caller, came_at, leaving_at}
+use Rattle.std.specs.Prelude.{◌≡◌, ◌++◌, ℕ, Bool, true, false, List, [], Option, Some, None, Ok}
+use Rattle.mvd_meet.specs.Callers.{CallerHears, CallerSays, asked_of_caller, came_at, has_ended, leaving_at}
 use Rattle.mvd_meet.specs.declared.caller.Caller.{Caller}
 use Rattle.mvd_server.specs.declared.peer_link.PeerLink.{PeerLink}
 use Rattle.mvd_server.specs.declared.peer_link.Stage.{Stage}
@@ -11,6 +11,13 @@ use Rattle.mvd_wire.specs.declared.request.Request.TheVariants.{Hello}
 abbrev pub is_rest : Stage → Bool
 is_rest stage.Rests = true
 is_rest other = false
+
+-- a far side that was asked nothing, and of which nothing came
+pub record IsUnaskedFar (caller : Caller) : Type 0 where
+  pub leaving : leaving_at caller ≡ []
+  pub came : came_at caller ≡ []
+  pub asked : asked_of_caller caller ≡ None
+  pub goes_on : has_ended caller ≡ false
 
 -- a front of the bytes that are to leave left, and bytes came behind those that came
 pub record MovesBytes (old new : Caller) : Type 0 where

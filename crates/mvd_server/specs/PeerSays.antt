@@ -5,12 +5,12 @@ use Rattle.std.specs.declared.net.socket_addr.SocketAddr.{SocketAddr}
 use Rattle.mvd_dots.specs.declared.refusals.Refusal.{Refusal}
 use Rattle.mvd_meet.specs.Meetings.{MeetingSteps, ReportsOn}
 use Rattle.mvd_meet.specs.declared.caller.Caller.{Caller}
+use Rattle.mvd_meet.specs.declared.near.Near.{Near}
 use Rattle.mvd_meet.specs.declared.stepping.Course.{Course}
 use Rattle.mvd_meet.specs.declared.stepping.Course.TheVariants as course
 use Rattle.mvd_meet.specs.declared.stepping.Meeting.{Meeting}
-use Rattle.mvd_server.specs.OwnSides.{IsFreshSession}
+use Rattle.mvd_server.specs.OwnSides.{IsFreshSession, MovesAtHand}
 use Rattle.mvd_server.specs.Paths.{Path}
-use Rattle.mvd_server.specs.PeerLinks.{MovesBytes}
 use Rattle.mvd_server.specs.PeerNews.{TellsIf, again_text, failed_text, is_due, noted_unless, peer_text, told_at}
 use Rattle.mvd_server.specs.declared.crowd.Crowd.{Crowd}
 use Rattle.mvd_server.specs.declared.own_session.OwnSession.{OwnSession}
@@ -25,10 +25,10 @@ use Rattle.mvd_sync.specs.declared.stage.Stage.TheVariants.{Done}
 
 -- ---- a session
 
--- the host's client that asks for it, this server's own side, and what goes on between the two
+-- the client at hand that asks for it, this server's own side, and what goes on between the two
 pub record Sitting : Type 0 where
   pub client : ℕ
-  pub near : Caller
+  pub near : Near
   pub meeting : Meeting
 
 abbrev pub sitting : OwnSession → Sitting
@@ -112,16 +112,16 @@ pub data PeerFails (refusal : Refusal) (old new : PeerSaid) : Type 0 where
       → new ≡ record old { session = None; failing = true; told = new.told } → PeerFails refusal old new
   again : new ≡ record old { session = None } → PeerFails refusal old new
 
--- A SESSION BEGINS, in which nothing was asked; it takes a step; bytes move between it and this server's own site; it
--- is done, and told of; it fails; or it ends where the server is to end. And what was exchanged is told, once it may
--- be. Nothing else is told
+-- A SESSION BEGINS, in which nothing was asked; it takes a step; its requests are handed to this server's own site, or
+-- replies come of that; it is done, and told of; it fails; or it ends where the server is to end. And what was exchanged
+-- is told, once it may be. Nothing else is told
 pub data PeerDoes (old new : PeerSaid) : Type 0 where
   begins : (session : OwnSession) → IsFreshSession old.number session
       → new ≡ record old { session = Some (sitting session) } → PeerDoes old new
   steps : (a b : Sitting) (far far' : Caller) (course : Course) → old.session ≡ Some a
       → SittingSteps a far b far' course → new ≡ record old { session = Some b } → PeerDoes old new
   moves : (a b : Sitting) → old.session ≡ Some a → b.client ≡ a.client → b.meeting ≡ a.meeting
-      → MovesBytes a.near b.near → new ≡ record old { session = Some b } → PeerDoes old new
+      → MovesAtHand a.near b.near → new ≡ record old { session = Some b } → PeerDoes old new
   done : (s : Sitting) → old.session ≡ Some s → PeerDone s old new → PeerDoes old new
   fails : (refusal : Refusal) → PeerFails refusal old new → PeerDoes old new
   leaves : old.ending ≡ true → new ≡ record old { session = None } → PeerDoes old new

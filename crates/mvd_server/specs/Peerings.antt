@@ -3,8 +3,9 @@ use Rattle.std.specs.Prelude.{◌≡◌, ◌≤◌, ◌<◌, ◌⊎◌, ⊤, ◌
 use Rattle.std.specs.List.{All, sum_by}
 use Rattle.std.specs.Duration.{as_nanos}
 use Rattle.std.specs.declared.time.Duration.{Duration}
-use Rattle.mvd_meet.specs.Callers.{asked_of_caller, questions_at}
-use Rattle.mvd_meet.specs.Posts.{asks_pushes}
+use Rattle.mvd_meet.specs.Callers.{questions_at}
+use Rattle.mvd_meet.specs.Inboxes.{awaits_pushes}
+use Rattle.mvd_meet.specs.Nears.{asked_near, asked_of_near}
 use Rattle.mvd_meet.specs.Loans.{over_at}
 use Rattle.mvd_meet.specs.Times.{due_of, news_at, pause_after}
 use Rattle.mvd_meet.specs.declared.pace.Met.{Met}
@@ -104,7 +105,7 @@ pub record IsCut (link : PeerLink) : Type 0 where
 
 -- a session may go on over another connection at once: it was cut so, or it asked as many questions as may be
 abbrev pub MayGoOn : PeerLink → OwnSession → Type 0
-MayGoOn link session = IsCut link ⊎ (500000 ≤ questions_at link.far) ⊎ (500000 ≤ questions_at session.near)
+MayGoOn link session = IsCut link ⊎ (500000 ≤ questions_at link.far) ⊎ (500000 ≤ asked_near session.near)
 
 abbrev pub MayTryAgain : Option PeerLink → Option OwnSession → Type 0
 MayTryAgain (Some link) (Some session) = MayGoOn link session
@@ -122,7 +123,7 @@ author_if false = Others
 
 abbrev pub author_of : Option OwnSession → Author
 author_of None = Others
-author_of (Some session) = author_if (asks_pushes (asked_of_caller session.near))
+author_of (Some session) = author_if (awaits_pushes (asked_of_near session.near))
 
 -- something changed, or not
 abbrev pub HearsNews : Bool → Author → ℕ → Schedule → Schedule → Type 0

@@ -1,5 +1,5 @@
 -- What is told of a list of questions: a line for each, of the site's answer to it; and of a list that is none.
-use Rattle.std.specs.Prelude.{◌≡◌, ◌⊎◌, nat_le, if◌then◌else◌, ℕ, Bool, true, false, List, [], ◌∷◌, ◌++◌, length, Option, Some, None, Result, Ok, Err}
+use Rattle.std.specs.Prelude.{◌≡◌, ◌⊎◌, nat_le, if◌then◌else◌, ℕ, Bool, true, List, [], ◌∷◌, ◌++◌, length, Option, Some, None, Result, Ok, Err}
 use Rattle.mvd_conn.specs.Rights.{may}
 use Rattle.mvd_conn.specs.declared.right.Right.{Right}
 use Rattle.mvd_dots.specs.declared.refusals.Refusal.{Refusal}

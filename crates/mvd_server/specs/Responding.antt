@@ -1,5 +1,5 @@
 -- What a client over HTTP is told of the reply to its request.
-use Rattle.std.specs.Prelude.{◌≡◌, ◌⊎◌, ◌&&◌, if◌then◌else◌, nat_le, codes, ℕ, Bool, true, false, List, [], ◌∷◌, Option, Some, None, Result, Ok, Err}
+use Rattle.std.specs.Prelude.{◌≡◌, ◌⊎◌, ◌&&◌, if◌then◌else◌, nat_le, ℕ, true, List, [], ◌∷◌, Option, Some, None, Result, Ok, Err}
 use Rattle.mvd_dots.specs.declared.refusals.Refusal.{Refusal}
 use Rattle.mvd_http.specs.Answers.{Responds, IsToldAs, Told, is_stored, live_told, misread_told, refused_told, reply_told, texts_told}
 use Rattle.mvd_http.specs.declared.fields.Answer.{Answer}
@@ -12,7 +12,6 @@ pub use Rattle.mvd_server.specs.Plans.{not_admitted}
 use Rattle.mvd_web.specs.Web.{RespondsTo, WebValue, stopped_by}
 use Rattle.mvd_web.specs.declared.taken.Asked.{Asked}
 use Rattle.mvd_wire.specs.declared.reply.Reply.{Reply}
-use Rattle.mvd_wire.specs.declared.request.Request.{Request}
 
 -- ---- the head of a response
 

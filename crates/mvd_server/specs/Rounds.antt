@@ -1,5 +1,5 @@
 -- What a server does to a stored site.
-use Rattle.std.specs.Prelude.{◌≡◌, ◌≤◌, ◌<◌, ◌⊎◌, ⊤, ℕ, true, List, [], ◌∷◌, Option, None, Some}
+use Rattle.std.specs.Prelude.{◌≡◌, ◌<◌, ◌⊎◌, ⊤, ℕ, true, List, [], ◌∷◌, Option, None, Some}
 use Rattle.std.specs.List.{AllByRecursion, Contains}
 use Rattle.mvd_conn.specs.declared.passes.Pass.{Pass}
 use Rattle.mvd_conn.specs.History.{History, is_done}
@@ -17,7 +17,7 @@ use Rattle.mvd_replica.specs.Turns.{Turn}
 use Rattle.mvd_replica.specs.declared.replica.Replica.{Replica}
 use Rattle.mvd_server.specs.Guarded.{IsKnownNow}
 use Rattle.mvd_server.specs.Paths.{Path}
-use Rattle.mvd_server.specs.Talking.{Deeds, DeedsAt, IsMadeFor, Talking, new_talking, talking_of}
+use Rattle.mvd_server.specs.Talking.{Deeds, DeedsAt, Talking, first_own, new_talking, talking_of}
 use Rattle.mvd_server.specs.Wires.{Wired, WiredStep}
 use Rattle.mvd_server.specs.declared.sockets.Sockets.{Ghosts as SocketGhosts}
 use Rattle.mvd_server.specs.declared.talks.Talks.{Talks}
@@ -60,11 +60,6 @@ FeedLists w = (past : List States) × Lists w.wired.talking.feed past w.site.sta
 -- what a round leaves of the host, at hand, and in the feed
 abbrev pub with_round : Talking → HostValue → AtHandValue → FeedValue → Talking
 with_round t host hand feed = record t { host = host; hand = hand; feed = feed }
-
--- at one of these moments the server made the frames of a client
-abbrev pub WasMadeFor : {K C : Type 0} → ℕ → List (World K C) → Type 0
-WasMadeFor n [] = ⊥
-WasMadeFor n (w ∷ ws) = IsMadeFor w.wired.talking n ⊎ WasMadeFor n ws
 
 -- at one of these moments a client was there, and this was true of its connection
 abbrev pub WasThere : {K C : Type 0} → ℕ → (History → Type 0) → List (World K C) → Type 0
@@ -163,14 +158,14 @@ module _ {S : Type 0} {g : Ghosts S} where
   abbrev pub world_of : {K : Type 0} → Wired K → Replica S g → World K (Held S)
   world_of wired replica = record { wired = wired; site = site_of replica; conn = conn_of replica }
 
-  -- ONE HOST served all the while: by reads and writes of the sockets, by rounds, and by deeds, which feed it frames for
-  -- its own sessions alone, and ask at hand what requests over HTTP ask
+  -- ONE HOST served all the while: by reads and writes of the sockets, by rounds, and by deeds, which ask at hand what
+  -- requests over HTTP ask, and its own sessions
   abbrev pub GoesOnServing : {K I A T : Type 0} → SocketGhosts K I A T → Wired K → Replica S g → Wired K → Replica S g
       → Type 0
   GoesOnServing k wired old wired' new = Path (ServeStep (state g) k) (world_of wired old) (world_of wired' new)
 
   -- From a new host on: what happened to the host, as one list. Its turns are all that was done to the replica, and
-  -- those of each client are what that asked and was told. Each client but the server's own is one socket (`WiredStep`)
+  -- those of each client are what that asked and was told. Each client but its own sessions is one socket (`WiredStep`)
   pub record IsServed {K I A T : Type 0} (k : SocketGhosts K I A T) (passes : Option (List Pass)) (names : Named)
       (sockets : K) (old : Replica S g) (sockets' : K) (new : Replica S g) : Type 0 where
     pub last : Talking
@@ -184,10 +179,9 @@ module _ {S : Type 0} {g : Ghosts S} where
     pub told : (n : ℕ) → n < first_at_hand
         → (own n (turns_in all) ≡ []) ⊎ WasThere n (TellsOwn (own n (turns_in all))) goes.mids
     -- each turn of one of frames is one that its right allows, and so is all that is asked over HTTP
-    pub rights : (n : ℕ) → n < first_at_hand
-        → IsLetIn (WasKnown passes goes.mids) passes (own n (turns_in all)) ⊎ WasMadeFor n goes.mids
-    pub web_rights : (n : ℕ) → first_at_hand ≤ n
+    pub rights : (n : ℕ) → n < first_at_hand → IsLetIn (WasKnown passes goes.mids) passes (own n (turns_in all))
+    pub web_rights : (n : ℕ) → n < first_own
         → AllByRecursion (IsAllowed (WasKnown passes goes.mids) passes) (own n last.hand.done)
     -- one of frames that was told anything has gone only after all of it had left, or its connection broke
     pub parted : (n : ℕ) → n < first_at_hand → client_of last.host n ≡ None
-        → (own n (turns_in all) ≡ []) ⊎ (WasThere n (λ h. is_done h ≡ true) goes.mids ⊎ WasMadeFor n goes.mids)
+        → (own n (turns_in all) ≡ []) ⊎ (WasThere n (λ h. is_done h ≡ true) goes.mids)

@@ -1,7 +1,7 @@
 -- The clients of a server, and what it does with them between two rounds.
-use Rattle.std.specs.Prelude.{◌≡◌, ◌≢◌, ◌⊎◌, ◌+◌, ◌<◌, ◌==◌, ℕ, Bool, true, false, not, List, [], ◌∷◌, ◌++◌, length, is_some, Option, None, Some, Result, Ok, ⊤}
+use Rattle.std.specs.Prelude.{◌≡◌, ◌≢◌, ◌⊎◌, ◌+◌, ◌<◌, ◌≤◌, ℕ, Bool, true, false, List, [], length, is_some, Option, None, Some, Result, Ok, ⊤}
 use Rattle.std.specs.BTreeMap.{insert_entry, is_at}
-use Rattle.std.specs.List.{filter, list_any}
+use Rattle.std.specs.List.{AllByRecursion}
 use Rattle.std.specs.Map.{lookup, remove_entry, set_value}
 use Rattle.std.specs.Ordering.{nat_cmp}
 use Rattle.mvd_conn.specs.History.{History, is_done}
@@ -9,7 +9,8 @@ use Rattle.mvd_conn.specs.declared.guard.Guard.{Guard}
 use Rattle.mvd_conn.specs.declared.passes.Pass.{Pass}
 use Rattle.mvd_dots.specs.declared.refusals.Refusal.{Refusal}
 use Rattle.mvd_dots.specs.declared.refusals.Refusal.TheVariants.{Memory}
-use Rattle.mvd_host.specs.AtHand.{AtHandValue, TakesFirst, first_at_hand, none_at_hand}
+use Rattle.mvd_host.specs.AtHand.{AllMayWait, AtHandValue, TakesFirst, asked_by_one, asks_of, first_at_hand}
+use Rattle.mvd_host.specs.AtHand.{none_at_hand}
 use Rattle.mvd_host.specs.Feeds.{FeedValue, knows_nothing}
 use Rattle.mvd_host.specs.Hosts.{AdmitsOne, ClientLeaves, HostValue, IsClient, altered, client_of, clients_most, new_host}
 use Rattle.mvd_host.specs.Lists.{ListsOn}
@@ -34,11 +35,16 @@ use Rattle.mvd_web.specs.declared.taken.Asked.{Asked}
 use Rattle.mvd_web.specs.declared.web_connection.WebConnection.{WebConnection}
 use Rattle.mvd_wire.specs.declared.reply.Reply.{Reply}
 use Rattle.mvd_wire.specs.declared.request.Request.{Request}
+use Rattle.mvd_wire.specs.declared.request.Request.TheVariants.{Bucket, Get, Node, Push}
+
+-- the numbers of the server's own sessions begin here; those of clients over HTTP are less
+abbrev pub first_own : ℕ
+first_own = 13835058055282163712
 
 -- the passes of those who may come in, if not everybody; by which names it is asked, and of which pages; the host, with
 -- the connections of frames; what those over HTTP ask and are told; their connections, and the number of the next one;
--- the writes of those of whose request some are not answered; the numbers of the server's own, for its sessions; and the
--- feed of what changed
+-- the writes of those of whose request some are not answered; the number of the next of the server's own sessions; and
+-- the feed of what changed
 pub record Talking : Type 0 where
   pub passes : Option (List Pass)
   pub names : Named
@@ -47,7 +53,7 @@ pub record Talking : Type 0 where
   pub webs : List (ℕ × WebConnection)
   pub next : ℕ
   pub batches : List (ℕ × Batch)
-  pub own : List ℕ
+  pub sessions : ℕ
   pub feed : FeedValue
 
 abbrev pub talking_of : Talks → Talking
@@ -59,7 +65,7 @@ talking_of t = record {
   webs = t.webs.entries;
   next = t.next;
   batches = t.batches.entries;
-  own = t.own.items;
+  sessions = t.sessions;
   feed = t.changes;
 }
 
@@ -72,7 +78,7 @@ new_talking passes names = record {
   webs = [];
   next = first_at_hand;
   batches = [];
-  own = [];
+  sessions = first_own;
   feed = knows_nothing;
 }
 
@@ -111,47 +117,46 @@ LacksMemory n old new =
 abbrev pub with_host : Talking → HostValue → Talking
 with_host t host = record t { host = host }
 
--- whether a client is the server's own
-abbrev pub is_own_client : Talking → ℕ → Bool
-is_own_client t n = list_any (λ q. q == n) t.own
-
-abbrev pub left_without : ℕ → List ℕ → List ℕ
-left_without n own = filter (λ q. not (q == n)) own
-
 -- the first reply that is left, to this client, is taken away
 abbrev pub TakesReply : ℕ → Reply → Talking → Talking → Type 0
 TakesReply n reply old new = TakesFirst old.hand (Some (n, reply)) new.hand × (new ≡ record old { hand = new.hand })
 
+-- what a session asks: nodes, pages of keys and states, and it pushes states
+abbrev pub is_of_session : Request → Bool
+is_of_session (Node path) = true
+is_of_session (Bucket path after) = true
+is_of_session (Get key) = true
+is_of_session (Push key state) = true
+is_of_session request = false
+
+abbrev pub AreOfSession : List Request → Type 0
+AreOfSession requests = AllByRecursion (λ request. is_of_session request ≡ true) requests
+
 -- ---- deeds
 
--- the frames of a client are made by the server: it is the server's own
-abbrev pub IsMadeFor : Talking → ℕ → Type 0
-IsMadeFor t n = is_own_client t n ≡ true
-
--- NOTHING IS LEFT TO DO for a client. One of frames, which is not the server's own, has ended, and all that it was told
--- has left; or its connection broke. One over HTTP has ended, no request of it waits, and all that it was told has left;
--- or it was stopped, or nothing came of it
-abbrev pub HasNothingLeft : Bool → Option WebConnection → Option History → Type 0
-HasNothingLeft own None client = (own ≡ false) × IsClient client (λ h. is_done h ≡ true)
-HasNothingLeft own (Some web) client = IsOver (web_of web) ⊎ IsNew (web_of web)
+-- NOTHING IS LEFT TO DO for a client. One of frames has ended, and all that it was told has left; or its connection
+-- broke. One over HTTP has ended, no request of it waits, and all that it was told has left; or it was stopped, or
+-- nothing came of it
+abbrev pub HasNothingLeft : Option WebConnection → Option History → Type 0
+HasNothingLeft None client = IsClient client (λ h. is_done h ≡ true)
+HasNothingLeft (Some web) client = IsOver (web_of web) ⊎ IsNew (web_of web)
 
 abbrev pub MayPart : ℕ → Talking → Type 0
-MayPart n t = HasNothingLeft (is_own_client t n) (web_in t n) (client_of t.host n)
+MayPart n t = HasNothingLeft (web_in t n) (client_of t.host n)
 
--- but by its socket no byte comes of a client that is not the server's own, and none leaves; and it meets the passes that
--- are known
+-- but by its socket no byte comes of a client, and none leaves; and it meets the passes that are known
 abbrev pub MayCall : Talking → ℕ → Call → Type 0
-MayCall t n (Feeds bytes) = is_own_client t n ≡ true
-MayCall t n (Sends count) = is_own_client t n ≡ true
+MayCall t n (Feeds bytes) = ⊥
+MayCall t n (Sends count) = ⊥
 MayCall t n (Meets passes) = t.passes ≡ Some passes
 MayCall t n Releases = ⊤
 MayCall t n (Closes source) = ⊤
 MayCall t n Cuts = ⊤
 
--- A client of frames comes, one over HTTP, or one of the server's own; one comes and goes at once, or is turned away and
--- no client; one goes, or one of the server's own; there is a call on the connection of one, or an errand for one over
--- HTTP; its many writes begin, or are asked; or a reply is dropped whose client has gone. Or other passes are known from
--- now on; or the feed begins. An errand and a beginning are of a site
+-- A client of frames comes, one over HTTP, or one of the server's own sessions; one comes and goes at once, or is turned
+-- away and no client; one goes; there is a call on the connection of one, or an errand for one over HTTP; its many writes
+-- begin, or are asked; or a reply is dropped whose client has gone. A session asks at hand, or is told a reply. Or other
+-- passes are known from now on; or the feed begins. An errand and a beginning are of a site
 pub data Act : Type 0 where
   Comes : ℕ → Act
   ComesByWeb : ℕ → WebConnection → Act
@@ -159,12 +164,13 @@ pub data Act : Type 0 where
   TurnsBack : ℕ → HostValue → Act
   TurnsAway : ℕ → Act
   Goes : ℕ → Act
-  GoesOwn : ℕ → Act
   Calls : ℕ → Call → Act
   Attends : ℕ → WebConnection → WebConnection → Errand → SiteValue → Act
   Begins : ℕ → Batch → Act
   Hands : ℕ → Batch → Batch → Act
   Drops : ℕ → Reply → Act
+  AsksOwn : ℕ → List Request → Act
+  HearsOwn : ℕ → Reply → Act
   Rotates : List Pass → Act
   Follows : FeedValue → SiteValue → Act
 
@@ -173,10 +179,9 @@ pub data Act : Type 0 where
 abbrev pub DoesAct : Act → Talking → Talking → Type 0
 DoesAct (Comes n) old new = AdmitsOne (first_guard old.passes) old.host new.host n × (new ≡ with_host old new.host)
 DoesAct (ComesByWeb n web) old new =
-    ((n ≡ old.next) × (length old.webs < clients_most)) × IsNew (web_of web)
+    ((n ≡ old.next) × ((length old.webs < clients_most) × (n < first_own))) × IsNew (web_of web)
     × (new ≡ record old { webs = insert_entry nat_cmp old.webs n web; next = old.next + 1 })
-DoesAct (ComesOwn n) old new =
-    AdmitsOne None old.host new.host n × (new ≡ record old { host = new.host; own = old.own ++ n ∷ [] })
+DoesAct (ComesOwn n) old new = (n ≡ old.sessions) × (new ≡ record old { sessions = old.sessions + 1 })
 DoesAct (TurnsBack n mid) old new =
     (guard : Option Guard) × AdmitsOne guard old.host mid n × ClientLeaves mid n new.host
     × (new ≡ with_host old new.host)
@@ -188,9 +193,6 @@ DoesAct (Goes n) old new =
       webs = remove_entry (is_at (nat_cmp n)) old.webs;
       batches = remove_entry (is_at (nat_cmp n)) old.batches;
     })
-DoesAct (GoesOwn n) old new =
-    (is_own_client old n ≡ true) × ClientLeaves old.host n new.host
-    × (new ≡ record old { host = new.host; own = left_without n old.own })
 DoesAct (Calls n call) old new = MayCall old n call × (new ≡ with_host old (altered old.host n (after_call call)))
 DoesAct (Attends n web web' errand site) old new =
     (web_in old n ≡ Some web)
@@ -203,6 +205,10 @@ DoesAct (Hands n batch batch') old new =
     (batch_in old.batches n ≡ Some batch) × HandsBatch n batch old.hand batch' new.hand
     × (new ≡ record old { hand = new.hand; batches = set_value (is_at (nat_cmp n)) old.batches batch' })
 DoesAct (Drops n reply) old new = (web_in old n ≡ None) × TakesReply n reply old new
+DoesAct (AsksOwn n requests) old new =
+    (AreOfSession requests × (first_own ≤ n)) × AllMayWait (asks_of n requests)
+    × (new ≡ record old { hand = asked_by_one old.hand n requests })
+DoesAct (HearsOwn n reply) old new = (first_own ≤ n) × TakesReply n reply old new
 DoesAct (Rotates passes) old new = (is_some old.passes ≡ true) × (new ≡ record old { passes = Some passes })
 DoesAct (Follows feed site) old new =
     ListsOn old.feed site.states feed site.states × (new ≡ record old { feed = feed })

@@ -1,5 +1,5 @@
 -- What a file with tokens lets in.
-use Rattle.std.specs.Prelude.{◌≡◌, ℕ, List, [], ◌∷◌, Option, Some, None, is_some, option_map, option_copied, ⊤}
+use Rattle.std.specs.Prelude.{◌≡◌, List, [], ◌∷◌, Option, is_some, option_map, option_copied, ⊤}
 use Rattle.sha2.specs.Sha256.{sha256}
 use Rattle.mvd_conn.specs.Rights.{prefix_of}
 use Rattle.mvd_conn.specs.declared.passes.Pass.{Pass}

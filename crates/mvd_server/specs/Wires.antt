@@ -1,11 +1,11 @@
 -- What comes by the clients' sockets, and what leaves by them.
-use Rattle.std.specs.Prelude.{◌≡◌, ◌⊎◌, ◌++◌, ℕ, false, List, [], codes, length, min, take, Option, None, Some}
+use Rattle.std.specs.Prelude.{◌≡◌, ◌⊎◌, ◌++◌, ℕ, List, [], codes, length, min, take, Option, None, Some}
 use Rattle.mvd_conn.specs.History.{WantsInput}
 use Rattle.mvd_dots.specs.declared.refusals.Refusal.TheVariants.{TooManyRequests}
 use Rattle.mvd_host.specs.Hosts.{IsClient, client_of}
 use Rattle.mvd_server.specs.HostBytes.{TakesBytes, sent_of, waits_of}
 use Rattle.mvd_server.specs.Paths.{Path}
-use Rattle.mvd_server.specs.Talking.{Deed, Talking, is_own_client, newcomer, talking_of, web_in, with_host, with_web}
+use Rattle.mvd_server.specs.Talking.{Deed, Talking, newcomer, talking_of, web_in, with_host, with_web}
 use Rattle.mvd_server.specs.declared.sockets.Sockets.{Ghosts}
 use Rattle.mvd_server.specs.declared.talks.Talks.{Talks}
 use Rattle.mvd_site.specs.Sites.{SiteValue}
@@ -18,11 +18,9 @@ use Rattle.mvd_wire.specs.declared.reply.Reply.TheVariants.{Refused}
 -- ---- what comes
 
 -- Bytes are fed to the connection of a client, over HTTP or not; or memory is refused for them, and no more is taken of
--- it. Who sends frames by a socket is none of the server's own, which show no token. Nothing is read of one over HTTP
--- that wants no more, so what is held of it is bounded
+-- it. Nothing is read of one over HTTP that wants no more, so what is held of it is bounded
 abbrev pub TakesBy : Option WebConnection → ℕ → List ℕ → Talking → Talking → Type 0
-TakesBy None n bytes old new =
-    (is_own_client old n ≡ false) × TakesBytes old.host n bytes new.host × (new ≡ with_host old new.host)
+TakesBy None n bytes old new = TakesBytes old.host n bytes new.host × (new ≡ with_host old new.host)
 TakesBy (Some web) n bytes old new =
     (web' : WebConnection) × (WantsBytes (web_of web) × Feeds (web_of web) bytes (web_of web'))
     × (new ≡ with_web old n web')
@@ -38,7 +36,7 @@ TakesInput n bytes old new =
 
 -- a client is fed where its connection wants more, of frames where the host does
 abbrev pub IsFedBySocket : ℕ → Talking → Type 0
-IsFedBySocket n t = (is_own_client t n ≡ false) × IsClient (client_of t.host n) WantsInput
+IsFedBySocket n t = IsClient (client_of t.host n) WantsInput
 
 abbrev pub MayFeedBy : Option WebConnection → ℕ → Talking → Type 0
 MayFeedBy None n t = IsFedBySocket n t
@@ -67,11 +65,9 @@ waits_by (Some web) waits = (web_of web).waits
 abbrev pub waits_for : ℕ → Talking → List ℕ
 waits_for n t = waits_by (web_in t n) (waits_of t.host n)
 
--- so many of them left, or all; none of what waits for one of the server's own leaves by a socket
+-- so many of them left, or all
 abbrev pub SendsBy : Option WebConnection → ℕ → ℕ → Talking → Talking → Type 0
-SendsBy None n count old new =
-    (is_own_client old n ≡ false)
-    × (new ≡ with_host old (sent_of old.host n (min count (length (waits_of old.host n)))))
+SendsBy None n count old new = new ≡ with_host old (sent_of old.host n (min count (length (waits_of old.host n))))
 SendsBy (Some web) n count old new =
     (web' : WebConnection) × (web_of web' ≡ web_sent (web_of web) (min count (length (web_of web).waits)))
     × (new ≡ with_web old n web')

@@ -42,7 +42,7 @@ impl<K: Sockets> Clientele<K> {
         })
     }
 
-    /// Whether all that are to come have come, and nobody is left but the server's own.
+    /// Whether all that are to come have come, and nobody is left.
     pub fn is_over(&self, crowd: &Crowd) -> bool
         ensures { IsTrue result → IsDeserted (talking_of crowd.entry.now.talks) }
     {

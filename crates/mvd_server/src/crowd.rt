@@ -57,14 +57,7 @@ impl Crowd {
         let peers = Peers::counts(alloc, terms)?;
         let names = terms.names(alloc)?;
         let passes = terms.passes(alloc)?;
-        let talks = Talks::new(
-            alloc,
-            keys,
-            passes,
-            names,
-            terms.peers.len(),
-            terms.waits_max(),
-        )?;
+        let talks = Talks::new(alloc, keys, passes, names, terms.waits_max());
         Ok(Crowd {
             talks,
             counts: Counts::new(alloc, peers, start),

@@ -54,9 +54,6 @@ pub(crate) fn send<K: Sockets>(talks: &mut Talks, sockets: &mut K, client: &mut 
     ensures { Carries K.Sockets (wired_of talks.old sockets.old) (wired_of talks.new sockets.new) }
 {
     let number = K::number(&client.socket);
-    if talks.is_own(number) {
-        return;
-    }
     let bytes = talks.waiting(number);
     if bytes.is_empty() {
         return;

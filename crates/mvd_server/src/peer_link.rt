@@ -2,8 +2,7 @@
 ghost use Rattle.std.specs.Prelude.{◌≡◌, ◌<◌, IfOk, false, true};
 ghost use Rattle.mvd_meet.specs.Callers.{came_at};
 ghost use Rattle.mvd_meet.specs.Loans.{over_at};
-ghost use Rattle.mvd_server.specs.OwnSides.{IsUnasked};
-ghost use Rattle.mvd_server.specs.PeerLinks.{MovesBytes, is_rest};
+ghost use Rattle.mvd_server.specs.PeerLinks.{IsUnaskedFar, MovesBytes, is_rest};
 
 use crate::client::{Client, Moved, Piece};
 use crate::sockets::{Direct, Sockets};
@@ -71,7 +70,7 @@ impl PeerLink {
         idle: u64,
         now: u64,
     ) -> io::Result<PeerLink>
-        ensures { IfOk result (λ link. IsUnasked link.far × (link.stage ≡ Stage.Connects)) }
+        ensures { IfOk result (λ link. IsUnaskedFar link.far × (link.stage ≡ Stage.Connects)) }
     {
         let stream = TcpStream::connect(rt, address)?;
         let taken = Direct {}.take_over(registry, token.0 as u64, stream)?;

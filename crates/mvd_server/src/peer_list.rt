@@ -1,8 +1,9 @@
 //! The peers that this server meets while it serves.
-ghost use Rattle.std.specs.Prelude.{◌≡◌, ◌≢◌, ◌≤◌, ◌+◌, ◌-◌, length, true};
+ghost use Rattle.std.specs.Prelude.{◌≡◌, ◌≢◌, ◌≤◌, ◌+◌, ◌-◌, IfSome, None, length, true};
 ghost use Rattle.std.specs.List.{All};
 ghost use Rattle.mvd_server.specs.PeerSays.{PeersSay, said_by_all};
 ghost use Rattle.mvd_server.specs.Peerings.{HaveNews, IsLentAt, LooksInTime, places_taken};
+ghost use Rattle.mvd_server.specs.Replied.{HaveEnded, HaveNone, HearsAll, HearsAs, IsPlaceOf};
 ghost use Rattle.mvd_server.specs.Talking.{TalksDeeds};
 ghost use Rattle.mvd_server.specs.declared.crowd.Crowd.{Crowd};
 
@@ -15,6 +16,7 @@ use crate::timers::earlier;
 use mio::event::Event;
 use mio::{Registry, Token};
 use mvd_input::tell;
+use mvd_wire::Reply;
 use std::alloc::{AllocError, Global};
 use std::io::Write;
 use std::net::Net;
@@ -211,21 +213,63 @@ impl Peers {
         }
     }
 
-    /// Hands on what the sessions ask of this server's site, and lists their clients.
-    pub fn list(&mut self, crowd: &mut Crowd, ready: &mut Vec<u64>)
+    /// Hands on what the sessions ask of this server's site.
+    pub fn hand_on(&mut self, crowd: &mut Crowd)
         ensures deeds { TalksDeeds crowd.old.talks crowd.new.talks }
         ensures says { PeersSay (said_by_all self.old.list.items self.old.setting crowd.old)
             (said_by_all self.new.list.items self.new.setting crowd.new) }
     {
         for peering in self.list.iter_mut() {
-            peering.list(crowd, ready);
+            peering.hand_on(crowd);
         }
     }
 
-    /// Takes what the site told the sessions. Where something was committed, all peers are met soon.
-    pub fn take_replies(&mut self, crowd: &mut Crowd, commits: u64)
+    /// Takes what the site told the sessions, each of them what it was told. Where one has ended, nobody is told.
+    pub fn hear_all(&mut self, crowd: &mut Crowd, told: Vec<(u64, Reply)>)
+        ensures hears { HearsAll told.items self.old.list.items self.new.list.items }
+        ensures rest { self.new ≡ record self.old { list = self.new.list; few = self.new.few } }
+        ensures deeds { TalksDeeds crowd.old.talks crowd.new.talks }
+        ensures says { PeersSay (said_by_all self.old.list.items self.old.setting crowd.old)
+            (said_by_all self.new.list.items self.new.setting crowd.new) }
+    {
+        for (client, reply) in told {
+            self.hear(crowd, client, reply);
+        }
+    }
+
+    /// Takes what the site told one of the sessions.
+    fn hear(&mut self, crowd: &mut Crowd, client: u64, reply: Reply)
+        ensures hears { HearsAs client reply self.old.list.items self.new.list.items }
+        ensures rest { self.new ≡ record self.old { list = self.new.list; few = self.new.few } }
+        ensures deeds { TalksDeeds crowd.old.talks crowd.new.talks }
+        ensures says { PeersSay (said_by_all self.old.list.items self.old.setting crowd.old)
+            (said_by_all self.new.list.items self.new.setting crowd.new) }
+    {
+        let Some(place) = self.place_of(client) else {
+            return;
+        };
+        self.list[place].hear(crowd, reply);
+    }
+
+    /// The place of the one whose session has this number, if one has.
+    fn place_of(&self, client: u64) -> Option<usize>
+        ensures some { IfSome result (IsPlaceOf client self.now.list.items) }
+        ensures none { result ≡ None → HaveNone client self.now.list.items }
+    {
+        for place in 0..self.list.len() {
+            if self.list[place].asks_as(client) {
+                return Some(place);
+            }
+        }
+        None
+    }
+
+    /// Notes whether something was committed: then all peers are met soon. Sessions fail that wait for replies which may
+    /// be lost.
+    pub fn note_commits(&mut self, crowd: &mut Crowd, has_lost: bool, commits: u64)
         ensures news { self.old.commits ≢ commits → HaveNews self.new.list.items }
         ensures noted { self.new.commits ≡ commits }
+        ensures lost { HaveEnded has_lost self.old.list.items self.new.list.items }
         ensures deeds { TalksDeeds crowd.old.talks crowd.new.talks }
         ensures says { PeersSay (said_by_all self.old.list.items self.old.setting crowd.old)
             (said_by_all self.new.list.items self.new.setting crowd.new) }
@@ -233,7 +277,7 @@ impl Peers {
         let changed = commits != self.commits;
         self.commits = commits;
         for peering in self.list.iter_mut() {
-            peering.hear(crowd, changed);
+            peering.look(crowd, has_lost, changed);
         }
     }
 

@@ -15,7 +15,7 @@ use crate::peer_counts::count_done;
 use crate::peer_link::{PeerLink, Stage};
 use crate::peer_news::{Setting, tell_again, tell_left};
 use crate::peer_turn::{Went, has_turn_in, refusal_in, step_of};
-use crate::peering::{MOST_QUESTIONS, Peering, let_go};
+use crate::peering::{MOST_QUESTIONS, Peering};
 use mvd_dots::Refusal;
 use mvd_meet::Met;
 use mvd_sync::Report;
@@ -221,7 +221,7 @@ impl Peering {
         ensures crowd { crowd.new ≡ record crowd.old { talks = crowd.new.talks } }
         ensures deeds { TalksDeeds crowd.old.talks crowd.new.talks }
     {
-        let_go(self.session.take(), &mut crowd.talks);
+        self.session = None;
         self.part(crowd.now)
     }
 
@@ -249,7 +249,6 @@ impl Peering {
             PeerSays (record (said_by self.old setting.old crowd.old) { session = Some (sitting session) })
             (said_by self.new setting.new crowd.new) }
     {
-        crowd.talks.dismiss_own(session.client);
         let report = session.report();
         self.note_again(&mut crowd.told);
         self.note_exchanged(setting, &report);

@@ -5,6 +5,7 @@ ghost use Rattle.mvd_server.specs.PeerNews.{TellsIf, failed_text};
 ghost use Rattle.mvd_server.specs.PeerSays.{PeerFails, PeerSays, said_by};
 ghost use Rattle.mvd_server.specs.Peerings.{FailsMeeting, HearsNews, MayGoOn, MayTryAgain, TakesNoPlace, author_of};
 ghost use Rattle.mvd_server.specs.Peerings.{has_place, is_resting};
+ghost use Rattle.mvd_server.specs.Replied.{EndsIfLost, SessionHears, has_number};
 ghost use Rattle.mvd_server.specs.Talking.{TalksDeeds};
 ghost use Rattle.mvd_server.specs.declared.peer_news.Setting.{Setting};
 
@@ -13,14 +14,13 @@ use crate::own_session::OwnSession;
 use crate::peer_counts::count_failed;
 use crate::peer_link::PeerLink;
 use crate::peer_news::{Setting, Untold, tell_failed};
-use crate::talks::Talks;
 use crate::timers::earlier;
 use mio::event::Event;
 use mio::{Registry, Token};
 use mvd_dots::Refusal;
 use mvd_meet::{Author, Met, Schedule};
 use mvd_sync::Left;
-use mvd_wire::Items;
+use mvd_wire::{Items, Reply};
 use std::net::{Net, SocketAddr};
 
 /// The most questions that may have been asked over a connection on which another session begins. No session that asked
@@ -201,7 +201,7 @@ impl Peering {
     {
         let is_again = self.is_again(refusal);
         self.link = None;
-        let_go(self.session.take(), &mut crowd.talks);
+        self.session = None;
         if is_again {
             return self.schedule.again();
         }
@@ -233,8 +233,8 @@ impl Peering {
         }
     }
 
-    /// Hands on what its session asks of the host, and lists its client.
-    pub fn list(&mut self, crowd: &mut Crowd, ready: &mut Vec<u64>)
+    /// Hands on what its session asks of this server's site.
+    pub fn hand_on(&mut self, crowd: &mut Crowd)
         ensures places { TakesNoPlace self.old self.new }
         ensures schedule { self.new.schedule ≡ self.old.schedule }
         ensures deeds { TalksDeeds crowd.old.talks crowd.new.talks }
@@ -245,13 +245,22 @@ impl Peering {
             && session.is_busy()
         {
             session.hand_on(&mut crowd.talks);
-            // Where memory is refused, it has its turn later.
-            let _ = ready.push(session.client);
         }
     }
 
-    /// Takes what the host told its session, and notes whether something changed.
-    pub fn hear(&mut self, crowd: &mut Crowd, changed: bool)
+    /// Whether this is the number of its session.
+    pub fn asks_as(&self, client: u64) -> bool
+        ensures { result ≡ has_number client self.now.session }
+    {
+        match &self.session {
+            Some(session) => session.client == client,
+            None => false,
+        }
+    }
+
+    /// Notes whether something changed. Its session fails where a reply to it may be lost.
+    pub fn look(&mut self, crowd: &mut Crowd, has_lost: bool, changed: bool)
+        ensures lost { EndsIfLost has_lost self.old.session self.new.session }
         ensures places { TakesNoPlace self.old self.new }
         ensures news { HearsNews changed (author_of self.old.session) crowd.old.now self.old.schedule self.new.schedule }
         ensures deeds { TalksDeeds crowd.old.talks crowd.new.talks }
@@ -260,16 +269,35 @@ impl Peering {
     {
         let now = crowd.now;
         let author = self.author();
-        self.take_replies(crowd);
+        self.fail_if(crowd, has_lost);
         if !changed {
             return;
         }
         self.note_change(author, now);
     }
 
-    /// Takes what the host told its session.
+    /// Its session fails, where it waits for a reply that may be lost.
+    #[tactic(auto, using(crate::proofs::Failing::keeps_news, crate::proofs::Replying::ends_now, crate::proofs::Replying::ends_kept, crate::proofs::Replying::ends_none, crate::proofs::Replying::ends_all))]
+    fn fail_if(&mut self, crowd: &mut Crowd, has_lost: bool)
+        ensures lost { EndsIfLost has_lost self.old.session self.new.session }
+        ensures places { TakesNoPlace self.old self.new }
+        ensures news { self.new.schedule.news ≡ self.old.schedule.news }
+        ensures deeds { TalksDeeds crowd.old.talks crowd.new.talks }
+        ensures says { (setting : Setting) → PeerSays (said_by self.old setting crowd.old)
+            (said_by self.new setting crowd.new) }
+    {
+        if has_lost
+            && let Some(session) = &self.session
+            && session.is_busy()
+        {
+            self.fail(crowd, Refusal::Memory);
+        }
+    }
+
+    /// Takes what this server's site told its session.
     #[tactic(auto, using(crate::proofs::Failing::keeps_news))]
-    fn take_replies(&mut self, crowd: &mut Crowd)
+    pub fn hear(&mut self, crowd: &mut Crowd, reply: Reply)
+        ensures hears { SessionHears reply self.old.session self.new.session }
         ensures places { TakesNoPlace self.old self.new }
         ensures news { self.new.schedule.news ≡ self.old.schedule.news }
         ensures deeds { TalksDeeds crowd.old.talks crowd.new.talks }
@@ -279,7 +307,7 @@ impl Peering {
         let Some(session) = &mut self.session else {
             return;
         };
-        match session.take_replies(&mut crowd.talks) {
+        match session.hear(reply) {
             Ok(()) => {}
             Err(refusal) => self.fail(crowd, refusal),
         }
@@ -299,14 +327,4 @@ fn may_go_on(link: &PeerLink, session: &OwnSession, refusal: Refusal) -> bool
         return true;
     }
     is_cut && link.is_kept && !link.has_heard
-}
-
-/// A session ends, if there is one.
-pub(crate) fn let_go(session: Option<OwnSession>, talks: &mut Talks)
-    ensures { TalksDeeds talks.old talks.new }
-{
-    if let Some(session) = session {
-        talks.dismiss_own(session.client);
-        drop(session);
-    }
 }

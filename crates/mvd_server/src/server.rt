@@ -81,11 +81,11 @@ pub fn serve_run<
     writer: &mut W,
     errors: &mut E,
 ) -> Result<(), Stop<'a>>
-    // However it ends, the site changed by turns of one host alone, fed by its sockets and its sessions with peers, and
-    // its records follow.
+    // However it ends, the site changed by turns of one host alone, of which its clients and its sessions with peers
+    // ask, and its records follow.
     ensures served { IsServed K.Sockets (passes_asked terms.entry) (names_asked terms.entry)
         sockets.old replica.old sockets.new replica.new }
-    // Where it ends well, nobody is left but the server's own.
+    // Where it ends well, nobody is left.
     ensures left { OnOk result (EndsServed K.Sockets (passes_asked terms.entry) (names_asked terms.entry)
         sockets.old replica.old sockets.new replica.new) }
     // Then the last line that it printed is the root of its site.
@@ -230,7 +230,7 @@ impl<K: Sockets> Server<K> {
     /// How long nothing needs to be done if the system tells of nothing.
     fn pause(&self) -> Option<Duration>
         ensures peers { WakesInTime self.now.peers.list.items self.now.crowd.now result }
-        // It does not sleep while something that was asked over HTTP waits for a round.
+        // It does not sleep while something that was asked at hand waits for a round.
         ensures waits { self.now.crowd.talks.hand.waits ≢ [] → IsSomeAnd result (λ time. as_nanos time ≡ 0) }
     {
         if !self.ready.is_empty() || self.peers.are_busy() || self.crowd.talks.has_waiting() {

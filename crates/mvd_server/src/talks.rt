@@ -1,6 +1,7 @@
 //! What the clients say, in frames or over HTTP.
 mod comings;
 mod meeting;
+pub(crate) mod own;
 mod talk_bytes;
 mod waking;
 
@@ -9,6 +10,7 @@ ghost use Rattle.mvd_http.specs.Guard.{named_by};
 ghost use Rattle.mvd_replica.specs.Replicas.{site_of};
 ghost use Rattle.mvd_server.specs.Rounds.{HasRound};
 ghost use Rattle.mvd_server.specs.Errands.{batch_in};
+ghost use Rattle.mvd_server.specs.Replied.{KeepsReplies};
 ghost use Rattle.mvd_server.specs.Talking.{Deeds, HandsWrites, HasItsWrites, KeepsBatch, LacksMemory, MayBeginWrites};
 ghost use Rattle.mvd_server.specs.Talking.{TakesReply, Talking, TalksAt, TalksDeeds, TellsAtOnce, TellsFirst};
 ghost use Rattle.mvd_server.specs.Talking.{new_talking, talking_of, web_in};
@@ -20,6 +22,7 @@ use crate::gate::{Rest, answer_writes, ask};
 use crate::metrics::Counts;
 use crate::parked::Parked;
 use crate::responding::{refuse, tell_reply};
+use crate::talks::own::{FIRST_OWN, Heard, is_own};
 use mvd_conn::Passes;
 use mvd_dots::Refusal;
 use mvd_host::{AtHand, FIRST_AT_HAND, Feed, Host};
@@ -40,7 +43,7 @@ pub(crate) enum Kind {
 }
 
 /// The clients' connections: those of frames in the host, and those over HTTP in `webs`. What these ask of the site, and
-/// are told, is at hand.
+/// are told, is at hand, and so it is of this server's own sessions.
 #[derive(Drop)]
 pub(crate) struct Talks {
     pub host: Host,
@@ -62,26 +65,26 @@ pub(crate) struct Talks {
     pub woken: Vec<u64>,
     /// A client asked that the server ends.
     pub is_ending: bool,
-    /// The numbers of those of the host's clients that are this server's own, for sessions with its peers.
-    pub own: Vec<u64>,
+    /// The number of the next session of this server's own with a peer.
+    pub sessions: u64,
+    heard: Heard,
     alloc: Global,
     keys: RandomState,
 }
 
 impl Talks {
-    /// Nobody's. There is room for as many clients of its own, and as many others may wait for a change.
+    /// Nobody's. As many clients may wait for a change.
     pub fn new(
         alloc: Global,
         keys: RandomState,
         passes: Option<Passes>,
         names: Names,
-        own: usize,
         waits_max: usize,
-    ) -> Result<Talks, AllocError>
-        ensures begins { IfOk result (λ talks. talking_of talks ≡ new_talking passes (named_by names)) }
-        ensures most { IfOk result (λ talks. talks.waits_max ≡ waits_max) }
+    ) -> Talks
+        ensures begins { talking_of result ≡ new_talking passes (named_by names) }
+        ensures most { result.waits_max ≡ waits_max }
     {
-        Ok(Talks {
+        Talks {
             host: Host::new(alloc),
             passes,
             names,
@@ -94,10 +97,11 @@ impl Talks {
             waits_max,
             woken: Vec::new(alloc),
             is_ending: false,
-            own: Vec::with_capacity(alloc, own)?,
+            sessions: FIRST_OWN,
+            heard: Heard::new(alloc),
             alloc,
             keys,
-        })
+        }
     }
 
     /// Takes requests of some clients, answers them together, and queues what each is told, and what those are told
@@ -222,10 +226,11 @@ impl Talks {
         }
     }
 
-    /// Queues what clients over HTTP are told of the replies that are left.
+    /// Queues what clients over HTTP are told of the replies that are left, and keeps what the sessions are told.
     fn tell_all(&mut self, counts: &mut Counts)
         ensures deeds { TalksDeeds self.old self.new }
         ensures none { self.new.hand.left ≡ [] }
+        ensures heard { KeepsReplies self.old self.new }
     {
         'telling: while self.tell_next(counts) {}
     }
@@ -235,10 +240,15 @@ impl Talks {
         ensures deeds { TalksDeeds self.old self.new }
         ensures fewer { result ≡ true → length self.new.hand.left < length self.old.hand.left }
         ensures none { result ≡ false → self.new.hand.left ≡ [] }
+        ensures heard { KeepsReplies self.old self.new }
     {
         let Some((number, reply)) = self.hand.next() else {
             return false;
         };
+        if is_own(number) {
+            self.heard.push(number, reply);
+            return true;
+        }
         self.tell(number, &reply, counts);
         true
     }
@@ -248,6 +258,7 @@ impl Talks {
         ensures deeds { (before : Talking) → TakesReply number reply.now before (talking_of self.old) →
             Deeds before (talking_of self.new) }
         ensures hand { self.new.hand ≡ self.old.hand }
+        ensures heard { self.new.heard ≡ self.old.heard }
     {
         let Some(web) = self.webs.get_mut(&number) else {
             return;

@@ -180,8 +180,11 @@ pub fn collect<A: Answer>(
     replies: Vec<Result<Reply, Refusal>>,
 ) -> Result<Vec<Result<A, Refusal>>, Refusal>
     requires { All (IsOfKind A.of_kind) replies.items }
-    ensures { (nones : List (Option Cause)) (old new : Link) → TakesEach A.of_kind nones replies.items old new →
-        Collects A.as_reply A.of_kind nones old new result }
+    ensures collects { (nones : List (Option Cause)) (old new : Link) →
+        TakesEach A.of_kind nones replies.items old new → Collects A.as_reply A.of_kind nones old new result }
+    ensures told { IfOk result (λ told. ForEach (IsToldBy A.as_reply) replies.items told.items) }
+    ensures ended { IfErr result (λ refusal. (refusal ≡ Memory) ⊎ ((refusal ≡ Broken) ×
+        (Contains replies.items (Ok (Refused Broken)) ⊎ Contains replies.items (Err Broken)))) }
 {
     answers(alloc, replies)
 }

@@ -52,8 +52,8 @@ impl<K: Sockets> Clientele<K> {
         kind: Kind,
         ready: &mut Vec<u64>,
     ) -> Result<(), AllocError>
-        // Nobody comes in as one of the server's own.
-        ensures own { crowd.new.talks.own ≡ crowd.old.talks.own }
+        // Nobody comes in as one of the server's own sessions.
+        ensures own { crowd.new.talks.sessions ≡ crowd.old.talks.sessions }
         ensures carries { Carries K.Sockets (wired_of crowd.old.talks sockets.old)
             (wired_of crowd.new.talks sockets.new) }
     {

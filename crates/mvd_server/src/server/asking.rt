@@ -5,6 +5,7 @@ ghost use Rattle.mvd_server.specs.Wires.{wired_of};
 
 use crate::server::Server;
 use crate::sockets::Sockets;
+use crate::talks::own::Heard;
 use mvd_replica::Replica;
 use sqlite::Alter;
 use std::time::Clock;
@@ -48,12 +49,13 @@ impl<K: Sockets> Server<K> {
     pub fn answer<N: Clock, S: Alter + Drop>(&mut self, rt: &N, replica: &mut Replica<S>)
         ensures { AnswersClients self.old.crowd.talks replica.old self.new.crowd.talks replica.new }
     {
-        let clients = self.ready.len();
         take_turns(&mut self.ready);
-        self.peers.list(&mut self.crowd, &mut self.ready);
+        self.peers.hand_on(&mut self.crowd);
         self.answer_all(rt, replica);
-        self.ready.truncate(clients);
-        self.peers.take_replies(&mut self.crowd, replica.commits());
+        let Heard { told, has_lost } = self.crowd.talks.take_heard();
+        self.peers.hear_all(&mut self.crowd, told);
+        self.peers
+            .note_commits(&mut self.crowd, has_lost, replica.commits());
     }
 
     /// Answers what came of those that are listed: together what may be, and then what came behind it.

@@ -14,6 +14,7 @@ ghost use Rattle.mvd_web.specs.Inside.{web_of};
 ghost use Rattle.mvd_web.specs.Web.{IsNew};
 ghost use Rattle.mvd_web.specs.declared.web_connection.WebConnection.{WebConnection};
 
+use crate::talks::own::FIRST_OWN;
 use crate::talks::{Kind, Talks};
 use mvd_conn::Guard;
 use mvd_host::CLIENTS_MAX;
@@ -27,8 +28,8 @@ impl Talks {
         ensures guarded { IfSome result (λ number. IsGuardedBy kind self.old.passes (client_of self.new.host number)) }
         ensures comes { IfSome result (λ number. ComesBy kind number (talking_of self.old) (talking_of self.new)) }
         ensures none { result ≡ None → talking_of self.new ≡ talking_of self.old }
-        ensures own { self.new.own ≡ self.old.own }
         ensures deeds { TalksDeeds self.old self.new }
+        ensures own { self.new.sessions ≡ self.old.sessions }
     {
         match kind {
             Kind::Frames => self.admit_frames(),
@@ -41,8 +42,8 @@ impl Talks {
             client_of self.new.host number ≡ Some (new_history (first_guard self.old.passes))) }
         ensures comes { IfSome result (λ number. DoesAct (Comes number) (talking_of self.old) (talking_of self.new)) }
         ensures none { result ≡ None → talking_of self.new ≡ talking_of self.old }
-        ensures own { self.new.own ≡ self.old.own }
         ensures deeds { TalksDeeds self.old self.new }
+        ensures own { self.new.sessions ≡ self.old.sessions }
     {
         let guard = self.first_guard();
         match self.host.admit(guard) {
@@ -64,14 +65,14 @@ impl Talks {
     fn admit_web(&mut self) -> Option<u64>
         ensures comes { IfSome result (λ number. ComesBy Http number (talking_of self.old) (talking_of self.new)) }
         ensures none { result ≡ None → talking_of self.new ≡ talking_of self.old }
-        ensures own { self.new.own ≡ self.old.own }
         ensures deeds { TalksDeeds self.old self.new }
+        ensures own { self.new.sessions ≡ self.old.sessions }
     {
         if self.is_crowded() {
             return None;
         }
         let number = self.next;
-        if number == u64::MAX {
+        if number >= FIRST_OWN {
             return None;
         }
         match self.open_web(number) {
@@ -94,7 +95,7 @@ impl Talks {
         ensures opens { OnOk result ((web : WebConnection) × IsNew (web_of web) × (talking_of self.new ≡
             record (talking_of self.old) { webs = insert_entry nat_cmp (talking_of self.old).webs number web })) }
         ensures same { OnErr result (talking_of self.new ≡ talking_of self.old) }
-        ensures own { self.new.own ≡ self.old.own }
+        ensures own { self.new.sessions ≡ self.old.sessions }
     {
         let web = WebConnection::new(self.alloc, self.keys);
         drop(self.webs.insert(number, web)?);
@@ -116,20 +117,19 @@ impl Talks {
         Some(number)
     }
 
-    /// The number of clients that are not the server's own.
+    /// The number of clients.
     pub fn clients(&self) -> usize
         ensures count { result ≡ min (client_count (talking_of self.now)) (2 ^ 64 - 1) }
         ensures none { result ≡ 0 → IsDeserted (talking_of self.now) }
     {
-        let connections = self.host.len().saturating_sub(self.own.len());
-        connections.saturating_add(self.webs.len())
+        self.host.len().saturating_add(self.webs.len())
     }
 
     /// Lets a client go for which nothing is left to do.
     pub fn dismiss(&mut self, number: u64)
         ensures gone { (kind : Kind) → IsGoneBy kind number (talking_of self.old) (talking_of self.new) }
-        ensures own { self.new.own ≡ self.old.own }
         ensures deeds { MayPart number (talking_of self.old) → TalksDeeds self.old self.new }
+        ensures own { self.new.sessions ≡ self.old.sessions }
     {
         drop(self.webs.remove(&number));
         drop(self.batches.remove(&number));
@@ -140,8 +140,8 @@ impl Talks {
     /// Lets a client go that has just come.
     pub fn turn_back(&mut self, kind: Kind, number: u64)
         ensures gone { IsGoneBy kind number (talking_of self.old) (talking_of self.new) }
-        ensures own { self.new.own ≡ self.old.own }
         ensures deeds { GoesAtOnce kind number (talking_of self.old) (talking_of self.new) }
+        ensures own { self.new.sessions ≡ self.old.sessions }
     {
         match kind {
             Kind::Frames => self.host.dismiss(number),

@@ -1,7 +1,7 @@
 //! The bytes of a client, and how far its connection is.
 ghost use Rattle.std.specs.Prelude.{◌≡◌, ◌≤◌, [], IsTrue, false, length};
-ghost use Rattle.mvd_server.specs.Talking.{MayPart, TalksDeeds, is_own_client, talking_of};
-ghost use Rattle.mvd_server.specs.Wires.{FeedsTo, IsFedBySocket, IsNoClient, MayFeed, SendsOf, waits_for};
+ghost use Rattle.mvd_server.specs.Talking.{MayPart, TalksDeeds, talking_of};
+ghost use Rattle.mvd_server.specs.Wires.{FeedsTo, IsNoClient, MayFeed, SendsOf, waits_for};
 
 use crate::feeding::{feed, sent};
 use crate::talks::Talks;
@@ -24,15 +24,8 @@ impl Talks {
     {
         match self.webs.get(&number) {
             Some(web) => web.wants_input(),
-            None => self.wants_frames(number),
+            None => self.host.wants_input(number),
         }
-    }
-
-    /// Whether more is wanted of a client of frames. What a socket gives comes of none of the server's own.
-    fn wants_frames(&self, number: u64) -> bool
-        ensures { IsTrue result → IsFedBySocket number (talking_of self.now) }
-    {
-        !self.is_own(number) && self.host.wants_input(number)
     }
 
     /// Hands on what came of a client.
@@ -87,8 +80,7 @@ impl Talks {
 
     /// So many of the bytes that wait left.
     pub fn sent(&mut self, number: u64, count: usize)
-        ensures { is_own_client (talking_of self.old) number ≡ false →
-            SendsOf number count (talking_of self.old) (talking_of self.new) }
+        ensures { SendsOf number count (talking_of self.old) (talking_of self.new) }
     {
         match self.webs.get_mut(&number) {
             Some(web) => {
@@ -113,11 +105,11 @@ impl Talks {
     {
         match self.webs.get(&number) {
             Some(web) => web.is_done(),
-            None => !self.is_own(number) && self.host.is_done(number),
+            None => self.host.is_done(number),
         }
     }
 
-    /// Whether something that was asked over HTTP waits for a round.
+    /// Whether something that was asked at hand waits for a round.
     pub fn has_waiting(&self) -> bool
         ensures { result ≡ false → self.now.hand.waits ≡ [] }
     {

@@ -1,4 +1,4 @@
-use Rattle.std.proofs.Common.{ℕ, List, ◌≡◌, ◌∙◌, ◌++◌, OnOk, ap, ap₂, string_bytes}
+use Rattle.std.proofs.Common.{◌∙◌, ◌++◌, ap, string_bytes}
 use Rattle.std.proofs.lemmas.Result.{on_ok_weaker}
 use Rattle.mvd_host.proofs.Changing.{root_is}
 use Rattle.mvd_replica.specs.Replicas.{site_of}

@@ -13,7 +13,7 @@ returns-in-Bytes g c =
     let count = c.in-Bytes.count in
     let within = subst (λ (l : List ℕ). count ≤ length l) c.waiting-bytes.ensures c.in-Bytes.ensures.takes.0 in
     let took = subst (λ (l : List ℕ). g.K.Sockets.took c.args.sockets.now (g.K.Sockets.number_of c.args.client.now.socket) (take count l) c.write.new.sockets) c.waiting-bytes.ensures c.in-Bytes.ensures.takes.1 in
-    let gives = gives_out n count old new within (c.sent.ensures (sym c.is_own.ensures ∙ c.if-is_own.false)) in
+    let gives = gives_out n count old new within c.sent.ensures in
     carries_out g.K.Sockets (g.K.Sockets.number_of c.args.client.now.socket) _ old new c.args.sockets.now c.write.new.sockets took (subst (λ (i : ℕ). GivesOut i (take count (waits_for n old)) old new) c.number-number.ensures gives)
 
 pub returns-in-Nothing : goal.returns-in-Nothing

@@ -1,7 +1,14 @@
-use Rattle.std.proofs.Common.{sym, ◌∙◌}
-use Rattle.mvd_server.specs.Talking.{talking_of}
-use Rattle.mvd_server.proofs.Deeds.{deeds_own}
+use Rattle.std.proofs.Common.{inl, refl}
+use Rattle.mvd_server.proofs.Handing.{moves_none, moves_on}
 use Rattle.mvd_server.proofs.own_session.OwnSession.hand_on.Goals as goal
 
-pub returns-clause-deeds : goal.returns-clause-deeds
-returns-clause-deeds c = deeds_own c.args.self.now.client _ (talking_of c.args.talks.now) c.feed.new.host (sym c.is_own.ensures ∙ c.if-not-is_own.false) c.feed.ensures.may
+pub returns-in-Ok-clause-hands : goal.returns-in-Ok-clause-hands
+returns-in-Ok-clause-hands c = inl (record { mid = c.go_on.new.self; goes = c.in-Ok.ensures.goes; few = c.go_on.ensures.few; hands = c.ask_own.ensures.hands; same = refl })
+
+pub returns-in-Ok-clause-moves : goal.returns-in-Ok-clause-moves
+returns-in-Ok-clause-moves c =
+    moves_on c.args.self.now.near _ c.args.self.now.client c.args.talks.now.hand c.ask_own.new.self.hand
+    (inl (record { mid = c.go_on.new.self; goes = c.in-Ok.ensures.goes; few = c.go_on.ensures.few; hands = c.ask_own.ensures.hands; same = refl }))
+
+pub returns-in-Err-clause-moves : goal.returns-in-Err-clause-moves
+returns-in-Err-clause-moves c = moves_none c.args.self.now.near _ c.in-Err.ensures.err

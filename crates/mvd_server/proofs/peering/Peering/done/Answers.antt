@@ -1,15 +1,16 @@
 use Rattle.std.proofs.Common.{◌∙◌, ap, refl}
 use Rattle.mvd_server.specs.declared.crowd.Crowd.{Crowd}
 use Rattle.mvd_server.specs.PeerSays.{said_by}
-use Rattle.mvd_server.proofs.Deeds.{own_goes}
+use Rattle.mvd_server.specs.Talking.{talking_of}
+use Rattle.mvd_server.proofs.Deeds.{deeds_same}
 use Rattle.mvd_server.proofs.PeerTelling.{done_so, noted_so, relinked, says_on, says_same}
 use Rattle.mvd_server.proofs.peering.Peering.done.Goals as goal
 
 pub returns-then-setting-clause-deeds : goal.returns-then-setting-clause-deeds
-returns-then-setting-clause-deeds c = own_goes _ c.args.crowd.now.talks c.dismiss_own.new.self c.note_done.new.crowd.talks c.dismiss_own.ensures (ap (λ (d : Crowd). d.talks) c.note_done.ensures.crowd ∙ c.tell.ensures.talks)
+returns-then-setting-clause-deeds c = deeds_same (talking_of c.args.crowd.now.talks) (talking_of c.note_done.new.crowd.talks) (ap (λ (d : Crowd). talking_of d.talks) c.note_done.ensures.crowd ∙ ap talking_of c.tell.ensures.talks)
 
 pub returns-clause-deeds : goal.returns-clause-deeds
-returns-clause-deeds c = own_goes _ c.args.crowd.now.talks c.dismiss_own.new.self c.note_done.new.crowd.talks c.dismiss_own.ensures (ap (λ (d : Crowd). d.talks) c.note_done.ensures.crowd ∙ c.tell.ensures.talks)
+returns-clause-deeds c = deeds_same (talking_of c.args.crowd.now.talks) (talking_of c.note_done.new.crowd.talks) (ap (λ (d : Crowd). talking_of d.talks) c.note_done.ensures.crowd ∙ ap talking_of c.tell.ensures.talks)
 
 pub returns-then-setting-clause-says : goal.returns-then-setting-clause-says
 returns-then-setting-clause-says c = λ none.

@@ -6,7 +6,7 @@ use Rattle.mvd_web.specs.Web.{web_sent}
 use Rattle.mvd_server.proofs.talks.Talks.sent.Goals as goal
 
 pub returns-in-Some : goal.returns-in-Some
-returns-in-Some c _ =
+returns-in-Some c =
     let old = talking_of c.args.self.now in
     let web = c.sent.new.self in
     subst (λ o. SendsBy o c.args.number c.args.count old (record old { webs = (c.get_mut.follows.lender web).entries })) c.in-Some.ensures.value

@@ -1,7 +1,7 @@
-use Rattle.std.proofs.Common.{◌≡◌, ap, subst, sym, ◌∙◌}
+use Rattle.std.proofs.Common.{◌≡◌, subst, sym, ◌∙◌}
 use Rattle.mvd_replica.specs.Replicas.{site_of}
 use Rattle.mvd_server.specs.Errands.{AsksNextOf}
-use Rattle.mvd_server.specs.Talking.{HasItsWrites, Talking, talking_of}
+use Rattle.mvd_server.specs.Talking.{talking_of}
 use Rattle.mvd_server.specs.declared.batch.Batch.{Batch}
 use Rattle.mvd_server.specs.declared.gate.Rest.{Rest}
 use Rattle.mvd_server.specs.declared.gate.Rest.TheVariants as rest

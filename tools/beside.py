@@ -4,10 +4,11 @@
 usage: tools/beside.py OLD NEW [ROUNDS]
 
 OLD and NEW are `mvd` as built, alike: with proofs, or without them. Each serves a file of its own with 10,000 keys, and documents of
-100 bytes; tools/peers_load.c asks them, compiled by gcc, and all connections are kept. In each round, of which there are five by
-default, both are asked the same, and which is asked first changes. A row has for each the requests a second, the least and the middle of
-the rounds, and the middle of the processor's time for a request; then NEW by OLD: the middle of the ratios of the rounds. Other
-numbers than 1 and 8 clients, 1 and 16 requests in flight and 1 second are in BESIDE_CLIENTS, BESIDE_DEPTHS and BESIDE_SECONDS.
+100 bytes; tools/peers_load.c asks them, compiled by gcc, and all connections are kept: puts, gets, and in frames both in turns on one
+connection, of other keys. In each round, of which there are five by default, both are asked the same, and which is asked first changes. A
+row has for each the requests a second, the least and the middle of the rounds, and the middle of the processor's time for a request; then
+NEW by OLD: the middle of the ratios of the rounds. Other numbers than 1 and 8 clients, 1 and 16 requests in flight and 1 second are in
+BESIDE_CLIENTS, BESIDE_DEPTHS and BESIDE_SECONDS.
 """
 import os
 import signal
@@ -47,6 +48,7 @@ class Server:
 def measured(load, servers, rounds):
     """For each shape the figures of both, round by round."""
     shapes = [(spoken, op, clients, depth) for op in ("put", "get") for spoken in SPOKEN for clients in CLIENTS for depth in DEPTHS]
+    shapes += [("mvd", "turns", clients, depth) for clients in CLIENTS for depth in DEPTHS]
     found = {shape: ([], []) for shape in shapes}
     for number in range(rounds):
         for shape in shapes:
@@ -59,7 +61,8 @@ def row(shape, old, new):
     spoken, op, clients, depth = shape
     ratio = statistics.median(after[0] / before[0] for before, after in zip(old, new))
     saved = statistics.median(before[1] / after[1] for before, after in zip(old, new))
-    cells = [f"{op} in {SPOKEN[spoken]}" if spoken == "mvd" else f"{op} over {SPOKEN[spoken]}", f"{clients}, {depth}"]
+    asked = {"turns": "put and get in turns"}.get(op, op)
+    cells = [f"{asked} in {SPOKEN[spoken]}" if spoken == "mvd" else f"{asked} over {SPOKEN[spoken]}", f"{clients}, {depth}"]
     for told in old, new:
         rates, costs = zip(*told)
         cells.append(f"{min(rates):,.0f}, {statistics.median(rates):,.0f} ({statistics.median(costs):.1f} µs)")

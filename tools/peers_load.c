@@ -1,9 +1,9 @@
 // One thread that has many connections ask a server at once: mvd's frames, redis, PostgreSQL, etcd (gRPC), or mvd over
 // HTTP (web).
-// peers_load KIND PORT CLIENTS IN_FLIGHT put|get|load KEYS BYTES SECONDS COUNTERS PID
+// peers_load KIND PORT CLIENTS IN_FLIGHT put|get|turns|load KEYS BYTES SECONDS COUNTERS PID
 // COUNTERS is a file with a number for each key, how often mvd was written there: a put carries it as its context.
 // It prints requests a second, the median and the slowest hundredth in ms, and the microseconds of PID's processor a
-// request. `load` puts each key once. tools/peers.py and tools/beside.py compile and call it.
+// request. `turns` puts and gets in turns, `load` puts each key once. tools/peers.py and tools/beside.py compile and call it.
 #define _GNU_SOURCE
 #include <arpa/inet.h>
 #include <dirent.h>
@@ -23,7 +23,7 @@ typedef uint8_t u8;
 typedef uint32_t u32;
 typedef uint64_t u64;
 enum { MVD, REDIS, PG, ETCD, WEB };
-enum { PUT, GET, LOAD };
+enum { PUT, GET, TURNS, LOAD };
 enum { MOST = 4096 };  // requests in flight of one connection, a power of two
 
 typedef struct {
@@ -174,7 +174,7 @@ static int ask(Conn *c) {
   char key[40];
   int key_len = sprintf(key, "k%08ld", number);
   c->begun[c->tail++ & (MOST - 1)] = now();
-  op == GET ? ask_get(c, key, key_len) : ask_put(c, key, key_len, number);
+  op == GET || (op == TURNS && c->tail % 2) ? ask_get(c, key, key_len) : ask_put(c, key, key_len, number);
   return 1;
 }
 
@@ -335,10 +335,10 @@ static int by_value(const void *a, const void *b) {
 }
 
 int main(int count, char **words) {
-  if (count < 11) die("usage: KIND PORT CLIENTS IN_FLIGHT put|get|load KEYS BYTES SECONDS COUNTERS PID");
-  const char *kinds[] = {"mvd", "redis", "pg", "etcd", "web"}, *ops[] = {"put", "get", "load"};
+  if (count < 11) die("usage: KIND PORT CLIENTS IN_FLIGHT put|get|turns|load KEYS BYTES SECONDS COUNTERS PID");
+  const char *kinds[] = {"mvd", "redis", "pg", "etcd", "web"}, *ops[] = {"put", "get", "turns", "load"};
   for (kind = 0; kind < 4 && strcmp(words[1], kinds[kind]); kind++) {}
-  for (op = 0; op < 2 && strcmp(words[5], ops[op]); op++) {}
+  for (op = 0; op < 3 && strcmp(words[5], ops[op]); op++) {}
   int port = atoi(words[2]), clients = atoi(words[3]), pid = atoi(words[10]);
   long keys = atol(words[6]), left;
   depth = atoi(words[4]), size = atoi(words[7]);

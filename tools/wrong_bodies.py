@@ -2,15 +2,16 @@
 """Tries many wrong bodies in one check: each must be refused in the function that it changes.
 
 usage, at the repository's top: tools/wrong_bodies.py [--must-fail] [--built] [--seconds S] CRATE[/WRONG_BODY]..
-                                tools/wrong_bodies.py --gate N [--seconds S]       for each landing
+                                tools/wrong_bodies.py --gate N [--seconds S] [--minutes M]       for each landing
                                 tools/wrong_bodies.py --look                       by the texts alone: tries none
 
 With --gate N it tries each wrong body whose first line begins with `gate:`, and all of the crates of one tenth (TENTHS, below), which the
-last digit of N names. With --gate and with --built it stands over the libraries that `rt ci` left in out/, and copies and builds none. Then
-checks of two crates run side by side, or one, where RT_JOBS is 1. It begins no check that would take the crates of the tenth, or all that it
-is asked for, past S processor seconds, but for the wrong bodies of each time; and with --gate it ends after 25 minutes. What it did not try
-it names, and the digits of N before the last say where the tenth begins: so what was left comes first in ten landings. It fails where a
-wrong body is proved, or its text cannot be applied; and, but with --gate, which names it, where that cannot be compiled.
+last digit of N names. With --gate and with --built it stands over the libraries that `rt ci` left in out/, and copies and builds none.
+Then checks of two crates run side by side, or one, where RT_JOBS is 1. It begins no check that would take the crates of the tenth, or all
+that it is asked for, past S processor seconds, but for the wrong bodies of each time; and with --gate it ends after 25 minutes, or M where
+that is less. What it did not try it names, and the digits of N before the last say where the tenth begins: so what was left comes first in
+ten landings. It fails where a wrong body is proved, or its text cannot be applied; and, but with --gate, which names it, where that cannot
+be compiled.
 
 It puts the wrong bodies of a crate (of `wrong-bodies/`, or of `must-fail/`) into a copy of the repository, as many at once as change
 different functions, and runs `rt check` there, of the changed functions alone. The check says of each whether it is proved. A wrong body
@@ -238,7 +239,7 @@ def main(words):
     if "--look" in words:
         sys.exit(1 if look() else 0)
     kind = "must-fail" if "--must-fail" in words else "wrong-bodies"
-    given = {word: int(words.pop(words.index(word) + 1)) for word in ("--gate", "--seconds") if word in words}
+    given = {word: int(words.pop(words.index(word) + 1)) for word in ("--gate", "--seconds", "--minutes") if word in words}
     is_gate_run = "--gate" in given
     is_built = is_gate_run or "--built" in words
     turn, tenth = divmod(given.get("--gate", 0), 10)
@@ -247,7 +248,8 @@ def main(words):
         sys.exit(__doc__)
     crates = sorted({crate_of(name) for name in names}, key=lambda it: -costs().get(it, ELSE)[0])
     bound = [crate for crate in crates if not is_gate_run or any(crate_of(name) == crate and not name.endswith(" gate") for name in names)]
-    purse = Purse(given.get("--seconds", 10**9), MINUTES if is_gate_run else 10**6, bound)
+    minutes = min(MINUTES, given.get("--minutes", MINUTES)) if is_gate_run else 10**6
+    purse = Purse(given.get("--seconds", 10**9), minutes, bound)
     room = pathlib.Path(tempfile.mkdtemp(prefix="wrong-bodies-"))
     try:
         # (where the libraries of this repository serve, what was built is not copied)

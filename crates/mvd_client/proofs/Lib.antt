@@ -1,3 +1,4 @@
+pub mod Linking
 pub mod Watching
 pub mod Syncing
 pub mod Fresh
@@ -7,6 +8,8 @@ pub mod Cutting
 pub mod Opened
 pub mod PushTurns
 pub mod Seen
+pub mod RunsAs
 pub mod Ran
+pub mod Spoken
 pub mod Refusing
 pub mod StoredSays

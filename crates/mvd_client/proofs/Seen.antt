@@ -30,6 +30,7 @@ around inner follows side = record {
   can_answer = λ t. side.can_answer (inner t);
   most_keys = λ t. side.most_keys (inner t);
   number = λ t. side.number (inner t);
+  speaks = λ w told old new. side.speaks w told (inner old) (inner new);
 }
 
 -- where the side within follows, too

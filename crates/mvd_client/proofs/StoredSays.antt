@@ -53,6 +53,7 @@ module _ {S T : Type 0} {g : Ghosts S} (inner : T → Replica S g) (noted : T �
     can_answer = λ t. (site_of (inner t)).broken ≡ false;
     most_keys = λ t. (site_of (inner t)).config.max_keys;
     number = λ t. Some (site_of (inner t)).config.site;
+    speaks = λ _ _ _ _. Unit {0};
   }
 
   module _ (old new : T) (all : follows old new) (self : follows new new) (told : Told) (notes : noted new ≡ noted old ++ refused_of told) where
@@ -71,6 +72,7 @@ module _ {S T : Type 0} {g : Ghosts S} (inner : T → Replica S g) (noted : T �
           answers = λ whole. ap (λ s. s.broken) site ∙ whole;
           refuses = λ refusal did is.
               (inl (subst (λ s. SiteRefuses s refusal) (sym site) did), inl (subst (λ xs. Contains xs (refusal, tt)) (sym notes) (Contains-append_right (noted old) (refused_of told) (refusal, tt) (told_noted told refusal is))));
+          speaks = λ _. tt;
         }
 
 -- ---- a window of pushes
@@ -85,7 +87,7 @@ module _ {S T : Type 0} {g : Ghosts S} (inner : T → Replica S g) (noted : T �
   module _ (pairs : List (Key × State)) (are : asked (Some window) ≡ only_pushes pairs) where
     pushing : (told : Told) → TellsPushed (inner old) pairs told (inner new) → noted new ≡ noted old ++ refused_of told → SideSays (stored inner noted follows) (asked (Some window)) (Some told) old new
     pushing (Pushes told) it notes =
-        says_pushed (stored inner noted follows) window pairs old new are some told (window_asked old new inner noted follows all self pairs told.items it.whole it.each (each_refused _ (site_of (inner new)) (noted old) (noted new) told.items it.told notes), λ was. it.pushes was, it.live)
+        says_pushed (stored inner noted follows) window pairs old new are some told (window_asked old new inner noted follows all self pairs told.items it.whole it.each (each_refused _ (site_of (inner new)) (noted old) (noted new) told.items it.told notes), λ was. it.pushes was, it.live, tt)
     pushing (Refused refusal) it notes =
         says_refused (stored inner noted follows) window pairs old new are some refusal (record {
           ends = ended_by old new inner noted follows all self pairs (count_wanted (only_pushes pairs)) refusal it;

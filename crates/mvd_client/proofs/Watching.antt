@@ -62,10 +62,10 @@ module _ {S T : Type 0} (inner : T → S) (outer : T → S → T) (is : (t : T) 
 
   -- WHAT THE SIDE WITHIN SAYS of a window, the one around says
   pub says_within : (w : Wanted) (told : Told) (old new : T) → SideSays side w (Some told) (inner old) (inner new) → SideSays watched w (Some told) old new
-  says_within w (Nodes these) old new (some, said) = (some, (asked_within (nodes_of side.is_faithful side.states (inner old)) w.nodes these.items old new said.0, said.1, said.2))
-  says_within w (Pages these) old new (some, said) = (some, (asked_within (pages_kind side.is_faithful side.states (inner old)) w.pages these.items old new said.0, said.1, said.2))
-  says_within w (Gives these) old new (some, said) = (some, (asked_within (gets_of side.can_give side.is_faithful side.states (inner old)) w.gets these.items old new said.0, said.1, said.2))
-  says_within w (Pushes these) old new (some, said) = (some, (asked_within for_pushes w.pushes these.items old new said.0, said.1, said.2))
+  says_within w (Nodes these) old new (some, said) = (some, (asked_within (nodes_of side.is_faithful side.states (inner old)) w.nodes these.items old new said.0, said.1, said.2, said.3))
+  says_within w (Pages these) old new (some, said) = (some, (asked_within (pages_kind side.is_faithful side.states (inner old)) w.pages these.items old new said.0, said.1, said.2, said.3))
+  says_within w (Gives these) old new (some, said) = (some, (asked_within (gets_of side.can_give side.is_faithful side.states (inner old)) w.gets these.items old new said.0, said.1, said.2, said.3))
+  says_within w (Pushes these) old new (some, said) = (some, (asked_within for_pushes w.pushes these.items old new said.0, said.1, said.2, said.3))
   says_within w (Refused refusal) old new (some, it) = (
     some,
     record {

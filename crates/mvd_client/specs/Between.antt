@@ -4,7 +4,7 @@ use Rattle.std.specs.Result.{result_and}
 use Rattle.std.specs.declared.net.socket_addr.SocketAddr.{SocketAddr}
 use Rattle.mvd_client.specs.Gone.{LetsGo}
 use Rattle.mvd_client.specs.LetIn.{ComesIn, LeadsNowhere}
-use Rattle.mvd_client.specs.Met.{AsksRoot}
+use Rattle.mvd_client.specs.Met.{AsksRoot, RunsBetween, SpeaksRoot}
 use Rattle.mvd_client.specs.Reported.{ReportsAs, meeting_text, root_in_states}
 use Rattle.mvd_client.specs.Stopped.{IsAtServer, StopsUndialed}
 use Rattle.mvd_client.specs.SyncSides.{sides_between}
@@ -18,7 +18,7 @@ use Rattle.mvd_dots.specs.declared.refusals.Refusal.{Refusal}
 use Rattle.mvd_hint.specs.declared.hint.Stop.{Stop}
 use Rattle.mvd_peer.specs.Sides.{two}
 use Rattle.mvd_remote.specs.Lines.{IsTrueRemote, far_of, line_of, refused_of, told_of}
-use Rattle.mvd_remote.specs.Remotes.{AsksOver, bye_query, link_of}
+use Rattle.mvd_remote.specs.Remotes.{AsksOver, AsksSpoken, bye_query, link_of}
 use Rattle.mvd_remote.specs.declared.line.Line.{Ghosts as LineGhosts}
 use Rattle.mvd_remote.specs.declared.remote.Remote.{Remote}
 use Rattle.mvd_sync.specs.Ran.{IsRun}
@@ -52,6 +52,8 @@ module _ {L : Type 0} (line : LineGhosts L) (gives : SocketAddr → L → Type 0
         (two near' far') told
     pub runs : IfOk told (IsRun (sides_between line line) 10000000
         (two near_before far_before) (two near' far'))
+    pub spoken : IfOk told (RunsBetween line line (line_of near_before) (line_of near') (line_of far_before)
+        (line_of far'))
 
   -- why there is none that ended well: an address leads to no line, or it had a fault, of the side that is told. Each
   -- line that there was is let go, as it is left
@@ -86,7 +88,7 @@ module _ {L : Type 0} (line : LineGhosts L) where
   -- server refuses
   abbrev pub GivesRoot : SocketAddr → Remote L → Remote L → Result Root Stop → Type 0
   GivesRoot server old new (Ok root) =
-      (root.address ≡ server) × AsksRoot (link_of line) old new (Ok root.digest)
+      (root.address ≡ server) × AsksRoot (link_of line) old new (Ok root.digest) × SpeaksRoot line old new root.digest
       × (IsTrueRemote line.is_true line.far old → root.digest ≡ root_in_states (far_of line.far old).states)
   GivesRoot server old new (Err stop) =
       (refusal : Refusal) × AsksRoot (link_of line) old new (Err refusal) × IsAtServer server refusal stop
@@ -94,7 +96,8 @@ module _ {L : Type 0} (line : LineGhosts L) where
   -- a Bye was said to a server, and nothing else
   abbrev pub Parts : SocketAddr → Remote L → Remote L → Result (Unit {0}) Stop → Type 0
   Parts server old new told =
-      (bye : Result (Unit {0}) Refusal) × AsksOver line bye_query old new bye × EndsWithBye server bye told
+      (bye : Result (Unit {0}) Refusal) × AsksOver line bye_query old new bye × AsksSpoken line bye_query old new bye
+      × EndsWithBye server bye told
 
   -- The root of each server is asked, and where one is not told, nothing is printed. Else what is printed is of the
   -- session, with both roots, and both servers are told Bye. The command is stopped as that was told, or as the first

@@ -8,7 +8,7 @@ use Rattle.mvd_dots.specs.declared.refusals.Refusal.{Refusal}
 use Rattle.mvd_wire.specs.declared.request.Request.TheVariants.{Hello}
 use Rattle.mvd_remote.specs.Lines.{as_done, line_of, refused_of}
 use Rattle.mvd_remote.specs.LiveRemotes.{AsksLive}
-use Rattle.mvd_remote.specs.Remotes.{AsksOver, AsksTruly, hello_query}
+use Rattle.mvd_remote.specs.Remotes.{AsksOver, AsksSpoken, AsksTruly, hello_query}
 use Rattle.mvd_remote.specs.declared.line.Line.{Ghosts}
 use Rattle.mvd_remote.specs.declared.remote.Remote.{Remote}
 
@@ -22,6 +22,8 @@ module _ {L : Type 0} (line : Ghosts L) where
       pub asked : AsksOver line (hello_query token) before after told
       pub truth : AsksTruly line (hello_query token) before after told
       pub live : AsksLive line (Hello token) as_done before after told
+      -- its frame went out, and one frame came, where that is logged
+      pub spoken : AsksSpoken line (hello_query token) before after told
 
   -- a line over which the token was shown, if there is one, and nothing else went
   abbrev pub IsLetIn : Option (List ℕ) → L → L → Type 0

@@ -33,6 +33,7 @@ stored_side = record {
   can_answer = λ side. (site_of side.replica).broken ≡ false;
   most_keys = λ side. (site_of side.replica).config.max_keys;
   number = λ side. Some (site_of side.replica).config.site;
+  speaks = λ _ _ _ _. Unit {0};
 }
 
 -- a stored site, and the other end of a line

@@ -1,5 +1,5 @@
 -- A session with what an address leads to.
-use Rattle.std.specs.Prelude.{◌≡◌, ◌≤◌, ◌+◌, false, ℕ, List, [], None, Option, Result, Ok, Err, IfOk}
+use Rattle.std.specs.Prelude.{◌≡◌, ◌≤◌, ◌+◌, ◌∷◌, false, ℕ, List, [], None, Some, Option, Result, Ok, Err, IfOk}
 use Rattle.std.specs.declared.net.socket_addr.SocketAddr.{SocketAddr}
 use Rattle.mvd_dots.specs.declared.refusals.Refusal.{Refusal}
 use Rattle.mvd_client.specs.Gone.{LetsGo}
@@ -7,15 +7,17 @@ use Rattle.mvd_client.specs.Questioned.{CountsFew, questions}
 use Rattle.mvd_client.specs.LetIn.{ComesIn, GivesIn, LeadsNowhere}
 use Rattle.mvd_client.specs.Reported.{Reports}
 use Rattle.mvd_client.specs.Stopped.{IsUndialed, StopsUndialed, TellsAs}
-use Rattle.mvd_client.specs.SyncSides.{InSession, in_session, sides_at}
+use Rattle.mvd_client.specs.SyncSides.{InSession, in_session, sides_at, stored_side}
 use Rattle.mvd_client.specs.Synced.{FollowsPushed, MeetsFar, TakesPushes}
 use Rattle.mvd_client.specs.declared.dial.DialFault.{DialFault}
 use Rattle.mvd_client.specs.declared.gone.Gone.{Gone}
 use Rattle.mvd_remote.specs.Remotes.{AsksOver, bye_query}
 use Rattle.mvd_hint.specs.declared.hint.Stop.{Stop}
+use Rattle.mvd_peer.specs.Saying.{SideTells}
 use Rattle.mvd_peer.specs.Sides.{two}
 use Rattle.mvd_remote.specs.Lines.{as_done, line_of, refused_of, told_of}
 use Rattle.mvd_remote.specs.LiveRemotes.{AsksLive}
+use Rattle.mvd_remote.specs.Spoken.{Exchanges, SideSpeaks, SpeaksSo, Spoken}
 use Rattle.mvd_remote.specs.declared.line.Line.{Ghosts as LineGhosts}
 use Rattle.mvd_wire.specs.declared.request.Request.TheVariants.{Bye}
 use Rattle.mvd_remote.specs.declared.remote.Remote.{Remote}
@@ -23,7 +25,7 @@ use Rattle.mvd_replica.specs.Replicas.{site_of}
 use Rattle.mvd_replica.specs.Sides.{IsTrueSite}
 use Rattle.mvd_replica.specs.declared.replica.Replica.{Replica}
 use Rattle.mvd_site.specs.Sites.{SiteValue}
-use Rattle.mvd_sync.specs.Ran.{IsRun}
+use Rattle.mvd_sync.specs.Ran.{IsRun, IsRunBy}
 use Rattle.mvd_sync.specs.Session.{Session}
 use Rattle.mvd_sync.specs.declared.report.Report.{Report}
 use Rattle.mvd_sync.specs.declared.report.SyncFault.{SyncFault}
@@ -49,6 +51,14 @@ EndsBy line (Ok report) mid after told =
     × (told ≡ report_told report bye)
 EndsBy line (Err fault) mid after told = (after ≡ mid) × (told ≡ Err fault)
 
+-- BY THE BYTES OF ITS LINE a session that ended well is a run of the machine, and then the frame of a Bye went out, and
+-- one frame came
+abbrev pub RunsThenParts : {S : Type 0} {g : Ghosts S} → (old new : InSession S g) → Report → Spoken → Spoken → Type 0
+RunsThenParts {S} {g} old new report was now =
+    (done : Spoken)
+    × IsRunBy (SideTells (stored_side {S = S} {g = g})) SideSpeaks (Some (site_of old.replica).config.site) 10000000
+    (two old was) (two new done) report × Exchanges as_done 0xA3 (Bye ∷ []) (Ok tt ∷ []) done now
+
 -- a site `S`, and a line `L` over which the far side is asked
 module _ {S : Type 0} {g : Ghosts S} {L : Type 0} (line : LineGhosts L) where
   -- ONE SESSION over a line, which is a run of the machine where it ends well, and a Bye
@@ -59,6 +69,8 @@ module _ {S : Type 0} {g : Ghosts S} {L : Type 0} (line : LineGhosts L) where
       pub session : Session (sides_at line) 10000000 (two old before) (two new mid) ran
       pub runs : IfOk ran (IsRun (sides_at line) 10000000 (two old before) (two new mid))
       pub ends : EndsBy line ran mid after told
+      -- and that is all that went over the line, and came of it, where it is logged
+      pub spoken : IfOk told (λ report. SpeaksSo line (RunsThenParts old new report) (line_of before) (line_of after))
       -- and few questions are asked before that
       pub few : IsTrueSite (site_of old.replica) → line.is_true (line_of before)
           → (line.far (line_of before)).due ≡ [] → refused_of before ≡ None

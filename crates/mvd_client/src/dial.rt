@@ -3,6 +3,7 @@ ghost use Rattle.std.specs.Prelude.{◌≡◌, IfErr, IfOk, OnErr, option_copied
 ghost use Rattle.std.specs.declared.net.socket_addr.SocketAddr.{SocketAddr};
 ghost use Rattle.mvd_client.specs.Gone.{HasLine};
 ghost use Rattle.mvd_client.specs.LetIn.{ComesIn, LeadsNowhere, ShowsToken};
+ghost use Rattle.mvd_client.specs.Sent.{IsFresh};
 ghost use Rattle.mvd_client.specs.Stopped.{StopsUndialed};
 
 use crate::both_ways::{BothWays, Nonblocking};
@@ -56,8 +57,8 @@ pub struct Sockets<'a, N: Net>(pub &'a N);
 impl<N: Net> Dial for Sockets<'_, N> {
     type Dialed = Link<BothWays<Socket<N::Stream>>>;
 
-    // Nothing is known of who answers.
-    ghost gives = { λ _ _ _. Unit {0} };
+    // Nothing is known of who answers. Nothing went over the line, and nothing came of it.
+    ghost gives = { λ _ _ line. IsFresh line };
 
     fn dial(
         &self,
@@ -96,7 +97,9 @@ fn connected<N: Net>(
 }
 
 /// A line over a stream over which nothing went.
-fn linked<S: Nonblocking>(alloc: Global, stream: S) -> Result<Link<BothWays<S>>, Refusal> {
+fn linked<S: Nonblocking>(alloc: Global, stream: S) -> Result<Link<BothWays<S>>, Refusal>
+    ensures { IfOk result IsFresh }
+{
     let stream = BothWays::new(alloc, stream)?;
     Link::new(alloc, stream)
 }

@@ -1,7 +1,7 @@
 //! A session between two servers, each at the other end of a line, and what is printed of it.
 ghost use Rattle.std.specs.Prelude.{◌≡◌, ◌≢◌, ◌≤◌, ◌+◌, ◌++◌, [], IfErr, IfOk, IsErr, OnOk, false, string_bytes};
 ghost use Rattle.std.specs.Io.KnownBytes.{Appends};
-ghost use Rattle.mvd_client.specs.Met.{AsksRoot, MeetsFars};
+ghost use Rattle.mvd_client.specs.Met.{AsksRoot, MeetsFars, SpeaksRoot};
 ghost use Rattle.mvd_client.specs.Questioned.{CountsFew, questions};
 ghost use Rattle.mvd_client.specs.Reported.{CutReport, ReportsAs, meeting_text, root_at_text, root_in_states};
 ghost use Rattle.mvd_client.specs.SyncSides.{sides_between};
@@ -60,6 +60,7 @@ pub fn meet_over<L: Line, M: Line, E: Write>(
 /// The digest of all that the server at the other end of a line holds.
 pub fn root_over<L: Line>(alloc: Global, remote: &mut Remote<L>) -> Result<[u8; 32], Refusal>
     ensures asked { AsksRoot (link_of L.Line) remote.old remote.new result }
+    ensures spoken { IfOk result (SpeaksRoot L.Line remote.old remote.new) }
     ensures truth { IsTrueRemote L.is_true L.far remote.old →
         IfOk result (λ digest. digest ≡ root_in_states (far_of L.far remote.old).states) }
 {

@@ -74,6 +74,8 @@ impl<P: Peer + Drop, E: Write> Peer for Watched<'_, P, E> {
 
     ghost number = { λ watched. P.number watched.side };
 
+    ghost speaks = { λ w told old new. P.speaks w told old.side new.side };
+
     ghost in_form = { λ watched. P.in_form watched.side };
 
     ghost live_form = { λ watched. P.live_form watched.side };

@@ -1,5 +1,7 @@
 //! A socket on which no read and no write waits.
-ghost use Rattle.std.specs.Prelude.{None};
+ghost use Rattle.std.specs.Prelude.{◌≡◌, None};
+ghost use Rattle.std.specs.Io.{ReadsAtMost, WritesAtMost};
+ghost use Rattle.std.specs.Io.KnownBytes.{ReadConsumes, WriteAppends};
 
 use crate::both_ways::Nonblocking;
 use mio::unix::SourceFd;
@@ -9,7 +11,8 @@ use std::net::{Net, OpenStream};
 use std::os::fd::AsRawFd;
 use std::time::Duration;
 
-/// A socket, and what tells when it may be read or written again. Nothing is known of its bytes.
+/// A socket, and what tells when it may be read or written again. What is read of it is what its stream gives, and what
+/// is written to it that takes; else nothing is known of its bytes.
 #[derive(Drop)]
 pub struct Socket<T: Read + Write + Drop> {
     stream: T,
@@ -42,16 +45,24 @@ impl<T: Read + Write + Drop> Nonblocking for Socket<T> {
 
     ghost contents = { λ _. None };
 
-    fn read_now(&mut self, buf: &mut [u8]) -> io::Result<usize> {
+    fn read_now(&mut self, buf: &mut [u8]) -> io::Result<usize>
+        ensures bound { ReadsAtMost result buf.new }
+        ensures bytes { ReadConsumes (T.remaining self.old.stream) (T.remaining self.new.stream) result buf.new }
+    {
         self.stream.read(buf)
     }
 
-    fn write_now(&mut self, buf: &[u8]) -> io::Result<usize> {
+    fn write_now(&mut self, buf: &[u8]) -> io::Result<usize>
+        ensures bound { WritesAtMost result buf.now }
+        ensures bytes { WriteAppends (T.contents self.old.stream) (T.contents self.new.stream) result buf.now }
+    {
         self.stream.write(buf)
     }
 
     // A signal ends a wait early, so it is waited a second at a time.
-    fn wait(&mut self) -> io::Result<()> {
+    fn wait(&mut self) -> io::Result<()>
+        ensures still { self.new.stream ≡ self.old.stream }
+    {
         for _second in 0..self.idle {
             self.poll
                 .poll(&mut self.events, Some(Duration::from_secs(1)))?;

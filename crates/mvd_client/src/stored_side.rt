@@ -91,6 +91,8 @@ impl<S: Alter + Drop> Peer for StoredSide<'_, S> {
 
     ghost number = { λ side. Some (site_of side.replica.now).config.site };
 
+    ghost speaks = { λ _ _ _ _. Unit {0} };
+
     ghost in_form = { λ _ whole. whole.1 };
 
     ghost live_form = { λ _ whole. whole.1 };

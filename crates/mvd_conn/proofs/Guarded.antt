@@ -189,4 +189,5 @@ stands_met passes h s = record {
   last = last_on passes h h.last s.last (is_some h.last) refl;
   few = s.few;
   shown = shown_met passes h.taken (coming h) h.guard s.shown;
+  cause = s.cause;
 }

@@ -18,17 +18,17 @@ use Rattle.mvd_conn.specs.declared.source.Source.TheVariants as source
 use Rattle.mvd_conn.specs.Guard.{guard_met}
 use Rattle.mvd_conn.specs.History.{History, Stops, Waits, coming, due, fed, frame_most, is_bye, is_held_up, most_of, next_of, owes, piece_most, replied, short_most, stopped, taking}
 use Rattle.mvd_conn.specs.Inside.{IsKeptConnection, history_of}
-use Rattle.mvd_conn.specs.Stands.{IsBounded, HistoryStands, IsLast, frame_of, queue_most}
+use Rattle.mvd_conn.specs.Stands.{IsBounded, HistoryStands, MayEndInput, frame_of, queue_most}
 use Rattle.mvd_conn.specs.declared.scan.Found.TheVariants as found
 use Rattle.mvd_conn.specs.Front.{IsFound}
 use Rattle.mvd_conn.proofs.Guarded.{stands_met}
 use Rattle.mvd_conn.proofs.LengthLemmas.{refused_length}
 use Rattle.mvd_conn.proofs.Owing.{owes_least}
-use Rattle.mvd_conn.proofs.StandLemmas.{free_of, stands_closed, stands_fed, stands_replied, stands_stopped, stands_taking, waits_few}
+use Rattle.mvd_conn.proofs.StandLemmas.{free_of, stands_closed, stands_expected, stands_fed, stands_replied, stands_stopped, stands_taking, waits_few}
 
-pub kept_closed : (c : Inside) (new : Source) → c.source ≡ source.Open → IsKeptConnection c → IsKeptConnection (record c { source = new })
-kept_closed c new opened k = record {
-  stands = stands_closed (history_of c) new opened k.stands;
+pub kept_closed : (c : Inside) (new : Source) → c.source ≡ source.Open → MayEndInput new → IsKeptConnection c → IsKeptConnection (record c { source = new })
+kept_closed c new opened may k = record {
+  stands = stands_closed (history_of c) new opened may k.stands;
   bounded = record { few_held = k.bounded.few_held; few_due = k.bounded.few_due; few_waiting = k.bounded.few_waiting };
   count = k.count;
   due = k.due;
@@ -101,16 +101,7 @@ kept_fed c input reads bytes going next hand few grown logged k =
 -- what the last frame brings is told
 pub kept_expected : (c : Inside) (brings : ℕ) → short_most ≤ brings → brings ≤ frame_most → IsKeptConnection c → IsKeptConnection (record c { brings = brings })
 kept_expected c brings least most k = record {
-  stands = record {
-    input = k.stands.input;
-    fit = k.stands.fit;
-    first = k.stands.first;
-    output = k.stands.output;
-    in_turn = k.stands.in_turn;
-    last = last_expected (history_of c) brings c.last k.stands.last;
-    few = k.stands.few;
-    shown = k.stands.shown;
-  };
+  stands = stands_expected (history_of c) brings k.stands;
   bounded = record { few_held = k.bounded.few_held; few_due = k.bounded.few_due; few_waiting = k.bounded.few_waiting };
   count = k.count;
   due = k.due;
@@ -122,12 +113,7 @@ kept_expected c brings least most k = record {
   whole_hand = k.whole_hand;
   room = k.room;
   last_room = k.last_room;
-} where
-  last_expected : (h : History) (brings : ℕ) (l : Option Ending) → IsLast h l → IsLast (record h { brings = brings }) l
-  last_expected h brings None s = s
-  last_expected h brings (Some ending.Bye) s = s
-  last_expected h brings (Some ending.End) s = s
-  last_expected h brings (Some (ending.Stopped refusal)) s = s
+}
 
 -- a reply was queued
 replied_history : (c : Inside) (output : BytesMut Global) (replies : Log (BytesMut Global) ℕ) (large : Bool) (due : ℕ) (frame : List ℕ) → output.items ≡ c.output.items ++ frame → replies.items ≡ c.replies.items ++ (output, length c.output.items) ∷ []

@@ -1,3 +1,4 @@
+pub mod Causes
 pub mod Guarded
 pub mod Hellos
 pub mod CourseLemmas

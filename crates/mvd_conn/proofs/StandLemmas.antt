@@ -1,8 +1,8 @@
 -- What each call keeps of a connection's histories.
-use Rattle.std.proofs.Common.{◌≡◌, ℕ, Bool, false, true, ◌+◌, ◌<◌, ◌≤◌, ◌||◌, leb, eqb, cond, List, [], ◌∷◌, ◌++◌, length, Option, Some, None, is_some, Result, Ok, Err, refl, sym, ap, subst, ◌∙◌, arith, append_assoc, append-nil, length-append, inl, inr}
+use Rattle.std.proofs.Common.{◌≡◌, ℕ, Bool, false, true, ◌+◌, ◌<◌, ◌≤◌, ◌||◌, leb, eqb, cond, List, [], ◌∷◌, ◌++◌, length, take, drop, Option, Some, None, is_some, Result, Ok, Err, refl, sym, ap, subst, ◌∙◌, arith, append_assoc, append-nil, length-append, inl, inr}
 use Rattle.std.specs.List.{AllByRecursion, concat}
 use Rattle.std.proofs.lemmas.Bool.{leb-false, cases_lt}
-use Rattle.std.proofs.lemmas.List.{flat_map_more}
+use Rattle.std.proofs.lemmas.List.{flat_map_more, take-append-drop}
 use Rattle.std.proofs.lemmas.List.Folds.{concat-append}
 use Rattle.mvd_dots.specs.declared.refusals.Refusal.{Refusal}
 use Rattle.mvd_dots.specs.declared.refusals.Refusal.TheVariants.{FrameTooLong, NotAdmitted, TooManyRequests}
@@ -14,11 +14,11 @@ use Rattle.mvd_conn.specs.declared.source.Source.{Source}
 use Rattle.mvd_conn.specs.declared.source.Source.TheVariants as source
 use Rattle.mvd_wire.specs.declared.ending.Ending.{Ending}
 use Rattle.mvd_wire.specs.declared.ending.Ending.TheVariants as ending
-use Rattle.mvd_conn.specs.Guard.{is_barred, may_come}
+use Rattle.mvd_conn.specs.Guard.{IsShown, is_barred, may_come}
 use Rattle.mvd_conn.specs.declared.guard.Guard.{Guard}
 use Rattle.mvd_conn.proofs.Guarded.{gives_shown, let_in_waits}
-use Rattle.mvd_conn.specs.History.{Gives, History, NextTaken, Over, Stops, Waits, due, fed, frame_most, frames_most, is_bye, is_held_up, last_bytes, let_in, next_held, next_of, next_of_source, over, owes, replied, stopped, taking, waits_most}
-use Rattle.mvd_conn.specs.Stands.{AreFirst, GoOn, IsLast, HistoryStands, frames_spelled}
+use Rattle.mvd_conn.specs.History.{Gives, History, NextTaken, Over, Stops, Waits, closed, cut, due, fed, first_source, frame_most, frames_most, is_bye, is_held_up, last_bytes, let_in, new_history, next_held, next_of, next_of_source, over, owes, released, replied, sent, stopped, taking, waits_most}
+use Rattle.mvd_conn.specs.Stands.{AreFirst, GoOn, IsLast, HistoryStands, MayEndInput, frames_spelled}
 
 abbrev pub Fit : List FrameValue → Type 0
 Fit frames = AllByRecursion (λ (f : FrameValue). length f.payload + 1 ≤ frame_limit) frames
@@ -72,6 +72,7 @@ stands_fed h bytes none s =
       last = subst (λ (l : Option Ending). IsLast (fed h bytes) l) (sym none) (going h none s);
       few = s.few;
       shown = s.shown;
+      cause = s.cause;
     }
 
 -- ---- the end of the input
@@ -115,8 +116,8 @@ last_closed h new (Some (ending.Stopped refusal)) opened s =
     let barred = is_barred h.guard h.taken h.held in
     (s.0, s.1, still_stops h.guard h.taken all barred new h.held (frame_at h.held) refusal (ap (λ (from : Source). cond all (Stops TooManyRequests) (cond barred (Stops NotAdmitted) (let_in h.guard h.taken (next_held from h.held (frame_at h.held))))) (sym opened) ∙ s.2))
 
-pub stands_closed : (h : History) (new : Source) → h.source ≡ source.Open → HistoryStands h → HistoryStands (record h { source = new })
-stands_closed h new opened s = record {
+pub stands_closed : (h : History) (new : Source) → h.source ≡ source.Open → MayEndInput new → HistoryStands h → HistoryStands (record h { source = new })
+stands_closed h new opened may s = record {
   input = s.input;
   fit = s.fit;
   first = s.first;
@@ -125,7 +126,84 @@ stands_closed h new opened s = record {
   last = last_closed h new h.last opened s.last;
   few = s.few;
   shown = s.shown;
+  cause = may;
 }
+
+-- ---- what changes nothing that came or was queued
+
+-- the frame in hand, what its reply brings, and whether the writer failed say nothing of why a connection ended
+last_beside : (h : History) (hand : Option FrameValue) (brings : ℕ) (failed : Bool) (l : Option Ending) → IsLast h l → IsLast (record h { hand = hand; brings = brings; failed = failed }) l
+last_beside h hand brings failed None s = s
+last_beside h hand brings failed (Some ending.Bye) s = s
+last_beside h hand brings failed (Some ending.End) s = s
+last_beside h hand brings failed (Some (ending.Stopped refusal)) s = s
+
+pub stands_beside : (h : History) (hand : Option FrameValue) (brings : ℕ) (failed : Bool) → HistoryStands h → HistoryStands (record h { hand = hand; brings = brings; failed = failed })
+stands_beside h hand brings failed s = record {
+  input = s.input;
+  fit = s.fit;
+  first = s.first;
+  output = s.output;
+  in_turn = s.in_turn;
+  last = last_beside h hand brings failed h.last s.last;
+  few = s.few;
+  shown = s.shown;
+  cause = s.cause;
+}
+
+pub stands_expected : (h : History) (brings : ℕ) → HistoryStands h → HistoryStands (record h { brings = brings })
+stands_expected h brings s = stands_beside h h.hand brings h.failed s
+
+pub stands_released : (h : History) → HistoryStands h → HistoryStands (released h)
+stands_released h s = stands_beside h None h.brings h.failed s
+
+pub stands_cut : (h : History) → HistoryStands h → HistoryStands (cut h)
+stands_cut h s = stands_beside h h.hand h.brings true s
+
+-- waiting bytes left
+last_sent : (h : History) (left waits : List ℕ) (l : Option Ending) → IsLast h l → IsLast (record h { left = left; waits = waits }) l
+last_sent h left waits None s = s
+last_sent h left waits (Some ending.Bye) s = s
+last_sent h left waits (Some ending.End) s = s
+last_sent h left waits (Some (ending.Stopped refusal)) s = s
+
+pub stands_sent : (h : History) (count : ℕ) → HistoryStands h → HistoryStands (sent h count)
+stands_sent h count s = record {
+  input = s.input;
+  fit = s.fit;
+  first = s.first;
+  output = s.output ∙ ap (λ (t : List ℕ). h.left ++ t) (sym (take-append-drop count h.waits)) ∙ sym (append_assoc h.left (take count h.waits) (drop count h.waits));
+  in_turn = s.in_turn;
+  last = last_sent h (h.left ++ take count h.waits) (drop count h.waits) h.last s.last;
+  few = s.few;
+  shown = s.shown;
+  cause = s.cause;
+}
+
+-- whether or not the input had ended before
+closed_by : (h : History) (new from : Source) → h.source ≡ from → MayEndInput new → HistoryStands h → HistoryStands (record h { source = first_source from new })
+closed_by h new source.Open is may s = stands_closed h new is may s
+closed_by h new source.AtEnd is may s = subst (λ (f : Source). HistoryStands (record h { source = f })) is s
+closed_by h new (source.Failed refusal) is may s = subst (λ (f : Source). HistoryStands (record h { source = f })) is s
+
+pub stands_ended : (h : History) (new : Source) → MayEndInput new → HistoryStands h → HistoryStands (closed h new)
+stands_ended h new may s = closed_by h new h.source refl may s
+
+pub stands_new : (guard : Option Guard) → HistoryStands (new_history guard)
+stands_new guard = record {
+  input = refl;
+  fit = tt;
+  first = refl;
+  output = refl;
+  in_turn = omega arith;
+  last = tt;
+  few = omega arith;
+  shown = none_shown guard;
+  cause = tt;
+} where
+  none_shown : (guard : Option Guard) → IsShown guard []
+  none_shown None = tt
+  none_shown (Some guard) = tt
 
 -- ---- a frame
 
@@ -151,6 +229,7 @@ stands_taking h f rest none held fits next more s =
       last = last_taken h f rest (is_bye f) refl none (going h none s);
       few = omega (arith, more, length-append h.taken (f ∷ []));
       shown = gives_shown h f rest next s.shown;
+      cause = s.cause;
     }
 
 -- ---- an end
@@ -168,6 +247,7 @@ stands_over h none all next s = record {
   last = (going h none s, all_answered h all s.in_turn, next);
   few = s.few;
   shown = s.shown;
+  cause = s.cause;
 }
 
 pub stands_stopped : (h : History) (refusal : Refusal) → h.last ≡ None → due h ≡ 0 → next_of h ≡ Stops refusal → HistoryStands h → HistoryStands (stopped h refusal)
@@ -183,6 +263,7 @@ stands_stopped h refusal none all next s =
       last = (going h none s, all_answered h all s.in_turn, next);
       few = s.few;
       shown = s.shown;
+      cause = s.cause;
     }
 
 -- ---- a reply
@@ -208,6 +289,7 @@ stands_replied h frame some s =
       last = end.1;
       few = s.few;
       shown = s.shown;
+      cause = s.cause;
     }
 
 -- ---- what waiting for more input means

@@ -1,12 +1,16 @@
 -- What is true of every connection.
-use Rattle.std.specs.Prelude.{◌≡◌, ℕ, ◌+◌, ◌*◌, ◌≤◌, ◌⊎◌, true, false, List, [], ◌∷◌, ◌++◌, length, drop, slice_index, flat_map, Option, Some, None, Ok}
+use Rattle.std.specs.Prelude.{◌≡◌, ℕ, ◌+◌, ◌*◌, ◌≤◌, ◌⊎◌, true, false, List, [], ◌∷◌, ◌++◌, length, drop, slice_index, flat_map, Option, Some, None, Ok, ⊤}
 use Rattle.std.specs.List.{AllByRecursion, concat}
+use Rattle.mvd_dots.specs.declared.refusals.Refusal.{Refusal}
 use Rattle.mvd_dots.specs.declared.refusals.Refusal.TheVariants.{Memory}
+use Rattle.mvd_dots.specs.Refusal.{number_of}
 use Rattle.mvd_wire.specs.declared.reply.Reply.{Reply}
 use Rattle.mvd_wire.specs.declared.reply.Reply.TheVariants.{Refused}
 use Rattle.mvd_wire.specs.Frames.{FrameValue, frame_at, frame_limit, spell_frame}
 use Rattle.mvd_wire.specs.Replies.{IsReply, is_short}
 use Rattle.mvd_conn.specs.Guard.{IsShown}
+use Rattle.mvd_conn.specs.declared.source.Source.{Source}
+use Rattle.mvd_conn.specs.declared.source.Source.TheVariants as source
 use Rattle.mvd_wire.specs.declared.ending.Ending.{Ending}
 use Rattle.mvd_wire.specs.declared.ending.Ending.TheVariants as ending
 use Rattle.mvd_conn.specs.History.{History, Over, Stops, due, frames_most, is_bye, last_bytes, next_of, short_most}
@@ -41,6 +45,16 @@ IsLast h (Some ending.End) = GoOn h.taken × (length h.answers ≡ length h.take
 IsLast h (Some (ending.Stopped refusal)) =
     GoOn h.taken × (length h.answers ≡ length h.taken) × (next_of h ≡ Stops refusal)
 
+-- why no more is read is no answer to a request alone: the number of the cause is 20 or more
+abbrev pub MayEndInput : Source → Type 0
+MayEndInput source.Open = ⊤
+MayEndInput source.AtEnd = ⊤
+MayEndInput (source.Failed refusal) = 20 ≤ number_of refusal
+
+-- nor is what a connection is stopped by
+abbrev pub StopsForItself : History → Type 0
+StopsForItself h = (refusal : Refusal) → h.last ≡ Some (ending.Stopped refusal) → 20 ≤ number_of refusal
+
 -- What came in are the frames that were taken, and what is held. What was queued left, or waits. The frames that were
 -- taken are the first of the input, and the end is the first cause. Of a client that does not show the token no frame
 -- was taken.
@@ -53,6 +67,7 @@ pub record HistoryStands (h : History) : Type 0 where
   pub last : IsLast h h.last
   pub few : length h.taken ≤ frames_most
   pub shown : IsShown h.guard h.taken
+  pub cause : MayEndInput h.source
 
 -- less than one frame is held before at most 65,536 bytes come
 abbrev pub held_most : ℕ

@@ -86,7 +86,7 @@ impl Connection {
     ghost use Rattle.mvd_conn.specs.History.{fed, frame_most, is_done, is_held_up, met, new_history, next_of, over};
     ghost use Rattle.mvd_conn.specs.History.{owes, piece_most, released, replied, sent, stopped};
     ghost use Rattle.mvd_conn.specs.Guard.{guard_met, is_barred, may_come, may_under};
-    ghost use Rattle.mvd_conn.specs.Stands.{IsBounded, IsQueued, HistoryStands, frame_of};
+    ghost use Rattle.mvd_conn.specs.Stands.{IsBounded, IsQueued, HistoryStands, MayEndInput, frame_of};
     ghost use Rattle.mvd_conn.specs.Front.{IsFound, TakesFrame};
     ghost use Rattle.mvd_conn.specs.declared.scan.Found.TheVariants as Found;
     ghost use Rattle.mvd_conn.specs.declared.source.Source.TheVariants as Source;
@@ -322,6 +322,7 @@ impl Connection {
     }
 
     fn close(&mut self, source: Source)
+        requires { MayEndInput source }
         ensures { self.new ≡ closed self.old source }
     {
         if let Source::Open = self.source {

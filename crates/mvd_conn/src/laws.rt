@@ -9,7 +9,7 @@ ghost use Rattle.mvd_wire.specs.Frames.{FrameValue};
 ghost use Rattle.mvd_conn.specs.Guard.{guard_met, may_under, shows};
 ghost use Rattle.mvd_conn.specs.Passes.{IsTokenOf, pass_shown};
 ghost use Rattle.mvd_conn.specs.History.{History, is_bye};
-ghost use Rattle.mvd_conn.specs.Stands.{HistoryStands};
+ghost use Rattle.mvd_conn.specs.Stands.{HistoryStands, StopsForItself};
 ghost use Rattle.mvd_conn.specs.declared.guard.Guard.{Guard};
 ghost use Rattle.mvd_conn.specs.declared.passes.Pass.{Pass};
 
@@ -47,4 +47,9 @@ pub fn one_right()
     ensures { (passes : List Pass) (f : FrameValue) (taken : List FrameValue) (guard : Option Guard)
         (next : Result (Option FrameValue × List ℕ) Refusal) (request : Request) →
         may_under (guard_met passes (f ∷ taken) next guard) request ≡ may_under guard request }
+{}
+
+/// What a connection is stopped by is no answer to a request alone: its number is 20 or more.
+pub fn one_end()
+    ensures { (h : History) → HistoryStands h → StopsForItself h }
 {}

@@ -1,5 +1,5 @@
 -- The frames of one connection, taken one by one.
-use Rattle.std.proofs.Common.{◌≡◌, ℕ, ◌⊎◌, inl, inr, ◌==◌, Bool, true, false, List, [], ◌∷◌, ◌++◌, map, Some, None, Result, Ok, cond, Option, refl, sym, ap, ◌∙◌, subst, subst₂, append_assoc, append-nil, ap₂}
+use Rattle.std.proofs.Common.{◌≡◌, ℕ, ◌⊎◌, inl, inr, ◌==◌, Bool, true, false, List, [], ◌∷◌, ◌++◌, map, Some, None, Result, Ok, cond, max, min, Option, refl, sym, ap, ◌∙◌, subst, subst₂, append_assoc, append-nil, ap₂}
 use Rattle.std.proofs.lemmas.List.{map-append}
 use Rattle.mvd_dots.specs.declared.refusals.Refusal.{Refusal}
 use Rattle.mvd_wire.specs.declared.request.Request.{Request}
@@ -8,12 +8,21 @@ use Rattle.mvd_conn.specs.Guard.{IsShown, may_come}
 use Rattle.mvd_conn.specs.declared.guard.Guard.{Guard}
 use Rattle.mvd_conn.specs.declared.guard.Guard.TheVariants.{Asks, Knows, Left}
 use Rattle.mvd_conn.proofs.Guarded.{gives_may, gives_shown}
-use Rattle.mvd_conn.specs.History.{Gives, History, NextTaken, Over, Stops, Waits, after_next, due, expected, is_held_up, next_of, over, released, stepped, stopped, taking}
+use Rattle.mvd_conn.proofs.StandLemmas.{stands_expected, stands_released}
+use Rattle.mvd_conn.specs.Stands.{HistoryStands}
+use Rattle.mvd_conn.specs.History.{Gives, History, NextTaken, Over, Stops, Waits, after_next, due, expected, is_held_up, next_of, over, released, short_most, stepped, stopped, taking}
 use Rattle.mvd_host.specs.Course.{MayGoOn, NoneMoved, asked_by}
 use Rattle.mvd_host.specs.Taking.{HasNoNext, TakesOn}
 
 pub none_moved : (h : History) → NoneMoved h h
-none_moved h = record { came = refl; source = refl; left = refl; failed = refl; guard = refl }
+none_moved h = record { came = refl; source = refl; left = refl; failed = refl; guard = refl; stands = λ s. s }
+
+pub moved_on : (x y z : History) → NoneMoved x y → NoneMoved y z → NoneMoved x z
+moved_on x y z p q = record { came = q.came ∙ p.came; source = q.source ∙ p.source; left = q.left ∙ p.left; failed = q.failed ∙ p.failed; guard = q.guard ∙ p.guard; stands = λ s. q.stands (p.stands s) }
+
+-- the frame in hand can no longer be looked at
+moved_released : (h : History) → NoneMoved h (released h)
+moved_released h = record { came = refl; source = refl; left = refl; failed = refl; guard = refl; stands = stands_released h }
 
 -- no frame was taken
 pub record Same (old new : History) : Type 0 where
@@ -33,31 +42,31 @@ same old new is = record {
 }
 
 pub took_nothing : (h : History) → TakesOn [] [] h (released h)
-took_nothing h = same h (released h) (record { taken = refl; answers = refl; moved = record { came = refl; source = refl; left = refl; failed = refl; guard = refl } })
+took_nothing h = same h (released h) (record { taken = refl; answers = refl; moved = moved_released h })
 
 -- what a step that hands nothing out leaves
 not_true : {A : Type 0} (p q : A) → ◌≡◌ {A = Bool × A} (false, p) (true, q) → ⊥
 not_true p q e = let no : false ≡ true = ap (λ (x : Bool × _). x.0) e in cc
 
-stepped_same : (h : History) (n : NextTaken) (k : History) → ◌≡◌ {A = Bool × History} (false, k) (stepped h n) → Same h k
-stepped_same h (Gives f rest) k e = absurd (not_true k (taking h f rest) e)
-stepped_same h Over k e =
+stepped_same : (h : History) (n : NextTaken) (k : History) → HistoryStands k → ◌≡◌ {A = Bool × History} (false, k) (stepped h n) → Same h k
+stepped_same h (Gives f rest) k s e = absurd (not_true k (taking h f rest) e)
+stepped_same h Over k s e =
     elim (due h == 0) as (λ b. k ≡ cond b (over h) h → Same h k) [
-      | true ↦ λ is. subst (Same h) (sym is) (record { taken = refl; answers = refl; moved = record { came = refl; source = refl; left = refl; failed = refl; guard = refl } })
+      | true ↦ λ is. subst (Same h) (sym is) (record { taken = refl; answers = refl; moved = record { came = refl; source = refl; left = refl; failed = refl; guard = refl; stands = λ _. subst HistoryStands is s } })
       | false ↦ λ is. subst (Same h) (sym is) (record { taken = refl; answers = refl; moved = none_moved h })
     ] (ap (λ (x : Bool × History). x.1) e)
-stepped_same h (Stops refusal) k e =
+stepped_same h (Stops refusal) k s e =
     elim (due h == 0) as (λ b. k ≡ cond b (stopped h refusal) h → Same h k) [
-      | true ↦ λ is. subst (Same h) (sym is) (record { taken = refl; answers = refl; moved = record { came = refl; source = refl; left = refl; failed = refl; guard = refl } })
+      | true ↦ λ is. subst (Same h) (sym is) (record { taken = refl; answers = refl; moved = record { came = refl; source = refl; left = refl; failed = refl; guard = refl; stands = λ _. subst HistoryStands is s } })
       | false ↦ λ is. subst (Same h) (sym is) (record { taken = refl; answers = refl; moved = none_moved h })
     ] (ap (λ (x : Bool × History). x.1) e)
-stepped_same h Waits k e = subst (Same h) (sym (ap (λ (x : Bool × History). x.1) e)) (record { taken = refl; answers = refl; moved = none_moved h })
+stepped_same h Waits k s e = subst (Same h) (sym (ap (λ (x : Bool × History). x.1) e)) (record { taken = refl; answers = refl; moved = none_moved h })
 
-pub took_none : (h k : History) → ◌≡◌ {A = Bool × History} (false, k) (after_next h) → TakesOn [] [] h k
-took_none h k e =
+pub took_none : (h k : History) → HistoryStands k → ◌≡◌ {A = Bool × History} (false, k) (after_next h) → TakesOn [] [] h k
+took_none h k stands e =
     elim (is_held_up h) as (λ b. ◌≡◌ {A = Bool × History} (false, k) (cond b (false, released h) (stepped (released h) (next_of h))) → TakesOn [] [] h k) [
       | true ↦ λ is. subst (TakesOn [] [] h) (sym (ap (λ (x : Bool × History). x.1) is)) (took_nothing h)
-      | false ↦ λ is. let s : Same (released h) k = stepped_same (released h) (next_of h) k is in same h k (record { taken = s.taken; answers = s.answers; moved = record { came = s.moved.came; source = s.moved.source; left = s.moved.left; failed = s.moved.failed; guard = s.moved.guard } })
+      | false ↦ λ is. let s : Same (released h) k = stepped_same (released h) (next_of h) k stands is in same h k (record { taken = s.taken; answers = s.answers; moved = moved_on h (released h) k (moved_released h) s.moved })
     ] e
 
 -- who may send a frame may go on
@@ -85,26 +94,27 @@ pub record TookOne (old new : History) : Type 0 where
   pub shown : IsShown old.guard old.taken → IsShown new.guard new.taken
   pub goes_on : MayGoOn new.guard
 
-stepped_one : (h : History) (n : NextTaken) (k : History) → next_of h ≡ n → ◌≡◌ {A = Bool × History} (true, k) (stepped h n) → TookOne h k
-stepped_one h (Gives f rest) k next e =
-    subst (TookOne h) (sym (ap (λ (x : Bool × History). x.1) e)) (record {
+stepped_one : (h : History) (n : NextTaken) (k : History) → HistoryStands k → next_of h ≡ n → ◌≡◌ {A = Bool × History} (true, k) (stepped h n) → TookOne h k
+stepped_one h (Gives f rest) k stands next e =
+    let is : k ≡ taking h f rest = ap (λ (x : Bool × History). x.1) e in
+    subst (TookOne h) (sym is) (record {
       frame = f;
       hand = refl;
       taken = refl;
       answers = refl;
-      moved = record { came = refl; source = refl; left = refl; failed = refl; guard = refl };
+      moved = record { came = refl; source = refl; left = refl; failed = refl; guard = refl; stands = λ _. subst HistoryStands is stands };
       shown = gives_shown h f rest next;
       goes_on = let_on h.guard h.taken f (gives_may h f rest next);
     })
-stepped_one h Over k next e = absurd (not_true _ k (sym e))
-stepped_one h (Stops refusal) k next e = absurd (not_true _ k (sym e))
-stepped_one h Waits k next e = absurd (not_true _ k (sym e))
+stepped_one h Over k stands next e = absurd (not_true _ k (sym e))
+stepped_one h (Stops refusal) k stands next e = absurd (not_true _ k (sym e))
+stepped_one h Waits k stands next e = absurd (not_true _ k (sym e))
 
-pub took_one : (h k : History) → ◌≡◌ {A = Bool × History} (true, k) (after_next h) → TookOne h k
-took_one h k e =
+pub took_one : (h k : History) → HistoryStands k → ◌≡◌ {A = Bool × History} (true, k) (after_next h) → TookOne h k
+took_one h k stands e =
     elim (is_held_up h) as (λ b. ◌≡◌ {A = Bool × History} (true, k) (cond b (false, released h) (stepped (released h) (next_of h))) → TookOne h k) [
       | true ↦ λ is. absurd (not_true (released h) k (sym is))
-      | false ↦ λ is. let s : TookOne (released h) k = stepped_one (released h) (next_of h) k refl is in record { frame = s.frame; hand = s.hand; taken = s.taken; answers = s.answers; moved = record { came = s.moved.came; source = s.moved.source; left = s.moved.left; failed = s.moved.failed; guard = s.moved.guard }; shown = s.shown; goes_on = s.goes_on }
+      | false ↦ λ is. let s : TookOne (released h) k = stepped_one (released h) (next_of h) k stands refl is in record { frame = s.frame; hand = s.hand; taken = s.taken; answers = s.answers; moved = moved_on h (released h) k (moved_released h) s.moved; shown = s.shown; goes_on = s.goes_on }
     ] e
 
 pub took_request : (old new : History) (one : TookOne old new) (r : Request) → asked_by new.guard one.frame ≡ Ok r → TakesOn (r ∷ []) [] old new
@@ -120,7 +130,7 @@ on_expected old mid new most rs faulty is on = subst (TakesOn rs faulty old) (sy
   taken = on.taken;
   asked = on.asked;
   answers = on.answers;
-  moved = record { came = on.moved.came; source = on.moved.source; left = on.moved.left; failed = on.moved.failed; guard = on.moved.guard };
+  moved = record { came = on.moved.came; source = on.moved.source; left = on.moved.left; failed = on.moved.failed; guard = on.moved.guard; stands = λ s. stands_expected mid (max short_most (min most mid.brings)) (on.moved.stands s) };
   shown = on.shown;
   goes_on = on.goes_on;
 })
@@ -140,7 +150,7 @@ takes_on old mid new rs more faulty one other = record {
   asked = map-append (asked_by new.guard) one.frames other.frames ∙ ap₂ (λ a b. a ++ b) (first_asked old mid new rs one other.moved.guard) other.asked
       ∙ sym (append_assoc (map (λ r. Ok r) rs) (map (λ r. Ok r) more) faulty) ∙ ap (λ l. l ++ faulty) (sym (map-append (λ r. Ok r) rs more));
   answers = other.answers ∙ one.answers;
-  moved = record { came = other.moved.came ∙ one.moved.came; source = other.moved.source ∙ one.moved.source; left = other.moved.left ∙ one.moved.left; failed = other.moved.failed ∙ one.moved.failed; guard = other.moved.guard ∙ one.moved.guard };
+  moved = moved_on old mid new one.moved other.moved;
   shown = λ s. other.shown (one.shown s);
   goes_on = goes_both new.guard one.frames other.frames (goes_still mid.guard new.guard one.frames other.moved.guard one.goes_on) other.goes_on;
 }
@@ -182,7 +192,7 @@ then_none old mid new rs faulty one other = record {
   taken = other.taken ∙ ap (λ l. mid.taken ++ l) (no_frames new.guard other.frames other.asked) ∙ append-nil mid.taken ∙ one.taken;
   asked = same_guard old mid new rs faulty one other.moved.guard;
   answers = other.answers ∙ one.answers;
-  moved = record { came = other.moved.came ∙ one.moved.came; source = other.moved.source ∙ one.moved.source; left = other.moved.left ∙ one.moved.left; failed = other.moved.failed ∙ one.moved.failed; guard = other.moved.guard ∙ one.moved.guard };
+  moved = moved_on old mid new one.moved other.moved;
   shown = λ s. other.shown (one.shown s);
   goes_on = goes_still mid.guard new.guard one.frames other.moved.guard one.goes_on;
 }

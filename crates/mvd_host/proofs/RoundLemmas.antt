@@ -20,7 +20,7 @@ use Rattle.mvd_host.specs.Taking.{AreFaults, TakesAllFrames, TakesOn}
 use Rattle.mvd_host.specs.Queueing.{AreDue, QueuesReplies, QueuesOn, refused_all, refused_faults}
 use Rattle.mvd_host.specs.Round.{ClientCourse}
 use Rattle.mvd_host.specs.declared.taking.Taken.{Taken}
-use Rattle.mvd_host.proofs.Frames.{goes_still}
+use Rattle.mvd_host.proofs.Frames.{goes_still, moved_on}
 use Rattle.mvd_host.proofs.Own.{both_on, own-append}
 use Rattle.mvd_host.proofs.Serving.{IsStill}
 use Rattle.mvd_host.proofs.ToldLemmas.{on, queued_length}
@@ -130,7 +130,7 @@ course requests faulty first second h i k took asked faulted queued = record {
   queued = queued.queued;
   answers = queued.answers ∙ ap (λ l. l ++ queued.queued) took.answers;
   told = subst (λ l. AreQueued l queued.queued) (sym (map-append (λ (t : Turn). t.reply) first second)) queued.told;
-  moved = record { came = queued.moved.came ∙ took.moved.came; source = queued.moved.source ∙ took.moved.source; left = queued.moved.left ∙ took.moved.left; failed = queued.moved.failed ∙ took.moved.failed; guard = queued.moved.guard ∙ took.moved.guard };
+  moved = moved_on h i k took.moved queued.moved;
   shown = λ s. subst₂ (λ (g : Option Guard) (fs : List FrameValue). IsShown g fs) (sym queued.moved.guard) (sym queued.taken) (took.shown s);
   goes_on = goes_still i.guard k.guard took.frames queued.moved.guard took.goes_on;
 }

@@ -1,14 +1,19 @@
 -- The replies, one after the other.
-use Rattle.std.proofs.Common.{◌≡◌, ℕ, ◌+◌, ◌≤◌, ◌<◌, cond, List, [], ◌∷◌, ◌++◌, map, length, Option, Some, None, refl, sym, ap, ◌∙◌, subst, append_assoc, append-nil, arith}
+use Rattle.std.proofs.Common.{◌≡◌, ℕ, ◌+◌, ◌≤◌, ◌<◌, ◌==◌, Bool, true, false, cond, List, [], ◌∷◌, ◌++◌, map, length, Option, Some, None, refl, sym, ap, ◌∙◌, subst, subst₂, append_assoc, append-nil, arith}
+use Rattle.std.proofs.lemmas.Bool.Decides.{nat_tests}
 use Rattle.std.proofs.lemmas.List.{length-append}
+use Rattle.std.specs.BTreeMap.{is_at}
 use Rattle.std.specs.List.{AllByRecursion}
+use Rattle.std.specs.Ordering.{nat_cmp}
 use Rattle.mvd_wire.specs.declared.reply.Reply.{Reply}
-use Rattle.mvd_wire.specs.Replies.{CanBeSent}
-use Rattle.mvd_conn.specs.History.{History}
+use Rattle.mvd_wire.specs.Replies.{CanBeSent, reply_bytes}
+use Rattle.mvd_conn.specs.History.{History, replied}
+use Rattle.mvd_conn.specs.Stands.{HistoryStands, IsQueued}
 use Rattle.mvd_host.specs.Hosts.{IfClient, client_in}
 use Rattle.mvd_host.specs.Course.{AreQueued, BothClients, own}
 use Rattle.mvd_host.specs.Queueing.{AreDue, QueuesReplies, QueuesOn}
-use Rattle.mvd_host.proofs.Frames.{none_moved}
+use Rattle.mvd_host.proofs.Frames.{moved_on, none_moved}
+use Rattle.mvd_host.proofs.Hosts.{at_is}
 use Rattle.mvd_host.proofs.Own.{both_on, both_self, own-append, same_number}
 
 pub queued_length : (replies : List Reply) (queued : List (List ℕ)) → AreQueued replies queued → length queued ≡ length replies
@@ -47,7 +52,7 @@ on xs ys x y z p q = record {
   answers = q.answers ∙ ap (λ l. l ++ q.queued) p.answers ∙ append_assoc x.answers p.queued q.queued;
   told = queued_on xs ys p.queued q.queued p.told q.told;
   taken = q.taken ∙ p.taken;
-  moved = record { came = q.moved.came ∙ p.moved.came; source = q.moved.source ∙ p.moved.source; left = q.moved.left ∙ p.moved.left; failed = q.moved.failed ∙ p.moved.failed; guard = q.moved.guard ∙ p.moved.guard };
+  moved = moved_on x y z p.moved q.moved;
   none = λ nothing. q.none (no_second xs ys nothing) ∙ p.none (no_first xs ys nothing);
 }
 
@@ -55,6 +60,30 @@ pub queues_on : (xs ys : List (ℕ × Reply)) (old mid new : List (ℕ × Histor
 queues_on xs ys old mid new p q n =
     subst (λ l. BothClients (client_in old n) (client_in new n) (QueuesOn l)) (sym (own-append n xs ys))
     (both_on (client_in old n) (client_in mid n) (client_in new n) (QueuesOn (own n xs)) (QueuesOn (own n ys)) (QueuesOn (own n xs ++ own n ys)) (on (own n xs) (own n ys)) (p n) (q n))
+
+-- a reply was queued on one client's connection
+replied_on : (r : Reply) (h k : History) → (queued : Reply) × IsQueued r queued × (k ≡ replied h (reply_bytes queued)) → HistoryStands k → QueuesOn (r ∷ []) h k
+replied_on r h k (queued, is, to) stands = subst (QueuesOn (r ∷ []) h) (sym to) (record {
+  queued = reply_bytes queued ∷ [];
+  answers = refl;
+  told = ((queued, is, refl), tt);
+  taken = refl;
+  moved = record { came = refl; source = refl; left = refl; failed = refl; guard = refl; stands = λ _. subst HistoryStands to stands };
+  none = λ nothing. absurd (let no : ◌≡◌ {A = List Reply} (r ∷ []) [] = nothing in cc);
+})
+
+pub queues_here : (n : ℕ) (r : Reply) (old new : List (ℕ × History)) (h k : History) → client_in old n ≡ Some h → client_in new n ≡ Some k → ((q : ℕ) → client_in new q ≡ cond (is_at (nat_cmp n) q) (Some k) (client_in old q))
+    → (queued : Reply) × IsQueued r queued × (k ≡ replied h (reply_bytes queued)) → HistoryStands k → QueuesReplies ((n, r) ∷ []) old new
+queues_here n r old new h k was is at told stands q = on (n == q) refl
+  where
+    on : (b : Bool) → (n == q) ≡ b → BothClients (client_in old q) (client_in new q) (QueuesOn (cond b (r ∷ []) []))
+    on true e =
+        let same : n ≡ q = grind (arith, nat_tests, e) in
+        subst (λ i. BothClients (client_in old i) (client_in new i) (QueuesOn (r ∷ []))) same
+        (subst₂ (λ a b. BothClients a b (QueuesOn (r ∷ []))) (sym was) (sym is) (replied_on r h k told stands))
+    on false e =
+        let apart : (q == n) ≡ false = grind (arith, nat_tests, e) in
+        subst (λ o. BothClients (client_in old q) o (QueuesOn [])) (sym (at q ∙ ap (λ b. cond b (Some k) (client_in old q)) (at_is n q ∙ apart))) (queues_none old q)
 
 -- what is left due, once replies were queued
 left : (xs ys : List Reply) (a b : Option History) → BothClients a b (QueuesOn xs) → IfClient a (λ h. length h.answers + length (xs ++ ys) ≤ length h.taken) → IfClient b (λ h. length h.answers + length ys ≤ length h.taken)

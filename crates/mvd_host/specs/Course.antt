@@ -10,7 +10,7 @@ use Rattle.mvd_conn.specs.Guard.{asked_under}
 use Rattle.mvd_conn.specs.History.{History}
 use Rattle.mvd_conn.specs.declared.guard.Guard.{Guard}
 use Rattle.mvd_conn.specs.declared.guard.Guard.TheVariants.{Asks, Knows, Left}
-use Rattle.mvd_conn.specs.Stands.{IsQueued}
+use Rattle.mvd_conn.specs.Stands.{HistoryStands, IsQueued}
 
 -- of things of clients, each with its client's number, those of one client, in order
 abbrev pub own : {X : Type 0} → ℕ → List (ℕ × X) → List X
@@ -47,10 +47,11 @@ AreQueued (reply ∷ replies) [] = ⊥
 AreQueued (reply ∷ replies) (bytes ∷ rest) =
     ((queued : Reply) × IsQueued reply queued × (bytes ≡ reply_bytes queued)) × AreQueued replies rest
 
--- no byte came or left, neither side ended, and the guard is the same
+-- no byte came or left, neither side ended, and the guard is the same; and what is true of every connection is so still
 pub record NoneMoved (old new : History) : Type 0 where
   pub came : new.came ≡ old.came
   pub source : new.source ≡ old.source
   pub left : new.left ≡ old.left
   pub failed : new.failed ≡ old.failed
   pub guard : new.guard ≡ old.guard
+  pub stands : HistoryStands old → HistoryStands new

@@ -8,6 +8,7 @@ use Rattle.mvd_conn.specs.declared.guard.Guard.{Guard}
 use Rattle.mvd_conn.specs.declared.guard.Guard.TheVariants.{Asks, Knows, Left}
 use Rattle.mvd_conn.specs.declared.passes.Pass.{Pass}
 use Rattle.mvd_conn.specs.History.{History, closed, cut, fed, met, released, sent}
+use Rattle.mvd_conn.specs.Stands.{HistoryStands, StopsForItself}
 use Rattle.mvd_site.specs.Sites.{SiteValue}
 use Rattle.mvd_replica.specs.Turns.{Turn}
 use Rattle.mvd_host.specs.AtHand.{AtHandValue, StepsAtHand, first_at_hand}
@@ -99,6 +100,14 @@ pub record TellsOwn (turns : List Turn) (h : History) : Type 0 where
   pub asked : map (asked_by h.guard) h.taken ≡ map (λ t. t.asked) turns
   pub told : AreQueued (map (λ t. t.reply) turns) h.answers
   pub shown : IsShown h.guard h.taken
+
+-- THE CLIENT of this number asked and was told its own turns of these by this connection. What came in are their
+-- frames, and what is held; their replies, and what tells of its end, left or wait. No refusal of a request alone
+-- stopped it
+pub record IsClientOf (n : ℕ) (turns : List (ℕ × Turn)) (h : History) : Type 0 where
+  pub told : TellsOwn (own n turns) h
+  pub stands : HistoryStands h
+  pub stops : StopsForItself h
 
 abbrev pub IsHelloOf : Pass → Result Request Refusal → Type 0
 IsHelloOf pass asked = (token : List ℕ) × (asked ≡ Ok (Hello token)) × IsTokenOf pass token

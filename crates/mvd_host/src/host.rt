@@ -1,5 +1,5 @@
 //! The connections of many clients.
-ghost use Rattle.std.specs.Prelude.{◌≡◌, ◌≤◌, ◌⊎◌, ◌↔◌, length, option_map, true, OnOk, IfOk, IfErr, IsTrue};
+ghost use Rattle.std.specs.Prelude.{◌≡◌, ◌≤◌, ◌<◌, ◌⊎◌, ◌↔◌, length, option_map, false, true, OnOk, IfOk, IfErr, IsTrue};
 ghost use Rattle.std.specs.Option.{option_and_then};
 ghost use Rattle.mvd_dots.specs.declared.refusals.Refusal.TheVariants as Refusal;
 ghost use Rattle.mvd_conn.specs.History.{WantsInput, closed, cut, ending_of, fed, is_done, met, piece_most, released, sent};
@@ -40,6 +40,7 @@ impl Model for Host {
 }
 
 impl Host {
+    ghost use Rattle.mvd_host.specs.AtHand.{first_at_hand};
     ghost use Rattle.mvd_host.specs.Hosts.{Admits, IfClient, IsClient, ClientLeaves, altered, client_of, new_host, without_client};
 
     /// A host without clients.
@@ -74,6 +75,13 @@ impl Host {
         self.clients.insert(number, connection)?;
         self.admitted += 1;
         Ok(Some(number))
+    }
+
+    /// Whether a client may come yet that gets this number.
+    pub fn may_admit(&self, client: u64) -> bool
+        ensures { result ≡ false → (client < self.now.admitted) ⊎ (first_at_hand ≤ client) }
+    {
+        client >= self.admitted && client < FIRST_AT_HAND
     }
 
     /// Lets a client go, whose number is not used again.

@@ -21,6 +21,7 @@ fn queue(clients: &mut BTreeMap<u64, Connection>, client: u64, reply: &Reply)
 {
     if let Some(connection) = clients.get_mut(&client) {
         connection.reply(reply);
+        connection.stands();
     }
 }
 

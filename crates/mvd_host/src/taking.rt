@@ -107,8 +107,10 @@ impl Taken {
         ensures end { IfOk result (λ more. more ≡ false → EndsTaking connection.new self.old self.new) }
     {
         if !connection.next()? {
+            connection.stands();
             return Ok(false);
         }
+        connection.stands();
         match request_in(alloc, connection) {
             Ok(request) => {
                 *weighed = weighed.saturating_add(weight(site, &request));

@@ -120,6 +120,8 @@ impl Line for ServedAmongOthers {
 
     ghost contents = { λ _. None };
 
+    ghost came = { λ _. None };
+
     // Others write to its far side.
     ghost is_true = { λ _. ⊥ };
 

@@ -88,6 +88,8 @@ impl Line for Served {
 
     ghost contents = { λ _. None };
 
+    ghost came = { λ _. None };
+
     ghost is_true = { λ served. AreHeld served.site.states };
 
     ghost far = { λ served. far_at served.site served.waiting.items };

@@ -1,23 +1,26 @@
 -- The bytes that a host queued for a client are live mail.
-use Rattle.std.proofs.Common.{◌≡◌, inl, inr, ℕ, ◌==◌, true, false, List, [], ◌∷◌, ◌++◌, map, Some, refl, sym, ap, subst, ◌∙◌, true≢false}
+use Rattle.std.proofs.Common.{◌≡◌, inl, inr, ℕ, ◌==◌, true, false, List, [], ◌∷◌, ◌++◌, map, Option, Some, None, refl, sym, ap, subst, ◌∙◌, append-nil, append_assoc, true≢false}
 use Rattle.std.specs.Prelude.{Ok, Err, Result, flat_map, if◌then◌else◌}
 use Rattle.std.specs.List.{AllByRecursion, concat}
 use Rattle.mvd_dots.specs.declared.refusals.Refusal.{Refusal}
-use Rattle.mvd_dots.specs.declared.refusals.Refusal.TheVariants.{Memory}
+use Rattle.mvd_dots.specs.declared.refusals.Refusal.TheVariants.{Memory, NotAdmitted}
 use Rattle.mvd_wire.specs.Frames.{FrameValue, frame_at}
 use Rattle.mvd_wire.specs.Replies.{CanBeSent, IsReply, is_short, reply_bytes, refusal, reply_kind, reply_payload}
 use Rattle.mvd_wire.specs.declared.reply.Reply.{Reply}
 use Rattle.mvd_wire.specs.declared.reply.Reply.TheVariants as reply
 use Rattle.mvd_wire.specs.declared.request.Request.{Request}
-use Rattle.mvd_wire.specs.declared.request.Request.TheVariants.{Bucket, Get, Node, Push}
+use Rattle.mvd_wire.specs.declared.request.Request.TheVariants.{Bucket, Bye, Get, Node, Push}
 use Rattle.mvd_frames.proofs.FrameLemmas.{frame_again}
 use Rattle.mvd_frames.proofs.ReplyLaws.{replies_again}
+use Rattle.mvd_conn.specs.Guard.{asked_under, may_under}
 use Rattle.mvd_conn.specs.Stands.{IsQueued}
+use Rattle.mvd_conn.specs.declared.guard.Guard.{Guard}
 use Rattle.mvd_conn.proofs.LengthLemmas.{payload_fits}
 use Rattle.mvd_site.specs.Config.{ConfigValue}
 use Rattle.mvd_site.specs.Held.{AreHeld, States}
 use Rattle.mvd_site.specs.Sites.{SiteValue}
 use Rattle.mvd_site.proofs.Outcomes.{refused_fits}
+use Rattle.mvd_peer.specs.Live.{Grows}
 use Rattle.mvd_remote.specs.Lines.{TrueReply}
 use Rattle.mvd_replica.specs.Turns.{Turn}
 use Rattle.mvd_replica.proofs.Batching.{fits_turn, form_turn}
@@ -27,43 +30,37 @@ use Rattle.mvd_host.proofs.Positions.{ServesFrom}
 use Rattle.mvd_remote.specs.Remotes.{requests_of}
 use Rattle.mvd_peer.specs.declared.window.Window.{Window}
 use Rattle.mvd_peer.specs.declared.window.Window.TheVariants as wanted
-use Rattle.mvd_live.specs.Answers.{AnswersAmong, AreReplyFrames, SiteTurn, own_replies, own_requests}
-use Rattle.mvd_live.specs.Hosts.{TellsWindows, and_turn, site_turns}
-use Rattle.mvd_live.proofs.Hosted.{host_answers}
-use Rattle.mvd_live.proofs.Replied.{turns_among}
+use Rattle.mvd_live.specs.Answers.{AnswersAmong, AreReplyFrames}
+use Rattle.mvd_live.specs.Delivered.{IsSaid}
+use Rattle.mvd_live.specs.Hosts.{TellsWindows}
+use Rattle.mvd_live.proofs.Hosted.{Leaves, LeavesAll, all_left, leaves, leaves_same, one_left}
+use Rattle.mvd_live.proofs.Replied.{among_since}
 use Rattle.mvd_live.proofs.Whole.{grows_self}
 
 -- ---- what a session asks
 
-abbrev IsOfSession : Request → Type 0
-IsOfSession (Get key) = Unit {0}
-IsOfSession (Node path) = Unit {0}
-IsOfSession (Bucket path after) = Unit {0}
-IsOfSession (Push key state) = Unit {0}
-IsOfSession request = ⊥
-
-all_mapped : {Q : Type 0} (ask : Q → Request) → ((q : Q) → IsOfSession (ask q)) → (qs : List Q) → AllByRecursion IsOfSession (map ask qs)
+pub all_mapped : {Q : Type 0} (ask : Q → Request) → ((q : Q) → IsSaid (ask q)) → (qs : List Q) → AllByRecursion IsSaid (map ask qs)
 all_mapped ask each [] = tt
 all_mapped ask each (q ∷ qs) = (each q, all_mapped ask each qs)
 
-window_asks : (window : Window) → AllByRecursion IsOfSession (requests_of window)
+window_asks : (window : Window) → AllByRecursion IsSaid (requests_of window)
 window_asks (wanted.Nodes paths) = all_mapped (λ path. Node path) (λ q. tt) paths.items
 window_asks (wanted.Pages asked) = all_mapped (λ q. Bucket q.0 q.1) (λ q. tt) asked.items
 window_asks (wanted.Gets keys) = all_mapped (λ key. Get key) (λ q. tt) keys.items
 window_asks (wanted.Pushes pairs) = all_mapped (λ pair. Push pair.0 pair.1) (λ q. tt) pairs.items
 
-all_both : {X : Type 0} (P : X → Type 0) (xs ys : List X) → AllByRecursion P xs → AllByRecursion P ys → AllByRecursion P (xs ++ ys)
+pub all_both : {X : Type 0} (P : X → Type 0) (xs ys : List X) → AllByRecursion P xs → AllByRecursion P ys → AllByRecursion P (xs ++ ys)
 all_both P [] ys p q = q
 all_both P (x ∷ xs) ys p q = (p.0, all_both P xs ys p.1 q)
 
-windows_ask : (windows : List Window) → AllByRecursion IsOfSession (flat_map requests_of windows)
+windows_ask : (windows : List Window) → AllByRecursion IsSaid (flat_map requests_of windows)
 windows_ask [] = tt
-windows_ask (window ∷ windows) = all_both IsOfSession (requests_of window) (flat_map requests_of windows) (window_asks window) (windows_ask windows)
+windows_ask (window ∷ windows) = all_both IsSaid (requests_of window) (flat_map requests_of windows) (window_asks window) (windows_ask windows)
 
 -- ---- one reply, as it was queued
 
 -- want of memory in place of what was told is told truly
-memory_instead : (config : ConfigValue) (before : States) (q : Request) (r : Reply) (held : States) → IsOfSession q → TrueReply config before q r held → is_short r ≡ false → TrueReply config before q (reply.Refused Memory) held
+memory_instead : (config : ConfigValue) (before : States) (q : Request) (r : Reply) (held : States) → IsSaid q → TrueReply config before q r held → is_short r ≡ false → TrueReply config before q (reply.Refused Memory) held
 memory_instead config before (Get key) (reply.State s) held ok so long = (refl, so.1)
 memory_instead config before (Get key) (reply.Refused x) held ok so long = absurd (true≢false long)
 memory_instead config before (Get key) r held ok so long = absurd so
@@ -76,10 +73,14 @@ memory_instead config before (Bucket path after) r held ok so long = absurd so
 memory_instead config before (Push key s) reply.Done held ok so long = absurd (true≢false long)
 memory_instead config before (Push key s) (reply.Refused x) held ok so long = absurd (true≢false long)
 memory_instead config before (Push key s) r held ok so long = absurd so
+memory_instead config before Bye r held ok so long = elim so [
+  | inl done ↦ absurd (true≢false (subst (λ (x : Reply). is_short x ≡ false) done.0 long))
+  | inr refused ↦ absurd (true≢false (subst (λ (x : Reply). is_short x ≡ false) refused.1 long))
+]
 memory_instead config before q r held ok so long = absurd ok
 
 -- a short one has a spelling
-short_spelled : (config : ConfigValue) (before : States) (q : Request) (r : Reply) (held : States) → IsOfSession q → TrueReply config before q r held → is_short r ≡ true → IsReply r
+short_spelled : (config : ConfigValue) (before : States) (q : Request) (r : Reply) (held : States) → IsSaid q → TrueReply config before q r held → is_short r ≡ true → IsReply r
 unfolding refusal
 short_spelled config before (Get key) (reply.Refused x) held ok so short = tt
 short_spelled config before (Get key) (reply.State s) held ok so short = absurd (true≢false (sym short))
@@ -93,6 +94,10 @@ short_spelled config before (Bucket path after) r held ok so short = absurd so
 short_spelled config before (Push key s) reply.Done held ok so short = tt
 short_spelled config before (Push key s) (reply.Refused x) held ok so short = tt
 short_spelled config before (Push key s) r held ok so short = absurd so
+short_spelled config before Bye r held ok so short = elim so [
+  | inl done ↦ subst IsReply (sym done.0) tt
+  | inr refused ↦ subst IsReply (sym refused.1) tt
+]
 short_spelled config before q r held ok so short = absurd ok
 
 -- what was queued is told truly, and it has a spelling, which fits into a frame
@@ -101,7 +106,7 @@ record IsGood (config : ConfigValue) (before : States) (q : Request) (r : Reply)
   pub spelled : IsReply r
   pub fits : CanBeSent r
 
-queued_so : (config : ConfigValue) (before : States) (q : Request) (r queued : Reply) (held : States) → IsOfSession q → TrueReply config before q r held → CanBeSent r → IsQueued r queued → IsGood config before q queued held
+queued_so : (config : ConfigValue) (before : States) (q : Request) (r queued : Reply) (held : States) → IsSaid q → TrueReply config before q r held → CanBeSent r → IsQueued r queued → IsGood config before q queued held
 unfolding refusal
 queued_so config before q r queued held ok so fits (inl (same, long)) = subst (λ x. IsGood config before q x held) (sym same) (record {
   so = so;
@@ -118,27 +123,29 @@ queued_so config before q r queued held ok so fits (inr (long, memory)) = subst 
 })
 
 -- its frame is read again
-abbrev told_frame : Reply → FrameValue
+abbrev pub told_frame : Reply → FrameValue
 told_frame r = record { kind = reply_kind r; payload = reply_payload r }
 
-frame_read : (r : Reply) (rest : List ℕ) → CanBeSent r → frame_at (reply_bytes r ++ rest) ≡ Ok (Some (told_frame r), rest)
+pub frame_read : (r : Reply) (rest : List ℕ) → CanBeSent r → frame_at (reply_bytes r ++ rest) ≡ Ok (Some (told_frame r), rest)
 frame_read r rest fits = frame_again (told_frame r) rest (payload_fits r fits)
 
 -- ---- all of them
 
-requeued : (config : ConfigValue) (qs : List Request) (rs : List Reply) (bs : List (List ℕ)) (old new : States) (moments : List States) → AllByRecursion IsOfSession qs → AnswersAmong config qs rs old moments new → AreQueued rs bs → AllByRecursion CanBeSent rs →
-    (told : List Reply) × AreReplyFrames told (concat bs) [] × AnswersAmong config qs told old moments new
-requeued config [] [] [] old new moments ok among queued fits = ([], refl, among)
-requeued config [] [] (b ∷ bs) old new moments ok among queued fits = absurd queued
-requeued config [] (r ∷ rs) bs old new moments ok among queued fits = absurd among
-requeued config (q ∷ qs) [] bs old new moments ok among queued fits = absurd among
-requeued config (q ∷ qs) (r ∷ rs) [] old new moments ok among queued fits = absurd queued
-requeued config (q ∷ qs) (r ∷ rs) (b ∷ bs) old new [] ok among queued fits = absurd among
-requeued config (q ∷ qs) (r ∷ rs) (b ∷ bs) old new (held ∷ later) ok (before, was, is, so, more) ((queued, sort, bytes), others) fits =
-    let rest = requeued config qs rs bs held new later ok.1 more others fits.1 in
+-- whatever bytes follow
+pub requeued : (config : ConfigValue) (qs : List Request) (rs : List Reply) (bs : List (List ℕ)) (rest : List ℕ) (old new : States) (moments : List States) → AllByRecursion IsSaid qs → AnswersAmong config qs rs old moments new → AreQueued rs bs → AllByRecursion CanBeSent rs →
+    (told : List Reply) × AreReplyFrames told (concat bs ++ rest) rest × AnswersAmong config qs told old moments new
+requeued config [] [] [] rest old new moments ok among queued fits = ([], refl, among)
+requeued config [] [] (b ∷ bs) rest old new moments ok among queued fits = absurd queued
+requeued config [] (r ∷ rs) bs rest old new moments ok among queued fits = absurd among
+requeued config (q ∷ qs) [] bs rest old new moments ok among queued fits = absurd among
+requeued config (q ∷ qs) (r ∷ rs) [] rest old new moments ok among queued fits = absurd queued
+requeued config (q ∷ qs) (r ∷ rs) (b ∷ bs) rest old new [] ok among queued fits = absurd among
+requeued config (q ∷ qs) (r ∷ rs) (b ∷ bs) rest old new (held ∷ later) ok (before, was, is, so, more) ((queued, sort, bytes), others) fits =
+    let behind = requeued config qs rs bs rest held new later ok.1 more others fits.1 in
     let it : IsGood config before q queued held = queued_so config before q r queued held ok.0 so fits.0 sort in
-    let read : frame_at (b ++ concat bs) ≡ Ok (Some (told_frame queued), concat bs) = subst (λ t. frame_at (t ++ concat bs) ≡ Ok (Some (told_frame queued), concat bs)) (sym bytes) (frame_read queued (concat bs) it.fits) in
-    (queued ∷ rest.0, (told_frame queued, concat bs, read, replies_again queued it.spelled, rest.1), (before, was, is, it.so, rest.2))
+    let next = concat bs ++ rest in
+    let read : frame_at ((b ++ concat bs) ++ rest) ≡ Ok (Some (told_frame queued), next) = ap frame_at (append_assoc b (concat bs) rest) ∙ subst (λ (x : List ℕ). frame_at (x ++ next) ≡ Ok (Some (told_frame queued), next)) (sym bytes) (frame_read queued next it.fits) in
+    (queued ∷ behind.0, (told_frame queued, next, read, replies_again queued it.spelled, behind.1), (before, was, is, it.so, behind.2))
 
 -- ---- window by window
 
@@ -205,7 +212,7 @@ turn_form : (old mid : SiteValue) (asked : Result Request Refusal) (r : Reply) �
 turn_form old mid asked r held (inl one) = form_turn old mid asked r held one
 turn_form old mid asked r held (inr memory) = subst (λ (s : SiteValue). AreHeld s.states) (sym memory.1) held
 
-own_fits : (n : ℕ) (turns : List (ℕ × Turn)) (old new : SiteValue) → AreHeld old.states → ServesAllFrom old new (turns_of turns) → AllByRecursion CanBeSent (map (λ (turn : Turn). turn.reply) (own n turns))
+pub own_fits : (n : ℕ) (turns : List (ℕ × Turn)) (old new : SiteValue) → AreHeld old.states → ServesAllFrom old new (turns_of turns) → AllByRecursion CanBeSent (map (λ (turn : Turn). turn.reply) (own n turns))
 own_fits n [] old new held all = tt
 own_fits n (t ∷ ts) old new held all =
     let rest = own_fits n ts all.0 new (turn_form old all.0 t.1.asked t.1.reply held all.1) all.2 in
@@ -213,10 +220,6 @@ own_fits n (t ∷ ts) old new held all =
       | true ↦ (turn_fits old all.0 t.1.asked t.1.reply held all.1, rest)
       | false ↦ rest
     ]
-
--- the turns that are a client's own are what it asked and was told
-abbrev AsksAndTells : List SiteTurn → List Turn → List Request → Type 0
-AsksAndTells site mine requests = (own_requests site ≡ requests) × (own_replies site ≡ map (λ (turn : Turn). turn.reply) mine)
 
 abbrev pub asked_by_turns : List Turn → List (Result Request Refusal)
 asked_by_turns mine = map (λ (turn : Turn). turn.asked) mine
@@ -227,43 +230,54 @@ told_by_turns mine = map (λ (turn : Turn). turn.reply) mine
 abbrev pub all_ok : List Request → List (Result Request Refusal)
 all_ok requests = map (λ (request : Request). Ok request) requests
 
-first_ok : (q : Request) (others : List (Result Request Refusal)) (requests : List Request) → Ok q ∷ others ≡ all_ok requests → (later : List Request) × (requests ≡ q ∷ later) × (others ≡ all_ok later)
-first_ok q others [] e = absurd (cc)
-first_ok q others (r ∷ requests) e = (requests, cc, cc)
+-- these requests, as a client's right allows them
+abbrev pub all_under : Option Guard → List Request → List (Result Request Refusal)
+all_under guard requests = map (λ (request : Request). asked_under guard (Ok request)) requests
 
-no_fault : (fault : Refusal) (others : List (Result Request Refusal)) (requests : List Request) → Err fault ∷ others ≡ all_ok requests → ⊥
-no_fault fault others [] e = cc
-no_fault fault others (r ∷ requests) e = cc
-
-own_more : (n client : ℕ) (asked : Result Request Refusal) (r : Reply) (mine : List Turn) (site : List SiteTurn) (requests : List Request) → ((later : List Request) → asked_by_turns mine ≡ all_ok later → AsksAndTells site mine later) →
-    asked_by_turns (if client == n then record { asked = asked; reply = r } ∷ mine else mine) ≡ all_ok requests →
-    AsksAndTells (and_turn n client asked r site) (if client == n then record { asked = asked; reply = r } ∷ mine else mine) requests
-own_more n client (Ok q) r mine site requests rest = elim (client == n) as (λ b. asked_by_turns (if b then record { asked = Ok q; reply = r } ∷ mine else mine) ≡ all_ok requests →
-    AsksAndTells (record { own = b; asked = q; reply = r } ∷ site) (if b then record { asked = Ok q; reply = r } ∷ mine else mine) requests) [
-      | true ↦ λ e.
-          let it = first_ok q (asked_by_turns mine) requests e in
-          let later = rest it.0 it.2 in
-          (ap (λ (qs : List Request). q ∷ qs) later.0 ∙ sym it.1, ap (λ (rs : List Reply). r ∷ rs) later.1)
-      | false ↦ λ e. rest requests e
+-- one that it does not allow is refused so, and the site is as it was
+own_turn : (guard : Option Guard) (q : Request) (old mid : SiteValue) (r : Reply) → AreHeld old.states → ServesFrom old mid (record { asked = asked_under guard (Ok q); reply = r }) → Leaves old mid q r
+own_turn guard q old mid r held one = elim (may_under guard q) as (λ b. ServesFrom old mid (record { asked = if b then Ok q else Err NotAdmitted; reply = r }) → Leaves old mid q r) [
+  | true ↦ λ one. leaves old mid q r held one
+  | false ↦ λ one. elim one [
+      | inl barred ↦ elim barred.0 [
+          | inl told ↦ leaves_same old mid q r held barred.1 (inr (inr told))
+          | inr memory ↦ leaves_same old mid q r held barred.1 (inl memory)
+        ]
+      | inr memory ↦ leaves_same old mid q r held memory.1 (inl memory.0)
     ]
-own_more n client (Err fault) r mine site requests rest = elim (client == n) as (λ b. asked_by_turns (if b then record { asked = Err fault; reply = r } ∷ mine else mine) ≡ all_ok requests →
-    AsksAndTells site (if b then record { asked = Err fault; reply = r } ∷ mine else mine) requests) [
-      | true ↦ λ e. absurd (no_fault fault (asked_by_turns mine) requests e)
-      | false ↦ λ e. rest requests e
-    ]
+] one
 
-own_all : (n : ℕ) (turns : List (ℕ × Turn)) (requests : List Request) → asked_by_turns (own n turns) ≡ all_ok requests → AsksAndTells (site_turns n turns) (own n turns) requests
-own_all n [] [] e = (refl, refl)
-own_all n [] (q ∷ requests) e = absurd (cc)
-own_all n (t ∷ ts) requests e = own_more n t.0 t.1.asked t.1.reply (own n ts) (site_turns n ts) requests (λ later is. own_all n ts later is) e
+-- a client's own turns are answered among those of others
+abbrev OwnAmong : ConfigValue → List Request → List Turn → States → States → Type 0
+OwnAmong config requests mine old new = (moments : List States) × AnswersAmong config requests (told_by_turns mine) old moments new
+
+own_first : (guard : Option Guard) (turn : Turn) (mine : List Turn) (requests : List Request) (old mid : SiteValue) (new : States) → AreHeld old.states → ServesFrom old mid turn →
+    ((later : List Request) → AreHeld mid.states → asked_by_turns mine ≡ all_under guard later → OwnAmong mid.config later mine mid.states new) → asked_by_turns (turn ∷ mine) ≡ all_under guard requests → OwnAmong old.config requests (turn ∷ mine) old.states new
+own_first guard turn mine [] old mid new held one goes is = absurd (cc)
+own_first guard turn mine (q ∷ later) old mid new held one goes is =
+    let both : turn.asked ∷ asked_by_turns mine ≡ asked_under guard (Ok q) ∷ all_under guard later = is in
+    let first : turn.asked ≡ asked_under guard (Ok q) = cc in
+    let others : asked_by_turns mine ≡ all_under guard later = cc in
+    let it : Leaves old mid q turn.reply = own_turn guard q old mid turn.reply held (subst (λ (a : Result Request Refusal). ServesFrom old mid (record { asked = a; reply = turn.reply })) first one) in
+    let rest = goes later it.form others in
+    (mid.states ∷ rest.0, (old.states, (held, grows_self old.states held), (it.form, it.grows), it.so, subst (λ (c : ConfigValue). AnswersAmong c later (told_by_turns mine) mid.states rest.0 new) it.config rest.1))
+
+pub own_among : (n : ℕ) (guard : Option Guard) (turns : List (ℕ × Turn)) (requests : List Request) (old new : SiteValue) → AreHeld old.states → ServesAllFrom old new (turns_of turns) → asked_by_turns (own n turns) ≡ all_under guard requests → OwnAmong old.config requests (own n turns) old.states new.states
+own_among n guard [] [] old new held all is = ([], subst (λ (s : SiteValue). Grows old.states s.states) (sym all) (grows_self old.states held))
+own_among n guard [] (q ∷ requests) old new held all is = absurd (cc)
+own_among n guard (t ∷ ts) requests old new held (mid, one, all) is = elim (t.0 == n) as (λ b. asked_by_turns (if b then t.1 ∷ own n ts else own n ts) ≡ all_under guard requests → OwnAmong old.config requests (if b then t.1 ∷ own n ts else own n ts) old.states new.states) [
+  | true ↦ λ is. own_first guard t.1 (own n ts) requests old mid new.states held one (λ later form asked. own_among n guard ts later mid new form all asked) is
+  | false ↦ λ is.
+      let left : LeavesAll old mid = one_left old mid t.1.asked t.1.reply held one in
+      let last : LeavesAll mid new = all_left (turns_of ts) mid new left.form all in
+      let rest = own_among n guard ts requests mid new left.form all is in
+      (rest.0, among_since old.config requests (told_by_turns (own n ts)) old.states mid.states new.states rest.0 held left.form last.form left.grows (subst (λ (c : ConfigValue). AnswersAmong c requests (told_by_turns (own n ts)) mid.states rest.0 new.states) left.config rest.1))
+] is
 
 -- WHAT A HOST TELLS A CLIENT of requests
 pub host_at_hand : (n : ℕ) (turns : List (ℕ × Turn)) (old new : SiteValue) (requests : List Request) → AreHeld old.states → ServesAllFrom old new (turns_of turns) → asked_by_turns (own n turns) ≡ all_ok requests →
     (moments : List States) × AnswersAmong old.config requests (told_by_turns (own n turns)) old.states moments new.states
-host_at_hand n turns old new requests form all asked =
-    let here : AsksAndTells (site_turns n turns) (own n turns) requests = own_all n turns requests asked in
-    let among = turns_among old.config (site_turns n turns) old.states new.states form (host_answers n turns old new form all) in
-    (among.0, subst (λ qs. AnswersAmong old.config qs (told_by_turns (own n turns)) old.states among.0 new.states) here.0 (subst (λ rs. AnswersAmong old.config (own_requests (site_turns n turns)) rs old.states among.0 new.states) here.1 among.1))
+host_at_hand n turns old new requests form all asked = own_among n None turns requests old new form all asked
 
 -- WHAT A HOST QUEUED FOR A CLIENT whose frames asked windows
 pub host_tells : (n : ℕ) (turns : List (ℕ × Turn)) (old new : SiteValue) (answers : List (List ℕ)) (windows : List Window) → AreHeld old.states → ServesAllFrom old new (turns_of turns) → AreQueued (told_by_turns (own n turns)) answers →
@@ -271,5 +285,5 @@ pub host_tells : (n : ℕ) (turns : List (ℕ × Turn)) (old new : SiteValue) (a
 host_tells n turns old new answers windows form all told_all asked =
     let requests = flat_map requests_of windows in
     let among = host_at_hand n turns old new requests form all asked in
-    let queued = requeued old.config requests (told_by_turns (own n turns)) answers old.states new.states among.0 (windows_ask windows) among.1 told_all (own_fits n turns old new form all) in
-    windows_told old.config windows queued.0 (concat answers) old.states new.states among.0 form queued.2 queued.1
+    let queued = requeued old.config requests (told_by_turns (own n turns)) answers [] old.states new.states among.0 (windows_ask windows) among.1 told_all (own_fits n turns old new form all) in
+    windows_told old.config windows queued.0 (concat answers) old.states new.states among.0 form queued.2 (subst (λ (bytes : List ℕ). AreReplyFrames queued.0 bytes []) (append-nil (concat answers)) queued.1)

@@ -2,7 +2,7 @@
 use Rattle.std.proofs.Common.{◌≡◌, ◌⊎◌, inl, inr, ℕ, List, [], ◌∷◌, refl, sym, ap, subst, ◌∙◌, arith}
 use Rattle.std.specs.Prelude.{Ok, Err, Result}
 use Rattle.mvd_dots.specs.declared.refusals.Refusal.{Refusal}
-use Rattle.mvd_dots.specs.declared.refusals.Refusal.TheVariants.{Memory, Store}
+use Rattle.mvd_dots.specs.declared.refusals.Refusal.TheVariants.{Memory, NotAdmitted, Store}
 use Rattle.mvd_keys.proofs.Standing.{Stands-for}
 use Rattle.mvd_wire.specs.declared.reply.Reply.{Reply}
 use Rattle.mvd_wire.specs.declared.reply.Reply.TheVariants.{Refused}
@@ -23,26 +23,31 @@ use Rattle.mvd_live.specs.Hosts.{and_turn, site_turns}
 use Rattle.mvd_live.proofs.Moments.{grown_on}
 use Rattle.mvd_live.proofs.Whole.{grows_self}
 
--- a refusal for the site's own sake, which is as it was
-own_refusal : (old mid : SiteValue) (q : Request) (reply : Reply) → mid ≡ old → (reply ≡ Refused Memory) ⊎ (reply ≡ Refused Store) → TrueReply old.config old.states q reply mid.states
+-- a refusal that is no answer to the request alone, of a site that is as it was
+abbrev pub IsOwnRefusal : Reply → Type 0
+IsOwnRefusal reply = (reply ≡ Refused Memory) ⊎ ((reply ≡ Refused Store) ⊎ (reply ≡ Refused NotAdmitted))
+
+own_refusal : (old mid : SiteValue) (q : Request) (reply : Reply) → mid ≡ old → IsOwnRefusal reply → TrueReply old.config old.states q reply mid.states
 own_refusal old mid q reply same (inl is) =
     subst (λ r. TrueReply old.config old.states q r mid.states) (sym is) (refused_so old.config old.states mid.states q Memory (ap (λ (s : SiteValue). s.states) same) (omega arith) refl (λ key s. tt))
-own_refusal old mid q reply same (inr is) =
+own_refusal old mid q reply same (inr (inl is)) =
     subst (λ r. TrueReply old.config old.states q r mid.states) (sym is) (refused_so old.config old.states mid.states q Store (ap (λ (s : SiteValue). s.states) same) (omega arith) refl (λ key s. tt))
+own_refusal old mid q reply same (inr (inr is)) =
+    subst (λ r. TrueReply old.config old.states q r mid.states) (sym is) (refused_so old.config old.states mid.states q NotAdmitted (ap (λ (s : SiteValue). s.states) same) (omega arith) refl (λ key s. tt))
 
 -- what one turn leaves
-record Leaves (old mid : SiteValue) (q : Request) (reply : Reply) : Type 0 where
+pub record Leaves (old mid : SiteValue) (q : Request) (reply : Reply) : Type 0 where
   pub config : mid.config ≡ old.config
   pub form : AreHeld mid.states
   pub grows : Grows old.states mid.states
   pub so : TrueReply old.config old.states q reply mid.states
 
-leaves_same : (old mid : SiteValue) (q : Request) (reply : Reply) → AreHeld old.states → (reply ≡ Refused Memory) × (mid ≡ old) → Leaves old mid q reply
-leaves_same old mid q reply held memory = record {
-  config = ap (λ (s : SiteValue). s.config) memory.1;
-  form = subst (λ (s : SiteValue). AreHeld s.states) (sym memory.1) held;
-  grows = subst (λ (s : SiteValue). Grows old.states s.states) (sym memory.1) (grows_self old.states held);
-  so = own_refusal old mid q reply memory.1 (inl memory.0);
+pub leaves_same : (old mid : SiteValue) (q : Request) (reply : Reply) → AreHeld old.states → mid ≡ old → IsOwnRefusal reply → Leaves old mid q reply
+leaves_same old mid q reply held same told = record {
+  config = ap (λ (s : SiteValue). s.config) same;
+  form = subst (λ (s : SiteValue). AreHeld s.states) (sym same) held;
+  grows = subst (λ (s : SiteValue). Grows old.states s.states) (sym same) (grows_self old.states held);
+  so = own_refusal old mid q reply same told;
 }
 
 leaves_one : (old mid : SiteValue) (q : Request) (reply : Reply) → AreHeld old.states → AnswersOneFrom old mid q reply → Leaves old mid q reply
@@ -57,13 +62,13 @@ leaves_one old mid q reply held one =
       grows = grows_by old.states mid.states known.0 choice.0 known.1 (each.keeps known.0 choice.0 known.1 choice.1);
       so = elim one.does [
         | inl does ↦ replies_truly old mid q reply held does.valid does.step does.broken
-        | inr store ↦ own_refusal old mid q reply store.site (inr store.told)
+        | inr store ↦ own_refusal old mid q reply store.site (inr (inl store.told))
       ];
     }
 
-leaves : (old mid : SiteValue) (q : Request) (reply : Reply) → AreHeld old.states → ServesFrom old mid (record { asked = Ok q; reply = reply }) → Leaves old mid q reply
+pub leaves : (old mid : SiteValue) (q : Request) (reply : Reply) → AreHeld old.states → ServesFrom old mid (record { asked = Ok q; reply = reply }) → Leaves old mid q reply
 leaves old mid q reply held (inl one) = leaves_one old mid q reply held one
-leaves old mid q reply held (inr memory) = leaves_same old mid q reply held memory
+leaves old mid q reply held (inr memory) = leaves_same old mid q reply held memory.1 (inl memory.0)
 
 -- a frame that is no request leaves the site as it was
 still : (old mid : SiteValue) (fault : Refusal) (reply : Reply) → ServesFrom old mid (record { asked = Err fault; reply = reply }) → mid ≡ old
@@ -96,7 +101,7 @@ pub record LeavesAll (old new : SiteValue) : Type 0 where
 none_left : (old new : SiteValue) → AreHeld old.states → new ≡ old → LeavesAll old new
 none_left old new held same = subst (LeavesAll old) (sym same) (record { config = refl; form = held; grows = grows_self old.states held })
 
-one_left : (old mid : SiteValue) (asked : Result Request Refusal) (reply : Reply) → AreHeld old.states → ServesFrom old mid (record { asked = asked; reply = reply }) → LeavesAll old mid
+pub one_left : (old mid : SiteValue) (asked : Result Request Refusal) (reply : Reply) → AreHeld old.states → ServesFrom old mid (record { asked = asked; reply = reply }) → LeavesAll old mid
 one_left old mid (Ok q) reply held one =
     let it : Leaves old mid q reply = leaves old mid q reply held one in
     record { config = it.config; form = it.form; grows = it.grows }

@@ -39,3 +39,8 @@ pub mod InWindows
 pub mod Going
 pub mod RanInWindows
 pub mod Over
+pub mod RunWindows
+pub mod Ahead
+pub mod Replayed
+pub mod Delivering
+pub mod TwoSides

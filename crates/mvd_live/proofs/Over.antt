@@ -1,10 +1,12 @@
 -- A run of two live sides is a run of windows.
-use Rattle.std.proofs.Common.{◌≡◌, ◌∙◌, ℕ, List, [], ◌∷◌, ◌++◌, refl, sym, ap, subst, Option, None, Some}
+use Rattle.std.proofs.Common.{◌≡◌, ◌∙◌, ℕ, List, [], ◌∷◌, ◌++◌, map, refl, sym, ap, subst, Option, None, Some}
+use Rattle.std.proofs.lemmas.List.{map-append}
 use Rattle.std.proofs.lemmas.List.Elements.{Contains-append_left}
 use Rattle.mvd_keys.specs.State.{State}
 use Rattle.mvd_keys.specs.Writes.{Key}
 use Rattle.mvd_site.specs.Held.{AreHeld, States}
 use Rattle.mvd_peer.specs.Live.{Grows}
+use Rattle.mvd_peer.specs.PushedStates.{Each}
 use Rattle.mvd_peer.specs.Sides.{SideOf, Sides, Two, two}
 use Rattle.mvd_peer.specs.Telling.{TellsEach, TellsPush}
 use Rattle.mvd_peer.proofs.Telling.{grows_same}
@@ -24,6 +26,7 @@ use Rattle.mvd_live.specs.Runs.{Leg, RunsLegs, Standing, StartsRun, all_locals, 
 use Rattle.mvd_live.specs.Told.{LiveTells}
 use Rattle.mvd_live.proofs.FewWhole.{asks_few}
 use Rattle.mvd_live.proofs.Gathered.{one_between}
+use Rattle.mvd_live.proofs.RunWindows.{Exchange, far_windows}
 use Rattle.mvd_live.proofs.Runner.{run_more, run_none}
 use Rattle.mvd_live.proofs.Whole.{given_so, lives}
 
@@ -43,10 +46,10 @@ module _ {S : Type 0} (s : SideOf S) (form : (side : S) → s.is_live side → A
     tells = (refl, subst (λ (x : S). Grows (s.states old) (s.states x)) (sym still) (grows_same (s.states old) (form old live)));
     most_same = ap s.most_keys still ∙ same;
   }
-  live_window most w (Some (told.Nodes these)) old new same live (asked, stay, tells) = let it = tells live in record { live = it.0; moments = it.1; tells = it.2; most_same = stays _ old new asked.count ∙ same }
-  live_window most w (Some (told.Pages these)) old new same live (asked, stay, tells) = let it = tells live in record { live = it.0; moments = it.1; tells = it.2; most_same = stays _ old new asked.count ∙ same }
-  live_window most w (Some (told.States these)) old new same live (asked, stay, tells) = let it = tells live in record { live = it.0; moments = it.1; tells = it.2; most_same = stays _ old new asked.count ∙ same }
-  live_window most w (Some (told.Pushes these)) old new same live (asked, stay, tells) = let it = tells live in record {
+  live_window most w (Some (told.Nodes these)) old new same live (asked, stay, tells, spoke) = let it = tells live in record { live = it.0; moments = it.1; tells = it.2; most_same = stays _ old new asked.count ∙ same }
+  live_window most w (Some (told.Pages these)) old new same live (asked, stay, tells, spoke) = let it = tells live in record { live = it.0; moments = it.1; tells = it.2; most_same = stays _ old new asked.count ∙ same }
+  live_window most w (Some (told.States these)) old new same live (asked, stay, tells, spoke) = let it = tells live in record { live = it.0; moments = it.1; tells = it.2; most_same = stays _ old new asked.count ∙ same }
+  live_window most w (Some (told.Pushes these)) old new same live (asked, stay, tells, spoke) = let it = tells live in record {
     live = it.0;
     moments = it.1;
     tells = subst (λ n. TellsEach (TellsPush n) w.pushes these.items (s.states old) it.1 (s.states new)) same it.2;
@@ -55,6 +58,12 @@ module _ {S : Type 0} (s : SideOf S) (form : (side : S) → s.is_live side → A
   live_window most w (Some (told.Refused refusal)) old new same live never = absurd never
 
 -- ---- window by window
+
+abbrev peer_asks : List Leg → List Wanted
+peer_asks = map (λ (leg : Leg). leg.asks.peer)
+
+abbrev pub windows_asked : List Exchange → List Wanted
+windows_asked = map (λ (w : Exchange). w.0)
 
 module _ {L P : Type 0} (s : Sides L P)
     (form : (side : L) → s.local.is_live side → AreHeld (s.local.states side)) (form' : (side : P) → s.peer.is_live side → AreHeld (s.peer.states side))
@@ -67,7 +76,7 @@ module _ {L P : Type 0} (s : Sides L P)
   most = most_over s old.at
 
   -- so far: windows, and steps without a question
-  record SoFar (new : Running L P) : Type 0 where
+  record SoFar {new : Running L P} (run : RunsTo s old new) : Type 0 where
     pub legs : List Leg
     pub last : Machining
     pub runs : RunsLegs most begun legs (standing_over s last new.at)
@@ -75,17 +84,19 @@ module _ {L P : Type 0} (s : Sides L P)
     pub went : StageWent last.work last.stage new.machine.work new.machine.stage
     pub local : s.local.is_live new.at.local × (s.local.most_keys new.at.local ≡ most.local)
     pub peer : s.peer.is_live new.at.peer × (s.peer.most_keys new.at.peer ≡ most.peer)
+    pub asked : peer_asks legs ≡ windows_asked (far_windows run)
 
-  so_far : {new : Running L P} → RunsTo s old new → SoFar new
-  so_far (begins new is) = subst SoFar (sym is) (record {
+  so_far : {new : Running L P} (run : RunsTo s old new) → SoFar run
+  so_far (begins new is) = record {
     legs = [];
     last = old.machine;
-    runs = run_none most begun (form old.at.local live) (form' old.at.peer live');
-    left = refl;
-    went = here old.machine.work old.machine.stage refl refl;
-    local = (live, refl);
-    peer = (live', refl);
-  })
+    runs = subst (λ (r : Running L P). RunsLegs most begun [] (standing_over s old.machine r.at)) (sym is) (run_none most begun (form old.at.local live) (form' old.at.peer live'));
+    left = ap (λ (r : Running L P). r.machine.left) is;
+    went = subst (λ (r : Running L P). StageWent old.machine.work old.machine.stage r.machine.work r.machine.stage) (sym is) (here old.machine.work old.machine.stage refl refl);
+    local = subst (λ (r : Running L P). s.local.is_live r.at.local × (s.local.most_keys r.at.local ≡ most.local)) (sym is) (live, refl);
+    peer = subst (λ (r : Running L P). s.peer.is_live r.at.peer × (s.peer.most_keys r.at.peer ≡ most.peer)) (sym is) (live', refl);
+    asked = refl;
+  }
   so_far (alone mid new run quiet goes left same) =
       let it = so_far run in
       record {
@@ -96,6 +107,7 @@ module _ {L P : Type 0} (s : Sides L P)
         went = on mid.machine.work new.machine.work mid.machine.stage new.machine.stage it.went quiet goes;
         local = subst (λ (at : Two L P). s.local.is_live at.local × (s.local.most_keys at.local ≡ most.local)) (sym same) it.local;
         peer = subst (λ (at : Two L P). s.peer.is_live at.peer × (s.peer.most_keys at.peer ≡ most.peer)) (sym same) it.peer;
+        asked = it.asked;
       }
   so_far (both_told mid new mine theirs run tells takes) =
       let it = so_far run in
@@ -125,6 +137,7 @@ module _ {L P : Type 0} (s : Sides L P)
         went = here new.machine.work new.machine.stage refl refl;
         local = (a.live, a.most_same);
         peer = (b.live, b.most_same);
+        asked = map-append (λ (l : Leg). l.asks.peer) it.legs (leg ∷ []) ∙ ap (λ (ws : List Wanted). ws ++ leg.asks.peer ∷ []) it.asked ∙ sym (map-append (λ (w : Exchange). w.0) (far_windows run) ((leg.asks.peer, theirs) ∷ []));
       }
 
 -- ---- nothing that was pushed is made up
@@ -147,13 +160,26 @@ module _ (number : Option ℕ) (questions : ℕ) (most : Two ℕ ℕ) (old : Sta
             (subst (λ ms. AreAllGiven (all_locals (before ++ leg ∷ []) ++ all_locals legs) ms legs) (one_between (λ (leg : Leg). leg.peers) before leg legs) later),
       )
 
+-- what was asked of the far side pushes what was held
+abbrev pub AreGivenAsks : List States → List Wanted → Type 0
+AreGivenAsks moments asks = Each (λ (w : Wanted). Each (WasHeld moments) w.pushes) asks
+
+given_asks : (locals peers : List States) (legs : List Leg) → AreAllGiven locals peers legs → AreGivenAsks locals (peer_asks legs)
+given_asks locals peers [] given = tt
+given_asks locals peers (leg ∷ legs) given = (given.0.1, given_asks locals peers legs given.1)
+
 -- ---- the whole session
 
 module _ {L P : Type 0} (s : Sides L P)
     (form : (side : L) → s.local.is_live side → AreHeld (s.local.states side)) (form' : (side : P) → s.peer.is_live side → AreHeld (s.peer.states side))
     (stays : (n : ℕ) (old new : L) → s.local.follows n old new → s.local.most_keys new ≡ s.local.most_keys old) (stays' : (n : ℕ) (old new : P) → s.peer.follows n old new → s.peer.most_keys new ≡ s.peer.most_keys old) where
-  pub lives_over : (questions : ℕ) (old new : Two L P) (report : Report) → IsRun s questions old new report → s.local.is_live old.local → s.peer.is_live old.peer → LivesOver s questions old new report
-  lives_over questions old new report run live live' =
+  -- it lives, and what it pushed into its far side was held by the near one
+  pub record LivesAsked (questions : ℕ) (old new : Two L P) (report : Report) (asked : List Wanted) : Type 0 where
+    pub lives : LivesOver s questions old new report
+    pub given : AreGivenAsks (all_locals lives.legs) asked
+
+  pub lives_asked : (questions : ℕ) (old new : Two L P) (report : Report) (run : IsRun s questions old new report) → s.local.is_live old.local → s.peer.is_live old.peer → LivesAsked questions old new report (windows_asked (far_windows run.runs))
+  lives_asked questions old new report run live live' =
       let it = so_far s form form' stays stays' (record { machine = run.begun; at = old }) live live' run.runs in
       let starts : StartsRun (s.local.number old.local) questions (standing_over s run.begun old) = record { starts = run.starts; local = form old.local live; peer = form' old.peer live' } in
       let ends : HasNext it.last run.done None = record {
@@ -162,17 +188,24 @@ module _ {L P : Type 0} (s : Sides L P)
         loud = subst (λ stage. IsQuiet stage → ⊥) (sym run.is_done) (λ never. never);
         asks = run.is_done;
       } in
+      let given = all_given (s.local.number old.local) questions (most_over s old) (standing_over s run.begun old) starts [] it.legs (standing_over s run.begun old) (standing_over s it.last new) (run_none (most_over s old) (standing_over s run.begun old) starts.local starts.peer) it.runs in
       record {
-        first = run.begun;
-        last = it.last;
-        done = run.done;
-        legs = it.legs;
-        begins = starts;
-        runs = it.runs;
-        ends = ends;
-        live = (it.local.0, it.peer.0);
-        reports = run.counts;
-        lives = lives (s.local.number old.local) questions (most_over s old) (standing_over s run.begun old) it.legs (standing_over s it.last new) starts it.runs run.done ends;
-        given = all_given (s.local.number old.local) questions (most_over s old) (standing_over s run.begun old) starts [] it.legs (standing_over s run.begun old) (standing_over s it.last new) (run_none (most_over s old) (standing_over s run.begun old) starts.local starts.peer) it.runs;
-        few = λ differed all. asks_few (s.local.number old.local) questions (most_over s old) (standing_over s run.begun old) it.legs (standing_over s it.last new) starts it.runs differed all run.done None ends;
+        lives = record {
+          first = run.begun;
+          last = it.last;
+          done = run.done;
+          legs = it.legs;
+          begins = starts;
+          runs = it.runs;
+          ends = ends;
+          live = (it.local.0, it.peer.0);
+          reports = run.counts;
+          lives = lives (s.local.number old.local) questions (most_over s old) (standing_over s run.begun old) it.legs (standing_over s it.last new) starts it.runs run.done ends;
+          given = given;
+          few = λ differed all. asks_few (s.local.number old.local) questions (most_over s old) (standing_over s run.begun old) it.legs (standing_over s it.last new) starts it.runs differed all run.done None ends;
+        };
+        given = subst (AreGivenAsks (all_locals it.legs)) it.asked (given_asks (all_locals it.legs) (all_peers it.legs) it.legs given);
       }
+
+  pub lives_over : (questions : ℕ) (old new : Two L P) (report : Report) → IsRun s questions old new report → s.local.is_live old.local → s.peer.is_live old.peer → LivesOver s questions old new report
+  lives_over questions old new report run live live' = (lives_asked questions old new report run live live').lives

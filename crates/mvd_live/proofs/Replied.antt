@@ -60,7 +60,7 @@ nones_after before (q ∷ qs) has =
     ∙ append_assoc before.1 (None ∷ []) (all_none qs)
 
 -- one frame was read
-one_frame : (read : Result (Option FrameValue × List ℕ) Refusal) (f g : FrameValue) (left right : List ℕ) → read ≡ Ok (Some f, left) → read ≡ Ok (Some g, right) → (f ≡ g) × (left ≡ right)
+pub one_frame : (read : Result (Option FrameValue × List ℕ) Refusal) (f g : FrameValue) (left right : List ℕ) → read ≡ Ok (Some f, left) → read ≡ Ok (Some g, right) → (f ≡ g) × (left ≡ right)
 one_frame read f g left right p q =
     let same : ◌≡◌ {A = Result (Option FrameValue × List ℕ) Refusal} (Ok (Some f, left)) (Ok (Some g, right)) = sym p ∙ q in
     let pair : ◌≡◌ {A = Option FrameValue × List ℕ} (Some f, left) (Some g, right) = cc in
@@ -73,7 +73,7 @@ module _ {Q A : Type 0} (config : ConfigValue) (kind : ℕ) (as_reply : A → Re
     (right : (q : Q) (before held : States) (a : A) → AreHeld before → Fits q → TrueReply config before (ask q) (as_reply a) held → Right held q (Ok a))
     (refuses : (q : Q) (before held : States) (refusal : Refusal) → TrueReply config before (ask q) (Refused refusal) held → Right held q (Err refusal))
     (spent : (q : Q) (held : States) → Right held q (Err Memory)) where
-  one_told : (q : Q) (r : Reply) (before held : States) (frame : FrameValue) (t : Result Reply Refusal) (answer : Result A Refusal) → AreHeld before → Fits q → reply_of frame.kind frame.payload ≡ Ok r → TrueReply config before (ask q) r held → ToldBy kind t frame → IsToldBy as_reply t answer → Right held q answer
+  pub one_told : (q : Q) (r : Reply) (before held : States) (frame : FrameValue) (t : Result Reply Refusal) (answer : Result A Refusal) → AreHeld before → Fits q → reply_of frame.kind frame.payload ≡ Ok r → TrueReply config before (ask q) r held → ToldBy kind t frame → IsToldBy as_reply t answer → Right held q answer
   one_told q r before held frame (Ok reply) (Ok a) form fits spells so came is =
       let same : r ≡ as_reply a = (let there = came.1 in cc) in
       right q before held a form fits (subst (λ x. TrueReply config before (ask q) x held) same so)
@@ -189,7 +189,7 @@ none_mailed most caller old new is up after t h answered =
 
 -- ---- one list of turns
 
-among_since : (config : ConfigValue) (qs : List Request) (rs : List Reply) (old mid new : States) (moments : List States) → AreHeld old → AreHeld mid → AreHeld new → Grows old mid → AnswersAmong config qs rs mid moments new → AnswersAmong config qs rs old moments new
+pub among_since : (config : ConfigValue) (qs : List Request) (rs : List Reply) (old mid new : States) (moments : List States) → AreHeld old → AreHeld mid → AreHeld new → Grows old mid → AnswersAmong config qs rs mid moments new → AnswersAmong config qs rs old moments new
 among_since config [] [] old mid new [] p q r up among = grown_on old mid new p q r up among
 among_since config [] [] old mid new (m ∷ moments) p q r up among = absurd among
 among_since config [] (x ∷ rs) old mid new moments p q r up among = absurd among

@@ -8,3 +8,4 @@ pub mod Answers
 pub mod Hosts
 pub mod InWindows
 pub mod Over
+pub mod Delivered

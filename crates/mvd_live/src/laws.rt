@@ -13,17 +13,19 @@ ghost use Rattle.mvd_wire.specs.declared.request.Request.{Request};
 ghost use Rattle.mvd_site.specs.Answer.{digests};
 ghost use Rattle.mvd_site.specs.Config.{ConfigValue};
 ghost use Rattle.mvd_site.specs.Held.{AreHeld, States, state_at};
+ghost use Rattle.mvd_site.specs.Sites.{SiteValue};
 ghost use Rattle.mvd_replica.specs.Turns.{Turn};
 ghost use Rattle.mvd_conn.specs.History.{History};
 ghost use Rattle.mvd_host.specs.Course.{own};
 ghost use Rattle.mvd_host.specs.Runs.{HostMoment, OneList, TellsOwn, side_at};
 ghost use Rattle.mvd_peer.specs.Live.{Grows, Rises};
 ghost use Rattle.mvd_peer.specs.PushedStates.{Each};
-ghost use Rattle.mvd_peer.specs.PeerSides.{sides_of};
+ghost use Rattle.mvd_peer.specs.PeerSides.{side_of, sides_of};
+ghost use Rattle.mvd_peer.specs.Saying.{SideTells};
 ghost use Rattle.mvd_peer.specs.Sides.{Two};
 ghost use Rattle.mvd_peer.specs.Windows.{CannotTake, EachAnswer, HasKeys, IsNode, TakesState, TellsMore};
 ghost use Rattle.mvd_sync.specs.Machines.{HasNext, Machining};
-ghost use Rattle.mvd_sync.specs.Ran.{IsRun};
+ghost use Rattle.mvd_sync.specs.Ran.{IsRun, IsRunBy};
 ghost use Rattle.mvd_sync.specs.Session.{HasAllThatDiffer};
 ghost use Rattle.mvd_peer.specs.Asking.{Wanted, asked, no_question, only_gets, only_nodes, only_pages};
 ghost use Rattle.mvd_sync.specs.Tellings.{Page};
@@ -35,6 +37,7 @@ ghost use Rattle.mvd_peer.specs.declared.window.Told.TheVariants.{Nodes, Pages, 
 ghost use Rattle.mvd_live.specs.Alone.{AreAlone, JoinsAlone};
 ghost use Rattle.mvd_live.specs.Answers.{SiteAnswers, AnswersAmong, AreKept, AreReplyFrames, HaveFrames, SiteTurn};
 ghost use Rattle.mvd_live.specs.Answers.{own_replies, own_requests};
+ghost use Rattle.mvd_live.specs.Delivered.{AsksHost, AsksSession, MeetsSite, SitesMeet, WasAt};
 ghost use Rattle.mvd_live.specs.Few.{AsksFew, CountsSent, HasAllThatDiffered, MailsFew, asked_local, asked_peer};
 ghost use Rattle.mvd_live.specs.Hosts.{TellsBetween, TellsWindows, site_turns};
 ghost use Rattle.mvd_live.specs.InWindows.{EndsOver, RanInWindows};
@@ -45,6 +48,7 @@ ghost use Rattle.mvd_live.specs.Mail.{MailEnds, MailSteps, Sits, Waiting};
 ghost use Rattle.mvd_live.specs.Mail.{mail_locals, mail_peers, standing, waits_at};
 ghost use Rattle.mvd_meet.specs.Callers.{asked_in_window, asked_of_caller, came_at};
 ghost use Rattle.mvd_remote.specs.Remotes.{requests_of};
+ghost use Rattle.mvd_remote.specs.Spoken.{SideSpeaks, Spoken};
 ghost use Rattle.mvd_meet.specs.Meetings.{MeetingFails};
 ghost use Rattle.mvd_meet.specs.Nears.{asked_of_near, due_in_window, replies_at};
 ghost use Rattle.mvd_meet.specs.declared.caller.Caller.{Caller};
@@ -232,6 +236,35 @@ pub fn a_session_of_live_sides_lives<L: Peer, P: Peer>()
     ensures { (questions : ℕ) (old new : Two L P) (report : Report)
         → IsRun (sides_of L.Peer P.Peer) questions old new report → L.is_live old.local → P.is_live old.peer
         → LivesOver (sides_of L.Peer P.Peer) questions old new report }
+{}
+
+/// A session of which it is known afterwards that its bytes came, with a client of a host: of the far side nothing else
+/// is known, no line is true or live. The host's turns may be cut at any moment at which its client had been answered
+/// the greeting and nothing else; the last such is that before the session's first question. From what the host's site
+/// was then to what it held as it made the last reply, the session lived; and of its client's turns since then it is
+/// known what they asked.
+pub fn two_sides_meet<L: Peer>()
+    ensures { (n questions : ℕ) (earlier later : List (ℕ × Turn)) (begun ended : SiteValue) (h : History)
+        (greeting farewell : List Request) (old new : Two L Spoken) (report : Report) (sent : List ℕ)
+        → AsksHost n earlier later begun ended h greeting farewell old.peer new.peer sent
+        → IsRunBy (SideTells (side_of L.Peer)) SideSpeaks (L.number old.local) questions old new report
+        → L.is_live old.local
+        → (site : SiteValue) × WasAt earlier later begun site ended
+        × (meets : MeetsSite (side_of L.Peer) questions old.local new.local site ended report)
+        × AsksSession (all_locals meets.lives.legs) h.guard (own n later) farewell }
+{}
+
+/// So it is of two hosts, each of which was asked over a line. It is a session of a site of this number, where that is
+/// known.
+pub fn two_hosts_meet()
+    ensures { (number : Option ℕ) (n m questions : ℕ) (earlier later earlier' later' : List (ℕ × Turn))
+        (begun ended begun' ended' : SiteValue) (h h' : History) (greeting farewell greeting' farewell' : List Request)
+        (old new : Two Spoken Spoken) (report : Report) (sent sent' : List ℕ)
+        → AsksHost n earlier later begun ended h greeting farewell old.local new.local sent
+        → AsksHost m earlier' later' begun' ended' h' greeting' farewell' old.peer new.peer sent'
+        → IsRunBy SideSpeaks SideSpeaks number questions old new report
+        → (near far : SiteValue) × WasAt earlier later begun near ended × WasAt earlier' later' begun' far ended'
+        × SitesMeet number questions near ended far ended' report }
 {}
 
 /// A side to which nobody else writes is live, where it answers as `Peer` says of a faithful one. So the premise of

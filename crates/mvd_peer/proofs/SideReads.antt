@@ -129,10 +129,11 @@ pub record ReadsSide {S : Type 0} (s : SideOf S) (site : SiteValue) (told : Told
   pub live : s.is_live old → s.is_live new × AreHeld (s.states old)
   pub answers : site.broken ≡ false → s.can_answer new
   pub refuses : (refusal : Refusal) → SiteRefuses site refusal → TellsRefusal told refusal → s.can_refuse new refusal
+  pub speaks : (w : Wanted) → s.speaks w told old new
 
 module _ {S : Type 0} (s : SideOf S) (site : SiteValue) (told : Told) (old new : S) (it : ReadsSide s site told old new) where
-  module _ {Q A : Type 0} (kind : States → Kind Q A) (Right : States → Q → Result A Refusal → Type 0) (may : (q : Q) (a : A) → (kind site.states).may q a) (moment : (q : Q) (a : Result A Refusal) → IfOk a ((kind site.states).right q) → Right site.states q a) (qs : List Q) (ts : List (Result A Refusal)) (told_in : (refusal : Refusal) → Contains ts (Err refusal) → TellsRefusal told refusal) (h : ForEach (OneTold site (kind site.states)) qs ts) where
-    says_kind : Asked (manner_of s) (kind (s.states old)) qs ts old new × StaysFaithful s.is_faithful s.states old new × TellsLive s.is_live s.states Right qs ts old new
+  module _ {Q A : Type 0} (kind : States → Kind Q A) (Right : States → Q → Result A Refusal → Type 0) (may : (q : Q) (a : A) → (kind site.states).may q a) (moment : (q : Q) (a : Result A Refusal) → IfOk a ((kind site.states).right q) → Right site.states q a) (qs : List Q) (ts : List (Result A Refusal)) (told_in : (refusal : Refusal) → Contains ts (Err refusal) → TellsRefusal told refusal) (h : ForEach (OneTold site (kind site.states)) qs ts) (w : Wanted) where
+    says_kind : Asked (manner_of s) (kind (s.states old)) qs ts old new × StaysFaithful s.is_faithful s.states old new × TellsLive s.is_live s.states Right qs ts old new × s.speaks w told old new
     says_kind = (
       subst (λ m. Asked (manner_of s) (kind m) qs ts old new) (sym it.holds) (record {
         count = it.follows (length qs);
@@ -146,6 +147,7 @@ module _ {S : Type 0} (s : SideOf S) (site : SiteValue) (told : Told) (old new :
           let now = it.live live in
           let all = at_moments site (kind site.states) Right site.states (subst AreHeld it.holds now.1) moment qs ts h in
           (now.0, all.0, subst (λ m. TellsEach Right qs ts m all.0 (s.states new)) (sym it.holds) (subst (TellsEach Right qs ts site.states all.0) (sym (it.same ∙ it.holds)) all.1)),
+      it.speaks w,
     )
 
   refused_for_memory : (w : Wanted) (refusal : Refusal) → refusal ≡ Memory → RefusesAll s w refusal old new
@@ -154,11 +156,11 @@ module _ {S : Type 0} (s : SideOf S) (site : SiteValue) (told : Told) (old new :
 -- A SIDE THAT IS ASKED WHAT CHANGES NOTHING says what its site tells
 pub says_reads : {S : Type 0} (s : SideOf S) (site : SiteValue) (window : Window) (told : Told) (old new : S) → ReadsSide s site told old new → 1 ≤ count_in window → TellsReads site window told → SideSays s (asked (Some window)) (Some told) old new
 says_reads s site (Nodes paths) (NodesTold told) old new it some h =
-    (some, says_kind s site (NodesTold told) old new it (for_nodes (s.is_faithful old)) TellsNode (λ _ _. tt) (node_moment site.states) paths.items told.items (λ _ c. c) (each_with _ _ paths.items told.items (one_node site (s.is_faithful old)) h))
+    (some, says_kind s site (NodesTold told) old new it (for_nodes (s.is_faithful old)) TellsNode (λ _ _. tt) (node_moment site.states) paths.items told.items (λ _ c. c) (each_with _ _ paths.items told.items (one_node site (s.is_faithful old)) h) (only_nodes paths.items))
 says_reads s site (Pages pages) (PagesTold told) old new it some h =
-    (some, says_kind s site (PagesTold told) old new it (for_pages (s.is_faithful old)) PageTold (λ _ _. tt) (page_moment (s.is_faithful old) site.states) pages.items told.items (λ _ c. c) (each_with _ _ pages.items told.items (one_page site (s.is_faithful old)) h))
+    (some, says_kind s site (PagesTold told) old new it (for_pages (s.is_faithful old)) PageTold (λ _ _. tt) (page_moment (s.is_faithful old) site.states) pages.items told.items (λ _ c. c) (each_with _ _ pages.items told.items (one_page site (s.is_faithful old)) h) (only_pages pages.items))
 says_reads s site (Gets keys) (StatesTold told) old new it some h =
-    (some, says_kind s site (StatesTold told) old new it (for_states s.can_give (s.is_faithful old)) StateTold it.gives (state_moment site.states) keys.items told.items (λ _ c. c) (each_with _ _ keys.items told.items (one_state site (s.is_faithful old) s.can_give) h.0))
+    (some, says_kind s site (StatesTold told) old new it (for_states s.can_give (s.is_faithful old)) StateTold it.gives (state_moment site.states) keys.items told.items (λ _ c. c) (each_with _ _ keys.items told.items (one_state site (s.is_faithful old) s.can_give) h.0) (only_gets keys.items))
 says_reads s site (Nodes paths) (Refused refusal) old new it some h = (omega (arith, some), refused_for_memory s site (Refused refusal) old new it (only_nodes paths.items) refusal h)
 says_reads s site (Pages pages) (Refused refusal) old new it some h = (omega (arith, some), refused_for_memory s site (Refused refusal) old new it (only_pages pages.items) refusal h)
 says_reads s site (Gets keys) (Refused refusal) old new it some h = (omega (arith, some), refused_for_memory s site (Refused refusal) old new it (only_gets keys.items) refusal h)

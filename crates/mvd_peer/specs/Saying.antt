@@ -1,5 +1,5 @@
 -- What a side says of a window of questions.
-use Rattle.std.specs.Prelude.{◌≡◌, ◌≢◌, ◌≤◌, ℕ, false, [], length, Option, Some, None, Ok}
+use Rattle.std.specs.Prelude.{◌≡◌, ◌≢◌, ◌≤◌, false, [], length, Option, Some, None, Ok}
 use Rattle.mvd_dots.specs.declared.refusals.Refusal.{Refusal}
 use Rattle.mvd_dots.specs.declared.refusals.Refusal.TheVariants.{Broken}
 use Rattle.mvd_peer.specs.Asking.{Wanted, count_wanted}
@@ -14,21 +14,25 @@ abbrev pub manner_of : {S : Type 0} → SideOf S → Manner S
 manner_of s = manner s.follows s.can_refuse s.can_answer
 
 -- WHAT A SIDE TELLS of questions that it answers, all of one kind: an answer for each, in order, as if they were asked
--- one after the other; also of a live side; a side that is asked nothing stays as it is
+-- one after the other; also of a live side; and what else is so of it; a side that is asked nothing stays as it is
 abbrev pub SideTells : {S : Type 0} → SideOf S → Wanted → Option Told → S → S → Type 0
 SideTells s w None old new = new ≡ old
 SideTells s w (Some (Nodes told)) old new =
     Asked (manner_of s) (nodes_of s.is_faithful s.states old) w.nodes told.items old new
     × StaysFaithful s.is_faithful s.states old new × TellsLive s.is_live s.states TellsNode w.nodes told.items old new
+    × s.speaks w (Nodes told) old new
 SideTells s w (Some (Pages told)) old new =
     Asked (manner_of s) (pages_kind s.is_faithful s.states old) w.pages told.items old new
     × StaysFaithful s.is_faithful s.states old new × TellsLive s.is_live s.states PageTold w.pages told.items old new
+    × s.speaks w (Pages told) old new
 SideTells s w (Some (States told)) old new =
     Asked (manner_of s) (gets_of s.can_give s.is_faithful s.states old) w.gets told.items old new
     × StaysFaithful s.is_faithful s.states old new × TellsLive s.is_live s.states StateTold w.gets told.items old new
+    × s.speaks w (States told) old new
 SideTells s w (Some (Pushes told)) old new = Asked (manner_of s) for_pushes w.pushes told.items old new
     × PushedAll (holding s.is_faithful s.states s.most_keys) w.pushes old new (Ok told)
     × TellsLive s.is_live s.states (TellsPush (s.most_keys old)) w.pushes told.items old new
+    × s.speaks w (Pushes told) old new
 SideTells s w (Some (Refused refusal)) old new = ⊥
 
 -- A SIDE REFUSES A WINDOW in place of its answers: some first ones of its questions were made

@@ -8,6 +8,8 @@ use Rattle.mvd_keys.specs.State.{State}
 use Rattle.mvd_keys.specs.Writes.{Key}
 use Rattle.mvd_site.specs.Held.{AreHeld, States}
 use Rattle.mvd_site.specs.Sites.{SiteValue}
+use Rattle.mvd_peer.specs.Asking.{Wanted}
+use Rattle.mvd_peer.specs.declared.window.Told.{Told}
 
 -- the meaning of a type of sides, as the trait `Peer` has it
 pub record SideOf (S : Type 0) : Type 1 where
@@ -21,11 +23,14 @@ pub record SideOf (S : Type 0) : Type 1 where
   pub can_answer : S → Type 0
   pub most_keys : S → ℕ
   pub number : S → Option ℕ
+  -- what else is so of it as it told that of a window: of what is asked over a line, which bytes went out and came
+  pub speaks : Wanted → Told → S → S → Type 0
 
 -- these as one value
 abbrev pub side_with : {S : Type 0} → (S → States) → (S → Type 0) → (S → Type 0) → (Key → State → Type 0)
-    → (ℕ → S → S → Type 0) → (S → Refusal → Type 0) → (S → Type 0) → (S → ℕ) → (S → Option ℕ) → SideOf S
-side_with states is_faithful is_live can_give follows can_refuse can_answer most_keys number = record {
+    → (ℕ → S → S → Type 0) → (S → Refusal → Type 0) → (S → Type 0) → (S → ℕ) → (S → Option ℕ)
+    → (Wanted → Told → S → S → Type 0) → SideOf S
+side_with states is_faithful is_live can_give follows can_refuse can_answer most_keys number speaks = record {
   states = states;
   is_faithful = is_faithful;
   is_live = is_live;
@@ -35,6 +40,7 @@ side_with states is_faithful is_live can_give follows can_refuse can_answer most
   can_answer = can_answer;
   most_keys = most_keys;
   number = number;
+  speaks = speaks;
 }
 
 -- the two sides of a session, as what is known of each
@@ -148,4 +154,5 @@ site_side = record {
   can_answer = λ site. site.broken ≡ false;
   most_keys = λ site. site.config.max_keys;
   number = λ site. Some site.config.site;
+  speaks = λ _ _ _ _. Unit {0};
 }

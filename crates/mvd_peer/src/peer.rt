@@ -4,9 +4,10 @@ ghost use Rattle.mvd_dots.specs.declared.refusals.Refusal.{Refusal};
 ghost use Rattle.mvd_keys.specs.State.{State};
 ghost use Rattle.mvd_keys.specs.Writes.{Key};
 ghost use Rattle.mvd_site.specs.Held.{AreHeld, States};
-ghost use Rattle.mvd_peer.specs.Asking.{asked, count_in};
+ghost use Rattle.mvd_peer.specs.Asking.{Wanted, asked, count_in};
 ghost use Rattle.mvd_peer.specs.Saying.{IsWithin, SideSays};
 ghost use Rattle.mvd_peer.specs.Sides.{side_with};
+ghost use Rattle.mvd_peer.specs.declared.window.Told.{Told};
 
 use crate::window::{Told, Window};
 use mvd_dots::Refusal;
@@ -49,6 +50,10 @@ pub trait Peer {
     /// The number of its site, where it is known.
     ghost number: { Self → Option ℕ };
 
+    /// What else is so of it as it told that of a window, faithful or not: of what is asked over a line, which bytes
+    /// went out and came.
+    ghost speaks: { Wanted → Told → Self → Self → Type 0 };
+
     /// The number of its site, where it is known.
     fn number(&self) -> Option<u32>
         ensures { result ≡ number self.now };
@@ -59,7 +64,7 @@ pub trait Peer {
     fn ask(&mut self, window: &Window) -> Told
         requires some { 1 ≤ count_in window.now }
         ensures says { SideSays
-            (side_with states is_faithful is_live can_give follows can_refuse can_answer most_keys number)
+            (side_with states is_faithful is_live can_give follows can_refuse can_answer most_keys number speaks)
             (asked (Some window.now)) (Some result) self.old self.new }
         ensures within { IsWithin result };
 

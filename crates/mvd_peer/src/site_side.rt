@@ -35,6 +35,8 @@ impl Peer for Site {
 
     ghost number = { site_side.number };
 
+    ghost speaks = { site_side.speaks };
+
     ghost in_form = { λ _ whole. whole.1 };
 
     ghost live_form = { λ _ whole. whole.1 };

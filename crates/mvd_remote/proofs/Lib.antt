@@ -1,4 +1,5 @@
 pub mod Turns
+pub mod Spoken
 pub mod Holding
 pub mod Noted
 pub mod RemoteSides

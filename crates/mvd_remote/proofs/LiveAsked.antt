@@ -101,7 +101,7 @@ broke_live line old new l refusal result kept now e live up = record {
   own = λ own f. let same : own ≡ refusal = cc in ap leaves_open same ∙ e;
 }
 
-no_some : (o : Option Refusal) → ((x : Refusal) → o ≡ Some x → ⊥) → o ≡ None
+pub no_some : (o : Option Refusal) → ((x : Refusal) → o ≡ Some x → ⊥) → o ≡ None
 no_some None never = refl
 no_some (Some x) never = absurd (never x refl)
 

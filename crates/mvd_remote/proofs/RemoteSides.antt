@@ -25,9 +25,10 @@ use Rattle.mvd_peer.proofs.ManyPushes.{open_not_of_key}
 use Rattle.mvd_remote.specs.LinkWindows.{AsksAll, Frames, IsToldBy, frames_of}
 use Rattle.mvd_remote.specs.Lines.{EndsOpen, IsTrueRemote, KeepsConfig, NotesUpTo, RemoteFollows, RemoteRefuses}
 use Rattle.mvd_remote.specs.Lines.{SettleTruly, TakesFirst, TrueReply, as_digests, as_done, as_page, as_state, far_of}
-use Rattle.mvd_remote.specs.Lines.{framed_requests, noted, refuses_none, remote_follows_self, told_of}
+use Rattle.mvd_remote.specs.Lines.{framed_requests, line_of, noted, refuses_none, remote_follows_self, told_of}
 use Rattle.mvd_remote.specs.LiveRemotes.{IsLiveRemote, SettlesLive}
 use Rattle.mvd_remote.specs.Remotes.{PushesValid, link_of, remote_side, requests_of}
+use Rattle.mvd_remote.specs.Spoken.{Exchanges, SpeaksSo}
 use Rattle.mvd_remote.specs.declared.line.Line.{Ghosts}
 use Rattle.mvd_remote.specs.declared.remote.Remote.{Remote}
 use Rattle.mvd_remote.proofs.FarSides.{IsQuestion, all_kept, all_not_of_key, all_pushed, all_right, bucket_asks, first_all_kept, first_pushed, get_asks, node_asks}
@@ -120,9 +121,9 @@ module _ {L : Type 0} (line : Ghosts L) where
   -- ---- a window that is answered
 
   -- what is known of its answers
-  pub record Answered {A : Type 0} (as_reply : A → Reply) (frames : Frames) (requests : List Request) (ts : List (Result A Refusal)) (old new : Remote L) : Type 0 where
-    pub kind : ℕ
-    pub over : AsksAll as_reply kind frames ts (link_of line old) (link_of line new)
+  pub record Answered {A : Type 0} (as_reply : A → Reply) (of_kind : ℕ) (frames : Frames) (requests : List Request) (ts : List (Result A Refusal)) (old new : Remote L) : Type 0 where
+    pub over : AsksAll as_reply of_kind frames ts (link_of line old) (link_of line new)
+    pub spoken : SpeaksSo line (Exchanges as_reply of_kind requests ts) (line_of old) (line_of new)
     pub is : frames ≡ frames_of requests
     pub none : old.refused ≡ None
     pub config : KeepsConfig line.far old new
@@ -130,13 +131,13 @@ module _ {L : Type 0} (line : Ghosts L) where
     pub truth : IsTrueRemote line.is_true line.far old → IsTrueRemote line.is_true line.far new × SettleTruly as_reply (far_of line.far old).config (far_of line.far old).states requests ts (far_of line.far new).states
     pub live : IsLiveRemote line.is_live line.awaits old → IsLiveRemote line.is_live line.awaits new × ((moments : List States) × TellsEach (SettlesLive as_reply (far_of line.far old).config) requests ts (far_of line.far old).states moments (far_of line.far new).states)
 
-  module _ {Q A : Type 0} (as_reply : A → Reply) (frames : Frames) (request : Q → Request) (qs : List Q) (ts : List (Result A Refusal)) (old new : Remote L) (h : Answered as_reply frames (map request qs) ts old new) where
+  module _ {Q A : Type 0} (as_reply : A → Reply) (of_kind : ℕ) (frames : Frames) (request : Q → Request) (qs : List Q) (ts : List (Result A Refusal)) (old new : Remote L) (h : Answered as_reply of_kind frames (map request qs) ts old new) where
     asked_so : (kind : Kind Q A) → ((q : Q) (a : A) → kind.may q a) → (kind.was_faithful → EachAnswer kind.right qs ts) → (kind.was_faithful → EachRefusal kind.refuses qs ts) → Asked (manner_of (remote_side line)) kind qs ts old new
     asked_so kind free right refuses =
         let replies = h.notes.0 in
         let long = ap (λ (f : Frames). length f.1) h.is in
         let sent = many_after ([], []) (map request qs) in
-        let read = many_turns h.kind frames.1 h.over.replies (link_of line old).input (link_of line new).input h.over.answered.read in
+        let read = many_turns of_kind frames.1 h.over.replies (link_of line old).input (link_of line new).input h.over.answered.read in
         let tells = many_each (IsToldBy as_reply) h.over.replies ts h.over.tells in
         let by = many_each (IsToldBy as_reply) replies ts h.notes.1 in
         let each = length-map qs request in
@@ -162,29 +163,30 @@ module _ {L : Type 0} (line : Ghosts L) where
         )
 
   module _ (frames : Frames) (window : Window) (some : 1 ≤ count_in window) (old new : Remote L) where
-    pub says_nodes : (paths : Vec (List ℕ) Global) (answers : Vec (Result Digests Refusal) Global) → window ≡ Nodes paths → Answered as_digests frames (requests_of window) answers.items old new → SideSays (remote_side line) (asked (Some window)) (Some (told.Nodes answers)) old new
-    says_nodes paths answers is h = subst (λ w. 1 ≤ count_in w → Answered as_digests frames (requests_of w) answers.items old new → SideSays (remote_side line) (asked (Some w)) (Some (told.Nodes answers)) old new) (sym is)
-        (λ some h. let it = reads_so as_digests frames (λ path. Node path) paths.items answers.items old new h (nodes_of (IsTrueRemote line.is_true line.far) (λ remote. (far_of line.far remote).states) old) (λ _ _. tt) (λ was. was) node_asks (λ q a after is. is.0) in
-        (some, (it.0, it.1, λ live. let l = h.live live in (l.0, l.1.0, nodes_settled (far_of line.far old).config _ _ l.1.0 paths.items answers.items l.1.1)))) some h
+    pub says_nodes : (paths : Vec (List ℕ) Global) (answers : Vec (Result Digests Refusal) Global) → window ≡ Nodes paths → Answered as_digests 0xA7 frames (requests_of window) answers.items old new → SideSays (remote_side line) (asked (Some window)) (Some (told.Nodes answers)) old new
+    says_nodes paths answers is h = subst (λ w. 1 ≤ count_in w → Answered as_digests 0xA7 frames (requests_of w) answers.items old new → SideSays (remote_side line) (asked (Some w)) (Some (told.Nodes answers)) old new) (sym is)
+        (λ some h. let it = reads_so as_digests 0xA7 frames (λ path. Node path) paths.items answers.items old new h (nodes_of (IsTrueRemote line.is_true line.far) (λ remote. (far_of line.far remote).states) old) (λ _ _. tt) (λ was. was) node_asks (λ q a after is. is.0) in
+        (some, (it.0, it.1, λ live. let l = h.live live in (l.0, l.1.0, nodes_settled (far_of line.far old).config _ _ l.1.0 paths.items answers.items l.1.1), h.spoken))) some h
 
-    pub says_pages : (pages : Vec PageQuestion Global) (answers : Vec (Result PageValue Refusal) Global) → window ≡ Pages pages → Answered as_page frames (requests_of window) answers.items old new → SideSays (remote_side line) (asked (Some window)) (Some (told.Pages answers)) old new
-    says_pages pages answers is h = subst (λ w. 1 ≤ count_in w → Answered as_page frames (requests_of w) answers.items old new → SideSays (remote_side line) (asked (Some w)) (Some (told.Pages answers)) old new) (sym is)
-        (λ some h. let it = reads_so as_page frames (λ q. Bucket q.0 q.1) pages.items answers.items old new h (pages_kind (IsTrueRemote line.is_true line.far) (λ remote. (far_of line.far remote).states) old) (λ _ _. tt) (λ was. was) (λ q. bucket_asks q.0 q.1) (λ q a after is. (is.0, is.1)) in
-        (some, (it.0, it.1, λ live. let l = h.live live in (l.0, l.1.0, pages_settled (far_of line.far old).config _ _ l.1.0 pages.items answers.items l.1.1)))) some h
+    pub says_pages : (pages : Vec PageQuestion Global) (answers : Vec (Result PageValue Refusal) Global) → window ≡ Pages pages → Answered as_page 0xA8 frames (requests_of window) answers.items old new → SideSays (remote_side line) (asked (Some window)) (Some (told.Pages answers)) old new
+    says_pages pages answers is h = subst (λ w. 1 ≤ count_in w → Answered as_page 0xA8 frames (requests_of w) answers.items old new → SideSays (remote_side line) (asked (Some w)) (Some (told.Pages answers)) old new) (sym is)
+        (λ some h. let it = reads_so as_page 0xA8 frames (λ q. Bucket q.0 q.1) pages.items answers.items old new h (pages_kind (IsTrueRemote line.is_true line.far) (λ remote. (far_of line.far remote).states) old) (λ _ _. tt) (λ was. was) (λ q. bucket_asks q.0 q.1) (λ q a after is. (is.0, is.1)) in
+        (some, (it.0, it.1, λ live. let l = h.live live in (l.0, l.1.0, pages_settled (far_of line.far old).config _ _ l.1.0 pages.items answers.items l.1.1), h.spoken))) some h
 
-    pub says_states : (keys : Vec Key Global) (answers : Vec (Result State Refusal) Global) → window ≡ Gets keys → Answered as_state frames (requests_of window) answers.items old new → SideSays (remote_side line) (asked (Some window)) (Some (told.States answers)) old new
-    says_states keys answers is h = subst (λ w. 1 ≤ count_in w → Answered as_state frames (requests_of w) answers.items old new → SideSays (remote_side line) (asked (Some w)) (Some (told.States answers)) old new) (sym is)
-        (λ some h. let it = reads_so as_state frames (λ key. Get key) keys.items answers.items old new h (gets_of (λ _ _. Unit {0}) (IsTrueRemote line.is_true line.far) (λ remote. (far_of line.far remote).states) old) (λ _ _. tt) (λ was. was) get_asks (λ q a after is. is.0) in
-        (some, (it.0, it.1, λ live. let l = h.live live in (l.0, l.1.0, states_settled (far_of line.far old).config _ _ l.1.0 keys.items answers.items l.1.1)))) some h
+    pub says_states : (keys : Vec Key Global) (answers : Vec (Result State Refusal) Global) → window ≡ Gets keys → Answered as_state 0xA1 frames (requests_of window) answers.items old new → SideSays (remote_side line) (asked (Some window)) (Some (told.States answers)) old new
+    says_states keys answers is h = subst (λ w. 1 ≤ count_in w → Answered as_state 0xA1 frames (requests_of w) answers.items old new → SideSays (remote_side line) (asked (Some w)) (Some (told.States answers)) old new) (sym is)
+        (λ some h. let it = reads_so as_state 0xA1 frames (λ key. Get key) keys.items answers.items old new h (gets_of (λ _ _. Unit {0}) (IsTrueRemote line.is_true line.far) (λ remote. (far_of line.far remote).states) old) (λ _ _. tt) (λ was. was) get_asks (λ q a after is. is.0) in
+        (some, (it.0, it.1, λ live. let l = h.live live in (l.0, l.1.0, states_settled (far_of line.far old).config _ _ l.1.0 keys.items answers.items l.1.1), h.spoken))) some h
 
-    pub says_pushes : (pairs : Vec (Key × State) Global) (answers : Vec (Result (Unit {0}) Refusal) Global) → window ≡ Pushes pairs → PushesValid window → Answered as_done frames (requests_of window) answers.items old new → SideSays (remote_side line) (asked (Some window)) (Some (told.Pushes answers)) old new
-    says_pushes pairs answers is valid h = subst (λ w. 1 ≤ count_in w → PushesValid w → Answered as_done frames (requests_of w) answers.items old new → SideSays (remote_side line) (asked (Some w)) (Some (told.Pushes answers)) old new) (sym is)
+    pub says_pushes : (pairs : Vec (Key × State) Global) (answers : Vec (Result (Unit {0}) Refusal) Global) → window ≡ Pushes pairs → PushesValid window → Answered as_done 0xA3 frames (requests_of window) answers.items old new → SideSays (remote_side line) (asked (Some window)) (Some (told.Pushes answers)) old new
+    says_pushes pairs answers is valid h = subst (λ w. 1 ≤ count_in w → PushesValid w → Answered as_done 0xA3 frames (requests_of w) answers.items old new → SideSays (remote_side line) (asked (Some w)) (Some (told.Pushes answers)) old new) (sym is)
         (λ some valid h.
         let before = far_of line.far old in (
           some,
           (
-            asked_so as_done frames (λ pair. Push pair.0 pair.1) pairs.items answers.items old new h for_pushes (λ _ _. tt) (λ never. absurd never) (λ never. absurd never),
+            asked_so as_done 0xA3 frames (λ pair. Push pair.0 pair.1) pairs.items answers.items old new h for_pushes (λ _ _. tt) (λ never. absurd never) (λ never. absurd never),
             λ was. let t = h.truth was in (t.0, all_pushed before.config pairs.items answers.items before.states (far_of line.far new).states t.1),
             λ live. let l = h.live live in (l.0, l.1.0, pushes_settled before.config _ _ l.1.0 pairs.items answers.items valid l.1.1),
+            h.spoken,
           ),
         )) some valid h

@@ -1,5 +1,5 @@
 -- What a remote side asks over its line, and what it is answered.
-use Rattle.std.specs.Prelude.{◌≡◌, ◌⊎◌, ◌++◌, ◌∷◌, ℕ, List, [], map, Some, None, Result, Err, MatchResult}
+use Rattle.std.specs.Prelude.{◌≡◌, ◌⊎◌, ◌++◌, ◌∷◌, ℕ, List, [], map, Some, None, Result, Ok, Err, IfOk, MatchResult}
 use Rattle.std.specs.declared.alloc.Global.{Global}
 use Rattle.std.specs.declared.vec.Vec.{Vec}
 use Rattle.mvd_dots.specs.declared.refusals.Refusal.{Refusal}
@@ -20,9 +20,10 @@ use Rattle.mvd_peer.specs.declared.window.Window.TheVariants.{Nodes, Pages, Gets
 use Rattle.mvd_remote.specs.LinkWindows.{AsksAll, Frames, IsToldBy, RefusesAll, frames_of}
 use Rattle.mvd_remote.specs.Lines.{AnswersTruly, EndsOpen, IsTrueRemote, NotesUpTo, RemoteFollows, RemoteRefuses}
 use Rattle.mvd_remote.specs.Lines.{SettleTruly, Took, as_digests, as_done, as_page, as_state, far_of, noted}
-use Rattle.mvd_remote.specs.Lines.{refused_of, shown_reply, told_of}
-use Rattle.mvd_remote.specs.Links.{Asks, AsksLinkFor, Link, link}
+use Rattle.mvd_remote.specs.Lines.{line_of, refused_of, shown_reply, told_of}
+use Rattle.mvd_remote.specs.Links.{Asks, AsksLinkFor, Link, answered_by, link}
 use Rattle.mvd_remote.specs.LiveRemotes.{IsLiveRemote}
+use Rattle.mvd_remote.specs.Spoken.{Exchanges, SideSpeaks, SpeaksSo}
 use Rattle.mvd_remote.specs.declared.line.Line.{Ghosts}
 use Rattle.mvd_remote.specs.declared.remote.Remote.{Remote}
 
@@ -76,6 +77,12 @@ link_of line remote = link line.remaining line.contents remote
 -- what a question gives, over the link as it was and as it is
 abbrev pub AsksOver : {L A : Type 0} → Ghosts L → Query A → (old new : Remote L) → Result A Refusal → Type 0
 AsksOver line query old new = AsksLinkFor query.as_reply query.request (link_of line old) (link_of line new)
+
+-- what a question that is answered gives, by the bytes of its line
+abbrev pub AsksSpoken : {L A : Type 0} → Ghosts L → Query A → (old new : Remote L) → Result A Refusal → Type 0
+AsksSpoken line query old new result = IfOk result (λ answer. SpeaksSo line
+    (Exchanges query.as_reply (answered_by query.request) (query.request ∷ []) (Ok answer ∷ []))
+    (line_of old) (line_of new))
 
 -- what is told of a window whose frames went out: each request is answered in its turn; or the window is refused
 abbrev pub TellsFrames : ℕ → Frames → Link → Link → Told → Type 0
@@ -150,7 +157,8 @@ pub record RepliesFar {L : Type 0} (line : Ghosts L) (old new : Remote L) (reque
 -- ---- as a side
 
 -- WHAT A REMOTE SIDE IS AS A SIDE OF A SESSION: faithful where its line is true, and live where that is live. A link
--- that refuses stays as it is; it refuses so, or as a question was told, or for want of memory
+-- that refuses stays as it is; it refuses so, or as a question was told, or for want of memory. Over a line that logs
+-- its bytes it tells a window by them
 abbrev pub remote_side : {L : Type 0} → Ghosts L → SideOf (Remote L)
 remote_side line = record {
   states = λ remote. (far_of line.far remote).states;
@@ -162,4 +170,5 @@ remote_side line = record {
   can_answer = λ remote. refused_of remote ≡ None;
   most_keys = λ remote. (far_of line.far remote).config.max_keys;
   number = λ _. None;
+  speaks = λ w told old new. SpeaksSo line (SideSpeaks w (Some told)) (line_of old) (line_of new);
 }

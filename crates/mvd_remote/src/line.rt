@@ -1,10 +1,11 @@
 //! A line to a site at the other end of a connection.
-ghost use Rattle.std.specs.Prelude.{◌≡◌, [], None, List, ℕ, Option, IfErr, OnOk, OnErr, option_map};
+ghost use Rattle.std.specs.Prelude.{◌≡◌, [], None, List, ℕ, Option, IfErr, IfOk, OnOk, OnErr, option_map};
 ghost use Rattle.std.specs.Io.KnownBytes.{Appends};
 ghost use Rattle.mvd_dots.specs.declared.refusals.Refusal.TheVariants.{WriteFailed};
 ghost use Rattle.mvd_wire.specs.Frames.{AppendsFront, EndsReading, Reads, frame_at, frame_value};
 ghost use Rattle.mvd_wire.specs.declared.request.Request.{Request};
 ghost use Rattle.mvd_site.specs.Held.{AreHeld};
+ghost use Rattle.mvd_remote.specs.Came.{CameFrame};
 ghost use Rattle.mvd_remote.specs.LiveLines.{ReadsLive, SendsLive};
 ghost use Rattle.mvd_remote.specs.Lines.{Far, ReadsTruly, SendsTruly, line_of, nowhere, refused_of};
 
@@ -30,6 +31,9 @@ pub trait Line: Sized + Drop {
     /// The bytes that it took, where they are known.
     ghost contents: { Self → Option (List ℕ) };
 
+    /// The bytes that came of it and were taken, where they are logged.
+    ghost came: { Self → Option (List ℕ) };
+
     /// Whether it is true.
     ghost is_true: { Self → Type 0 };
 
@@ -48,6 +52,7 @@ pub trait Line: Sized + Drop {
         ensures front { OnErr result (AppendsFront (contents self.old) (contents self.new) frames.now) }
         ensures err { IfErr result (λ refusal. refusal ≡ WriteFailed) }
         ensures unread { remaining self.new ≡ remaining self.old }
+        ensures unheard { came self.new ≡ came self.old }
         ensures config { (far self.new).config ≡ (far self.old).config }
         ensures truth { SendsTruly is_true far frames.now self.old self.new result }
         ensures live { SendsLive is_live awaits far frames.now self.old self.new result };
@@ -56,6 +61,8 @@ pub trait Line: Sized + Drop {
     fn receive(&mut self, alloc: Global) -> Result<Option<Frame>, Refusal>
         ensures read { Reads (option_map frame_value) (remaining self.old) (remaining self.new) result frame_at }
         ensures err { IfErr result EndsReading }
+        ensures came { IfOk result (λ frame.
+            CameFrame (came self.old) (came self.new) (option_map frame_value frame)) }
         ensures unsent { contents self.new ≡ contents self.old }
         ensures config { (far self.new).config ≡ (far self.old).config }
         ensures truth { ReadsTruly is_true far self.old self.new result }
@@ -79,6 +86,9 @@ impl<R: Read + Drop, W: Write + Drop> Line for Duplex<R, W> {
     ghost remaining = { λ line. R.remaining line.reader };
 
     ghost contents = { λ line. W.contents line.writer };
+
+    // What came is not logged.
+    ghost came = { λ _. None };
 
     // No truth is claimed of bytes alone.
     ghost is_true = { λ _. ⊥ };

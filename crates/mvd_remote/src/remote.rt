@@ -9,10 +9,12 @@ ghost use Rattle.mvd_dots.specs.declared.refusals.Refusal.{Refusal};
 ghost use Rattle.mvd_wire.specs.declared.request.Request.{Request};
 ghost use Rattle.mvd_wire.specs.declared.request.Request.TheVariants.{Bye, Hello, Node};
 ghost use Rattle.mvd_wire.specs.declared.reply.Reply.TheVariants.{Refused};
+ghost use Rattle.mvd_remote.specs.Came.{Heard};
 ghost use Rattle.mvd_remote.specs.Lines.{IsTrueRemote, KeepsConfig, as_digests, as_done, line_of, refused_of, told_of};
 ghost use Rattle.mvd_remote.specs.LiveRemotes.{AsksLive, IsLiveRemote, TakesLive};
+ghost use Rattle.mvd_remote.specs.LinkWindows.{AnswersTurn};
 ghost use Rattle.mvd_remote.specs.Links.{Asks, ReadsReply, SendsAsked, StaysRefused, answered_by};
-ghost use Rattle.mvd_remote.specs.Remotes.{AsksOver, AsksTruly, NotesOne, TakesReply, any_query, bye_query};
+ghost use Rattle.mvd_remote.specs.Remotes.{AsksOver, AsksSpoken, AsksTruly, NotesOne, TakesReply, any_query, bye_query};
 ghost use Rattle.mvd_remote.specs.Remotes.{hello_query, link_of, node_query, query};
 ghost use Rattle.mvd_wire.specs.Codec.{Gives};
 ghost use Rattle.mvd_wire.specs.Replies.{reply_kind};
@@ -110,6 +112,8 @@ impl<L: Line> Remote<L> {
         requires { refused_of self.old ≡ None }
         ensures reads { ReadsReply (L.remaining (line_of self.old)) (L.remaining (line_of self.new))
             kind (refused_of self.new) result }
+        ensures heard { refused_of self.new ≡ None → Heard (L.came (line_of self.old)) (L.came (line_of self.new))
+            (AnswersTurn kind None result) }
         ensures of_kind { IfOk result (λ reply. (reply_kind reply ≡ kind) ⊎ (reply_kind reply ≡ 0xEE)) }
         ensures unsent { L.contents (line_of self.new) ≡ L.contents (line_of self.old) }
         ensures untold { told_of self.new ≡ told_of self.old }
@@ -140,6 +144,8 @@ impl<L: Line> Remote<L> {
     fn send(&mut self, frame: &[u8], kind: u8) -> Result<Reply, Refusal>
         requires { refused_of self.old ≡ None }
         ensures sends { SendsAsked (link_of L.Line self.old) (link_of L.Line self.new) frame.now kind result }
+        ensures heard { refused_of self.new ≡ None → Heard (L.came (line_of self.old)) (L.came (line_of self.new))
+            (AnswersTurn kind None result) }
         ensures of_kind { IfOk result (λ reply. (reply_kind reply ≡ kind) ⊎ (reply_kind reply ≡ 0xEE)) }
         ensures notes { NotesOne (λ reply. reply) self.old self.new result }
         ensures config { KeepsConfig L.far self.old self.new }
@@ -185,6 +191,9 @@ impl<L: Line> Remote<L> {
         ensures asked { (request : Request) → answered_by request ≡ A.of_kind →
             Gives (λ v. v.items) frame (request_frame request) →
             AsksOver L.Line (query request A.as_reply) self.old self.new result }
+        ensures spoken { (request : Request) → answered_by request ≡ A.of_kind →
+            IfOk frame (λ _. IsRequest request) → Gives (λ v. v.items) frame (request_frame request) →
+            AsksSpoken L.Line (query request A.as_reply) self.old self.new result }
         ensures stays { StaysRefused self.old self.new result }
         ensures notes { NotesOne A.as_reply self.old self.new result }
         ensures config { KeepsConfig L.far self.old self.new }
@@ -215,6 +224,7 @@ impl<L: Line> Remote<L> {
     /// refuses with 38.
     pub fn hello(&mut self, token: &Token) -> Result<(), Refusal>
         ensures asked { AsksOver L.Line (hello_query token.now) self.old self.new result }
+        ensures spoken { AsksSpoken L.Line (hello_query token.now) self.old self.new result }
         ensures stays { StaysRefused self.old self.new result }
         ensures notes { NotesOne as_done self.old self.new result }
         ensures config { KeepsConfig L.far self.old self.new }
@@ -227,6 +237,7 @@ impl<L: Line> Remote<L> {
     /// The digest of a node and, above the buckets, those of its sixteen children.
     pub fn node(&mut self, path: &Path) -> Result<Digests, Refusal>
         ensures asked { AsksOver L.Line (node_query path.now) self.old self.new result }
+        ensures spoken { AsksSpoken L.Line (node_query path.now) self.old self.new result }
         ensures stays { StaysRefused self.old self.new result }
         ensures notes { NotesOne as_digests self.old self.new result }
         ensures config { KeepsConfig L.far self.old self.new }
@@ -239,6 +250,7 @@ impl<L: Line> Remote<L> {
     /// Ends the connection.
     pub fn bye(&mut self) -> Result<(), Refusal>
         ensures asked { AsksOver L.Line bye_query self.old self.new result }
+        ensures spoken { AsksSpoken L.Line bye_query self.old self.new result }
         ensures stays { StaysRefused self.old self.new result }
         ensures notes { NotesOne as_done self.old self.new result }
         ensures config { KeepsConfig L.far self.old self.new }

@@ -22,7 +22,7 @@ use Rattle.mvd_replica.specs.declared.replica.Replica.{Replica}
 use Rattle.mvd_replica.specs.Batch.{AnswersOneFrom, AreAmongTurns, CountsAlong, HoldsLost, TakesAllFrom}
 use Rattle.mvd_replica.specs.Commits.{AllCommit, AnswersOneRequest, AnswersInCommits, ChangesNothing, SharesCommit, IsStill}
 use Rattle.mvd_replica.specs.Holds.{HoldsStates}
-use Rattle.mvd_replica.specs.ReplicaCalls.{CountsCommits, StaysStill, StoresThoughBroken, SurvivesRequest}
+use Rattle.mvd_replica.specs.ReplicaCalls.{CountsCommits, StoresThoughBroken, SurvivesRequest}
 use Rattle.mvd_replica.specs.Replicas.{WasClean, commits_of, committed_of, next_count, site_of, store_of, stored_of}
 use Rattle.mvd_replica.specs.Sides.{HoldsBroken}
 use Rattle.mvd_replica.specs.Stops.{LeavesSome, LeavesRequests}

@@ -2,7 +2,6 @@
 -- it returned, and the replica after it.
 use Rattle.std.specs.Prelude.{◌≡◌, ◌≢◌, ◌⊎◌, ◌<◌, ◌≤◌, ◌+◌, ◌-◌, ◌^◌, false, true, ℕ, List, [], ◌∷◌, ◌++◌, map}
 use Rattle.std.specs.Prelude.{min, Vec, Result, Ok, Err, IfErr, IfOk, OnOk, MatchResult}
-use Rattle.std.specs.List.{AllByRecursion}
 use Rattle.std.specs.declared.alloc.Global.{Global}
 use Rattle.mvd_dots.specs.Answer.{IsAnswer}
 use Rattle.mvd_dots.specs.declared.refusals.Refusal.{Refusal}
@@ -156,10 +155,6 @@ module _ {S : Type 0} {g : Ghosts S} where
     pub some : (site_of new ≡ site_of old) ⊎ (0 < count)
     pub most : CountsUpTo count old new
     pub least : min (commits_of old + count) (2 ^ 64 - 1) ≤ commits_of new
-
-  -- requests that each would change nothing leave all as it was
-  abbrev pub StaysStill : List Request → Replica S g → Replica S g → Type 0
-  StaysStill requests old new = AllByRecursion (ChangesNothing (site_of old)) requests → new ≡ old
 
   -- requests one after the other
   pub record AnswersMany (old : Replica S g) (requests : List Request) (result : Result (Vec Reply Global) Refusal)

@@ -32,6 +32,7 @@ module _ {S : Type 0} {g : Ghosts S} where
     can_answer = λ replica. (site_of replica).broken ≡ false;
     most_keys = λ replica. (site_of replica).config.max_keys;
     number = λ replica. Some (site_of replica).config.site;
+    speaks = λ _ _ _ _. Unit {0};
   }
 
   -- ---- a window of pushes

@@ -38,6 +38,8 @@ impl<S: Alter> Peer for Replica<S> {
 
     ghost number = { λ replica. Some (site_of replica).config.site };
 
+    ghost speaks = { λ _ _ _ _. Unit {0} };
+
     ghost in_form = { λ _ whole. whole.1 };
 
     ghost live_form = { λ _ whole. whole.1 };

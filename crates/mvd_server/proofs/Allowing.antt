@@ -559,7 +559,7 @@ module _ (Known : Pass → Type 0) (passes : Option (List Pass)) where
   }
 
   takes_by : (web : Option WebConnection) (n : ℕ) (bytes : List ℕ) (old new : Talking) → web_in old n ≡ web → TakesBy web n bytes old new → AreAllowed old → AreAllowed new
-  takes_by None n bytes old new at (takes, same) all = subst AreAllowed (sym same) (still old (with_host old new.host) refl refl refl all)
+  takes_by None n bytes old new at (wants, takes, same) all = subst AreAllowed (sym same) (still old (with_host old new.host) refl refl refl all)
   takes_by (Some web) n bytes old new at (web', (wants, (front, rest, both, feeds)), same) all = subst AreAllowed (sym same) (web_still old n web web' at (fed_asks front rest (web_of web) (web_of web') feeds) all)
 
   pub allowed_in : (n : ℕ) (bytes : List ℕ) (old new : Talking) → TakesInput n bytes old new → AreAllowed old → AreAllowed new

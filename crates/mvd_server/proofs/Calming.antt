@@ -64,7 +64,7 @@ module _ {C : Type 0} (f : C → State) (site : SiteValue) (conn : C) where
   of_bytes n bytes t new (inr is) = record { all = Called n Releases ∷ Called n (Closes (source.Failed Memory)) ∷ []; runs = (tt, (tt, tt)); ends = ap (λ h. at h t.hand) (sym is); none = refl }
 
   of_by : (web : Option WebConnection) (n : ℕ) (bytes : List ℕ) (old new : Talking) → TakesBy web n bytes old new → Calm f (moment old) (moment new)
-  of_by None n bytes old new (takes, same) = of_host old new (ap (λ (t : Talking). t.hand) same) (of_bytes n bytes old new.host takes)
+  of_by None n bytes old new (wants, takes, same) = of_host old new (ap (λ (t : Talking). t.hand) same) (of_bytes n bytes old new.host takes)
   of_by (Some web) n bytes old new (web', feeds, same) = of_none old new (ap (λ (t : Talking). t.host) same) (ap (λ (t : Talking). t.hand) same)
 
   pub of_in : (n : ℕ) (bytes : List ℕ) (old new : Talking) → TakesInput n bytes old new → Calm f (moment old) (moment new)

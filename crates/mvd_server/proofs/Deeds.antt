@@ -7,6 +7,7 @@ use Rattle.std.specs.Ordering.{nat_cmp}
 use Rattle.mvd_conn.specs.declared.passes.Pass.{Pass}
 use Rattle.mvd_conn.specs.declared.source.Source.{Source}
 use Rattle.mvd_conn.specs.History.{closed, cut}
+use Rattle.mvd_conn.specs.Stands.{MayEndInput}
 use Rattle.mvd_dots.specs.declared.refusals.Refusal.TheVariants.{Memory}
 use Rattle.mvd_host.specs.AtHand.{AtHandValue}
 use Rattle.mvd_host.specs.Hosts.{Admits, HostValue, altered, clients_most}
@@ -58,8 +59,8 @@ deeds_one act old new of does = λ site. deed_at site act old new (of site) does
 pub deed_call : (n : ℕ) (call : Call) (old : Talking) (host : HostValue) → MayCall old n call → host ≡ altered old.host n (after_call call) → Deeds old (with_host old host)
 deed_call n call old host may is = deeds_one (Calls n call) old (with_host old host) (λ site. tt) (may, ap (with_host old) is)
 
-pub deed_closes : (n : ℕ) (why : Source) (old : Talking) (host : HostValue) → host ≡ altered old.host n (λ h. closed h why) → Deeds old (with_host old host)
-deed_closes n why old host is = deed_call n (Closes why) old host tt is
+pub deed_closes : (n : ℕ) (why : Source) (old : Talking) (host : HostValue) → MayEndInput why → host ≡ altered old.host n (λ h. closed h why) → Deeds old (with_host old host)
+deed_closes n why old host may is = deed_call n (Closes why) old host may is
 
 pub deed_cuts : (n : ℕ) (old : Talking) (host : HostValue) → host ≡ altered old.host n cut → Deeds old (with_host old host)
 deed_cuts n old host is = deed_call n Cuts old host tt is

@@ -26,8 +26,8 @@ IsPast n t = ((n < first_at_hand) × (n < t.host.admitted)) ⊎ ((first_at_hand 
 
 -- ---- numbers grow
 
-record Grows (old new : Talking) : Type 0 where
-  admitted : old.host.admitted ≤ new.host.admitted
+pub record Grows (old new : Talking) : Type 0 where
+  pub admitted : old.host.admitted ≤ new.host.admitted
   next : old.next ≤ new.next
 
 grows : (old new : Talking) (admitted next : ℕ) → new.host.admitted ≡ admitted → new.next ≡ next → old.host.admitted ≤ admitted → old.next ≤ next → Grows old new
@@ -75,7 +75,7 @@ bytes_keep old n bytes new (inr is) =
     ap (λ (h : HostValue). h.admitted) is ∙ altered_keeps (altered old n released) n (λ h. closed h (Failed Memory)) ∙ altered_keeps old n released
 
 grows_by : (web : Option WebConnection) (n : ℕ) (bytes : List ℕ) (old new : Talking) → TakesBy web n bytes old new → Grows old new
-grows_by None n bytes old new (takes, same) = grows_none old new (bytes_keep old.host n bytes new.host takes) (next_as same)
+grows_by None n bytes old new (wants, takes, same) = grows_none old new (bytes_keep old.host n bytes new.host takes) (next_as same)
 grows_by (Some web) n bytes old new (web', feeds, same) = grows_none old new (admitted_as same) (next_as same)
 
 grows_in : (n : ℕ) (bytes : List ℕ) (old new : Talking) → TakesInput n bytes old new → Grows old new
@@ -162,7 +162,7 @@ module _ {K I A T C : Type 0} (f : C → State) (k : SocketGhosts K I A T) where
   grows_wired site old new (inr (inr (inl (n, bytes, takes, gives)))) = grows_out n bytes old.talking new.talking gives
   grows_wired site old new (inr (inr (inr (n, (began, deed, comes))))) = grows_deed old.talking new.talking deed.0 deed.2
 
-  grows_step : (old new : World K C) → ServeStep f k old new → Grows old.wired.talking new.wired.talking
+  pub grows_step : (old new : World K C) → ServeStep f k old new → Grows old.wired.talking new.wired.talking
   grows_step old new (inl b) = grows_wired old.site old.wired new.wired b.wired
   grows_step old new (inr r) = grows_none old.wired.talking new.wired.talking r.round.admitted (ap (λ (w : Wired K). w.talking.next) r.wired)
 

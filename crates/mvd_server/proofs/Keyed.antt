@@ -26,7 +26,7 @@ module _ {X : Type 0} where
       on rest false true is at = (e.1, ap (λ c. cond c (Some e.1) (found_at q (set_value (is_at (nat_cmp n)) es w))) is)
       on rest false false is at = let r = rest (v, at) in (r.0, ap (λ c. cond c (Some e.1) (found_at q (set_value (is_at (nat_cmp n)) es w))) is ∙ r.1)
 
-  set_other : (n q : ℕ) → (q == n) ≡ false → (es : List (ℕ × X)) (w : X) → found_at q (set_value (is_at (nat_cmp n)) es w) ≡ found_at q es
+  pub set_other : (n q : ℕ) → (q == n) ≡ false → (es : List (ℕ × X)) (w : X) → found_at q (set_value (is_at (nat_cmp n)) es w) ≡ found_at q es
   set_other n q apart [] w = refl
   set_other n q apart (e ∷ es) w = on (set_other n q apart es w) (is_at (nat_cmp n) e.0) refl
     where

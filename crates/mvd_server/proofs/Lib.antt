@@ -6,11 +6,13 @@ pub mod AtOnce
 pub mod Beginning
 pub mod Bounding
 pub mod Calming
+pub mod Carrying
 pub mod Clients
 pub mod Closing
 pub mod Deeds
 pub mod Errands
 pub mod Failing
+pub mod Fates
 pub mod Fresh
 pub mod Handing
 pub mod Hearing
@@ -30,6 +32,7 @@ pub mod Replying
 pub mod Rounds
 pub mod Showing
 pub mod Sinces
+pub mod Standing
 pub mod Swapping
 pub mod Waking
 pub mod Wiring

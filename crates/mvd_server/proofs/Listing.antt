@@ -46,7 +46,7 @@ lists_deed site old new (Follows feed at) of does = λ is.
     still site.states feed new.feed (ap (λ (t : Talking). t.feed) does.1) (goes_on old.feed feed site.states site.states lists is)
 
 lists_by : (states : States) (web : Option WebConnection) (n : ℕ) (bytes : List ℕ) (old new : Talking) → TakesBy web n bytes old new → IsListing old.feed states → IsListing new.feed states
-lists_by states None n bytes old new (takes, same) = by_feed states old new _ same refl
+lists_by states None n bytes old new (wants, takes, same) = by_feed states old new _ same refl
 lists_by states (Some web) n bytes old new (web', feeds, same) = by_feed states old new _ same refl
 
 lists_in : (states : States) (n : ℕ) (bytes : List ℕ) (old new : Talking) → TakesInput n bytes old new → IsListing old.feed states → IsListing new.feed states

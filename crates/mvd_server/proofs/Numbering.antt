@@ -107,7 +107,7 @@ numbered_deed old new (Rotates passes) does a = still old new (ap (λ (t : Talki
 numbered_deed old new (Follows feed site) does a = still old new (ap (λ (t : Talking). t.next) does.1) (ap (λ (t : Talking). t.webs) does.1) a
 
 numbered_by : (web : Option WebConnection) (n : ℕ) (bytes : List ℕ) (old new : Talking) → TakesBy web n bytes old new → AreNumbered old → AreNumbered new
-numbered_by None n bytes old new (takes, same) a = still old new (ap (λ (t : Talking). t.next) same) (ap (λ (t : Talking). t.webs) same) a
+numbered_by None n bytes old new (wants, takes, same) a = still old new (ap (λ (t : Talking). t.next) same) (ap (λ (t : Talking). t.webs) same) a
 numbered_by (Some web) n bytes old new (web', feeds, same) a = to (with_web old n web') new same (web_set old n web' a)
 
 pub numbered_in : (n : ℕ) (bytes : List ℕ) (old new : Talking) → TakesInput n bytes old new → AreNumbered old → AreNumbered new

@@ -96,7 +96,7 @@ module _ (old new : Talking) (n : ℕ) (h : History) (found : client_of old.host
   parts_deed given apart (Follows feed site) does = still (ap (λ (t : Talking). t.host) does.1)
 
   parts_by : (web : Option WebConnection) (m : ℕ) (bytes : List ℕ) → TakesBy web m bytes old new → Parts h
-  parts_by None m bytes (takes, same) = never (here_bytes m n bytes old.host new.host takes here)
+  parts_by None m bytes (wants, takes, same) = never (here_bytes m n bytes old.host new.host takes here)
   parts_by (Some web) m bytes (web', feeds, same) = still (ap (λ (t : Talking). t.host) same)
 
   pub parts_in : (m : ℕ) (bytes : List ℕ) → TakesInput m bytes old new → Parts h

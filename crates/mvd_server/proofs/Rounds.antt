@@ -5,6 +5,7 @@ use Rattle.mvd_conn.specs.declared.guard.Guard.TheVariants.{Asks, Knows, Left}
 use Rattle.mvd_conn.specs.declared.passes.Pass.{Pass}
 use Rattle.mvd_http.specs.Guard.{Named}
 use Rattle.mvd_conn.specs.History.{History, is_done}
+use Rattle.mvd_conn.specs.Stands.{HistoryStands}
 use Rattle.mvd_host.proofs.Own.{own-append}
 use Rattle.mvd_host.proofs.Runs.{SoFar, begins, goes_on as runs_on, has_right, has_shown, one_list}
 use Rattle.mvd_host.proofs.Within.{are_within}
@@ -19,14 +20,18 @@ use Rattle.mvd_replica.specs.Turns.{Turn}
 use Rattle.mvd_replica.specs.declared.replica.Replica.{Replica}
 use Rattle.mvd_server.proofs.Allowing.{AreAllowed, allowed_deed, allowed_in, allowed_new, allowed_out, allowed_round}
 use Rattle.mvd_server.proofs.Calming.{Calm, moment, of_deed, of_in, of_out}
+use Rattle.mvd_server.proofs.Carrying.{step_served, took_front}
+use Rattle.mvd_server.proofs.Fates.{Fate, Was, fate_on, was_client, was_longer}
+use Rattle.mvd_server.proofs.Fresh.{grows_step}
 use Rattle.mvd_server.proofs.Numbering.{AreNumbered, numbered_apart, numbered_deed, numbered_in, numbered_new, numbered_out, numbered_round}
 use Rattle.mvd_server.proofs.Parting.{parts_deed, parts_in, parts_out}
 use Rattle.mvd_server.proofs.Paths.{path_map, path_none, path_on, path_one}
 use Rattle.mvd_server.proofs.Deeds.{carries_deeds}
 use Rattle.mvd_server.proofs.Showing.{AreGuarded, AreKnown, Fits, IfAsked, guarded_deed, guarded_in, guarded_new, guarded_out, guarded_round, kept_deed, kept_in, kept_out}
+use Rattle.mvd_server.proofs.Standing.{AllStand, stand_deed, stand_in, stand_new, stand_out, stand_round}
 use Rattle.mvd_server.specs.Closing.{EndsServed, IsDeserted}
 use Rattle.mvd_server.specs.Paths.{IsWay, Path}
-use Rattle.mvd_server.specs.Rounds.{AnswersClients, BeginsServing, IsLetIn, WasKnown, WasKnownIn, GoesOnServing, HasRound, IsServed, ServeStep, Serving, ServingStep, WasThere, World, begun, hand_in, host_in, moment_of, with_round, world_of}
+use Rattle.mvd_server.specs.Rounds.{AnswersClients, BeginsServing, IsFrontOf, IsLetIn, WasKnown, WasKnownIn, GoesOnServing, HasRound, IsServed, ServeStep, Serving, ServingStep, WasThere, World, begun, given_at, given_in, hand_in, host_in, moment_of, taken_at, taken_in, with_round, world_of}
 use Rattle.mvd_server.specs.Talking.{Act, Deed, Deeds, DeedsAt, DoesAct, TalksDeeds, Talking, new_talking, talking_of, web_in}
 use Rattle.mvd_server.specs.Wires.{Carries, Wired, WiredStep, wired_of}
 use Rattle.mvd_server.specs.declared.sockets.Sockets.{Ghosts as SocketGhosts}
@@ -76,11 +81,6 @@ let_in Known (Some passes) None same turns h tells fits = absurd (true≢false (
 let_in Known (Some passes) (Some now) same [] h tells fits = tt
 let_in Known (Some passes) (Some now) same (turn ∷ turns) h tells fits = by_guard Known turn turns h.guard fits (has_shown (turn ∷ turns) h tells) (has_right (turn ∷ turns) h tells)
 
--- each turn of a client is one that its right allows, and these are what it asked and was told
-record Each (passes : Option (List Pass)) (Known : Pass → Type 0) (Told : ℕ → List Turn → Type 0) (n : ℕ) (turns : List Turn) : Type 0 where
-  shown : IsLetIn Known passes turns
-  told : (turns ≡ []) ⊎ Told n turns
-
 module _ {K I A T C : Type 0} (f : C → State) (k : SocketGhosts K I A T) where
   of_wired : (site : SiteValue) (conn : C) (old new : Wired K) → WiredStep k site old new → Calm f (moment f site conn old.talking) (moment f site conn new.talking)
   of_wired site conn old new (inl (deed, same)) = of_deed f site conn old.talking new.talking deed.0 deed.2
@@ -108,6 +108,7 @@ module _ {K I A T C : Type 0} (f : C → State) (k : SocketGhosts K I A T) where
     each : AreGuarded Known t
     apart : AreNumbered t
     allowed : AreAllowed Known passes t
+    stand : AllStand t.host
 
   guards_deed : (passes : Option (List Pass)) (Known : Pass → Type 0) (old new : Talking) (act : Act) → AreKnown Known old → DoesAct act old new → Guards passes Known old → Guards passes Known new
   guards_deed passes Known old new act all does s = record {
@@ -115,6 +116,7 @@ module _ {K I A T C : Type 0} (f : C → State) (k : SocketGhosts K I A T) where
     each = guarded_deed Known old new all act does s.each;
     apart = numbered_deed old new act does s.apart;
     allowed = allowed_deed Known passes old new s.kept all act does s.allowed;
+    stand = stand_deed old new act does s.stand;
   }
 
   guards_wired : (site : SiteValue) (passes : Option (List Pass)) (Known : Pass → Type 0) (old new : Wired K) → AreKnown Known old.talking → WiredStep k site old new → Guards passes Known old.talking → Guards passes Known new.talking
@@ -125,12 +127,14 @@ module _ {K I A T C : Type 0} (f : C → State) (k : SocketGhosts K I A T) where
     each = guarded_in Known n bytes old.talking new.talking takes s.each;
     apart = numbered_in n bytes old.talking new.talking takes s.apart;
     allowed = allowed_in Known passes n bytes old.talking new.talking takes s.allowed;
+    stand = stand_in n bytes old.talking new.talking takes s.stand;
   }
   guards_wired site passes Known old new all (inr (inr (inl (n, bytes, takes, gives)))) s = record {
     kept = kept_out n bytes old.talking new.talking gives ∙ s.kept;
     each = guarded_out Known n bytes old.talking new.talking gives s.each;
     apart = numbered_out n bytes old.talking new.talking gives s.apart;
     allowed = allowed_out Known passes n bytes old.talking new.talking gives s.allowed;
+    stand = stand_out n bytes old.talking new.talking gives s.stand;
   }
 
   guards_step : (passes : Option (List Pass)) (Known : Pass → Type 0) (old new : World K C) → AreKnown Known old.wired.talking → ServeStep f k old new → Guards passes Known old.wired.talking → Guards passes Known new.wired.talking
@@ -143,6 +147,7 @@ module _ {K I A T C : Type 0} (f : C → State) (k : SocketGhosts K I A T) where
         each = guarded_round Known t (host_in new) (hand_in new) r.feed r.turns r.round.clients s.each;
         apart = numbered_round t (host_in new) (hand_in new) r.feed s.apart;
         allowed = allowed_round Known passes t (host_in new) (hand_in new) r.feed r.turns r.round.at_hand s.allowed;
+        stand = stand_round (host_in old) (host_in new) r.turns r.round.clients s.stand;
       })
 
   -- whoever has gone has no turn in a step
@@ -172,29 +177,27 @@ module _ {K I A T C : Type 0} (f : C → State) (k : SocketGhosts K I A T) where
       absurd (let no : ◌≡◌ {A = Option History} (Some h) None = sym found ∙ none in cc)
 
   -- so each connection, also one that has gone
-  record Shows (passes : Option (List Pass)) (Known : Pass → Type 0) (start : HostMoment C) (Told : ℕ → List Turn → Type 0) (Done : ℕ → Type 0) (turns : List (ℕ × Turn)) (w : World K C) : Type 0 where
+  record Shows (passes : Option (List Pass)) (Known : Pass → Type 0) (start : HostMoment C) (Done : ℕ → Type 0) (turns : List (ℕ × Turn)) (w : World K C) : Type 0 where
     guards : Guards passes Known w.wired.talking
     known : AreKnown Known w.wired.talking
     done : (n : ℕ) → IsClient (client_of (host_in w) n) (λ h. is_done h ≡ true) → Done n
     parted : (n : ℕ) → n < first_at_hand → client_of (host_in w) n ≡ None → (own n turns ≡ []) ⊎ Done n
     far : SoFar f start turns (moment_of w)
-    there : (n : ℕ) (own : List Turn) → IsClient (client_of (host_in w) n) (TellsOwn own) → Told n own
-    gone : (n : ℕ) → n < first_at_hand → client_of (host_in w) n ≡ None → Each passes Known Told n (own n turns)
+    gone : (n : ℕ) → n < first_at_hand → client_of (host_in w) n ≡ None → IsLetIn Known passes (own n turns)
 
-  module _ (passes : Option (List Pass)) (Known : Pass → Type 0) (start : HostMoment C) (Told : ℕ → List Turn → Type 0) (Done : ℕ → Type 0) where
-    shows_here : (turns : List (ℕ × Turn)) (w : World K C) → Shows passes Known start Told Done turns w → (n : ℕ) (h : History) → client_of (host_in w) n ≡ Some h → Each passes Known Told n (own n turns)
+  module _ (passes : Option (List Pass)) (Known : Pass → Type 0) (start : HostMoment C) (Done : ℕ → Type 0) where
+    shows_here : (turns : List (ℕ × Turn)) (w : World K C) → Shows passes Known start Done turns w → (n : ℕ) (h : History) → client_of (host_in w) n ≡ Some h → IsLetIn Known passes (own n turns)
     shows_here turns w s n h found =
-        let tells = s.far.tells n h found in
-        record { shown = let_in Known passes w.wired.talking.passes s.guards.kept (own n turns) h tells (s.guards.each n h found); told = inr (s.there n (own n turns) (subst (λ o. IsClient o (TellsOwn (own n turns))) (sym found) tells)) }
+        let_in Known passes w.wired.talking.passes s.guards.kept (own n turns) h (s.far.tells n h found) (s.guards.each n h found)
 
-    shows_each : (turns : List (ℕ × Turn)) (w : World K C) → Shows passes Known start Told Done turns w → (n : ℕ) → n < first_at_hand → Each passes Known Told n (own n turns)
+    shows_each : (turns : List (ℕ × Turn)) (w : World K C) → Shows passes Known start Done turns w → (n : ℕ) → n < first_at_hand → IsLetIn Known passes (own n turns)
     shows_each turns w s n below = on (client_of (host_in w) n) refl
       where
-        on : (o : Option History) → client_of (host_in w) n ≡ o → Each passes Known Told n (own n turns)
+        on : (o : Option History) → client_of (host_in w) n ≡ o → IsLetIn Known passes (own n turns)
         on None gone = s.gone n below gone
         on (Some h) found = shows_here turns w s n h found
 
-    parts_on : (turns : List (ℕ × Turn)) (old new : World K C) (step : ServeStep f k old new) → Shows passes Known start Told Done turns old → (n : ℕ) → n < first_at_hand → client_of (host_in new) n ≡ None
+    parts_on : (turns : List (ℕ × Turn)) (old new : World K C) (step : ServeStep f k old new) → Shows passes Known start Done turns old → (n : ℕ) → n < first_at_hand → client_of (host_in new) n ≡ None
         → (own n (turns ++ turns_in (of_step old new step).all) ≡ []) ⊎ Done n
     parts_on turns old new step s n below gone = on (client_of (host_in old) n) refl
       where
@@ -206,9 +209,9 @@ module _ {K I A T C : Type 0} (f : C → State) (k : SocketGhosts K I A T) where
         on (Some h) found = inr (s.done n (subst (λ o. IsClient o (λ c. is_done c ≡ true)) (sym found) (parts_step old new n h found gone (s.far.given n h found) (numbered_apart old.wired.talking n below s.guards.apart) step)))
 
     shows_step : (turns : List (ℕ × Turn)) (old new : World K C) (step : ServeStep f k old new) → AreKnown Known new.wired.talking
-        → ((n : ℕ) (own : List Turn) → IsClient (client_of (host_in new) n) (TellsOwn own) → Told n own) → ((n : ℕ) → IsClient (client_of (host_in new) n) (λ h. is_done h ≡ true) → Done n) → Shows passes Known start Told Done turns old
-        → Shows passes Known start Told Done (turns ++ turns_in (of_step old new step).all) new
-    shows_step turns old new step known there done s =
+        → ((n : ℕ) → IsClient (client_of (host_in new) n) (λ h. is_done h ≡ true) → Done n) → Shows passes Known start Done turns old
+        → Shows passes Known start Done (turns ++ turns_in (of_step old new step).all) new
+    shows_step turns old new step known done s =
         let h = of_step old new step in
         record {
           guards = guards_step passes Known old new s.known step s.guards;
@@ -216,24 +219,73 @@ module _ {K I A T C : Type 0} (f : C → State) (k : SocketGhosts K I A T) where
           done = done;
           parted = parts_on turns old new step s;
           far = subst (λ m. SoFar f start (turns ++ turns_in h.all) m) h.ends (runs_on f start turns (moment_of old) h.all h.runs s.far);
-          there = there;
           gone = λ n below gone.
-              subst (λ l. Each passes Known Told n l) (sym (own-append n turns (turns_in h.all) ∙ ap (λ l. own n turns ++ l) (none_gone old new step n below gone) ∙ append-nil (own n turns)))
+              subst (λ l. IsLetIn Known passes l) (sym (own-append n turns (turns_in h.all) ∙ ap (λ l. own n turns ++ l) (none_gone old new step n below gone) ∙ append-nil (own n turns)))
               (shows_each turns old s n below);
         }
 
     shows_steps : (turns : List (ℕ × Turn)) (old new : World K C) (mids : List (World K C)) (steps : IsWay (ServeStep f k) old mids new) → ((pass : Pass) → WasKnownIn pass mids → Known pass)
-        → ((n : ℕ) (own : List Turn) → WasThere n (TellsOwn own) mids → Told n own) → ((n : ℕ) → WasThere n (λ h. is_done h ≡ true) mids → Done n) → Shows passes Known start Told Done turns old
-        → Shows passes Known start Told Done (turns ++ turns_in (of_steps old new mids steps).all) new
+        → ((n : ℕ) → WasThere n (λ h. is_done h ≡ true) mids → Done n) → Shows passes Known start Done turns old
+        → Shows passes Known start Done (turns ++ turns_in (of_steps old new mids steps).all) new
     unfolding of_steps happened_on of_step
-    shows_steps turns old new [] same known told done s =
-        subst (λ w. Shows passes Known start Told Done (turns ++ []) w) (sym same) (subst (λ l. Shows passes Known start Told Done l old) (sym (append-nil turns)) s)
-    shows_steps turns old new (mid ∷ mids) (one, more) known told done s =
+    shows_steps turns old new [] same known done s =
+        subst (λ w. Shows passes Known start Done (turns ++ []) w) (sym same) (subst (λ l. Shows passes Known start Done l old) (sym (append-nil turns)) s)
+    shows_steps turns old new (mid ∷ mids) (one, more) known done s =
         let first = (of_step old mid one).all in
         let rest = (of_steps mid new mids more).all in
-        subst (λ l. Shows passes Known start Told Done l new) (append_assoc turns (turns_in first) (turns_in rest) ∙ sym (ap (λ l. turns ++ l) (turns_append first rest)))
-        (shows_steps (turns ++ turns_in first) mid new mids more (λ pass was. known pass (inr was)) (λ n own was. told n own (inr was)) (λ n was. done n (inr was))
-        (shows_step turns old mid one (λ pass is. known pass (inl is)) (λ n own is. told n own (inl is)) (λ n is. done n (inl is)) s))
+        subst (λ l. Shows passes Known start Done l new) (append_assoc turns (turns_in first) (turns_in rest) ∙ sym (ap (λ l. turns ++ l) (turns_append first rest)))
+        (shows_steps (turns ++ turns_in first) mid new mids more (λ pass was. known pass (inr was)) (λ n was. done n (inr was))
+        (shows_step turns old mid one (λ pass is. known pass (inl is)) (λ n is. done n (inl is)) s))
+
+    -- ---- what becomes of one client of frames
+
+    module _ (n : ℕ) (below : n < first_at_hand) (Told : List Turn → List ℕ → List ℕ → Type 0) (longer : (turns : List Turn) (g x t : List ℕ) → Told turns g t → Told turns (g ++ x) t) where
+      -- what can be told of a connection that was there
+      abbrev MayTell : History → Type 0
+      MayTell h = (turns : List Turn) (g t : List ℕ) → TellsOwn turns h → HistoryStands h → IsFrontOf h.came g → h.left ≡ t → Told turns g t
+
+      abbrev FateAt : List (ℕ × Turn) → List ℕ → List ℕ → World K C → Type 0
+      FateAt turns g t w = Fate n (host_in w).admitted Told (own n turns) g t (client_of (host_in w) n)
+
+      abbrev Ending : List Turn → List ℕ → List ℕ → Type 0
+      Ending turns g t = ((turns ≡ []) × (t ≡ [])) ⊎ Told turns g t
+
+      fate_step : (turns : List (ℕ × Turn)) (g t : List ℕ) (old new : World K C) (step : ServeStep f k old new) → Shows passes Known start Done turns old → ((h : History) → client_of (host_in old) n ≡ Some h → MayTell h) → FateAt turns g t old
+          → FateAt (turns ++ turns_in (of_step old new step).all) (g ++ given_at f k n old new step) (t ++ taken_at f k n old new step) new
+      fate_step turns g t old new step s may fate =
+          fate_on n (host_in old).admitted (host_in new).admitted Told longer (grows_step f k old new step).admitted (own n turns) (own n (turns ++ turns_in (of_step old new step).all)) g t (given_at f k n old new step) (taken_at f k n old new step)
+          (client_of (host_in old) n) (client_of (host_in new) n)
+          (λ gone. own-append n turns (turns_in (of_step old new step).all) ∙ ap (λ l. own n turns ++ l) (none_gone old new step n below gone) ∙ append-nil (own n turns))
+          (λ h at front left. (s.far.given n h at, may h at (own n turns) g t (s.far.tells n h at) (s.guards.stand n h at) front left))
+          (step_served f k n below old new step (λ h at. s.far.given n h at) (numbered_apart old.wired.talking n below s.guards.apart)) fate
+
+      ends : (turns : List (ℕ × Turn)) (g t : List ℕ) (w : World K C) → Shows passes Known start Done turns w → ((h : History) → client_of (host_in w) n ≡ Some h → MayTell h) → FateAt turns g t w → Ending (own n turns) g t
+      ends turns g t w s may fate = on (client_of (host_in w) n) refl fate
+        where
+          on : (o : Option History) → client_of (host_in w) n ≡ o → Fate n (host_in w).admitted Told (own n turns) g t o → Ending (own n turns) g t
+          on (Some h) at (took, left) = inr (may h at (own n turns) g t (s.far.tells n h at) (s.guards.stand n h at) (took_front g h took) left)
+          on None at (inl (first, empty, given)) = inl (first, empty)
+          on None at (inr (less, told)) = inr told
+
+      fates : (turns : List (ℕ × Turn)) (g t : List ℕ) (old new : World K C) (mids : List (World K C)) (steps : IsWay (ServeStep f k) old mids new) → ((pass : Pass) → WasKnownIn pass mids → Known pass) → ((m : ℕ) → WasThere m (λ h. is_done h ≡ true) mids → Done m)
+          → ((h : History) → client_of (host_in old) n ≡ Some h → MayTell h) → ((h : History) → WasThere n (λ x. x ≡ h) mids → MayTell h) → Shows passes Known start Done turns old → FateAt turns g t old
+          → Ending (own n (turns ++ turns_in (of_steps old new mids steps).all)) (g ++ given_in f k n old mids new steps) (t ++ taken_in f k n old mids new steps)
+      unfolding of_steps happened_on of_step
+      fates turns g t old new [] same known done here there s fate =
+          subst (λ (l : List (ℕ × Turn)). Ending (own n l) (g ++ []) (t ++ [])) (sym (append-nil turns))
+          (subst (λ (l : List ℕ). Ending (own n turns) l (t ++ [])) (sym (append-nil g)) (subst (λ (l : List ℕ). Ending (own n turns) g l) (sym (append-nil t)) (ends turns g t old s here fate)))
+      fates turns g t old new (mid ∷ mids) (one, more) known done here there s fate =
+          let first = (of_step old mid one).all in
+          let rest = (of_steps mid new mids more).all in
+          let gave = given_at f k n old mid one in
+          let took = taken_at f k n old mid one in
+          let it = fates (turns ++ turns_in first) (g ++ gave) (t ++ took) mid new mids more (λ pass was. known pass (inr was)) (λ m was. done m (inr was))
+          (λ h at. there h (inl (subst (λ (o : Option History). IsClient o (λ x. x ≡ h)) (sym at) refl))) (λ h was. there h (inr was))
+          (shows_step turns old mid one (λ pass is. known pass (inl is)) (λ m is. done m (inl is)) s) (fate_step turns g t old mid one s here fate) in
+          subst (λ (l : List (ℕ × Turn)). Ending (own n l) (g ++ (gave ++ given_in f k n mid mids new more)) (t ++ (took ++ taken_in f k n mid mids new more)))
+          (append_assoc turns (turns_in first) (turns_in rest) ∙ sym (ap (λ l. turns ++ l) (turns_append first rest)))
+          (subst (λ (l : List ℕ). Ending (own n ((turns ++ turns_in first) ++ turns_in rest)) l (t ++ (took ++ taken_in f k n mid mids new more))) (append_assoc g gave (given_in f k n mid mids new more))
+          (subst (λ (l : List ℕ). Ending (own n ((turns ++ turns_in first) ++ turns_in rest)) ((g ++ gave) ++ given_in f k n mid mids new more) l) (append_assoc t took (taken_in f k n mid mids new more)) it))
 
 -- ---- what a server does
 
@@ -252,20 +304,23 @@ module _ {S : Type 0} {g : Ghosts S} {K I A T : Type 0} (k : SocketGhosts K I A 
       let start = moment_of (world_of (begun passes names sockets) old) in
       let h = of_steps (state g) k (world_of (begun passes names sockets) old) (world_of (record { talking = last; sockets = sockets' }) new) p.mids p.steps in
       let Known : Pass → Type 0 = WasKnown passes p.mids in
-      let Told : ℕ → List Turn → Type 0 = λ n own. WasThere n (TellsOwn own) p.mids in
       let Done : ℕ → Type 0 = λ n. WasThere n (λ h. is_done h ≡ true) p.mids in
-      let first : Shows (state g) k passes Known start Told Done [] (world_of (begun passes names sockets) old) = record {
-        guards = record { kept = refl; each = guarded_new Known passes names; apart = numbered_new passes names; allowed = allowed_new Known passes names };
+      let first : Shows (state g) k passes Known start Done [] (world_of (begun passes names sockets) old) = record {
+        guards = record { kept = refl; each = guarded_new Known passes names; apart = numbered_new passes names; allowed = allowed_new Known passes names; stand = stand_new };
         known = λ pass is. inl is;
         done = λ n is. absurd is;
         parted = λ n below gone. inl refl;
         far = begins (state g) start refl;
-        there = λ n own is. absurd is;
-        gone = λ n below gone. record { shown = none_shown Known passes; told = inl refl };
+        gone = λ n below gone. none_shown Known passes;
       } in
       let end = world_of (record { talking = last; sockets = sockets' }) new in
-      let shows = shows_steps (state g) k passes Known start Told Done [] (world_of (begun passes names sockets) old) end p.mids p.steps (λ pass was. inr was) (λ n own was. was) (λ n was. was) first in
-      let each = shows_each (state g) k passes Known start Told Done (turns_in h.all) end shows in
+      let first_of = world_of (begun passes names sockets) old in
+      let shows = shows_steps (state g) k passes Known start Done [] first_of end p.mids p.steps (λ pass was. inr was) (λ n was. was) first in
+      let each = shows_each (state g) k passes Known start Done (turns_in h.all) end shows in
+      let told = λ (n : ℕ) (below : n < first_at_hand). was_client n p.mids (turns_in h.all) (given_in (state g) k n first_of p.mids end p.steps) (taken_in (state g) k n first_of p.mids end p.steps)
+      (fates (state g) k passes Known start Done n below (Was n p.mids) (was_longer n p.mids) [] [] [] first_of end p.mids p.steps (λ pass was. inr was) (λ n was. was)
+      (λ h at. absurd (let no : ◌≡◌ {A = Option History} None (Some h) = at in cc))
+      (λ h was turns g t tells stands came left. record { last = h; there = was; tells = tells; stands = stands; came = came; left = left }) first (inl (refl, refl, inl refl))) in
       let one = subst (λ m. OneList (turns_in h.all) (side_at (state g) start) (side_at (state g) m)) h.ends (one_list (state g) start h.all refl refl h.runs) in
       record {
         last = last;
@@ -274,8 +329,8 @@ module _ {S : Type 0} {g : Ghosts S} {K I A T : Type 0} (k : SocketGhosts K I A 
         runs = h.runs;
         ends = h.ends;
         list = one;
-        told = λ n below. (each n below).told;
-        rights = λ n below. (each n below).shown;
+        told = told;
+        rights = each;
         web_rights = λ n low. shows.guards.allowed.hand.done n low;
         parted = shows.parted;
       }

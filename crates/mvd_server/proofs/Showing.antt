@@ -99,7 +99,7 @@ came guard old new n q h one found = on (q == n) refl (sym (one.clients q) ∙ f
         inl (same, ap (λ (x : History). x.guard) (sym eq))
     on false is at = inr (sym (ap (λ b. cond b (Some (new_history guard)) (client_of old q)) is) ∙ at)
 
-stayed : (old new : HostValue) (n q : ℕ) (h : History) → ClientLeaves old n new → client_of new q ≡ Some h → ((q == n) ≡ false) × (client_of old q ≡ Some h)
+pub stayed : (old new : HostValue) (n q : ℕ) (h : History) → ClientLeaves old n new → client_of new q ≡ Some h → ((q == n) ≡ false) × (client_of old q ≡ Some h)
 stayed old new n q h one found = on (q == n) refl (sym (one.clients q) ∙ found)
   where
     on : (b : Bool) → (q == n) ≡ b → cond (q == n) None (client_of old q) ≡ Some h → ((q == n) ≡ false) × (client_of old q ≡ Some h)
@@ -175,7 +175,7 @@ guarded_bytes Known n bytes t host (inr is) each =
     (guarded_altered Known (with_host t (altered t.host n released)) n (λ h. closed h (source.Failed Memory)) (λ h is. is) (guarded_altered Known t n released (λ h is. is) each))
 
 guarded_by : (Known : Pass → Type 0) → (web : Option WebConnection) (n : ℕ) (bytes : List ℕ) (old new : Talking) → TakesBy web n bytes old new → AreGuarded Known old → AreGuarded Known new
-guarded_by Known None n bytes old new (takes, same) each = to Known (with_host old new.host) new same (guarded_bytes Known n bytes old new.host takes each)
+guarded_by Known None n bytes old new (wants, takes, same) each = to Known (with_host old new.host) new same (guarded_bytes Known n bytes old new.host takes each)
 guarded_by Known (Some web) n bytes old new (web', feeds, same) each = to Known (with_web old n web') new same each
 
 pub guarded_in : (Known : Pass → Type 0) → (n : ℕ) (bytes : List ℕ) (old new : Talking) → TakesInput n bytes old new → AreGuarded Known old → AreGuarded Known new
@@ -220,7 +220,7 @@ kept_deed old new (Rotates passes) does = kept old new (record old { passes = So
 kept_deed old new (Follows feed site) does = kept old new _ refl does.1
 
 kept_by : (web : Option WebConnection) (n : ℕ) (bytes : List ℕ) (old new : Talking) → TakesBy web n bytes old new → is_some new.passes ≡ is_some old.passes
-kept_by None n bytes old new (takes, same) = kept old new _ refl same
+kept_by None n bytes old new (wants, takes, same) = kept old new _ refl same
 kept_by (Some web) n bytes old new (web', feeds, same) = kept old new _ refl same
 
 pub kept_in : (n : ℕ) (bytes : List ℕ) (old new : Talking) → TakesInput n bytes old new → is_some new.passes ≡ is_some old.passes

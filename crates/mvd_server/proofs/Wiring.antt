@@ -1,6 +1,7 @@
 -- Bytes between sockets and connections.
 use Rattle.std.proofs.Common.{◌≡◌, ◌≤◌, ◌⊎◌, ◌∙◌, ℕ, List, [], Option, None, Some, inl, inr, length, take, refl, sym, subst, ap}
 use Rattle.std.proofs.lemmas.List.{length-take-le}
+use Rattle.mvd_host.specs.AtHand.{first_at_hand}
 use Rattle.mvd_server.specs.Moves.{ReadsOnce, MovesOne}
 use Rattle.mvd_server.specs.declared.client.Moved.{Moved}
 use Rattle.mvd_server.specs.declared.client.Moved.TheVariants.{Bytes, Nothing, End, Failed}
@@ -14,7 +15,7 @@ use Rattle.mvd_server.proofs.Deeds.{carries_deeds, carries_in, carries_out, deed
 use Rattle.mvd_web.specs.declared.web_connection.WebConnection.{WebConnection}
 
 takes_by : (web : Option WebConnection) (n : ℕ) (bytes : List ℕ) (old new : Talking) → MayFeedBy web n old → FeedsBy web n bytes old new → TakesBy web n bytes old new
-takes_by None n bytes old new wants (feeds, same) = (feeds wants, same)
+takes_by None n bytes old new wants (feeds, same) = (wants, feeds wants, same)
 takes_by (Some web) n bytes old new wants (web', feeds, same) = (web', (wants, feeds), same)
 
 -- what came of a client of which more is wanted is fed to it
@@ -47,9 +48,9 @@ module _ {K I A T : Type 0} (k : Ghosts K I A T) where
   carries_dropped n t sockets sockets' none (inr (bytes, gives)) = carries_in k n bytes t t sockets sockets' gives (inr (refl, inl none))
 
   -- it is told that there is no place
-  carries_away : (n : ℕ) (t : Talking) (sockets sockets' : K) → IsNoClient t n → TellsNoPlace k.took n sockets sockets' → Carries k (at t sockets) (at t sockets')
-  carries_away n t sockets sockets' none (inl same) = carries_still t sockets sockets' same
-  carries_away n t sockets sockets' none (inr (bytes, takes, told)) = carries_out k n bytes t t sockets sockets' takes (inr (refl, inl (none, told)))
+  carries_away : (n : ℕ) (t : Talking) (sockets sockets' : K) → first_at_hand ≤ n → IsNoClient t n → TellsNoPlace k.took n sockets sockets' → Carries k (at t sockets) (at t sockets')
+  carries_away n t sockets sockets' high none (inl same) = carries_still t sockets sockets' same
+  carries_away n t sockets sockets' high none (inr (bytes, takes, told)) = carries_out k n bytes t t sockets sockets' takes (inr (refl, inl (high, none, told)))
 
   abbrev pub IsText : List ℕ → Type 0
   IsText bytes = (bytes ≡ reply_bytes (Refused TooManyRequests)) ⊎ (bytes ≡ no_place_web)
@@ -67,6 +68,6 @@ module _ {K I A T : Type 0} (k : Ghosts K I A T) where
   tells n End bytes sockets sockets' text takes = inr ([], takes, inl refl)
   tells n Failed bytes sockets sockets' text same = inl same
 
-  pub away_unless : (n : ℕ) (moved : Moved) (bytes : List ℕ) (t : Talking) (sockets sockets' : K) → IsNoClient t n → IsText bytes → MovesOne k.took n moved bytes sockets sockets'
+  pub away_unless : (n : ℕ) (moved : Moved) (bytes : List ℕ) (t : Talking) (sockets sockets' : K) → first_at_hand ≤ n → IsNoClient t n → IsText bytes → MovesOne k.took n moved bytes sockets sockets'
       → Carries k (at t sockets) (at t sockets')
-  away_unless n moved bytes t sockets sockets' none text takes = carries_away n t sockets sockets' none (tells n moved bytes sockets sockets' text takes)
+  away_unless n moved bytes t sockets sockets' high none text takes = carries_away n t sockets sockets' high none (tells n moved bytes sockets sockets' text takes)

@@ -1,5 +1,6 @@
 -- What a server does to a stored site.
-use Rattle.std.specs.Prelude.{◌≡◌, ◌<◌, ◌⊎◌, ⊤, ℕ, true, List, [], ◌∷◌, Option, None, Some}
+use Rattle.std.proofs.Common.{inl, inr}
+use Rattle.std.specs.Prelude.{◌≡◌, ◌<◌, ◌⊎◌, ◌==◌, ◌++◌, ⊤, if◌then◌else◌, ℕ, true, List, [], ◌∷◌, Option, None, Some}
 use Rattle.std.specs.List.{AllByRecursion, Contains}
 use Rattle.mvd_conn.specs.declared.passes.Pass.{Pass}
 use Rattle.mvd_conn.specs.History.{History, is_done}
@@ -9,14 +10,14 @@ use Rattle.mvd_host.specs.Feeds.{FeedValue}
 use Rattle.mvd_host.specs.Hosts.{HostValue, IsClient, client_of, new_host}
 use Rattle.mvd_host.specs.Lists.{Lists, ListsOn}
 use Rattle.mvd_host.specs.Round.{Round, Side, host_side}
-use Rattle.mvd_host.specs.Runs.{Happening, HostMoment, IsHelloOf, OneList, Runs, TellsOwn, after_run, turns_in}
+use Rattle.mvd_host.specs.Runs.{Happening, HostMoment, IsClientOf, IsHelloOf, OneList, Runs, after_run, turns_in}
 use Rattle.mvd_host.specs.Within.{AreWithin, IsWithin}
 use Rattle.mvd_http.specs.Guard.{Named}
 use Rattle.mvd_replica.specs.Replicas.{conn_of, site_of}
 use Rattle.mvd_replica.specs.Turns.{Turn}
 use Rattle.mvd_replica.specs.declared.replica.Replica.{Replica}
 use Rattle.mvd_server.specs.Guarded.{IsKnownNow}
-use Rattle.mvd_server.specs.Paths.{Path}
+use Rattle.mvd_server.specs.Paths.{IsWay, Path}
 use Rattle.mvd_server.specs.Talking.{Deeds, DeedsAt, Talking, first_own, new_talking, talking_of}
 use Rattle.mvd_server.specs.Wires.{Wired, WiredStep}
 use Rattle.mvd_server.specs.declared.sockets.Sockets.{Ghosts as SocketGhosts}
@@ -124,6 +125,55 @@ module _ {K I A T C : Type 0} (f : C → State) (k : SocketGhosts K I A T) where
   abbrev pub ServeStep : World K C → World K C → Type 0
   ServeStep old new = Between old new ⊎ InRound old new
 
+-- ---- what the socket of a client of frames gives and takes
+
+-- these bytes are the first of those
+abbrev pub IsFrontOf : List ℕ → List ℕ → Type 0
+IsFrontOf front all = (rest : List ℕ) × (all ≡ front ++ rest)
+
+module _ {K I A T : Type 0} (k : SocketGhosts K I A T) (n : ℕ) where
+  -- in a step
+  abbrev pub given_by : (site : SiteValue) (old new : Wired K) → WiredStep k site old new → List ℕ
+  given_by site old new (inl deed) = []
+  given_by site old new (inr (inl (m, bytes, gave, takes))) = if n == m then bytes else []
+  given_by site old new (inr (inr left)) = []
+
+  abbrev pub taken_by : (site : SiteValue) (old new : Wired K) → WiredStep k site old new → List ℕ
+  taken_by site old new (inl deed) = []
+  taken_by site old new (inr (inl came)) = []
+  taken_by site old new (inr (inr (inl (m, bytes, took, gives)))) = if n == m then bytes else []
+  taken_by site old new (inr (inr (inr comes))) = []
+
+module _ {K I A T C : Type 0} (f : C → State) (k : SocketGhosts K I A T) (n : ℕ) where
+  abbrev pub given_at : (old new : World K C) → ServeStep f k old new → List ℕ
+  given_at old new (inl between) = given_by k n old.site old.wired new.wired between.wired
+  given_at old new (inr round) = []
+
+  abbrev pub taken_at : (old new : World K C) → ServeStep f k old new → List ℕ
+  taken_at old new (inl between) = taken_by k n old.site old.wired new.wired between.wired
+  taken_at old new (inr round) = []
+
+  -- in all steps
+  abbrev pub given_in : (old : World K C) (mids : List (World K C)) (new : World K C)
+      → IsWay (ServeStep f k) old mids new → List ℕ
+  given_in old [] new way = []
+  given_in old (mid ∷ mids) new way = given_at old mid way.0 ++ given_in mid mids new way.1
+
+  abbrev pub taken_in : (old : World K C) (mids : List (World K C)) (new : World K C)
+      → IsWay (ServeStep f k) old mids new → List ℕ
+  taken_in old [] new way = []
+  taken_in old (mid ∷ mids) new way = taken_at old mid way.0 ++ taken_in mid mids new way.1
+
+-- A CLIENT OF FRAMES was there at one of these moments, and this is what its connection was at last: its own turns are
+-- what it asked and was told; what came in is the first of what its socket gave; and what left is what that took
+pub record WasClient {K C : Type 0} (n : ℕ) (turns : List (ℕ × Turn)) (given taken : List ℕ) (ws : List (World K C))
+    : Type 0 where
+  pub last : History
+  pub there : WasThere n (λ h. h ≡ last) ws
+  pub client : IsClientOf n turns last
+  pub came : IsFrontOf last.came given
+  pub left : last.left ≡ taken
+
 -- the clients of a server, and the replica that answers them
 pub record Serving (R : Type 0) : Type 0 where
   pub talking : Talking
@@ -175,9 +225,12 @@ module _ {S : Type 0} {g : Ghosts S} where
     pub ends : after_run (moment_of (world_of (begun passes names sockets) old)) all
         ≡ moment_of (world_of (record { talking = last; sockets = sockets' }) new)
     pub list : OneList (turns_in all) (host_side new_host none_at_hand old) (host_side last.host last.hand new)
-    -- also of a client of frames that has gone: its own turns are what it asked and was told
+    -- each client of frames, also one that has gone, asked and was told its own turns by its socket; or it had none, and
+    -- was told nothing
     pub told : (n : ℕ) → n < first_at_hand
-        → (own n (turns_in all) ≡ []) ⊎ WasThere n (TellsOwn (own n (turns_in all))) goes.mids
+        → ((own n (turns_in all) ≡ []) × (taken_in (state g) k n _ goes.mids _ goes.steps ≡ []))
+        ⊎ WasClient n (turns_in all) (given_in (state g) k n _ goes.mids _ goes.steps)
+        (taken_in (state g) k n _ goes.mids _ goes.steps) goes.mids
     -- each turn of one of frames is one that its right allows, and so is all that is asked over HTTP
     pub rights : (n : ℕ) → n < first_at_hand → IsLetIn (WasKnown passes goes.mids) passes (own n (turns_in all))
     pub web_rights : (n : ℕ) → n < first_own

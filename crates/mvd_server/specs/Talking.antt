@@ -5,6 +5,7 @@ use Rattle.std.specs.List.{AllByRecursion}
 use Rattle.std.specs.Map.{lookup, remove_entry, set_value}
 use Rattle.std.specs.Ordering.{nat_cmp}
 use Rattle.mvd_conn.specs.History.{History, is_done}
+use Rattle.mvd_conn.specs.Stands.{MayEndInput}
 use Rattle.mvd_conn.specs.declared.guard.Guard.{Guard}
 use Rattle.mvd_conn.specs.declared.passes.Pass.{Pass}
 use Rattle.mvd_dots.specs.declared.refusals.Refusal.{Refusal}
@@ -144,13 +145,14 @@ HasNothingLeft (Some web) client = IsOver (web_of web) ⊎ IsNew (web_of web)
 abbrev pub MayPart : ℕ → Talking → Type 0
 MayPart n t = HasNothingLeft (web_in t n) (client_of t.host n)
 
--- but by its socket no byte comes of a client, and none leaves; and it meets the passes that are known
+-- but by its socket no byte comes of a client, and none leaves; it meets the passes that are known; and why no more is
+-- read of it is no answer to a request alone
 abbrev pub MayCall : Talking → ℕ → Call → Type 0
 MayCall t n (Feeds bytes) = ⊥
 MayCall t n (Sends count) = ⊥
 MayCall t n (Meets passes) = t.passes ≡ Some passes
 MayCall t n Releases = ⊤
-MayCall t n (Closes source) = ⊤
+MayCall t n (Closes source) = MayEndInput source
 MayCall t n Cuts = ⊤
 
 -- A client of frames comes, one over HTTP, or one of the server's own sessions; one comes and goes at once, or is turned

@@ -1,7 +1,8 @@
 -- What comes by the clients' sockets, and what leaves by them.
-use Rattle.std.specs.Prelude.{◌≡◌, ◌⊎◌, ◌++◌, ℕ, List, [], codes, length, min, take, Option, None, Some}
+use Rattle.std.specs.Prelude.{◌≡◌, ◌<◌, ◌≤◌, ◌⊎◌, ◌++◌, ℕ, List, [], codes, length, min, take, Option, None, Some}
 use Rattle.mvd_conn.specs.History.{WantsInput}
 use Rattle.mvd_dots.specs.declared.refusals.Refusal.TheVariants.{TooManyRequests}
+use Rattle.mvd_host.specs.AtHand.{first_at_hand}
 use Rattle.mvd_host.specs.Hosts.{IsClient, client_of}
 use Rattle.mvd_server.specs.HostBytes.{TakesBytes, sent_of, waits_of}
 use Rattle.mvd_server.specs.Paths.{Path}
@@ -17,27 +18,31 @@ use Rattle.mvd_wire.specs.declared.reply.Reply.TheVariants.{Refused}
 
 -- ---- what comes
 
+-- the connection of a client of frames wants more
+abbrev pub IsFedBySocket : ℕ → Talking → Type 0
+IsFedBySocket n t = IsClient (client_of t.host n) WantsInput
+
 -- Bytes are fed to the connection of a client, over HTTP or not; or memory is refused for them, and no more is taken of
--- it. Nothing is read of one over HTTP that wants no more, so what is held of it is bounded
+-- it. Nothing is read of one that wants no more, so what is held of it is bounded, and nothing that came is left out
+-- before what is fed later
 abbrev pub TakesBy : Option WebConnection → ℕ → List ℕ → Talking → Talking → Type 0
-TakesBy None n bytes old new = TakesBytes old.host n bytes new.host × (new ≡ with_host old new.host)
+TakesBy None n bytes old new =
+    IsFedBySocket n old × TakesBytes old.host n bytes new.host × (new ≡ with_host old new.host)
 TakesBy (Some web) n bytes old new =
     (web' : WebConnection) × (WantsBytes (web_of web) × Feeds (web_of web) bytes (web_of web'))
     × (new ≡ with_web old n web')
 
--- there is no such client: it has left, or it was turned away
+-- there is no such client: it has left, or it was turned away. None of frames will get the number
 abbrev pub IsNoClient : Talking → ℕ → Type 0
-IsNoClient t n = (client_of t.host n ≡ None) × (web_in t n ≡ None)
+IsNoClient t n =
+    (client_of t.host n ≡ None) × (web_in t n ≡ None) × ((n < t.host.admitted) ⊎ (first_at_hand ≤ n))
 
 -- ALL BYTES THAT CAME of a client are fed to its connection. Those of one that is no client any more are dropped
 abbrev pub TakesInput : ℕ → List ℕ → Talking → Talking → Type 0
 TakesInput n bytes old new =
     TakesBy (web_in old n) n bytes old new ⊎ ((new ≡ old) × (IsNoClient old n ⊎ (bytes ≡ [])))
 
--- a client is fed where its connection wants more, of frames where the host does
-abbrev pub IsFedBySocket : ℕ → Talking → Type 0
-IsFedBySocket n t = IsClient (client_of t.host n) WantsInput
-
+-- a client is fed where its connection wants more
 abbrev pub MayFeedBy : Option WebConnection → ℕ → Talking → Type 0
 MayFeedBy None n t = IsFedBySocket n t
 MayFeedBy (Some web) n t = WantsBytes (web_of web)
@@ -90,11 +95,11 @@ abbrev pub TellsNoPlace : {K : Type 0} → (K → ℕ → List ℕ → K → Typ
 TellsNoPlace took n old new = (new ≡ old) ⊎ ((bytes : List ℕ) × took old n bytes new × IsNoPlace bytes)
 
 -- WHAT LEFT by a client's socket is the first of what waits for it, and waits no more. One that is turned away is told
--- that
+-- that, by a number that no client of frames has
 abbrev pub GivesOut : ℕ → List ℕ → Talking → Talking → Type 0
 GivesOut n bytes old new =
     ((bytes ≡ take (length bytes) (waits_for n old)) × SendsOf n (length bytes) old new)
-    ⊎ ((new ≡ old) × ((IsNoClient old n × IsNoPlace bytes) ⊎ (bytes ≡ [])))
+    ⊎ ((new ≡ old) × (((first_at_hand ≤ n) × IsNoClient old n × IsNoPlace bytes) ⊎ (bytes ≡ [])))
 
 -- ---- clients with their sockets
 

@@ -27,7 +27,7 @@ any_told P R p r (Err e ∷ ts) = (r e, any_told P R p r ts)
 
 module _ {S : Type 0} (number : S → Option ℕ) where
   abbrev pub anyone : SideOf S
-  anyone = side_with (λ _. empty) (λ _. ⊥) (λ _. ⊥) (λ _ _. Unit {0}) (λ _ _ _. Unit {0}) (λ _ _. Unit {0}) (λ _. Unit {0}) (λ _. 0) number
+  anyone = side_with (λ _. empty) (λ _. ⊥) (λ _. ⊥) (λ _ _. Unit {0}) (λ _ _ _. Unit {0}) (λ _ _. Unit {0}) (λ _. Unit {0}) (λ _. 0) number (λ _ _ _ _. Unit {0})
 
   refuses : (window : Window) (refusal : Refusal) (old new : S) → RefusesAll anyone (asked (Some window)) refusal old new
   refuses window refusal old new = record {
@@ -47,19 +47,19 @@ module _ {S : Type 0} (number : S → Option ℕ) where
   pub anyone_says : (window : Window) (told : Told) (old new : S) → 1 ≤ count_in window → HasAnswers window told → SideSays anyone (asked (Some window)) (Some told) old new
   anyone_says (wanted.Nodes paths) (Nodes told) old new some same = (
     some,
-    (record { count = tt; may = any_answers paths.items told.items same; right = λ never. absurd never; told = any_told _ _ (new, (0, tt), tt, (0, tt)) (λ _. (new, (0, tt), tt, (0, tt))) told.items; not_of_question = λ never. absurd never }, λ never. absurd never, λ never. absurd never),
+    (record { count = tt; may = any_answers paths.items told.items same; right = λ never. absurd never; told = any_told _ _ (new, (0, tt), tt, (0, tt)) (λ _. (new, (0, tt), tt, (0, tt))) told.items; not_of_question = λ never. absurd never }, λ never. absurd never, λ never. absurd never, tt),
   )
   anyone_says (wanted.Pages pages) (Pages told) old new some same = (
     some,
-    (record { count = tt; may = any_answers pages.items told.items same; right = λ never. absurd never; told = any_told _ _ (new, (0, tt), tt, (0, tt)) (λ _. (new, (0, tt), tt, (0, tt))) told.items; not_of_question = λ never. absurd never }, λ never. absurd never, λ never. absurd never),
+    (record { count = tt; may = any_answers pages.items told.items same; right = λ never. absurd never; told = any_told _ _ (new, (0, tt), tt, (0, tt)) (λ _. (new, (0, tt), tt, (0, tt))) told.items; not_of_question = λ never. absurd never }, λ never. absurd never, λ never. absurd never, tt),
   )
   anyone_says (wanted.Gets keys) (States told) old new some same = (
     some,
-    (record { count = tt; may = any_answers keys.items told.items same; right = λ never. absurd never; told = any_told _ _ (new, (0, tt), tt, (0, tt)) (λ _. (new, (0, tt), tt, (0, tt))) told.items; not_of_question = λ never. absurd never }, λ never. absurd never, λ never. absurd never),
+    (record { count = tt; may = any_answers keys.items told.items same; right = λ never. absurd never; told = any_told _ _ (new, (0, tt), tt, (0, tt)) (λ _. (new, (0, tt), tt, (0, tt))) told.items; not_of_question = λ never. absurd never }, λ never. absurd never, λ never. absurd never, tt),
   )
   anyone_says (wanted.Pushes pairs) (Pushes told) old new some same = (
     some,
-    (record { count = tt; may = any_answers pairs.items told.items same; right = λ never. absurd never; told = any_told _ _ (new, (0, tt), tt, (0, tt)) (λ _. (new, (0, tt), tt, (0, tt))) told.items; not_of_question = λ never. absurd never }, λ never. absurd never, λ never. absurd never),
+    (record { count = tt; may = any_answers pairs.items told.items same; right = λ never. absurd never; told = any_told _ _ (new, (0, tt), tt, (0, tt)) (λ _. (new, (0, tt), tt, (0, tt))) told.items; not_of_question = λ never. absurd never }, λ never. absurd never, λ never. absurd never, tt),
   )
   anyone_says window (Refused refusal) old new some same = (some_wanted window some, refuses window refusal old new)
   anyone_says (wanted.Nodes paths) told old new some same = absurd same

@@ -226,6 +226,8 @@ impl Peer for Counting {
 
     ghost number = { λ side. Some side.site.config.site };
 
+    ghost speaks = { λ _ _ _ _. Unit {0} };
+
     ghost in_form = { λ _ never. absurd never };
 
     ghost live_form = { λ _ never. absurd never };

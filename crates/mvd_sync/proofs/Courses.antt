@@ -104,7 +104,7 @@ module _ {L P : Type 0} (l : SideOf L) (p : SideOf P) (a : Laws l) (b : Laws p) 
     abbrev both_answers : Answers
     both_answers = record { mine = mine; theirs = theirs }
 
-    told_stands : BothTell (sides l p) mid mine theirs at new.at → (after' : Result Stage SyncFault) → Ok tt ≡ stage_told after' → new.machine.stage ≡ stage_after after' → StageHears mid.left mid.work mid.stage both_answers new.machine.left new.machine.work after' → StandsOf new
+    told_stands : BothTell (SideTells l) (SideTells p) mid mine theirs at new.at → (after' : Result Stage SyncFault) → Ok tt ≡ stage_told after' → new.machine.stage ≡ stage_after after' → StageHears mid.left mid.work mid.stage both_answers new.machine.left new.machine.work after' → StandsOf new
     told_stands tells after' is stage (quiet unasking left work same) = absurd (unasking asks)
     told_stands tells after' is stage (hears shares _ spends it) =
         let k = comes_ok after' is in
@@ -135,7 +135,7 @@ module _ {L P : Type 0} (l : SideOf L) (p : SideOf P) (a : Laws l) (b : Laws p) 
         omega (arith, some, all.0, all.1, m, t, w.0, w.1)
 
     says_both : SideSays l (cut_wanted mid.left.local (wanted_at AtLocal mid.stage)) mine at.local new.at.local → SideSays p (cut_wanted mid.left.peer (wanted_at AtPeer mid.stage)) theirs at.peer new.at.peer
-        → (after' : Result Stage SyncFault) → Ok tt ≡ stage_told after' → StageHears mid.left mid.work mid.stage both_answers new.machine.left new.machine.work after' → BothTell (sides l p) mid mine theirs at new.at
+        → (after' : Result Stage SyncFault) → Ok tt ≡ stage_told after' → StageHears mid.left mid.work mid.stage both_answers new.machine.left new.machine.work after' → BothTell (SideTells l) (SideTells p) mid mine theirs at new.at
     says_both mine_says theirs_says after' is (quiet unasking left work same) = absurd (unasking asks)
     says_both mine_says theirs_says after' is (hears shares _ spends it) =
         let k = comes_ok after' is in

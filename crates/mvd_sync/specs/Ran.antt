@@ -2,7 +2,7 @@
 use Rattle.std.specs.Prelude.{◌≡◌, ◌⊎◌, ℕ, Option, Some, Result, Ok, Err}
 use Rattle.mvd_dots.specs.declared.refusals.Refusal.TheVariants.{Memory}
 use Rattle.mvd_peer.specs.Sides.{Sides, Two, two}
-use Rattle.mvd_peer.specs.Asking.{asked}
+use Rattle.mvd_peer.specs.Asking.{Wanted, asked}
 use Rattle.mvd_peer.specs.Saying.{SideSays, SideTells}
 use Rattle.mvd_peer.specs.declared.window.Told.{Told}
 use Rattle.mvd_sync.specs.Machines.{GoesAlone, HasNext, IsQuiet, Machining, StageAsks, Starts, TakesTold, wanted_at}
@@ -21,35 +21,47 @@ pub record Running (L P : Type 0) : Type 0 where
   pub machine : Machining
   pub at : Two L P
 
--- both sides are asked what is next, as far as the questions reach, and tell this of it
-pub record BothTell {L P : Type 0} (s : Sides L P) (now : Machining) (mine theirs : Option Told)
+-- both sides are asked what is next, as far as the questions reach, and this is so of what each told of that
+pub record BothTell {L P : Type 0} (Mine : Wanted → Option Told → L → L → Type 0)
+    (Theirs : Wanted → Option Told → P → P → Type 0) (now : Machining) (mine theirs : Option Told)
     (old new : Two L P) : Type 0 where
   pub asks : StageAsks now.stage
-  pub local : SideTells s.local (cut_wanted now.left.local (wanted_at AtLocal now.stage)) mine old.local new.local
-  pub peer : SideTells s.peer (cut_wanted now.left.peer (wanted_at AtPeer now.stage)) theirs old.peer new.peer
+  pub local : Mine (cut_wanted now.left.local (wanted_at AtLocal now.stage)) mine old.local new.local
+  pub peer : Theirs (cut_wanted now.left.peer (wanted_at AtPeer now.stage)) theirs old.peer new.peer
 
 -- A RUN OF THE MACHINE: it goes on without a question; or both sides are asked what is next, and it takes what they
 -- tell
-pub data RunsTo {L P : Type 0} (s : Sides L P) (old : Running L P) : Running L P → Type 0 where
-  begins : (new : Running L P) → new ≡ old → RunsTo s old new
-  alone : (mid new : Running L P) → RunsTo s old mid → IsQuiet mid.machine.stage
+pub data RunsBy {L P : Type 0} (Mine : Wanted → Option Told → L → L → Type 0)
+    (Theirs : Wanted → Option Told → P → P → Type 0) (old : Running L P) : Running L P → Type 0 where
+  begins : (new : Running L P) → new ≡ old → RunsBy Mine Theirs old new
+  alone : (mid new : Running L P) → RunsBy Mine Theirs old mid → IsQuiet mid.machine.stage
       → GoesAlone mid.machine.work mid.machine.stage new.machine.work new.machine.stage
-      → new.machine.left ≡ mid.machine.left → new.at ≡ mid.at → RunsTo s old new
-  told : (mid new : Running L P) (mine theirs : Option Told) → RunsTo s old mid
-      → BothTell s mid.machine mine theirs mid.at new.at → TakesTold mid.machine mine theirs new.machine (Ok tt)
-      → RunsTo s old new
+      → new.machine.left ≡ mid.machine.left → new.at ≡ mid.at → RunsBy Mine Theirs old new
+  told : (mid new : Running L P) (mine theirs : Option Told) → RunsBy Mine Theirs old mid
+      → BothTell Mine Theirs mid.machine mine theirs mid.at new.at
+      → TakesTold mid.machine mine theirs new.machine (Ok tt) → RunsBy Mine Theirs old new
 
 -- A SESSION WITH NO FAULT IS A RUN OF THE MACHINE, from one of which nothing was asked to one that is done: it asked
 -- the two sides what the machine asks, one window after the other, took what they told as the machine does, and reports
 -- what the machine reports
-pub record IsRun {L P : Type 0} (s : Sides L P) (questions : ℕ) (old new : Two L P) (report : Report) : Type 0 where
+pub record IsRunBy {L P : Type 0} (Mine : Wanted → Option Told → L → L → Type 0)
+    (Theirs : Wanted → Option Told → P → P → Type 0) (number : Option ℕ) (questions : ℕ) (old new : Two L P)
+    (report : Report) : Type 0 where
   pub begun : Machining
   pub done : Machining
-  pub starts : Starts (s.local.number old.local) questions begun
-  pub runs : RunsTo s (record { machine = begun; at = old }) (record { machine = done; at = new })
+  pub starts : Starts number questions begun
+  pub runs : RunsBy Mine Theirs (record { machine = begun; at = old }) (record { machine = done; at = new })
   pub is_done : done.stage ≡ Done
   pub counts : (report.keys ≡ done.work.keys) × (report.refused ≡ done.work.refused)
       × (report.old ≡ done.work.older) × (report.first_refused ≡ done.work.first_refused)
+
+-- by what the sides of a session tell
+abbrev pub RunsTo : {L P : Type 0} → Sides L P → (old new : Running L P) → Type 0
+RunsTo s old new = RunsBy (SideTells s.local) (SideTells s.peer) old new
+
+abbrev pub IsRun : {L P : Type 0} → Sides L P → ℕ → (old new : Two L P) → Report → Type 0
+IsRun s questions old new report =
+    IsRunBy (SideTells s.local) (SideTells s.peer) (s.local.number old.local) questions old new report
 
 -- ---- window by window
 

@@ -9,6 +9,7 @@ ghost use Rattle.mvd_remote.specs.Lines.{IsTrueRemote, RemoteFollows, RemoteRefu
 ghost use Rattle.mvd_remote.specs.Lines.{far_of, line_of, refused_of, remote_follows_on, remote_follows_self};
 ghost use Rattle.mvd_remote.specs.LiveRemotes.{IsLiveRemote};
 ghost use Rattle.mvd_remote.specs.Remotes.{AsksWindow, remote_side};
+ghost use Rattle.mvd_remote.specs.Spoken.{SideSpeaks, SpeaksSo};
 
 use super::Remote;
 use super::window::Frames;
@@ -38,6 +39,10 @@ impl<L: Line> Peer for Remote<L> {
     ghost most_keys = { λ remote. (far_of L.far remote).config.max_keys };
 
     ghost number = { λ _. None };
+
+    // By the bytes of its line, where they are logged.
+    ghost speaks = { λ w told old new.
+        SpeaksSo L.Line (SideSpeaks w (Some told)) (line_of old) (line_of new) };
 
     ghost in_form = { λ remote truth. L.in_form (line_of remote) truth.line };
 

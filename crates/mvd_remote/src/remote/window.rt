@@ -3,6 +3,7 @@ ghost use Rattle.std.specs.Prelude.{◌≡◌, ◌≢◌, ◌++◌, Err, List, �
 ghost use Rattle.std.specs.Prelude.{IfErr, MatchResult, All, length, true};
 ghost use Rattle.mvd_dots.specs.declared.refusals.Refusal.TheVariants.{Memory};
 ghost use Rattle.mvd_wire.specs.Codec.{Gives};
+ghost use Rattle.mvd_remote.specs.Came.{Heard};
 ghost use Rattle.mvd_remote.specs.LinkWindows.{AnswersInTurn, AsksAll, IsOfKind, RefusesAll, AnswersTurn, TakeTurns};
 ghost use Rattle.mvd_remote.specs.LinkWindows.{TurnBreaks};
 ghost use Rattle.mvd_remote.specs.LinkWindows.{IsKeptOf, IsToldBy, and_frame, frames_of, state_in, states_in};
@@ -14,6 +15,7 @@ ghost use Rattle.mvd_remote.specs.Lines.{refused_of, told_of};
 ghost use Rattle.mvd_remote.specs.LiveRemotes.{EndsLive, SettlesLive, ToldLive, TookLiveTurns, TookTurn};
 ghost use Rattle.mvd_remote.specs.Links.{ReadCause};
 ghost use Rattle.mvd_remote.specs.Remotes.{AsksAllTruly, EndsTruly, NotesAll, link_of};
+ghost use Rattle.mvd_remote.specs.Spoken.{Exchanges, SpeaksSo};
 ghost use Rattle.mvd_wire.specs.declared.request.Request.{Request};
 ghost use Rattle.mvd_dots.specs.declared.refusals.Refusal.{Refusal as Cause};
 
@@ -108,6 +110,8 @@ impl<L: Line> Remote<L> {
         requires { refused_of self.old ≡ None }
         ensures told { IfOk result
             (λ told. AnswersTurn kind none told (L.remaining (line_of self.old)) (L.remaining (line_of self.new))) }
+        ensures heard { IfOk result
+            (λ told. Heard (L.came (line_of self.old)) (L.came (line_of self.new)) (AnswersTurn kind none told)) }
         ensures of_kind { IfOk result (IsOfKind kind) }
         ensures goes_on { OnOk result (refused_of self.new ≡ None) }
         ensures broke { IfErr result (λ refusal. ReadCause
@@ -143,6 +147,8 @@ impl<L: Line> Remote<L> {
         ensures came { OnOk result
             (TakeTurns kind nones.now replies.new.items
             (L.remaining (line_of self.old)) (L.remaining (line_of self.new))) }
+        ensures heard { OnOk result (Heard (L.came (line_of self.old)) (L.came (line_of self.new))
+            (TakeTurns kind nones.now replies.new.items)) }
         ensures of_kind { OnOk result (All (IsOfKind kind) replies.new.items) }
         ensures within { OnOk result (AreWithin 0 (states_in replies.new.items)) }
         ensures goes_on { OnOk result (refused_of self.new ≡ None) }
@@ -181,6 +187,8 @@ impl<L: Line> Remote<L> {
         ensures sent { MatchResult result
             (λ replies. AnswersInTurn kind window.now replies.items (link_of L.Line self.old) (link_of L.Line self.new))
             (RefusesAll kind window.now (link_of L.Line self.old) (link_of L.Line self.new)) }
+        ensures heard { IfOk result (λ replies. Heard (L.came (line_of self.old)) (L.came (line_of self.new))
+            (TakeTurns kind window.now.1 replies.items)) }
         ensures of_kind { IfOk result (λ replies. All (IsOfKind kind) replies.items) }
         ensures within { IfOk result (λ replies. AreWithin 0 (states_in replies.items)) }
         ensures notes { MatchResult result
@@ -213,6 +221,9 @@ impl<L: Line> Remote<L> {
             (λ told. AsksAll A.as_reply A.of_kind window.now told.items
             (link_of L.Line self.old) (link_of L.Line self.new))
             (RefusesAll A.of_kind window.now (link_of L.Line self.old) (link_of L.Line self.new)) }
+        ensures spoken { (requests : List Request) → window.now ≡ frames_of requests → HaveFrames requests →
+            IfOk result (λ told. SpeaksSo L.Line (Exchanges A.as_reply A.of_kind requests told.items)
+            (line_of self.old) (line_of self.new)) }
         ensures notes { NotesAll A.as_reply (length window.now.1) self.old self.new result }
         ensures config { KeepsConfig L.far self.old self.new }
         ensures within { IfOk result (λ told. (replies : List (Spelled Told Cause)) × AreWithin 0 (states_in replies)

@@ -12,6 +12,7 @@ use crate::talks::{Kind, Talks};
 use mio::Registry;
 use mvd_dots::Refusal;
 use mvd_frames::Short;
+use mvd_host::FIRST_AT_HAND;
 use mvd_wire::Ending;
 use std::alloc::AllocError;
 
@@ -146,7 +147,12 @@ impl<K: Sockets> Clientele<K> {
 fn tell_no_place<K: Sockets>(talks: &Talks, sockets: &mut K, client: &mut Client<K>, kind: Kind)
     ensures { Carries K.Sockets (wired_of talks.now sockets.old) (wired_of talks.now sockets.new) }
 {
-    if talks.has(K::number(&client.socket)) {
+    let number = K::number(&client.socket);
+    // No client of frames gets such a number.
+    if number < FIRST_AT_HAND {
+        return;
+    }
+    if talks.has(number) {
         return;
     }
     match kind {

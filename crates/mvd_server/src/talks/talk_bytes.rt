@@ -12,11 +12,13 @@ use mvd_wire::Ending;
 const WAITS_MAX: usize = 262_144;
 
 impl Talks {
-    /// Whether there is this client.
+    /// Whether there is this client, or one of frames may come yet that gets its number.
     pub fn has(&self, number: u64) -> bool
         ensures { result ≡ false → IsNoClient (talking_of self.now) number }
     {
-        self.host.waiting(number).is_some() || self.webs.contains_key(&number)
+        self.host.waiting(number).is_some()
+            || self.webs.contains_key(&number)
+            || self.host.may_admit(number)
     }
 
     pub fn wants_input(&self, number: u64) -> bool

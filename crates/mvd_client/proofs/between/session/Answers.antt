@@ -1,6 +1,7 @@
-use Rattle.std.proofs.Common.{option_copied, subst, sym}
+use Rattle.std.proofs.Common.{Ok, option_copied, subst, sym}
 use Rattle.mvd_client.specs.Between.FailsBetween.{faulted, no_far, no_near}
 use Rattle.mvd_client.specs.LetIn.{ComesIn}
+use Rattle.mvd_client.proofs.Spoken.{runs_between}
 use Rattle.mvd_client.proofs.between.session.Goals as goal
 
 pub returns-in-Err : goal.returns-in-Err
@@ -24,6 +25,7 @@ returns-in-Ok-meet_over g c = record {
   far_untold = c.over.ensures.untold;
   session = c.in-Ok-meet_over.ensures.session;
   runs = c.in-Ok-meet_over.ensures.ran;
+  spoken = runs_between g.D.Dialed.Line g.D.Dialed.Line c.over-local.result c.meet_over.new.near c.over.result c.meet_over.new.far.side (Ok c.in-Ok-meet_over.report) c.in-Ok-meet_over.ensures.ran;
 }
 
 pub returns-in-Err-meet_over : goal.returns-in-Err-meet_over
@@ -41,5 +43,6 @@ returns-in-Err-meet_over g c =
       far_untold = c.over.ensures.untold;
       session = c.in-Err-meet_over.ensures.session;
       runs = tt;
+      spoken = tt;
     })
     c.lets_go-in-Err-meet_over.ensures c.lets_go-in-Err-meet_over-2.ensures c.failed-stop.ensures

@@ -8,4 +8,5 @@ returns g c = record {
   asked = c.hello-told.ensures.asked;
   truth = c.hello-told.ensures.truth;
   live = c.hello-told.ensures.live;
+  spoken = c.hello-told.ensures.spoken;
 }

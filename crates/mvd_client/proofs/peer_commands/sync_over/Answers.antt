@@ -2,6 +2,7 @@ use Rattle.std.proofs.Common.{refl, subst}
 use Rattle.std.specs.Prelude.{OnOk}
 use Rattle.mvd_remote.specs.Lines.{IsTrueRemote}
 use Rattle.mvd_client.proofs.Fresh.{fresh_is_true}
+use Rattle.mvd_client.proofs.Spoken.{runs_then_parts}
 use Rattle.mvd_client.proofs.Syncing.{after_bye, after_bye_ok, bye_keeps, meets_as}
 use Rattle.mvd_client.proofs.peer_commands.sync_over.Goals as goal
 
@@ -15,6 +16,7 @@ returns-in-Err-clause-syncs g c = record {
   session = c.session_of.ensures.session;
   runs = c.session_of.ensures.ran;
   ends = rw c.in-Err.is (refl, refl);
+  spoken = tt;
   few = λ s t d n. c.session_of.ensures.few s (fresh_is_true g.L.Line.is_true g.L.Line.far c.args.watched.now.side t d n);
   most = c.session_of.ensures.most;
   meets = λ s t d n. returns-in-Err-clause-meets g c s (fresh_is_true g.L.Line.is_true g.L.Line.far c.args.watched.now.side t d n);
@@ -35,6 +37,7 @@ returns-in-Ok-bye-clause-syncs g c = record {
   session = c.session_of.ensures.session;
   runs = c.session_of.ensures.ran;
   ends = rw c.in-Ok.is (c.bye.result, c.bye.ensures.asked, c.bye.ensures.live, rw c.in-Ok-bye.is refl);
+  spoken = runs_then_parts g.L.Line _ _ c.args.watched.now.side c.session_of.new.watched.side c.bye.new.self c.in-Ok.report c.in-Ok.ensures.ran c.in-Ok-bye.ensures.spoken;
   few = λ s t d n. c.session_of.ensures.few s (fresh_is_true g.L.Line.is_true g.L.Line.far c.args.watched.now.side t d n);
   most = c.session_of.ensures.most;
   meets = λ s t d n. returns-in-Ok-bye-clause-meets g c s (fresh_is_true g.L.Line.is_true g.L.Line.far c.args.watched.now.side t d n);
@@ -55,6 +58,7 @@ returns-in-Err-bye-clause-syncs g c = record {
   session = c.session_of.ensures.session;
   runs = c.session_of.ensures.ran;
   ends = rw c.in-Ok.is (c.bye.result, c.bye.ensures.asked, c.bye.ensures.live, rw c.in-Err-bye.is refl);
+  spoken = tt;
   few = λ s t d n. c.session_of.ensures.few s (fresh_is_true g.L.Line.is_true g.L.Line.far c.args.watched.now.side t d n);
   most = c.session_of.ensures.most;
   meets = λ s t d n. returns-in-Err-bye-clause-meets g c s (fresh_is_true g.L.Line.is_true g.L.Line.far c.args.watched.now.side t d n);

@@ -22,7 +22,7 @@ returns-in_err-told-clause-refused c = at_err _ _ _ c.from_residual.ensures (λ 
 pub returns-clause-told : goal.returns-clause-told
 returns-clause-told c =
     let before = c.loop-key.invariant in
-    subst (λ (qs : List (Key × State)). SideTells site_side (only_pushes qs) (Some (PushesTold c.loop-key.told)) c.args.site.now c.loop-key.site) (take_all c.loop-key.key-index c.args.pairs.now c.loop-key-test.false) (before.so_far, before.pushes, before.live)
+    subst (λ (qs : List (Key × State)). SideTells site_side (only_pushes qs) (Some (PushesTold c.loop-key.told)) c.args.site.now c.loop-key.site) (take_all c.loop-key.key-index c.args.pairs.now c.loop-key-test.false) (before.so_far, before.pushes, before.live, tt)
 
 pub returns-in-Some-clause-refused : goal.returns-in-Some-clause-refused
 returns-in-Some-clause-refused c =

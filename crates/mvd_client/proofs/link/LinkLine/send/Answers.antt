@@ -1,7 +1,10 @@
-use Rattle.std.proofs.Common.{Some}
-use Rattle.mvd_shell.proofs.Fronts.{front_all}
-use Rattle.mvd_client.specs.Sent.{bytes_in}
+use Rattle.std.proofs.Common.{subst}
+use Rattle.std.specs.Io.KnownBytes.{Keeps}
+use Rattle.mvd_client.proofs.Linking.{sends_all, sends_kept}
 use Rattle.mvd_client.proofs.link.LinkLine.send.Goals as goal
 
-pub returns-in-Err-clause-front : goal.returns-in-Err-clause-front
-returns-in-Err-clause-front g c = front_all (Some (bytes_in c.args.self.now.sent.items)) (Some (bytes_in c.write_frame.new.writer.sent.items)) (Some (bytes_in c.flush.new.self.sent.items)) c.args.frames.now c.in_ok-write_frame.ensures.ok c.flush.ensures.bytes
+pub returns-in-Err-clause-sends : goal.returns-in-Err-clause-sends
+returns-in-Err-clause-sends g c =
+    let contents = g.S.Write.contents in
+    let kept = subst (λ stream. Keeps (contents stream) (contents c.flush.new.self)) c.get_mut.ensures.value c.in-Err.ensures.bytes in
+    sends_all contents c.args.self.now _ c.args.frames.now (sends_kept contents c.args.self.now c.hand_all.new.self c.flush.new.self c.args.frames.now c.in_ok-hand_all.ensures.sends kept)

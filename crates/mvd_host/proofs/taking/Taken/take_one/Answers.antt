@@ -13,7 +13,7 @@ returns-then-not-branch-clause-took c =
     record {
       requests = [];
       faulty = [];
-      conn = took_none c.args.connection.now c.next.new.self next;
+      conn = took_none c.args.connection.now c.next.new.self c.stands.ensures.stands next;
       holds = λ asked faults holds. holds_same asked faults c.args.self.now c.args.self.now (record { clients = refl; requests = refl; faults = refl }) holds;
     }
 
@@ -25,7 +25,7 @@ returns-then-not-branch-clause-end c =
 pub returns-in-Ok-clause-took : goal.returns-in-Ok-clause-took
 returns-in-Ok-clause-took c =
     let next : ◌≡◌ {A = Bool × History} (true, c.next.new.self) (after_next c.args.connection.now) = ap (λ (b : Bool). (b, c.next.new.self)) (sym c.if-not-branch.false) ∙ c.in_ok-next.ensures.ok in
-    let one : TookOne c.args.connection.now c.next.new.self = took_one c.args.connection.now c.next.new.self next in
+    let one : TookOne c.args.connection.now c.next.new.self = took_one c.args.connection.now c.next.new.self c.stands-2.ensures.stands next in
     record {
       requests = c.in-Ok.request ∷ [];
       faulty = [];
@@ -38,7 +38,7 @@ returns-in-Ok-clause-took c =
 pub returns-in-Ok-clause-more : goal.returns-in-Ok-clause-more
 returns-in-Ok-clause-more c =
     let next : ◌≡◌ {A = Bool × History} (true, c.next.new.self) (after_next c.args.connection.now) = ap (λ (b : Bool). (b, c.next.new.self)) (sym c.if-not-branch.false) ∙ c.in_ok-next.ensures.ok in
-    let one : TookOne c.args.connection.now c.next.new.self = took_one c.args.connection.now c.next.new.self next in
+    let one : TookOne c.args.connection.now c.next.new.self = took_one c.args.connection.now c.next.new.self c.stands-2.ensures.stands next in
     λ _. record {
       took = record {
         requests = c.in-Ok.request ∷ [];
@@ -55,7 +55,7 @@ returns-in-Ok-clause-more c =
 pub returns-in-Err-clause-took : goal.returns-in-Err-clause-took
 returns-in-Err-clause-took c =
     let next : ◌≡◌ {A = Bool × History} (true, c.next.new.self) (after_next c.args.connection.now) = ap (λ (b : Bool). (b, c.next.new.self)) (sym c.if-not-branch.false) ∙ c.in_ok-next.ensures.ok in
-    let one : TookOne c.args.connection.now c.next.new.self = took_one c.args.connection.now c.next.new.self next in
+    let one : TookOne c.args.connection.now c.next.new.self = took_one c.args.connection.now c.next.new.self c.stands-2.ensures.stands next in
     record {
       requests = [];
       faulty = asked_by c.next.new.self.guard one.frame ∷ [];

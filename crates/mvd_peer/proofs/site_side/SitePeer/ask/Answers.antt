@@ -17,6 +17,7 @@ returns-in-Ok-clause-says c =
       live = λ whole. (whole, whole.1);
       answers = λ whole. whole;
       refuses = λ _ is _. is;
+      speaks = λ _. tt;
     }) c.requires.some c.in-Ok.ensures.told
 
 pub returns-in-Ok-clause-within : goal.returns-in-Ok-clause-within

@@ -1,6 +1,7 @@
 use Rattle.std.proofs.Common.{ℕ, arith, length, subst, sym}
 use Rattle.std.proofs.lemmas.Result.{err_from_is_err_and}
-use Rattle.mvd_remote.specs.LinkWindows.{AnswersInTurn}
+use Rattle.mvd_remote.specs.Came.{Heard}
+use Rattle.mvd_remote.specs.LinkWindows.{AnswersInTurn, TakeTurns}
 use Rattle.mvd_remote.specs.Lines.{NotesUpTo, RemoteRefuses}
 use Rattle.mvd_remote.specs.Remotes.{NotesAll, link_of}
 use Rattle.mvd_remote.proofs.Lined.{window_answered}
@@ -8,6 +9,7 @@ use Rattle.mvd_remote.specs.LinkWindows.{IsToldBy}
 use Rattle.mvd_peer.specs.Windows.{ForEach}
 use Rattle.mvd_remote.proofs.Holding.{with_replies}
 use Rattle.mvd_remote.proofs.Noted.{notes_made}
+use Rattle.mvd_remote.proofs.Spoken.{all_spoken}
 use Rattle.mvd_remote.proofs.Turns.{all_answered, many_turns}
 use Rattle.mvd_remote.proofs.LiveLined.{live_answered}
 use Rattle.mvd_remote.proofs.remote.Remote.ask_all.Goals as goal
@@ -42,3 +44,11 @@ returns-in_err-replies-clause-notes g c =
     let p = err_from_is_err_and c.from_residual.result c.from_residual.ensures.1 in
     subst (λ result. NotesAll g.A.Answer.as_reply (length c.args.window.now.1) c.args.self.now c.send_all.new.self result) (sym p.1)
     (subst (λ refusal. RemoteRefuses c.send_all.new.self refusal × NotesUpTo (length c.args.window.now.1) c.args.self.now c.send_all.new.self) (sym p.2) c.in_err-replies.ensures.notes)
+
+pub returns-clause-spoken : goal.returns-clause-spoken
+returns-clause-spoken g c requests is spelled =
+    let replies = c.in_ok-replies.replies.items in
+    let old = c.args.self.now.line in
+    let new = c.send_all.new.self.line in
+    all_spoken g.L.Line g.A.Answer.as_reply (λ v. v.items) g.A.Answer.of_kind requests c.args.window.now replies old new c.answers.result is spelled c.in_ok-replies.ensures.sent.wrote
+    (subst (λ (kind : ℕ). Heard (g.L.Line.came old) (g.L.Line.came new) (TakeTurns kind c.args.window.now.1 replies)) c.kind.ensures c.in_ok-replies.ensures.heard) c.answers.ensures.told

@@ -1,7 +1,8 @@
-use Rattle.std.proofs.Common.{subst, ◌≡◌, ◌⊎◌, ℕ, Err, inl, inr, refl}
+use Rattle.std.proofs.Common.{subst, ◌≡◌, ◌⊎◌, ℕ, Err, inl, inr, refl, sym, ◌∙◌}
 use Rattle.mvd_wire.specs.Replies.{reply_kind}
 use Rattle.mvd_remote.proofs.LiveAsked.{asked_broke, asked_refused, asked_told, asked_unframed, fits_of, frame_is}
 use Rattle.mvd_remote.proofs.Noted.{notes_answer, notes_err}
+use Rattle.mvd_remote.proofs.Spoken.{one_spoken}
 use Rattle.mvd_remote.proofs.remote.Remote.ask_for.Goals as goal
 
 pub returns-in-Some-clause-live : goal.returns-in-Some-clause-live
@@ -35,3 +36,9 @@ returns-in-Ok-send-clause-notes g c =
 
 pub returns-clause-notes : goal.returns-clause-notes
 returns-clause-notes g c = notes_err g.A.Answer.as_reply c.args.self.now c.send.new.self c.in-Err-send.refusal c.in-Err-send.ensures.notes
+
+pub returns-in-Ok-send-clause-spoken : goal.returns-in-Ok-send-clause-spoken
+returns-in-Ok-send-clause-spoken g c request of fits gives =
+    one_spoken g.L.Line g.A.Answer.as_reply request c.kind.result c.deref.result.now c.in-Ok-send.reply c.of.result c.args.self.now.line c.send.new.self.line (of ∙ sym c.kind.ensures)
+    (frame_is (λ v. v.items) c.args.frame c.in-Ok.frame c.deref.result.now request c.in-Ok.is c.deref.ensures.value gives) (fits_of c.args.frame c.in-Ok.frame request c.in-Ok.is fits)
+    c.in-Ok-send.ensures.sends.0.wrote (c.in-Ok-send.ensures.heard c.in-Ok-send.ensures.sends.1) c.of.ensures.told

@@ -1,4 +1,7 @@
-use Rattle.std.proofs.Common.{[], ◌∷◌, ◌++◌, Err, ap, inl, inr, subst, sym, ◌∙◌}
+use Rattle.std.proofs.Common.{[], ◌∷◌, ◌++◌, Err, None, ap, inl, inr, subst, sym, ◌∙◌}
+use Rattle.mvd_remote.specs.Came.{Heard}
+use Rattle.mvd_remote.specs.LinkWindows.{AnswersTurn}
+use Rattle.mvd_remote.specs.Lines.{refuses_none}
 use Rattle.mvd_remote.proofs.Lined.{one_answered, one_broke, one_frame}
 use Rattle.mvd_wire.specs.declared.reply.Reply.{Reply}
 use Rattle.mvd_peer.specs.Live.{Grows}
@@ -40,3 +43,9 @@ returns-in-Ok-clause-notes g c = inr (c.read-told.result, told_itself c.read-tol
 
 pub returns-in-Err-clause-notes : goal.returns-in-Err-clause-notes
 returns-in-Err-clause-notes g c = inl (c.in-Err.refusal, ap Err c.breaks.ensures.refused.1, c.breaks.ensures.refused.0, c.breaks.ensures.untold)
+
+pub returns-in-Ok-clause-heard : goal.returns-in-Ok-clause-heard
+returns-in-Ok-clause-heard g c none = subst (λ o. Heard o (g.L.Line.came c.read-told.new.self.line) (AnswersTurn c.args.kind None c.read-told.result)) c.send.ensures.unheard (c.read-told.ensures.heard none)
+
+pub returns-in-Err-clause-heard : goal.returns-in-Err-clause-heard
+returns-in-Err-clause-heard g c none = refuses_none c.breaks.new.self.refused _ none c.breaks.ensures.refused.0

@@ -1,9 +1,10 @@
-use Rattle.std.proofs.Common.{◌≡◌, ◌++◌, List, Option, Some, inl, inr, length, refl, sym, subst, ◌∙◌, ap}
+use Rattle.std.proofs.Common.{◌≡◌, ◌++◌, ℕ, List, Option, Some, inl, inr, length, refl, sym, subst, ◌∙◌, ap}
 use Rattle.std.specs.Prelude.{MatchResult}
 use Rattle.std.proofs.lemmas.Result.{err_from_is_err_and}
 use Rattle.mvd_dots.specs.declared.refusals.Refusal.{Refusal}
 use Rattle.std.specs.Io.KnownBytes.{Appends}
-use Rattle.mvd_remote.specs.LinkWindows.{Frames, TurnBreaks, of_read}
+use Rattle.mvd_remote.specs.Came.{Heard}
+use Rattle.mvd_remote.specs.LinkWindows.{Frames, TakeTurns, TurnBreaks, of_read}
 use Rattle.mvd_remote.specs.Lines.{AreRequestFrames, DueTurns, NotesUpTo, RemoteRefuses, framed_requests, noted, told_of}
 use Rattle.mvd_remote.proofs.Lined.{send_broke, still_goes, turns_broke, window_frames, window_told}
 use Rattle.mvd_peer.specs.Windows.{leaves_open}
@@ -103,3 +104,12 @@ returns-in-Err-take_turns-clause-notes g c =
     let nones = c.deref-2.ensures.value ∙ ap (λ (w : Frames). w.1) c.window.view_is in
     let told = c.in-Err-take_turns.ensures in
     (inl told.broke.1, subst (λ (ns : List (Option Refusal)). NotesUpTo (length ns) c.args.self.now c.take_turns.new.self) nones told.more)
+
+pub returns-in-Ok-clause-heard : goal.returns-in-Ok-clause-heard
+returns-in-Ok-clause-heard g c =
+    let nones = c.deref-2.ensures.value ∙ ap (λ (w : Frames). w.1) c.window.view_is in
+    let mid = g.L.Line.came c.send.new.self in
+    let new = g.L.Line.came c.take_turns.new.self.line in
+    let replies = c.take_turns.new.replies.items in
+    subst (λ (o : Option (List ℕ)). Heard o new (TakeTurns c.args.kind c.args.window.now.1 replies)) c.send.ensures.unheard
+    (subst (λ (ns : List (Option Refusal)). Heard mid new (TakeTurns c.args.kind ns replies)) nones c.in-Ok.ensures.heard)

@@ -6,7 +6,7 @@ use Rattle.mvd_dots.specs.declared.refusals.Refusal.{Refusal}
 use Rattle.mvd_wire.specs.declared.reply.Reply.{Reply}
 use Rattle.mvd_remote.specs.Lines.{noted, refuses_none}
 use Rattle.mvd_remote.proofs.Noted.{noted_more, up_to}
-use Rattle.mvd_remote.specs.LinkWindows.{IsOfKind, states_in}
+use Rattle.mvd_remote.specs.LinkWindows.{AnswersTurn, IsOfKind, TakeTurns, states_in}
 use Rattle.mvd_peer.specs.Windows.{AreWithin}
 use Rattle.mvd_peer.proofs.Dropped.{bytes_of}
 use Rattle.mvd_remote.proofs.Holding.{kept_due, kept_kind, kept_live, kept_turn, within_replies}
@@ -14,6 +14,7 @@ use Rattle.std.proofs.lemmas.List.{take_all}
 use Rattle.std.proofs.Common.{take}
 use Rattle.mvd_remote.specs.LiveRemotes.{LiveTurns}
 use Rattle.mvd_remote.proofs.Lined.{due_more_at}
+use Rattle.mvd_remote.proofs.Spoken.{heard_as, heard_nothing, heard_on}
 use Rattle.mvd_remote.proofs.Turns.{many_turns, turns_more_at}
 use Rattle.mvd_remote.proofs.LiveAsked.{turns_broke}
 use Rattle.mvd_remote.proofs.LiveLined.{took_more, took_none}
@@ -28,6 +29,11 @@ loop-none-preserved g c =
     let turn = kept_turn c.args.kind _ reply told (g.L.Line.remaining c.loop-none.self.line) (g.L.Line.remaining c.turn.new.self.line) c.kept-told.ensures.kept c.in_ok-reply.ensures.told in
     record {
       read = turns_more_at c.args.kind c.args.nones.now c.loop-none.none-index _ _ c.loop-none.replies.items c.push.new.self.items told (g.L.Line.remaining c.args.self.now.line) (g.L.Line.remaining c.loop-none.self.line) (g.L.Line.remaining c.turn.new.self.line) c.loop-none-test.true refl items before.read turn;
+      heard =
+          let i = c.loop-none.none-index in
+          heard_on (g.L.Line.came c.args.self.now.line) (g.L.Line.came c.loop-none.self.line) (g.L.Line.came c.turn.new.self.line) (TakeTurns c.args.kind (take i c.args.nones.now) c.loop-none.replies.items) (AnswersTurn c.args.kind _ told) (TakeTurns c.args.kind (take (i + 1) c.args.nones.now) c.push.new.self.items)
+          (λ a b d h t. turns_more_at c.args.kind c.args.nones.now i _ _ c.loop-none.replies.items c.push.new.self.items told a b d c.loop-none-test.true refl items h t) before.heard
+          (heard_as _ _ (AnswersTurn c.args.kind _ reply) (AnswersTurn c.args.kind _ told) (λ a b h. kept_turn c.args.kind _ reply told a b c.kept-told.ensures.kept h) c.in_ok-reply.ensures.heard);
       of_kind = subst (λ (us : List (Result Reply Refusal)). All (IsOfKind c.args.kind) us) (sym items) (All-push (IsOfKind c.args.kind) c.loop-none.replies.items told before.of_kind (kept_kind c.args.kind reply told c.kept-told.ensures.kept c.in_ok-reply.ensures.of_kind));
       within = within_replies c.loop-none.bytes c.kept-told.new.bytes c.loop-none.replies.items c.push.new.self.items told items before.within.0 before.within.1 c.kept-told.ensures.within;
       count = let was = before.count in grind (arith, was, items);
@@ -49,6 +55,7 @@ loop-none-preserved g c =
 pub loop-none-init : goal.loop-none-init
 loop-none-init g c = record {
   read = search rules;
+  heard = heard_nothing (g.L.Line.came c.args.self.now.line) (TakeTurns c.args.kind [] c.args.replies.now.items) (λ now. subst (λ us. TakeTurns c.args.kind [] us now now) (sym c.requires.empty) refl);
   of_kind = search rules;
   within = subst (λ us. AreWithin 0 (states_in us) × (0 ≡ min (0 + bytes_of (states_in us)) (2 ^ 64 - 1))) (sym c.requires.empty) (tt, refl);
   count = ap length c.requires.empty;

@@ -2,6 +2,7 @@ use Rattle.std.proofs.Common.{◌≡◌, ◌++◌, ◌+◌, ◌-◌, ◌^◌, Li
 use Rattle.mvd_peer.specs.Windows.{AreWithin}
 use Rattle.mvd_peer.proofs.Dropped.{bytes_of}
 use Rattle.std.specs.Prelude.{All, None}
+use Rattle.mvd_remote.specs.Came.{Heard}
 use Rattle.mvd_remote.specs.LinkWindows.{IsOfKind, TakeTurns, states_in}
 use Rattle.mvd_remote.specs.Lines.{DueTurns, noted}
 use Rattle.mvd_site.specs.Held.{States}
@@ -13,6 +14,7 @@ use Rattle.mvd_remote.proofs.remote.Remote.take_turns.Given as goal
 abbrev pub invariant-loop-none : goal.invariant-loop-none
 invariant-loop-none g l = record {
   read : TakeTurns l.kind (take l.none-index l.nones) l.replies.items (g.L.Line.remaining l.fn.self.line) (g.L.Line.remaining l.self.line);
+  heard : Heard (g.L.Line.came l.fn.self.line) (g.L.Line.came l.self.line) (TakeTurns l.kind (take l.none-index l.nones) l.replies.items);
   of_kind : All (IsOfKind l.kind) l.replies.items;
   within : AreWithin 0 (states_in l.replies.items) × (l.bytes ≡ min (0 + bytes_of (states_in l.replies.items)) (2 ^ 64 - 1));
   count : length l.replies.items ≡ l.none-index;

@@ -77,6 +77,7 @@ returns-clause-told g c =
       },
       λ _. ((whole, c.stands-2.ensures.held), subst (λ ts. Pushes old.config.max_keys old.states c.args.pairs.now ts new.states) (sym items) told.0),
       λ _. ((whole, c.stands-2.ensures.held), live.0, subst (λ ts. TellsEach (TellsPush old.config.max_keys) c.args.pairs.now ts old.states live.0 new.states) (sym items) live.1),
+      tt,
     )
 
 pub returns-clause-alike : goal.returns-clause-alike

@@ -25,6 +25,7 @@ returns-in-Ok-clause-says g c =
       live = λ whole. (whole, whole.1);
       answers = λ whole. whole;
       refuses = λ _ is _. inl is;
+      speaks = λ _. tt;
     }) c.requires.some c.in-Ok.ensures.told
 
 pub returns-in-Ok-clause-within : goal.returns-in-Ok-clause-within

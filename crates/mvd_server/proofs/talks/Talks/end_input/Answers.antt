@@ -5,7 +5,7 @@ use Rattle.mvd_server.proofs.Deeds.{deed_closes, deed_stops, unturned}
 use Rattle.mvd_server.proofs.talks.Talks.end_input.Goals as goal
 
 pub returns-in-None : goal.returns-in-None
-returns-in-None c = unturned (talking_of c.args.self.now) c.end_input-in-None.new.self c.get_mut.follows.lender-at-none.entries (ap (λ m. m.entries) c.get_mut.follows.holds-at-none) (deed_closes c.args.number source.AtEnd (talking_of c.args.self.now) c.end_input-in-None.new.self c.end_input-in-None.ensures)
+returns-in-None c = unturned (talking_of c.args.self.now) c.end_input-in-None.new.self c.get_mut.follows.lender-at-none.entries (ap (λ m. m.entries) c.get_mut.follows.holds-at-none) (deed_closes c.args.number source.AtEnd (talking_of c.args.self.now) c.end_input-in-None.new.self tt c.end_input-in-None.ensures)
 
 pub returns-in-Some : goal.returns-in-Some
 returns-in-Some c =

@@ -6,7 +6,7 @@ use Rattle.mvd_server.proofs.Deeds.{deed_closes, deed_stops, unturned}
 use Rattle.mvd_server.proofs.talks.Talks.fail_input.Goals as goal
 
 pub returns-in-None : goal.returns-in-None
-returns-in-None c = unturned (talking_of c.args.self.now) c.fail_input.new.self c.get_mut.follows.lender-at-none.entries (ap (λ m. m.entries) c.get_mut.follows.holds-at-none) (deed_closes c.args.number (source.Failed ReadFailed) (talking_of c.args.self.now) c.fail_input.new.self c.fail_input.ensures)
+returns-in-None c = unturned (talking_of c.args.self.now) c.fail_input.new.self c.get_mut.follows.lender-at-none.entries (ap (λ m. m.entries) c.get_mut.follows.holds-at-none) (deed_closes c.args.number (source.Failed ReadFailed) (talking_of c.args.self.now) c.fail_input.new.self (omega arith) c.fail_input.ensures)
 
 pub returns-in-Some : goal.returns-in-Some
 returns-in-Some c =

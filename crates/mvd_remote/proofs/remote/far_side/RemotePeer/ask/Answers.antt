@@ -15,8 +15,8 @@ pub returns-in-Ok-ask_all-clause-says : goal.returns-in-Ok-ask_all-clause-says
 returns-in-Ok-ask_all-clause-says g c =
     let asked = requests_of c.args.window.now in
     says_nodes g.L.Line c.in-Ok.frames c.args.window.now c.requires.some c.args.self.now c.ask_all.new.self c.in-Nodes.field-0 c.in-Ok-ask_all.told c.in-Nodes.is (record {
-      kind = 0xA7;
       over = c.in-Ok-ask_all.ensures.asked;
+      spoken = c.in-Ok-ask_all.ensures.spoken asked c.in-Ok.ensures.frames c.in-Ok.ensures.spelled;
       is = c.in-Ok.ensures.frames;
       none = search rules;
       config = c.ask_all.ensures.config;
@@ -34,8 +34,8 @@ pub returns-in-Ok-ask_all-2-clause-says : goal.returns-in-Ok-ask_all-2-clause-sa
 returns-in-Ok-ask_all-2-clause-says g c =
     let asked = requests_of c.args.window.now in
     says_pages g.L.Line c.in-Ok.frames c.args.window.now c.requires.some c.args.self.now c.ask_all-in-Pages.new.self c.in-Pages.field-0 c.in-Ok-ask_all-2.told c.in-Pages.is (record {
-      kind = 0xA8;
       over = c.in-Ok-ask_all-2.ensures.asked;
+      spoken = c.in-Ok-ask_all-2.ensures.spoken asked c.in-Ok.ensures.frames c.in-Ok.ensures.spelled;
       is = c.in-Ok.ensures.frames;
       none = search rules;
       config = c.ask_all-in-Pages.ensures.config;
@@ -53,8 +53,8 @@ pub returns-in-Ok-ask_all-3-clause-says : goal.returns-in-Ok-ask_all-3-clause-sa
 returns-in-Ok-ask_all-3-clause-says g c =
     let asked = requests_of c.args.window.now in
     says_states g.L.Line c.in-Ok.frames c.args.window.now c.requires.some c.args.self.now c.ask_all-in-Gets.new.self c.in-Gets.field-0 c.in-Ok-ask_all-3.told c.in-Gets.is (record {
-      kind = 0xA1;
       over = c.in-Ok-ask_all-3.ensures.asked;
+      spoken = c.in-Ok-ask_all-3.ensures.spoken asked c.in-Ok.ensures.frames c.in-Ok.ensures.spelled;
       is = c.in-Ok.ensures.frames;
       none = search rules;
       config = c.ask_all-in-Gets.ensures.config;
@@ -75,8 +75,8 @@ pub returns-in-Ok-ask_all-4-clause-says : goal.returns-in-Ok-ask_all-4-clause-sa
 returns-in-Ok-ask_all-4-clause-says g c =
     let asked = requests_of c.args.window.now in
     says_pushes g.L.Line c.in-Ok.frames c.args.window.now c.requires.some c.args.self.now c.ask_all-in-Pushes.new.self c.in-Pushes.field-0 c.in-Ok-ask_all-4.told c.in-Pushes.is c.in-Ok.ensures.valid (record {
-      kind = 0xA3;
       over = c.in-Ok-ask_all-4.ensures.asked;
+      spoken = c.in-Ok-ask_all-4.ensures.spoken asked c.in-Ok.ensures.frames c.in-Ok.ensures.spelled;
       is = c.in-Ok.ensures.frames;
       none = search rules;
       config = c.ask_all-in-Pushes.ensures.config;

@@ -1,0 +1,4 @@
+//! Two programs and a session between them.
+#![tactic(auto)]
+
+pub mod laws;
